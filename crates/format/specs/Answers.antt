@@ -1,0 +1,33 @@
+-- Document 01's number and values for each case of an answer (Refusal numbers; Expected forms by place, last paragraph).
+use mathlib.Core.Bool.{true, false}
+use Prim.Native.Nat.{ℕ}
+use Rattle.format.specs.declared.Refusal.{Refusal}
+use Rattle.format.specs.declared.Counts.{Counts}
+use Rattle.format.specs.declared.ReadAnswer.{ReadAnswer}
+use Rattle.format.specs.declared.ReadAnswer.the-variants.{Records, NotRead}
+use Rattle.format.specs.declared.WriteAnswer.{WriteAnswer}
+use Rattle.format.specs.declared.WriteAnswer.the-variants.{Octets, NotWritten}
+use Rattle.format.specs.declared.SameAnswer.{SameAnswer}
+use Rattle.format.specs.declared.SameAnswer.the-variants.{Same, Different, FirstRefused, SecondRefused}
+use Rattle.format.specs.declared.Outcome.{Outcome}
+use Rattle.format.specs.declared.SameOutcome.{SameOutcome}
+
+-- a refusal of a number at a place
+abbrev pub refusal : ℕ → ℕ → Refusal
+refusal number place = record { number = number; place = place }
+
+-- number and place of a refusal, 0 and 0 where there is none; the count, 0 after a refusal
+abbrev pub readOutcome : ReadAnswer → Outcome
+readOutcome (Records counts) = record { number = 0; place = 0; count = counts .records }
+readOutcome (NotRead r) = record { number = r .number; place = r .place; count = 0 }
+
+abbrev pub writeOutcome : WriteAnswer → Outcome
+writeOutcome (Octets n) = record { number = 0; place = 0; count = n }
+writeOutcome (NotWritten r) = record { number = r .number; place = r .place; count = 0 }
+
+-- the same, with the object that was refused: 1 the first, 2 the second, 0 none
+abbrev pub sameOutcome : SameAnswer → SameOutcome
+sameOutcome Same = record { same = true; which = 0; number = 0; place = 0 }
+sameOutcome Different = record { same = false; which = 0; number = 0; place = 0 }
+sameOutcome (FirstRefused r) = record { same = false; which = 1; number = r .number; place = r .place }
+sameOutcome (SecondRefused r) = record { same = false; which = 2; number = r .number; place = r .place }

@@ -1,0 +1,50 @@
+-- The bench cases P1 to P14 of document 01 as one table, and the records of its listing.
+use mathlib.Core.Bool.{Bool, true, false}
+use mathlib.Core.List.{List, [], _∷_}
+use Prim.Native.Nat.{ℕ}
+use Rattle.values.specs.declared.Time.{Time}
+use Rattle.values.specs.Times.{timeOf, timeOctets}
+use Rattle.format.specs.declared.Record.{Record}
+use Rattle.format.specs.declared.Refusal.{Refusal}
+use Rattle.format.specs.Answers.{refusal}
+use Rattle.format.specs.Tree.{Items, recordsOf, count}
+use Rattle.format.specs.Judge.{Judged, judge}
+use Rattle.format.specs.Judge.Judged.{refused, accepted}
+use Rattle.format.specs.Meaning.{normalOf}
+
+-- a refusal; or a count of records and the normal form; or a time and its normal octets
+pub data Outcome : Type 0 where
+  refuses : Refusal → Outcome
+  normally : ℕ → List ℕ → Outcome
+  timed : Time → List ℕ → Outcome
+
+unfoldable pub reported : Judged → Outcome
+reported (refused r) = refuses r
+reported (accepted t) = normally (count t) (normalOf t)
+
+-- what the definitions say of an object (true) or of the octets of a time (false)
+unfoldable pub outcome : Bool → List ℕ → Outcome
+outcome true o = reported (judge o)
+outcome false o = timed (timeOf o) (timeOctets (timeOf o))
+
+unfoldable pub cases : List (Bool × List ℕ × Outcome)
+cases =
+    (true, [], refuses (refusal 1 0))
+    ∷ (true, 0x03 ∷ [], refuses (refusal 2 0))
+    ∷ (true, 0x03 ∷ 0x01 ∷ [], refuses (refusal 3 0))
+    ∷ (true, 0x04 ∷ 0x00 ∷ [], refuses (refusal 4 0))
+    ∷ (true, 0x03 ∷ 0x00 ∷ 0x00 ∷ [], refuses (refusal 5 2))
+    ∷ (true, 0x03 ∷ 0x04 ∷ 0x07 ∷ 0x00 ∷ 0x06 ∷ 0x00 ∷ [], refuses (refusal 6 4))
+    ∷ (true, 0x03 ∷ 0x04 ∷ 0x01 ∷ 0x00 ∷ 0x01 ∷ 0x00 ∷ [], refuses (refusal 6 4))
+    ∷ (true, 0x03 ∷ 0x03 ∷ 0x06 ∷ 0x01 ∷ 0x01 ∷ [], refuses (refusal 12 2))
+    ∷ (true, 0x03 ∷ 0x00 ∷ [], normally 1 (0x03 ∷ 0x00 ∷ []))
+    ∷ (true, 0x03 ∷ 0xFE ∷ 0x00 ∷ 0x04 ∷ 0x06 ∷ 0x02 ∷ 0x65 ∷ 0x6E ∷ [], normally 2 (0x03 ∷ 0x04 ∷ 0x06 ∷ 0x02 ∷ 0x65 ∷ 0x6E ∷ []))
+    ∷ (true, 0x03 ∷ 0x09 ∷ 0x04 ∷ 0x04 ∷ 0x01 ∷ 0x02 ∷ 0x65 ∷ 0x6E ∷ 0x06 ∷ 0x01 ∷ 0x01 ∷ [], normally 2 (0x03 ∷ 0x04 ∷ 0x06 ∷ 0x02 ∷ 0x65 ∷ 0x6E ∷ []))
+    ∷ (false, 0x30 ∷ 0xD4 ∷ 0x13 ∷ 0x1E ∷ 0x02 ∷ [], timed (record { day = 50_000; hour = 12; minute = 30; second = 0; minus = false; halves = 2 }) (0x30 ∷ 0xD4 ∷ 0x13 ∷ 0x1E ∷ 0x02 ∷ []))
+    ∷ (false, 0x30 ∷ 0xD4 ∷ 0x0B ∷ 0x1E ∷ 0x3C ∷ 0x00 ∷ [], timed (record { day = 50_000; hour = 12; minute = 30; second = 15; minus = false; halves = 0 }) (0x30 ∷ 0xD4 ∷ 0x0B ∷ 0x1E ∷ 0x3C ∷ 0x00 ∷ []))
+    ∷ (false, 0x30 ∷ 0xD4 ∷ 0x10 ∷ 0x00 ∷ 0x20 ∷ [], timed (record { day = 50_000; hour = 0; minute = 0; second = 0; minus = false; halves = 0 }) (0x30 ∷ 0xD4 ∷ 0x00 ∷ 0x00 ∷ []))
+    ∷ []
+
+unfoldable pub listed : Judged → List Record
+listed (refused r) = []
+listed (accepted t) = recordsOf t

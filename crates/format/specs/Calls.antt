@@ -1,0 +1,164 @@
+-- What each public call answers, and what each lent list then holds (document 01, Records and meaning, Refusal numbers). On a refusal that is what it held
+-- before; on success what is handed out is laid over it.
+use mathlib.Core.Path.{_≡_}
+use mathlib.Core.Bool.{Bool, true, false, cond, _&&_}
+use mathlib.Core.Option.{Option, none, some}
+use mathlib.Core.List.{List, [], _∷_, _++_}
+use Prim.Native.Nat.{ℕ, suc, _+_, min}
+use lib.Dec.{eqb, leb, ltb}
+use lib.ListN.{length, take, drop, getD, set}
+use lib.Seq.{sets}
+use Rattle.format.specs.declared.Record.{Record}
+use Rattle.format.specs.declared.Span.{Span}
+use Rattle.format.specs.declared.Counts.{Counts}
+use Rattle.format.specs.declared.ReadAnswer.{ReadAnswer}
+use Rattle.format.specs.declared.ReadAnswer.the-variants.{Records, NotRead}
+use Rattle.format.specs.declared.WriteAnswer.{WriteAnswer}
+use Rattle.format.specs.declared.WriteAnswer.the-variants.{Octets, NotWritten}
+use Rattle.format.specs.declared.SameAnswer.{SameAnswer}
+use Rattle.format.specs.declared.SameAnswer.the-variants.{Same, Different, FirstRefused, SecondRefused}
+use Rattle.format.specs.Answers.{refusal}
+use Rattle.format.specs.Tree.{Items, count, recordsOf}
+use Rattle.format.specs.Judge.{Judged, judge}
+use Rattle.format.specs.Judge.Judged.{refused, accepted}
+use Rattle.format.specs.Meaning.{means, encode, normalOf}
+use Rattle.format.specs.Writer.{rebuilt}
+use Rattle.format.specs.Loaded.{storeOf, loadedOf}
+
+-- the record list as the core keeps it: a list of numbers for each field
+pub record Lists : Type 0 where
+  pub tags : List ℕ
+  pub kinds : List ℕ
+  pub depths : List ℕ
+  pub parents : List ℕ
+  pub starts : List ℕ
+  pub sizes : List ℕ
+
+-- the shortest list gives the places
+unfoldable pub places : Lists → ℕ
+places l = min (length (l .tags)) (min (length (l .kinds)) (min (length (l .depths)) (min (length (l .parents)) (min (length (l .starts)) (length (l .sizes))))))
+
+-- the record of a number
+abbrev pub row : Lists → ℕ → Record
+row l i =
+    record { tag = getD (l .tags) i 0; kind = getD (l .kinds) i 0; depth = getD (l .depths) i 0; parent = getD (l .parents) i 0; start = getD (l .starts) i 0; size = getD (l .sizes) i 0 }
+
+-- one record put at its number
+abbrev pub put : ℕ → Record → Lists → Lists
+put i r l =
+    record { tags = set (l .tags) i (r .tag); kinds = set (l .kinds) i (r .kind); depths = set (l .depths) i (r .depth); parents = set (l .parents) i (r .parent); starts = set (l .starts) i (r .start); sizes = set (l .sizes) i (r .size) }
+
+-- records laid over what the lists hold, from a number on; what lies beyond stays
+unfoldable pub lay : ℕ → List Record → Lists → Lists
+lay i [] l = l
+lay i (r ∷ rs) l = lay (suc i) rs (put i r l)
+
+-- read: the refusal of the judgement, else 14 where there are fewer places than records, else the records
+unfoldable pub readAnswer : ℕ → Judged → ReadAnswer
+readAnswer n (refused r) = NotRead r
+readAnswer n (accepted t) = cond (leb (count t) n) (Records (record { records = count t })) (NotRead (refusal 14 0))
+
+-- the records that are handed out
+unfoldable pub readRecords : ℕ → Judged → List Record
+readRecords n (refused r) = []
+readRecords n (accepted t) = cond (leb (count t) n) (recordsOf t) []
+
+pub record ReadClaim (object : List ℕ) (before after : Lists) (answer : ReadAnswer) : Type 0 where
+  pub answers : answer ≡ readAnswer (places before) (judge object)
+  pub leaves : after ≡ lay 0 (readRecords (places before) (judge object)) before
+
+-- read_records: the same with a slice of records too, whose length counts among the places; the records stand in it before what lay behind them
+pub record ReadRecordsClaim (object : List ℕ) (before after : Lists) (slice slice′ : List Record) (answer : ReadAnswer) : Type 0 where
+  pub answers : answer ≡ readAnswer (min (length slice) (places before)) (judge object)
+  pub leaves : after ≡ lay 0 (readRecords (min (length slice) (places before)) (judge object)) before
+  pub fills : slice′ ≡ readRecords (min (length slice) (places before)) (judge object) ++ drop (length (readRecords (min (length slice) (places before)) (judge object))) slice
+
+-- span: where the body of a record lies; the part of length 0 at the object's start for a number that the lists don't have or a span outside the object
+unfoldable pub spanOf : (object starts sizes : List ℕ) → ℕ → Span
+spanOf object starts sizes i =
+    let inside = ltb i (min (length starts) (length sizes)) && leb (getD starts i 0 + getD sizes i 0) (length object) in
+    cond inside (record { start = getD starts i 0; size = getD sizes i 0 }) (record { start = 0; size = 0 })
+
+-- body: that part of the object
+unfoldable pub bodyAt : List ℕ → Span → List ℕ
+bodyAt object s = take (s .size) (drop (s .start) object)
+
+-- 15: the octets don't fit the room or are more than an object may have
+unfoldable pub roomy : ℕ → List ℕ → Bool
+roomy room o = leb (length o) (min room 32_768)
+
+-- write: 16 where there are more records than places or they aren't a well-formed tree, else 15, else the octets of its normal form
+unfoldable pub treeGiven : ℕ → Lists → List ℕ → Option Items
+treeGiven n l lent = cond (leb n (places l)) (rebuilt (row l) n lent) none
+
+unfoldable pub writeAnswer : ℕ → Option Items → WriteAnswer
+writeAnswer room none = NotWritten (refusal 16 0)
+writeAnswer room (some t) = cond (roomy room (encode (means [] t))) (Octets (length (encode (means [] t)))) (NotWritten (refusal 15 0))
+
+unfoldable pub writeOctets : ℕ → Option Items → List ℕ
+writeOctets room none = []
+writeOctets room (some t) = cond (roomy room (encode (means [] t))) (encode (means [] t)) []
+
+pub record WriteClaim (n : ℕ) (lists : Lists) (lent before after : List ℕ) (answer : WriteAnswer) : Type 0 where
+  pub answers : answer ≡ writeAnswer (length before) (treeGiven n lists lent)
+  pub leaves : after ≡ sets before 0 (writeOctets (length before) (treeGiven n lists lent))
+
+-- what is lent to normalise, by size: places for records, a store for texts and values, a room for octets
+pub record Lent : Type 0 where
+  pub records : ℕ
+  pub store : ℕ
+  pub room : ℕ
+
+unfoldable pub storedWithin : Lent → Items → Bool
+storedWithin lent t = leb (length (storeOf t)) (lent .store) && roomy (lent .room) (normalOf t)
+
+-- an accepted object that fits all that is lent
+unfoldable pub fitsLent : Lent → Items → Bool
+fitsLent lent t = leb (count t) (lent .records) && storedWithin lent t
+
+-- 14 where the places don't suffice, 15 where the store or the room doesn't
+unfoldable pub misfit : Lent → Items → WriteAnswer
+misfit lent t = cond (leb (count t) (lent .records)) (NotWritten (refusal 15 0)) (NotWritten (refusal 14 0))
+
+-- normalise: the refusal of the judgement, else 14, else 15, else the octets of the normal form
+unfoldable pub normalAnswer : Lent → Judged → WriteAnswer
+normalAnswer lent (refused r) = NotWritten r
+normalAnswer lent (accepted t) = cond (fitsLent lent t) (Octets (length (normalOf t))) (misfit lent t)
+
+-- what a judgement hands out where it accepts an object that fits, and nothing otherwise
+unfoldable pub handed : {A : Type 0} → Lent → (Items → List A) → Judged → List A
+handed lent f (refused r) = []
+handed lent f (accepted t) = cond (fitsLent lent t) (f t) []
+
+unfoldable pub loadedRecords : Items → List Record
+loadedRecords t = recordsOf (loadedOf t)
+
+pub record NormaliseClaim (object : List ℕ) (lists lists′ : Lists) (store store′ room room′ : List ℕ) (answer : WriteAnswer) : Type 0 where
+  pub answers : answer ≡ normalAnswer (record { records = places lists; store = length store; room = length room }) (judge object)
+  pub leavesLists : lists′ ≡ lay 0 (handed (record { records = places lists; store = length store; room = length room }) loadedRecords (judge object)) lists
+  pub leavesStore : store′ ≡ sets store 0 (handed (record { records = places lists; store = length store; room = length room }) storeOf (judge object))
+  pub leavesRoom : room′ ≡ sets room 0 (handed (record { records = places lists; store = length store; room = length room }) normalOf (judge object))
+
+-- same: 1 to 13 of the first object, then of the second, then 14 and 15 of the first, then of the second, then whether the normal forms are the same octets,
+-- which is whether the meanings are the same (proofs/Demands, same-exactly)
+unfoldable pub sameOctets : List ℕ → List ℕ → Bool
+sameOctets [] [] = true
+sameOctets [] (b ∷ bs) = false
+sameOctets (a ∷ more) [] = false
+sameOctets (a ∷ more) (b ∷ bs) = eqb a b && sameOctets more bs
+
+unfoldable pub refusalOr : WriteAnswer → SameAnswer → SameAnswer
+refusalOr (Octets n) a = a
+refusalOr (NotWritten r) a = FirstRefused r
+
+unfoldable pub secondRefusalOr : WriteAnswer → SameAnswer → SameAnswer
+secondRefusalOr (Octets n) a = a
+secondRefusalOr (NotWritten r) a = SecondRefused r
+
+unfoldable pub sameAnswer : (first second : Lent) → Judged → Judged → SameAnswer
+sameAnswer first second (refused r) b = FirstRefused r
+sameAnswer first second (accepted t) (refused r) = SecondRefused r
+sameAnswer first second (accepted t) (accepted u) =
+    refusalOr (normalAnswer first (accepted t))
+    (secondRefusalOr (normalAnswer second (accepted u))
+    (cond (sameOctets (normalOf t) (normalOf u)) Same Different))

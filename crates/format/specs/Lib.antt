@@ -1,0 +1,9 @@
+pub mod Answers
+pub mod Tree
+pub mod Judge
+pub mod Meaning
+pub mod WellFormed
+pub mod Writer
+pub mod Loaded
+pub mod Calls
+pub mod Bench

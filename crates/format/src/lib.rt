@@ -1,0 +1,137 @@
+// What the calls of the library share: records, refusals, counts, and the answers as enums. The rules are in specs/, the theorems in proofs/.
+ghost use mathlib.Core.Path.{_≡_};
+ghost use Rattle.format.specs.Answers.{readOutcome, writeOutcome, sameOutcome};
+
+// One known item: its tag, its kind (0 an element, 1 an attribute, 2 CDATA), its depth, the number of its parent's record, and where its body
+// begins and how many octets it has. (`size`, since `length` in a contract is a list's.)
+pub struct Record {
+    pub tag: u8,
+    pub kind: u8,
+    pub depth: u8,
+    pub parent: u16,
+    pub start: u16,
+    pub size: u16,
+}
+
+// A refusal: its number in document 01's table, and the offset that goes with it.
+pub struct Refusal {
+    pub number: u8,
+    pub place: usize,
+}
+
+// What reading counts.
+pub struct Counts {
+    pub records: usize,
+}
+
+// The answer of reading: what was handed out, or why nothing was.
+pub enum ReadAnswer {
+    Records(Counts),
+    NotRead(Refusal),
+}
+
+// The answer of writing and of normalising: how many octets were handed out, or why none were.
+pub enum WriteAnswer {
+    Octets(usize),
+    NotWritten(Refusal),
+}
+
+// The answer of comparing two objects.
+pub enum SameAnswer {
+    Same,
+    Different,
+    FirstRefused(Refusal),
+    SecondRefused(Refusal),
+}
+
+// A part of an object: where it begins and how many octets it has.
+pub struct Span {
+    pub start: usize,
+    pub size: usize,
+}
+
+// Document 01's numbers for an answer: the refusal's number, 0 where there is none, its place, and the count, 0 after a refusal.
+pub struct Outcome {
+    pub number: u8,
+    pub place: usize,
+    pub count: usize,
+}
+
+// The same for a comparison: which object was refused (0 none, 1 the first, 2 the second), and whether they mean the same.
+pub struct SameOutcome {
+    pub same: bool,
+    pub which: u8,
+    pub number: u8,
+    pub place: usize,
+}
+
+impl ReadAnswer {
+    pub fn outcome(self) -> Outcome
+        ensures { λ r. ⌜ r ≡ readOutcome self ⌝ }
+    {
+        match self {
+            ReadAnswer::Records(counts) => Outcome {
+                number: 0,
+                place: 0,
+                count: counts.records,
+            },
+            ReadAnswer::NotRead(refusal) => Outcome {
+                number: refusal.number,
+                place: refusal.place,
+                count: 0,
+            },
+        }
+    }
+}
+
+impl WriteAnswer {
+    pub fn outcome(self) -> Outcome
+        ensures { λ r. ⌜ r ≡ writeOutcome self ⌝ }
+    {
+        match self {
+            WriteAnswer::Octets(count) => Outcome {
+                number: 0,
+                place: 0,
+                count,
+            },
+            WriteAnswer::NotWritten(refusal) => Outcome {
+                number: refusal.number,
+                place: refusal.place,
+                count: 0,
+            },
+        }
+    }
+}
+
+impl SameAnswer {
+    pub fn outcome(self) -> SameOutcome
+        ensures { λ r. ⌜ r ≡ sameOutcome self ⌝ }
+    {
+        match self {
+            SameAnswer::Same => SameOutcome {
+                same: true,
+                which: 0,
+                number: 0,
+                place: 0,
+            },
+            SameAnswer::Different => SameOutcome {
+                same: false,
+                which: 0,
+                number: 0,
+                place: 0,
+            },
+            SameAnswer::FirstRefused(refusal) => SameOutcome {
+                same: false,
+                which: 1,
+                number: refusal.number,
+                place: refusal.place,
+            },
+            SameAnswer::SecondRefused(refusal) => SameOutcome {
+                same: false,
+                which: 2,
+                number: refusal.number,
+                place: refusal.place,
+            },
+        }
+    }
+}

@@ -1,0 +1,45 @@
+-- Numbers in octets, both ways.
+use mathlib.Core.Path.{_≡_, refl, ap, subst}
+use mathlib.Core.Bool.{Bool, true, false}
+use mathlib.Core.List.{List, [], _∷_}
+use Prim.Native.Nat.{ℕ, zero, suc, _+_, _%_, _^_, _<_}
+use native.Mathlib.Omega.{arith}
+use native.Mathlib.Nat.{div-add-mod', mod-lt, pow-succ'}
+use lib.Arith.{digits-lt}
+use lib.Dec.{ltb}
+use lib.ListN.{length, take, drop, getD, length-take, List·getD-eq-default}
+use lib.Seq.{getD-drop, getD-take}
+use borrow.Author.Tests.{ltb-true, ltb-false}
+use Rattle.octets.specs.Numbers.{value, digits, Octets}
+
+pub pow-pos : (w : ℕ) → 0 < 256 ^ w
+pow-pos zero = omega arith
+pow-pos (suc w) = rw (pow-succ' 256 w) (omega (arith, pow-pos w))
+
+pub length-digits : (w n : ℕ) → length (digits w n) ≡ w
+unfolding digits
+length-digits zero n = refl
+length-digits (suc w) n = ap suc (length-digits w (n % 256 ^ w))
+
+pub value-digits : (w n : ℕ) → n < 256 ^ w → value (digits w n) ≡ n
+unfolding digits value
+value-digits zero n h = omega arith
+value-digits (suc w) n h = rw (length-digits w (n % 256 ^ w), value-digits w (n % 256 ^ w) (mod-lt n (pow-pos w))) (div-add-mod' n (256 ^ w))
+
+pub octets-drop : (n : ℕ) (o : List ℕ) → Octets o → Octets (drop n o)
+octets-drop n o h i = rw (getD-drop n o i 0) (h (n + i))
+
+pub octets-take : (n : ℕ) (o : List ℕ) → Octets o → Octets (take n o)
+octets-take n o h i = go (ltb i n) refl
+  where
+    go : (b : Bool) → ltb i n ≡ b → getD (take n o) i 0 < 256
+    go true e = let l = ltb-true i n e in rw (getD-take n o i 0) (h i)
+    go false e = rw (List·getD-eq-default (take n o) 0 {n = i} (simp length-take (omega (arith, ltb-false i n e)))) (omega arith)
+
+pub value-lt : (o : List ℕ) → Octets o → value o < 256 ^ length o
+unfolding value
+value-lt [] h = omega arith
+value-lt (b ∷ bs) h = rw (pow-succ' 256 (length bs)) (digits-lt (h 0) (value-lt bs (λ i. h (suc i))))
+
+pub value-of-length : (n : ℕ) (o : List ℕ) → Octets o → length o ≡ n → value o < 256 ^ n
+value-of-length n o h e = subst (λ m. value o < 256 ^ m) e (value-lt o h)

@@ -1,0 +1,4 @@
+pub mod Times
+pub mod Bearers
+pub mod Values
+pub mod Known

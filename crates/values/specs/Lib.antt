@@ -1,0 +1,5 @@
+pub mod Table
+pub mod Times
+pub mod Bearers
+pub mod Values
+pub mod Proper
