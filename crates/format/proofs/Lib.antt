@@ -1,0 +1,4 @@
+pub mod Rules
+pub mod Fuel
+pub mod Induction
+pub mod Spans
