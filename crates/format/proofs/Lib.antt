@@ -2,3 +2,8 @@ pub mod Rules
 pub mod Fuel
 pub mod Induction
 pub mod Spans
+pub mod Read
+pub mod Place
+pub mod Means
+pub mod Round
+pub mod Force

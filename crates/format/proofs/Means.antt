@@ -1,0 +1,82 @@
+-- What an item adds to a meaning, by what its tag is.
+use mathlib.Core.Path.{_≡_, refl, ap}
+use mathlib.Core.Bool.{Bool, true, false, cond, not, _||_, false≢true}
+use mathlib.Core.Option.{Option, none, some, Option·map}
+use mathlib.Core.List.{List, []}
+use Prim.Native.Nat.{ℕ}
+use lib.Dec.{eqb}
+use borrow.Author.Tests.{eqb-true}
+use Rattle.text.specs.Tokens.{Entries, expanded}
+use Rattle.values.specs.declared.Kind.{Kind}
+use Rattle.values.specs.declared.Kind.the-variants.{HoldsItems, HoldsTokens, HoldsText, HoldsPlain, HoldsTime, HoldsBearer, HoldsNumber}
+use Rattle.values.specs.Table.{known, attribute}
+use Rattle.format.specs.Tree.{Items}
+use Rattle.format.specs.Tree.Items.{item}
+use Rattle.format.specs.Judge.{isItems, isText}
+use Rattle.format.specs.Meaning.{Meaning, opens, isChild, attributesIn, cdataIn, leafOctets, means}
+use Rattle.format.specs.Meaning.Meaning.{element, leaf}
+use Rattle.octets.proofs.Tests.{or-true}
+use Rattle.text.proofs.Words.{expanded-empty}
+use Rattle.values.proofs.Known.{ElementTag, items-tag}
+
+pub items-known : (k : Option Kind) → isItems k ≡ true → k ≡ some HoldsItems
+unfolding isItems
+items-known none h = absurd (false≢true h)
+items-known (some HoldsItems) h = refl
+items-known (some HoldsTokens) h = absurd (false≢true h)
+items-known (some HoldsText) h = absurd (false≢true h)
+items-known (some HoldsPlain) h = absurd (false≢true h)
+items-known (some HoldsTime) h = absurd (false≢true h)
+items-known (some HoldsBearer) h = absurd (false≢true h)
+items-known (some (HoldsNumber n)) h = absurd (false≢true h)
+
+pub opens-items : (tag : ℕ) → known 0 tag ≡ some HoldsItems → opens tag ≡ true
+unfolding opens isItems
+opens-items tag e = rw e
+
+pub opens-leaf : (tag : ℕ) (k : Kind) → known 0 tag ≡ some k → isItems (some k) ≡ false → opens tag ≡ false
+unfolding opens
+opens-leaf tag k e l = rw (e, l)
+
+pub child-element : (tag : ℕ) → ElementTag tag → isChild tag ≡ true
+unfolding isChild
+child-element tag t = rw (t .notAttribute, t .notCdata, t .notTable)
+
+attribute-no-child : (tag : ℕ) → attribute tag ≡ true → isChild tag ≡ false
+unfolding isChild
+attribute-no-child tag h = rw h
+
+pub means-attribute : (table : Entries) (tag at : ℕ) (body : List ℕ) (t u : Items) → attribute tag ≡ true → means table (item tag at body t u) ≡ means table u
+unfolding means
+means-attribute table tag at body t u h = rw (attribute-no-child tag h)
+
+pub means-cdata : (table : Entries) (at : ℕ) (body : List ℕ) (t u : Items) → means table (item 1 at body t u) ≡ means table u
+unfolding means isChild attribute
+means-cdata table at body t u = refl
+
+pub means-table : (table : Entries) (at : ℕ) (body : List ℕ) (t u : Items) → means table (item 4 at body t u) ≡ means table u
+unfolding means isChild attribute
+means-table table at body t u = refl
+
+pub means-element : (table : Entries) (tag at : ℕ) (body : List ℕ) (t u : Items) → known 0 tag ≡ some HoldsItems
+    → means table (item tag at body t u) ≡ element tag (attributesIn table tag t) (means table t) (cdataIn table t) (means table u)
+unfolding means
+means-element table tag at body t u e = rw (child-element tag (items-tag tag e), opens-items tag e)
+
+pub means-leaf : (table : Entries) (tag at : ℕ) (body : List ℕ) (t u : Items) (k : Kind) → ElementTag tag → known 0 tag ≡ some k → isItems (some k) ≡ false
+    → means table (item tag at body t u) ≡ leaf tag (leafOctets table tag body) (means table u)
+unfolding means
+means-leaf table tag at body t u k g e l = rw (child-element tag g, opens-leaf tag k e l)
+
+pub leaf-text : (table : Entries) (tag : ℕ) (body : List ℕ) → known 0 tag ≡ some HoldsText → leafOctets table tag body ≡ expanded table body
+unfolding leafOctets isText
+leaf-text table tag body e = rw e
+
+pub leaf-plain : (table : Entries) (tag : ℕ) (body : List ℕ) → known 0 tag ≡ some HoldsPlain → leafOctets table tag body ≡ body
+unfolding leafOctets isText
+leaf-plain table tag body e = rw e
+
+-- without a table texts are themselves
+pub cdata-itself : (o : Option (List ℕ)) → Option·map (expanded []) o ≡ o
+cdata-itself none = refl
+cdata-itself (some o) = ap some (expanded-empty o)
