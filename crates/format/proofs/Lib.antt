@@ -7,3 +7,4 @@ pub mod Place
 pub mod Means
 pub mod Round
 pub mod Force
+pub mod Told

@@ -30,6 +30,17 @@ items-known (some HoldsTime) h = absurd (false≢true h)
 items-known (some HoldsBearer) h = absurd (false≢true h)
 items-known (some (HoldsNumber n)) h = absurd (false≢true h)
 
+pub text-known : (k : Option Kind) → isText k ≡ true → k ≡ some HoldsText
+unfolding isText
+text-known none h = absurd (false≢true h)
+text-known (some HoldsItems) h = absurd (false≢true h)
+text-known (some HoldsTokens) h = absurd (false≢true h)
+text-known (some HoldsText) h = refl
+text-known (some HoldsPlain) h = absurd (false≢true h)
+text-known (some HoldsTime) h = absurd (false≢true h)
+text-known (some HoldsBearer) h = absurd (false≢true h)
+text-known (some (HoldsNumber n)) h = absurd (false≢true h)
+
 pub opens-items : (tag : ℕ) → known 0 tag ≡ some HoldsItems → opens tag ≡ true
 unfolding opens isItems
 opens-items tag e = rw e
