@@ -9,7 +9,7 @@ use lib.Dec.{eqb, leb, ltb}
 use borrow.Author.Tests.{leb-true, le-leb, ltb-true, eqb-true, eqb-false, ne-eqb}
 use Rattle.text.specs.Tokens.{Entries, entries, isTable, covered}
 use Rattle.values.specs.declared.Kind.{Kind}
-use Rattle.values.specs.declared.Kind.the-variants.{HoldsText, HoldsTokens}
+use Rattle.values.specs.declared.Kind.the-variants.{HoldsItems, HoldsTokens, HoldsText}
 use Rattle.values.specs.Table.{known, attribute}
 use Rattle.format.specs.declared.Refusal.{Refusal}
 use Rattle.format.specs.Answers.{refusal}
@@ -18,7 +18,7 @@ use Rattle.format.specs.Tree.Items.{item}
 use Rattle.format.specs.Judge.{isTokens, isText, Context, isTop, allowed, latest, stageAfter, ofTop, rule, first, late, lateBefore, lateAfter, within, waits, next}
 use Rattle.octets.proofs.Tests.{and-left, or-true, or-elim}
 use Rattle.text.proofs.Expansion.{Sound, table-sound}
-use Rattle.values.proofs.Known.{known-four, known-anywhere}
+use Rattle.values.proofs.Known.{known-two, known-three, known-four, known-anywhere}
 use Rattle.format.proofs.Rules.{Held, KindHeld, first-one, rule-true}
 
 -- the stage never falls
@@ -248,3 +248,8 @@ force-after c at tag body u n a f = rw (n (settled-after c at tag body a), f)
 pub force-table : (c : Context) (at : ℕ) (body : List ℕ) (u : Items) → (settled (next c at 4 body) ≡ true → find 4 u ≡ none) → inForce (next c at 4 body) u ≡ entries body
 unfolding next attribute
 force-table c at body u n = rw (n (settled-after c at 4 body refl))
+
+-- the two tops hold items
+pub top-known : (tag : ℕ) → allowed 0 tag ≡ true → known 0 tag ≡ some HoldsItems
+unfolding allowed isTop
+top-known tag h = or-elim (eqb tag 2) (eqb tag 3) (λ e. ap (known 0) (eqb-true tag 2 e) ∙ known-two) (λ e. ap (known 0) (eqb-true tag 3 e) ∙ known-three) h

@@ -8,3 +8,5 @@ pub mod Means
 pub mod Round
 pub mod Force
 pub mod Told
+pub mod Fine
+pub mod Normal

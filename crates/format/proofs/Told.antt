@@ -32,7 +32,7 @@ use Rattle.format.proofs.Rules.{Held, KindHeld, held, fitting, never}
 use Rattle.format.proofs.Induction.{Cases, judged-all, Unbroken, bodyOf, laterOf, inAt, Nexts}
 use Rattle.format.proofs.Place.{shown-other}
 use Rattle.format.proofs.Means.{opens-items, text-known}
-use Rattle.format.proofs.Force.{held-stage, settled, settled-after, settled-next, settled-within, not-four, attribute-four, attribute-one, not-both, swap-eqb, Valid, valid-within, valid-next, quiet-now, quiet-before, quiet-attribute, covered-attribute, inForce, forced, force-next, force-skip, force-after, force-table}
+use Rattle.format.proofs.Force.{held-stage, settled, settled-after, settled-next, settled-within, not-four, attribute-four, attribute-one, not-both, swap-eqb, Valid, valid-within, valid-next, quiet-now, quiet-before, quiet-attribute, covered-attribute, inForce, forced, force-next, force-skip, force-after, force-table, top-known}
 
 -- rules 9, 10, 12 and 13 of a known item, under the table in force
 pub record KindTold (T : Entries) (parent tag : ℕ) (body : List ℕ) (k : Option Kind) : Type 0 where
@@ -276,11 +276,6 @@ later-octets tag rest os = octets-drop (bodySize (tag ∷ rest)) (drop (headerSi
 
 held-of : (c : Context) (at tag : ℕ) (rest : List ℕ) → Unbroken c at tag rest → Held c tag (bodyOf (tag ∷ rest))
 held-of c at tag rest q = held c at tag (headerSize (tag ∷ rest)) (bodySize (tag ∷ rest)) (suc (length rest)) (bodyOf (tag ∷ rest)) q
-
--- the two tops hold items
-top-known : (tag : ℕ) → allowed 0 tag ≡ true → known 0 tag ≡ some HoldsItems
-unfolding allowed isTop
-top-known tag h = or-elim (eqb tag 2) (eqb tag 3) (λ e. ap (known 0) (eqb-true tag 2 e) ∙ known-two) (λ e. ap (known 0) (eqb-true tag 3 e) ∙ known-three) h
 
 -- a whole object is one element, and its items are told
 pub record Top (t : Items) : Type 0 where

@@ -1,0 +1,56 @@
+-- The normal form of an accepted object: it is accepted, means what the object means, is its own normal form, and is one for one meaning (demand 3).
+use mathlib.Core.Path.{_≡_, refl, sym, ap, _∙_, subst}
+use mathlib.Core.Logic.{_↔_}
+use mathlib.Core.Option.{Option, none, some, Option·some-injective, Option·none-ne-some}
+use mathlib.Core.List.{List}
+use Prim.Native.Nat.{ℕ, suc, _≤_}
+use native.Mathlib.Omega.{arith}
+use lib.ListN.{length}
+use Rattle.octets.specs.Numbers.{Octets}
+use Rattle.format.specs.declared.Refusal.{Refusal}
+use Rattle.format.specs.Tree.{Items}
+use Rattle.format.specs.Tree.Items.{end, item}
+use Rattle.format.specs.Judge.{Judged, judge}
+use Rattle.format.specs.Judge.Judged.{refused, accepted}
+use Rattle.format.specs.Meaning.{Meaning, tableOf, meaningOf, ifAccepted, meaning, encode, normalOf, normal}
+use Rattle.format.specs.WellFormed.{ObjectOk}
+use Rattle.format.proofs.Round.{meaning-encode, encode-injective}
+use Rattle.format.proofs.Told.{top, accepted-told, accepted-sound}
+use Rattle.format.proofs.Fine.{told-ok}
+
+item-no-end : (tag at : ℕ) (body : List ℕ) (x u : Items) → item tag at body x u ≡ end → ⊥
+item-no-end tag at body x u e = let z : _≡_ {A = ℕ} 0 1 = cc in omega arith
+
+-- the meaning of any accepted object is well-formed
+pub accepted-ok : (o : List ℕ) (t : Items) → Octets o → judge o ≡ accepted t → ObjectOk (meaningOf t)
+accepted-ok o t os h =
+    let w = top o t os h in
+    told-ok (tableOf t) (accepted-sound o t os h) t (λ e. item-no-end (w .tag) (w .from) (w .body) (w .inside) end (sym (w .is) ∙ e)) (accepted-told o t os h)
+
+-- an accepted object has a tree, and it alone
+accepted-is : {A : Type 0} (f : Items → A) (a : Judged) (x : A) → ifAccepted f a ≡ some x → (t : Items) × (a ≡ accepted t) × (f t ≡ x)
+unfolding ifAccepted
+accepted-is f (refused r) x h = absurd (Option·none-ne-some x h)
+accepted-is f (accepted t) x h = (t, refl, Option·some-injective (f t) x h)
+
+pub meaning-ok : (o : List ℕ) → Octets o → (m : Meaning) → meaning o ≡ some m → ObjectOk m
+unfolding meaning
+meaning-ok o os m h = let a = accepted-is meaningOf (judge o) m h in subst (λ x. ObjectOk x) (a .2) (accepted-ok o (a .0) os (a .1))
+
+-- the normal form of an accepted object, where an object may be so long, is accepted and means what the object means
+pub normal-means : (o : List ℕ) → Octets o → (m : Meaning) → meaning o ≡ some m → length (encode m) ≤ 32_768 → meaning (encode m) ≡ some m
+normal-means o os m h l = meaning-encode m (meaning-ok o os m h) l
+
+-- two accepted objects have one normal form exactly where they mean the same
+pub same-normal : (o p : List ℕ) → Octets o → Octets p → (m n : Meaning) → meaning o ≡ some m → meaning p ≡ some n → length (encode m) ≤ 32_768 → encode m ≡ encode n ↔ m ≡ n
+same-normal o p os ps m n h g l = ((λ e. encode-injective m n (meaning-ok o os m h) (meaning-ok p ps n g) l e), (λ e. ap encode e))
+
+-- the normal form is its own normal form
+pub normal-again : (o p : List ℕ) → Octets o → normal o ≡ some p → length p ≤ 32_768 → normal p ≡ some p
+unfolding normal meaning ifAccepted
+normal-again o p os h l =
+    let a = accepted-is normalOf (judge o) p h in
+    let m : Meaning = meaningOf (a .0) in
+    let again : meaning p ≡ some m = subst (λ x. meaning x ≡ some m) (a .2) (meaning-encode m (accepted-ok o (a .0) os (a .1)) (subst (λ x. length x ≤ 32_768) (sym (a .2)) l)) in
+    let b = accepted-is meaningOf (judge p) m again in
+    ap (ifAccepted normalOf) (b .1) ∙ ap some (ap encode (b .2) ∙ a .2)
