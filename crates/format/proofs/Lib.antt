@@ -10,3 +10,4 @@ pub mod Force
 pub mod Told
 pub mod Fine
 pub mod Normal
+pub mod Refusals
