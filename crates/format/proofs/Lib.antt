@@ -11,3 +11,4 @@ pub mod Told
 pub mod Fine
 pub mod Normal
 pub mod Refusals
+pub mod Bench
