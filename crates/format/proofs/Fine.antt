@@ -70,7 +70,7 @@ stage-least tag = go (attribute tag) (eqb tag 4) (eqb tag 1)
     go false false true = omega arith
     go false false false = omega arith
 
-stage-past : (s : Spot) (tag : ℕ) → stageAfter tag ≤ past s tag .stage
+pub stage-past : (s : Spot) (tag : ℕ) → stageAfter tag ≤ past s tag .stage
 unfolding past
 stage-past s tag = go (eqb (s .parent) 0)
   where
@@ -78,7 +78,7 @@ stage-past s tag = go (eqb (s .parent) 0)
     go true = stage-least tag
     go false = omega arith
 
-stage-up : (s : Spot) (tag : ℕ) → Placed s tag → s .stage ≤ stageAfter tag
+pub stage-up : (s : Spot) (tag : ℕ) → Placed s tag → s .stage ≤ stageAfter tag
 unfolding latest stageAfter
 stage-up s tag p = go (attribute tag) (eqb tag 4) (eqb tag 6) (eqb tag 1) (leb-true (s .stage) (latest tag) (p .order))
   where
@@ -91,22 +91,22 @@ stage-up s tag p = go (attribute tag) (eqb tag 4) (eqb tag 6) (eqb tag 1) (leb-t
     go false false false false h = h
 
 -- what the items of an element mean: well-formed child elements, CDATA and attributes
-record Fine (T : Entries) (s : Spot) (t : Items) : Type 0 where
-  children : WellFormed (s .parent) (s .depth) (s .stage) (means T t)
-  cdata : CdataOk (s .parent) (cdataIn T t)
-  attributes : (a : ℕ) → attribute a ≡ true → AttributeOk (s .parent) a (valueIn T (find a t) (known (s .parent) a))
+pub record Fine (T : Entries) (s : Spot) (t : Items) : Type 0 where
+  pub children : WellFormed (s .parent) (s .depth) (s .stage) (means T t)
+  pub cdata : CdataOk (s .parent) (cdataIn T t)
+  pub attributes : (a : ℕ) → attribute a ≡ true → AttributeOk (s .parent) a (valueIn T (find a t) (known (s .parent) a))
 
 fine-end : (T : Entries) (s : Spot) → Fine T s end
 unfolding means cdataIn find valueIn
 fine-end T s = record { children = tt; cdata = tt; attributes = λ a p. tt }
 
 -- the text of an item, expanded
-told-text : (T : Entries) (p tag : ℕ) (body : List ℕ) → Sound T → KindTold T p tag body (some HoldsText) → text false (expanded T body) ≡ true
+pub told-text : (T : Entries) (p tag : ℕ) (body : List ℕ) → Sound T → KindTold T p tag body (some HoldsText) → text false (expanded T body) ≡ true
 unfolding isText
 told-text T p tag body ok k = expanded-text T ok body (k .valid) (k .covers)
 
 -- the value of an attribute
-told-proper : (T : Entries) (p tag : ℕ) (body : List ℕ) (k : Kind) → Sound T → Octets body → attribute tag ≡ true → known p tag ≡ some k → KindTold T p tag body (some k)
+pub told-proper : (T : Entries) (p tag : ℕ) (body : List ℕ) (k : Kind) → Sound T → Octets body → attribute tag ≡ true → known p tag ≡ some k → KindTold T p tag body (some k)
     → Proper k (meant T k body)
 unfolding isValue
 told-proper T p tag body k ok os a e h =
@@ -228,7 +228,7 @@ fine-item T s tag at body x u ok i f g =
     go p k true a = fine-attribute T s tag at body u (k .0) ok p (i .octet) (i .octets) a (k .1) (rw (k .1) at (i .kind)) x g
     go p k false a = fine-known T s tag at body x u (k .0) ok p (sym (known-anywhere (s .parent) tag a) ∙ k .1) (i .kind) f g
 
-fine : (T : Entries) → Sound T → (t : Items) (s : Spot) → Told T s t → Fine T s t
+pub fine : (T : Entries) → Sound T → (t : Items) (s : Spot) → Told T s t → Fine T s t
 fine T ok end s h = fine-end T s
 fine T ok (item tag at body x u) s h = fine-item T s tag at body x u ok (h .0) (fine T ok x (below s tag) (h .1)) (fine T ok u (past s tag) (h .2))
 

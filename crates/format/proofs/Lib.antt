@@ -12,3 +12,13 @@ pub mod Fine
 pub mod Normal
 pub mod Refusals
 pub mod Bench
+pub mod Loading
+pub mod Kept
+pub mod Walk
+pub mod Trees
+pub mod Tabled
+pub mod Grows
+pub mod Reaches
+pub mod Regrown
+pub mod Rebuilt
+pub mod Written

@@ -58,7 +58,7 @@ Told T s (item tag at body inside after) = ItemTold T s tag body inside × Told 
 abbrev spot : Context → ℕ → List ℕ → Spot
 spot c stage seen = record { parent = c .parent; depth = c .depth; stage = stage; seen = seen }
 
-abbrev Among : List ℕ → List ℕ → Type 0
+abbrev pub Among : List ℕ → List ℕ → Type 0
 Among few many = (a : ℕ) → among a few ≡ true → among a many ≡ true
 
 -- what is known of accepted items from a context on
@@ -68,11 +68,11 @@ record Tells (c : Context) (t : Items) : Type 0 where
   sound : Valid c → Sound (inForce c t)
   told : Valid c → (stage : ℕ) (seen : List ℕ) → stage ≤ c .stage → Among seen (c .seen) → Told (inForce c t) (spot c stage seen) t
 
-among-more : (tag : ℕ) (few many : List ℕ) → Among few many → Among few (tag ∷ many)
+pub among-more : (tag : ℕ) (few many : List ℕ) → Among few many → Among few (tag ∷ many)
 unfolding among
 among-more tag few many h a q = rw (h a q) (or-true (eqb a tag))
 
-among-both : (tag : ℕ) (few many : List ℕ) → Among few many → Among (tag ∷ few) (tag ∷ many)
+pub among-both : (tag : ℕ) (few many : List ℕ) → Among few many → Among (tag ∷ few) (tag ∷ many)
 unfolding among
 among-both tag few many h a q = or-elim (eqb a tag) (among a few) (λ e. rw e) (λ e. rw (h a e) (or-true (eqb a tag))) q
 
