@@ -22,3 +22,4 @@ pub mod Reaches
 pub mod Regrown
 pub mod Rebuilt
 pub mod Written
+pub mod Calls

@@ -1,0 +1,111 @@
+-- What the answers of the calls say: records laid into lists, octets that are written, trees that are loaded, objects that are compared.
+use mathlib.Core.Path.{_≡_, refl, sym, ap, ap₂, _∙_, subst}
+use mathlib.Core.Bool.{Bool, true, false, cond, _&&_, false≢true}
+use mathlib.Core.Logic.{_↔_}
+use mathlib.Core.Option.{Option, none, some}
+use mathlib.Core.List.{List, [], _∷_, _++_, map}
+use Prim.Native.Nat.{ℕ, suc, _+_, _≤_, _<_, min}
+use native.Mathlib.Nat.{min-le-right}
+use native.Mathlib.Omega.{arith}
+use lib.Dec.{eqb, leb}
+use lib.ListN.{length, take, drop}
+use lib.Seq.{sets, sets-eq}
+use borrow.Author.Tests.{leb-true, eqb-true, eq-eqb}
+use Rattle.octets.specs.Numbers.{Octets}
+use Rattle.format.specs.declared.Record.{Record}
+use Rattle.format.specs.declared.WriteAnswer.{WriteAnswer}
+use Rattle.format.specs.declared.WriteAnswer.the-variants.{Octets as Handed, NotWritten}
+use Rattle.format.specs.declared.SameAnswer.{SameAnswer}
+use Rattle.format.specs.declared.SameAnswer.the-variants.{Same, Different, FirstRefused, SecondRefused}
+use Rattle.format.specs.Tree.{Items, count, recordsOf}
+use Rattle.format.specs.Judge.{outermost, judge}
+use Rattle.format.specs.Judge.Judged.{accepted}
+use Rattle.format.specs.Meaning.{Meaning, means, meaningOf, meaning, encode, normalOf}
+use Rattle.format.specs.Writer.{tabled, rebuilt}
+use Rattle.format.specs.Loaded.{storeOf, loadedOf}
+use Rattle.format.specs.Calls.{Lists, put, lay, roomy, Lent, storedWithin, fitsLent, normalAnswer, sameOctets, refusalOr, secondRefusalOr, sameAnswer}
+use Rattle.octets.proofs.Tests.{and-left, and-right, and-true}
+use Rattle.values.proofs.Known.{items-tag}
+use Rattle.format.proofs.Round.{meaning-encode, encode-injective}
+use Rattle.format.proofs.Normal.{accepted-ok}
+use Rattle.format.proofs.Force.{top-known}
+use Rattle.format.proofs.Told.{top}
+use Rattle.format.proofs.Loading.{loaded-ruled, loaded-located}
+use Rattle.format.proofs.Rebuilt.{Whole, whole-rebuilt}
+use Rattle.format.proofs.Written.{rebuilt-ok}
+
+-- laying records puts each field's numbers, in order, over that field's list; with `sets-eq`: they stand there, and what lies before and behind stays
+pub lay-fields : (rs : List Record) (i : ℕ) (l : Lists)
+    → lay i rs l
+    ≡ record {
+      tags = sets (l .tags) i (map (λ r. r .tag) rs);
+      kinds = sets (l .kinds) i (map (λ r. r .kind) rs);
+      depths = sets (l .depths) i (map (λ r. r .depth) rs);
+      parents = sets (l .parents) i (map (λ r. r .parent) rs);
+      starts = sets (l .starts) i (map (λ r. r .start) rs);
+      sizes = sets (l .sizes) i (map (λ r. r .size) rs);
+    }
+unfolding lay
+lay-fields [] i l = refl
+lay-fields (r ∷ rs) i l = lay-fields rs (suc i) (put i r l)
+
+-- what is written from well-formed records is accepted, and means their tree (demand 2, last sentence)
+pub written-means : (row : ℕ → Record) (n : ℕ) (lent : List ℕ) (t : Items) → Octets lent → rebuilt row n lent ≡ some t → length (encode (means [] t)) ≤ 32_768
+    → meaning (encode (means [] t)) ≡ some (means [] t)
+written-means row n lent t os h l = meaning-encode (means [] t) (rebuilt-ok row n lent os t h) l
+
+-- an accepted object has a record
+some-record : (o : List ℕ) (t : Items) → Octets o → judge o ≡ accepted t → 0 < count t
+unfolding count outermost
+some-record o t os h =
+    let w = top o t os h in
+    let f = items-tag (w .tag) (top-known (w .tag) (w .held .allow)) .notTable in
+    rw (w .is, f) (omega arith)
+
+-- the records of the loaded tree, over its store, are well-formed and are that tree
+pub loaded-rebuilt : (o : List ℕ) (t : Items) → Octets o → judge o ≡ accepted t → (row : ℕ → Record) (rest : List ℕ) → tabled row (count t) 0 ≡ recordsOf (loadedOf t)
+    → rebuilt row (count t) (storeOf t ++ rest) ≡ some (loadedOf t)
+loaded-rebuilt o t os h row rest e =
+    whole-rebuilt row (count t) (storeOf t ++ rest) (loadedOf t)
+    (record { some = some-record o t os h; records = sym e; located = loaded-located o t os h rest; rules = loaded-ruled o t os h })
+
+same-octets : (a b : List ℕ) → sameOctets a b ≡ true → a ≡ b
+unfolding sameOctets
+same-octets [] [] h = refl
+same-octets [] (b ∷ bs) h = absurd (false≢true h)
+same-octets (a ∷ more) [] h = absurd (false≢true h)
+same-octets (a ∷ more) (b ∷ bs) h = ap₂ _∷_ (eqb-true a b (and-left (eqb a b) (sameOctets more bs) h)) (same-octets more bs (and-right (eqb a b) (sameOctets more bs) h))
+
+octets-same : (a : List ℕ) → sameOctets a a ≡ true
+unfolding sameOctets
+octets-same [] = refl
+octets-same (a ∷ more) = and-true (eqb a a) (sameOctets more more) (eq-eqb a a refl) (octets-same more)
+
+-- an answer that fits is no refusal
+fits-handed : (lent : Lent) (t : Items) → fitsLent lent t ≡ true → normalAnswer lent (accepted t) ≡ Handed (length (normalOf t))
+unfolding normalAnswer
+fits-handed lent t h = rw h
+
+fits-small : (lent : Lent) (t : Items) → fitsLent lent t ≡ true → length (normalOf t) ≤ 32_768
+unfolding fitsLent storedWithin roomy
+fits-small lent t h =
+    let a = leb (length (storeOf t)) (lent .store) in
+    let b = leb (length (normalOf t)) (min (lent .room) 32_768) in
+    let q = leb-true (length (normalOf t)) (min (lent .room) 32_768) (and-right a b (and-right (leb (count t) (lent .records)) (a && b) h)) in
+    omega (arith, min-le-right (lent .room) 32_768)
+
+-- two accepted objects that fit what is lent: the answer is `Same` exactly when they mean the same
+pub same-exactly : (o p : List ℕ) (t u : Items) → Octets o → Octets p → judge o ≡ accepted t → judge p ≡ accepted u → (first second : Lent) → fitsLent first t ≡ true → fitsLent second u ≡ true
+    → sameAnswer first second (accepted t) (accepted u) ≡ Same ↔ meaningOf t ≡ meaningOf u
+unfolding sameAnswer refusalOr secondRefusalOr
+same-exactly o p t u os ps h g first second f s = (
+  (λ e. encode-injective (meaningOf t) (meaningOf u) (accepted-ok o t os h) (accepted-ok p u ps g) (fits-small first t f) (forth (sameOctets (normalOf t) (normalOf u)) refl (rw (fits-handed first t f, fits-handed second u s) at e))),
+  (λ e. rw (fits-handed first t f, fits-handed second u s, back e)),
+)
+  where
+    forth : (b : Bool) → sameOctets (normalOf t) (normalOf u) ≡ b → cond b Same Different ≡ Same → normalOf t ≡ normalOf u
+    forth true q r = same-octets (normalOf t) (normalOf u) q
+    forth false q r = let z : _≡_ {A = ℕ} 0 1 = cc in absurd (omega arith)
+
+    back : meaningOf t ≡ meaningOf u → sameOctets (normalOf t) (normalOf u) ≡ true
+    back e = subst (λ x. sameOctets (normalOf t) x ≡ true) (ap encode e) (octets-same (normalOf t))
