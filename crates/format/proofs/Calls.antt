@@ -1,26 +1,24 @@
 -- What the answers of the calls say: records laid into lists, octets that are written, trees that are loaded, objects that are compared.
-use mathlib.Core.Path.{_≡_, refl, sym, ap, ap₂, _∙_, subst}
+use mathlib.Core.Path.{_≡_, refl, sym, ap, ap₂, subst}
 use mathlib.Core.Bool.{Bool, true, false, cond, _&&_, false≢true}
 use mathlib.Core.Logic.{_↔_}
-use mathlib.Core.Option.{Option, none, some}
+use mathlib.Core.Option.{some}
 use mathlib.Core.List.{List, [], _∷_, _++_, map}
-use Prim.Native.Nat.{ℕ, suc, _+_, _≤_, _<_, min}
+use Prim.Native.Nat.{ℕ, suc, _≤_, _<_, min}
 use native.Mathlib.Nat.{min-le-right}
 use native.Mathlib.Omega.{arith}
 use lib.Dec.{eqb, leb}
-use lib.ListN.{length, take, drop}
-use lib.Seq.{sets, sets-eq}
+use lib.ListN.{length}
+use lib.Seq.{sets}
 use borrow.Author.Tests.{leb-true, eqb-true, eq-eqb}
 use Rattle.octets.specs.Numbers.{Octets}
 use Rattle.format.specs.declared.Record.{Record}
-use Rattle.format.specs.declared.WriteAnswer.{WriteAnswer}
-use Rattle.format.specs.declared.WriteAnswer.the-variants.{Octets as Handed, NotWritten}
-use Rattle.format.specs.declared.SameAnswer.{SameAnswer}
-use Rattle.format.specs.declared.SameAnswer.the-variants.{Same, Different, FirstRefused, SecondRefused}
+use Rattle.format.specs.declared.WriteAnswer.the-variants.{Octets as Handed}
+use Rattle.format.specs.declared.SameAnswer.the-variants.{Same, Different}
 use Rattle.format.specs.Tree.{Items, count, recordsOf}
 use Rattle.format.specs.Judge.{outermost, judge}
 use Rattle.format.specs.Judge.Judged.{accepted}
-use Rattle.format.specs.Meaning.{Meaning, means, meaningOf, meaning, encode, normalOf}
+use Rattle.format.specs.Meaning.{means, meaningOf, meaning, encode, normalOf}
 use Rattle.format.specs.Writer.{tabled, rebuilt}
 use Rattle.format.specs.Loaded.{storeOf, loadedOf}
 use Rattle.format.specs.Calls.{Lists, put, lay, roomy, Lent, storedWithin, fitsLent, normalAnswer, sameOctets, refusalOr, secondRefusalOr, sameAnswer}
@@ -31,7 +29,7 @@ use Rattle.format.proofs.Normal.{accepted-ok}
 use Rattle.format.proofs.Force.{top-known}
 use Rattle.format.proofs.Told.{top}
 use Rattle.format.proofs.Loading.{loaded-ruled, loaded-located}
-use Rattle.format.proofs.Rebuilt.{Whole, whole-rebuilt}
+use Rattle.format.proofs.Rebuilt.{whole-rebuilt}
 use Rattle.format.proofs.Written.{rebuilt-ok}
 
 -- laying records puts each field's numbers, in order, over that field's list; with `sets-eq`: they stand there, and what lies before and behind stays

@@ -1,24 +1,24 @@
 -- A tree whose items are told has a well-formed meaning.
 use mathlib.Core.Path.{_≡_, refl, sym, ap, _∙_, subst}
 use mathlib.Core.Bool.{Bool, true, false, cond, not, _&&_, _||_, false≢true}
-use mathlib.Core.Option.{Option, none, some, Option·map}
-use mathlib.Core.List.{List, []}
-use Prim.Native.Nat.{ℕ, suc, _≤_, _<_}
+use mathlib.Core.Option.{Option, none, some}
+use mathlib.Core.List.{List}
+use Prim.Native.Nat.{ℕ, _≤_, _<_}
 use native.Mathlib.Omega.{arith}
 use lib.Dec.{eqb, leb}
 use borrow.Author.Tests.{leb-true, le-leb, eqb-true, ne-eqb}
 use Rattle.octets.specs.Numbers.{among, Octets}
 use Rattle.text.specs.Text.{text}
-use Rattle.text.specs.Tokens.{Entries, expanded, covered, shownLength}
+use Rattle.text.specs.Tokens.{Entries, expanded}
 use Rattle.values.specs.declared.Kind.{Kind}
 use Rattle.values.specs.declared.Kind.the-variants.{HoldsItems, HoldsTokens, HoldsText, HoldsPlain, HoldsTime, HoldsBearer, HoldsNumber}
 use Rattle.values.specs.Table.{known, attribute}
-use Rattle.values.specs.Values.{Value, fits, meant}
+use Rattle.values.specs.Values.{Value, meant}
 use Rattle.values.specs.Proper.{Proper}
 use Rattle.format.specs.Tree.{Items, find}
 use Rattle.format.specs.Tree.Items.{end, item}
 use Rattle.format.specs.Judge.{isKnown, isItems, isText, isValue, allowed, latest, stageAfter, shown}
-use Rattle.format.specs.Meaning.{Meaning, opens, valueIn, attributesIn, cdataIn, leafOctets, means}
+use Rattle.format.specs.Meaning.{Meaning, valueIn, attributesIn, cdataIn, leafOctets, means}
 use Rattle.format.specs.Meaning.Meaning.{nothing, element, leaf}
 use Rattle.format.specs.WellFormed.{AttributeOk, CdataOk, PlaceOk, LeafOk, WellFormed, ObjectOk}
 use Rattle.format.specs.WellFormed.LeafOk.{language, plainly}
@@ -27,7 +27,7 @@ use Rattle.octets.proofs.Tests.{and-left, and-right, or-elim}
 use Rattle.text.proofs.Expansion.{Sound, expanded-text, shown-expanded}
 use Rattle.values.proofs.Values.{fits-proper}
 use Rattle.values.proofs.Known.{ElementTag, items-tag, plain-tag, language-tag, known-anywhere, known-cdata, known-six, element-kind, attribute-kind}
-use Rattle.format.proofs.Means.{opens-items, means-attribute, means-cdata, means-table, means-element, means-leaf, leaf-text, leaf-plain}
+use Rattle.format.proofs.Means.{means-attribute, means-cdata, means-table, means-element, means-leaf, leaf-text}
 use Rattle.format.proofs.Force.{attribute-one, swap-eqb, top-known}
 use Rattle.format.proofs.Told.{Told, ItemTold, KindTold}
 

@@ -11,15 +11,14 @@ use Rattle.text.specs.Tokens.{Entries, entries, isTable, covered}
 use Rattle.values.specs.declared.Kind.{Kind}
 use Rattle.values.specs.declared.Kind.the-variants.{HoldsItems, HoldsTokens, HoldsText}
 use Rattle.values.specs.Table.{known, attribute}
-use Rattle.format.specs.declared.Refusal.{Refusal}
 use Rattle.format.specs.Answers.{refusal}
 use Rattle.format.specs.Tree.{Items, find}
 use Rattle.format.specs.Tree.Items.{item}
-use Rattle.format.specs.Judge.{isTokens, isText, Context, isTop, allowed, latest, stageAfter, ofTop, rule, first, late, lateBefore, lateAfter, within, waits, next}
+use Rattle.format.specs.Judge.{isTokens, isText, Context, isTop, allowed, latest, stageAfter, ofTop, rule, first, late, lateBefore, within, waits, next}
 use Rattle.octets.proofs.Tests.{and-left, or-true, or-elim}
 use Rattle.text.proofs.Expansion.{Sound, table-sound}
 use Rattle.values.proofs.Known.{known-two, known-three, known-four, known-anywhere}
-use Rattle.format.proofs.Rules.{Held, KindHeld, first-one, rule-true}
+use Rattle.format.proofs.Rules.{Held, KindHeld, first-one}
 
 -- the stage never falls
 stage-grows : (tag : ℕ) → leb (latest tag) (stageAfter tag) ≡ true

@@ -1,20 +1,15 @@
 -- Reading without fuel: what the items in a part give, by its first item.
-use mathlib.Core.Path.{_≡_, refl, sym, ap, ap₂, _∙_}
-use mathlib.Core.Bool.{Bool, true, false, cond}
-use mathlib.Core.Option.{Option, none, some}
-use mathlib.Core.List.{List, [], _∷_, _++_}
+use mathlib.Core.Path.{_≡_, refl, ap₂, _∙_}
+use mathlib.Core.List.{List, [], _∷_}
 use Prim.Native.Nat.{ℕ, zero, suc, _+_, _≤_, _<_}
 use native.Mathlib.Omega.{arith}
 use native.Mathlib.Nat.{not-suc-le-zero}
-use lib.Dec.{eqb, leb}
 use borrow.Author.Tests.{le-leb}
-use lib.ListN.{length, take, drop, getD, length-take, length-drop}
+use lib.ListN.{length, take, drop, length-take, length-drop}
 use Rattle.octets.specs.Header.{headerSize, bodySize}
-use Rattle.values.specs.declared.Kind.{Kind}
 use Rattle.values.specs.Table.{known}
-use Rattle.format.specs.Tree.{Items}
 use Rattle.format.specs.Tree.Items.{end, item}
-use Rattle.format.specs.Judge.{Judged, Context, items, read, broken, unless, byKind, late, within, next, judge, outermost, rule}
+use Rattle.format.specs.Judge.{Context, items, read, broken, unless, byKind, late, within, next, judge, outermost, rule}
 use Rattle.format.specs.Judge.Judged.{accepted}
 use Rattle.octets.proofs.Frames.{header-two}
 

@@ -1,14 +1,13 @@
 -- One induction for all that is said of accepted parts: at the end, at an unknown item, at an element that holds items, at any other known item.
-use mathlib.Core.Path.{_≡_, refl, sym, ap, _∙_, subst}
+use mathlib.Core.Path.{_≡_, refl, subst}
 use mathlib.Core.Bool.{Bool, true, false, cond, _&&_}
 use mathlib.Core.Option.{Option, none, some}
 use mathlib.Core.List.{List, [], _∷_}
-use Prim.Native.Nat.{ℕ, zero, suc, _+_, _*_, _≤_, _<_}
+use Prim.Native.Nat.{ℕ, zero, suc, _+_, _*_, _≤_}
 use native.Mathlib.Omega.{arith}
 use lib.Dec.{eqb, leb}
 use lib.ListN.{length, take, drop, length-drop}
 use lib.Seq.{length-take-le}
-use borrow.Author.Tests.{leb-true}
 use Rattle.octets.specs.Header.{headerSize, bodySize}
 use Rattle.values.specs.declared.Kind.{Kind}
 use Rattle.values.specs.Table.{known}
@@ -16,7 +15,7 @@ use Rattle.values.specs.declared.Kind.the-variants.{HoldsItems, HoldsText, Hold
 use Rattle.format.specs.Answers.{refusal}
 use Rattle.format.specs.Tree.{Items, count}
 use Rattle.format.specs.Tree.Items.{end, item}
-use Rattle.format.specs.Judge.{Judged, isKnown, isItems, Context, items, broken, unless, byKind, joined, followed, late, within, next, judge, outermost, rule}
+use Rattle.format.specs.Judge.{Judged, isKnown, isItems, Context, items, broken, byKind, joined, followed, late, within, next, judge, outermost, rule}
 use Rattle.format.specs.Judge.Judged.{refused, accepted}
 use Rattle.octets.proofs.Frames.{header-two}
 use Rattle.format.proofs.Rules.{fitting, unless-none, unless-accepted, never, same-tree}

@@ -2,37 +2,36 @@
 use mathlib.Core.Path.{_≡_, refl, sym, ap, ap₂, _∙_, subst, fun-ext}
 use mathlib.Core.Bool.{Bool, true, false, cond, not, _&&_, _||_, false≢true}
 use mathlib.Core.Option.{Option, none, some, Option·map, Option·some-injective}
-use mathlib.Core.List.{List, [], _∷_, _++_, append-assoc, append-nil}
-use Prim.Native.Nat.{ℕ, suc, _+_, _≤_}
+use mathlib.Core.List.{List, [], _∷_, _++_, append-assoc}
+use Prim.Native.Nat.{ℕ, _+_, _≤_}
 use native.Mathlib.Omega.{arith}
 use lib.Dec.{eqb, leb}
 use lib.ListN.{length, length-append}
 use borrow.Author.Tests.{leb-true, le-leb, eqb-true, ne-eqb}
 use Rattle.octets.specs.Numbers.{among, Octets}
-use Rattle.text.specs.Text.{text}
-use Rattle.text.specs.Tokens.{Entries, expanded, shownLength}
+use Rattle.text.specs.Tokens.{Entries, expanded}
 use Rattle.values.specs.declared.Kind.{Kind}
 use Rattle.values.specs.declared.Kind.the-variants.{HoldsItems, HoldsTokens, HoldsText, HoldsPlain, HoldsTime, HoldsBearer, HoldsNumber}
 use Rattle.values.specs.Table.{known, attribute}
-use Rattle.values.specs.Values.{Value, fits, meant, octetsOf}
+use Rattle.values.specs.Values.{fits, meant, octetsOf}
 use Rattle.values.specs.Proper.{Proper}
 use Rattle.values.specs.Proper.Proper.{plain}
 use Rattle.format.specs.Tree.{Items, find, count}
 use Rattle.format.specs.Tree.Items.{end, item}
-use Rattle.format.specs.Judge.{isKnown, isItems, isTokens, isText, isValue, allowed, latest, stageAfter, shown, judge}
+use Rattle.format.specs.Judge.{isKnown, isItems, isTokens, isText, isValue, latest, judge}
 use Rattle.format.specs.Judge.Judged.{accepted}
-use Rattle.format.specs.Meaning.{Meaning, opens, isChild, valueIn, attributesIn, cdataIn, leafOctets, means, tableOf, meaningOf}
-use Rattle.format.specs.Meaning.Meaning.{element, leaf}
+use Rattle.format.specs.Meaning.{opens, isChild, valueIn, attributesIn, cdataIn, leafOctets, means, tableOf, meaningOf}
+use Rattle.format.specs.Meaning.Meaning.{leaf}
 use Rattle.format.specs.WellFormed.{AttributeOk}
 use Rattle.format.specs.Writer.{Spot, below, past, atTop, placed, bodyKeeps, keeps, isEnd, ruled}
 use Rattle.format.specs.Loaded.{stored, storeIn, loadedIn, storeOf, loadedOf}
-use Rattle.octets.proofs.Tests.{and-true, or-elim, or-true}
+use Rattle.octets.proofs.Tests.{or-elim, or-true}
 use Rattle.text.proofs.Words.{expanded-empty}
 use Rattle.text.proofs.Expansion.{Sound, shown-expanded}
 use Rattle.values.proofs.Values.{valueKind, proper-means, proper-fits}
 use Rattle.values.proofs.Known.{ElementTag, items-tag, plain-tag, language-tag, known-anywhere, known-cdata, known-one, known-four, known-six, element-kind, no-attribute, attribute-kind}
-use Rattle.format.proofs.Spans.{Part, Located}
-use Rattle.format.proofs.Means.{items-known, text-known, opens-items, opens-leaf, means-attribute, means-cdata, means-table, means-element, means-leaf, leaf-text, leaf-plain}
+use Rattle.format.proofs.Spans.{Located}
+use Rattle.format.proofs.Means.{items-known, opens-items, opens-leaf, means-table, means-element, means-leaf}
 use Rattle.format.proofs.Force.{attribute-four, not-both}
 use Rattle.format.proofs.Told.{Told, ItemTold, KindTold, Among, among-more, among-both, accepted-told, accepted-sound}
 use Rattle.format.proofs.Fine.{Fine, fine, Placed, placed-parts, told-text, told-proper, known-is, stage-past, stage-up}

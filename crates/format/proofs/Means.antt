@@ -1,11 +1,9 @@
 -- What an item adds to a meaning, by what its tag is.
 use mathlib.Core.Path.{_≡_, refl, ap}
-use mathlib.Core.Bool.{Bool, true, false, cond, not, _||_, false≢true}
+use mathlib.Core.Bool.{true, false, false≢true}
 use mathlib.Core.Option.{Option, none, some, Option·map}
 use mathlib.Core.List.{List, []}
 use Prim.Native.Nat.{ℕ}
-use lib.Dec.{eqb}
-use borrow.Author.Tests.{eqb-true}
 use Rattle.text.specs.Tokens.{Entries, expanded}
 use Rattle.values.specs.declared.Kind.{Kind}
 use Rattle.values.specs.declared.Kind.the-variants.{HoldsItems, HoldsTokens, HoldsText, HoldsPlain, HoldsTime, HoldsBearer, HoldsNumber}
@@ -13,9 +11,8 @@ use Rattle.values.specs.Table.{known, attribute}
 use Rattle.format.specs.Tree.{Items}
 use Rattle.format.specs.Tree.Items.{item}
 use Rattle.format.specs.Judge.{isItems, isText}
-use Rattle.format.specs.Meaning.{Meaning, opens, isChild, attributesIn, cdataIn, leafOctets, means}
+use Rattle.format.specs.Meaning.{opens, isChild, attributesIn, cdataIn, leafOctets, means}
 use Rattle.format.specs.Meaning.Meaning.{element, leaf}
-use Rattle.octets.proofs.Tests.{or-true}
 use Rattle.text.proofs.Words.{expanded-empty}
 use Rattle.values.proofs.Known.{ElementTag, items-tag}
 

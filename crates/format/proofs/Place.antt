@@ -1,7 +1,7 @@
 -- Where the items of a normal form stand, and that they keep the rules there.
 use mathlib.Core.Path.{_≡_, refl, sym, ap, _∙_}
-use mathlib.Core.Bool.{Bool, true, false, cond, not, _&&_, _||_}
-use mathlib.Core.Option.{Option, none, some}
+use mathlib.Core.Bool.{Bool, true, false, cond, _||_}
+use mathlib.Core.Option.{none, some}
 use mathlib.Core.List.{List, [], _∷_, _++_}
 use Prim.Native.Nat.{ℕ, suc, _≤_}
 use native.Mathlib.Omega.{arith}
@@ -16,7 +16,7 @@ use Rattle.values.specs.Table.{known, attribute}
 use Rattle.values.specs.Values.{Value, fits, octetsOf}
 use Rattle.values.specs.Proper.{Proper}
 use Rattle.values.specs.Proper.Proper.{words, plain, counted, timed, carried}
-use Rattle.format.specs.Judge.{isKnown, isItems, isTokens, isText, isValue, Context, isTop, allowed, latest, stageAfter, shown, ofTop, rule, first, late, lateBefore, lateAfter, within, waits, next}
+use Rattle.format.specs.Judge.{isKnown, isTokens, isText, isValue, Context, isTop, allowed, latest, stageAfter, shown, ofTop, rule, first, late, lateBefore, lateAfter, within, waits, next}
 use Rattle.format.specs.WellFormed.{PlaceOk}
 use Rattle.octets.proofs.Tests.{and-false, or-true}
 use Rattle.text.proofs.Words.{plain-text, plain-text-covered}

@@ -1,9 +1,9 @@
 -- Reading framed items: one item that keeps the rules, before whatever follows it.
 use mathlib.Core.Path.{_≡_, refl, _∙_}
-use mathlib.Core.Bool.{Bool, true, false, not, _||_, false≢true}
-use mathlib.Core.Option.{Option, none, some}
+use mathlib.Core.Bool.{Bool, true, false, not, _||_}
+use mathlib.Core.Option.{none, some}
 use mathlib.Core.List.{List, [], _∷_, _++_}
-use Prim.Native.Nat.{ℕ, zero, suc, _+_, _^_, _≤_, _<_}
+use Prim.Native.Nat.{ℕ, zero, suc, _+_, _^_, _<_}
 use native.Mathlib.Omega.{arith}
 use native.Mathlib.Nat.{not-suc-le-zero}
 use lib.Dec.{eqb, leb}
@@ -15,7 +15,7 @@ use Rattle.values.specs.declared.Kind.the-variants.{HoldsItems}
 use Rattle.values.specs.Table.{known}
 use Rattle.format.specs.Tree.{Items}
 use Rattle.format.specs.Tree.Items.{end, item}
-use Rattle.format.specs.Judge.{Judged, isKnown, isItems, Context, items, broken, unless, byKind, joined, followed, late, within, next}
+use Rattle.format.specs.Judge.{Judged, isKnown, isItems, Context, items, unless, byKind, joined, followed, late, within, next}
 use Rattle.format.specs.Judge.Judged.{accepted}
 use Rattle.octets.proofs.Frames.{headed, behind, split, framed-behind}
 use Rattle.format.proofs.Rules.{Held, Fitting, unbroken}

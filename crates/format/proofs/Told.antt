@@ -1,38 +1,38 @@
 -- What acceptance says of a tree, item by item, under the token table in force, with no order of judging left.
 use mathlib.Core.Path.{_≡_, refl, sym, ap, _∙_, subst}
-use mathlib.Core.Bool.{Bool, true, false, cond, not, _&&_, _||_, false≢true}
+use mathlib.Core.Bool.{Bool, true, false, not, _&&_, _||_, false≢true}
 use mathlib.Core.Option.{Option, none, some, Option·none-ne-some}
 use mathlib.Core.List.{List, [], _∷_}
 use Prim.Native.Nat.{ℕ, suc, _+_, _≤_, _<_}
 use native.Mathlib.Omega.{arith}
 use lib.Dec.{eqb, leb}
-use lib.ListN.{length, take, drop, getD, drop-of-length-le}
+use lib.ListN.{length, drop, drop-of-length-le}
 use lib.Seq.{drop-drop}
-use borrow.Author.Tests.{leb-true, le-leb, eqb-true, eqb-false}
+use borrow.Author.Tests.{leb-true, le-leb, eqb-true}
 use Rattle.octets.specs.Numbers.{among, Octets}
 use Rattle.octets.specs.Header.{headerSize, bodySize}
 use Rattle.text.specs.Text.{text}
 use Rattle.text.specs.Tokens.{Entries, entries, covered, shownLength}
 use Rattle.values.specs.declared.Kind.{Kind}
-use Rattle.values.specs.declared.Kind.the-variants.{HoldsItems, HoldsTokens, HoldsText}
+use Rattle.values.specs.declared.Kind.the-variants.{HoldsItems, HoldsTokens}
 use Rattle.values.specs.Table.{known, attribute}
 use Rattle.values.specs.Values.{fits}
 use Rattle.format.specs.Answers.{refusal}
 use Rattle.format.specs.Tree.{Items, find}
 use Rattle.format.specs.Tree.Items.{end, item}
-use Rattle.format.specs.Judge.{isKnown, isItems, isText, isValue, Context, isTop, allowed, latest, stageAfter, shown, ofTop, late, lateAfter, within, next, outermost, judge, unless, rule}
+use Rattle.format.specs.Judge.{isKnown, isItems, isText, isValue, Context, allowed, latest, stageAfter, shown, ofTop, late, lateAfter, within, next, outermost, judge, unless, rule}
 use Rattle.format.specs.Judge.Judged.{accepted}
 use Rattle.format.specs.Meaning.{opens, tableIn, tableOf}
 use Rattle.format.specs.Writer.{Spot, below, past, atTop, placed, isEnd}
-use Rattle.octets.proofs.Tests.{and-true, or-elim, or-true}
+use Rattle.octets.proofs.Tests.{or-elim, or-true}
 use Rattle.octets.proofs.Numbers.{octets-take, octets-drop}
 use Rattle.text.proofs.Expansion.{Sound, sound-empty}
-use Rattle.values.proofs.Known.{known-two, known-three, known-four, known-anywhere, items-no-attribute, items-tag, not-zero, unknown-four, no-attribute}
+use Rattle.values.proofs.Known.{known-four, known-anywhere, items-no-attribute, items-tag, not-zero, unknown-four}
 use Rattle.format.proofs.Rules.{Held, KindHeld, held, fitting, never}
 use Rattle.format.proofs.Induction.{Cases, judged-all, Unbroken, bodyOf, laterOf, inAt, Nexts}
 use Rattle.format.proofs.Place.{shown-other}
 use Rattle.format.proofs.Means.{opens-items, text-known}
-use Rattle.format.proofs.Force.{held-stage, settled, settled-after, settled-next, settled-within, not-four, attribute-four, attribute-one, not-both, swap-eqb, Valid, valid-within, valid-next, quiet-now, quiet-before, quiet-attribute, covered-attribute, inForce, forced, force-next, force-skip, force-after, force-table, top-known}
+use Rattle.format.proofs.Force.{held-stage, settled, settled-next, settled-within, not-four, attribute-four, attribute-one, swap-eqb, Valid, valid-within, valid-next, quiet-now, quiet-before, quiet-attribute, covered-attribute, inForce, forced, force-next, force-skip, force-after, force-table, top-known}
 
 -- rules 9, 10, 12 and 13 of a known item, under the table in force
 pub record KindTold (T : Entries) (parent tag : ℕ) (body : List ℕ) (k : Option Kind) : Type 0 where

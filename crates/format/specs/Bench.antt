@@ -1,13 +1,13 @@
 -- The bench cases P1 to P14 of document 01 as one table, and the records of its listing.
 use mathlib.Core.Bool.{Bool, true, false}
 use mathlib.Core.List.{List, [], _∷_}
-use Prim.Native.Nat.{ℕ}
+use Prim.Native.Nat.{ℕ, zero, suc}
 use Rattle.values.specs.declared.Time.{Time}
 use Rattle.values.specs.Times.{timeOf, timeOctets}
 use Rattle.format.specs.declared.Record.{Record}
 use Rattle.format.specs.declared.Refusal.{Refusal}
 use Rattle.format.specs.Answers.{refusal}
-use Rattle.format.specs.Tree.{Items, recordsOf, count}
+use Rattle.format.specs.Tree.{recordsOf, count}
 use Rattle.format.specs.Judge.{Judged, judge}
 use Rattle.format.specs.Judge.Judged.{refused, accepted}
 use Rattle.format.specs.Meaning.{normalOf}
@@ -48,3 +48,24 @@ cases =
 unfoldable pub listed : Judged → List Record
 listed (refused r) = []
 listed (accepted t) = recordsOf t
+
+-- what other encoders got wrong (document 01, Slips), and the rules beside them: a name of one token that expands to nine octets; a child that runs past its
+-- parent but not past the object; a token octet without an entry in an attribute of the top, before a broken item and before a table that has another entry;
+-- attributes in falling order
+unfoldable pub slips : List (List ℕ × Outcome)
+slips =
+    (0x03 ∷ 0x12 ∷ 0x04 ∷ 0x0B ∷ 0x01 ∷ 0x09 ∷ 0x61 ∷ 0x61 ∷ 0x61 ∷ 0x61 ∷ 0x61 ∷ 0x61 ∷ 0x61 ∷ 0x61 ∷ 0x61 ∷ 0x10 ∷ 0x03 ∷ 0x01 ∷ 0x01 ∷ 0x01 ∷ [], refuses (refusal 13 17))
+    ∷ (0x03 ∷ 0x06 ∷ 0x28 ∷ 0x02 ∷ 0x80 ∷ 0x02 ∷ 0x00 ∷ 0x01 ∷ [], refuses (refusal 3 4))
+    ∷ (0x03 ∷ 0x05 ∷ 0x82 ∷ 0x01 ∷ 0x01 ∷ 0x28 ∷ 0x09 ∷ [], refuses (refusal 12 2))
+    ∷ (0x03 ∷ 0x07 ∷ 0x82 ∷ 0x01 ∷ 0x01 ∷ 0x04 ∷ 0x02 ∷ 0x02 ∷ 0x00 ∷ [], refuses (refusal 12 2))
+    ∷ (0x03 ∷ 0x06 ∷ 0x83 ∷ 0x01 ∷ 0x61 ∷ 0x82 ∷ 0x01 ∷ 0x62 ∷ [], normally 3 (0x03 ∷ 0x06 ∷ 0x82 ∷ 0x01 ∷ 0x62 ∷ 0x83 ∷ 0x01 ∷ 0x61 ∷ []))
+    ∷ []
+
+-- two tops, as records over no octets
+unfoldable pub twoTops : ℕ → Record
+twoTops i = record { tag = 0x03; kind = 0; depth = 1; parent = 0; start = 0; size = 0 }
+
+-- a top with a CDATA of one octet over lent octets: the whole records, by number
+unfoldable pub topWithCdata : ℕ → Record
+topWithCdata zero = record { tag = 0x03; kind = 0; depth = 1; parent = 0; start = 0; size = 0 }
+topWithCdata (suc i) = record { tag = 0x01; kind = 2; depth = 2; parent = 0; start = 0; size = 1 }

@@ -10,7 +10,6 @@ use lib.ListN.{length, take, drop, getD, set}
 use lib.Seq.{sets}
 use Rattle.format.specs.declared.Record.{Record}
 use Rattle.format.specs.declared.Span.{Span}
-use Rattle.format.specs.declared.Counts.{Counts}
 use Rattle.format.specs.declared.ReadAnswer.{ReadAnswer}
 use Rattle.format.specs.declared.ReadAnswer.the-variants.{Records, NotRead}
 use Rattle.format.specs.declared.WriteAnswer.{WriteAnswer}

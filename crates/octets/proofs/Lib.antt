@@ -1,3 +1,4 @@
 pub mod Tests
 pub mod Numbers
 pub mod Frames
+pub mod Examples

@@ -5,7 +5,7 @@ use mathlib.Core.List.{List, [], _∷_}
 use Prim.Native.Nat.{ℕ, zero, suc, _+_, _%_, _^_, _<_}
 use native.Mathlib.Omega.{arith}
 use native.Mathlib.Nat.{div-add-mod', mod-lt, pow-succ'}
-use lib.Arith.{digits-lt}
+use lib.Arith.{digits-lt, digits-div, digits-mod}
 use lib.Dec.{ltb}
 use lib.ListN.{length, take, drop, getD, length-take, List·getD-eq-default}
 use lib.Seq.{getD-drop, getD-take}
@@ -43,3 +43,11 @@ value-lt (b ∷ bs) h = rw (pow-succ' 256 (length bs)) (digits-lt (h 0) (value-l
 
 pub value-of-length : (n : ℕ) (o : List ℕ) → Octets o → length o ≡ n → value o < 256 ^ n
 value-of-length n o h e = subst (λ m. value o < 256 ^ m) e (value-lt o h)
+
+-- octets are the digits of the number that they write
+pub digits-value : (o : List ℕ) → Octets o → digits (length o) (value o) ≡ o
+unfolding digits value
+digits-value [] h = refl
+digits-value (b ∷ bs) h =
+    let l = value-lt bs (λ i. h (suc i)) in
+    rw (digits-div b l, digits-mod b l, digits-value bs (λ i. h (suc i)))

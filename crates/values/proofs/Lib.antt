@@ -2,3 +2,4 @@ pub mod Times
 pub mod Bearers
 pub mod Values
 pub mod Known
+pub mod Examples

@@ -1,18 +1,18 @@
 -- The normal octets of a time are a time and mean it, and the octets of a time mean one that is in range.
-use mathlib.Core.Path.{_≡_, refl, sym, ap, _∙_}
+use mathlib.Core.Path.{_≡_, refl, sym, _∙_}
 use mathlib.Core.Bool.{Bool, true, false, cond, not, _&&_, false≢true}
-use mathlib.Core.List.{List, [], _∷_, _++_, append-assoc}
+use mathlib.Core.List.{List, append-assoc}
 use Prim.Native.Nat.{ℕ, _+_, _*_, _/_, _%_, _^_, _≤_, _<_}
 use native.Mathlib.Omega.{arith}
 use lib.Dec.{eqb, leb}
-use lib.ListN.{length, take, getD, length-append}
+use lib.ListN.{length, getD}
 use lib.Seq.{take-at}
 use borrow.Author.Tests.{leb-true, eqb-true, eq-eqb, ne-eqb}
-use Rattle.octets.specs.Numbers.{value, digits}
+use Rattle.octets.specs.Numbers.{digits}
 use Rattle.values.specs.declared.Time.{Time}
 use Rattle.values.specs.Times.{bits, longFlag, offsetFlag, offsetOctet, timeOf, inRange, isTime, sign, timeOctets}
 use Rattle.values.specs.Proper.{TimeOk}
-use Rattle.octets.proofs.Tests.{and-left, and-right, and-true, and-false}
+use Rattle.octets.proofs.Tests.{and-left, and-right, and-false}
 use Rattle.octets.proofs.Numbers.{length-digits, value-digits}
 
 pub record Bounds (t : Time) : Type 0 where

@@ -3,12 +3,11 @@ use mathlib.Core.Path.{_≡_, refl, ap}
 use mathlib.Core.Bool.{Bool, true, false, false≢true}
 use mathlib.Core.List.{List, []}
 use Prim.Native.Nat.{ℕ}
-use lib.Dec.{eqb}
 use lib.ListN.{length}
 use borrow.Author.Tests.{eqb-true, eq-eqb}
 use Rattle.octets.specs.Numbers.{digits, Octets}
 use Rattle.text.specs.Text.{text}
-use Rattle.text.specs.Tokens.{Entries, expanded, covered}
+use Rattle.text.specs.Tokens.{Entries, expanded}
 use Rattle.values.specs.declared.Kind.{Kind}
 use Rattle.values.specs.declared.Kind.the-variants.{HoldsItems, HoldsTokens, HoldsText, HoldsPlain, HoldsTime, HoldsBearer, HoldsNumber}
 use Rattle.values.specs.Values.{Value, width, fits, meant, octetsOf}

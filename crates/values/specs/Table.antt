@@ -6,7 +6,6 @@ use Prim.Native.Nat.{ℕ}
 use lib.Dec.{eqb, ltb}
 use Rattle.values.specs.declared.Kind.{Kind}
 use Rattle.values.specs.declared.Kind.the-variants.{HoldsItems, HoldsTokens, HoldsText, HoldsPlain, HoldsTime, HoldsBearer, HoldsNumber}
-use Rattle.values.specs.declared.NumberKind.{NumberKind}
 use Rattle.values.specs.declared.NumberKind.the-variants.{Duration, ShortId, Enumerated, Integer}
 
 -- element, tag, kind, by rising element and tag. Under 0 stand CDATA and the elements of annex D, which are known in any element; under an element stand its

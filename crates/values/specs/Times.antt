@@ -3,7 +3,7 @@ use mathlib.Core.Bool.{Bool, cond, not, _&&_}
 use mathlib.Core.List.{List, [], _∷_, _++_}
 use Prim.Native.Nat.{ℕ, _+_, _-_, _*_, _/_, _%_, _^_}
 use lib.Dec.{eqb, leb}
-use lib.IntN.{ℤ, subℕ}
+use lib.IntN.{subℕ}
 use lib.ListN.{length, take, getD}
 use Rattle.octets.specs.Numbers.{value, digits}
 use Rattle.values.specs.declared.Time.{Time}

@@ -1,0 +1,5 @@
+pub mod Headers
+pub mod Tags
+pub mod Sound
+pub mod Complete
+pub mod Agree

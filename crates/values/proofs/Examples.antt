@@ -1,0 +1,34 @@
+-- Times and bearers, computed: minus 0, local time over the first and the last day, the widths of a service id.
+use mathlib.Core.Path.{_≡_, refl}
+use mathlib.Core.Bool.{true, false}
+use mathlib.Core.List.{[], _∷_}
+use lib.IntN.{subℕ}
+use Rattle.octets.specs.Numbers.{value, digits}
+use Rattle.values.specs.declared.Ensemble.the-variants.{Absent, Present}
+use Rattle.values.specs.Times.{bits, longFlag, offsetFlag, offsetOctet, timeOf, inRange, isTime, localMinutes, localOf}
+use Rattle.values.specs.Bearers.{ensembleBit, ensembleOctets, bearerOctets}
+
+-- minus 0 is 0 (document 01, P14)
+pub minus-zero : timeOf (0x30 ∷ 0xD4 ∷ 0x10 ∷ 0x00 ∷ 0x20 ∷ []) ≡ record { day = 50_000; hour = 0; minute = 0; second = 0; minus = false; halves = 0 }
+unfolding value bits longFlag offsetFlag offsetOctet timeOf
+minus-zero = refl
+
+-- dates up to 99,999 (document 01, Run: dates 99,999 and 100,000)
+pub last-date : (isTime (0x61 ∷ 0xA7 ∷ 0xC0 ∷ 0x00 ∷ []) ≡ true) × (isTime (0x61 ∷ 0xA8 ∷ 0x00 ∷ 0x00 ∷ []) ≡ false)
+unfolding value bits longFlag offsetFlag offsetOctet timeOf inRange isTime
+last-date = (refl, refl)
+
+-- half an hour before the start of day 0 is on day -1, and an hour and a half after the end of day 99,999 on day 100,000
+pub day-before : localOf (record { day = 0; hour = 0; minute = 10; second = 5; minus = true; halves = 1 }) ≡ record { day = subℕ 0 1; hour = 23; minute = 40; second = 5 }
+unfolding localMinutes localOf
+day-before = refl
+
+pub day-after : localOf (record { day = 99_999; hour = 23; minute = 30; second = 0; minus = false; halves = 3 }) ≡ record { day = subℕ 100_001 1; hour = 1; minute = 0; second = 0 }
+unfolding localMinutes localOf
+day-after = refl
+
+-- a 16-bit service id and the 32-bit one of the same number are written apart
+pub widths : (bearerOctets (record { ensemble = Absent; long = false; sid = 0xC123; scids = 5 }) ≡ 0x05 ∷ 0xC1 ∷ 0x23 ∷ [])
+    × (bearerOctets (record { ensemble = Present 0xE1 0xC185; long = true; sid = 0xC123; scids = 5 }) ≡ 0x55 ∷ 0xE1 ∷ 0xC1 ∷ 0x85 ∷ 0x00 ∷ 0x00 ∷ 0xC1 ∷ 0x23 ∷ [])
+unfolding digits ensembleBit ensembleOctets bearerOctets
+widths = (refl, refl)
