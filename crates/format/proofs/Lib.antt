@@ -12,6 +12,7 @@ pub mod Fine
 pub mod Normal
 pub mod Refusals
 pub mod Bench
+pub mod Examples
 pub mod Loading
 pub mod Kept
 pub mod Walk

@@ -1,0 +1,56 @@
+#!/usr/bin/env python3
+"""Checks laws that hold for any right program:  check_laws.py PROGRAM SEED COUNT
+
+For random trees, of which the maker knows the meaning: each way to write a tree has the tree's normal
+form, its number of records and just its needs in store and room; a normal form is its own normal form
+and is listed; the writer makes it of the tree's records; and both ways to write a tree mean the same.
+"""
+import random
+import sys
+
+from make_cases import Encoder, OBJECT_LIMIT, case_l, case_n, case_s, case_w, make_records, random_raw
+from streams import run, split_answers
+
+
+def laws(rng):
+    """Pairs of a case and the last line that its answer must have."""
+    while True:
+        maker, tree, raw = random_raw(rng)
+        normal, octets, again = tree.normal(), raw.octets(), Encoder(maker, 0.3).raw(tree).octets()
+        if max(len(normal), len(again)) <= OBJECT_LIMIT and not tree.too_long():
+            break
+    pool, records = bytearray(), []
+    make_records(rng, tree, 1, 0, pool, records)
+    count, store, room = tree.records(), tree.store(), len(normal)
+    yield case_l(count, octets), f"records {count}"
+    yield case_l(count, normal), f"records {count}"
+    yield case_l(count - 1, octets), "refused 14 at 0"
+    yield case_n(count, store, room, octets), f"normal {normal.hex()}"
+    yield case_n(count, store, room, again), f"normal {normal.hex()}"
+    yield case_n(count, store, room, normal), f"normal {normal.hex()}"
+    yield case_n(count, store, room - 1, octets), "refused 15 at 0"
+    if store > 0:
+        yield case_n(count, store - 1, room, octets), "refused 15 at 0"
+    yield case_w(count, records, room, bytes(pool)), f"written {normal.hex()}"
+    yield case_w(count, records, room - 1, bytes(pool)), "refused 15 at 0"
+    yield case_s(octets, again), "same"
+    yield case_s(normal, octets), "same"
+
+
+def main():
+    if len(sys.argv) != 4:
+        sys.exit("usage: check_laws.py PROGRAM SEED COUNT")
+    program, seed, count = sys.argv[1], sys.argv[2], int(sys.argv[3])
+    pairs = [pair for index in range(count) for pair in laws(random.Random(f"laws {seed} {index}"))]
+    lines, status = run(program, b"".join(case for case, _ in pairs))
+    answers = split_answers(lines)
+    broken = [(case, must, answer[-1]) for (case, must), answer in zip(pairs, answers) if answer[-1] != must]
+    for case, must, answer in broken[:3]:
+        print(f"{chr(case[0])} {case.hex()[:200]}\n  must be: {must[:200]}\n  answered: {answer[:200]}")
+    good = pairs and not broken and status == 0 and len(answers) == len(pairs)
+    print(f"laws: {len(pairs)} answers of seed {seed}: {'all hold' if good else 'NOT ALL HOLD'}")
+    sys.exit(0 if good else 1)
+
+
+if __name__ == "__main__":
+    main()

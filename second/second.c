@@ -1,0 +1,1225 @@
+/*
+ * second.c - the second program of Drangosk.
+ *
+ * Reads a stream of cases on standard input and prints one answer for each: the listing of a
+ * binary SPI object (L), its normal form (N), the octets that records stand for (W), and whether
+ * two objects mean the same (S).  Written from document 01 (the rules) and from document 002,
+ * TS 102 371 V3.2.1 (the layouts) alone, so that it can be held against the proved program.
+ *
+ * All memory is fixed; nothing is allocated.  Each octet of an object is looked at once while it is
+ * judged and once more while its normal form is written.
+ */
+#include <stdbool.h>
+#include <stdint.h>
+#include <stdio.h>
+#include <string.h>
+
+enum {
+    OBJECT_LIMIT = 32768,   /* octets of an object, read or written (01, refusals 1 and 15) */
+    FIELD_LIMIT = 65536,    /* largest object, store or room that a case may name */
+    LIST_LIMIT = 65535,     /* records that a 16-bit count can name */
+    RECORD_OCTETS = 9,      /* one record in a W case */
+    DEPTH_LIMIT = 16,       /* deepest element; the top has depth 1 */
+    FIRST_ATTRIBUTE = 0x80,
+    ATTRIBUTE_TAGS = 8,     /* annex E goes no further than 0x87 */
+    ELEMENT_TAGS = 0x80,
+    TOKEN_TAGS = 0x20,
+    SAME_PLACES = 16384,    /* lent by an S case for each object, with rooms of OBJECT_LIMIT */
+    SAME_STORE = 65536
+};
+
+/* Refusal numbers of document 01; 0 stands for no refusal. */
+enum {
+    ACCEPTED = 0,
+    BAD_SIZE = 1,
+    FIELD_PAST_END = 2,
+    BODY_PAST_END = 3,
+    TAG_NOT_ALLOWED = 4,
+    OCTETS_AFTER_TOP = 5,
+    OUT_OF_ORDER = 6,
+    TOO_DEEP = 7,
+    ATTRIBUTE_TWICE = 8,
+    BAD_VALUE = 9,
+    BAD_TEXT = 10,
+    BAD_TOKEN_TABLE = 11,
+    TOKEN_WITHOUT_ENTRY = 12,
+    SHOWN_TEXT_TOO_LONG = 13,
+    TOO_FEW_PLACES = 14,
+    OUTPUT_TOO_LARGE = 15,
+    NOT_WELL_FORMED = 16
+};
+
+struct verdict {
+    int number;
+    uint32_t place;
+};
+
+static const struct verdict accepted = {ACCEPTED, 0};
+
+/* ---- Tags (002, annexes D and E) --------------------------------------------------------------- */
+
+enum {
+    CDATA = 0x01,
+    EPG = 0x02,
+    SERVICE_INFORMATION = 0x03,
+    TOKEN_TABLE = 0x04,
+    DEFAULT_LANGUAGE = 0x06,
+    SHORT_NAME = 0x10,
+    MEDIUM_NAME = 0x11,
+    LONG_NAME = 0x12,
+    MEDIA_DESCRIPTION = 0x13,
+    GENRE = 0x14,
+    KEYWORDS = 0x16,
+    MEMBER_OF = 0x17,
+    LINK = 0x18,
+    LOCATION = 0x19,
+    SHORT_DESCRIPTION = 0x1A,
+    LONG_DESCRIPTION = 0x1B,
+    PROGRAMME = 0x1C,
+    PROGRAMME_GROUPS = 0x20,
+    SCHEDULE = 0x21,
+    PROGRAMME_GROUP = 0x23,
+    SCOPE = 0x24,
+    SERVICE_SCOPE = 0x25,
+    ENSEMBLE = 0x26,
+    SERVICE = 0x28,
+    SERVICE_BEARER = 0x29,
+    MULTIMEDIA = 0x2B,
+    TIME_ELEMENT = 0x2C,
+    LOCATION_BEARER = 0x2D,
+    PROGRAMME_EVENT = 0x2E,
+    RELATIVE_TIME = 0x2F,
+    RADIODNS = 0x31,
+    GEOLOCATION = 0x32,
+    COUNTRY = 0x33,
+    POINT = 0x34,
+    POLYGON = 0x35,
+    ON_DEMAND = 0x36,
+    PRESENTATION_TIME = 0x37,
+    ACQUISITION_TIME = 0x38
+};
+
+/* What the body of an item is.  UNKNOWN is 0, so that tags left out of the tables are unknown. */
+enum {
+    UNKNOWN = 0,
+    ITEMS,      /* attributes, elements and CDATA */
+    ENTRIES,    /* the token table's own layout (clause 4.9.1) */
+    PLAIN,      /* any octets: genre href, ensemble id and the georss:doubleList elements */
+    TEXT,       /* strings, CRID, MIME type, language (clauses 4.4.0, 4.7.1, 4.7.3, 4.8.1) */
+    TIME,       /* clause 4.7.4 */
+    BEARER,     /* clause 4.7.6.1 */
+    ENUMERATED, /* one octet (clause 4.6) */
+    NUMBER,     /* two octets (durations, clause 4.7.5, and clauses 4.8.2 to 4.8.5) */
+    SHORT_ID    /* three octets (clause 4.7.2) */
+};
+
+/* Annex D: every element that is in use, with what its body is. */
+static const uint8_t element_body[ELEMENT_TAGS] = {
+    [EPG] = ITEMS,
+    [SERVICE_INFORMATION] = ITEMS,
+    [TOKEN_TABLE] = ENTRIES,
+    [DEFAULT_LANGUAGE] = TEXT,
+    [SHORT_NAME] = ITEMS,
+    [MEDIUM_NAME] = ITEMS,
+    [LONG_NAME] = ITEMS,
+    [MEDIA_DESCRIPTION] = ITEMS,
+    [GENRE] = ITEMS,
+    [KEYWORDS] = ITEMS,
+    [MEMBER_OF] = ITEMS,
+    [LINK] = ITEMS,
+    [LOCATION] = ITEMS,
+    [SHORT_DESCRIPTION] = ITEMS,
+    [LONG_DESCRIPTION] = ITEMS,
+    [PROGRAMME] = ITEMS,
+    [PROGRAMME_GROUPS] = ITEMS,
+    [SCHEDULE] = ITEMS,
+    [PROGRAMME_GROUP] = ITEMS,
+    [SCOPE] = ITEMS,
+    [SERVICE_SCOPE] = ITEMS,
+    [ENSEMBLE] = ITEMS,
+    [SERVICE] = ITEMS,
+    [SERVICE_BEARER] = ITEMS,
+    [MULTIMEDIA] = ITEMS,
+    [TIME_ELEMENT] = ITEMS,
+    [LOCATION_BEARER] = ITEMS,
+    [PROGRAMME_EVENT] = ITEMS,
+    [RELATIVE_TIME] = ITEMS,
+    [RADIODNS] = ITEMS,
+    [GEOLOCATION] = ITEMS,
+    [COUNTRY] = ITEMS,
+    [POINT] = PLAIN,
+    [POLYGON] = PLAIN,
+    [ON_DEMAND] = ITEMS,
+    [PRESENTATION_TIME] = ITEMS,
+    [ACQUISITION_TIME] = ITEMS
+};
+
+/* Annex E: the values of an element's attributes 0x80, 0x81 and so on, in that order.  Rows that
+ * the annex marks as not used stay unknown; epg has no other row. */
+static const uint8_t attribute_body[ELEMENT_TAGS][ATTRIBUTE_TAGS] = {
+    /* table E.1 */
+    [GENRE] = {PLAIN, ENUMERATED},
+    [KEYWORDS] = {TEXT},
+    [LINK] = {TEXT, TEXT, TEXT, TEXT, TIME},
+    [SHORT_NAME] = {TEXT},
+    [MEDIUM_NAME] = {TEXT},
+    [LONG_NAME] = {TEXT},
+    [SHORT_DESCRIPTION] = {TEXT},
+    [LONG_DESCRIPTION] = {TEXT},
+    [MULTIMEDIA] = {TEXT, TEXT, TEXT, ENUMERATED, NUMBER, NUMBER},
+    [SERVICE_BEARER] = {BEARER, UNKNOWN, TEXT},
+    [LOCATION_BEARER] = {BEARER, UNKNOWN, TEXT},
+    [GEOLOCATION] = {TEXT, TEXT},
+    /* table E.2 */
+    [SERVICE_INFORMATION] = {NUMBER, TIME, TEXT, TEXT},
+    [ENSEMBLE] = {PLAIN},
+    [SERVICE] = {NUMBER},
+    [RADIODNS] = {TEXT, TEXT},
+    /* table E.3 */
+    [PROGRAMME_GROUPS] = {NUMBER, TIME, TEXT},
+    [PROGRAMME_GROUP] = {TEXT, SHORT_ID, NUMBER, ENUMERATED, NUMBER},
+    [SCHEDULE] = {NUMBER, TIME, TEXT},
+    [SCOPE] = {TIME, TIME},
+    [SERVICE_SCOPE] = {BEARER},
+    [PROGRAMME] = {TEXT, SHORT_ID, NUMBER, ENUMERATED, ENUMERATED, UNKNOWN, TEXT},
+    [PROGRAMME_EVENT] = {TEXT, SHORT_ID, NUMBER, ENUMERATED, ENUMERATED, UNKNOWN, TEXT},
+    [TIME_ELEMENT] = {TIME, NUMBER, TIME, NUMBER},
+    [RELATIVE_TIME] = {NUMBER, NUMBER, NUMBER, NUMBER},
+    [MEMBER_OF] = {TEXT, SHORT_ID, NUMBER},
+    [PRESENTATION_TIME] = {TIME, TIME, NUMBER},
+    [ACQUISITION_TIME] = {TIME, TIME}
+};
+
+/* Octets that the CDATA of an element may have once its tokens are replaced (01, "Lengths of shown
+ * text"); 0 where there is no limit. */
+static const uint16_t shown_limit[ELEMENT_TAGS] = {
+    [SHORT_NAME] = 8,
+    [MEDIUM_NAME] = 16,
+    [LONG_NAME] = 128,
+    [SHORT_DESCRIPTION] = 180,
+    [LONG_DESCRIPTION] = 1200
+};
+
+static bool is_attribute(uint8_t tag)
+{
+    return tag >= FIRST_ATTRIBUTE;
+}
+
+static bool is_element(uint8_t tag)
+{
+    return tag > CDATA && tag < FIRST_ATTRIBUTE;
+}
+
+static bool is_top(uint8_t tag)
+{
+    return tag == EPG || tag == SERVICE_INFORMATION;
+}
+
+/* What the body of an item is; an attribute's meaning depends on the element that it stands in. */
+static uint8_t body_of_item(uint8_t parent_tag, uint8_t tag)
+{
+    if (tag == CDATA)
+        return TEXT;
+    if (!is_attribute(tag))
+        return element_body[tag];
+    if (tag >= FIRST_ATTRIBUTE + ATTRIBUTE_TAGS)
+        return UNKNOWN;
+    return attribute_body[parent_tag][tag - FIRST_ATTRIBUTE];
+}
+
+/* ---- Text and tokens (01, "Text" and "Tokens"; 002, clauses 4.5.1 and 4.9) --------------------- */
+
+/* Sets of octets below 0x20, one bit each. */
+#define TOKEN_OCTETS UINT32_C(0x000FD9FE)   /* 0x01 to 0x13 but tab, line feed and return */
+#define SPACING_OCTETS UINT32_C(0x00002600) /* tab, line feed and return */
+
+struct token_table {
+    uint32_t present; /* a bit for each tag that has an entry */
+    uint8_t length[TOKEN_TAGS];
+    const uint8_t *text[TOKEN_TAGS];
+};
+
+static const struct token_table no_tokens = {0};
+
+struct text_facts {
+    uint32_t tokens;   /* the token octets in it, one bit each */
+    uint64_t expanded; /* its size once they are replaced */
+};
+
+/* How many octets, in whole groups of eight, are printable ASCII at the start of a text. */
+static size_t printable_run(const uint8_t *text, size_t length)
+{
+    const uint64_t ones = UINT64_C(0x0101010101010101);
+    const uint64_t tops = UINT64_C(0x8080808080808080);
+    size_t at = 0;
+
+    while (length - at >= 8) {
+        uint64_t group;
+        memcpy(&group, text + at, sizeof group);
+        if (((group | (group - 0x20 * ones)) & tops) != 0)
+            break;
+        at += 8;
+    }
+    return at;
+}
+
+/* The size of the sequence that begins a text with an octet above 0x7F, or 0 where it is bad: the
+ * leading ones of that octet give the size, and the code point must need that many octets, be at
+ * most U+10FFFF, and be neither a surrogate nor in the private area right behind them. */
+static size_t wide_character(const uint8_t *text, size_t left)
+{
+    static const uint32_t lowest[] = {0, 0, 0x80, 0x800, 0x10000};
+    uint8_t first = text[0];
+    size_t size = first >= 0xF0 ? 4 : first >= 0xE0 ? 3 : 2;
+
+    if (first < 0xC0 || first > 0xF7 || left < size)
+        return 0;
+    uint32_t code = first & (0x7Fu >> size);
+    for (size_t i = 1; i < size; i++) {
+        if ((text[i] & 0xC0) != 0x80)
+            return 0;
+        code = code << 6 | (text[i] & 0x3F);
+    }
+    if (code < lowest[size] || code > 0x10FFFF || (code >= 0xD800 && code <= 0xF8FF))
+        return 0;
+    return size;
+}
+
+/* Whether a text is good, and what is to be known of it; token octets may stand in it whether they
+ * have an entry or not. */
+static bool scan_text(const uint8_t *text, size_t length, const struct token_table *table,
+                      struct text_facts *facts)
+{
+    size_t at = 0;
+
+    facts->tokens = 0;
+    facts->expanded = length;
+    for (;;) {
+        at += printable_run(text + at, length - at);
+        if (at == length)
+            return true;
+        uint8_t octet = text[at];
+        if (octet >= 0x80) {
+            size_t size = wide_character(text + at, length - at);
+            if (size == 0)
+                return false;
+            at += size;
+            continue;
+        }
+        at++;
+        if (octet >= 0x20)
+            continue;
+        uint32_t bit = UINT32_C(1) << octet;
+        if ((bit & TOKEN_OCTETS) != 0) {
+            facts->tokens |= bit;
+            facts->expanded += table->length[octet];
+            facts->expanded--;
+        } else if ((bit & SPACING_OCTETS) == 0) {
+            return false;
+        }
+    }
+}
+
+/* Reads the entries of a token table: a tag that is a token octet and new, a length octet that is
+ * always the length itself, and good text in which no token stands.  Anything else is 11. */
+static int read_token_table(const uint8_t *body, size_t length, struct token_table *table)
+{
+    size_t at = 0;
+
+    while (at < length) {
+        if (length - at < 2)
+            return BAD_TOKEN_TABLE;
+        uint8_t tag = body[at];
+        uint8_t size = body[at + 1];
+        const uint8_t *text = body + at + 2;
+        struct text_facts facts;
+
+        if (tag >= TOKEN_TAGS || (UINT32_C(1) << tag & TOKEN_OCTETS & ~table->present) == 0)
+            return BAD_TOKEN_TABLE;
+        if (length - at - 2 < size)
+            return BAD_TOKEN_TABLE;
+        if (!scan_text(text, size, &no_tokens, &facts) || facts.tokens != 0)
+            return BAD_TOKEN_TABLE;
+        table->present |= UINT32_C(1) << tag;
+        table->length[tag] = size;
+        table->text[tag] = text;
+        at += 2 + (size_t)size;
+    }
+    return ACCEPTED;
+}
+
+/* Writes a text with each token octet replaced by its entry; answers where the output ends. */
+static uint8_t *write_expanded(uint8_t *out, const uint8_t *text, size_t length,
+                               const struct token_table *table)
+{
+    for (size_t at = 0; at < length; at++) {
+        uint8_t octet = text[at];
+        if (octet < TOKEN_TAGS && (UINT32_C(1) << octet & table->present) != 0) {
+            memcpy(out, table->text[octet], table->length[octet]);
+            out += table->length[octet];
+        } else {
+            *out++ = octet;
+        }
+    }
+    return out;
+}
+
+/* ---- Times (01, "Time"; 002, clause 4.7.4) ----------------------------------------------------- */
+
+struct time_value {
+    uint32_t date;
+    uint8_t hours, minutes, seconds;
+    uint8_t offset; /* sense (0x20 is minus) and half hours, as in the octet; 0 for no offset */
+};
+
+enum {
+    OFFSET_FLAG = 1 << 12,
+    LONG_FLAG = 1 << 11,
+    OFFSET_BITS = 0x3F,
+    HALF_HOURS = 0x1F
+};
+
+/* Takes a time apart; false where the length is not what the flags say or a field is too large. */
+static bool read_time(const uint8_t *body, size_t length, struct time_value *time)
+{
+    if (length < 4)
+        return false;
+    uint32_t head = (uint32_t)body[0] << 24 | (uint32_t)body[1] << 16 | (uint32_t)body[2] << 8 | body[3];
+    size_t seconds_octets = (head & LONG_FLAG) != 0 ? 2 : 0;
+    size_t offset_octets = (head & OFFSET_FLAG) != 0 ? 1 : 0;
+
+    if (length != 4 + seconds_octets + offset_octets)
+        return false;
+    time->date = head >> 14 & 0x1FFFF;
+    time->hours = head >> 6 & 0x1F;
+    time->minutes = head & 0x3F;
+    time->seconds = seconds_octets != 0 ? body[4] >> 2 : 0;
+    time->offset = offset_octets != 0 ? body[length - 1] & OFFSET_BITS : 0;
+    if ((time->offset & HALF_HOURS) == 0)
+        time->offset = 0; /* minus nothing is nothing */
+    return time->date <= 99999 && time->hours <= 23 && time->minutes <= 59 && time->seconds <= 59;
+}
+
+/* Puts a time together in its shortest form with reserved bits 0; answers where the output ends. */
+static uint8_t *write_time(uint8_t *out, const struct time_value *time)
+{
+    uint32_t head = time->date << 14 | (uint32_t)time->hours << 6 | time->minutes;
+
+    head |= time->seconds != 0 ? LONG_FLAG : 0;
+    head |= time->offset != 0 ? OFFSET_FLAG : 0;
+    *out++ = (uint8_t)(head >> 24);
+    *out++ = (uint8_t)(head >> 16);
+    *out++ = (uint8_t)(head >> 8);
+    *out++ = (uint8_t)head;
+    if (time->seconds != 0) {
+        *out++ = (uint8_t)(time->seconds << 2);
+        *out++ = 0;
+    }
+    if (time->offset != 0)
+        *out++ = time->offset;
+    return out;
+}
+
+/* ---- Bearers (01, "DAB bearer"; 002, clause 4.7.6.1) ------------------------------------------- */
+
+enum {
+    ENSEMBLE_FLAG = 0x40,
+    LONG_SID_FLAG = 0x10,
+    BEARER_MEANING = 0x5F /* the first octet without the reserved bit and the X-PAD flag */
+};
+
+/* Whether a bearer has the length that its flags ask for. */
+static bool bearer_fits(const uint8_t *body, size_t length)
+{
+    if (length == 0)
+        return false;
+    size_t ensemble_octets = (body[0] & ENSEMBLE_FLAG) != 0 ? 3 : 0;
+    size_t sid_octets = (body[0] & LONG_SID_FLAG) != 0 ? 4 : 2;
+    return length == 1 + ensemble_octets + sid_octets;
+}
+
+/* ---- The tree of known items ------------------------------------------------------------------- */
+
+struct node {
+    uint64_t normal_size; /* octets of its body in normal form */
+    uint32_t start;       /* its body's place and size in the octets it was read from */
+    uint32_t length;
+    uint16_t parent;
+    uint8_t tag;
+    uint8_t depth;
+    uint8_t body;         /* what the body is, UNKNOWN never */
+    bool has_tokens;
+};
+
+/* A text attribute of the top whose tokens wait for the table. */
+struct waiting {
+    uint32_t place;
+    size_t node;
+};
+
+struct tree {
+    const uint8_t *octets;
+    struct token_table table;
+    size_t waiting_count;
+    struct waiting waiting[ATTRIBUTE_TAGS];
+    size_t count;
+    struct node nodes[LIST_LIMIT];
+};
+
+static void clear_tree(struct tree *tree, const uint8_t *octets)
+{
+    tree->octets = octets;
+    tree->table = no_tokens;
+    tree->waiting_count = 0;
+    tree->count = 0;
+}
+
+static const uint8_t *body_octets(const struct tree *tree, const struct node *node)
+{
+    return tree->octets + node->start;
+}
+
+/* ---- Rules that the reader and the writer share ------------------------------------------------ */
+
+/* An element whose list of items is being judged. */
+struct open_element {
+    size_t node;
+    uint8_t tag;
+    uint8_t depth;
+    uint8_t earliest;        /* the first stage that may still come */
+    uint8_t seen_attributes; /* a bit for each known attribute, 0x80 lowest */
+};
+
+/* The stages of an element's body (01, "Framing"; 002, clauses 4.3.0 and 4.3.1). */
+enum { STAGE_ATTRIBUTES, STAGE_TABLE, STAGE_LANGUAGE, STAGE_ELEMENTS, STAGE_CDATA };
+
+static struct open_element open_list(const struct tree *tree, size_t node)
+{
+    return (struct open_element){.node = node,
+                                 .tag = tree->nodes[node].tag,
+                                 .depth = tree->nodes[node].depth,
+                                 .earliest = STAGE_ATTRIBUTES,
+                                 .seen_attributes = 0};
+}
+
+static uint8_t stage_of(uint8_t tag)
+{
+    if (is_attribute(tag))
+        return STAGE_ATTRIBUTES;
+    if (tag == TOKEN_TABLE)
+        return STAGE_TABLE;
+    if (tag == DEFAULT_LANGUAGE)
+        return STAGE_LANGUAGE;
+    return tag == CDATA ? STAGE_CDATA : STAGE_ELEMENTS;
+}
+
+/* Refusal 4: 0x00 and the two top tags never stand in a list, 0x04 and 0x06 in the top's alone. */
+static bool tag_allowed(const struct open_element *parent, uint8_t tag)
+{
+    if (tag == TOKEN_TABLE || tag == DEFAULT_LANGUAGE)
+        return is_top(parent->tag);
+    return tag != 0 && !is_top(tag);
+}
+
+/* Refusals 4, 6, 7 and 8 of an item in a list, the lowest first.  An accepted item moves the list
+ * on: attributes and other elements may be repeated, the other stages are over after one item. */
+static int judge_placement(struct open_element *parent, uint8_t tag, uint8_t body)
+{
+    if (!tag_allowed(parent, tag))
+        return TAG_NOT_ALLOWED;
+    uint8_t stage = stage_of(tag);
+    if (stage < parent->earliest)
+        return OUT_OF_ORDER;
+    if (is_element(tag) && parent->depth == DEPTH_LIMIT)
+        return TOO_DEEP;
+    if (is_attribute(tag) && body != UNKNOWN) {
+        uint8_t bit = (uint8_t)(1u << (tag - FIRST_ATTRIBUTE));
+        if ((parent->seen_attributes & bit) != 0)
+            return ATTRIBUTE_TWICE;
+        parent->seen_attributes |= bit;
+    }
+    bool repeatable = stage == STAGE_ATTRIBUTES || stage == STAGE_ELEMENTS;
+    parent->earliest = repeatable ? stage : stage + 1;
+    return ACCEPTED;
+}
+
+/* Refusals 10, 12 and 13 of a text. */
+static int judge_text(const struct tree *tree, struct node *node, uint8_t parent_tag)
+{
+    struct text_facts facts;
+
+    if (!scan_text(body_octets(tree, node), node->length, &tree->table, &facts))
+        return BAD_TEXT;
+    node->has_tokens = facts.tokens != 0;
+    node->normal_size = facts.expanded;
+    if ((facts.tokens & ~tree->table.present) != 0)
+        return TOKEN_WITHOUT_ENTRY;
+    if (node->tag == CDATA && shown_limit[parent_tag] != 0 && facts.expanded > shown_limit[parent_tag])
+        return SHOWN_TEXT_TOO_LONG;
+    return ACCEPTED;
+}
+
+static int judge_time(const struct tree *tree, struct node *node)
+{
+    struct time_value time;
+
+    if (!read_time(body_octets(tree, node), node->length, &time))
+        return BAD_VALUE;
+    node->normal_size = 4u + (time.seconds != 0 ? 2u : 0u) + (time.offset != 0 ? 1u : 0u);
+    return ACCEPTED;
+}
+
+/* Refusals 9, 10, 12 and 13 of a known item's body, with the size that it has in normal form; the
+ * size of a list of items is counted later. */
+static int judge_body(const struct tree *tree, struct node *node, uint8_t parent_tag)
+{
+    node->normal_size = node->length;
+    switch (node->body) {
+    case ITEMS:
+        node->normal_size = 0;
+        return ACCEPTED;
+    case TEXT:
+        return judge_text(tree, node, parent_tag);
+    case TIME:
+        return judge_time(tree, node);
+    case BEARER:
+        return bearer_fits(body_octets(tree, node), node->length) ? ACCEPTED : BAD_VALUE;
+    case ENUMERATED:
+        return node->length == 1 ? ACCEPTED : BAD_VALUE;
+    case NUMBER:
+        return node->length == 2 ? ACCEPTED : BAD_VALUE;
+    case SHORT_ID:
+        return node->length == 3 ? ACCEPTED : BAD_VALUE;
+    default: /* PLAIN: any octets pass */
+        return ACCEPTED;
+    }
+}
+
+/* ---- The reader: refusals 1 to 13 -------------------------------------------------------------- */
+
+struct item {
+    uint32_t place; /* of its tag */
+    uint32_t start; /* of its body */
+    uint32_t end;
+    uint8_t tag;
+};
+
+/* Finds where an item's body lies (01, "Framing"; 002, table 3).  `end` is the end of the part that
+ * encloses the item: its parent's body, or the object for the top.  Gives refusals 2 and 3. */
+static int frame_item(const uint8_t *octets, uint32_t place, uint32_t end, struct item *item)
+{
+    if (end - place < 2)
+        return FIELD_PAST_END;
+    uint32_t start = place + 2;
+    uint32_t length = octets[place + 1];
+    if (length >= 0xFE) {
+        uint32_t field = length == 0xFE ? 2 : 3;
+        if (end - start < field)
+            return FIELD_PAST_END;
+        length = 0;
+        for (uint32_t i = 0; i < field; i++)
+            length = length << 8 | octets[start++];
+    }
+    if (length > end - start)
+        return BODY_PAST_END;
+    *item = (struct item){.place = place, .start = start, .end = start + length, .tag = octets[place]};
+    return ACCEPTED;
+}
+
+/* The late 12: the tokens of the top's own attributes are looked up once it is settled which table
+ * there is; the first attribute with a token that is not in it is refused. */
+static struct verdict settle_waiting(struct tree *tree)
+{
+    for (size_t i = 0; i < tree->waiting_count; i++) {
+        struct node *node = &tree->nodes[tree->waiting[i].node];
+        int number = judge_text(tree, node, SERVICE_INFORMATION);
+        if (number != ACCEPTED)
+            return (struct verdict){number, tree->waiting[i].place};
+    }
+    tree->waiting_count = 0;
+    return accepted;
+}
+
+/* Adds the record of a known item.  An object within its limit holds far fewer than LIST_LIMIT. */
+static struct node *add_node(struct tree *tree, const struct open_element *parent,
+                             const struct item *item, uint8_t body)
+{
+    struct node *node = &tree->nodes[tree->count++];
+
+    *node = (struct node){.start = item->start,
+                          .length = item->end - item->start,
+                          .parent = (uint16_t)parent->node,
+                          .tag = item->tag,
+                          .depth = (uint8_t)(parent->depth + 1),
+                          .body = body};
+    return node;
+}
+
+static struct verdict read_list(struct tree *tree, size_t node, uint32_t start, uint32_t end);
+
+/* Judges the inside of an item that is known and stands where it may. */
+static struct verdict read_known(struct tree *tree, const struct open_element *parent,
+                                 const struct item *item, uint8_t body)
+{
+    if (body == ENTRIES) {
+        int number = read_token_table(tree->octets + item->start, item->end - item->start, &tree->table);
+        return number != ACCEPTED ? (struct verdict){number, item->place} : settle_waiting(tree);
+    }
+    size_t index = tree->count;
+    struct node *node = add_node(tree, parent, item, body);
+    int number = judge_body(tree, node, parent->tag);
+    if (number == TOKEN_WITHOUT_ENTRY && is_attribute(item->tag) && is_top(parent->tag)) {
+        tree->waiting[tree->waiting_count++] = (struct waiting){item->place, index};
+        return accepted;
+    }
+    if (number != ACCEPTED)
+        return (struct verdict){number, item->place};
+    return body == ITEMS ? read_list(tree, index, item->start, item->end) : accepted;
+}
+
+/* Judges the items of one element in reading order: the rules of each, then its children's.  An item
+ * that is neither attribute nor table ends the top's attributes, so what waits is settled before it. */
+static struct verdict read_list(struct tree *tree, size_t node, uint32_t start, uint32_t end)
+{
+    struct open_element here = open_list(tree, node);
+    struct item item;
+
+    for (uint32_t at = start; at < end; at = item.end) {
+        uint8_t tag = tree->octets[at];
+        struct verdict verdict = accepted;
+        if (!is_attribute(tag) && tag != TOKEN_TABLE)
+            verdict = settle_waiting(tree);
+        if (verdict.number != ACCEPTED)
+            return verdict;
+
+        uint8_t body = body_of_item(here.tag, tag);
+        int number = frame_item(tree->octets, at, end, &item);
+        if (number == ACCEPTED)
+            number = judge_placement(&here, tag, body);
+        if (number != ACCEPTED)
+            return (struct verdict){number, at};
+
+        if (body != UNKNOWN)
+            verdict = read_known(tree, &here, &item, body);
+        if (verdict.number != ACCEPTED)
+            return verdict;
+    }
+    return settle_waiting(tree);
+}
+
+/* Reads an object: the top's own rules 2 to 5, then its list. */
+static struct verdict read_object(struct tree *tree, const uint8_t *octets, uint32_t size)
+{
+    struct item top;
+
+    clear_tree(tree, octets);
+    if (size == 0 || size > OBJECT_LIMIT)
+        return (struct verdict){BAD_SIZE, 0};
+    int number = frame_item(octets, 0, size, &top);
+    if (number == ACCEPTED && !is_top(octets[0]))
+        number = TAG_NOT_ALLOWED;
+    if (number != ACCEPTED)
+        return (struct verdict){number, 0};
+    if (top.end < size)
+        return (struct verdict){OCTETS_AFTER_TOP, top.end};
+
+    const struct open_element outside = {.node = 0, .depth = 0};
+    add_node(tree, &outside, &top, ITEMS);
+    return read_list(tree, 0, top.start, top.end);
+}
+
+/* ---- Records given to the writer: refusal 16 --------------------------------------------------- */
+
+enum { KIND_ELEMENT = 0, KIND_ATTRIBUTE = 1, KIND_CDATA = 2 };
+
+static const char *const kind_names[] = {"element", "attribute", "cdata"};
+
+static uint8_t kind_of_tag(uint8_t tag)
+{
+    if (is_attribute(tag))
+        return KIND_ATTRIBUTE;
+    return tag == CDATA ? KIND_CDATA : KIND_ELEMENT;
+}
+
+struct record {
+    uint8_t tag, kind, depth;
+    uint32_t parent, start, length;
+};
+
+static struct record record_at(const uint8_t *records, size_t index)
+{
+    const uint8_t *field = records + index * RECORD_OCTETS;
+
+    return (struct record){.tag = field[0],
+                           .kind = field[1],
+                           .depth = field[2],
+                           .parent = (uint32_t)field[3] << 8 | field[4],
+                           .start = (uint32_t)field[5] << 8 | field[6],
+                           .length = (uint32_t)field[7] << 8 | field[8]};
+}
+
+/* The elements that enclose the next record: open[1] is the top, open[depth] the innermost that
+ * holds items. */
+struct path {
+    uint8_t depth;
+    struct open_element open[DEPTH_LIMIT + 1];
+};
+
+static void enter_element(struct path *path, const struct tree *tree, size_t node)
+{
+    path->depth = tree->nodes[node].depth;
+    path->open[path->depth] = open_list(tree, node);
+}
+
+/* Record 0 must be the top: an epg or serviceInformation of depth 1 that is its own parent. */
+static bool admit_top(struct tree *tree, struct path *path, const struct record *record)
+{
+    if (!is_top(record->tag) || record->depth != 1 || record->parent != 0)
+        return false;
+    tree->nodes[0] = (struct node){.tag = record->tag, .depth = 1, .body = ITEMS};
+    enter_element(path, tree, 0);
+    return true;
+}
+
+/* Any other record must be a known item below an element that is still open, which its parent and
+ * its depth both name, and must obey rules 4 and 6 to 13. */
+static bool admit_item(struct tree *tree, struct path *path, size_t index, const struct record *record)
+{
+    if (record->depth < 2 || record->depth > path->depth + 1)
+        return false;
+    struct open_element *parent = &path->open[record->depth - 1];
+    uint8_t body = body_of_item(parent->tag, record->tag);
+    struct node *node = &tree->nodes[index];
+
+    if (record->parent != parent->node || body == UNKNOWN || body == ENTRIES)
+        return false;
+    if (judge_placement(parent, record->tag, body) != ACCEPTED)
+        return false;
+    *node = (struct node){.start = record->start,
+                          .length = record->length,
+                          .parent = (uint16_t)record->parent,
+                          .tag = record->tag,
+                          .depth = record->depth,
+                          .body = body};
+    if (judge_body(tree, node, parent->tag) != ACCEPTED)
+        return false;
+    path->depth = record->depth - 1;
+    if (body == ITEMS)
+        enter_element(path, tree, index);
+    return true;
+}
+
+/* Makes a tree of the records over the lent octets; false where they are not well-formed.  No table
+ * is ever read here, so a token octet in a text has no entry and fails as it must. */
+static bool read_records(struct tree *tree, const uint8_t *records, size_t count, const uint8_t *octets,
+                         uint32_t size)
+{
+    struct path path;
+
+    clear_tree(tree, octets);
+    for (size_t index = 0; index < count; index++) {
+        struct record record = record_at(records, index);
+        if (record.kind != kind_of_tag(record.tag) || record.start + record.length > size)
+            return false;
+        if (index == 0 ? !admit_top(tree, &path, &record) : !admit_item(tree, &path, index, &record))
+            return false;
+        tree->count++;
+    }
+    return tree->count != 0;
+}
+
+/* ---- Normal form (01, "Records and meaning") --------------------------------------------------- */
+
+/* The octets of tag and length before a body: the shortest of the three forms. */
+static uint64_t header_size(uint64_t body)
+{
+    if (body <= 0xFD)
+        return 2;
+    return body <= 0xFFFF ? 4 : 5;
+}
+
+struct sizes {
+    uint64_t output; /* the whole normal form */
+    uint64_t store;  /* expanded texts, normal values and plain bodies of all records */
+};
+
+/* Adds each item's size to its parent's, last item first, so that a body is complete before it is
+ * added itself. */
+static struct sizes measure(struct tree *tree)
+{
+    struct sizes sizes = {0, 0};
+
+    for (size_t i = tree->count - 1; i > 0; i--) {
+        const struct node *node = &tree->nodes[i];
+        tree->nodes[node->parent].normal_size += header_size(node->normal_size) + node->normal_size;
+        if (node->body != ITEMS)
+            sizes.store += node->normal_size;
+    }
+    sizes.output = header_size(tree->nodes[0].normal_size) + tree->nodes[0].normal_size;
+    return sizes;
+}
+
+/* Writes tag and length.  Output is never above 32,768 octets, so the 24-bit form is never the
+ * shortest here. */
+static uint8_t *write_header(uint8_t *out, const struct node *node)
+{
+    *out++ = node->tag;
+    if (node->normal_size > 0xFD) {
+        *out++ = 0xFE;
+        *out++ = (uint8_t)(node->normal_size >> 8);
+    }
+    *out++ = (uint8_t)node->normal_size;
+    return out;
+}
+
+/* Writes a body that is no list; a list's items come by themselves. */
+static uint8_t *write_body(uint8_t *out, const struct tree *tree, const struct node *node)
+{
+    const uint8_t *body = body_octets(tree, node);
+
+    if (node->body == ITEMS)
+        return out;
+    if (node->body == TIME) {
+        struct time_value time;
+        read_time(body, node->length, &time);
+        return write_time(out, &time);
+    }
+    if (node->has_tokens)
+        return write_expanded(out, body, node->length, &tree->table);
+    memcpy(out, body, node->length);
+    if (node->body == BEARER)
+        out[0] &= BEARER_MEANING;
+    return out + node->length;
+}
+
+static uint8_t *write_item(uint8_t *out, const struct tree *tree, const struct node *node)
+{
+    return write_body(write_header(out, node), tree, node);
+}
+
+/* Writes one element's attributes by rising tag.  Their records stand side by side, `*index` at the
+ * first; it is left behind the last. */
+static uint8_t *write_attributes(uint8_t *out, const struct tree *tree, size_t *index)
+{
+    const struct node *by_tag[ATTRIBUTE_TAGS] = {0};
+
+    for (; *index < tree->count && is_attribute(tree->nodes[*index].tag); ++*index)
+        by_tag[tree->nodes[*index].tag - FIRST_ATTRIBUTE] = &tree->nodes[*index];
+    for (size_t i = 0; i < ATTRIBUTE_TAGS; i++)
+        if (by_tag[i] != NULL)
+            out = write_item(out, tree, by_tag[i]);
+    return out;
+}
+
+/* Writes the normal form of a tree that has been measured and found to fit. */
+static void write_tree(uint8_t *out, const struct tree *tree)
+{
+    size_t index = 0;
+
+    while (index < tree->count) {
+        if (is_attribute(tree->nodes[index].tag))
+            out = write_attributes(out, tree, &index);
+        else
+            out = write_item(out, tree, &tree->nodes[index++]);
+    }
+}
+
+/* ---- The stream of cases ----------------------------------------------------------------------- */
+
+static struct {
+    uint8_t buffer[FIELD_LIMIT];
+    size_t at, end;
+    uint64_t offset; /* of the next octet in the whole stream */
+} input;
+
+/* Makes sure that there is an octet to take; false at the end of the stream. */
+static bool more_input(void)
+{
+    if (input.at == input.end) {
+        input.at = 0;
+        input.end = fread(input.buffer, 1, sizeof input.buffer, stdin);
+    }
+    return input.at < input.end;
+}
+
+/* The functions below take a field; false where the stream is cut or the field above its bound. */
+
+static bool take_octets(uint8_t *into, size_t count)
+{
+    while (count > 0) {
+        if (!more_input())
+            return false;
+        size_t ready = input.end - input.at;
+        size_t part = count < ready ? count : ready;
+        memcpy(into, input.buffer + input.at, part);
+        input.at += part;
+        input.offset += part;
+        into += part;
+        count -= part;
+    }
+    return true;
+}
+
+static bool take_short(uint32_t *number)
+{
+    uint8_t octets[2];
+
+    if (!take_octets(octets, sizeof octets))
+        return false;
+    *number = (uint32_t)octets[0] << 8 | octets[1];
+    return true;
+}
+
+static bool take_bounded(uint32_t *number)
+{
+    uint8_t octets[3];
+
+    if (!take_octets(octets, sizeof octets))
+        return false;
+    *number = (uint32_t)octets[0] << 16 | (uint32_t)octets[1] << 8 | octets[2];
+    return *number <= FIELD_LIMIT;
+}
+
+struct object {
+    uint32_t size;
+    uint8_t octets[FIELD_LIMIT];
+};
+
+static bool take_object(struct object *object)
+{
+    return take_bounded(&object->size) && take_octets(object->octets, object->size);
+}
+
+/* ---- Printing ---------------------------------------------------------------------------------- */
+
+static struct {
+    char buffer[FIELD_LIMIT];
+    size_t used;
+    bool failed;
+} output;
+
+static void flush_output(void)
+{
+    if (fwrite(output.buffer, 1, output.used, stdout) != output.used || fflush(stdout) != 0)
+        output.failed = true;
+    output.used = 0;
+}
+
+static void put_char(char character)
+{
+    if (output.used == sizeof output.buffer)
+        flush_output();
+    output.buffer[output.used++] = character;
+}
+
+static void put_string(const char *string)
+{
+    while (*string != '\0')
+        put_char(*string++);
+}
+
+static void put_number(uint64_t number)
+{
+    char digits[20];
+    size_t count = 0;
+
+    do {
+        digits[count++] = (char)('0' + number % 10);
+        number /= 10;
+    } while (number != 0);
+    while (count > 0)
+        put_char(digits[--count]);
+}
+
+static void put_octet(uint8_t octet, const char *digits)
+{
+    if (sizeof output.buffer - output.used < 2)
+        flush_output();
+    output.buffer[output.used++] = digits[octet >> 4];
+    output.buffer[output.used++] = digits[octet & 0xF];
+}
+
+static void put_refusal(struct verdict verdict)
+{
+    put_string("refused ");
+    put_number((uint64_t)verdict.number);
+    put_string(" at ");
+    put_number(verdict.place);
+}
+
+static void put_record(const struct node *node)
+{
+    put_number(node->depth);
+    put_char(' ');
+    put_octet(node->tag, "0123456789ABCDEF");
+    put_char(' ');
+    put_string(kind_names[kind_of_tag(node->tag)]);
+    put_char(' ');
+    put_number(node->start);
+    put_char(' ');
+    put_number(node->length);
+    put_char('\n');
+}
+
+static void put_listing(const struct tree *tree)
+{
+    put_string("depth tag kind offset length\n");
+    for (size_t i = 0; i < tree->count; i++)
+        put_record(&tree->nodes[i]);
+    put_string("records ");
+    put_number(tree->count);
+}
+
+static void put_octets(const char *word, const uint8_t *octets, size_t size)
+{
+    put_string(word);
+    for (size_t i = 0; i < size; i++)
+        put_octet(octets[i], "0123456789abcdef");
+}
+
+/* ---- One function for each letter -------------------------------------------------------------- */
+
+static struct tree first_tree, second_tree;
+static struct object first_object, second_object;
+static uint8_t first_normal[OBJECT_LIMIT], second_normal[OBJECT_LIMIT];
+static uint8_t lent_records[LIST_LIMIT * RECORD_OCTETS];
+
+/* Writes the normal form of an accepted object, or answers 14 or 15 and writes nothing. */
+static int normalise(struct tree *tree, uint32_t places, uint32_t store, uint32_t room, uint8_t *out,
+                     size_t *size)
+{
+    if (tree->count > places)
+        return TOO_FEW_PLACES;
+    struct sizes sizes = measure(tree);
+    if (sizes.store > store || sizes.output > room || sizes.output > OBJECT_LIMIT)
+        return OUTPUT_TOO_LARGE;
+    write_tree(out, tree);
+    *size = sizes.output;
+    return ACCEPTED;
+}
+
+/* Each function below takes one case and prints its answer but for the newline; false, with nothing
+ * printed, where the stream is bad. */
+
+static bool answer_listing(void)
+{
+    uint32_t places;
+
+    if (!take_short(&places) || !take_object(&first_object))
+        return false;
+    struct verdict verdict = read_object(&first_tree, first_object.octets, first_object.size);
+    if (verdict.number == ACCEPTED && first_tree.count > places)
+        verdict = (struct verdict){TOO_FEW_PLACES, 0};
+    if (verdict.number != ACCEPTED)
+        put_refusal(verdict);
+    else
+        put_listing(&first_tree);
+    return true;
+}
+
+static bool answer_normal(void)
+{
+    uint32_t places, store, room;
+    size_t size = 0;
+
+    if (!take_short(&places) || !take_bounded(&store) || !take_bounded(&room) || !take_object(&first_object))
+        return false;
+    struct verdict verdict = read_object(&first_tree, first_object.octets, first_object.size);
+    if (verdict.number == ACCEPTED)
+        verdict.number = normalise(&first_tree, places, store, room, first_normal, &size);
+    if (verdict.number != ACCEPTED)
+        put_refusal(verdict);
+    else
+        put_octets("normal ", first_normal, size);
+    return true;
+}
+
+static bool answer_written(void)
+{
+    uint32_t count, places, room;
+    size_t size = 0;
+    struct verdict verdict = {NOT_WELL_FORMED, 0};
+
+    if (!take_short(&count) || !take_short(&places) || !take_octets(lent_records, places * RECORD_OCTETS))
+        return false;
+    if (!take_bounded(&room) || !take_object(&first_object))
+        return false;
+    if (count <= places &&
+        read_records(&first_tree, lent_records, count, first_object.octets, first_object.size)) {
+        size = measure(&first_tree).output;
+        verdict.number = size > room || size > OBJECT_LIMIT ? OUTPUT_TOO_LARGE : ACCEPTED;
+    }
+    if (verdict.number != ACCEPTED) {
+        put_refusal(verdict);
+        return true;
+    }
+    write_tree(first_normal, &first_tree);
+    put_octets("written ", first_normal, size);
+    return true;
+}
+
+static void put_refusal_in(struct verdict verdict, const char *which)
+{
+    put_refusal(verdict);
+    put_string(which);
+}
+
+/* Two objects mean the same exactly when their normal forms are the same octets. */
+static bool answer_same(void)
+{
+    size_t first_size = 0, second_size = 0;
+
+    if (!take_object(&first_object) || !take_object(&second_object))
+        return false;
+    struct verdict first = read_object(&first_tree, first_object.octets, first_object.size);
+    struct verdict second = read_object(&second_tree, second_object.octets, second_object.size);
+    if (first.number == ACCEPTED && second.number == ACCEPTED) {
+        first.number =
+            normalise(&first_tree, SAME_PLACES, SAME_STORE, OBJECT_LIMIT, first_normal, &first_size);
+        second.number =
+            normalise(&second_tree, SAME_PLACES, SAME_STORE, OBJECT_LIMIT, second_normal, &second_size);
+    }
+    if (first.number != ACCEPTED)
+        put_refusal_in(first, " in first");
+    else if (second.number != ACCEPTED)
+        put_refusal_in(second, " in second");
+    else if (first_size == second_size && memcmp(first_normal, second_normal, first_size) == 0)
+        put_string("same");
+    else
+        put_string("different");
+    return true;
+}
+
+static bool answer_case(uint8_t letter)
+{
+    switch (letter) {
+    case 'L':
+        return answer_listing();
+    case 'N':
+        return answer_normal();
+    case 'W':
+        return answer_written();
+    case 'S':
+        return answer_same();
+    default:
+        return false;
+    }
+}
+
+int main(void)
+{
+    bool good = true;
+
+    while (good && more_input()) {
+        uint64_t start = input.offset;
+        uint8_t letter;
+        good = take_octets(&letter, 1) && answer_case(letter);
+        if (!good) {
+            put_string("bad stream at ");
+            put_number(start);
+        }
+        put_char('\n');
+    }
+    flush_output();
+    return output.failed ? 1 : 0;
+}

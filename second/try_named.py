@@ -1,0 +1,127 @@
+#!/usr/bin/env python3
+"""Runs a program on the named cases of expected.txt:  try_named.py PROGRAM
+
+Prints each mismatch with its name and a last line `named cases: N held, M not`; the exit status is 0
+only where there are cases and all of them hold.
+"""
+import os
+import re
+import sys
+
+from make_cases import case_l, case_n, case_s, case_w
+from streams import run, split_answers
+
+HEX_PART = re.compile(r'\s*(?:"([^"]*)"|([0-9A-Fa-f]{2})|\(([^()]*)\)|(-))(?:\*(\d+))?(?=\s|$)')
+
+
+def octets_of(text):
+    """Octets written in the notation that expected.txt explains."""
+    out, at, text = b"", 0, text.strip()
+    while at < len(text):
+        part = HEX_PART.match(text, at)
+        if part is None:
+            raise ValueError(f"not octets: {text[at:]}")
+        quoted, octet, group, _, times = part.groups()
+        piece = quoted.encode() if quoted is not None else bytes.fromhex(octet) if octet else octets_of(group or "")
+        out += piece * int(times or 1)
+        at = part.end()
+    return out
+
+
+def answer_line(text):
+    word, _, rest = text.partition(" ")
+    return f"{word} {octets_of(rest).hex()}" if word in ("normal", "written") else text
+
+
+class Named:
+    """One case: its name, its head line, its octets and records, and the lines of its answer."""
+
+    def __init__(self, name):
+        self.name, self.head, self.octets, self.records, self.answer = name, None, [], [], []
+
+    def add(self, line):
+        word, _, rest = line.partition(" ")
+        if word in ("object", "octets"):
+            self.octets.append(octets_of(rest))
+        elif word == "record":
+            tag, *fields = rest.split()
+            self.records.append([int(tag, 16)] + [int(field) for field in fields])
+        elif word == ">":
+            self.answer.append(answer_line(rest))
+        elif self.head is None:
+            self.head = [word] + [int(part) for part in rest.split()]
+        else:
+            raise ValueError(f"in case {self.name}: {line}")
+
+    def stream(self):
+        letter, *numbers = self.head
+        if letter == "L":
+            return case_l(*numbers, *self.octets)
+        if letter == "N":
+            return case_n(*numbers, *self.octets)
+        if letter == "W":
+            return case_w(numbers[0], self.records, numbers[1], *self.octets)
+        if letter == "S":
+            return case_s(*self.octets)
+        if letter == "stream":
+            return b"".join(self.octets)
+        raise ValueError(f"in case {self.name}: letter {letter}")
+
+
+def read_named(path):
+    """The named cases in a file; an indented line goes on with the one above it."""
+    cases, lines = [], []
+    with open(path, encoding="utf-8") as file:
+        for line in file.read().split("\n"):
+            if line.startswith(" "):
+                lines[-1] += line
+            elif line and not line.startswith("#"):
+                lines.append(line)
+    for line in lines:
+        if line.startswith("== "):
+            cases.append(Named(line[3:]))
+        else:
+            cases[-1].add(line)
+    return cases
+
+
+def alone(program, named):
+    lines, status = run(program, named.stream())
+    got = lines[:-1] + ([lines[-1]] if lines[-1] else [])
+    if status < 0 or (status != 0 and named.head[0] != "stream"):
+        got.append(f"(exit status {status})")
+    return got
+
+
+def answers_of(program, cases):
+    """Each case's answer: all good cases in one stream, or one by one where that goes wrong."""
+    whole = [named for named in cases if named.head[0] != "stream"]
+    lines, status = run(program, b"".join(named.stream() for named in whole))
+    answers = split_answers(lines)
+    if status != 0 or len(answers) != len(whole):
+        return {named.name: alone(program, named) for named in cases}
+    got = {named.name: answer for named, answer in zip(whole, answers)}
+    got.update((named.name, alone(program, named)) for named in cases if named.head[0] == "stream")
+    return got
+
+
+def cut(lines):
+    return " | ".join(line if len(line) <= 120 else line[:117] + "..." for line in lines) or "(nothing)"
+
+
+def main():
+    if len(sys.argv) != 2:
+        sys.exit("usage: try_named.py PROGRAM")
+    cases = read_named(os.path.join(os.path.dirname(os.path.abspath(__file__)), "expected.txt"))
+    if len({named.name for named in cases}) != len(cases):
+        sys.exit("expected.txt: two cases have one name")
+    got = answers_of(sys.argv[1], cases)
+    wrong = [named for named in cases if got[named.name] != named.answer]
+    for named in wrong:
+        print(f"{named.name}\n  expected: {cut(named.answer)}\n  answered: {cut(got[named.name])}")
+    print(f"named cases: {len(cases) - len(wrong)} held, {len(wrong)} not")
+    sys.exit(0 if cases and not wrong else 1)
+
+
+if __name__ == "__main__":
+    main()

@@ -1,0 +1,220 @@
+#!/usr/bin/env python3
+"""Holds the definitions in crates/*/specs to the second program:  hold_definitions.py PROGRAM SEED COUNT
+
+Takes COUNT small cases, half of them drawn from the edge cases, half random ones, asks PROGRAM for their answers, and has the prover compute what the definitions
+answer: a crate `vectors`, made in a folder of its own, states that the two are equal. Prints a last line
+`definitions held on N cases of seed S`; the exit status is 0 only where the prover agrees.
+"""
+import os
+import random
+import re
+import shutil
+import subprocess
+import sys
+import tempfile
+
+HERE = os.path.dirname(os.path.dirname(os.path.abspath(__file__)))
+sys.path.insert(0, os.path.join(HERE, "second"))
+
+from edges import edge_cases  # noqa: E402
+from make_cases import random_cases  # noqa: E402
+from streams import LISTING, run, split_answers  # noqa: E402
+
+LONGEST = 160  # octets in a case: the prover computes some milliseconds for each element
+CHUNK = 20     # cases under one claim
+KINDS = {"element": 0, "attribute": 1, "cdata": 2}
+LENT = "record { records = 16_384; store = 65_536; room = 32_768 }"
+
+ANSWERS = """-- What the definitions answer to a case of the stream.
+use mathlib.Core.Bool.{Bool, true, false, cond}
+use mathlib.Core.List.{List, [], _∷_, map}
+use Prim.Native.Nat.{ℕ}
+use Rattle.format.specs.declared.Record.{Record}
+use Rattle.format.specs.declared.ReadAnswer.{ReadAnswer}
+use Rattle.format.specs.declared.ReadAnswer.the-variants.{Records, NotRead}
+use Rattle.format.specs.declared.WriteAnswer.{WriteAnswer}
+use Rattle.format.specs.declared.WriteAnswer.the-variants.{Octets, NotWritten}
+use Rattle.format.specs.declared.SameAnswer.{SameAnswer}
+use Rattle.format.specs.declared.SameAnswer.the-variants.{Same, Different, FirstRefused, SecondRefused}
+use Rattle.format.specs.Judge.{Judged, judge}
+use Rattle.format.specs.Meaning.{normalOf}
+use Rattle.format.specs.Calls.{Lists, readAnswer, readRecords, treeGiven, writeAnswer, writeOctets, Lent, normalAnswer, handed, sameAnswer}
+
+pub data Case : Type 0 where
+  list : ℕ → List ℕ → Case
+  normalise : Lent → List ℕ → Case
+  write : ℕ → Lists → ℕ → List ℕ → Case
+  compare : List ℕ → List ℕ → Case
+
+pub data Answer : Type 0 where
+  refused : ℕ → ℕ → Answer
+  listed : List (List ℕ) → Answer
+  handedOut : List ℕ → Answer
+  same different : Answer
+  refusedFirst refusedSecond : ℕ → ℕ → Answer
+
+abbrev pub line : Record → List ℕ
+line r = r .depth ∷ r .tag ∷ r .kind ∷ r .start ∷ r .size ∷ []
+
+abbrev pub afterRead : ReadAnswer → List Record → Answer
+afterRead (Records n) rs = listed (map line rs)
+afterRead (NotRead r) rs = refused (r .number) (r .place)
+
+abbrev pub afterWrite : WriteAnswer → List ℕ → Answer
+afterWrite (Octets n) o = handedOut o
+afterWrite (NotWritten r) o = refused (r .number) (r .place)
+
+abbrev pub afterSame : SameAnswer → Answer
+afterSame Same = same
+afterSame Different = different
+afterSame (FirstRefused r) = refusedFirst (r .number) (r .place)
+afterSame (SecondRefused r) = refusedSecond (r .number) (r .place)
+
+abbrev pub answer : Case → Answer
+answer (list places o) = afterRead (readAnswer places (judge o)) (readRecords places (judge o))
+answer (normalise lent o) = afterWrite (normalAnswer lent (judge o)) (handed lent normalOf (judge o))
+answer (write n lists room o) = afterWrite (writeAnswer room (treeGiven n lists o)) (writeOctets room (treeGiven n lists o))
+answer (compare a b) = afterSame (sameAnswer LENT LENT (judge a) (judge b))
+""".replace("LENT", f"({LENT})")
+
+
+class Fields:
+    """The fields of one case of the stream, taken from its octets in order (DESIGN, section 7)."""
+
+    def __init__(self, octets):
+        self.octets, self.at = octets, 0
+
+    def take(self, size):
+        self.at += size
+        return self.octets[self.at - size:self.at]
+
+    def number(self, size):
+        return int.from_bytes(self.take(size), "big")
+
+    def sized(self):
+        return self.take(self.number(3))
+
+
+def parsed(octets):
+    fields = Fields(octets)
+    case = {"letter": fields.take(1).decode()}
+    if case["letter"] == "L":
+        case["places"] = fields.number(2)
+    elif case["letter"] == "N":
+        case["places"], case["store"], case["room"] = fields.number(2), fields.number(3), fields.number(3)
+    elif case["letter"] == "W":
+        case["count"], places = fields.number(2), fields.number(2)
+        case["records"] = [[fields.number(size) for size in (1, 1, 1, 2, 2, 2)] for _ in range(places)]
+        case["room"] = fields.number(3)
+    case["parts"] = [fields.sized() for _ in range(2 if case["letter"] == "S" else 1)]
+    return case
+
+
+def numbers(values):
+    return "".join(f"{value} ∷ " for value in values) + "[]"
+
+
+def case_term(case):
+    letter = case["letter"]
+    if letter == "L":
+        return f"list {case['places']} ({numbers(case['parts'][0])})"
+    if letter == "N":
+        lent = f"record {{ records = {case['places']}; store = {case['store']}; room = {case['room']} }}"
+        return f"normalise ({lent}) ({numbers(case['parts'][0])})"
+    if letter == "S":
+        return f"compare ({numbers(case['parts'][0])}) ({numbers(case['parts'][1])})"
+    names = ("tags", "kinds", "depths", "parents", "starts", "sizes")
+    columns = zip(*case["records"]) if case["records"] else [()] * 6
+    lists = "; ".join(f"{name} = {numbers(column)}" for name, column in zip(names, columns))
+    return f"write {case['count']} (record {{ {lists} }}) {case['room']} ({numbers(case['parts'][0])})"
+
+
+def answer_term(answer):
+    words = answer[0].split()
+    if answer[0] == LISTING:
+        rows = []
+        for row in answer[1:-1]:
+            depth, tag, kind, offset, length = row.split()
+            rows.append("(" + numbers([int(depth), int(tag, 16), KINDS[kind], int(offset), int(length)]) + ")")
+        return "listed (" + "".join(f"{row} ∷ " for row in rows) + "[])"
+    if words[0] in ("normal", "written"):
+        return f"handedOut ({numbers(bytes.fromhex(words[1]) if len(words) > 1 else b'')})"
+    if words[0] in ("same", "different"):
+        return words[0]
+    name = {"first": "refusedFirst", "second": "refusedSecond"}[words[-1]] if "in" in words else "refused"
+    return f"{name} {words[1]} {words[3]}"
+
+
+def opened_names(crates):
+    """Every definition that the prover must see through: use lines, and the names for an unfolding line."""
+    lines, names = [], []
+    for crate in ("octets", "text", "values", "format"):
+        folder = os.path.join(crates, crate, "specs")
+        for file in sorted(os.listdir(folder)):
+            module = file.removesuffix(".antt")
+            if module in ("Lib", "Bench"):
+                continue
+            with open(os.path.join(folder, file), encoding="utf-8") as text:
+                found = re.findall(r"^unfoldable pub (\S+) :", text.read(), re.M)
+            if found:
+                lines.append(f"use Rattle.{crate}.specs.{module}.{{{', '.join(found)}}}")
+                names += found
+    return lines, names
+
+
+def proof_text(crates, cases, answers):
+    lines, names = opened_names(crates)
+    out = ["-- Made by tools/hold_definitions.py.", "use mathlib.Core.Path.{_≡_, refl}", "use mathlib.Core.List.{List, [], _∷_, map}"]
+    out += ["use Rattle.vectors.specs.Answers.{Case, Answer, answer}"]
+    out += ["use Rattle.vectors.specs.Answers.Case.{list, normalise, write, compare}"]
+    out += ["use Rattle.vectors.specs.Answers.Answer.{refused, listed, handedOut, same, different, refusedFirst, refusedSecond}"]
+    out += lines
+    for start in range(0, len(cases), CHUNK):
+        inputs = "".join(f"\n    {'∷ ' if i else ''}({case_term(c)})" for i, c in enumerate(cases[start:start + CHUNK]))
+        wanted = "".join(f"\n    {'∷ ' if i else ''}({answer_term(a)})" for i, a in enumerate(answers[start:start + CHUNK]))
+        out.append(f"\nheld-{start} : map answer ({inputs.lstrip()} ∷ [])\n    ≡ {wanted.lstrip()} ∷ []")
+        out.append("unfolding " + " ".join(names) + f"\nheld-{start} = refl")
+    return "\n".join(out) + "\n"
+
+
+def write(path, text):
+    os.makedirs(os.path.dirname(path), exist_ok=True)
+    with open(path, "w", encoding="utf-8") as file:
+        file.write(text)
+
+
+def main():
+    program, seed, count = sys.argv[1], sys.argv[2], int(sys.argv[3])
+    edges = [case for case in edge_cases() if len(case) <= LONGEST]
+    randoms = [case for case in random_cases(seed, 2 * count) if len(case) <= LONGEST]
+    drawn = random.Random(seed).sample(edges, min(len(edges), count - count // 2))
+    stream = drawn + randoms[:count // 2]
+    cases = [parsed(case) for case in stream]
+    lines, _ = run(program, b"".join(stream))
+    answers = split_answers(lines)
+    if len(answers) != len(cases):
+        print(f"the program gave {len(answers)} answers to {len(cases)} cases")
+        return 1
+    with tempfile.TemporaryDirectory() as folder:
+        shutil.copytree(os.path.join(HERE, "crates"), os.path.join(folder, "crates"))
+        if os.path.isdir(os.path.join(HERE, "target")):
+            shutil.copytree(os.path.join(HERE, "target"), os.path.join(folder, "target"), symlinks=True)
+        with open(os.path.join(HERE, "crates.txt"), encoding="utf-8") as text:
+            write(os.path.join(folder, "crates.txt"), text.read() + "vectors: octets text values format\n")
+        made = os.path.join(folder, "crates", "vectors")
+        write(os.path.join(made, "src", "lib.rt"), "// Made by tools/hold_definitions.py: no code.\n")
+        write(os.path.join(made, "specs", "Lib.antt"), "pub mod Answers\n")
+        write(os.path.join(made, "specs", "Answers.antt"), ANSWERS)
+        write(os.path.join(made, "proofs", "Lib.antt"), "pub mod Vectors\n")
+        write(os.path.join(made, "proofs", "Vectors.antt"), proof_text(os.path.join(HERE, "crates"), cases, answers))
+        done = subprocess.run(["rt", "check", "vectors"], cwd=folder, stdout=subprocess.PIPE, stderr=subprocess.STDOUT, check=False)
+    if done.returncode != 0:
+        print(done.stdout.decode("utf-8", "replace")[-4000:])
+        print(f"definitions NOT held on {len(cases)} cases of seed {seed}")
+        return 1
+    print(f"definitions held on {len(cases)} cases of seed {seed}")
+    return 0
+
+
+if __name__ == "__main__":
+    sys.exit(main())
