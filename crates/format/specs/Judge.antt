@@ -199,7 +199,7 @@ joined f (accepted t) a = followed (f t) a
 unfoldable pub byKind : Option Kind → (Items → Items → Items) → Judged → Judged → Judged
 byKind k f inside after = cond (isItems k) (joined f inside after) (cond (isKnown k) (followed (f end) after) after)
 
--- the items of one element, or the object, from an offset on, in reading order, an item's own rules before those of the items inside it. The first number is
+-- the items of one element, or the object, from an offset on, as they are read: first what is judged at an item itself, then what is inside it. The first number is
 -- above the length of the part: it only shows that this ends
 unfoldable pub items : ℕ → Context → ℕ → List ℕ → Judged
 items zero c at part = refused (refusal 0 0)

@@ -50,7 +50,7 @@ orItself (some o) b = o
 unfoldable pub stands : Entries → ℕ → List ℕ
 stands table b = cond (token b) (orItself (entry table b) b) (b ∷ [])
 
--- a text with each token octet replaced by its entry, and nothing else changed
+-- a text with the text of its entry in place of each token octet, all other octets as they are
 unfoldable pub expanded : Entries → List ℕ → List ℕ
 expanded table [] = []
 expanded table (b ∷ bs) = stands table b ++ expanded table bs

@@ -37,7 +37,7 @@ timeOf o =
       halves = offsetOctet o % 32;
     }
 
--- date 0 to 99,999, hours to 23, minutes and seconds to 59; half hours as many as their five bits can say
+-- a day of at most 99,999, an hour of at most 23, a minute and a second of at most 59; as many half hours as their five bits can say
 unfoldable pub inRange : Time → Bool
 inRange t = leb (t .day) 99_999 && leb (t .hour) 23 && leb (t .minute) 59 && leb (t .second) 59 && leb (t .halves) 31
 
@@ -54,7 +54,8 @@ canonical t =
 unfoldable pub sign : ℕ → ℕ
 sign n = cond (eqb n 0) 0 1
 
--- the normal octets of a time: reserved bits 0, the short form where seconds are 0, no offset octet where the offset is 0 (document 01, Normal form)
+-- the normal octets of a time: all reserved bits clear, the long form only for seconds other than 0, the offset's octet only for an offset other than 0
+-- (document 01, Records and meaning: normal form)
 unfoldable pub timeOctets : Time → List ℕ
 timeOctets t =
     digits 4 (t .day * 2 ^ 14 + sign (t .halves) * 2 ^ 12 + sign (t .second) * 2 ^ 11 + t .hour * 2 ^ 6 + t .minute)
