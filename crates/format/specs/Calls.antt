@@ -52,6 +52,11 @@ unfoldable pub lay : ℕ → List Record → Lists → Lists
 lay i [] l = l
 lay i (r ∷ rs) l = lay (suc i) rs (put i r l)
 
+-- judging alone, with no list lent: the refusal of the judgement, else how many records there are
+unfoldable pub judgeAnswer : Judged → ReadAnswer
+judgeAnswer (refused r) = NotRead r
+judgeAnswer (accepted t) = Records (record { records = count t })
+
 -- read: the refusal of the judgement, else 14 where there are fewer places than records, else the records
 unfoldable pub readAnswer : ℕ → Judged → ReadAnswer
 readAnswer n (refused r) = NotRead r
