@@ -113,6 +113,9 @@ pub record Lent : Type 0 where
   pub store : ℕ
   pub room : ℕ
 
+abbrev pub lentBy : Lists → List ℕ → List ℕ → Lent
+lentBy lists store room = record { records = places lists; store = length store; room = length room }
+
 unfoldable pub storedWithin : Lent → Items → Bool
 storedWithin lent t = leb (length (storeOf t)) (lent .store) && roomy (lent .room) (normalOf t)
 
@@ -138,13 +141,13 @@ unfoldable pub loadedRecords : Items → List Record
 loadedRecords t = recordsOf (loadedOf t)
 
 pub record NormaliseClaim (object : List ℕ) (lists lists′ : Lists) (store store′ room room′ : List ℕ) (answer : WriteAnswer) : Type 0 where
-  pub answers : answer ≡ normalAnswer (record { records = places lists; store = length store; room = length room }) (judge object)
-  pub leavesLists : lists′ ≡ lay 0 (handed (record { records = places lists; store = length store; room = length room }) loadedRecords (judge object)) lists
-  pub leavesStore : store′ ≡ sets store 0 (handed (record { records = places lists; store = length store; room = length room }) storeOf (judge object))
-  pub leavesRoom : room′ ≡ sets room 0 (handed (record { records = places lists; store = length store; room = length room }) normalOf (judge object))
+  pub answers : answer ≡ normalAnswer (lentBy lists store room) (judge object)
+  pub leavesLists : lists′ ≡ lay 0 (handed (lentBy lists store room) loadedRecords (judge object)) lists
+  pub leavesStore : store′ ≡ sets store 0 (handed (lentBy lists store room) storeOf (judge object))
+  pub leavesRoom : room′ ≡ sets room 0 (handed (lentBy lists store room) normalOf (judge object))
 
 -- same: 1 to 13 of the first object, then of the second, then 14 and 15 of the first, then of the second, then whether the normal forms are the same octets,
--- which is whether the meanings are the same (proofs/Demands, same-exactly)
+-- which is whether the meanings are the same (proofs/Calls, same-exactly)
 unfoldable pub sameOctets : List ℕ → List ℕ → Bool
 sameOctets [] [] = true
 sameOctets [] (b ∷ bs) = false
@@ -166,3 +169,30 @@ sameAnswer first second (accepted t) (accepted u) =
     refusalOr (normalAnswer first (accepted t))
     (secondRefusalOr (normalAnswer second (accepted u))
     (cond (sameOctets (normalOf t) (normalOf u)) Same Different))
+
+-- both objects are accepted and fit what is lent
+unfoldable pub bothFit : (first second : Lent) → Judged → Judged → Bool
+bothFit first second (refused r) b = false
+bothFit first second (accepted t) (refused r) = false
+bothFit first second (accepted t) (accepted u) = fitsLent first t && fitsLent second u
+
+-- what is handed out of each object: nothing, unless both fit
+unfoldable pub ofFirst : {A : Type 0} → (first second : Lent) → (Items → List A) → Judged → Judged → List A
+ofFirst first second f a b = cond (bothFit first second a b) (handed first f a) []
+
+unfoldable pub ofSecond : {A : Type 0} → (first second : Lent) → (Items → List A) → Judged → Judged → List A
+ofSecond first second f a b = cond (bothFit first second a b) (handed second f b) []
+
+-- the objects share the lists and the store, in which the second is laid over the first; each has a room of its own
+pub record SameClaim (a b : List ℕ) (lists lists′ : Lists) (store store′ roomA roomA′ roomB roomB′ : List ℕ) (answer : SameAnswer) : Type 0 where
+  pub answers : answer ≡ sameAnswer (lentBy lists store roomA) (lentBy lists store roomB) (judge a) (judge b)
+  pub leavesLists :
+      lists′
+      ≡ lay 0 (ofSecond (lentBy lists store roomA) (lentBy lists store roomB) loadedRecords (judge a) (judge b))
+      (lay 0 (ofFirst (lentBy lists store roomA) (lentBy lists store roomB) loadedRecords (judge a) (judge b)) lists)
+  pub leavesStore :
+      store′
+      ≡ sets (sets store 0 (ofFirst (lentBy lists store roomA) (lentBy lists store roomB) storeOf (judge a) (judge b))) 0
+      (ofSecond (lentBy lists store roomA) (lentBy lists store roomB) storeOf (judge a) (judge b))
+  pub leavesFirst : roomA′ ≡ sets roomA 0 (ofFirst (lentBy lists store roomA) (lentBy lists store roomB) normalOf (judge a) (judge b))
+  pub leavesSecond : roomB′ ≡ sets roomB 0 (ofSecond (lentBy lists store roomA) (lentBy lists store roomB) normalOf (judge a) (judge b))
