@@ -1,6 +1,6 @@
 -- What the answers' numbers are not: wrong outcomes, refuted by computation.
 use mathlib.Core.Path.{_≡_, refl, ap}
-use mathlib.Core.Bool.{true, false}
+use mathlib.Core.Bool.{false}
 use Prim.Native.Nat.{ℕ}
 use native.Mathlib.Omega.{arith}
 use Rattle.format.specs.declared.ReadAnswer.the-variants.{Records, NotRead}

@@ -1,7 +1,7 @@
 -- Which token table is in force for the items of an element, and when it is settled.
 use mathlib.Core.Path.{_≡_, refl, sym, ap, _∙_, subst}
 use mathlib.Core.Bool.{Bool, true, false, cond, not, _&&_, _||_, false≢true}
-use mathlib.Core.Option.{Option, none, some, Option·some-ne-none}
+use mathlib.Core.Option.{Option, none, some}
 use mathlib.Core.List.{List, [], _∷_, _++_}
 use Prim.Native.Nat.{ℕ}
 use native.Mathlib.Omega.{arith}
@@ -11,14 +11,15 @@ use Rattle.text.specs.Tokens.{Entries, entries, isTable, covered}
 use Rattle.values.specs.declared.Kind.{Kind}
 use Rattle.values.specs.declared.Kind.the-variants.{HoldsItems, HoldsTokens, HoldsText}
 use Rattle.values.specs.Table.{known, attribute}
-use Rattle.format.specs.Answers.{refusal}
 use Rattle.format.specs.Tree.{Items, find}
 use Rattle.format.specs.Tree.Items.{item}
-use Rattle.format.specs.Judge.{isTokens, isText, Context, isTop, allowed, latest, stageAfter, ofTop, rule, first, late, lateBefore, within, waits, next}
+use Rattle.format.specs.Judge.{isTokens, isText, Context, isTop, allowed, latest, stageAfter, ofTop, late, lateBefore, within, waits, next}
 use Rattle.octets.proofs.Tests.{and-left, or-true, or-elim}
 use Rattle.text.proofs.Expansion.{Sound, table-sound}
 use Rattle.values.proofs.Known.{known-two, known-three, known-four, known-anywhere}
-use Rattle.format.proofs.Rules.{Held, KindHeld, first-one}
+use Rattle.format.proofs.Rules.{Held, KindHeld}
+use Rattle.format.proofs.Late.{late-front}
+use Rattle.format.proofs.Place.{attribute-other}
 
 -- the stage never falls
 stage-grows : (tag : ℕ) → leb (latest tag) (stageAfter tag) ≡ true
@@ -90,12 +91,10 @@ inner-tag p tag z h =
     go false false q = (refl, refl)
 
 pub attribute-four : (tag : ℕ) → attribute tag ≡ true → eqb tag 4 ≡ false
-unfolding attribute
-attribute-four tag a = ne-eqb tag 4 (λ e. omega (arith, ltb-true 0x7F tag a))
+attribute-four tag a = attribute-other tag 4 a (omega arith)
 
 pub attribute-one : (tag : ℕ) → attribute tag ≡ true → eqb tag 1 ≡ false
-unfolding attribute
-attribute-one tag a = ne-eqb tag 1 (λ e. omega (arith, ltb-true 0x7F tag a))
+attribute-one tag a = attribute-other tag 1 a (omega arith)
 
 pub not-both : (b : Bool) → b ≡ false → b ≡ true → ⊥
 not-both b p q = false≢true (sym p ∙ q)
@@ -159,21 +158,6 @@ valid-next c at tag body k v = record {
     closed false t a e q = refl
     closed true false a e q = refl
     closed true true a e q = absurd (open-next c tag a e q)
-
--- the late rule, of a list with one more
-late-front : (T : Entries) (at : ℕ) (o : List ℕ) (ws : List (ℕ × List ℕ)) → late T (ws ++ ((at, o) ∷ [])) ≡ none → (late T ws ≡ none) × (covered T o ≡ true)
-unfolding late first rule
-late-front T at o [] h = (refl, go (covered T o) h)
-  where
-    go : (b : Bool) → first (rule 12 at b ∷ none ∷ []) ≡ none → b ≡ true
-    go true q = refl
-    go false q = absurd (Option·some-ne-none (refusal 12 at) q)
-late-front T at o (w ∷ ws) h = go (late-front T at o ws) (covered T (w .1)) h
-  where
-    go : (late T (ws ++ ((at, o) ∷ [])) ≡ none → (late T ws ≡ none) × (covered T o ≡ true)) → (b : Bool)
-        → first (rule 12 (w .0) b ∷ late T (ws ++ ((at, o) ∷ [])) ∷ []) ≡ none → (first (rule 12 (w .0) b ∷ late T ws ∷ []) ≡ none) × (covered T o ≡ true)
-    go ih true q = let r = ih (sym (first-one (late T (ws ++ ((at, o) ∷ [])))) ∙ q) in (first-one (late T ws) ∙ r .0, r .1)
-    go ih false q = absurd (Option·some-ne-none (refusal 12 (w .0)) q)
 
 quiet-settled : (T : Entries) (c : Context) → Valid c → settled c ≡ true → late T (c .waiting) ≡ none
 unfolding late

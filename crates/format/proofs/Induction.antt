@@ -8,6 +8,7 @@ use native.Mathlib.Omega.{arith}
 use lib.Dec.{eqb, leb}
 use lib.ListN.{length, take, drop, length-drop}
 use lib.Seq.{length-take-le}
+use Rattle.octets.specs.Numbers.{Octets}
 use Rattle.octets.specs.Header.{headerSize, bodySize}
 use Rattle.values.specs.declared.Kind.{Kind}
 use Rattle.values.specs.Table.{known}
@@ -17,6 +18,7 @@ use Rattle.format.specs.Tree.{Items, count}
 use Rattle.format.specs.Tree.Items.{end, item}
 use Rattle.format.specs.Judge.{Judged, isKnown, isItems, Context, items, broken, byKind, joined, followed, late, within, next, judge, outermost, rule}
 use Rattle.format.specs.Judge.Judged.{refused, accepted}
+use Rattle.octets.proofs.Numbers.{octets-take, octets-drop}
 use Rattle.octets.proofs.Frames.{header-two}
 use Rattle.format.proofs.Rules.{fitting, unless-none, unless-accepted, never, same-tree}
 
@@ -26,6 +28,12 @@ bodyOf p = take (bodySize p) (drop (headerSize p) p)
 
 abbrev pub laterOf : List ℕ → List ℕ
 laterOf p = drop (bodySize p) (drop (headerSize p) p)
+
+pub body-octets : (p : List ℕ) → Octets p → Octets (bodyOf p)
+body-octets p os = octets-take (bodySize p) (drop (headerSize p) p) (octets-drop (headerSize p) p os)
+
+pub later-octets : (p : List ℕ) → Octets p → Octets (laterOf p)
+later-octets p os = octets-drop (bodySize p) (drop (headerSize p) p) (octets-drop (headerSize p) p os)
 
 -- its rules hold
 abbrev pub Unbroken : Context → ℕ → ℕ → List ℕ → Type 0

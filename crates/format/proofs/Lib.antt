@@ -1,4 +1,5 @@
 pub mod Rules
+pub mod Late
 pub mod Fuel
 pub mod Induction
 pub mod Spans

@@ -1,12 +1,12 @@
 -- Where the items of a normal form stand, and that they keep the rules there.
-use mathlib.Core.Path.{_≡_, refl, sym, ap, _∙_}
+use mathlib.Core.Path.{_≡_, refl, ap, _∙_}
 use mathlib.Core.Bool.{Bool, true, false, cond, _||_}
 use mathlib.Core.Option.{none, some}
-use mathlib.Core.List.{List, [], _∷_, _++_}
-use Prim.Native.Nat.{ℕ, suc, _≤_}
+use mathlib.Core.List.{List, []}
+use Prim.Native.Nat.{ℕ, suc, _≤_, _<_}
 use native.Mathlib.Omega.{arith}
 use lib.Dec.{eqb, leb}
-use borrow.Author.Tests.{lt-ltb, ne-eqb}
+use borrow.Author.Tests.{lt-ltb, ltb-true, ne-eqb}
 use Rattle.octets.specs.Numbers.{among}
 use Rattle.text.specs.Text.{text}
 use Rattle.text.specs.Tokens.{covered, shownLength}
@@ -16,13 +16,14 @@ use Rattle.values.specs.Table.{known, attribute}
 use Rattle.values.specs.Values.{Value, fits, octetsOf}
 use Rattle.values.specs.Proper.{Proper}
 use Rattle.values.specs.Proper.Proper.{words, plain, counted, timed, carried}
-use Rattle.format.specs.Judge.{isKnown, isTokens, isText, isValue, Context, isTop, allowed, latest, stageAfter, shown, ofTop, rule, first, late, lateBefore, lateAfter, within, waits, next}
+use Rattle.format.specs.Judge.{isKnown, isTokens, isText, isValue, Context, isTop, allowed, latest, stageAfter, shown, ofTop, late, lateBefore, lateAfter, within, waits, next}
 use Rattle.format.specs.WellFormed.{PlaceOk}
 use Rattle.octets.proofs.Tests.{and-false, or-true}
 use Rattle.text.proofs.Words.{plain-text, plain-text-covered}
 use Rattle.values.proofs.Values.{proper-fits}
 use Rattle.values.proofs.Known.{ElementTag, known-cdata}
-use Rattle.format.proofs.Rules.{first-one, KindHeld, Held}
+use Rattle.format.proofs.Rules.{KindHeld, Held}
+use Rattle.format.proofs.Late.{late-append}
 
 -- what is known of where an item stands: the token table is empty, and no attribute of the top waits in vain
 pub record Ready (c : Context) (parent depth stage : ℕ) : Type 0 where
@@ -42,19 +43,9 @@ pub next-ready : (c : Context) (parent depth stage at tag : ℕ) (body : List �
 unfolding next ofTop late
 next-ready c parent depth stage at tag body r a t = record { isParent = r .isParent; isDepth = r .isDepth; isStage = refl; noTable = rw t (r .noTable); quiet = rw a }
 
-late-append : (at : ℕ) (o : List ℕ) (ws : List (ℕ × List ℕ)) → late [] ws ≡ none → covered [] o ≡ true → late [] (ws ++ ((at, o) ∷ [])) ≡ none
-unfolding late first rule
-late-append at o [] q h = rw h
-late-append at o (w ∷ ws) q h = go (λ p. late-append at o ws p h) (covered [] (w .1)) q
-  where
-    go : (late [] ws ≡ none → late [] (ws ++ ((at, o) ∷ [])) ≡ none)
-        → (b : Bool) → first (rule 12 (w .0) b ∷ late [] ws ∷ []) ≡ none → first (rule 12 (w .0) b ∷ late [] (ws ++ ((at, o) ∷ [])) ∷ []) ≡ none
-    go f true p = first-one (late [] (ws ++ ((at, o) ∷ []))) ∙ f (sym (first-one (late [] ws)) ∙ p)
-    go f false p = p
-
 waits-quiet : (at : ℕ) (ws : List (ℕ × List ℕ)) → late [] ws ≡ none → {k : Kind} {v : Value} → Proper k v → late [] (waits (some k) ws at (octetsOf v)) ≡ none
 unfolding waits isText octetsOf
-waits-quiet at ws q (words {o = o} h) = late-append at o ws q (plain-text-covered o h)
+waits-quiet at ws q (words {o = o} h) = late-append [] at o ws q (plain-text-covered o h)
 waits-quiet at ws q plain = q
 waits-quiet at ws q (counted h) = q
 waits-quiet at ws q (timed ok) = q
@@ -81,13 +72,18 @@ next-attribute c parent depth at a r t k v e p =
     go true = waits-quiet at (c .waiting) (r .quiet) p
     go false = refl
 
-allowed-attribute : (parent a : ℕ) → eqb parent 0 ≡ false → 0x80 ≤ a → allowed parent a ≡ true
+-- an attribute's tag is no tag below 0x80
+pub attribute-other : (tag n : ℕ) → attribute tag ≡ true → n < 0x80 → eqb tag n ≡ false
+unfolding attribute
+attribute-other tag n a l = ne-eqb tag n (λ e. omega (arith, ltb-true 0x7F tag a))
+
+pub allowed-attribute : (parent tag : ℕ) → eqb parent 0 ≡ false → attribute tag ≡ true → allowed parent tag ≡ true
 unfolding allowed isTop
-allowed-attribute parent a p h =
-    rw (p, ne-eqb a 0 (λ e. omega arith), ne-eqb a 2 (λ e. omega arith), ne-eqb a 3 (λ e. omega arith), ne-eqb a 4 (λ e. omega arith), ne-eqb a 6 (λ e. omega arith))
+allowed-attribute parent tag p a =
+    rw (p, attribute-other tag 0 a (omega arith), attribute-other tag 2 a (omega arith), attribute-other tag 3 a (omega arith), attribute-other tag 4 a (omega arith), attribute-other tag 6 a (omega arith))
     (or-true (eqb parent 2 || eqb parent 3))
 
-allowed-cdata : (parent : ℕ) → eqb parent 0 ≡ false → allowed parent 1 ≡ true
+pub allowed-cdata : (parent : ℕ) → eqb parent 0 ≡ false → allowed parent 1 ≡ true
 unfolding allowed isTop
 allowed-cdata parent p = rw p (or-true (eqb parent 2 || eqb parent 3))
 
@@ -131,7 +127,7 @@ attribute-held c parent depth a r z h fresh k v e p =
     let s : leb (c .stage) 0 ≡ true = ap (λ q. leb q 0) (r .isStage) in
     record {
       before = rw (t .is);
-      allow = ap (λ q. allowed q a) (r .isParent) ∙ allowed-attribute parent a z h;
+      allow = ap (λ q. allowed q a) (r .isParent) ∙ allowed-attribute parent a z (t .is);
       rules = record { order = rw (t .is) s; deep = rw (t .is); once = rw (t .is, fresh, and-false (isKnown (known (c .parent) a))); kind = rw f (proper-held c a (r .noTable) (t .notCdata) p) };
       later = rw (t .notTable);
     }

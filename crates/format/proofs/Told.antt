@@ -6,7 +6,7 @@ use mathlib.Core.List.{List, [], _∷_}
 use Prim.Native.Nat.{ℕ, suc, _+_, _≤_, _<_}
 use native.Mathlib.Omega.{arith}
 use lib.Dec.{eqb, leb}
-use lib.ListN.{length, drop, drop-of-length-le}
+use lib.ListN.{length, drop-of-length-le}
 use lib.Seq.{drop-drop}
 use borrow.Author.Tests.{leb-true, le-leb, eqb-true}
 use Rattle.octets.specs.Numbers.{among, Octets}
@@ -25,11 +25,10 @@ use Rattle.format.specs.Judge.Judged.{accepted}
 use Rattle.format.specs.Meaning.{opens, tableIn, tableOf}
 use Rattle.format.specs.Writer.{Spot, below, past, atTop, placed, isEnd}
 use Rattle.octets.proofs.Tests.{or-elim, or-true}
-use Rattle.octets.proofs.Numbers.{octets-take, octets-drop}
 use Rattle.text.proofs.Expansion.{Sound, sound-empty}
 use Rattle.values.proofs.Known.{known-four, known-anywhere, items-no-attribute, items-tag, not-zero, unknown-four}
 use Rattle.format.proofs.Rules.{Held, KindHeld, held, fitting, never}
-use Rattle.format.proofs.Induction.{Cases, judged-all, Unbroken, bodyOf, laterOf, inAt, Nexts}
+use Rattle.format.proofs.Induction.{body-octets, later-octets, Cases, judged-all, Unbroken, bodyOf, laterOf, inAt, Nexts}
 use Rattle.format.proofs.Place.{shown-other}
 use Rattle.format.proofs.Means.{opens-items, text-known}
 use Rattle.format.proofs.Force.{held-stage, settled, settled-next, settled-within, not-four, attribute-four, attribute-one, swap-eqb, Valid, valid-within, valid-next, quiet-now, quiet-before, quiet-attribute, covered-attribute, inForce, forced, force-next, force-skip, force-after, force-table, top-known}
@@ -267,13 +266,6 @@ tells-leaf c at tag from body u kd o os k e g = go (attribute tag) refl (eqb tag
         subst (λ n. n < 256 → Held c n body → known (c .parent) n ≡ some kd → Tells (next c at n body) u → Tells c (item n from body end u)) (sym (eqb-true tag 4 q))
         (λ o k e g. tells-table c at from body u kd o os k e g) o k e g
 
--- the octets of a part's first item
-body-octets : (tag : ℕ) (rest : List ℕ) → Octets (tag ∷ rest) → Octets (bodyOf (tag ∷ rest))
-body-octets tag rest os = octets-take (bodySize (tag ∷ rest)) (drop (headerSize (tag ∷ rest)) (tag ∷ rest)) (octets-drop (headerSize (tag ∷ rest)) (tag ∷ rest) os)
-
-later-octets : (tag : ℕ) (rest : List ℕ) → Octets (tag ∷ rest) → Octets (laterOf (tag ∷ rest))
-later-octets tag rest os = octets-drop (bodySize (tag ∷ rest)) (drop (headerSize (tag ∷ rest)) (tag ∷ rest)) (octets-drop (headerSize (tag ∷ rest)) (tag ∷ rest) os)
-
 held-of : (c : Context) (at tag : ℕ) (rest : List ℕ) → Unbroken c at tag rest → Held c tag (bodyOf (tag ∷ rest))
 held-of c at tag rest q = held c at tag (headerSize (tag ∷ rest)) (bodySize (tag ∷ rest)) (suc (length rest)) (bodyOf (tag ∷ rest)) q
 
@@ -318,7 +310,7 @@ comes-element : (c : Context) (at tag : ℕ) (rest : List ℕ) (s u : Items) →
     → Comes (within c tag) (bodyOf (tag ∷ rest)) s → Comes (Nexts c at tag rest) (laterOf (tag ∷ rest)) u → Comes c (tag ∷ rest) (item tag (inAt at (tag ∷ rest)) (bodyOf (tag ∷ rest)) s u)
 comes-element c at tag rest s u q e os inside later = record {
   empty = λ n. absurd (some-octet tag rest n);
-  tells = tells-element c at tag (inAt at (tag ∷ rest)) body s u (os 0) (body-octets tag rest os) (held-of c at tag rest q) e (inside .tells) (later .tells);
+  tells = tells-element c at tag (inAt at (tag ∷ rest)) body s u (os 0) (body-octets (tag ∷ rest) os) (held-of c at tag rest q) e (inside .tells) (later .tells);
   whole = λ o n. record {
     tag = tag;
     from = inAt at (tag ∷ rest);
@@ -326,7 +318,7 @@ comes-element c at tag rest s u q e os inside later = record {
     inside = s;
     is = ap (item tag (inAt at (tag ∷ rest)) body s) (later .empty (top-last c at tag rest q o));
     octet = os 0;
-    octets = body-octets tag rest os;
+    octets = body-octets (tag ∷ rest) os;
     held = subst (λ x. Held x tag body) o (held-of c at tag rest q);
     tells = subst (λ x. Tells (within x tag) s) o (inside .tells);
   };
@@ -344,13 +336,13 @@ coming-cases = record {
   atEnd = λ c at q os. record { empty = λ n. refl; tells = tells-end c q; whole = λ o n. absurd (n refl) };
   atUnknown = λ c at tag rest u q e later os. record {
     empty = λ n. absurd (some-octet tag rest n);
-    tells = tells-unknown c at tag (bodyOf (tag ∷ rest)) u (held-of c at tag rest q) e (later (later-octets tag rest os) .tells);
+    tells = tells-unknown c at tag (bodyOf (tag ∷ rest)) u (held-of c at tag rest q) e (later (later-octets (tag ∷ rest) os) .tells);
     whole = λ o n. absurd (Option·none-ne-some HoldsItems (sym e ∙ top-item c at tag rest q o));
   };
-  atElement = λ c at tag rest s u q e inside later os. comes-element c at tag rest s u q e os (inside (body-octets tag rest os)) (later (later-octets tag rest os));
+  atElement = λ c at tag rest s u q e inside later os. comes-element c at tag rest s u q e os (inside (body-octets (tag ∷ rest) os)) (later (later-octets (tag ∷ rest) os));
   atLeaf = λ c at tag rest u k q e l later os. record {
     empty = λ n. absurd (some-octet tag rest n);
-    tells = tells-leaf c at tag (inAt at (tag ∷ rest)) (bodyOf (tag ∷ rest)) u k (os 0) (body-octets tag rest os) (held-of c at tag rest q) e (later (later-octets tag rest os) .tells);
+    tells = tells-leaf c at tag (inAt at (tag ∷ rest)) (bodyOf (tag ∷ rest)) u k (os 0) (body-octets (tag ∷ rest) os) (held-of c at tag rest q) e (later (later-octets (tag ∷ rest) os) .tells);
     whole = λ o n. absurd (false≢true (sym l ∙ ap isItems (sym e ∙ top-item c at tag rest q o)));
   };
 }

@@ -12,7 +12,6 @@ use borrow.Author.Tests.{leb-true, eqb-true, eq-eqb}
 use Rattle.octets.specs.Numbers.{among, Octets}
 use Rattle.octets.specs.Header.{headerSize, bodySize}
 use Rattle.octets.proofs.Tests.{and-left, and-right, or-elim, or-true}
-use Rattle.octets.proofs.Numbers.{octets-take, octets-drop}
 use Rattle.text.specs.Tokens.{Entries, entries, covered, shownLength}
 use Rattle.text.proofs.Expansion.{Sound, sound-empty}
 use Rattle.values.specs.declared.Kind.{Kind}
@@ -24,13 +23,14 @@ use Rattle.format.specs.Tree.Items.{end, item}
 use Rattle.format.specs.Judge.{isKnown, isItems, isTokens, isText, isValue, Context, isTop, allowed, latest, stageAfter, limit, notAbove, shown, ofTop, late, lateAfter, within, next, outermost, judge}
 use Rattle.format.specs.Judge.Judged.{accepted}
 use Rattle.format.proofs.Rules.{KindHeld, Held, Fitting, held, fitting, rule-true, unless-none}
-use Rattle.format.proofs.Induction.{Cases, judged-all, Unbroken, Nexts, bodyOf, laterOf, inAt}
+use Rattle.format.proofs.Induction.{Cases, judged-all, Unbroken, Nexts, bodyOf, laterOf, inAt, body-octets, later-octets}
 use Rattle.format.proofs.Force.{settled, settled-after, settled-next, settled-within, not-four, inner-tag, not-both, Valid, valid-within, valid-next, quiet-now, quiet-before, quiet-attribute, covered-attribute, forced, inForce, force-next, force-skip, force-after}
+use Rattle.format.proofs.Place.{attribute-other}
 use Rattle.grammar.specs.Grammar.{Begins, TextIn, Part, Child, Inside, Accepts}
 use Rattle.grammar.specs.Grammar.Part.{attributes, table, language, elements, nothing}
 use Rattle.grammar.specs.Grammar.Inside.{knownAttribute, unknownAttribute, attributesOfTop, attributesOfOther, someTable, noTable, someLanguage, noLanguage, heldElement, plainElement, unknownElement, noElement, someCdata, noCdata, filled}
 use Rattle.grammar.proofs.Headers.{begins, body-length}
-use Rattle.grammar.proofs.Tags.{attribute-other, ChildTag, child-tag, Once, top-items}
+use Rattle.grammar.proofs.Tags.{ChildTag, child-tag, Once, top-items}
 
 -- the table and the language stand only in a top
 only-top : (p tag : ℕ) → isTop tag ≡ false → eqb tag 4 || eqb tag 6 ≡ true → allowed p tag ≡ true → isTop p ≡ true
@@ -269,12 +269,6 @@ record Good (c : Context) (at : ℕ) (part : List ℕ) (t : Items) : Type 0 wher
 good-end : (c : Context) (at : ℕ) → late [] (c .waiting) ≡ none → Good c at [] end
 unfolding find
 good-end c at q = record { once = λ a x y z. refl; settled = λ w. refl; derived = λ T e os r. derived-end T c at q r e }
-
-body-octets : (p : List ℕ) → Octets p → Octets (bodyOf p)
-body-octets p os = octets-take (bodySize p) (drop (headerSize p) p) (octets-drop (headerSize p) p os)
-
-later-octets : (p : List ℕ) → Octets p → Octets (laterOf p)
-later-octets p os = octets-drop (bodySize p) (drop (headerSize p) p) (octets-drop (headerSize p) p os)
 
 -- the first item of a part
 module _ (c : Context) (at tag : ℕ) (rest : List ℕ) (q : Unbroken c at tag rest) where

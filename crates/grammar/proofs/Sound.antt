@@ -24,13 +24,14 @@ use Rattle.format.specs.Tree.Items.{end, item}
 use Rattle.format.specs.Judge.{Judged, isKnown, isItems, isTokens, isText, isValue, Context, read, isTop, allowed, latest, stageAfter, limit, notAbove, shown, ofTop, late, lateBefore, lateAfter, within, waits, next, unless, byKind, joined, followed, outermost, judge}
 use Rattle.format.specs.Judge.Judged.{accepted}
 use Rattle.format.proofs.Rules.{KindHeld, Held, Fitting, unbroken}
-use Rattle.format.proofs.Place.{shown-other}
+use Rattle.format.proofs.Place.{shown-other, attribute-other, allowed-attribute, allowed-cdata}
 use Rattle.format.proofs.Fuel.{read-end, read-item, judge-read}
+use Rattle.format.proofs.Late.{late-append}
 use Rattle.grammar.specs.Grammar.{Begins, TextIn, ValueIn, Part, Child, Inside, Accepts}
 use Rattle.grammar.specs.Grammar.Part.{attributes, table, language, elements, cdata, nothing}
 use Rattle.grammar.specs.Grammar.Inside.{knownAttribute, unknownAttribute, attributesOfTop, attributesOfOther, someTable, noTable, someLanguage, noLanguage, heldElement, plainElement, unknownElement, noElement, someCdata, noCdata, filled}
 use Rattle.grammar.proofs.Headers.{Begun, begun}
-use Rattle.grammar.proofs.Tags.{attribute-other, ChildTag, child-tag, allowed-attribute, allowed-child, allowed-cdata, allowed-top, Once, top-items, late-append}
+use Rattle.grammar.proofs.Tags.{ChildTag, child-tag, allowed-child, allowed-top, Once, top-items}
 
 -- a part that begins with an item whose rules hold is read as that item, its inside and what comes after it
 abbrev ItemGives : Context → (at tag start : ℕ) → List ℕ → List ℕ → Judged
