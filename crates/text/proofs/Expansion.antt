@@ -1,18 +1,19 @@
 -- The expansion of a valid text by a valid table is valid text without token octets.
-use mathlib.Core.Path.{_≡_, refl, subst}
+use mathlib.Core.Path.{_≡_, refl, sym, subst, _∙_}
 use mathlib.Core.Bool.{Bool, true, false, cond, not, _&&_, _||_, false≢true}
 use mathlib.Core.Option.{Option, none, some, Option·some-injective, Option·none-ne-some}
 use mathlib.Core.List.{List, [], _∷_, _++_}
-use Prim.Native.Nat.{ℕ, zero, suc, _+_, _*_, _/_, _%_, _≤_}
+use Prim.Native.Nat.{ℕ, zero, suc, _+_, _*_, _/_, _%_}
 use native.Mathlib.Omega.{arith}
 use lib.Dec.{eqb, leb, ltb}
 use lib.ListN.{length, take, drop}
-use borrow.Author.Tests.{leb-true, lt-ltb, eqb-true}
+use borrow.Author.Tests.{lt-ltb}
 use Rattle.octets.specs.Numbers.{among}
-use Rattle.text.specs.Text.{layout, token, character, single, goesOn, utf8, text}
+use Rattle.text.specs.Text.{token, single, goesOn, utf8, text}
 use Rattle.text.specs.Tokens.{Entries, entries, cut, filled, isTable, entry, orItself, stands, expanded, present, covers, covered, shownLength}
 use Rattle.octets.proofs.Tests.{and-left, and-right, and-true, and-map, cond-map}
-use Rattle.text.proofs.Words.{expanded-empty}
+use Rattle.text.proofs.Words.{expanded-empty, later-octet}
+use Rattle.text.proofs.Sequences.{token-facts, utf8-zero}
 
 -- each entry of the table is valid text without token octets
 abbrev pub Sound : Entries → Type 0
@@ -44,15 +45,9 @@ pub table-sound : (o : List ℕ) → isTable o ≡ true → Sound (entries o)
 unfolding isTable entries
 table-sound o h = sound-all (suc (length o)) [] o h
 
--- between characters what came before does not matter
-utf8-zero : (tokens : Bool) (r : List ℕ) (c least : ℕ) → utf8 tokens 0 0 0 r ≡ true → utf8 tokens 0 c least r ≡ true
-unfolding utf8
-utf8-zero tokens [] c least h = h
-utf8-zero tokens (b ∷ bs) c least h = h
-
 utf8-append : (s r : List ℕ) (more c least : ℕ) → utf8 false more c least s ≡ true → utf8 false 0 0 0 r ≡ true → utf8 false more c least (s ++ r) ≡ true
-unfolding utf8
-utf8-append [] r zero c least h g = utf8-zero false r c least g
+unfolding utf8 text
+utf8-append [] r zero c least h g = utf8-zero r false c least ∙ g
 utf8-append [] r (suc more) c least h g = absurd (false≢true h)
 utf8-append (b ∷ bs) r zero c least h g =
     cond-map (ltb b 0x80) _ _ _ _
@@ -64,19 +59,9 @@ utf8-append (b ∷ bs) r (suc more) c least h g =
     let d = c * 64 + b % 64 in
     and-map (goesOn more c least b) (utf8 false more d least bs) (goesOn more c least b) (utf8 false more d least (bs ++ r)) (λ q. q) (λ q. utf8-append bs r more d least q g) h
 
-token-low : (b : ℕ) → token b ≡ true → b ≤ 0x13
-unfolding token
-token-low b h =
-    let w = not (layout b) in
-    leb-true b 0x13 (and-right (leb 1 b) (leb b 0x13) (and-left (leb 1 b && leb b 0x13) w h))
-
 single-other : (b : ℕ) → token b ≡ false → single true b ≡ true → single false b ≡ true
 unfolding single
 single-other b e h = rw e at h
-
-later-other : (more c least b : ℕ) → goesOn more c least b ≡ true → token b ≡ true → ⊥
-unfolding goesOn
-later-other more c least b h e = omega (arith, token-low b e, eqb-true (b / 64) 2 (and-left (eqb (b / 64) 2) (not (eqb more 0) || character least (c * 64 + b % 64)) h))
 
 -- the expansion of a text that the table covers is text without token octets
 pub expanded-utf8 : (table : Entries) → Sound table → (o : List ℕ) (more c least : ℕ) → utf8 true more c least o ≡ true → covered table o ≡ true
@@ -94,9 +79,9 @@ expanded-utf8 table ok (b ∷ bs) zero c least h g =
     found : (utf8 true 0 0 0 bs ≡ true → utf8 false 0 0 0 rest ≡ true) → token b ≡ true → (e : Option (List ℕ)) → entry table b ≡ e → present e ≡ true → utf8 false 0 c least (orItself e b ++ rest) ≡ true
     found ih t none q p = absurd (false≢true p)
     found ih t (some s) q p =
-        let l : ltb b 0x80 ≡ true = lt-ltb b 0x80 (omega (arith, token-low b t)) in
+        let l : ltb b 0x80 ≡ true = lt-ltb b 0x80 (omega (arith, token-facts b t .1)) in
         let h′ : single true b && utf8 true 0 0 0 bs ≡ true = rw l at h in
-        utf8-append s rest 0 c least (utf8-zero false s c least (ok b s q)) (ih (and-right (single true b) (utf8 true 0 0 0 bs) h′))
+        utf8-append s rest 0 c least (utf8-zero s false c least ∙ ok b s q) (ih (and-right (single true b) (utf8 true 0 0 0 bs) h′))
 
     go : ((m d l : ℕ) → utf8 true m d l bs ≡ true → utf8 false m d l rest ≡ true) → (t : Bool) → token b ≡ t → not t || present (entry table b) ≡ true
         → utf8 false 0 c least (cond t (orItself (entry table b) b) (b ∷ []) ++ rest) ≡ true
@@ -118,7 +103,7 @@ expanded-utf8 table ok (b ∷ bs) (suc more) c least h g =
 
     go : (utf8 true more (c * 64 + b % 64) least bs ≡ true → utf8 false more (c * 64 + b % 64) least rest ≡ true) → (t : Bool) → token b ≡ t
         → utf8 false (suc more) c least (cond t (orItself (entry table b) b) (b ∷ []) ++ rest) ≡ true
-    go ih true t = absurd (later-other more c least b front t)
+    go ih true t = absurd (false≢true (sym (later-octet more c least b front) ∙ t))
     go ih false t = and-true (goesOn more c least b) (utf8 false more (c * 64 + b % 64) least rest) front (ih (and-right (goesOn more c least b) (utf8 true more (c * 64 + b % 64) least bs) h))
 
 pub expanded-text : (table : Entries) → Sound table → (o : List ℕ) → text true o ≡ true → covered table o ≡ true → text false (expanded table o) ≡ true

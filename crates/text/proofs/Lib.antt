@@ -1,3 +1,11 @@
 pub mod Words
 pub mod Expansion
 pub mod Length
+pub mod Parts
+pub mod Sequences
+pub mod Masks
+pub mod Entries
+pub mod Replaced
+pub mod Laws
+pub mod Sixteen
+pub mod Wrong

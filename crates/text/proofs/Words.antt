@@ -47,7 +47,7 @@ single-octet b h =
     or-elim (leb 0x20 b || layout b) false (or-elim (leb 0x20 b) (layout b) (λ r. high-octet b (omega (arith, leb-true 0x20 b r))) (layout-octet b))
     (λ r. absurd (false≢true r)) h
 
-later-octet : (more c least b : ℕ) → goesOn more c least b ≡ true → token b ≡ false
+pub later-octet : (more c least b : ℕ) → goesOn more c least b ≡ true → token b ≡ false
 unfolding goesOn
 later-octet more c least b h = high-octet b (omega (arith, eqb-true (b / 64) 2 (and-left (eqb (b / 64) 2) (not (eqb more 0) || character least (c * 64 + b % 64)) h)))
 

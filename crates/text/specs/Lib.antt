@@ -1,2 +1,4 @@
 pub mod Text
 pub mod Tokens
+pub mod Calls
+pub mod Leaves

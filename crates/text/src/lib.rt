@@ -1,1 +1,26 @@
-// Text, its tokens and their table: so far the definitions alone (specs/) and their laws (proofs/).
+// Text, the tokens in it and their table (document 01, Values: Text and Tokens). Every call takes any octets: what is not text, or not a
+// table, gets the answer that the definition gives.
+mod characters;
+mod expanding;
+mod tables;
+
+pub use characters::check;
+pub use characters::is_token;
+pub use expanding::expand;
+pub use expanding::expanded_size;
+pub use expanding::is_covered;
+pub use expanding::is_shown;
+pub use tables::find;
+pub use tables::is_table;
+
+// Where the text of an entry begins in its table, and how long it is.
+pub enum Found {
+    At { start: usize, size: usize },
+    Nothing,
+}
+
+// Where the expansion ends in what was lent, or that it does not fit there.
+pub enum Expanded {
+    Done(usize),
+    NoRoom,
+}

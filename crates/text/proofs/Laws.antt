@@ -1,0 +1,144 @@
+-- Laws for those who call: texts without token octets, texts put together, and what the answers of `find` and `expand` tell.
+use mathlib.Core.Path.{_≡_, refl, sym, ap, subst, _∙_}
+use mathlib.Core.Bool.{Bool, true, false, cond, _&&_, false≢true}
+use mathlib.Core.Option.{none, some}
+use mathlib.Core.List.{List, [], _∷_, _++_, append-assoc}
+use Prim.Native.Nat.{ℕ, _+_, _≤_, _<_}
+use native.Mathlib.Omega.{arith}
+use lib.ListN.{length, take, drop, length-append}
+use lib.Seq.{sets}
+use borrow.Author.Tests.{leb-true, leb-false}
+use Rattle.octets.proofs.Tests.{and-left, and-right, and-true}
+use Rattle.text.specs.Text.{token, utf8, text}
+use Rattle.text.specs.Tokens.{Entries, entries, entry, stands, expanded, present, covers, covered, shownLength, expandedSize}
+use Rattle.text.specs.Calls.{found, foundIn, Inside, expandFits, expandAnswer, expandOut, ExpandClaim}
+use Rattle.text.specs.declared.Expanded.{Expanded}
+use Rattle.text.specs.declared.Expanded.the-variants.{Done, NoRoom}
+use Rattle.text.specs.declared.Found.{Found}
+use Rattle.text.specs.declared.Found.the-variants.{At, Nothing}
+use Rattle.text.proofs.Words.{expanded-empty, plain-text}
+use Rattle.text.proofs.Expansion.{text-plain}
+use Rattle.text.proofs.Sequences.{text-low, single-high}
+use Rattle.text.proofs.Entries.{named, inside}
+
+-- ---- ASCII from 0x20 on
+pub ascii-text : (t : Bool) (b : ℕ) (s : List ℕ) → 0x20 ≤ b → b < 0x80 → text t (b ∷ s) ≡ text t s
+ascii-text t b s h g = text-low t b s g ∙ rw (← single-high t b h)
+
+pub letter-text : (t : Bool) (b : ℕ) → 0x20 ≤ b → b < 0x80 → text t (b ∷ []) ≡ true
+unfolding text utf8
+letter-text t b h g = ascii-text t b [] h g
+
+-- ---- texts put together
+pub expanded-append : (es : Entries) (a b : List ℕ) → expanded es (a ++ b) ≡ expanded es a ++ expanded es b
+unfolding expanded
+expanded-append es [] b = refl
+expanded-append es (c ∷ a) b = rw (expanded-append es a b, append-assoc (stands es c) (expanded es a) (expanded es b))
+
+pub expandedSize-append : (es : Entries) (a b : List ℕ) → expandedSize es (a ++ b) ≡ expandedSize es a + expandedSize es b
+unfolding expandedSize
+expandedSize-append es a b = ap length (expanded-append es a b) ∙ length-append (expanded es a) (expanded es b)
+
+pub covered-append : (es : Entries) (a b : List ℕ) → covered es (a ++ b) ≡ covered es a && covered es b
+unfolding covered
+covered-append es [] b = refl
+covered-append es (c ∷ a) b = rw (covered-append es a b, and-assoc (covers es c) (covered es a) (covered es b))
+  where
+    and-assoc : (x y z : Bool) → x && (y && z) ≡ (x && y) && z
+    and-assoc true y z = refl
+    and-assoc false y z = refl
+
+-- ---- texts without token octets: `covered []` is the test that there is none, and valid text in which none may stand passes it (Words, plain-text-covered)
+bare-octet : (b : ℕ) → covers [] b ≡ true → token b ≡ false
+unfolding covers present entry
+bare-octet b h = go (token b) refl
+  where
+    go : (t : Bool) → token b ≡ t → token b ≡ false
+    go true e = absurd (false≢true (rw e at h))
+    go false e = e
+
+pub bare-covered : (es : Entries) (s : List ℕ) → covered [] s ≡ true → covered es s ≡ true
+unfolding covered covers
+bare-covered es [] h = refl
+bare-covered es (b ∷ s) h =
+    and-true (covers es b) (covered es s) (one (bare-octet b (and-left (covers [] b) (covered [] s) h))) (bare-covered es s (and-right (covers [] b) (covered [] s) h))
+  where
+    one : token b ≡ false → covers es b ≡ true
+    one e = rw e
+
+pub bare-expanded : (es : Entries) (s : List ℕ) → covered [] s ≡ true → expanded es s ≡ s
+unfolding covered expanded stands
+bare-expanded es [] h = refl
+bare-expanded es (b ∷ s) h = rw (bare-octet b (and-left (covers [] b) (covered [] s) h), bare-expanded es s (and-right (covers [] b) (covered [] s) h))
+
+pub bare-size : (es : Entries) (s : List ℕ) → covered [] s ≡ true → expandedSize es s ≡ length s
+unfolding expandedSize
+bare-size es s h = ap length (bare-expanded es s h)
+
+pub bare-shown : (es : Entries) (s : List ℕ) → covered [] s ≡ true → shownLength es s ≡ shownLength [] s
+unfolding shownLength
+bare-shown es s h = rw (bare-expanded es s h, expanded-empty s)
+
+-- the two flags say the same of such a text
+pub bare-text : (s : List ℕ) → covered [] s ≡ true → text true s ≡ text false s
+bare-text s h = go (text true s) (text false s) refl refl
+  where
+    go : (a b : Bool) → text true s ≡ a → text false s ≡ b → text true s ≡ text false s
+    go true b p q = p ∙ sym (text-plain s p h)
+    go false true p q = absurd (false≢true (sym p ∙ plain-text s q))
+    go false false p q = p ∙ sym q
+
+-- ---- an answer of `find`
+module _ (table : List ℕ) (tag : ℕ) (f : Found) (e : f ≡ found 0 (entries table) tag) where
+  pub found-none : f ≡ Nothing → entry (entries table) tag ≡ none
+  unfolding foundIn
+  found-none q = sym (named table tag) ∙ rw (sym e ∙ q)
+
+  module _ (start size : ℕ) (q : f ≡ At start size) where
+    pub found-some : entry (entries table) tag ≡ some (take size (drop start table))
+    unfolding foundIn
+    found-some = sym (named table tag) ∙ rw (sym e ∙ q)
+
+    pub found-inside : start + size ≤ length table
+    unfolding Inside
+    found-inside = subst (Inside table) (sym e ∙ q) (inside table tag)
+
+-- ---- an answer of `expand`
+module _ (es : Entries) (s before after : List ℕ) (at : ℕ) (answer : Expanded) (claim : ExpandClaim es s before after at answer) where
+  fits : (e : ℕ) → answer ≡ Done e → expandFits es s before at ≡ true
+  unfolding expandAnswer
+  fits e q = go (expandFits es s before at) (sym q ∙ claim .answers)
+    where
+      go : (b : Bool) → Done e ≡ cond b (Done (at + length (expanded es s))) NoRoom → b ≡ true
+      go true h = refl
+      go false h = let z : _≡_ {A = ℕ} 0 1 = cc in absurd (omega arith)
+
+  misfits : answer ≡ NoRoom → expandFits es s before at ≡ false
+  unfolding expandAnswer
+  misfits q = go (expandFits es s before at) (sym q ∙ claim .answers)
+    where
+      go : (b : Bool) → NoRoom ≡ cond b (Done (at + length (expanded es s))) NoRoom → b ≡ false
+      go true h = let z : _≡_ {A = ℕ} 0 1 = cc in absurd (omega arith)
+      go false h = refl
+
+  module _ (e : ℕ) (q : answer ≡ Done e) where
+    pub done-end : e ≡ at + length (expanded es s)
+    unfolding expandAnswer
+    done-end = let h : Done e ≡ Done (at + length (expanded es s)) = sym q ∙ claim .answers ∙ rw (fits e q) in cc
+
+    pub done-room : at + length (expanded es s) ≤ length before
+    unfolding expandFits
+    done-room = leb-true (at + length (expanded es s)) (length before) (fits e q)
+
+    pub done-out : after ≡ sets before at (expanded es s)
+    unfolding expandOut
+    done-out = claim .leaves ∙ rw (fits e q)
+
+  module _ (q : answer ≡ NoRoom) where
+    pub none-room : length before < at + length (expanded es s)
+    unfolding expandFits
+    none-room = omega (arith, leb-false (at + length (expanded es s)) (length before) (misfits q))
+
+    pub none-out : after ≡ before
+    unfolding expandOut
+    none-out = claim .leaves ∙ rw (misfits q)

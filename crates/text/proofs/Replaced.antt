@@ -1,0 +1,356 @@
+-- Texts with their tokens replaced: what the definitions are on each way through src/expanding.rt.
+use Prim.Native.Nat.{ℕ, _+_, _-_, _≤_, _<_, _^_, min}
+use mathlib.Core.Path.{_≡_, refl, sym, ap, ap₂, subst, _∙_}
+use mathlib.Core.List.{List, [], _∷_, _++_}
+use mathlib.Core.Bool.{Bool, true, false, _&&_, cond}
+use lib.ListN.{length, getD, take, drop, set, length-drop, length-append, length-set, drop-of-length-le}
+use lib.Seq.{sets, length-sets, length-take-le}
+use lib.Dec.{leb}
+use native.Mathlib.Nat.{min-eq-left, min-eq-right, min-le-right}
+use native.Mathlib.Omega.{arith}
+use mir.Val.{Fits}
+use mir.Syntax.{w64}
+use borrow.Author.Tests.{le-leb, lt-leb, leb-true, leb-false}
+use Rattle.text.specs.Text.{token}
+use Rattle.text.specs.Tokens.{Entries, entries, entry, orItself, stands, expanded, present, covers, covered, shownLength, expandedSize}
+use Rattle.text.specs.Calls.{found, foundIn, Inside, expandFits, expandAnswer, expandOut}
+use Rattle.text.specs.Leaves.{replacedBy}
+use Rattle.text.specs.declared.Expanded.the-variants.{Done, NoRoom}
+use Rattle.text.specs.declared.Found.{Found}
+use Rattle.text.specs.declared.Found.the-variants.{At, Nothing}
+use Rattle.text.proofs.Parts.{next-is, sets-append}
+use Rattle.text.proofs.Entries.{named, inside}
+
+-- ---- `has_text`
+module _ (table : List ℕ) (b : ℕ) (t : Bool) (k : t ≡ token b) where
+  pub covers-plain : t ≡ false → true ≡ covers (entries table) b
+  unfolding covers
+  covers-plain n = rw (sym k ∙ n)
+
+  module _ (y : t ≡ true) (f : Found) (e : f ≡ found 0 (entries table) b) where
+    covers-is : covers (entries table) b ≡ present (foundIn table f)
+    unfolding covers
+    covers-is = rw (sym k ∙ y, ← named table b, e)
+
+    pub covers-none : f ≡ Nothing → false ≡ covers (entries table) b
+    unfolding present foundIn
+    covers-none q = sym (covers-is ∙ rw q)
+
+    pub covers-some : (start size : ℕ) → f ≡ At start size → true ≡ covers (entries table) b
+    unfolding present foundIn
+    covers-some start size q = sym (covers-is ∙ rw q)
+
+pub ruleset covers-ways = (covers-plain, covers-none, covers-some)
+
+-- ---- the loop of `is_covered`
+pub record Covering (es : Entries) (s : List ℕ) (at : ℕ) : Type 0 where
+  pub within : at ≤ length s
+  pub same : covered es s ≡ covered es (drop at s)
+
+module _ (es : Entries) (s : List ℕ) where
+  pub cover-begin : Covering es s 0
+  cover-begin = record { within = omega arith; same = refl }
+
+  pub cover-done : (at : ℕ) → Covering es s at → length s ≤ at → true ≡ covered es s
+  unfolding covered
+  cover-done at inv h = sym (inv .same ∙ ap (covered es) (drop-of-length-le s h))
+
+  module _ (at : ℕ) (inv : Covering es s at) (h : at < length s) (r : Bool) (e : r ≡ covers es (getD s at 0)) where
+    cover-step : covered es s ≡ r && covered es (drop (at + 1) s)
+    unfolding covered
+    cover-step = inv .same ∙ ap (covered es) (next-is s at h) ∙ ap (λ q. q && covered es (drop (at + 1) s)) (sym e)
+
+    pub cover-no : r ≡ false → false ≡ covered es s
+    cover-no q = sym (cover-step ∙ rw q)
+
+    pub cover-again : r ≡ true → Covering es s (at + 1)
+    cover-again q = record { within = omega arith; same = cover-step ∙ rw q }
+
+pub ruleset cover-ways = (cover-begin, cover-done, cover-no, cover-again)
+
+-- ---- `replacement`, and what it tells of an octet
+module _ (es : Entries) (b : ℕ) (t : Bool) (k : t ≡ token b) where
+  pub replaced-yes : (f : Found) → t ≡ true → f ≡ found 0 es b → f ≡ replacedBy es b
+  unfolding replacedBy
+  replaced-yes f y e = rw (sym k ∙ y) e
+
+  pub replaced-no : t ≡ false → Nothing ≡ replacedBy es b
+  unfolding replacedBy
+  replaced-no n = rw (sym k ∙ n)
+
+pub ruleset replaced-ways = (replaced-yes, replaced-no)
+
+pub stands-is : (table : List ℕ) (b : ℕ) → stands (entries table) b ≡ orItself (foundIn table (replacedBy (entries table) b)) b
+unfolding stands replacedBy orItself foundIn
+stands-is table b = go (token b)
+  where
+    go : (t : Bool) → cond t (orItself (entry (entries table) b) b) (b ∷ []) ≡ orItself (foundIn table (cond t (found 0 (entries table) b) Nothing)) b
+    go true = rw (named table b)
+    go false = refl
+
+replaced-inside : (table : List ℕ) (b : ℕ) → Inside table (replacedBy (entries table) b)
+unfolding replacedBy Inside
+replaced-inside table b = go (token b)
+  where
+    go : (t : Bool) → Inside table (cond t (found 0 (entries table) b) Nothing)
+    go true = inside table b
+    go false = tt
+
+module _ (table : List ℕ) (b : ℕ) (f : Found) (e : f ≡ replacedBy (entries table) b) where
+  stands-self : f ≡ Nothing → stands (entries table) b ≡ b ∷ []
+  unfolding orItself foundIn
+  stands-self q = stands-is table b ∙ rw (sym e ∙ q)
+
+  pub width-self : f ≡ Nothing → 1 ≡ length (stands (entries table) b)
+  width-self q = rw (stands-self q)
+
+  module _ (start size : ℕ) (q : f ≡ At start size) where
+    stands-part : stands (entries table) b ≡ take size (drop start table)
+    unfolding orItself foundIn
+    stands-part = stands-is table b ∙ rw (sym e ∙ q)
+
+    pub part-inside : start + size ≤ length table
+    unfolding Inside
+    part-inside = subst (Inside table) (sym e ∙ q) (replaced-inside table b)
+
+    pub part-fits : length table < 2 ^ 63 → Fits w64 (start + size)
+    part-fits g = record { fits = omega (arith, part-inside) }
+
+    pub width-part : size ≡ length (stands (entries table) b)
+    width-part = sym (ap length stands-part ∙ length-take-le size (drop start table) (omega (arith, part-inside, length-drop start table)))
+
+pub ruleset width-ways = (width-self, width-part)
+
+-- ---- the loop of `is_shown`: what is left of the limit is for what is left of the text
+shown-cons : (es : Entries) (b : ℕ) (s : List ℕ) → shownLength es (b ∷ s) ≡ length (stands es b) + shownLength es s
+unfolding shownLength expanded
+shown-cons es b s = length-append (stands es b) (expanded es s)
+
+pub record Showing (es : Entries) (s : List ℕ) (limit left at : ℕ) : Type 0 where
+  pub within : at ≤ length s
+  pub same : leb (shownLength es s) limit ≡ leb (shownLength es (drop at s)) left
+
+leb-left : (n m l : ℕ) → n ≤ l → leb (n + m) l ≡ leb m (l - n)
+leb-left n m l h = go (leb m (l - n)) refl
+  where
+    go : (b : Bool) → leb m (l - n) ≡ b → leb (n + m) l ≡ b
+    go true e = le-leb (n + m) l (omega (arith, leb-true m (l - n) e))
+    go false e = lt-leb (n + m) l (omega (arith, leb-false m (l - n) e))
+
+module _ (es : Entries) (s : List ℕ) (limit : ℕ) where
+  pub show-begin : Showing es s limit limit 0
+  show-begin = record { within = omega arith; same = refl }
+
+  pub show-done : (left at : ℕ) → Showing es s limit left at → length s ≤ at → true ≡ leb (shownLength es s) limit
+  unfolding shownLength expanded
+  show-done left at inv h = sym (inv .same ∙ ap (λ q. leb (shownLength es q) left) (drop-of-length-le s h) ∙ le-leb 0 left (omega arith))
+
+  module _ (left at : ℕ) (inv : Showing es s limit left at) (h : at < length s) (size : ℕ) (e : size ≡ length (stands es (getD s at 0))) where
+    show-step : leb (shownLength es s) limit ≡ leb (size + shownLength es (drop (at + 1) s)) left
+    show-step = inv .same ∙ rw (next-is s at h, shown-cons es (getD s at 0) (drop (at + 1) s), e)
+
+    pub show-stop : left < size → false ≡ leb (shownLength es s) limit
+    show-stop g = sym (show-step ∙ lt-leb (size + shownLength es (drop (at + 1) s)) left (omega arith))
+
+    pub show-again : size ≤ left → Showing es s limit (left - size) (at + 1)
+    show-again g = record { within = omega arith; same = show-step ∙ leb-left size (shownLength es (drop (at + 1) s)) left g }
+
+pub ruleset show-ways = (show-begin, show-done, show-stop, show-again)
+
+-- ---- the loop of `expanded_size`
+size-cons : (es : Entries) (b : ℕ) (s : List ℕ) → expandedSize es (b ∷ s) ≡ length (stands es b) + expandedSize es s
+unfolding expandedSize expanded
+size-cons es b s = length-append (stands es b) (expanded es s)
+
+pub record Sizing (es : Entries) (s : List ℕ) (most total at : ℕ) : Type 0 where
+  pub within : at ≤ length s
+  pub short : total ≤ most
+  pub same : total + expandedSize es (drop at s) ≡ expandedSize es s
+
+module _ (es : Entries) (s : List ℕ) (most : ℕ) where
+  pub size-begin : Sizing es s most 0 0
+  size-begin = record { within = omega arith; short = omega arith; same = omega arith }
+
+  pub size-done : (total at : ℕ) → Sizing es s most total at → length s ≤ at → total ≡ min most (expandedSize es s)
+  unfolding expandedSize expanded
+  size-done total at inv h =
+      let e : expandedSize es (drop at s) ≡ 0 = ap (expandedSize es) (drop-of-length-le s h) in
+      let f : total ≡ expandedSize es s = omega (arith, inv .same) in
+      sym (min-eq-right (omega (arith, inv .short)) ∙ sym f)
+
+  module _ (total at : ℕ) (inv : Sizing es s most total at) (h : at < length s) (size : ℕ) (e : size ≡ length (stands es (getD s at 0))) where
+    size-step : total + size + expandedSize es (drop (at + 1) s) ≡ expandedSize es s
+    size-step = omega (arith, inv .same, ap (expandedSize es) (next-is s at h), size-cons es (getD s at 0) (drop (at + 1) s))
+
+    pub size-stop : most - total ≤ size → most ≡ min most (expandedSize es s)
+    size-stop g = sym (min-eq-left (omega (arith, inv .short, size-step)))
+
+    pub size-again : size < most - total → Sizing es s most (total + size) (at + 1)
+    size-again g = record { within = omega arith; short = omega (arith, inv .short); same = size-step }
+
+pub ruleset size-ways = (size-begin, size-done, size-stop, size-again)
+
+-- ---- `copy`
+pub record Copying (part out₀ : List ℕ) (at : ℕ) (out : List ℕ) (i : ℕ) : Type 0 where
+  pub within : i ≤ length part
+  pub room : at + length part ≤ length out₀
+  pub long : length out ≡ length out₀
+  pub same : sets out (at + i) (drop i part) ≡ sets out₀ at part
+
+module _ (part out₀ : List ℕ) (at : ℕ) where
+  pub copy-begin : at + length part ≤ length out₀ → Copying part out₀ at out₀ 0
+  copy-begin h = record { within = omega arith; room = h; long = refl; same = ap (λ (n : ℕ). sets out₀ n part) (omega arith) }
+
+  module _ (out : List ℕ) (i : ℕ) (inv : Copying part out₀ at out i) where
+    pub copy-done : length part ≤ i → out ≡ sets out₀ at part
+    copy-done h = ap (λ q. sets out (at + i) q) (sym (drop-of-length-le part h)) ∙ inv .same
+
+    module _ (h : i < length part) where
+      pub copy-in : at + i < length out
+      copy-in = omega (arith, inv .room, inv .long)
+
+      pub copy-fits : length out₀ < 2 ^ 63 → Fits w64 (at + i)
+      copy-fits g = record { fits = omega (arith, inv .room) }
+
+      pub copy-again : Copying part out₀ at (set out (at + i) (getD part i 0)) (i + 1)
+      copy-again =
+          record {
+            within = omega arith;
+            room = inv .room;
+            long = length-set out (at + i) (getD part i 0) ∙ inv .long;
+            same = ap (λ (n : ℕ). sets (set out (at + i) (getD part i 0)) n (drop (i + 1) part)) (omega arith) ∙ ap (λ q. sets out (at + i) q) (sym (next-is part i h)) ∙ inv .same;
+          }
+
+pub ruleset copy-ways = (copy-begin, copy-done, copy-in, copy-fits, copy-again)
+
+-- ---- `write_one`
+module _ (table : List ℕ) (b : ℕ) (out : List ℕ) (at : ℕ) (h : at + length (stands (entries table) b) ≤ length out)
+    (f : Found) (e : f ≡ replacedBy (entries table) b) where
+  pub self-room : f ≡ Nothing → at < length out
+  self-room q = omega (arith, ap length (stands-self table b f e q))
+
+  pub self-end : f ≡ Nothing → at + 1 ≡ at + length (stands (entries table) b)
+  self-end q = rw (stands-self table b f e q)
+
+  pub self-out : f ≡ Nothing → set out at b ≡ sets out at (stands (entries table) b)
+  self-out q = rw (stands-self table b f e q)
+
+  module _ (start size : ℕ) (q : f ≡ At start size) where
+    part-is : take (start + size - start) (drop start table) ≡ stands (entries table) b
+    part-is = let n : start + size - start ≡ size = omega arith in rw n (sym (stands-part table b f e start size q))
+
+    pub part-room : at + length (take (start + size - start) (drop start table)) ≤ length out
+    part-room = rw part-is h
+
+    pub part-end-fits : length out < 2 ^ 63 → Fits w64 (at + size)
+    part-end-fits g = record { fits = omega (arith, width-part table b f e start size q) }
+
+    pub part-end : at + size ≡ at + length (stands (entries table) b)
+    part-end = omega (arith, width-part table b f e start size q)
+
+    pub part-out : (out′ : List ℕ) → out′ ≡ sets out at (take (start + size - start) (drop start table)) → out′ ≡ sets out at (stands (entries table) b)
+    part-out out′ g = g ∙ ap (λ q. sets out at q) part-is
+
+pub ruleset one-ways = (self-room, self-end, self-out, part-inside, part-room, part-end, part-out)
+
+-- ---- the loop of `write_all`
+pub record Writing (es : Entries) (s out₀ : List ℕ) (at : ℕ) (out : List ℕ) (to i : ℕ) : Type 0 where
+  pub within : i ≤ length s
+  pub room : to + length (expanded es (drop i s)) ≤ length out₀
+  pub long : length out ≡ length out₀
+  pub same : sets out to (expanded es (drop i s)) ≡ sets out₀ at (expanded es s)
+
+module _ (es : Entries) (s out₀ : List ℕ) (at : ℕ) where
+  pub write-begin : at + length (expanded es s) ≤ length out₀ → Writing es s out₀ at out₀ at 0
+  write-begin h = record { within = omega arith; room = h; long = refl; same = refl }
+
+  module _ (out : List ℕ) (to i : ℕ) (inv : Writing es s out₀ at out to i) where
+    pub write-done : length s ≤ i → out ≡ sets out₀ at (expanded es s)
+    unfolding expanded
+    write-done h = ap (λ q. sets out to (expanded es q)) (sym (drop-of-length-le s h)) ∙ inv .same
+
+    pub write-long : length out ≡ length out₀
+    write-long = inv .long
+
+    module _ (h : i < length s) where
+      split : expanded es (drop i s) ≡ stands es (getD s i 0) ++ expanded es (drop (i + 1) s)
+      unfolding expanded
+      split = ap (expanded es) (next-is s i h)
+
+      size : length (expanded es (drop i s)) ≡ length (stands es (getD s i 0)) + length (expanded es (drop (i + 1) s))
+      size = ap length split ∙ length-append (stands es (getD s i 0)) (expanded es (drop (i + 1) s))
+
+      pub write-room : to + length (stands es (getD s i 0)) ≤ length out
+      write-room = omega (arith, inv .room, inv .long, size)
+
+      pub write-again : (to′ : ℕ) (out′ : List ℕ) → to′ ≡ to + length (stands es (getD s i 0)) → out′ ≡ sets out to (stands es (getD s i 0))
+          → Writing es s out₀ at out′ to′ (i + 1)
+      write-again to′ out′ e f =
+          record {
+            within = omega arith;
+            room = omega (arith, inv .room, size, e);
+            long = ap length f ∙ length-sets out to (stands es (getD s i 0)) ∙ inv .long;
+            same = ap₂ (λ o (n : ℕ). sets o n (expanded es (drop (i + 1) s))) f e ∙ sets-append (stands es (getD s i 0)) (expanded es (drop (i + 1) s)) out to ∙ ap (λ q. sets out to q) (sym split) ∙ inv .same;
+          }
+
+pub ruleset write-ways = (write-begin, write-done, write-long, write-room, write-again)
+
+-- ---- `expand`
+module _ (es : Entries) (s out : List ℕ) (at : ℕ) where
+  no-room : length out < at + length (expanded es s) → expandFits es s out at ≡ false
+  unfolding expandFits
+  no-room h = lt-leb (at + length (expanded es s)) (length out) h
+
+  none-told : length out < at + length (expanded es s) → NoRoom ≡ expandAnswer es s out at
+  unfolding expandAnswer
+  none-told h = rw (no-room h)
+
+  none-kept : length out < at + length (expanded es s) → out ≡ expandOut es s out at
+  unfolding expandOut
+  none-kept h = rw (no-room h)
+
+  pub outside-told : length out < at → NoRoom ≡ expandAnswer es s out at
+  outside-told h = none-told (omega arith)
+
+  pub outside-kept : length out < at → out ≡ expandOut es s out at
+  outside-kept h = none-kept (omega arith)
+
+  module _ (h : at ≤ length out) (n : ℕ) (e : n ≡ min (length out - at + 1) (expandedSize es s)) where
+    past : length out - at < n → length out < at + length (expanded es s)
+    unfolding expandedSize
+    past g = omega (arith, e, min-le-right (length out - at + 1) (expandedSize es s))
+
+    pub long-told : length out - at < n → NoRoom ≡ expandAnswer es s out at
+    long-told g = none-told (past g)
+
+    pub long-kept : length out - at < n → out ≡ expandOut es s out at
+    long-kept g = none-kept (past g)
+
+    module _ (g : n ≤ length out - at) where
+      exact : n ≡ length (expanded es s)
+      unfolding expandedSize
+      exact = go (leb (expandedSize es s) (length out - at + 1)) refl
+        where
+          go : (b : Bool) → leb (expandedSize es s) (length out - at + 1) ≡ b → n ≡ expandedSize es s
+          go true q = e ∙ min-eq-right (leb-true (expandedSize es s) (length out - at + 1) q)
+          go false q =
+              let more : length out - at + 1 ≤ expandedSize es s = omega (arith, leb-false (expandedSize es s) (length out - at + 1) q) in
+              let all : n ≡ length out - at + 1 = e ∙ min-eq-left more in
+              absurd (omega arith)
+
+      pub expand-room : at + length (expanded es s) ≤ length out
+      expand-room = omega (arith, exact)
+
+      fits : expandFits es s out at ≡ true
+      unfolding expandFits
+      fits = le-leb (at + length (expanded es s)) (length out) expand-room
+
+      pub all-told : Done (at + n) ≡ expandAnswer es s out at
+      unfolding expandAnswer
+      all-told = rw (fits, exact)
+
+      pub all-laid : (out′ : List ℕ) → out′ ≡ sets out at (expanded es s) → out′ ≡ expandOut es s out at
+      unfolding expandOut
+      all-laid out′ f = rw fits f
+
+pub ruleset expand-ways = (outside-told, outside-kept, long-told, long-kept, expand-room, all-told, all-laid)

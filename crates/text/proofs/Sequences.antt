@@ -1,0 +1,376 @@
+-- Valid text a character at a time: what the definitions are on each way through src/characters.rt.
+use Prim.Native.Nat.{ℕ, zero, suc, _+_, _-_, _*_, _/_, _%_, _^_, _≤_, _<_}
+use mathlib.Core.Path.{_≡_, refl, sym, ap, subst, _∙_}
+use mathlib.Core.List.{List, [], _∷_}
+use mathlib.Core.Bool.{Bool, true, false, _&&_, _||_, not, cond, false≢true}
+use lib.ListN.{length, getD, take, drop, length-drop, drop-of-length-le}
+use lib.Seq.{drop-drop, length-take-le}
+use lib.Dec.{eqb, leb, ltb}
+use lib.Count.{leadingZeros}
+use native.Mathlib.Nat.{pow-suc}
+use native.Mathlib.Numerals.{add-one}
+use native.Mathlib.Omega.{arith}
+use mir.Val.{Fits}
+use mir.Syntax.{w32, w64}
+use borrow.Author.Tests.{lt-ltb, le-ltb, le-leb, lt-leb, eq-eqb, ne-eqb, eqb-false, eqb-true, leb-true}
+use Rattle.octets.specs.Numbers.{among}
+use Rattle.octets.proofs.Tests.{and-left, and-right, and-false}
+use Rattle.text.specs.Text.{layout, token, character, single, goesOn, utf8, text}
+use Rattle.text.specs.Leaves.{following, several, Lead, onward, Steps}
+use Rattle.text.proofs.Parts.{rest-is, next-is}
+
+-- ---- layout and token octets
+module _ (b : ℕ) where
+  pub layout-tab : b ≡ 0x09 → true ≡ layout b
+  unfolding layout among
+  layout-tab p = rw p
+
+  pub layout-line : b ≡ 0x0A → true ≡ layout b
+  unfolding layout among
+  layout-line p = rw p
+
+  pub layout-rest : (b ≡ 0x09 → ⊥) → (b ≡ 0x0A → ⊥) → eqb b 0x0D ≡ layout b
+  unfolding layout among
+  layout-rest p q = rw (ne-eqb b 0x09 p, ne-eqb b 0x0A q) (sym (or-false (eqb b 0x0D)))
+    where
+      or-false : (a : Bool) → a || false ≡ a
+      or-false true = refl
+      or-false false = refl
+
+pub ruleset layout-ways = (layout-tab, layout-line, layout-rest)
+
+pub token-yes : (b : ℕ) → 1 ≤ b → b ≤ 0x13 → (b ≡ 0x09 → ⊥) → (b ≡ 0x0A → ⊥) → (b ≡ 0x0D → ⊥) → true ≡ token b
+unfolding token layout among
+token-yes b h g p q r = simp (le-leb _ _ h, le-leb _ _ g, ne-eqb _ _ p, ne-eqb _ _ q, ne-eqb _ _ r)
+
+no-layout : (b : ℕ) → not (layout b) ≡ true → (b ≡ 0x09 → ⊥) × (b ≡ 0x0A → ⊥) × (b ≡ 0x0D → ⊥)
+unfolding layout among
+no-layout b e = (λ p. false≢true (rw p at e), λ p. false≢true (rw p at e), λ p. false≢true (rw p at e))
+
+pub token-facts : (b : ℕ) → token b ≡ true → (1 ≤ b) × (b ≤ 0x13) × (b ≡ 0x09 → ⊥) × (b ≡ 0x0A → ⊥) × (b ≡ 0x0D → ⊥)
+unfolding token
+token-facts b e =
+    let w = no-layout b (and-right (leb 1 b && leb b 0x13) (not (layout b)) e) in
+    let r = and-left (leb 1 b && leb b 0x13) (not (layout b)) e in
+    (leb-true 1 b (and-left (leb 1 b) (leb b 0x13) r), leb-true b 0x13 (and-right (leb 1 b) (leb b 0x13) r), w .0, w .1, w .2)
+
+pub token-no : (b : ℕ) → (1 ≤ b → b ≤ 0x13 → (b ≡ 0x09 → ⊥) → (b ≡ 0x0A → ⊥) → (b ≡ 0x0D → ⊥) → ⊥) → false ≡ token b
+token-no b f = go (token b) refl
+  where
+    go : (t : Bool) → token b ≡ t → false ≡ token b
+    go true e = let w = token-facts b e in absurd (f (w .0) (w .1) (w .2) (w .3) (w .4))
+    go false e = sym e
+
+-- ---- octets that stand alone
+module _ (tokens : Bool) (b : ℕ) where
+  pub single-high : 0x20 ≤ b → true ≡ single tokens b
+  unfolding single
+  single-high h = simp (le-leb _ _ h)
+
+  module _ (h : b < 0x20) (l : Bool) (p : l ≡ layout b) where
+    pub single-layout : l ≡ true → true ≡ single tokens b
+    unfolding single
+    single-layout e = rw (lt-leb 0x20 b h, sym p ∙ e)
+
+    module _ (e : l ≡ false) (t : Bool) (q : t ≡ token b) where
+      single-is : single tokens b ≡ tokens && t
+      unfolding single
+      single-is = rw (lt-leb 0x20 b h, sym p ∙ e, q)
+
+      pub single-token : t ≡ true → tokens ≡ single tokens b
+      single-token y = sym (single-is ∙ rw y (and-one tokens))
+        where
+          and-one : (a : Bool) → a && true ≡ a
+          and-one true = refl
+          and-one false = refl
+
+      pub single-no : t ≡ false → false ≡ single tokens b
+      single-no y = sym (single-is ∙ rw y (and-false tokens))
+
+pub ruleset single-ways = (single-high, single-layout, single-token, single-no)
+
+-- ---- code points
+module _ (least c : ℕ) where
+  pub character-low : c < least → false ≡ character least c
+  unfolding character
+  character-low h = simp (lt-leb _ _ h)
+
+  module _ (h : least ≤ c) where
+    pub character-high : 0x10FFFF < c → false ≡ character least c
+    unfolding character
+    character-high g = simp (le-leb _ _ h, lt-leb _ _ g)
+
+    module _ (g : c ≤ 0x10FFFF) where
+      pub character-below : c < 0xD800 → true ≡ character least c
+      unfolding character
+      character-below k = simp (le-leb _ _ h, le-leb _ _ g, lt-ltb _ _ k)
+
+      pub character-rest : 0xD800 ≤ c → ltb 0xF8FF c ≡ character least c
+      unfolding character
+      character-rest k = simp (le-leb _ _ h, le-leb _ _ g, le-ltb _ _ k)
+
+pub ruleset character-ways = (character-low, character-high, character-below, character-rest)
+
+-- ---- the loop of `follows`: after i octets the bits so far are fewer than 8 and 6 for each
+pub record Follows (rest : List ℕ) (bits least c i : ℕ) : Type 0 where
+  pub within : i ≤ length rest
+  pub small : c < 256 * 64 ^ i
+  pub same : following least bits rest ≡ following least c (drop i rest)
+
+small-enough : (i c : ℕ) → i ≤ 2 → c < 256 * 64 ^ i → c < 2 ^ 20
+small-enough zero c h g = omega arith
+small-enough (suc zero) c h g = omega arith
+small-enough (suc (suc zero)) c h g = omega arith
+small-enough (suc (suc (suc i))) c h g = absurd (omega arith)
+
+module _ (rest : List ℕ) (bits least : ℕ) where
+  pub follow-begin : (c : ℕ) → c ≡ bits → c < 256 → Follows rest bits least c 0
+  follow-begin c e h = record { within = omega arith; small = omega arith; same = rw e }
+
+  module _ (c i : ℕ) (inv : Follows rest bits least c i) where
+    pub follow-done : (r : Bool) → length rest ≤ i → r ≡ character least c → r ≡ following least bits rest
+    unfolding following
+    follow-done r h e = e ∙ sym (inv .same ∙ ap (following least c) (drop-of-length-le rest h))
+
+    module _ (h : i < length rest) where
+      pub follow-fits : length rest ≤ 3 → Fits w32 (c * 64)
+      follow-fits g = record { fits = omega (arith, small-enough i c (omega arith) (inv .small)) }
+
+      pub follow-fits-2 : (w : ℕ) → length rest ≤ 3 → w < 256 → Fits w32 (c * 64 + w % 64)
+      follow-fits-2 w g k = record { fits = omega (arith, small-enough i c (omega arith) (inv .small)) }
+
+      follow-step : following least bits rest ≡ eqb (getD rest i 0 / 64) 2 && following least (c * 64 + getD rest i 0 % 64) (drop (i + 1) rest)
+      unfolding following
+      follow-step = inv .same ∙ ap (following least c) (next-is rest i h)
+
+      pub follow-stop : (getD rest i 0 / 64 ≡ 2 → ⊥) → false ≡ following least bits rest
+      follow-stop k = sym (follow-step ∙ rw (ne-eqb (getD rest i 0 / 64) 2 k))
+
+      pub follow-again : getD rest i 0 / 64 ≡ 2 → (w : ℕ) → w ≡ getD rest i 0 → Follows rest bits least (c * 64 + w % 64) (i + 1)
+      follow-again k w e =
+          record {
+            within = omega arith;
+            small = rw (add-one, pow-suc 64 i) (omega (arith, inv .small));
+            same = follow-step ∙ rw (eq-eqb (getD rest i 0 / 64) 2 k, e);
+          }
+
+pub ruleset follow-ways = (follow-begin, follow-done, follow-stop, follow-again)
+
+-- ---- the form by the number of octets
+module _ (a : ℕ) (rest : List ℕ) (r : Bool) where
+  pub several-one : length rest ≡ 1 → r ≡ following 0x80 (a % 32) rest → r ≡ several a rest
+  unfolding several
+  several-one h e = rw (eq-eqb (length rest) 1 h) e
+
+  pub several-two : length rest ≡ 2 → r ≡ following 0x800 (a % 16) rest → r ≡ several a rest
+  unfolding several
+  several-two h e = rw h e
+
+  pub several-three : length rest ≡ 3 → r ≡ following 0x10000 (a % 8) rest → r ≡ several a rest
+  unfolding several
+  several-three h e = rw h e
+
+pub several-none : (a : ℕ) (rest : List ℕ) → (length rest ≡ 1 → ⊥) → (length rest ≡ 2 → ⊥) → (length rest ≡ 3 → ⊥) → false ≡ several a rest
+unfolding several
+several-none a rest p q r = rw (ne-eqb (length rest) 1 p, ne-eqb (length rest) 2 q, ne-eqb (length rest) 3 r)
+
+pub ruleset several-ways = (several-one, several-two, several-three, several-none)
+
+-- ---- a test that is computed for each number below a bound
+unfoldable pub allBelow : (ℕ → Bool) → ℕ → Bool
+allBelow P zero = true
+allBelow P (suc n) = P n && allBelow P n
+
+pub below : (P : ℕ → Bool) (n : ℕ) → allBelow P n ≡ true → (k : ℕ) → k < n → P k ≡ true
+unfolding allBelow
+below P zero e k h = absurd (omega arith)
+below P (suc n) e k h = go (λ l. below P n (and-right (P n) (allBelow P n) e) k l) (eqb k n) refl
+  where
+    go : (k < n → P k ≡ true) → (b : Bool) → eqb k n ≡ b → P k ≡ true
+    go f true q = ap P (eqb-true k n q) ∙ and-left (P n) (allBelow P n) e
+    go f false q = f (omega (arith, eqb-false k n q))
+
+sameTest : Bool → Bool → Bool
+sameTest true b = b
+sameTest false b = not b
+
+same-test : (a b : Bool) → sameTest a b ≡ true → a ≡ b
+unfolding sameTest
+same-test true b e = sym e
+same-test false true e = e
+same-test false false e = refl
+
+-- ---- the leading ones of each of the 256 octets
+ones : ℕ → ℕ
+ones a = leadingZeros 8 (255 - a)
+
+lowTest : ℕ → Bool
+lowTest a = sameTest (ltb a 0x80) (eqb (ones a) 0)
+
+leadTest : ℕ → ℕ → ℕ → ℕ → Bool
+leadTest unit form n a = sameTest (eqb (a / unit) form) (eqb (ones a) n)
+
+lead-low : allBelow lowTest 256 ≡ true
+unfolding allBelow lowTest sameTest ones leadingZeros
+lead-low = refl
+
+lead-two : allBelow (leadTest 32 6 2) 256 ≡ true
+unfolding allBelow leadTest sameTest ones leadingZeros
+lead-two = refl
+
+lead-three : allBelow (leadTest 16 14 3) 256 ≡ true
+unfolding allBelow leadTest sameTest ones leadingZeros
+lead-three = refl
+
+lead-four : allBelow (leadTest 8 30 4) 256 ≡ true
+unfolding allBelow leadTest sameTest ones leadingZeros
+lead-four = refl
+
+pub lead : (a : ℕ) → a < 256 → Lead a (leadingZeros 8 (255 - a))
+unfolding lowTest leadTest ones
+lead a h =
+    record {
+      low = same-test (ltb a 0x80) (eqb (ones a) 0) (below lowTest 256 lead-low a h);
+      two = same-test (eqb (a / 32) 6) (eqb (ones a) 2) (below (leadTest 32 6 2) 256 lead-two a h);
+      three = same-test (eqb (a / 16) 14) (eqb (ones a) 3) (below (leadTest 16 14 3) 256 lead-three a h);
+      four = same-test (eqb (a / 8) 30) (eqb (ones a) 4) (below (leadTest 8 30 4) 256 lead-four a h);
+    }
+
+-- ---- the octets of one character, and the text after it
+-- between characters what came before does not matter
+pub utf8-zero : (s : List ℕ) (t : Bool) (c least : ℕ) → utf8 t 0 c least s ≡ text t s
+unfolding utf8 text
+utf8-zero [] t c least = refl
+utf8-zero (b ∷ s) t c least = refl
+
+utf8-short : (s : List ℕ) (t : Bool) (more c least : ℕ) → length s < more → utf8 t more c least s ≡ false
+unfolding utf8
+utf8-short [] t zero c least h = absurd (omega arith)
+utf8-short [] t (suc more) c least h = refl
+utf8-short (b ∷ s) t zero c least h = absurd (omega arith)
+utf8-short (b ∷ s) t (suc more) c least h = rw (utf8-short s t more (c * 64 + b % 64) least (omega arith), and-false (goesOn more c least b))
+
+and-join : (p q x : Bool) → (p && true) && (q && x) ≡ (p && q) && x
+and-join true q x = refl
+and-join false q x = refl
+
+-- one law for every length: the octets to come are those that follow, and then text
+utf8-follows : (more : ℕ) (s : List ℕ) (t : Bool) (c least : ℕ) → suc more ≤ length s
+    → utf8 t (suc more) c least s ≡ following least c (take (suc more) s) && text t (drop (suc more) s)
+unfolding utf8 goesOn following
+utf8-follows more [] t c least h = absurd (omega arith)
+utf8-follows zero (b ∷ s) t c least h = rw (utf8-zero s t (c * 64 + b % 64) least)
+utf8-follows (suc more) (b ∷ s) t c least h =
+    let d = c * 64 + b % 64 in
+    rw (ne-eqb (suc more) 0 (λ e. omega arith), utf8-follows more s t d least (omega arith))
+    (and-join (eqb (b / 64) 2) (following least d (take (suc more) s)) (text t (drop (suc more) s)))
+
+pub text-low : (t : Bool) (a : ℕ) (s : List ℕ) → a < 0x80 → text t (a ∷ s) ≡ single t a && text t s
+unfolding text utf8
+text-low t a s h = rw (lt-ltb a 0x80 h)
+
+module _ (t : Bool) (a n : ℕ) (s : List ℕ) (h : 0x80 ≤ a) (l : Lead a n) where
+  text-high : text t (a ∷ s) ≡ cond (eqb n 2) (utf8 t 1 (a % 32) 0x80 s) (cond (eqb n 3) (utf8 t 2 (a % 16) 0x800 s) (cond (eqb n 4) (utf8 t 3 (a % 8) 0x10000 s) false))
+  unfolding text utf8
+  text-high = rw (le-ltb a 0x80 h, l .two, l .three, l .four)
+
+pub lead-some : (a n : ℕ) → 0x80 ≤ a → Lead a n → 1 ≤ n
+lead-some a zero h l = let z : false ≡ true = sym (le-ltb a 0x80 h) ∙ l .low in absurd (false≢true z)
+lead-some a (suc n) h l = omega arith
+
+-- ---- what `sequence` answers
+module _ (t : Bool) where
+  pub one-yes : (s : List ℕ) (r : Bool) → 0 < length s → getD s 0 0 < 0x80 → r ≡ single t (getD s 0 0) → r ≡ true → Steps t s 1
+  unfolding onward
+  one-yes [] r z h e y = absurd (omega arith)
+  one-yes (a ∷ s) r z h e y = record { within = omega arith; same = rw (text-low t a s h, ← e, y) }
+
+  pub one-no : (s : List ℕ) (r : Bool) → 0 < length s → getD s 0 0 < 0x80 → r ≡ single t (getD s 0 0) → r ≡ false → Steps t s 0
+  unfolding onward
+  one-no [] r z h e y = absurd (omega arith)
+  one-no (a ∷ s) r z h e y = record { within = omega arith; same = rw (text-low t a s h, ← e, y) }
+
+  pub short : (s : List ℕ) (n : ℕ) → 0 < length s → 0x80 ≤ getD s 0 0 → Lead (getD s 0 0) n → length s < n → Steps t s 0
+  unfolding onward
+  short [] n z h l g = absurd (omega arith)
+  short (a ∷ s) n z h l g = record { within = omega arith; same = text-high t a n s h l ∙ go (eqb n 2) (eqb n 3) (eqb n 4) refl refl refl }
+    where
+      go : (p q r : Bool) → eqb n 2 ≡ p → eqb n 3 ≡ q → eqb n 4 ≡ r
+          → cond p (utf8 t 1 (a % 32) 0x80 s) (cond q (utf8 t 2 (a % 16) 0x800 s) (cond r (utf8 t 3 (a % 8) 0x10000 s) false)) ≡ false
+      go true q r e f d = utf8-short s t 1 (a % 32) 0x80 (omega (arith, eqb-true n 2 e))
+      go false true r e f d = utf8-short s t 2 (a % 16) 0x800 (omega (arith, eqb-true n 3 f))
+      go false false true e f d = utf8-short s t 3 (a % 8) 0x10000 (omega (arith, eqb-true n 4 d))
+      go false false false e f d = refl
+
+  -- a first octet and as many others as its leading ones tell: there is no form of more than four octets
+  too-many : (a m : ℕ) (s : List ℕ) → 4 ≤ m → 0x80 ≤ a → Lead a (suc m) → m ≤ length s → text t (a ∷ s) ≡ several a (take m s) && text t (drop m s)
+  unfolding several
+  too-many a m s k h l g =
+      text-high t a (suc m) s h l
+      ∙ rw (ne-eqb (suc m) 2 (λ e. omega arith), ne-eqb (suc m) 3 (λ e. omega arith), ne-eqb (suc m) 4 (λ e. omega arith))
+      (rw (length-take-le m s g, ne-eqb m 1 (λ e. omega arith), ne-eqb m 2 (λ e. omega arith), ne-eqb m 3 (λ e. omega arith)))
+
+  long : (a m : ℕ) (s : List ℕ) → 0x80 ≤ a → Lead a (suc m) → m ≤ length s → text t (a ∷ s) ≡ several a (take m s) && text t (drop m s)
+  unfolding several
+  long a zero s h l g = text-high t a 1 s h l
+  long a (suc zero) s h l g = text-high t a 2 s h l ∙ utf8-follows 0 s t (a % 32) 0x80 g ∙ rw (length-take-le 1 s g)
+  long a (suc (suc zero)) s h l g = text-high t a 3 s h l ∙ utf8-follows 1 s t (a % 16) 0x800 g ∙ rw (length-take-le 2 s g)
+  long a (suc (suc (suc zero))) s h l g = text-high t a 4 s h l ∙ utf8-follows 2 s t (a % 8) 0x10000 g ∙ rw (length-take-le 3 s g)
+  long a (suc (suc (suc (suc m)))) s h l g = too-many a (suc (suc (suc (suc m)))) s (omega arith) h l g
+
+  all : (a m : ℕ) (s : List ℕ) (r : Bool) → r ≡ several a (take (suc m - 1) s) → r ≡ several a (take m s)
+  all a m s r e = let k : suc m - 1 ≡ m = omega arith in rw k at e
+
+  pub long-yes : (s : List ℕ) (n : ℕ) (r : Bool) → 0 < length s → 0x80 ≤ getD s 0 0 → Lead (getD s 0 0) n → n ≤ length s
+      → r ≡ several (getD s 0 0) (take (n - 1) (drop 1 s)) → r ≡ true → Steps t s n
+  unfolding onward
+  long-yes [] n r z h l g e y = absurd (omega arith)
+  long-yes (a ∷ s) zero r z h l g e y = absurd (omega (arith, lead-some a 0 h l))
+  long-yes (a ∷ s) (suc m) r z h l g e y = record { within = g; same = long a m s h l (omega arith) ∙ rw (← all a m s r e, y) }
+
+  pub long-no : (s : List ℕ) (n : ℕ) (r : Bool) → 0 < length s → 0x80 ≤ getD s 0 0 → Lead (getD s 0 0) n → n ≤ length s
+      → r ≡ several (getD s 0 0) (take (n - 1) (drop 1 s)) → r ≡ false → Steps t s 0
+  unfolding onward
+  long-no [] n r z h l g e y = absurd (omega arith)
+  long-no (a ∷ s) zero r z h l g e y = absurd (omega (arith, lead-some a 0 h l))
+  long-no (a ∷ s) (suc m) r z h l g e y = record { within = omega arith; same = long a m s h l (omega arith) ∙ rw (← all a m s r e, y) }
+
+pub ruleset sequence-ways = (one-yes, one-no, short, long-yes, long-no)
+
+-- ---- the loop of `check`
+pub record Holds (t : Bool) (s : List ℕ) (at : ℕ) : Type 0 where
+  pub within : at ≤ length s
+  pub same : text t s ≡ text t (drop at s)
+
+module _ (t : Bool) (s : List ℕ) where
+  pub check-begin : Holds t s 0
+  check-begin = record { within = omega arith; same = refl }
+
+  pub check-done : (at : ℕ) → Holds t s at → length s ≤ at → true ≡ text t s
+  unfolding text utf8
+  check-done at inv h = sym (inv .same ∙ ap (text t) (drop-of-length-le s h))
+
+  module _ (at n : ℕ) (inv : Holds t s at) (h : at < length s) (w : Steps t (take (length s - at) (drop at s)) n) where
+    here : Steps t (drop at s) n
+    here = subst (λ q. Steps t q n) (rest-is s at (inv .within)) w
+
+    pub check-stop : n ≡ 0 → false ≡ text t s
+    unfolding onward
+    check-stop e = sym (inv .same ∙ here .same ∙ rw e)
+
+    pub check-fits : length s < 2 ^ 63 → Fits w64 (at + n)
+    check-fits g = record { fits = omega (arith, here .within, length-drop at s) }
+
+    onward-some : (n : ℕ) (q : List ℕ) → (n ≡ 0 → ⊥) → onward t q n ≡ text t (drop n q)
+    unfolding onward
+    onward-some zero q e = absurd (e refl)
+    onward-some (suc n) q e = refl
+
+    pub check-again : (n ≡ 0 → ⊥) → Holds t s (at + n)
+    check-again e =
+        record {
+          within = omega (arith, here .within, length-drop at s);
+          same = inv .same ∙ here .same ∙ onward-some n (drop at s) e ∙ ap (text t) (drop-drop n at s);
+        }
+
+pub ruleset check-ways = (check-begin, check-done, check-stop, check-fits, check-again)

@@ -1,0 +1,118 @@
+-- Wrong answers of each public call, each refuted at a closed input by what its contract says.
+use mathlib.Core.Path.{_≡_, sym}
+use mathlib.Core.Bool.{true, false, false≢true}
+use mathlib.Core.List.{List, [], _∷_}
+use Prim.Native.Nat.{ℕ, min}
+use native.Mathlib.Omega.{arith}
+use lib.Dec.{leb}
+use Rattle.octets.specs.Numbers.{among}
+use Rattle.text.specs.Text.{layout, token, character, single, goesOn, utf8, text}
+use Rattle.text.specs.Tokens.{entries, cut, filled, isTable, entry, orItself, stands, expanded, present, covers, covered, shownLength, expandedSize}
+use Rattle.text.specs.Calls.{found, expandFits, expandAnswer, expandOut, ExpandClaim}
+use Rattle.text.specs.declared.Expanded.the-variants.{Done, NoRoom}
+use Rattle.text.specs.declared.Found.the-variants.{At}
+
+-- one entry: the token 0x01 for the three octets ABC
+abbrev abc : List ℕ
+abc = 0x01 ∷ 3 ∷ 0x41 ∷ 0x42 ∷ 0x43 ∷ []
+
+-- the token 0x01 twice, for A and for B
+abbrev twice : List ℕ
+twice = 0x01 ∷ 1 ∷ 0x41 ∷ 0x01 ∷ 1 ∷ 0x42 ∷ []
+
+-- check: NUL in two octets passes; a surrogate passes; a private code point passes; the tail of a character may be missing; a token passes where none may stand
+pub overlong-passes : true ≡ text true (0xC0 ∷ 0x80 ∷ []) → ⊥
+unfolding text utf8 goesOn character
+overlong-passes h = false≢true (sym h)
+
+pub surrogate-passes : true ≡ text true (0xED ∷ 0xA0 ∷ 0x80 ∷ []) → ⊥
+unfolding text utf8 goesOn character
+surrogate-passes h = false≢true (sym h)
+
+pub private-passes : true ≡ text true (0xEF ∷ 0xA3 ∷ 0xBF ∷ []) → ⊥
+unfolding text utf8 goesOn character
+private-passes h = false≢true (sym h)
+
+pub cut-passes : true ≡ text true (0x41 ∷ 0xC3 ∷ []) → ⊥
+unfolding text utf8 single
+cut-passes h = false≢true (sym h)
+
+pub token-passes : true ≡ text false (0x01 ∷ []) → ⊥
+unfolding text utf8 single layout among
+token-passes h = false≢true (sym h)
+
+-- check: the first code point after the private range is refused
+pub behind-refused : false ≡ text false (0xEF ∷ 0xA4 ∷ 0x80 ∷ []) → ⊥
+unfolding text utf8 goesOn character
+behind-refused h = false≢true h
+
+-- is_token: the tab is one; the last of the sixteen is none
+pub tab-token : true ≡ token 0x09 → ⊥
+unfolding token layout among
+tab-token h = false≢true (sym h)
+
+pub last-forgotten : false ≡ token 0x13 → ⊥
+unfolding token layout among
+last-forgotten h = false≢true h
+
+-- is_table: a repeated tag passes; an entry past the end passes; an empty text is refused
+pub twice-passes : true ≡ isTable twice → ⊥
+unfolding isTable filled among text utf8 single token layout
+twice-passes h = false≢true (sym h)
+
+pub past-passes : true ≡ isTable (0x01 ∷ 2 ∷ 0x41 ∷ []) → ⊥
+unfolding isTable filled
+past-passes h = false≢true (sym h)
+
+pub empty-refused : false ≡ isTable (0x01 ∷ 0 ∷ []) → ⊥
+unfolding isTable filled among text utf8 token layout
+empty-refused h = false≢true h
+
+-- find: the place of the entry and not of its text; the last entry with the tag and not the first
+pub entry-named : At 0 3 ≡ found 0 (entries abc) 0x01 → ⊥
+unfolding found entries cut
+entry-named h = let z : _≡_ {A = ℕ} 0 2 = cc in omega arith
+
+pub last-named : At 5 1 ≡ found 0 (entries twice) 0x01 → ⊥
+unfolding found entries cut
+last-named h = let z : _≡_ {A = ℕ} 5 2 = cc in omega arith
+
+-- is_covered: a token without an entry passes; a tab wants an entry
+pub bare-passes : true ≡ covered (entries abc) (0x02 ∷ []) → ⊥
+unfolding covered covers token layout among entries cut entry present
+bare-passes h = false≢true (sym h)
+
+pub tab-refused : false ≡ covered (entries abc) (0x09 ∷ []) → ⊥
+unfolding covered covers token layout among
+tab-refused h = false≢true h
+
+-- is_shown: the token counts as one octet; a text of just the limit is refused
+pub shown-unexpanded : true ≡ leb (shownLength (entries abc) (0x01 ∷ 0x44 ∷ [])) 2 → ⊥
+unfolding shownLength expanded stands token layout among entries cut entry orItself
+shown-unexpanded h = false≢true (sym h)
+
+pub limit-refused : false ≡ leb (shownLength (entries abc) (0x01 ∷ 0x44 ∷ [])) 4 → ⊥
+unfolding shownLength expanded stands token layout among entries cut entry orItself
+limit-refused h = false≢true h
+
+-- expanded_size: the token counts as one octet; it does not stop at the most that is asked for
+pub size-unexpanded : 2 ≡ min 9 (expandedSize (entries abc) (0x01 ∷ 0x44 ∷ [])) → ⊥
+unfolding expandedSize expanded stands token layout among entries cut entry orItself
+size-unexpanded h = let z : _≡_ {A = ℕ} 2 4 = h in omega arith
+
+pub size-runs-on : 4 ≡ min 3 (expandedSize (entries abc) (0x01 ∷ 0x44 ∷ [])) → ⊥
+unfolding expandedSize expanded stands token layout among entries cut entry orItself
+size-runs-on h = let z : _≡_ {A = ℕ} 4 3 = h in omega arith
+
+-- expand: a room of just the size is refused; what fits is written there and no more is told than its size; what doesn't fit is written in part
+pub room-refused : (after : List ℕ) → ExpandClaim (entries abc) (0x01 ∷ []) (0 ∷ 0 ∷ 0 ∷ []) after 0 NoRoom → ⊥
+unfolding expandAnswer expandFits expanded stands token layout among entries cut entry orItself
+room-refused after h = let e = h .answers in let z : _≡_ {A = ℕ} 0 1 = cc in omega arith
+
+pub size-told : (after : List ℕ) → ExpandClaim (entries abc) (0x01 ∷ []) (0 ∷ 0 ∷ 0 ∷ 0 ∷ []) after 1 (Done 3) → ⊥
+unfolding expandAnswer expandFits expanded stands token layout among entries cut entry orItself
+size-told after h = let e = h .answers in let z : _≡_ {A = ℕ} 3 4 = cc in omega arith
+
+pub part-written : ExpandClaim (entries abc) (0x01 ∷ []) (0 ∷ 0 ∷ []) (0x41 ∷ 0x42 ∷ []) 0 NoRoom → ⊥
+unfolding expandOut expandFits expanded stands token layout among entries cut entry orItself
+part-written h = let e = h .leaves in let z : _≡_ {A = ℕ} 0x41 0 = cc in omega arith

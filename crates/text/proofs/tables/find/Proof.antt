@@ -1,0 +1,81 @@
+use Prim.Native.Nat.{_-_}
+use lib.ListN.{length}
+use Rattle.text.proofs.Entries.{Finding, find-ways, find-fits-2}
+use borrow.Author.Needs.{needs}
+use Rattle.text.proofs.tables.find.Statement.{statement}
+use Rattle.text.proofs.tables.find.Tie as tie
+
+abbrev Inv-loop : tie.InvT-loop
+Inv-loop table tag at₀ at = Finding table tag at
+
+abbrev μ-loop : tie.MeasureT-loop
+μ-loop table tag at₀ at = length table - at
+
+loop-holds : tie.Need-loop-holds Inv-loop μ-loop
+loop-holds c = search (find-ways, needs)
+
+sub-first-entry : tie.Need-sub-first-entry Inv-loop μ-loop
+sub-first-entry c = search needs
+
+part-first-entry-start : tie.Need-part-first-entry-start Inv-loop μ-loop
+part-first-entry-start c = search needs
+
+part-first-entry-end : tie.Need-part-first-entry-end Inv-loop μ-loop
+part-first-entry-end c = search needs
+
+first-entry-requires : tie.Need-first-entry-requires Inv-loop μ-loop
+first-entry-requires c κs = search needs
+
+enum-told : tie.Need-enum-told Inv-loop μ-loop
+enum-told c = search needs
+
+returns : tie.Need-returns Inv-loop μ-loop
+returns c = search (find-ways, needs)
+
+enum-known-t : tie.Need-enum-known-t Inv-loop μ-loop
+enum-known-t c = search needs
+
+add-t13 : tie.Need-add-t13 Inv-loop μ-loop
+add-t13 c = search (find-ways, needs)
+
+returns-2 : tie.Need-returns-2 Inv-loop μ-loop
+returns-2 c = search (find-ways, needs)
+
+add-at : tie.Need-add-at Inv-loop μ-loop
+add-at c = search (find-ways, needs)
+
+add-at-2 : tie.Need-add-at-2 Inv-loop μ-loop
+add-at-2 c =
+    let told = c .before .before .before .before in
+    find-fits-2 _ _ _ (told .before .before .before .loop .inv) (told .before .before .loop-test .taken) _ (told .first-entry .ensures) _ _ (c .before .before .t .given .1) (search needs)
+
+loop-less : tie.Need-loop-less Inv-loop μ-loop
+loop-less c = search needs
+
+loop-again : tie.Need-loop-again Inv-loop μ-loop
+loop-again c = search (find-ways, needs)
+
+returns-3 : tie.Need-returns-3 Inv-loop μ-loop
+returns-3 c = search (find-ways, needs)
+
+pub find-spec : {M : Type 1} → statement M
+find-spec =
+    tie.close
+    (tie.spec
+    Inv-loop
+    μ-loop
+    loop-holds
+    sub-first-entry
+    part-first-entry-start
+    part-first-entry-end
+    first-entry-requires
+    enum-told
+    returns
+    enum-known-t
+    add-t13
+    returns-2
+    add-at
+    add-at-2
+    loop-less
+    loop-again
+    returns-3)

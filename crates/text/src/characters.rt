@@ -1,0 +1,147 @@
+// Valid text, a character at a time.
+ghost use mathlib.Core.Path.{_≡_};
+ghost use Prim.Native.Nat.{_≤_, _<_};
+ghost use lib.ListN.{length};
+ghost use Rattle.text.specs.Text.{layout, token, character, single, text};
+ghost use Rattle.text.specs.Leaves.{following, several, Lead, Steps};
+
+// An octet as a number whose sums fit.
+pub fn wide(x: u8) -> u32
+    ensures { λ r. ⌜ r ≡ x ⌝ }
+    ensures { λ r. ⌜ r < 256 ⌝ }
+{
+    x as u32
+}
+
+// Tab, line feed or carriage return.
+fn is_layout(b: u8) -> bool
+    ensures { λ r. ⌜ r ≡ layout b ⌝ }
+{
+    if b == 0x09 {
+        return true;
+    }
+    if b == 0x0A {
+        return true;
+    }
+    b == 0x0D
+}
+
+// An octet that stands for an entry of the token table.
+pub fn is_token(b: u8) -> bool
+    ensures { λ r. ⌜ r ≡ token b ⌝ }
+{
+    match b {
+        0x01..=0x08 | 0x0B | 0x0C | 0x0E..=0x13 => true,
+        _ => false,
+    }
+}
+
+// An octet below 0x80 that may stand by itself. The first test settles nearly every octet.
+fn single_ok(b: u8, tokens: bool) -> bool
+    ensures { λ r. ⌜ r ≡ single tokens b ⌝ }
+{
+    if b >= 0x20 {
+        return true;
+    }
+    if is_layout(b) {
+        return true;
+    }
+    if is_token(b) {
+        return tokens;
+    }
+    false
+}
+
+// A code point that may be written in a form whose least code point is given.
+fn character_ok(least: u32, c: u32) -> bool
+    ensures { λ r. ⌜ r ≡ character least c ⌝ }
+{
+    if c < least {
+        return false;
+    }
+    if c > 0x10FFFF {
+        return false;
+    }
+    if c < 0xD800 {
+        return true;
+    }
+    c > 0xF8FF
+}
+
+// The octets after the first of a character, of whose code point the first has these bits.
+fn follows(rest: &[u8], bits: u8, least: u32) -> bool
+    requires { ⌜ length (now rest) ≤ 3 ⌝ }
+    ensures { λ r. ⌜ r ≡ following least bits (now (rest .entry)) ⌝ }
+{
+    let mut c = wide(bits);
+    let mut i: usize = 0;
+    while i < rest.len() {
+        let b = rest[i];
+        if b / 64 != 2 {
+            return false;
+        }
+        c = c * 64 + wide(b) % 64;
+        i += 1;
+    }
+    character_ok(least, c)
+}
+
+// A character of several octets: its first, and the others, whose number tells the form.
+fn several_ok(first: u8, rest: &[u8]) -> bool
+    ensures { λ r. ⌜ r ≡ several first (now (rest .entry)) ⌝ }
+{
+    if rest.len() == 1 {
+        return follows(rest, first % 32, 0x80);
+    }
+    if rest.len() == 2 {
+        return follows(rest, first % 16, 0x800);
+    }
+    if rest.len() == 3 {
+        return follows(rest, first % 8, 0x10000);
+    }
+    false
+}
+
+// The length of a sequence that doesn't begin with an ASCII octet: the count of leading ones in its first octet.
+fn leading_ones(first: u8) -> usize
+    ensures { λ r. ⌜ Lead first r ⌝ }
+{
+    u8::leading_zeros(!first) as usize
+}
+
+// How many octets the character has with which s begins, and 0 where it begins with none.
+fn sequence(s: &[u8], tokens: bool) -> usize
+    requires { ⌜ 0 < length (now s) ⌝ }
+    ensures { λ r. ⌜ Steps tokens (now (s .entry)) r ⌝ }
+{
+    let first = s[0];
+    if first < 0x80 {
+        if single_ok(first, tokens) {
+            return 1;
+        }
+        return 0;
+    }
+    let n = leading_ones(first);
+    if n > s.len() {
+        return 0;
+    }
+    if several_ok(first, &s[1..n]) {
+        return n;
+    }
+    0
+}
+
+// Valid text, in which token octets may stand or not. It looks at each octet once.
+pub fn check(s: &[u8], tokens: bool) -> bool
+    ensures { λ r. ⌜ r ≡ text tokens (now (s .entry)) ⌝ }
+{
+    let mut at: usize = 0;
+    while at < s.len() {
+        let n = sequence(&s[at..], tokens);
+        if n == 0 {
+            return false;
+        }
+        at += n;
+    }
+    true
+}

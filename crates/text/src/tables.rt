@@ -1,0 +1,104 @@
+// The token table, an entry at a time.
+ghost use mathlib.Core.Path.{_≡_};
+ghost use Prim.Native.Nat.{_<_};
+ghost use Rattle.text.specs.Tokens.{entries, isTable};
+ghost use Rattle.text.specs.Calls.{found};
+ghost use Rattle.text.specs.Leaves.{ahead, RatedBy};
+use crate::Found;
+use crate::characters::check;
+use crate::characters::is_token;
+use crate::characters::wide;
+
+// The entry with which a part of a table begins: its tag, and the size of its text, which lies inside that part.
+enum Piece {
+    Past,
+    Entry { tag: u8, size: usize },
+}
+
+fn size_of(x: u8) -> usize
+    ensures { λ r. ⌜ r ≡ x ⌝ }
+    ensures { λ r. ⌜ r < 256 ⌝ }
+{
+    x as usize
+}
+
+fn first_entry(rest: &[u8]) -> Piece
+    ensures { λ r. ⌜ r ≡ ahead (entries (now (rest .entry))) ⌝ }
+{
+    if rest.len() < 2 {
+        return Piece::Past;
+    }
+    let size = size_of(rest[1]);
+    if rest.len() - 2 < size {
+        return Piece::Past;
+    }
+    Piece::Entry { tag: rest[0], size }
+}
+
+// The first entry with a tag. It takes a step for each entry up to that one, and a table that passes `is_table` has at most 16
+// (proofs/Sixteen, sixteen).
+pub fn find(table: &[u8], tag: u8) -> Found
+    ensures { λ r. ⌜ r ≡ found 0 (entries (now (table .entry))) tag ⌝ }
+{
+    let mut at: usize = 0;
+    while at < table.len() {
+        match first_entry(&table[at..]) {
+            Piece::Past => {
+                return Found::Nothing;
+            }
+            Piece::Entry { tag: t, size } => {
+                if t == tag {
+                    return Found::At {
+                        start: at + 2,
+                        size,
+                    };
+                }
+                at = at + 2 + size;
+            }
+        }
+    }
+    Found::Nothing
+}
+
+// Rule 11 for the first entry of what is left of a table, after entries whose tags are the bits of a mask: the entry, or Past where it breaks
+// the rule.
+fn good_entry(rest: &[u8], seen: u32) -> Piece
+    ensures { λ r. ⌜ RatedBy seen (now (rest .entry)) r ⌝ }
+{
+    match first_entry(rest) {
+        Piece::Past => Piece::Past,
+        Piece::Entry { tag, size } => {
+            if !is_token(tag) {
+                return Piece::Past;
+            }
+            if (seen >> wide(tag)) & 1 == 1 {
+                return Piece::Past;
+            }
+            let end = 2 + size;
+            if !check(&rest[2..end], false) {
+                return Piece::Past;
+            }
+            Piece::Entry { tag, size }
+        }
+    }
+}
+
+// Octets that are a token table (rule 11). It looks at each octet once.
+pub fn is_table(s: &[u8]) -> bool
+    ensures { λ r. ⌜ r ≡ isTable (now (s .entry)) ⌝ }
+{
+    let mut at: usize = 0;
+    let mut seen: u32 = 0;
+    while at < s.len() {
+        match good_entry(&s[at..], seen) {
+            Piece::Past => {
+                return false;
+            }
+            Piece::Entry { tag, size } => {
+                seen = seen | (1u32 << wide(tag));
+                at = at + 2 + size;
+            }
+        }
+    }
+    true
+}

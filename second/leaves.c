@@ -1,0 +1,128 @@
+/*
+ * leaves.c - the second program's own leaves, one question at a time.
+ *
+ * Reads questions on standard input, each a letter, a size octet and so many octets, and prints a line
+ * for each: K the kind of an element and tag, U whether octets are text, T a time, O a time's local
+ * time, B a bearer.  The functions that answer are those of second.c; only local time, which that
+ * program never needs, is worked out here.
+ */
+#define main second_main
+#include "second.c"
+#undef main
+
+static const char *const body_names[] = {"unknown", "items", "tokens", "plain", "text", "time", "bearer",
+                                          "number 1", "number 2", "number 3"};
+
+static void put_hex(const uint8_t *octets, size_t size)
+{
+    for (size_t i = 0; i < size; i++)
+        put_octet(octets[i], "0123456789abcdef");
+}
+
+static void put_field(uint64_t number)
+{
+    put_char(' ');
+    put_number(number);
+}
+
+static void answer_kind(const uint8_t *octets, size_t size)
+{
+    put_string("kind ");
+    put_string(size == 2 ? body_names[body_of_item(octets[0], octets[1])] : "unknown");
+}
+
+/* The first octet says whether token octets may stand in the text. */
+static void answer_text(const uint8_t *octets, size_t size)
+{
+    struct text_facts facts;
+    bool good = size > 0 && scan_text(octets + 1, size - 1, &no_tokens, &facts) && (octets[0] != 0 || facts.tokens == 0);
+
+    put_string(good ? "text yes" : "text no");
+}
+
+static void answer_time(const uint8_t *octets, size_t size)
+{
+    struct time_value time;
+    uint8_t normal[8];
+
+    if (!read_time(octets, size, &time)) {
+        put_string("time none");
+        return;
+    }
+    put_string("time");
+    put_field(time.date);
+    put_field(time.hours);
+    put_field(time.minutes);
+    put_field(time.seconds);
+    put_string((time.offset & 0x20) != 0 ? " minus" : " plus");
+    put_field(time.offset & HALF_HOURS);
+    put_string(" normal ");
+    put_hex(normal, (size_t)(write_time(normal, &time) - normal));
+}
+
+/* Local time is UTC moved by the offset; the day may be the one before day 0. */
+static void answer_local(const uint8_t *octets, size_t size)
+{
+    struct time_value time;
+
+    if (!read_time(octets, size, &time)) {
+        put_string("local none");
+        return;
+    }
+    int64_t moved = 30 * (int64_t)(time.offset & HALF_HOURS);
+    int64_t minutes = ((int64_t)time.date * 24 + time.hours) * 60 + time.minutes;
+    minutes += (time.offset & 0x20) != 0 ? -moved : moved;
+    bool before = minutes < 0;
+    if (before)
+        minutes += 1440; /* at most 15 and a half hours are taken away */
+    put_string(before ? "local -1" : "local");
+    if (!before)
+        put_field((uint64_t)(minutes / 1440));
+    put_field((uint64_t)(minutes / 60 % 24));
+    put_field((uint64_t)(minutes % 60));
+    put_field(time.seconds);
+}
+
+static void answer_bearer(const uint8_t *octets, size_t size)
+{
+    if (!bearer_fits(octets, size)) {
+        put_string("bearer none");
+        return;
+    }
+    size_t at = 1;
+    put_string("bearer");
+    if ((octets[0] & ENSEMBLE_FLAG) != 0) {
+        put_char(' ');
+        put_hex(octets + 1, 1);
+        put_char(' ');
+        put_hex(octets + 2, 2);
+        at += 3;
+    }
+    put_string(" sid ");
+    put_hex(octets + at, size - at);
+    put_string(" scids");
+    put_field(octets[0] & 0x0F);
+    put_string(" normal ");
+    uint8_t first = octets[0] & BEARER_MEANING;
+    put_hex(&first, 1);
+    put_hex(octets + 1, size - 1);
+}
+
+int main(void)
+{
+    uint8_t head[2], octets[256];
+
+    while (take_octets(head, 2) && take_octets(octets, head[1])) {
+        switch (head[0]) {
+        case 'K': answer_kind(octets, head[1]); break;
+        case 'U': answer_text(octets, head[1]); break;
+        case 'T': answer_time(octets, head[1]); break;
+        case 'O': answer_local(octets, head[1]); break;
+        case 'B': answer_bearer(octets, head[1]); break;
+        default: put_string("unknown question");
+        }
+        put_char('\n');
+    }
+    flush_output();
+    return 0;
+}
