@@ -25,3 +25,4 @@ pub mod Regrown
 pub mod Rebuilt
 pub mod Written
 pub mod Calls
+pub mod Lays

@@ -1,4 +1,9 @@
 pub mod Tests
+pub mod Lists
 pub mod Numbers
+pub mod Reading
+pub mod Writing
+pub mod Answers
 pub mod Frames
 pub mod Examples
+pub mod Wrong

@@ -1,13 +1,14 @@
 -- Numbers in octets, both ways.
-use mathlib.Core.Path.{_≡_, refl, ap, subst}
+use mathlib.Core.Path.{_≡_, refl, sym, ap, subst, _∙_}
 use mathlib.Core.Bool.{Bool, true, false}
-use mathlib.Core.List.{List, [], _∷_}
-use Prim.Native.Nat.{ℕ, zero, suc, _+_, _%_, _^_, _<_}
+use mathlib.Core.List.{List, [], _∷_, _++_}
+use Prim.Native.Nat.{ℕ, zero, suc, _+_, _*_, _/_, _%_, _^_, _<_}
 use native.Mathlib.Omega.{arith}
-use native.Mathlib.Nat.{div-add-mod', mod-lt, pow-succ'}
-use lib.Arith.{digits-lt, digits-div, digits-mod}
+use native.Mathlib.Nat.{div-add-mod', mod-lt, pow-suc, pow-succ', mul-assoc, add-mul, add-assoc}
+use lib.Arith.{digits-lt, digits-div, digits-mod, mod-mul}
 use lib.Dec.{ltb}
-use lib.ListN.{length, take, drop, getD, length-take, List·getD-eq-default}
+use lib.ListN.{length, take, drop, getD, length-append, length-take, List·getD-eq-default}
+use lib.Pow.{pow-add}
 use lib.Seq.{getD-drop, getD-take}
 use borrow.Author.Tests.{ltb-true, ltb-false}
 use Rattle.octets.specs.Numbers.{value, digits, Octets}
@@ -51,3 +52,26 @@ digits-value [] h = refl
 digits-value (b ∷ bs) h =
     let l = value-lt bs (λ i. h (suc i)) in
     rw (digits-div b l, digits-mod b l, digits-value bs (λ i. h (suc i)))
+
+-- octets behind octets
+pub value-append : (a b : List ℕ) → value (a ++ b) ≡ value a * 256 ^ length b + value b
+unfolding value
+value-append [] b = omega arith
+value-append (x ∷ a) b = step (value-append a b)
+  where
+    step : value (a ++ b) ≡ value a * 256 ^ length b + value b → x * 256 ^ length (a ++ b) + value (a ++ b) ≡ (x * 256 ^ length a + value a) * 256 ^ length b + value b
+    step e = rw (length-append a b, pow-add 256 (length a) (length b), e, ← mul-assoc x (256 ^ length a) (256 ^ length b), add-mul (x * 256 ^ length a) (value a) (256 ^ length b), add-assoc (x * 256 ^ length a * 256 ^ length b) (value a * 256 ^ length b) (value b))
+
+-- the digits of a number's low octets, by the first of them
+pub digits-more : (w n : ℕ) → digits (suc w) (n % 256 ^ suc w) ≡ n / 256 ^ w % 256 ∷ digits w (n % 256 ^ w)
+unfolding digits
+digits-more w n =
+    let p : 0 < 256 ^ w = pow-pos w in
+    let e : n % 256 ^ suc w ≡ n / 256 ^ w % 256 * 256 ^ w + n % 256 ^ w = ap (λ m. n % m) (pow-succ' 256 w) ∙ mod-mul n {m = 256} {c = 256 ^ w} (omega arith) p in
+    let r : n % 256 ^ w < 256 ^ w = mod-lt n p in
+    rw (e, digits-div (n / 256 ^ w % 256) r, digits-mod (n / 256 ^ w % 256) r)
+
+-- so many octets as bits
+pub pow-octets : (w : ℕ) → 2 ^ (8 * w) ≡ 256 ^ w
+pow-octets zero = refl
+pow-octets (suc w) = let e : 8 * suc w ≡ 8 * w + 8 = omega arith in ap (λ m. 2 ^ m) e ∙ pow-add 2 (8 * w) 8 ∙ ap (λ m. m * 256) (pow-octets w) ∙ sym (pow-suc 256 w)

@@ -1,1 +1,251 @@
-// Numbers in octets and the header of an item: so far the definitions alone (specs/) and their laws (proofs/).
+// Numbers in octets, the most significant first, and the header of an item: its tag and the length of its body in one of three forms (document 01, Framing).
+// Readers and writers above take headers, numbers and plain octets through the public calls alone. None asks anything of its arguments. A call that writes
+// leaves the lent octets as they were unless it answers Done.
+ghost use mathlib.Core.Path.{_≡_};
+ghost use mathlib.Core.Bool.{true};
+ghost use mathlib.Core.List.{_∷_};
+ghost use Prim.Native.Nat.{suc, _+_, _*_, _/_, _%_, _^_, _≤_, _<_};
+ghost use lib.Dec.{ltb};
+ghost use lib.ListN.{length};
+ghost use lib.Seq.{sets};
+ghost use Rattle.octets.specs.Numbers.{value, digits};
+ghost use Rattle.octets.specs.Header.{lengthField};
+ghost use Rattle.octets.specs.Calls.{headerOf, numberOf, fitsWidth, endOf, Formed, Puts};
+
+// The header with which a part begins. Found: how many octets the tag and the length take, and how many the body has, which may be more than the part holds.
+// Past: the part ends within the header.
+pub enum Header {
+    Past,
+    Found { start: usize, size: usize },
+}
+
+// The number that octets write. TooLong: there are more than four.
+pub enum Number {
+    Is(u32),
+    TooLong,
+}
+
+// Octets put into a lent slice. Done: the place behind the last of them. TooLong: what is to be written has no octets in this form, whatever the room.
+pub enum Put {
+    Done(usize),
+    NoRoom,
+    TooLong,
+}
+
+// How a length is written: as the length octet itself, or behind 0xFE in two octets, or behind 0xFF in three.
+enum LengthForm {
+    One,
+    Two,
+    Three,
+}
+
+enum End {
+    Within(usize),
+    Outside,
+}
+
+// The header of the item with which a part begins. Looks at the octets of the length alone: at most four.
+pub fn read_header(part: &[u8]) -> Header
+    ensures { λ r. ⌜ r ≡ headerOf (now (part .entry)) ⌝ }
+{
+    if part.len() < 2 {
+        return Header::Past;
+    }
+    let first = part[1];
+    if first < 0xFE {
+        return Header::Found {
+            start: 2,
+            size: wide(first),
+        };
+    }
+    if first == 0xFE {
+        if part.len() < 4 {
+            return Header::Past;
+        }
+        let size = value_of(&part[2..4]) as usize;
+        return Header::Found { start: 4, size };
+    }
+    if part.len() < 5 {
+        return Header::Past;
+    }
+    let size = value_of(&part[2..5]) as usize;
+    Header::Found { start: 5, size }
+}
+
+pub fn read_number(s: &[u8]) -> Number
+    ensures { λ r. ⌜ r ≡ numberOf (now (s .entry)) ⌝ }
+{
+    if s.len() > 4 {
+        return Number::TooLong;
+    }
+    Number::Is(value_of(s))
+}
+
+fn value_of(s: &[u8]) -> u32
+    requires { ⌜ length (now s) ≤ 4 ⌝ }
+    ensures { λ r. ⌜ r ≡ value (now (s .entry)) ⌝ }
+{
+    let mut n: u32 = 0;
+    let mut i: usize = 0;
+    while i < s.len() {
+        n = joined(n, s[i]);
+        i = i + 1;
+    }
+    n
+}
+
+// A number with one octet more behind it.
+fn joined(n: u32, b: u8) -> u32
+    requires { ⌜ n < 2 ^ 24 ⌝ }
+    ensures { λ r. ⌜ r ≡ n * 256 + b ⌝ }
+{
+    (n << 8) | (b as u32)
+}
+
+fn wide(b: u8) -> usize
+    ensures { λ r. ⌜ r ≡ b ⌝ }
+{
+    b as usize
+}
+
+// The one place that chooses the form in which a length is written: the shortest (document 01, Records and meaning). Whatever writes or measures a header goes
+// by its answer.
+fn length_form(n: usize) -> LengthForm
+    ensures { λ r. ⌜ Formed n r ⌝ }
+{
+    if n <= 0xFD {
+        return LengthForm::One;
+    }
+    if n <= 0xFFFF {
+        return LengthForm::Two;
+    }
+    LengthForm::Three
+}
+
+// How many octets the header of a body of n octets takes. Told of every n; that none has a header from 2 to the 24th on is for write_header to say.
+pub fn header_size(n: usize) -> usize
+    ensures { λ r. ⌜ r ≡ suc (length (lengthField n)) ⌝ }
+{
+    match length_form(n) {
+        LengthForm::One => 2,
+        LengthForm::Two => 4,
+        LengthForm::Three => 5,
+    }
+}
+
+// The header of a body of n octets, put at a place. TooLong: n is 2 to the 24th or more.
+pub fn write_header(out: &mut [u8], at: usize, tag: u8, n: usize) -> Put
+    ensures { λ r. ⌜ Puts (ltb n (256 ^ 3)) (tag ∷ lengthField n) at (now (out .entry)) (now (out .exit)) r ⌝ }
+{
+    if n > 0xFFFFFF {
+        return Put::TooLong;
+    }
+    let size = header_size(n);
+    let End::Within(end) = end_of(out.len(), at, size) else {
+        return Put::NoRoom;
+    };
+    out[at] = tag;
+    store_length(out, at + 1, n);
+    Put::Done(end)
+}
+
+fn store_length(out: &mut [u8], at: usize, n: usize)
+    requires { ⌜ n < 256 ^ 3 ⌝ }
+    requires { ⌜ at + length (lengthField n) ≤ length (now out) ⌝ }
+    ensures { λ _. ⌜ now (out .exit) ≡ sets (now (out .entry)) at (lengthField n) ⌝ }
+{
+    match length_form(n) {
+        LengthForm::One => {
+            store_number(out, at, 1, n as u32);
+        }
+        LengthForm::Two => {
+            out[at] = 0xFE;
+            store_number(out, at + 1, 2, n as u32);
+        }
+        LengthForm::Three => {
+            out[at] = 0xFF;
+            store_number(out, at + 1, 3, n as u32);
+        }
+    }
+}
+
+// A number in so many octets, put at a place. TooLong: there are more than four, or too few for the number.
+pub fn put_number(out: &mut [u8], at: usize, width: usize, n: u32) -> Put
+    ensures { λ r. ⌜ Puts (fitsWidth width n) (digits width n) at (now (out .entry)) (now (out .exit)) r ⌝ }
+{
+    if !fits_width(width, n) {
+        return Put::TooLong;
+    }
+    let End::Within(end) = end_of(out.len(), at, width) else {
+        return Put::NoRoom;
+    };
+    store_number(out, at, width, n);
+    Put::Done(end)
+}
+
+fn fits_width(width: usize, n: u32) -> bool
+    ensures { λ r. ⌜ r ≡ fitsWidth width n ⌝ }
+{
+    if width > 4 {
+        return false;
+    }
+    (n as u64) >> (8 * width) == 0
+}
+
+fn store_number(out: &mut [u8], at: usize, width: usize, n: u32)
+    requires { ⌜ width ≤ 4 ⌝ }
+    requires { ⌜ n < 256 ^ width ⌝ }
+    requires { ⌜ at + width ≤ length (now out) ⌝ }
+    ensures { λ _. ⌜ now (out .exit) ≡ sets (now (out .entry)) at (digits width n) ⌝ }
+{
+    let mut to = at;
+    let mut left = width;
+    while 0 < left {
+        left = left - 1;
+        out[to] = digit(n, left);
+        to = to + 1;
+    }
+}
+
+// The octet of a number that has so many behind it.
+fn digit(n: u32, place: usize) -> u8
+    requires { ⌜ place < 4 ⌝ }
+    ensures { λ r. ⌜ r ≡ n / 256 ^ place % 256 ⌝ }
+{
+    ((n >> (8 * place)) & 0xFF) as u8
+}
+
+// Octets as they stand, put at a place.
+pub fn copy_into(out: &mut [u8], at: usize, s: &[u8]) -> Put
+    ensures { λ r. ⌜ Puts true (now (s .entry)) at (now (out .entry)) (now (out .exit)) r ⌝ }
+{
+    let End::Within(end) = end_of(out.len(), at, s.len()) else {
+        return Put::NoRoom;
+    };
+    copy(out, at, s);
+    Put::Done(end)
+}
+
+fn copy(out: &mut [u8], at: usize, s: &[u8])
+    requires { ⌜ at + length (now s) ≤ length (now out) ⌝ }
+    ensures { λ _. ⌜ now (out .exit) ≡ sets (now (out .entry)) at (now (s .entry)) ⌝ }
+{
+    let mut i: usize = 0;
+    while i < s.len() {
+        out[at + i] = s[i];
+        i = i + 1;
+    }
+}
+
+// Where so many octets put at a place end, if that is within the room. No sum is made before it is known to fit.
+fn end_of(room: usize, at: usize, size: usize) -> End
+    ensures { λ r. ⌜ r ≡ endOf room at size ⌝ }
+{
+    if at > room {
+        return End::Outside;
+    }
+    if size > room - at {
+        return End::Outside;
+    }
+    End::Within(at + size)
+}

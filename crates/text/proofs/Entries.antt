@@ -20,9 +20,13 @@ use Rattle.text.specs.Leaves.{ahead, maskOf, filledAfter, Good, Rated}
 use Rattle.text.specs.declared.tables.Piece.{Piece}
 use Rattle.text.specs.declared.tables.Piece.the-variants.{Past, Entry}
 use Rattle.text.specs.declared.Found.the-variants.{At, Nothing}
-use Rattle.text.proofs.Parts.{rest-is, drop-more}
+use Rattle.octets.proofs.Lists.{part-to-end}
 use Rattle.text.proofs.Sequences.{token-facts}
 use Rattle.text.proofs.Masks.{mask-test, mask-more}
+
+-- the part after a tag octet, a length octet and so many octets of text
+drop-more : (at n : ℕ) (s : List ℕ) → drop n (drop 2 (drop at s)) ≡ drop (at + 2 + n) s
+drop-more at n s = ap (drop n) (drop-drop 2 at s) ∙ drop-drop n (at + 2) s
 
 -- ---- a table's definitions without their fuel: more of it changes nothing
 cut-same : (k j : ℕ) (o : List ℕ) → length o < k → length o < j → cut k o ≡ cut j o
@@ -137,7 +141,7 @@ module _ (table : List ℕ) (tag : ℕ) where
 
   module _ (at : ℕ) (inv : Finding table tag at) (h : at < length table) (p : Piece) (e : p ≡ ahead (entries (take (length table - at) (drop at table)))) where
     here : p ≡ ahead (entries (drop at table))
-    here = e ∙ ap (λ q. ahead (entries q)) (rest-is table at (inv .within))
+    here = e ∙ ap (λ q. ahead (entries q)) (part-to-end table at)
 
     pub find-past : p ≡ Past → Nothing ≡ found 0 (entries table) tag
     unfolding found
@@ -303,7 +307,7 @@ module _ (s : List ℕ) where
   module _ (at mask : ℕ) (inv : Tabling s at mask) (h : at < length s) (p : Piece)
       (e : (tags : List ℕ) → mask ≡ maskOf tags → Rated tags (take (length s - at) (drop at s)) p) where
     rated : Rated (inv .seen) (drop at s) p
-    rated = subst (λ q. Rated (inv .seen) q p) (rest-is s at (inv .within)) (e (inv .seen) (inv .mark))
+    rated = subst (λ q. Rated (inv .seen) q p) (part-to-end s at) (e (inv .seen) (inv .mark))
 
     pub table-past : p ≡ Past → false ≡ isTable s
     unfolding Rated

@@ -1,7 +1,6 @@
 pub mod Words
 pub mod Expansion
 pub mod Length
-pub mod Parts
 pub mod Sequences
 pub mod Masks
 pub mod Entries

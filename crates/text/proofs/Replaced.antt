@@ -18,7 +18,7 @@ use Rattle.text.specs.Leaves.{replacedBy}
 use Rattle.text.specs.declared.Expanded.the-variants.{Done, NoRoom}
 use Rattle.text.specs.declared.Found.{Found}
 use Rattle.text.specs.declared.Found.the-variants.{At, Nothing}
-use Rattle.text.proofs.Parts.{next-is, sets-append}
+use Rattle.octets.proofs.Lists.{drop-next, sets-append}
 use Rattle.text.proofs.Entries.{named, inside}
 
 -- ---- `has_text`
@@ -58,7 +58,7 @@ module _ (es : Entries) (s : List ℕ) where
   module _ (at : ℕ) (inv : Covering es s at) (h : at < length s) (r : Bool) (e : r ≡ covers es (getD s at 0)) where
     cover-step : covered es s ≡ r && covered es (drop (at + 1) s)
     unfolding covered
-    cover-step = inv .same ∙ ap (covered es) (next-is s at h) ∙ ap (λ q. q && covered es (drop (at + 1) s)) (sym e)
+    cover-step = inv .same ∙ ap (covered es) (drop-next s at 0 h) ∙ ap (λ q. q && covered es (drop (at + 1) s)) (sym e)
 
     pub cover-no : r ≡ false → false ≡ covered es s
     cover-no q = sym (cover-step ∙ rw q)
@@ -147,7 +147,7 @@ module _ (es : Entries) (s : List ℕ) (limit : ℕ) where
 
   module _ (left at : ℕ) (inv : Showing es s limit left at) (h : at < length s) (size : ℕ) (e : size ≡ length (stands es (getD s at 0))) where
     show-step : leb (shownLength es s) limit ≡ leb (size + shownLength es (drop (at + 1) s)) left
-    show-step = inv .same ∙ rw (next-is s at h, shown-cons es (getD s at 0) (drop (at + 1) s), e)
+    show-step = inv .same ∙ rw (drop-next s at 0 h, shown-cons es (getD s at 0) (drop (at + 1) s), e)
 
     pub show-stop : left < size → false ≡ leb (shownLength es s) limit
     show-stop g = sym (show-step ∙ lt-leb (size + shownLength es (drop (at + 1) s)) left (omega arith))
@@ -180,7 +180,7 @@ module _ (es : Entries) (s : List ℕ) (most : ℕ) where
 
   module _ (total at : ℕ) (inv : Sizing es s most total at) (h : at < length s) (size : ℕ) (e : size ≡ length (stands es (getD s at 0))) where
     size-step : total + size + expandedSize es (drop (at + 1) s) ≡ expandedSize es s
-    size-step = omega (arith, inv .same, ap (expandedSize es) (next-is s at h), size-cons es (getD s at 0) (drop (at + 1) s))
+    size-step = omega (arith, inv .same, ap (expandedSize es) (drop-next s at 0 h), size-cons es (getD s at 0) (drop (at + 1) s))
 
     pub size-stop : most - total ≤ size → most ≡ min most (expandedSize es s)
     size-stop g = sym (min-eq-left (omega (arith, inv .short, size-step)))
@@ -218,7 +218,7 @@ module _ (part out₀ : List ℕ) (at : ℕ) where
             within = omega arith;
             room = inv .room;
             long = length-set out (at + i) (getD part i 0) ∙ inv .long;
-            same = ap (λ (n : ℕ). sets (set out (at + i) (getD part i 0)) n (drop (i + 1) part)) (omega arith) ∙ ap (λ q. sets out (at + i) q) (sym (next-is part i h)) ∙ inv .same;
+            same = ap (λ (n : ℕ). sets (set out (at + i) (getD part i 0)) n (drop (i + 1) part)) (omega arith) ∙ ap (λ q. sets out (at + i) q) (sym (drop-next part i 0 h)) ∙ inv .same;
           }
 
 pub ruleset copy-ways = (copy-begin, copy-done, copy-in, copy-fits, copy-again)
@@ -275,7 +275,7 @@ module _ (es : Entries) (s out₀ : List ℕ) (at : ℕ) where
     module _ (h : i < length s) where
       split : expanded es (drop i s) ≡ stands es (getD s i 0) ++ expanded es (drop (i + 1) s)
       unfolding expanded
-      split = ap (expanded es) (next-is s i h)
+      split = ap (expanded es) (drop-next s i 0 h)
 
       size : length (expanded es (drop i s)) ≡ length (stands es (getD s i 0)) + length (expanded es (drop (i + 1) s))
       size = ap length split ∙ length-append (stands es (getD s i 0)) (expanded es (drop (i + 1) s))
@@ -290,7 +290,7 @@ module _ (es : Entries) (s out₀ : List ℕ) (at : ℕ) where
             within = omega arith;
             room = omega (arith, inv .room, size, e);
             long = ap length f ∙ length-sets out to (stands es (getD s i 0)) ∙ inv .long;
-            same = ap₂ (λ o (n : ℕ). sets o n (expanded es (drop (i + 1) s))) f e ∙ sets-append (stands es (getD s i 0)) (expanded es (drop (i + 1) s)) out to ∙ ap (λ q. sets out to q) (sym split) ∙ inv .same;
+            same = ap₂ (λ o (n : ℕ). sets o n (expanded es (drop (i + 1) s))) f e ∙ sets-append out to (stands es (getD s i 0)) (expanded es (drop (i + 1) s)) ∙ ap (λ q. sets out to q) (sym split) ∙ inv .same;
           }
 
 pub ruleset write-ways = (write-begin, write-done, write-long, write-room, write-again)

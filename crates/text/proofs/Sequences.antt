@@ -17,7 +17,7 @@ use Rattle.octets.specs.Numbers.{among}
 use Rattle.octets.proofs.Tests.{and-left, and-right, and-false}
 use Rattle.text.specs.Text.{layout, token, character, single, goesOn, utf8, text}
 use Rattle.text.specs.Leaves.{following, several, Lead, onward, Steps}
-use Rattle.text.proofs.Parts.{rest-is, next-is}
+use Rattle.octets.proofs.Lists.{part-to-end, drop-next}
 
 -- ---- layout and token octets
 module _ (b : ℕ) where
@@ -141,7 +141,7 @@ module _ (rest : List ℕ) (bits least : ℕ) where
 
       follow-step : following least bits rest ≡ eqb (getD rest i 0 / 64) 2 && following least (c * 64 + getD rest i 0 % 64) (drop (i + 1) rest)
       unfolding following
-      follow-step = inv .same ∙ ap (following least c) (next-is rest i h)
+      follow-step = inv .same ∙ ap (following least c) (drop-next rest i 0 h)
 
       pub follow-stop : (getD rest i 0 / 64 ≡ 2 → ⊥) → false ≡ following least bits rest
       follow-stop k = sym (follow-step ∙ rw (ne-eqb (getD rest i 0 / 64) 2 k))
@@ -352,7 +352,7 @@ module _ (t : Bool) (s : List ℕ) where
 
   module _ (at n : ℕ) (inv : Holds t s at) (h : at < length s) (w : Steps t (take (length s - at) (drop at s)) n) where
     here : Steps t (drop at s) n
-    here = subst (λ q. Steps t q n) (rest-is s at (inv .within)) w
+    here = subst (λ q. Steps t q n) (part-to-end s at) w
 
     pub check-stop : n ≡ 0 → false ≡ text t s
     unfolding onward

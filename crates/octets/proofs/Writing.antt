@@ -1,0 +1,353 @@
+-- The ways through the calls that write: room, forms of a length, numbers, headers, copies.
+use mathlib.Core.Path.{_≡_, refl, sym, ap, _∙_}
+use mathlib.Core.Bool.{Bool, true, false, cond}
+use mathlib.Core.List.{List, [], _∷_, _++_}
+use Prim.Native.Nat.{ℕ, zero, suc, _+_, _-_, _*_, _/_, _%_, _^_, _≤_, _<_}
+use native.Mathlib.Nat.{mod-eq-of-lt, div-eq-of-lt, div-lt-iff-lt-mul}
+use native.Mathlib.Numerals.{add-one}
+use native.Mathlib.Omega.{arith}
+use lib.Bits.{bitAnd, and-mask, mask-lt}
+use lib.Dec.{eqb, leb, ltb}
+use lib.ListN.{length, drop, getD, set, length-append, length-set, drop-of-length-le}
+use lib.Seq.{sets}
+use mir.Syntax.{w8, w64}
+use mir.Val.{Fits}
+use borrow.Author.Tests.{le-leb, lt-leb, leb-true, leb-false, lt-ltb, le-ltb, ltb-true, ltb-false, eq-eqb, ne-eqb}
+use Rattle.octets.specs.Numbers.{digits}
+use Rattle.octets.specs.Header.{lengthField}
+use Rattle.octets.specs.Calls.{fitsWidth, endOf, putAnswer, putOut, Puts, announced, widthOf, Formed}
+use Rattle.octets.specs.declared.Put.{Put}
+use Rattle.octets.specs.declared.End.{End}
+use Rattle.octets.specs.declared.LengthForm.{LengthForm}
+use Rattle.octets.specs.declared.LengthForm.the-variants.{One, Two, Three}
+use Rattle.octets.proofs.Tests.{and-left, and-right}
+use Rattle.octets.proofs.Lists.{drop-next}
+use Rattle.octets.proofs.Numbers.{pow-pos, pow-octets, length-digits, digits-more}
+
+-- ---- room
+pub record Ended (room at size end : ℕ) : Type 0 where
+  pub place : end ≡ at + size
+  pub inside : at + size ≤ room
+
+module _ (room at size : ℕ) where
+  outside : room < at + size → End.Outside ≡ endOf room at size
+  unfolding endOf
+  outside h = rw (lt-leb (at + size) room h)
+
+  pub end-none : room < at → End.Outside ≡ endOf room at size
+  end-none h = outside (omega arith)
+
+  module _ (h : at ≤ room) where
+    pub end-past : room - at < size → End.Outside ≡ endOf room at size
+    end-past g = outside (omega arith)
+
+    module _ (g : size ≤ room - at) where
+      pub end-within : End.Within (at + size) ≡ endOf room at size
+      unfolding endOf
+      end-within = rw (le-leb (at + size) room (omega arith))
+
+  -- what each answer says
+  pub told-within : (e : End) → e ≡ endOf room at size → (end : ℕ) → e ≡ End.Within end → Ended room at size end
+  unfolding endOf
+  told-within e k end q = go (leb (at + size) room) refl (sym q ∙ k)
+    where
+      go : (b : Bool) → leb (at + size) room ≡ b → End.Within end ≡ cond b (End.Within (at + size)) End.Outside → Ended room at size end
+      go true f p = record { place = cc; inside = leb-true (at + size) room f }
+      go false f p = let z : _≡_ {A = ℕ} 0 1 = cc in absurd (omega arith)
+
+  pub told-outside : (e : End) → e ≡ endOf room at size → e ≡ End.Outside → room < at + size
+  unfolding endOf
+  told-outside e k q = go (leb (at + size) room) refl (sym q ∙ k)
+    where
+      go : (b : Bool) → leb (at + size) room ≡ b → End.Outside ≡ cond b (End.Within (at + size)) End.Outside → room < at + size
+      go true f p = let z : _≡_ {A = ℕ} 0 1 = cc in absurd (omega arith)
+      go false f p = leb-false (at + size) room f
+
+pub ruleset end-ways = (end-none, end-past, end-within)
+
+-- ---- what is put
+module _ (exists : Bool) (octets : List ℕ) (at : ℕ) (before : List ℕ) where
+  pub puts-no : exists ≡ false → Puts exists octets at before before Put.TooLong
+  unfolding putAnswer putOut
+  puts-no h = record { answers = rw h; leaves = rw h }
+
+  module _ (h : exists ≡ true) where
+    pub puts-none : length before < at + length octets → Puts exists octets at before before Put.NoRoom
+    unfolding putAnswer putOut
+    puts-none k = let e : leb (at + length octets) (length before) ≡ false = lt-leb (at + length octets) (length before) k in record { answers = rw (h, e); leaves = rw (h, e) }
+
+    pub puts-done : (after : List ℕ) (end : ℕ) → at + length octets ≤ length before → after ≡ sets before at octets → end ≡ at + length octets → Puts exists octets at before after (Put.Done end)
+    unfolding putAnswer putOut
+    puts-done after end k p q =
+        let e : leb (at + length octets) (length before) ≡ true = le-leb (at + length octets) (length before) k in
+        record { answers = rw (h, e) (ap Put.Done q); leaves = rw (h, e) p }
+
+-- ---- forms of a length
+module _ (n : ℕ) where
+  pub form-one : n ≤ 0xFD → Formed n One
+  unfolding lengthField announced widthOf digits
+  form-one h = let e : n ≡ n / 1 = omega arith in record { field = rw (le-leb n 0xFD h) (ap (λ m. m ∷ []) e); fits = λ b. omega arith }
+
+  module _ (h : 0xFD < n) where
+    pub form-two : n ≤ 0xFFFF → Formed n Two
+    unfolding lengthField announced widthOf
+    form-two g = record { field = rw (lt-leb n 0xFD h, le-leb n 0xFFFF g); fits = λ b. omega arith }
+
+    pub form-three : 0xFFFF < n → Formed n Three
+    unfolding lengthField announced widthOf
+    form-three g = record { field = rw (lt-leb n 0xFD h, lt-leb n 0xFFFF g); fits = λ b. b }
+
+pub ruleset form-ways = (form-one, form-two, form-three)
+
+module _ (n : ℕ) (f : LengthForm) (k : Formed n f) where
+  length-field : length (lengthField n) ≡ length (announced f) + widthOf f
+  length-field = ap length (k .field) ∙ length-append (announced f) (digits (widthOf f) n) ∙ ap (λ m. length (announced f) + m) (length-digits (widthOf f) n)
+
+  pub size-one : f ≡ One → 2 ≡ suc (length (lengthField n))
+  unfolding announced widthOf
+  size-one e = rw (length-field, e)
+
+  pub size-two : f ≡ Two → 4 ≡ suc (length (lengthField n))
+  unfolding announced widthOf
+  size-two e = rw (length-field, e)
+
+  pub size-three : f ≡ Three → 5 ≡ suc (length (lengthField n))
+  unfolding announced widthOf
+  size-three e = rw (length-field, e)
+
+pub ruleset size-ways = (size-one, size-two, size-three)
+
+-- ---- one octet of a number
+module _ (n place : ℕ) where
+  pub digit-fits : Fits w8 (bitAnd (n / 2 ^ (8 * place)) 255)
+  digit-fits = record { fits = mask-lt (n / 2 ^ (8 * place)) 8 }
+
+  pub digit-is : bitAnd (n / 2 ^ (8 * place)) 255 ≡ n / 256 ^ place % 256
+  digit-is = and-mask (n / 2 ^ (8 * place)) 8 ∙ ap (λ m. n / m % 256) (pow-octets place)
+
+pub ruleset digit-ways = (digit-fits, digit-is)
+
+-- ---- a number stored from its first octet on: what is left are the digits of its low octets
+pub record Storing (out₀ : List ℕ) (at width n : ℕ) (out : List ℕ) (to left : ℕ) : Type 0 where
+  pub few : left ≤ 4
+  pub places : to + left ≡ at + width
+  pub room : at + width ≤ length out₀
+  pub long : length out ≡ length out₀
+  pub same : sets out to (digits left (n % 256 ^ left)) ≡ sets out₀ at (digits width n)
+
+module _ (out₀ : List ℕ) (at width n : ℕ) where
+  pub store-begin : width ≤ 4 → n < 256 ^ width → at + width ≤ length out₀ → Storing out₀ at width n out₀ at width
+  store-begin h g r = record { few = h; places = refl; room = r; long = refl; same = ap (λ m. sets out₀ at (digits width m)) (mod-eq-of-lt g) }
+
+  pub store-done : (out : List ℕ) (to left : ℕ) → Storing out₀ at width n out to left → left ≤ 0 → out ≡ sets out₀ at (digits width n)
+  unfolding digits
+  store-done out to zero v h = v .same
+  store-done out to (suc left) v h = absurd (omega arith)
+
+  step : (out : List ℕ) (to left b : ℕ) → Storing out₀ at width n out to (suc left) → b ≡ n / 256 ^ left % 256 → Storing out₀ at width n (set out to b) (to + 1) left
+  step out to left b v e =
+      record {
+        few = omega (arith, v .few);
+        places = omega (arith, v .places);
+        room = v .room;
+        long = length-set out to b ∙ v .long;
+        same = ap (λ m. sets (set out to b) m (digits left (n % 256 ^ left))) (add-one to) ∙ ap (λ m. sets out to (m ∷ digits left (n % 256 ^ left))) e ∙ ap (sets out to) (sym (digits-more left n)) ∙ v .same;
+      }
+
+  pub store-again : (out : List ℕ) (to left b : ℕ) → Storing out₀ at width n out to left → 0 < left → b ≡ n / 256 ^ (left - 1) % 256 → Storing out₀ at width n (set out to b) (to + 1) (left - 1)
+  store-again out to zero b v h e = absurd (omega arith)
+  store-again out to (suc left) b v h e =
+      let p : suc left - 1 ≡ left = omega arith in
+      rw p (step out to left b v (e ∙ ap (λ m. n / 256 ^ m % 256) p))
+
+  module _ (out : List ℕ) (to left : ℕ) (v : Storing out₀ at width n out to left) (h : 0 < left) where
+    pub store-place : left - 1 < 4
+    store-place = omega (arith, v .few)
+
+    pub store-in : to < length out
+    store-in = omega (arith, v .places, v .room, v .long)
+
+    pub store-fits : length out₀ < 2 ^ 64 → Fits w64 (to + 1)
+    store-fits l = record { fits = omega (arith, v .places, v .room) }
+
+pub ruleset store-ways = (store-begin, store-done, store-again, store-place, store-in, store-fits)
+
+-- ---- a copy
+pub record Copying (out₀ : List ℕ) (at : ℕ) (s out : List ℕ) (i : ℕ) : Type 0 where
+  pub within : i ≤ length s
+  pub room : at + length s ≤ length out₀
+  pub long : length out ≡ length out₀
+  pub same : sets out (at + i) (drop i s) ≡ sets out₀ at s
+
+module _ (out₀ : List ℕ) (at : ℕ) (s : List ℕ) where
+  pub copy-begin : at + length s ≤ length out₀ → Copying out₀ at s out₀ 0
+  copy-begin h = record { within = omega arith; room = h; long = refl; same = ap (λ m. sets out₀ m s) (omega arith) }
+
+  module _ (out : List ℕ) (i : ℕ) (v : Copying out₀ at s out i) where
+    pub copy-done : length s ≤ i → out ≡ sets out₀ at s
+    copy-done h = ap (λ o. sets out (at + i) o) (sym (drop-of-length-le s h)) ∙ v .same
+
+    module _ (h : i < length s) where
+      pub copy-in : at + i < length out
+      copy-in = omega (arith, v .room, v .long)
+
+      pub copy-fits : length out₀ < 2 ^ 64 → Fits w64 (at + i)
+      copy-fits l = record { fits = omega (arith, v .room) }
+
+      pub copy-again : Copying out₀ at s (set out (at + i) (getD s i 0)) (i + 1)
+      copy-again =
+          let e : at + (i + 1) ≡ suc (at + i) = omega arith in
+          record {
+            within = omega arith;
+            room = v .room;
+            long = length-set out (at + i) (getD s i 0) ∙ v .long;
+            same = ap (λ m. sets (set out (at + i) (getD s i 0)) m (drop (i + 1) s)) e ∙ ap (λ o. sets out (at + i) o) (sym (drop-next s i 0 h)) ∙ v .same;
+          }
+
+pub ruleset copy-ways = (copy-begin, copy-done, copy-in, copy-fits, copy-again)
+
+module _ (out : List ℕ) (at : ℕ) (s : List ℕ) (e : End) (k : e ≡ endOf (length out) at (length s)) where
+  pub copied-none : e ≡ End.Outside → Puts true s at out out Put.NoRoom
+  copied-none q = puts-none true s at out refl (told-outside (length out) at (length s) e k q)
+
+  module _ (end : ℕ) (q : e ≡ End.Within end) where
+    pub copied-room : at + length s ≤ length out
+    copied-room = told-within (length out) at (length s) e k end q .inside
+
+    pub copied-done : (out′ : List ℕ) → out′ ≡ sets out at s → Puts true s at out out′ (Put.Done end)
+    copied-done out′ p = puts-done true s at out refl out′ end copied-room p (told-within (length out) at (length s) e k end q .place)
+
+pub ruleset copied-ways = (copied-none, copied-room, copied-done)
+
+-- ---- a number in so many octets
+module _ (width n : ℕ) where
+  pub width-far : 4 < width → false ≡ fitsWidth width n
+  unfolding fitsWidth
+  width-far h = rw (lt-leb width 4 h)
+
+  above : (p : ℕ) → 0 < p → eqb (n / p) 0 ≡ ltb n p
+  above p h = go (ltb n p) refl
+    where
+      go : (b : Bool) → ltb n p ≡ b → eqb (n / p) 0 ≡ ltb n p
+      go true e = eq-eqb (n / p) 0 (div-eq-of-lt (ltb-true n p e)) ∙ sym e
+      go false e = ne-eqb (n / p) 0 (λ q. let z : n < 1 * p = div-lt-iff-lt-mul {k = p} {x = n} {y = 1} h .0 (omega arith) in omega (arith, ltb-false n p e)) ∙ sym e
+
+  pub width-near : width ≤ 4 → eqb (n / 2 ^ (8 * width)) 0 ≡ fitsWidth width n
+  unfolding fitsWidth
+  width-near h = rw (pow-octets width, le-leb width 4 h) (above (256 ^ width) (pow-pos width))
+
+pub ruleset width-ways = (width-far, width-near)
+
+module _ (out : List ℕ) (at width n : ℕ) (f : Bool) (g : f ≡ fitsWidth width n) where
+  pub number-no : f ≡ false → Puts (fitsWidth width n) (digits width n) at out out Put.TooLong
+  number-no q = puts-no (fitsWidth width n) (digits width n) at out (sym g ∙ q)
+
+  module _ (u : f ≡ true) where
+    fits : fitsWidth width n ≡ true
+    fits = sym g ∙ u
+
+    pub number-width : width ≤ 4
+    unfolding fitsWidth
+    number-width = leb-true width 4 (and-left (leb width 4) (ltb n (256 ^ width)) fits)
+
+    pub number-small : n < 256 ^ width
+    unfolding fitsWidth
+    number-small = ltb-true n (256 ^ width) (and-right (leb width 4) (ltb n (256 ^ width)) fits)
+
+    module _ (e : End) (k : e ≡ endOf (length out) at width) where
+      pub number-none : e ≡ End.Outside → Puts (fitsWidth width n) (digits width n) at out out Put.NoRoom
+      number-none q = puts-none (fitsWidth width n) (digits width n) at out fits (rw length-digits (told-outside (length out) at width e k q))
+
+      module _ (end : ℕ) (q : e ≡ End.Within end) where
+        pub number-room : at + width ≤ length out
+        number-room = told-within (length out) at width e k end q .inside
+
+        pub number-done : (out′ : List ℕ) → out′ ≡ sets out at (digits width n) → Puts (fitsWidth width n) (digits width n) at out out′ (Put.Done end)
+        number-done out′ p =
+            puts-done (fitsWidth width n) (digits width n) at out fits out′ end (rw length-digits number-room) p (told-within (length out) at width e k end q .place ∙ ap (λ m. at + m) (sym (length-digits width n)))
+
+pub ruleset put-number-ways = (number-no, number-width, number-small, number-none, number-room, number-done)
+
+-- ---- a length in its form
+module _ (out : List ℕ) (at n : ℕ) (f : LengthForm) (k : Formed n f) where
+  module _ (h : n < 256 ^ 3) where
+    pub one-fits : f ≡ One → n < 256 ^ 1
+    unfolding widthOf
+    one-fits e = rw e at (k .fits h)
+
+    pub two-fits : f ≡ Two → n < 256 ^ 2
+    unfolding widthOf
+    two-fits e = rw e at (k .fits h)
+
+  module _ (r : at + length (lengthField n) ≤ length out) where
+    room-in : at + (length (announced f) + widthOf f) ≤ length out
+    room-in = rw (length-field n f k) at r
+
+    pub one-room : f ≡ One → at + 1 ≤ length out
+    unfolding announced widthOf
+    one-room e = rw e at room-in
+
+    pub two-in : f ≡ Two → at < length out
+    unfolding announced widthOf
+    two-in e = let q = rw e at room-in in omega arith
+
+    pub two-room : (b : ℕ) → f ≡ Two → at + 1 + 2 ≤ length (set out at b)
+    unfolding announced widthOf
+    two-room b e = let q = rw e at room-in in simp length-set (omega arith)
+
+    pub three-in : f ≡ Three → at < length out
+    unfolding announced widthOf
+    three-in e = let q = rw e at room-in in omega arith
+
+    pub three-room : (b : ℕ) → f ≡ Three → at + 1 + 3 ≤ length (set out at b)
+    unfolding announced widthOf
+    three-room b e = let q = rw e at room-in in simp length-set (omega arith)
+
+  laid : (out′ : List ℕ) → out′ ≡ sets out at (announced f ++ digits (widthOf f) n) → out′ ≡ sets out at (lengthField n)
+  laid out′ e = e ∙ ap (sets out at) (sym (k .field))
+
+  pub one-done : (out′ : List ℕ) → f ≡ One → out′ ≡ sets out at (digits 1 n) → out′ ≡ sets out at (lengthField n)
+  unfolding announced widthOf
+  one-done out′ e q = laid out′ (rw e q)
+
+  pub two-done : (out′ : List ℕ) → f ≡ Two → out′ ≡ sets (set out at 0xFE) (at + 1) (digits 2 n) → out′ ≡ sets out at (lengthField n)
+  unfolding announced widthOf
+  two-done out′ e q = laid out′ (rw e (q ∙ ap (λ m. sets (set out at 0xFE) m (digits 2 n)) (add-one at)))
+
+  pub three-done : (out′ : List ℕ) → f ≡ Three → out′ ≡ sets (set out at 0xFF) (at + 1) (digits 3 n) → out′ ≡ sets out at (lengthField n)
+  unfolding announced widthOf
+  three-done out′ e q = laid out′ (rw e (q ∙ ap (λ m. sets (set out at 0xFF) m (digits 3 n)) (add-one at)))
+
+pub same-after-set : (out : List ℕ) (at b : ℕ) (out′ : List ℕ) → length out′ ≡ length (set out at b) → length out′ ≡ length out
+same-after-set out at b out′ e = e ∙ length-set out at b
+
+pub ruleset length-ways = (one-fits, two-fits, one-room, two-in, two-room, three-in, three-room, one-done, two-done, three-done, same-after-set)
+
+-- ---- a header
+module _ (out : List ℕ) (at tag n : ℕ) where
+  pub header-long : 0xFFFFFF < n → Puts (ltb n (256 ^ 3)) (tag ∷ lengthField n) at out out Put.TooLong
+  header-long h = puts-no (ltb n (256 ^ 3)) (tag ∷ lengthField n) at out (le-ltb n (256 ^ 3) (omega arith))
+
+  module _ (h : n ≤ 0xFFFFFF) (size : ℕ) (l : size ≡ suc (length (lengthField n))) (e : End) (k : e ≡ endOf (length out) at size) where
+    short : ltb n (256 ^ 3) ≡ true
+    short = lt-ltb n (256 ^ 3) (omega arith)
+
+    pub header-none : e ≡ End.Outside → Puts (ltb n (256 ^ 3)) (tag ∷ lengthField n) at out out Put.NoRoom
+    header-none q = puts-none (ltb n (256 ^ 3)) (tag ∷ lengthField n) at out short (rw (← l) (told-outside (length out) at size e k q))
+
+    module _ (end : ℕ) (q : e ≡ End.Within end) where
+      room : at + size ≤ length out
+      room = told-within (length out) at size e k end q .inside
+
+      pub header-in : at < length out
+      header-in = omega (arith, room)
+
+      pub header-room : at + 1 + length (lengthField n) ≤ length (set out at tag)
+      header-room = simp length-set (omega (arith, room))
+
+      pub header-done : (out′ : List ℕ) → out′ ≡ sets (set out at tag) (at + 1) (lengthField n) → Puts (ltb n (256 ^ 3)) (tag ∷ lengthField n) at out out′ (Put.Done end)
+      header-done out′ p =
+          puts-done (ltb n (256 ^ 3)) (tag ∷ lengthField n) at out short out′ end (rw (← l) room) (p ∙ ap (λ m. sets (set out at tag) m (lengthField n)) (add-one at))
+          (told-within (length out) at size e k end q .place ∙ ap (λ m. at + m) l)
+
+pub ruleset write-ways = (header-long, header-none, header-in, header-room, header-done, same-after-set)

@@ -1,0 +1,94 @@
+-- Wrong answers of the calls, refuted at an input: what a slip in the definitions or in the code would answer.
+use mathlib.Core.Path.{_≡_, refl, ap}
+use mathlib.Core.Bool.{true}
+use mathlib.Core.List.{List, [], _∷_}
+use Prim.Native.Nat.{ℕ, suc, _^_}
+use native.Mathlib.Omega.{arith}
+use lib.Dec.{ltb}
+use lib.ListN.{length, getD}
+use Rattle.octets.specs.Numbers.{value, digits}
+use Rattle.octets.specs.Header.{headerSize, bodySize, lengthField}
+use Rattle.octets.specs.Calls.{headerOf, numberOf, fitsWidth, putAnswer, putOut, Puts}
+use Rattle.octets.specs.declared.Header.{Header}
+use Rattle.octets.specs.declared.Number.{Number}
+use Rattle.octets.specs.declared.Put.{Put}
+
+-- ---- read_header: 0xFE taken for a size; the least significant octet first; a header that is cut off; a body that is, which isn't for the header to say
+long-header : headerOf (0x03 ∷ 0xFE ∷ 0x01 ∷ 0x02 ∷ []) ≡ Header.Found 4 0x0102
+unfolding headerOf headerSize bodySize value
+long-header = refl
+
+pub header-announced : headerOf (0x03 ∷ 0xFE ∷ 0x01 ∷ 0x02 ∷ []) ≡ Header.Found 2 0xFE → ⊥
+header-announced h = let z : _≡_ {A = ℕ} 4 2 = cc long-header in omega arith
+
+pub header-backwards : headerOf (0x03 ∷ 0xFE ∷ 0x01 ∷ 0x02 ∷ []) ≡ Header.Found 4 0x0201 → ⊥
+header-backwards h = let z : _≡_ {A = ℕ} 0x0102 0x0201 = cc long-header in omega arith
+
+pub header-cut : headerOf (0x03 ∷ 0xFF ∷ 0x00 ∷ 0x00 ∷ []) ≡ Header.Found 5 0 → ⊥
+unfolding headerOf headerSize bodySize
+header-cut h = let z : _≡_ {A = ℕ} 0 1 = cc h in omega arith
+
+pub header-body : headerOf (0x03 ∷ 0x05 ∷ []) ≡ Header.Past → ⊥
+unfolding headerOf headerSize bodySize
+header-body h = let z : _≡_ {A = ℕ} 0 1 = cc h in omega arith
+
+-- ---- header_size: one octet long forms from 253 on, and up to 254; 65,536 in two octets
+pub size-early : suc (length (lengthField 0xFD)) ≡ 4 → ⊥
+unfolding lengthField
+size-early h = omega arith
+
+pub size-late : suc (length (lengthField 0xFE)) ≡ 2 → ⊥
+unfolding lengthField digits
+size-late h = omega arith
+
+pub size-middle : suc (length (lengthField 0x10000)) ≡ 4 → ⊥
+unfolding lengthField digits
+size-middle h = omega arith
+
+-- ---- write_header: no room where the octets just fit; what fits of it written; 2 to the 24th cut to three octets
+pub written-just : (after : List ℕ) → Puts (ltb 2 (256 ^ 3)) (0x03 ∷ lengthField 2) 1 (9 ∷ 9 ∷ 9 ∷ []) after Put.NoRoom → ⊥
+unfolding lengthField putAnswer
+written-just after p = let h = p .answers in let z : _≡_ {A = ℕ} 0 1 = cc h in omega arith
+
+pub written-part : Puts (ltb 0xFE (256 ^ 3)) (0x03 ∷ lengthField 0xFE) 0 (9 ∷ 9 ∷ 9 ∷ []) (0x03 ∷ 0xFE ∷ 0x00 ∷ []) Put.NoRoom → ⊥
+unfolding lengthField digits putOut
+written-part p = let z : _≡_ {A = ℕ} 0x03 9 = ap (λ l. getD l 0 0) (p .leaves) in omega arith
+
+pub written-long : (after : List ℕ) → Puts (ltb 0x1000000 (256 ^ 3)) (0x03 ∷ lengthField 0x1000000) 0 (9 ∷ 9 ∷ 9 ∷ 9 ∷ 9 ∷ []) after (Put.Done 5) → ⊥
+unfolding putAnswer
+written-long after p = let h = p .answers in let z : _≡_ {A = ℕ} 0 1 = cc h in omega arith
+
+-- ---- read_number: the least significant octet first; five octets for the zeros before a small number
+pub number-backwards : numberOf (0x01 ∷ 0x02 ∷ []) ≡ Number.Is 0x0201 → ⊥
+unfolding numberOf value
+number-backwards h = let z : _≡_ {A = ℕ} 0x0102 0x0201 = cc h in omega arith
+
+pub number-five : numberOf (0 ∷ 0 ∷ 0 ∷ 0 ∷ 7 ∷ []) ≡ Number.Is 7 → ⊥
+unfolding numberOf
+number-five h = let z : _≡_ {A = ℕ} 0 1 = cc h in omega arith
+
+-- ---- put_number: the least significant octet first; a number cut to its width; the octets' count for the place behind them
+pub put-backwards : (answer : Put) → Puts (fitsWidth 2 0x0102) (digits 2 0x0102) 0 (9 ∷ 9 ∷ []) (0x02 ∷ 0x01 ∷ []) answer → ⊥
+unfolding fitsWidth digits putOut
+put-backwards answer p = let z : _≡_ {A = ℕ} 2 1 = ap (λ l. getD l 0 0) (p .leaves) in omega arith
+
+pub put-cut : (after : List ℕ) → Puts (fitsWidth 1 0x0102) (digits 1 0x0102) 0 (9 ∷ 9 ∷ []) after (Put.Done 1) → ⊥
+unfolding fitsWidth putAnswer
+put-cut after p = let h = p .answers in let z : _≡_ {A = ℕ} 0 1 = cc h in omega arith
+
+pub put-count : (after : List ℕ) → Puts (fitsWidth 1 7) (digits 1 7) 1 (9 ∷ 9 ∷ []) after (Put.Done 1) → ⊥
+unfolding fitsWidth digits putAnswer
+put-count after p = let h = p .answers in let z : _≡_ {A = ℕ} 1 2 = cc h in omega arith
+
+-- ---- copy_into: as much as fits; at the start and not at the place; the place behind the lent slice for room
+pub copied-clipped : (answer : Put) → Puts true (1 ∷ 2 ∷ []) 1 (9 ∷ 9 ∷ []) (9 ∷ 1 ∷ []) answer → ⊥
+unfolding putOut
+copied-clipped answer p = let z : _≡_ {A = ℕ} 1 9 = ap (λ l. getD l 1 0) (p .leaves) in omega arith
+
+pub copied-start : (answer : Put) → Puts true (1 ∷ []) 1 (9 ∷ 9 ∷ []) (1 ∷ 9 ∷ []) answer → ⊥
+unfolding putOut
+copied-start answer p = let z : _≡_ {A = ℕ} 1 9 = ap (λ l. getD l 0 0) (p .leaves) in omega arith
+
+pub copied-end : (after : List ℕ) → Puts true (1 ∷ []) 2 (9 ∷ 9 ∷ []) after (Put.Done 3) → ⊥
+unfolding putAnswer
+copied-end after p = let h = p .answers in let z : _≡_ {A = ℕ} 0 1 = cc h in omega arith

@@ -1,0 +1,61 @@
+-- What the calls of this crate answer, and what a lent slice of octets then holds.
+use mathlib.Core.Path.{_≡_}
+use mathlib.Core.Bool.{Bool, cond, _&&_}
+use mathlib.Core.List.{List, [], _∷_, _++_}
+use Prim.Native.Nat.{ℕ, _+_, _^_, _<_}
+use lib.Dec.{leb, ltb}
+use lib.ListN.{length}
+use lib.Seq.{sets}
+use Rattle.octets.specs.Numbers.{value, digits}
+use Rattle.octets.specs.Header.{headerSize, bodySize, lengthField}
+use Rattle.octets.specs.declared.Header.{Header}
+use Rattle.octets.specs.declared.Header.the-variants.{Past, Found}
+use Rattle.octets.specs.declared.Number.{Number}
+use Rattle.octets.specs.declared.Put.{Put}
+use Rattle.octets.specs.declared.End.{End}
+use Rattle.octets.specs.declared.LengthForm.{LengthForm}
+use Rattle.octets.specs.declared.LengthForm.the-variants.{One, Two, Three}
+
+-- the header with which a part begins, or that the part ends within it (document 01, Framing, and 2 of the refusal numbers)
+unfoldable pub headerOf : List ℕ → Header
+headerOf part = cond (leb (headerSize part) (length part)) (Found (headerSize part) (bodySize part)) Past
+
+-- the number that at most four octets write
+unfoldable pub numberOf : List ℕ → Number
+numberOf s = cond (leb (length s) 4) (Number.Is (value s)) Number.TooLong
+
+-- a number has octets of this width: four at most, and enough of them
+unfoldable pub fitsWidth : (width n : ℕ) → Bool
+fitsWidth width n = leb width 4 && ltb n (256 ^ width)
+
+-- where so many octets put at a place of a room end
+unfoldable pub endOf : (room at size : ℕ) → End
+endOf room at size = cond (leb (at + size) room) (End.Within (at + size)) End.Outside
+
+-- putting octets at a place of a lent slice, where there are such octets: the answer, and what the slice then holds. Unless they lie within it whole, it holds
+-- what it held before (document 01, Refusal numbers: a call that refuses changes nothing that it was lent)
+unfoldable pub putAnswer : (exists : Bool) (octets : List ℕ) (at : ℕ) (before : List ℕ) → Put
+putAnswer exists octets at before = cond exists (cond (leb (at + length octets) (length before)) (Put.Done (at + length octets)) Put.NoRoom) Put.TooLong
+
+unfoldable pub putOut : (exists : Bool) (octets : List ℕ) (at : ℕ) (before : List ℕ) → List ℕ
+putOut exists octets at before = cond (exists && leb (at + length octets) (length before)) (sets before at octets) before
+
+pub record Puts (exists : Bool) (octets : List ℕ) (at : ℕ) (before after : List ℕ) (answer : Put) : Type 0 where
+  pub answers : answer ≡ putAnswer exists octets at before
+  pub leaves : after ≡ putOut exists octets at before
+
+-- a form of the length field: the octet that announces it, and how many octets the number then takes
+unfoldable pub announced : LengthForm → List ℕ
+announced One = []
+announced Two = 0xFE ∷ []
+announced Three = 0xFF ∷ []
+
+unfoldable pub widthOf : LengthForm → ℕ
+widthOf One = 1
+widthOf Two = 2
+widthOf Three = 3
+
+-- the form in which the length field of normal form stands. It has room for every length that has a field at all
+pub record Formed (n : ℕ) (form : LengthForm) : Type 0 where
+  pub field : lengthField n ≡ announced form ++ digits (widthOf form) n
+  pub fits : n < 256 ^ 3 → n < 256 ^ widthOf form
