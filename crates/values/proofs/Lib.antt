@@ -1,5 +1,12 @@
+pub mod Shifts
 pub mod Times
+pub mod TimeForm
 pub mod Bearers
+pub mod BearerForm
 pub mod Values
+pub mod Laws
+pub mod ValueForm
 pub mod Known
+pub mod Lookup
 pub mod Examples
+pub mod Wrong

@@ -3,3 +3,6 @@ pub mod Times
 pub mod Bearers
 pub mod Values
 pub mod Proper
+pub mod Index
+pub mod Layout
+pub mod Calls

@@ -1,4 +1,17 @@
-// Kinds of values, times and bearers: so far the types that code and definitions share, the definitions (specs/) and their laws (proofs/).
+// Kinds of values, times and bearers: the types that code and definitions share, and the calls that look a pair up, take values apart
+// and put them together. No call has a `requires`: octets that are no value, a time out of range or a room too small get an answer.
+
+mod bearer_form;
+mod numbers;
+mod table;
+mod time_form;
+mod value_form;
+
+pub use table::is_attribute;
+pub use table::known_kind;
+pub use value_form::fits_kind;
+pub use value_form::normal_size;
+pub use value_form::put_normal;
 
 // The kinds of number that document 01 names; each has a width of its own.
 pub enum NumberKind {
@@ -49,4 +62,35 @@ pub struct Bearer {
     pub long: bool,
     pub sid: u32,
     pub scids: u8,
+}
+
+// What the table of pairs says of an item: not known, or what its body holds.
+pub enum KnownKind {
+    Unknown,
+    Known(Kind),
+}
+
+// The time that octets hold, if they hold one.
+pub enum TakenTime {
+    Good(Time),
+    Bad,
+}
+
+// The bearer that octets hold, if they hold one.
+pub enum TakenBearer {
+    Good(Bearer),
+    Bad,
+}
+
+// How a call that writes octets ended: where they end, or that they have no room, or that there is nothing to write. Only the first wrote.
+pub enum Put {
+    Done(usize),
+    NoRoom,
+    Invalid,
+}
+
+// The size in normal form of octets that are a value of their kind.
+pub enum NormalSize {
+    Octets(usize),
+    NoValue,
 }

@@ -1,0 +1,46 @@
+use Rattle.values.proofs.Shifts.{put-ways, put-valid, put-room, end-fits}
+use borrow.Author.Tests.{not-true, not-false}
+use borrow.Author.Needs.{needs}
+use Rattle.values.proofs.Time.put.Statement.{statement}
+use Rattle.values.proofs.Time.put.Tie as tie
+
+valid-requires : tie.Need-valid-requires
+valid-requires c κs = search needs
+
+returns : tie.Need-returns
+returns c = search (put-ways, not-true, not-false, needs)
+
+size-requires : tie.Need-size-requires
+size-requires c κs = search needs
+
+has-room-requires : tie.Need-has-room-requires
+has-room-requires c κs = search needs
+
+returns-2 : tie.Need-returns-2
+returns-2 c = search (put-ways, not-true, not-false, needs)
+
+store-requires : tie.Need-store-requires
+store-requires c κs = (search (put-valid, not-true, not-false, needs), search (put-room, not-true, not-false, needs))
+
+add-t7 : tie.Need-add-t7
+add-t7 c = search (end-fits, not-true, not-false, needs)
+
+same-length : tie.Need-same-length
+same-length c = search needs
+
+returns-3 : tie.Need-returns-3
+returns-3 c = search (put-ways, not-true, not-false, needs)
+
+pub put-spec : {M : Type 1} → statement M
+put-spec =
+    tie.close
+    (tie.spec
+    valid-requires
+    returns
+    size-requires
+    has-room-requires
+    returns-2
+    store-requires
+    add-t7
+    same-length
+    returns-3)

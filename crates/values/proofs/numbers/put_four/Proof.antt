@@ -1,0 +1,23 @@
+use Rattle.values.proofs.Shifts.{low-half, four-room, put-four}
+use borrow.Author.Needs.{needs}
+use Rattle.values.proofs.numbers.put_four.Statement.{statement}
+use Rattle.values.proofs.numbers.put_four.Tie as tie
+
+put-two-requires : tie.Need-put-two-requires
+put-two-requires c κs = search needs
+
+add-put-two : tie.Need-add-put-two
+add-put-two c = search needs
+
+put-two-requires-2 : tie.Need-put-two-requires-2
+put-two-requires-2 c κs = (search (low-half, needs), search (four-room, needs))
+
+same-length : tie.Need-same-length
+same-length c = search needs
+
+returns : tie.Need-returns
+returns c = search (put-four, needs)
+
+pub put-four-spec : {M : Type 1} → statement M
+put-four-spec =
+    tie.close (tie.spec put-two-requires add-put-two put-two-requires-2 same-length returns)

@@ -1,0 +1,179 @@
+// Values by kind: whether octets are one, how large its normal octets are, and those octets written.
+ghost use mathlib.Core.Path.{_≡_};
+ghost use mathlib.Core.Bool.{true};
+ghost use Prim.Native.Nat.{_+_, _≤_};
+ghost use lib.ListN.{length};
+ghost use lib.Seq.{sets};
+ghost use Rattle.values.specs.declared.Kind.the-variants.{HoldsTime, HoldsBearer, HoldsNumber};
+ghost use Rattle.values.specs.Times.{isTime};
+ghost use Rattle.values.specs.Bearers.{isBearer};
+ghost use Rattle.values.specs.Values.{width, fits};
+ghost use Rattle.values.specs.Calls.{normalOctets, normalSize, Puts};
+use crate::Bearer;
+use crate::Kind;
+use crate::NormalSize;
+use crate::NumberKind;
+use crate::Put;
+use crate::TakenBearer;
+use crate::TakenTime;
+use crate::Time;
+use crate::numbers::has_room;
+
+// Rule 9: whether octets are a value of their kind. Text, tokens, items and plain octets always are.
+pub fn fits_kind(kind: Kind, s: &[u8]) -> bool
+    ensures { λ r. ⌜ r ≡ fits kind (now (s .entry)) ⌝ }
+{
+    match kind {
+        Kind::HoldsItems => true,
+        Kind::HoldsTokens => true,
+        Kind::HoldsText => true,
+        Kind::HoldsPlain => true,
+        Kind::HoldsTime => is_time(s),
+        Kind::HoldsBearer => is_bearer(s),
+        Kind::HoldsNumber(n) => has_width(n, s),
+    }
+}
+
+// How many octets the normal form of a value has.
+pub fn normal_size(kind: Kind, s: &[u8]) -> NormalSize
+    ensures { λ r. ⌜ r ≡ normalSize kind (now (s .entry)) ⌝ }
+{
+    match kind {
+        Kind::HoldsItems => NormalSize::Octets(s.len()),
+        Kind::HoldsTokens => NormalSize::Octets(s.len()),
+        Kind::HoldsText => NormalSize::Octets(s.len()),
+        Kind::HoldsPlain => NormalSize::Octets(s.len()),
+        Kind::HoldsTime => time_size(s),
+        Kind::HoldsBearer => bearer_size(s),
+        Kind::HoldsNumber(n) => number_size(n, s),
+    }
+}
+
+// The normal octets of a value, written from a place on.
+pub fn put_normal(kind: Kind, s: &[u8], out: &mut [u8], at: usize) -> Put
+    ensures { λ r. ⌜ Puts (fits kind (now (s .entry))) (normalOctets kind (now (s .entry))) (now (out .entry)) at r (now (out .exit)) ⌝ }
+{
+    match kind {
+        Kind::HoldsItems => put_octets(s, out, at),
+        Kind::HoldsTokens => put_octets(s, out, at),
+        Kind::HoldsText => put_octets(s, out, at),
+        Kind::HoldsPlain => put_octets(s, out, at),
+        Kind::HoldsTime => put_time(s, out, at),
+        Kind::HoldsBearer => put_bearer(s, out, at),
+        Kind::HoldsNumber(n) => put_number(n, s, out, at),
+    }
+}
+
+fn is_time(s: &[u8]) -> bool
+    ensures { λ r. ⌜ r ≡ isTime (now (s .entry)) ⌝ }
+{
+    match Time::take(s) {
+        TakenTime::Good(_) => true,
+        TakenTime::Bad => false,
+    }
+}
+
+fn is_bearer(s: &[u8]) -> bool
+    ensures { λ r. ⌜ r ≡ isBearer (now (s .entry)) ⌝ }
+{
+    match Bearer::take(s) {
+        TakenBearer::Good(_) => true,
+        TakenBearer::Bad => false,
+    }
+}
+
+// How many octets a number of the kind has.
+fn width_of(n: NumberKind) -> usize
+    ensures { λ r. ⌜ r ≡ width n ⌝ }
+{
+    match n {
+        NumberKind::Duration => 2,
+        NumberKind::ShortId => 3,
+        NumberKind::Enumerated => 1,
+        NumberKind::Integer => 2,
+    }
+}
+
+fn has_width(n: NumberKind, s: &[u8]) -> bool
+    ensures { λ r. ⌜ r ≡ fits (HoldsNumber n) (now (s .entry)) ⌝ }
+{
+    s.len() == width_of(n)
+}
+
+fn time_size(s: &[u8]) -> NormalSize
+    ensures { λ r. ⌜ r ≡ normalSize HoldsTime (now (s .entry)) ⌝ }
+{
+    match Time::take(s) {
+        TakenTime::Good(t) => NormalSize::Octets(t.size()),
+        TakenTime::Bad => NormalSize::NoValue,
+    }
+}
+
+fn bearer_size(s: &[u8]) -> NormalSize
+    ensures { λ r. ⌜ r ≡ normalSize HoldsBearer (now (s .entry)) ⌝ }
+{
+    match Bearer::take(s) {
+        TakenBearer::Good(b) => NormalSize::Octets(b.size()),
+        TakenBearer::Bad => NormalSize::NoValue,
+    }
+}
+
+fn number_size(n: NumberKind, s: &[u8]) -> NormalSize
+    ensures { λ r. ⌜ r ≡ normalSize (HoldsNumber n) (now (s .entry)) ⌝ }
+{
+    if has_width(n, s) {
+        return NormalSize::Octets(s.len());
+    }
+    NormalSize::NoValue
+}
+
+fn put_time(s: &[u8], out: &mut [u8], at: usize) -> Put
+    ensures { λ r. ⌜ Puts (fits HoldsTime (now (s .entry))) (normalOctets HoldsTime (now (s .entry))) (now (out .entry)) at r (now (out .exit)) ⌝ }
+{
+    match Time::take(s) {
+        TakenTime::Good(t) => t.put(out, at),
+        TakenTime::Bad => Put::Invalid,
+    }
+}
+
+fn put_bearer(s: &[u8], out: &mut [u8], at: usize) -> Put
+    ensures { λ r. ⌜ Puts (fits HoldsBearer (now (s .entry))) (normalOctets HoldsBearer (now (s .entry))) (now (out .entry)) at r (now (out .exit)) ⌝ }
+{
+    match Bearer::take(s) {
+        TakenBearer::Good(b) => b.put(out, at),
+        TakenBearer::Bad => Put::Invalid,
+    }
+}
+
+// The octets of a number of the right width are its normal octets.
+fn put_number(n: NumberKind, s: &[u8], out: &mut [u8], at: usize) -> Put
+    ensures { λ r. ⌜ Puts (fits (HoldsNumber n) (now (s .entry))) (normalOctets (HoldsNumber n) (now (s .entry))) (now (out .entry)) at r (now (out .exit)) ⌝ }
+{
+    if has_width(n, s) {
+        return put_octets(s, out, at);
+    }
+    Put::Invalid
+}
+
+// Octets as they stand.
+fn put_octets(s: &[u8], out: &mut [u8], at: usize) -> Put
+    ensures { λ r. ⌜ Puts true (now (s .entry)) (now (out .entry)) at r (now (out .exit)) ⌝ }
+{
+    let size = s.len();
+    if !has_room(out.len(), at, size) {
+        return Put::NoRoom;
+    }
+    copy(s, out, at);
+    Put::Done(at + size)
+}
+
+fn copy(s: &[u8], out: &mut [u8], at: usize)
+    requires { ⌜ at + length (now s) ≤ length (now out) ⌝ }
+    ensures { λ _. ⌜ now (out .exit) ≡ sets (now (out .entry)) at (now (s .entry)) ⌝ }
+{
+    let mut i = 0;
+    while i < s.len() {
+        out[at + i] = s[i];
+        i = i + 1;
+    }
+}
