@@ -1,0 +1,269 @@
+-- The rules of one item, on each way through the code's tests.
+use mathlib.Core.Path.{_≡_, refl, sym, ap, _∙_}
+use mathlib.Core.Bool.{Bool, true, false, _&&_, _||_, false≢true}
+use mathlib.Core.Logic.{⊎-elim}
+use mathlib.Core.Option.{Option, none, some}
+use mathlib.Core.List.{List, [], _∷_}
+use Prim.Native.Nat.{ℕ, _-_, _≤_, _<_}
+use native.Mathlib.Omega.{arith}
+use lib.Dec.{eqb, leb}
+use types.Run.{OneOf}
+use denote.Enum.Declared.{tagOf}
+use borrow.Author.Tests.{le-leb, lt-leb, ne-eqb, eq-eqb}
+use Rattle.octets.specs.Numbers.{among}
+use Rattle.octets.proofs.Tests.{or-true}
+use Rattle.text.specs.Text.{text}
+use Rattle.text.specs.Tokens.{entries, isTable, covered, shownLength}
+use Rattle.values.specs.declared.Kind.{Kind}
+use Rattle.values.proofs.Kind.{the-type}
+use Rattle.values.specs.declared.Kind.the-variants.{HoldsItems, HoldsTokens, HoldsText, HoldsPlain, HoldsTime, HoldsBearer, HoldsNumber}
+use Rattle.values.specs.Table.{known, attribute}
+use Rattle.values.specs.Values.{fits}
+use Rattle.format.specs.declared.Refusal.{Refusal}
+use Rattle.format.specs.Answers.{refusal}
+use Rattle.format.specs.Judge.{isTop, isKnown, isText, isTokens, isValue, latest, limit, notAbove, shown, ofTop, rule, first, kindRules, itemRules}
+use Rattle.format.proofs.Rules.{first-one}
+use Rattle.values.specs.Calls.{asKnown, knownKind}
+use Rattle.values.specs.declared.KnownKind.{KnownKind}
+use Rattle.values.specs.declared.KnownKind.the-variants.{Unknown, Known}
+use Rattle.judge.specs.Says.{ctx, bare, depthOf, asKind, asLimit, limited, checked, sorted, hasBit, Seen, ItemSays}
+use Rattle.judge.specs.declared.tags.Limit.{Limit}
+use Rattle.judge.specs.declared.tags.Limit.the-variants.{Unlimited, AtMost}
+use Rattle.judge.specs.declared.Check.{Check}
+use Rattle.judge.specs.declared.Check.the-variants.{Kept, Broken}
+use Rattle.judge.specs.declared.Progress.{Progress}
+use Rattle.judge.specs.declared.Sort.the-variants.{Skip, Leaf, Table, Element}
+use Rattle.judge.proofs.Masks.{twice-is}
+
+-- what the lookup answers, in the definition's words
+pub kind-known : (k : KnownKind) (parent tag : ℕ) → k ≡ knownKind parent tag → asKind k ≡ known parent tag
+unfolding knownKind asKind asKnown
+kind-known k parent tag e = ap asKind e ∙ same (known parent tag)
+  where
+    same : (o : Option Kind) → asKind (asKnown o) ≡ o
+    same none = refl
+    same (some k) = refl
+
+-- rules 12 and 13
+module _ (parent tag : ℕ) (table body : List ℕ) where
+  pub held-later : (t : Bool) → t ≡ (attribute tag && isTop parent) → t ≡ true → true ≡ ((attribute tag && isTop parent) || covered (entries table) body)
+  held-later t e f = rw (sym e ∙ f)
+
+  pub held-now : (t u : Bool) → t ≡ (attribute tag && isTop parent) → u ≡ covered (entries table) body → t ≡ false → u ≡ ((attribute tag && isTop parent) || covered (entries table) body)
+  held-now t u e g f = rw (sym e ∙ f) g
+
+  pub short-no-cdata : (tag ≡ 1 → ⊥) → true ≡ shown parent tag (shownLength (entries table) body)
+  unfolding shown
+  short-no-cdata h = rw (ne-eqb tag 1 h)
+
+  limit-is : (n : ℕ) (o : Option ℕ) → limited o ≡ AtMost n → notAbove (shownLength (entries table) body) o ≡ leb (shownLength (entries table) body) n
+  unfolding limited notAbove
+  limit-is n none h = let z : _≡_ {A = ℕ} 0 1 = cc in absurd (omega arith)
+  limit-is n (some m) h = let e : m ≡ n = cc in rw e
+
+  no-limit : (o : Option ℕ) → limited o ≡ Unlimited → notAbove (shownLength (entries table) body) o ≡ true
+  unfolding limited notAbove
+  no-limit none h = refl
+  no-limit (some m) h = let z : _≡_ {A = ℕ} 0 1 = cc in absurd (omega arith)
+
+  module _ (h : tag ≡ 1) (l : Limit) (e : l ≡ asLimit parent) where
+    pub short-unlimited : l ≡ Unlimited → true ≡ shown parent tag (shownLength (entries table) body)
+    unfolding shown asLimit
+    short-unlimited q = rw h (sym (no-limit (limit parent) (sym e ∙ q)))
+
+    pub short-limited : (n : ℕ) → l ≡ AtMost n → (b : Bool) → b ≡ leb (shownLength (entries table) body) n → b ≡ shown parent tag (shownLength (entries table) body)
+    unfolding shown asLimit
+    short-limited n q b g = rw h (g ∙ sym (limit-is n (limit parent) (sym e ∙ q)))
+
+pub ruleset held-ways = (held-later, held-now)
+
+pub ruleset short-ways = (short-no-cdata, short-unlimited, short-limited)
+
+-- rules 10, 12 and 13
+module _ (parent tag place : ℕ) (table body : List ℕ) (b : Bool) (e : b ≡ text true body) where
+  abbrev Text : Option Refusal
+  Text = kindRules (bare parent (entries table)) place tag body (some HoldsText)
+
+  pub text-bad : b ≡ false → checked (Broken (refusal 10 place)) ≡ Text
+  unfolding kindRules first rule checked isValue isText isTokens fits
+  text-bad f = rw (sym e ∙ f)
+
+  module _ (f : b ≡ true) (t : Bool) (g : t ≡ ((attribute tag && isTop parent) || covered (entries table) body)) where
+    pub text-uncovered : t ≡ false → checked (Broken (refusal 12 place)) ≡ Text
+    unfolding kindRules first rule checked isValue isText isTokens fits ofTop
+    text-uncovered h = rw (sym e ∙ f, sym g ∙ h)
+
+    module _ (h : t ≡ true) (u : Bool) (i : u ≡ shown parent tag (shownLength (entries table) body)) where
+      pub text-long : u ≡ false → checked (Broken (refusal 13 place)) ≡ Text
+      unfolding kindRules first rule checked isValue isText isTokens fits ofTop
+      text-long j = rw (sym e ∙ f, sym g ∙ h, sym i ∙ j)
+
+      pub text-good : u ≡ true → checked Kept ≡ Text
+      unfolding kindRules first rule checked isValue isText isTokens fits ofTop
+      text-good j = rw (sym e ∙ f, sym g ∙ h, sym i ∙ j)
+
+pub ruleset text-ways = (text-bad, text-uncovered, text-long, text-good)
+
+-- rules 9 to 13, for a kind
+module _ (parent tag place : ℕ) (table body : List ℕ) (k : Kind) (b : Bool) (e : b ≡ fits k body) where
+  abbrev Kinds : Option Kind → Option Refusal
+  Kinds = kindRules (bare parent (entries table)) place tag body
+
+  pub kind-misfit : b ≡ false → checked (Broken (refusal 9 place)) ≡ Kinds (some k)
+  unfolding kindRules first rule checked isValue
+  kind-misfit f = rw (sym e ∙ f)
+
+  module _ (f : b ≡ true) where
+    pub kind-text : k ≡ HoldsText → (r : Check) → checked r ≡ Kinds (some HoldsText) → checked r ≡ Kinds (some k)
+    kind-text q r h = rw q h
+
+    pub kind-table : k ≡ HoldsTokens → (t : Bool) → t ≡ isTable body → t ≡ true → checked Kept ≡ Kinds (some k)
+    unfolding kindRules first rule checked isValue isText isTokens fits
+    kind-table q t g h = rw (q, sym g ∙ h)
+
+    pub kind-no-table : k ≡ HoldsTokens → (t : Bool) → t ≡ isTable body → t ≡ false → checked (Broken (refusal 11 place)) ≡ Kinds (some k)
+    unfolding kindRules first rule checked isValue isText isTokens fits
+    kind-no-table q t g h = rw (q, sym g ∙ h)
+
+    other-kind : isText (some k) ≡ false → isTokens (some k) ≡ false → checked Kept ≡ Kinds (some k)
+    unfolding kindRules first rule checked isValue
+    other-kind x y = rw (sym e ∙ f, x, y)
+
+-- the arm `_` of a match on an enum knows which variants are left: their numbers, in the order in which the enum declares them
+one-of : (ks : List ℕ) (x : ℕ) → OneOf ks x → among x ks ≡ true
+unfolding among
+one-of [] x h = absurd h
+one-of (k ∷ []) x h = rw (eq-eqb x k h)
+one-of (k ∷ j ∷ ks) x h = ⊎-elim (λ e. rw (eq-eqb x k e)) (λ q. rw (one-of (j ∷ ks) x q) (or-true (eqb x k))) h
+
+never : {C : Type 0} (ks : List ℕ) (x : ℕ) → among x ks ≡ false → OneOf ks x → C
+never ks x e h = absurd (false≢true (sym e ∙ one-of ks x h))
+
+abbrev NoText : List ℕ
+NoText = 0 ∷ 1 ∷ 3 ∷ 4 ∷ 5 ∷ 6 ∷ []
+
+not-text : (k : Kind) → OneOf NoText (tagOf the-type k) → isText (some k) ≡ false
+unfolding isText among
+not-text HoldsItems h = refl
+not-text HoldsTokens h = refl
+not-text HoldsText h = never NoText 2 refl h
+not-text HoldsPlain h = refl
+not-text HoldsTime h = refl
+not-text HoldsBearer h = refl
+not-text (HoldsNumber n) h = refl
+
+abbrev NoWords : List ℕ
+NoWords = 0 ∷ 3 ∷ 4 ∷ 5 ∷ 6 ∷ []
+
+no-words : (k : Kind) → OneOf NoWords (tagOf the-type k) → (isText (some k) ≡ false) × (isTokens (some k) ≡ false)
+unfolding isText isTokens among
+no-words HoldsItems h = (refl, refl)
+no-words HoldsTokens h = never NoWords 1 refl h
+no-words HoldsText h = never NoWords 2 refl h
+no-words HoldsPlain h = (refl, refl)
+no-words HoldsTime h = (refl, refl)
+no-words HoldsBearer h = (refl, refl)
+no-words (HoldsNumber n) h = (refl, refl)
+
+abbrev Leaves : List ℕ
+Leaves = 2 ∷ 3 ∷ 4 ∷ 5 ∷ 6 ∷ []
+
+leaf-sort : (k : Kind) → OneOf Leaves (tagOf the-type k) → Leaf ≡ sorted (some k)
+unfolding sorted among
+leaf-sort HoldsItems h = never Leaves 0 refl h
+leaf-sort HoldsTokens h = never Leaves 1 refl h
+leaf-sort HoldsText h = refl
+leaf-sort HoldsPlain h = refl
+leaf-sort HoldsTime h = refl
+leaf-sort HoldsBearer h = refl
+leaf-sort (HoldsNumber n) h = refl
+
+pub kind-other : (parent tag place : ℕ) (table body : List ℕ) (k : Kind) (b : Bool) → b ≡ fits k body → b ≡ true → OneOf NoWords (tagOf the-type k)
+    → checked Kept ≡ kindRules (bare parent (entries table)) place tag body (some k)
+kind-other parent tag place table body k b e f h = other-kind parent tag place table body k b e f (no-words k h .0) (no-words k h .1)
+
+pub ruleset kind-ways = (kind-misfit, kind-text, kind-table, kind-no-table, kind-other)
+
+module _ (known : KnownKind) where
+  pub sort-unknown : known ≡ Unknown → Skip ≡ sorted (asKind known)
+  unfolding sorted asKind
+  sort-unknown e = rw e
+
+  module _ (k : Kind) (e : known ≡ Known k) where
+    pub sort-items : k ≡ HoldsItems → Element ≡ sorted (asKind known)
+    unfolding sorted asKind
+    sort-items f = rw (e, f)
+
+    pub sort-table : k ≡ HoldsTokens → Table ≡ sorted (asKind known)
+    unfolding sorted asKind
+    sort-table f = rw (e, f)
+
+    pub sort-leaf : OneOf Leaves (tagOf the-type k) → Leaf ≡ sorted (asKind known)
+    unfolding asKind
+    sort-leaf h = rw e (leaf-sort k h)
+
+    pub text-is : k ≡ HoldsText → true ≡ isText (asKind known)
+    unfolding isText asKind
+    text-is f = rw (e, f)
+
+    pub text-isnt : OneOf NoText (tagOf the-type k) → false ≡ isText (asKind known)
+    unfolding asKind
+    text-isnt h = rw e (sym (not-text k h))
+
+  pub text-unknown : known ≡ Unknown → false ≡ isText (asKind known)
+  unfolding isText asKind
+  text-unknown e = rw e
+
+pub ruleset sort-ways = (sort-unknown, sort-items, sort-table, sort-leaf)
+
+pub ruleset is-text-ways = (text-is, text-isnt, text-unknown)
+
+-- rules 9 to 13, and rule 8, for what the lookup answers
+module _ (known : KnownKind) where
+  pub body-unknown : (parent tag place : ℕ) (table body : List ℕ) → known ≡ Unknown → checked Kept ≡ kindRules (bare parent (entries table)) place tag body (asKind known)
+  unfolding kindRules first rule checked isValue isText isTokens asKind
+  body-unknown parent tag place table body e = rw e
+
+  pub body-known : (parent tag place : ℕ) (table body : List ℕ) (k : Kind) → known ≡ Known k → (r : Check)
+      → checked r ≡ kindRules (bare parent (entries table)) place tag body (some k) → checked r ≡ kindRules (bare parent (entries table)) place tag body (asKind known)
+  unfolding asKind
+  body-known parent tag place table body k e r h = rw e h
+
+  pub twice-unknown : (mask tag : ℕ) → known ≡ Unknown → false ≡ (isKnown (asKind known) && hasBit mask tag)
+  unfolding isKnown asKind
+  twice-unknown mask tag e = rw e
+
+  pub twice-known : (mask tag : ℕ) (k : Kind) → known ≡ Known k → (b : Bool) → b ≡ hasBit mask tag → b ≡ (isKnown (asKind known) && hasBit mask tag)
+  unfolding isKnown asKind
+  twice-known mask tag k e b h = rw e h
+
+pub ruleset body-ways = (body-unknown, body-known)
+
+pub ruleset twice-ways = (twice-unknown, twice-known)
+
+-- rules 6 to 13
+module _ (parent tag left : ℕ) (progress : Progress) (place : ℕ) (table body : List ℕ) (l : ℕ) (e : l ≡ latest tag) where
+  pub item-late : l < progress .stage → ItemSays parent tag left progress place table body (Broken (refusal 6 place))
+  unfolding ItemSays itemRules first rule checked
+  item-late h seen waiting s = rw (lt-leb (progress .stage) (latest tag) (rw e at h))
+
+  module _ (h : progress .stage ≤ l) (d : Bool) (f : d ≡ (attribute tag || eqb tag 1 || leb (depthOf left) 16)) where
+    pub item-deep : d ≡ false → ItemSays parent tag left progress place table body (Broken (refusal 7 place))
+    unfolding ItemSays itemRules first rule checked
+    item-deep g seen waiting s = rw (le-leb (progress .stage) (latest tag) (rw e at h), sym f ∙ g)
+
+    module _ (g : d ≡ true) (k : KnownKind) (ke : k ≡ knownKind parent tag) (t : Bool) (i : t ≡ (isKnown (asKind k) && hasBit (progress .mask) tag)) where
+      twice : (seen : List ℕ) → Seen parent (progress .mask) seen → (attribute tag && isKnown (known parent tag) && among tag seen) ≡ t
+      twice seen s = twice-is parent (progress .mask) tag seen s ∙ ap (λ (o : Option Kind). isKnown o && hasBit (progress .mask) tag) (sym (kind-known k parent tag ke)) ∙ sym i
+
+      pub item-twice : t ≡ true → ItemSays parent tag left progress place table body (Broken (refusal 8 place))
+      unfolding ItemSays itemRules first rule checked
+      item-twice j seen waiting s = rw (le-leb (progress .stage) (latest tag) (rw e at h), sym f ∙ g, twice seen s ∙ j)
+
+      pub item-kind : t ≡ false → (r : Check) → checked r ≡ kindRules (bare parent (entries table)) place tag body (asKind k) → ItemSays parent tag left progress place table body r
+      unfolding ItemSays itemRules first rule kindRules ofTop
+      item-kind j r q seen waiting s =
+          rw (le-leb (progress .stage) (latest tag) (rw e at h), sym f ∙ g, twice seen s ∙ j)
+          (first-one (kindRules (ctx parent (depthOf left) (progress .stage) seen (entries table) waiting) place tag body (known parent tag)) ∙ rw (← kind-known k parent tag ke) (sym q))
+
+pub ruleset item-ways = (item-late, item-deep, item-twice, item-kind)

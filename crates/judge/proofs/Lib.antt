@@ -1,0 +1,8 @@
+pub mod TagTests
+pub mod Masks
+pub mod ItemWays
+pub mod OwnWays
+pub mod LateWays
+pub mod AllWays
+pub mod Turn
+pub mod Wrong

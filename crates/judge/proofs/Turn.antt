@@ -1,0 +1,419 @@
+-- One turn of the loop over the items of an element.
+use mathlib.Core.Path.{_≡_, refl, sym, ap, _∙_}
+use mathlib.Core.Bool.{Bool, true, false, cond, _&&_}
+use mathlib.Core.Option.{Option, none, some}
+use mathlib.Core.List.{List, [], _∷_, _++_, append-assoc, append-nil}
+use Prim.Native.Nat.{ℕ, suc, _+_, _-_, _≤_, _<_}
+use native.Mathlib.Omega.{arith}
+use native.Mathlib.Nat.{add-zero, add-assoc}
+use lib.Dec.{eqb, leb}
+use lib.ListN.{length, getD, take, drop, length-take, length-drop, drop-of-length-le}
+use lib.Seq.{drop-drop}
+use mir.Syntax.{w64}
+use mir.Val.{Fits}
+use borrow.Author.Tests.{eq-eqb, leb-true, le-leb, lt-leb}
+use Rattle.octets.specs.Header.{headerSize, bodySize}
+use Rattle.text.specs.Tokens.{entries}
+use Rattle.values.specs.declared.Kind.{Kind}
+use Rattle.values.specs.declared.Kind.the-variants.{HoldsItems, HoldsTokens, HoldsText, HoldsPlain, HoldsTime, HoldsBearer, HoldsNumber}
+use Rattle.values.specs.Table.{known, attribute}
+use Rattle.values.proofs.Known.{ElementTag, items-tag, items-no-attribute, known-anywhere}
+use Rattle.format.specs.declared.Refusal.{Refusal}
+use Rattle.format.specs.declared.Counts.{Counts}
+use Rattle.format.specs.declared.ReadAnswer.{ReadAnswer}
+use Rattle.format.specs.declared.ReadAnswer.the-variants.{Records, NotRead}
+use Rattle.format.specs.Answers.{refusal}
+use Rattle.format.specs.Tree.{count}
+use Rattle.format.specs.Tree.Items.{end, item}
+use Rattle.format.specs.Calls.{judgeAnswer}
+use Rattle.format.specs.Judge.{Judged, Context, isTop, isItems, isKnown, ofTop, latest, stageAfter, rule, waits, unless, byKind, followed, joined, within, next, read, outermost, judge}
+use Rattle.format.specs.Judge.Judged.{refused, accepted}
+use Rattle.format.proofs.Fuel.{read-end, read-item, judge-read}
+use Rattle.format.proofs.Rules.{Held, held}
+use Rattle.format.proofs.Means.{items-known}
+use Rattle.judge.specs.Says.{ctx, depthOf, sorted, tableSort, Seen, Framed, Waits, WaitsWhen, brokenOf, AllIs, Passed, Says, oneMore, counted, EndSays, CountsAtMost}
+use Rattle.judge.specs.Says.Waits.{done, more}
+use Rattle.judge.specs.declared.Progress.{Progress}
+use Rattle.judge.specs.declared.Sort.{Sort}
+use Rattle.judge.specs.declared.Sort.the-variants.{Skip, Leaf, Table, Element}
+use Rattle.judge.specs.declared.Item.{Item}
+use Rattle.judge.specs.declared.Item.the-variants.{Bad, Good}
+use Rattle.judge.proofs.Masks.{none-marked}
+use Rattle.judge.proofs.OwnWays.{start-two}
+use Rattle.judge.proofs.LateWays.{waits-from, tag-at, body-at}
+use Rattle.judge.proofs.AllWays.{sort-four, no-entries}
+
+one-waits : (parent base : ℕ) (part : List ℕ) (stop : ℕ) (start size : ℕ) → 2 ≤ start → Framed (drop stop part) start size → stop + start + size ≤ length part
+    → Waits parent base part (stop + start + size) stop ([] ++ waits (known parent (getD (drop stop part) 0 0)) [] (base + stop) (take size (drop start (drop stop part))))
+one-waits parent base part stop start size two f l =
+    let new = waits (known parent (getD (drop stop part) 0 0)) [] (base + stop) (take size (drop start (drop stop part))) in
+    more parent base part (stop + start + size) stop new start size [] two f (omega arith) l (sym (append-nil new))
+    (done parent base part (stop + start + size) (stop + start + size) [] refl refl)
+
+-- one attribute more at the end of those that wait
+snoc : (parent base : ℕ) (part : List ℕ) (stop j : ℕ) (ws : List (ℕ × List ℕ)) (start size : ℕ) → 2 ≤ start → Framed (drop stop part) start size → stop + start + size ≤ length part
+    → Waits parent base part stop j ws
+    → Waits parent base part (stop + start + size) j (ws ++ waits (known parent (getD (drop stop part) 0 0)) [] (base + stop) (take size (drop start (drop stop part))))
+snoc parent base part stop j ws start size two f l (done _ _ _ _ _ _ e g) = rw (e, g) (one-waits parent base part stop start size two f l)
+snoc parent base part stop j ws start size two f l (more _ _ _ _ _ _ a b later t g i k m n) =
+    let new = waits (known parent (getD (drop stop part) 0 0)) [] (base + stop) (take size (drop start (drop stop part))) in
+    more parent base part (stop + start + size) j (ws ++ new) a b (later ++ new) t g (omega arith) l
+    (rw m (append-assoc (waits (known parent (getD (drop j part) 0 0)) [] (base + j) (take b (drop a (drop j part)))) later new)) (snoc parent base part stop (j + a + b) later start size two f l n)
+
+nothing-waits : (b : Bool) (parent base : ℕ) (part : List ℕ) → WaitsWhen b parent base part 0 []
+unfolding WaitsWhen
+nothing-waits true parent base part = done _ _ _ _ _ _ refl refl
+nothing-waits false parent base part = refl
+
+when-true : (b : Bool) (parent base : ℕ) (part : List ℕ) (at : ℕ) (ws : List (ℕ × List ℕ)) → b ≡ true → WaitsWhen b parent base part at ws → Waits parent base part at 0 ws
+unfolding WaitsWhen
+when-true b parent base part at ws e w = rw e at w
+
+nothing-later : (parent base : ℕ) (part : List ℕ) (at : ℕ) → WaitsWhen false parent base part at []
+unfolding WaitsWhen
+nothing-later parent base part at = refl
+
+-- the first item of a part
+read-step : (c : Context) (at : ℕ) (s : List ℕ) → 0 < length s
+    → read c at s ≡ unless (brokenOf c at s) (byKind (known (c .parent) (getD s 0 0)) (item (getD s 0 0) (at + headerSize s) (take (bodySize s) (drop (headerSize s) s)))
+    (read (within c (getD s 0 0)) (at + headerSize s) (take (bodySize s) (drop (headerSize s) s)))
+    (read (next c at (getD s 0 0) (take (bodySize s) (drop (headerSize s) s))) (at + headerSize s + bodySize s) (drop (bodySize s) (drop (headerSize s) s))))
+unfolding brokenOf
+read-step c at [] h = absurd (omega arith)
+read-step c at (t ∷ r) h = read-item c at t r (headerSize (t ∷ r)) (bodySize (t ∷ r)) (take (bodySize (t ∷ r)) (drop (headerSize (t ∷ r)) (t ∷ r))) (drop (bodySize (t ∷ r)) (drop (headerSize (t ∷ r)) (t ∷ r))) refl refl refl refl
+
+read-framed : (c : Context) (at : ℕ) (s : List ℕ) (start size : ℕ) → 0 < length s → Framed s start size → brokenOf c at s ≡ none
+    → read c at s ≡ byKind (known (c .parent) (getD s 0 0)) (item (getD s 0 0) (at + start) (take size (drop start s)))
+    (read (within c (getD s 0 0)) (at + start) (take size (drop start s)))
+    (read (next c at (getD s 0 0) (take size (drop start s))) (at + start + size) (drop size (drop start s)))
+unfolding unless
+read-framed c at s start size h f b = read-step c at s h ∙ rw (b, f .isStart, f .isSize)
+
+held-of : (c : Context) (at : ℕ) (s : List ℕ) → brokenOf c at s ≡ none → Held c (getD s 0 0) (take (bodySize s) (drop (headerSize s) s))
+unfolding brokenOf
+held-of c at s h = held c at (getD s 0 0) (headerSize s) (bodySize s) (length s) (take (bodySize s) (drop (headerSize s) s)) h
+
+-- the stage after an item is 0 only after an attribute
+stage-zero : (tag : ℕ) → eqb (stageAfter tag) 0 ≡ attribute tag
+unfolding stageAfter
+stage-zero tag = go (attribute tag) (eqb tag 4) (eqb tag 1)
+  where
+    go : (a b d : Bool) → eqb (cond a 0 (cond b 1 (cond d 3 2))) 0 ≡ a
+    go true b d = refl
+    go false true d = refl
+    go false false true = refl
+    go false false false = refl
+
+attribute-latest : (tag : ℕ) → attribute tag ≡ true → latest tag ≡ 0
+unfolding latest
+attribute-latest tag h = rw h
+
+-- what a sort says of a kind
+elementSort : Sort → Bool
+elementSort Skip = false
+elementSort Leaf = false
+elementSort Table = false
+elementSort Element = true
+
+knownSort : Sort → Bool
+knownSort Skip = false
+knownSort Leaf = true
+knownSort Table = true
+knownSort Element = true
+
+record Sorted (k : Option Kind) (s : Sort) : Type 0 where
+  items : isItems k ≡ elementSort s
+  isknown : isKnown k ≡ knownSort s
+
+sorted-as : (k : Option Kind) → Sorted k (sorted k)
+unfolding sorted isItems isKnown elementSort knownSort
+sorted-as none = record { items = refl; isknown = refl }
+sorted-as (some HoldsItems) = record { items = refl; isknown = refl }
+sorted-as (some HoldsTokens) = record { items = refl; isknown = refl }
+sorted-as (some HoldsText) = record { items = refl; isknown = refl }
+sorted-as (some HoldsPlain) = record { items = refl; isknown = refl }
+sorted-as (some HoldsTime) = record { items = refl; isknown = refl }
+sorted-as (some HoldsBearer) = record { items = refl; isknown = refl }
+sorted-as (some (HoldsNumber n)) = record { items = refl; isknown = refl }
+
+-- counting
+counted-leaf : (n : Counts) (tag at : ℕ) (body : List ℕ) (a : Judged) → eqb tag 4 ≡ false → counted n (followed (item tag at body end) a) ≡ counted (oneMore n) a
+unfolding counted followed count
+counted-leaf n tag at body (refused r) h = refl
+counted-leaf n tag at body (accepted t) h = rw h (ap (λ (x : ℕ). Records (record { records = x })) (omega arith))
+
+counted-table : (n : Counts) (tag at : ℕ) (body : List ℕ) (a : Judged) → eqb tag 4 ≡ true → counted n (followed (item tag at body end) a) ≡ counted n a
+unfolding counted followed count
+counted-table n tag at body (refused r) h = refl
+counted-table n tag at body (accepted t) h = rw h (ap (λ (x : ℕ). Records (record { records = x })) (omega arith))
+
+unfoldable onward : ReadAnswer → (Counts → ReadAnswer) → ReadAnswer
+onward (Records m) f = f m
+onward (NotRead r) f = NotRead r
+
+counted-element : (n : Counts) (tag at : ℕ) (body : List ℕ) (i a : Judged) → eqb tag 4 ≡ false → counted n (joined (item tag at body) i a) ≡ onward (counted (oneMore n) i) (λ m. counted m a)
+unfolding counted joined followed count onward
+counted-element n tag at body (refused r) a h = refl
+counted-element n tag at body (accepted t) (refused r) h = refl
+counted-element n tag at body (accepted t) (accepted u) h = rw h (ap (λ (x : ℕ). Records (record { records = x })) (omega arith))
+
+-- the items so far: what the whole part gives is what its rest gives from here on, for some tags seen that the mask stands for and for what waits
+pub record Holds (part : List ℕ) (base parent left : ℕ) (before : Counts) (given : List ℕ) (at : ℕ) (progress : Progress) (counts : Counts) (table : List ℕ) : Type 0 where
+  pub bound : at ≤ length part
+  pub levels : left ≤ 16
+  pub few : counts .records ≤ base + at
+  pub seen : List ℕ
+  pub waiting : List (ℕ × List ℕ)
+  pub sees : Seen parent (progress .mask) seen
+  pub waited : WaitsWhen (isTop parent && eqb (progress .stage) 0) parent base part at waiting
+  pub same : counted before (read (ctx parent (depthOf left) 0 [] (entries given) []) base part)
+      ≡ counted counts (read (ctx parent (depthOf left) (progress .stage) seen (entries table) waiting) (base + at) (drop at part))
+
+pub at-start : (part : List ℕ) (base parent left : ℕ) (before : Counts) (given : List ℕ) → before .records ≤ base → left ≤ 16
+    → Holds part base parent left before given 0 (record { stage = 0; mask = 0 }) before given
+at-start part base parent left before given h l = record {
+  bound = omega arith;
+  levels = l;
+  few = omega arith;
+  seen = [];
+  waiting = [];
+  sees = none-marked parent;
+  waited = nothing-waits (isTop parent && eqb 0 0) parent base part;
+  same = rw add-zero;
+}
+
+-- one level less is one depth more
+level-down : (left : ℕ) → 0 < left → left ≤ 16 → suc (depthOf left) ≡ depthOf (left - 1)
+unfolding depthOf
+level-down left h l = omega arith
+
+module _ (part : List ℕ) (base parent left : ℕ) (before : Counts) (given : List ℕ) (at : ℕ) (progress : Progress) (counts : Counts) (table : List ℕ)
+    (inv : Holds part base parent left before given at progress counts table) where
+  abbrev Whole : ReadAnswer
+  Whole = counted before (read (ctx parent (depthOf left) 0 [] (entries given) []) base part)
+
+  abbrev c : Context
+  c = ctx parent (depthOf left) (progress .stage) (inv .seen) (entries table) (inv .waiting)
+
+  pub end-in : at ≤ length part
+  end-in = inv .bound
+
+  pub end-all : length part ≤ at → (r : ReadAnswer) → EndSays counts part at parent (progress .stage) base r → r ≡ Whole
+  unfolding EndSays
+  end-all h r e =
+      e (inv .waiting) (inv .waited)
+      ∙ sym (inv .same ∙ ap (λ (s : List ℕ). counted counts (read c (base + at) s)) (drop-of-length-le part h) ∙ ap (counted counts) (read-end c (base + at)))
+
+  at-most : (m n : ℕ) (r : ReadAnswer) → m ≤ n → CountsAtMost m r → CountsAtMost n r
+  at-most m n (Records k) h b = omega arith
+  at-most m n (NotRead x) h b = tt
+
+  pub end-most : (r : ReadAnswer) → CountsAtMost (counts .records) r → CountsAtMost (base + length part) r
+  end-most r b = at-most (counts .records) (base + length part) r (omega (arith, inv .few, inv .bound)) b
+
+  module _ (h : at < length part) (i : Item) (e : Says (AllIs parent left progress table base at part) parent progress (drop at part) i) where
+    some-left : 0 < length (drop at part)
+    some-left = omega (arith, length-drop at part)
+
+    pub is-bad : (r : Refusal) → i ≡ Bad r → NotRead r ≡ Whole
+    unfolding Says AllIs unless counted
+    is-bad r f =
+        let q : Says (AllIs parent left progress table base at part) parent progress (drop at part) (Bad r) = rw f at e in
+        sym (inv .same ∙ ap (counted counts) (read-step c (base + at) (drop at part) some-left) ∙ rw (q (inv .seen) (inv .waiting) (inv .sees) (inv .waited)))
+
+    pub one-fits : base + length part ≤ 32_768 → Fits w64 (counts .records + 1)
+    one-fits b = omega (arith, inv .few)
+
+    module _ (sort : Sort) (start size : ℕ) (nx : Progress) (f : i ≡ Good sort start size nx) where
+      abbrev tag : ℕ
+      tag = getD (drop at part) 0 0
+
+      abbrev body : List ℕ
+      body = take size (drop start (drop at part))
+
+      good : Says (AllIs parent left progress table base at part) parent progress (drop at part) (Good sort start size nx)
+      good = rw f at e
+
+      p : Passed parent progress (drop at part) sort start size nx
+      unfolding Says
+      p = good .1
+
+      clean : brokenOf c (base + at) (drop at part) ≡ none
+      unfolding Says AllIs
+      clean = good .0 (inv .seen) (inv .waiting) (inv .sees) (inv .waited)
+
+      two : 2 ≤ start
+      two = start-two (drop at part) start size (p .framed)
+
+      pub item-in : at + start + size ≤ length part
+      item-in = omega (arith, p .fits, length-drop at part)
+
+      pub item-from : base + length part ≤ 32_768 → Fits w64 (at + start)
+      item-from b = omega (arith, item-in)
+
+      pub item-to : base + length part ≤ 32_768 → Fits w64 (at + start + size)
+      item-to b = omega (arith, item-in)
+
+      pub item-less : length part - (at + start + size) < length part - at
+      item-less = omega (arith, two)
+
+      pub item-few : counts .records < base + (at + start)
+      item-few = omega (arith, two, inv .few)
+
+      kind-is : Sorted (known parent tag) sort
+      kind-is = rw (p .sorts) (sorted-as (known parent tag))
+
+      four : eqb tag 4 ≡ tableSort sort
+      four = sort-four parent tag sort (p .sorts)
+
+      abbrev waiting′ : List (ℕ × List ℕ)
+      waiting′ = cond (attribute tag && isTop parent) (waits (known parent tag) (inv .waiting) (base + at) body) []
+
+      sees′ : Seen parent (nx .mask) (tag ∷ inv .seen)
+      sees′ = p .seens (inv .seen) (inv .sees)
+
+      waited′ : WaitsWhen (isTop parent && eqb (nx .stage) 0) parent base part (at + start + size) waiting′
+      unfolding WaitsWhen
+      waited′ = rw (p .stages, stage-zero tag) (go (isTop parent) (attribute tag) refl refl (inv .waited))
+        where
+          go : (a b : Bool) → isTop parent ≡ a → attribute tag ≡ b → WaitsWhen (isTop parent && eqb (progress .stage) 0) parent base part at (inv .waiting)
+              → WaitsWhen (a && b) parent base part (at + start + size) (cond (b && a) (waits (known parent tag) (inv .waiting) (base + at) body) [])
+          go true true x y w =
+              let m : leb (progress .stage) (latest tag) ≡ true = held-of c (base + at) (drop at part) clean .rules .order in
+              let g : progress .stage ≡ 0 = omega (arith, leb-true (progress .stage) (latest tag) m, attribute-latest tag y) in
+              let z : (isTop parent && eqb (progress .stage) 0) ≡ true = rw (x, eq-eqb (progress .stage) 0 g) in
+              let v : Waits parent base part at 0 (inv .waiting) = when-true _ parent base part at (inv .waiting) z w in
+              rw (waits-from (known parent tag) (inv .waiting) (base + at) body) (snoc parent base part at 0 (inv .waiting) start size two (p .framed) item-in v)
+          go true false x y w = nothing-later parent base part (at + start + size)
+          go false true x y w = nothing-later parent base part (at + start + size)
+          go false false x y w = nothing-later parent base part (at + start + size)
+
+      -- what comes after the item
+      abbrev Later : Judged
+      Later = read (ctx parent (depthOf left) (nx .stage) (tag ∷ inv .seen) (cond (tableSort sort) (entries body) (entries table)) waiting′) (base + (at + start + size)) (drop (at + start + size) part)
+
+      abbrev Inside : Judged
+      Inside = read (within c tag) (base + at + start) body
+
+      after-is : next c (base + at) tag body ≡ ctx parent (depthOf left) (nx .stage) (tag ∷ inv .seen) (cond (tableSort sort) (entries body) (entries table)) waiting′
+      unfolding next ofTop
+      after-is = rw (p .stages, four)
+
+      turn : Whole ≡ counted counts (cond (elementSort sort) (joined (item tag (base + at + start) body) Inside Later) (cond (knownSort sort) (followed (item tag (base + at + start) body end) Later) Later))
+      unfolding byKind
+      turn =
+          inv .same
+          ∙ ap (counted counts) (read-framed c (base + at) (drop at part) start size some-left (p .framed) clean ∙ rw (after-is, kind-is .items, kind-is .isknown) (simp (drop-drop, add-assoc)))
+
+      pub past-skip : sort ≡ Skip → Holds part base parent left before given (at + start + size) nx counts table
+      unfolding elementSort knownSort tableSort
+      past-skip q = record {
+        bound = item-in;
+        levels = inv .levels;
+        few = omega (arith, inv .few);
+        seen = tag ∷ inv .seen;
+        waiting = waiting′;
+        sees = sees′;
+        waited = waited′;
+        same = turn ∙ rw q;
+      }
+
+      pub past-leaf : sort ≡ Leaf → Holds part base parent left before given (at + start + size) nx (oneMore counts) table
+      unfolding elementSort knownSort tableSort
+      past-leaf q = record {
+        bound = item-in;
+        levels = inv .levels;
+        few = omega (arith, item-few);
+        seen = tag ∷ inv .seen;
+        waiting = waiting′;
+        sees = sees′;
+        waited = waited′;
+        same = turn ∙ rw q (counted-leaf counts tag (base + at + start) body _ (rw q at four));
+      }
+
+      pub past-table : sort ≡ Table → Holds part base parent left before given (at + start + size) nx counts (take (at + start + size - (at + start)) (drop (at + start) part))
+      unfolding elementSort knownSort tableSort
+      past-table q = record {
+        bound = item-in;
+        levels = inv .levels;
+        few = omega (arith, inv .few);
+        seen = tag ∷ inv .seen;
+        waiting = waiting′;
+        sees = sees′;
+        waited = waited′;
+        same = turn ∙ rw (q, body-at part at start size) (counted-table counts tag (base + at + start) body _ (rw q at four));
+      }
+
+      module _ (q : sort ≡ Element) where
+        holds-items : known parent tag ≡ some HoldsItems
+        unfolding elementSort
+        holds-items = items-known (known parent tag) (kind-is .items ∙ ap elementSort q)
+
+        is-element : ElementTag tag
+        is-element = items-tag tag (sym (known-anywhere parent tag (items-no-attribute parent tag holds-items)) ∙ holds-items)
+
+        shallow : leb (depthOf left) 16 ≡ true
+        shallow = rw (is-element .notAttribute, is-element .notCdata) at (held-of c (base + at) (drop at part) clean .rules .deep)
+
+        pub element-levels : 0 < left
+        unfolding depthOf
+        element-levels = omega (arith, leb-true (depthOf left) 16 shallow)
+
+        module _ (v : ReadAnswer)
+            (ve : v ≡ counted (oneMore counts) (read (ctx (getD part at 0) (depthOf (left - 1)) 0 [] (entries table) []) (base + (at + start)) (take (at + start + size - (at + start)) (drop (at + start) part)))) where
+          body-read : counted (oneMore counts) Inside ≡ v
+          unfolding within
+          body-read = sym (ve ∙ rw (tag-at part at, ← level-down left element-levels (inv .levels), body-at part at start size, ← add-assoc base at start))
+
+          turn-element : Whole ≡ onward v (λ m. counted m (read (ctx parent (depthOf left) (nx .stage) (tag ∷ inv .seen) (entries table) waiting′) (base + (at + start + size)) (drop (at + start + size) part)))
+          unfolding elementSort tableSort
+          turn-element = turn ∙ rw q (counted-element counts tag (base + at + start) body Inside _ (is-element .notTable) ∙ rw body-read)
+
+          pub element-bad : (r : Refusal) → v ≡ NotRead r → NotRead r ≡ Whole
+          unfolding onward
+          element-bad r g = sym (turn-element ∙ rw g)
+
+          pub past-element : (m : Counts) → v ≡ Records m → CountsAtMost (base + (at + start + size)) v → Holds part base parent left before given (at + start + size) nx m table
+          unfolding onward
+          past-element m g b = record {
+            bound = item-in;
+            levels = inv .levels;
+            few = rw g at b;
+            seen = tag ∷ inv .seen;
+            waiting = waiting′;
+            sees = sees′;
+            waited = waited′;
+            same = turn-element ∙ rw g;
+          }
+
+pub part-most : (part : List ℕ) (base from to : ℕ) (v : ReadAnswer) → from ≤ to → to ≤ length part → CountsAtMost (base + from + length (take (to - from) (drop from part))) v → CountsAtMost (base + to) v
+part-most part base from to (Records n) h g b = omega (arith, length-take (to - from) (drop from part), length-drop from part)
+part-most part base from to (NotRead r) h g b = tt
+
+pub part-bound : (part : List ℕ) (base from to : ℕ) → from ≤ to → to ≤ length part → base + length part ≤ 32_768 → base + from + length (take (to - from) (drop from part)) ≤ 32_768
+part-bound part base from to h g b = omega (arith, length-take (to - from) (drop from part), length-drop from part)
+
+pub ruleset turns = (at-start, end-in, end-all, end-most, is-bad, one-fits, item-in, item-from, item-to, item-less, item-few, past-skip, past-leaf, past-table, element-levels, element-bad, past-element, part-most, part-bound)
+
+-- the object
+pub judge-empty : (o : List ℕ) → length o ≡ 0 → NotRead (refusal 1 0) ≡ judgeAnswer (judge o)
+unfolding judge unless rule judgeAnswer
+judge-empty o h = rw h
+
+pub judge-large : (o : List ℕ) → 32_768 < length o → NotRead (refusal 1 0) ≡ judgeAnswer (judge o)
+unfolding judge unless rule judgeAnswer
+judge-large o h = rw (le-leb 1 (length o) (omega arith), lt-leb (length o) 32_768 h)
+
+-- counting from nothing
+from-nothing : (a : Judged) → counted (record { records = 0 }) a ≡ judgeAnswer a
+unfolding counted judgeAnswer
+from-nothing (refused r) = refl
+from-nothing (accepted t) = ap (λ (x : ℕ). Records (record { records = x })) (omega arith)
+
+pub judge-items : (o : List ℕ) (v : ReadAnswer) → (length o ≡ 0 → ⊥) → length o ≤ 32_768
+    → v ≡ counted (record { records = 0 }) (read (ctx 0 (depthOf 16) 0 [] (entries (take (0 - 0) (drop 0 o))) []) 0 o) → v ≡ judgeAnswer (judge o)
+unfolding outermost depthOf
+judge-items o v z h e =
+    e ∙ rw (no-entries o) (from-nothing (read outermost 0 o)) ∙ ap judgeAnswer (sym (judge-read o (omega arith) h))
+
+pub ruleset judge-ways = (judge-empty, judge-large, judge-items)

@@ -1,0 +1,69 @@
+-- Wrong answers of `judge`, each refuted at a closed object by what its contract says.
+use mathlib.Core.Path.{_≡_, refl, sym, _∙_}
+use mathlib.Core.List.{List, [], _∷_}
+use Prim.Native.Nat.{ℕ}
+use native.Mathlib.Omega.{arith}
+use Rattle.octets.specs.Numbers.{among, value}
+use Rattle.octets.specs.Header.{headerSize, bodySize}
+use Rattle.text.specs.Text.{layout, token, character, single, goesOn, utf8, text}
+use Rattle.text.specs.Tokens.{cut, entries, filled, isTable, entry, orItself, stands, expanded, present, covers, covered, shownLength}
+use Rattle.values.specs.Table.{rows, kindIn, known, attribute}
+use Rattle.values.specs.Values.{width, fits}
+use Rattle.format.specs.declared.Refusal.{Refusal}
+use Rattle.format.specs.declared.Counts.{Counts}
+use Rattle.format.specs.declared.ReadAnswer.the-variants.{Records, NotRead}
+use Rattle.format.specs.Answers.{refusal}
+use Rattle.format.specs.Tree.{count}
+use Rattle.format.specs.Judge.{isKnown, isItems, isTokens, isText, isValue, isTop, allowed, latest, stageAfter, limit, notAbove, shown, ofTop, rule, first, kindRules, itemRules, own, late, lateBefore, lateAfter, broken, within, waits, next, unless, followed, joined, byKind, items, outermost, judge}
+use Rattle.format.specs.Calls.{judgeAnswer}
+
+-- the top alone
+abbrev top : List ℕ
+top = 0x03 ∷ 0x00 ∷ []
+
+-- a top with a token table and a language that uses it
+abbrev tabled : List ℕ
+tabled = 0x03 ∷ 0x09 ∷ 0x04 ∷ 0x04 ∷ 0x01 ∷ 0x02 ∷ 0x65 ∷ 0x6E ∷ 0x06 ∷ 0x01 ∷ 0x01 ∷ []
+
+-- a service whose attribute runs past it, but not past the object
+abbrev passing : List ℕ
+passing = 0x03 ∷ 0x06 ∷ 0x28 ∷ 0x02 ∷ 0x80 ∷ 0x02 ∷ 0x00 ∷ 0x01 ∷ []
+
+-- an attribute of the top with a token that the table after it doesn't have
+abbrev waiting : List ℕ
+waiting = 0x03 ∷ 0x07 ∷ 0x82 ∷ 0x01 ∷ 0x01 ∷ 0x04 ∷ 0x02 ∷ 0x02 ∷ 0x00 ∷ []
+
+record Answers : Type 0 where
+  ofTop : judgeAnswer (judge top) ≡ Records (record { records = 1 })
+  ofTabled : judgeAnswer (judge tabled) ≡ Records (record { records = 2 })
+  ofPassing : judgeAnswer (judge passing) ≡ NotRead (refusal 3 4)
+  ofWaiting : judgeAnswer (judge waiting) ≡ NotRead (refusal 12 2)
+
+answers : Answers
+unfolding among value headerSize bodySize layout token character single goesOn utf8 text cut entries filled isTable entry orItself stands expanded present covers covered shownLength rows kindIn known attribute width fits count isKnown isItems isTokens isText isValue isTop allowed latest stageAfter limit notAbove shown ofTop rule first kindRules itemRules own late lateBefore lateAfter broken within waits next unless followed joined byKind items outermost judge judgeAnswer
+answers = record { ofTop = refl; ofTabled = refl; ofPassing = refl; ofWaiting = refl }
+
+differ : (r : Refusal) (c : Counts) → NotRead r ≡ Records c → ⊥
+differ r c h = let z : _≡_ {A = ℕ} 0 1 = cc in omega arith
+
+-- every object is refused
+pub all-refused : (r : Refusal) → NotRead r ≡ judgeAnswer (judge top) → ⊥
+all-refused r h = differ r (record { records = 1 }) (h ∙ answers .ofTop)
+
+-- the token table counts as a record
+pub table-counted : Records (record { records = 3 }) ≡ judgeAnswer (judge tabled) → ⊥
+table-counted h =
+    let e : Records (record { records = 3 }) ≡ Records (record { records = 2 }) = h ∙ answers .ofTabled in
+    let z : _≡_ {A = Counts} (record { records = 3 }) (record { records = 2 }) = cc in
+    counts-differ z
+  where
+    counts-differ : _≡_ {A = Counts} (record { records = 3 }) (record { records = 2 }) → ⊥
+    counts-differ q = let n : _≡_ {A = ℕ} 3 2 = λ i. q i .records in omega arith
+
+-- a child's length is held against the object's end
+pub child-passes : (c : Counts) → Records c ≡ judgeAnswer (judge passing) → ⊥
+child-passes c h = differ (refusal 3 4) c (sym (h ∙ answers .ofPassing))
+
+-- the late rule is forgotten
+pub late-forgotten : (c : Counts) → Records c ≡ judgeAnswer (judge waiting) → ⊥
+late-forgotten c h = differ (refusal 12 2) c (sym (h ∙ answers .ofWaiting))

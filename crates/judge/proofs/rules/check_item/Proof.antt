@@ -1,0 +1,42 @@
+use Rattle.judge.proofs.ItemWays.{item-ways}
+use borrow.Author.Tests.{not-true, not-false}
+use borrow.Author.Needs.{needs}
+use Rattle.judge.proofs.rules.check_item.Statement.{statement}
+use Rattle.judge.proofs.rules.check_item.Tie as tie
+
+latest-of-requires : tie.Need-latest-of-requires
+latest-of-requires c κs = search needs
+
+returns : tie.Need-returns
+returns c = search (item-ways, needs)
+
+is-within-depth-requires : tie.Need-is-within-depth-requires
+is-within-depth-requires c κs = search needs
+
+returns-2 : tie.Need-returns-2
+returns-2 c = search (item-ways, not-true, needs)
+
+is-twice-requires : tie.Need-is-twice-requires
+is-twice-requires c κs = search needs
+
+returns-3 : tie.Need-returns-3
+returns-3 c = search (item-ways, not-false, needs)
+
+check-body-requires : tie.Need-check-body-requires
+check-body-requires c κs = search needs
+
+returns-4 : tie.Need-returns-4
+returns-4 c = search (item-ways, not-false, needs)
+
+pub check-item-spec : {M : Type 1} → statement M
+check-item-spec =
+    tie.close
+    (tie.spec
+    latest-of-requires
+    returns
+    is-within-depth-requires
+    returns-2
+    is-twice-requires
+    returns-3
+    check-body-requires
+    returns-4)

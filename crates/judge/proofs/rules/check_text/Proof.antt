@@ -1,0 +1,38 @@
+use Rattle.judge.proofs.ItemWays.{text-ways}
+use borrow.Author.Tests.{not-true, not-false}
+use borrow.Author.Needs.{needs}
+use Rattle.judge.proofs.rules.check_text.Statement.{statement}
+use Rattle.judge.proofs.rules.check_text.Tie as tie
+
+check-requires : tie.Need-check-requires
+check-requires c κs = search needs
+
+returns : tie.Need-returns
+returns c = search (text-ways, not-true, needs)
+
+is-held-requires : tie.Need-is-held-requires
+is-held-requires c κs = search needs
+
+returns-2 : tie.Need-returns-2
+returns-2 c = search (text-ways, not-true, not-false, needs)
+
+is-short-requires : tie.Need-is-short-requires
+is-short-requires c κs = search needs
+
+returns-3 : tie.Need-returns-3
+returns-3 c = search (text-ways, not-true, not-false, needs)
+
+returns-4 : tie.Need-returns-4
+returns-4 c = search (text-ways, not-false, needs)
+
+pub check-text-spec : {M : Type 1} → statement M
+check-text-spec =
+    tie.close
+    (tie.spec
+    check-requires
+    returns
+    is-held-requires
+    returns-2
+    is-short-requires
+    returns-3
+    returns-4)

@@ -1,0 +1,92 @@
+use mathlib.Core.Path.{refl}
+use Rattle.judge.proofs.OwnWays.{own-good, own-ways}
+use borrow.Author.Tests.{not-true, not-false}
+use borrow.Author.Needs.{needs}
+use Rattle.judge.proofs.rules.judge_framed.Statement.{statement}
+use Rattle.judge.proofs.rules.judge_framed.Tie as tie
+
+sub-if1 : tie.Need-sub-if1
+sub-if1 c = search needs
+
+returns : tie.Need-returns
+returns c = search (own-ways, needs)
+
+shared-slice-read-tag : tie.Need-shared-slice-read-tag
+shared-slice-read-tag c = search (own-ways, needs)
+
+is-allowed-requires : tie.Need-is-allowed-requires
+is-allowed-requires c κs = search needs
+
+returns-2 : tie.Need-returns-2
+returns-2 c = search (own-ways, not-true, needs)
+
+add-to : tie.Need-add-to
+add-to c = search needs
+
+trails-requires : tie.Need-trails-requires
+trails-requires c κs = search needs
+
+add-t22 : tie.Need-add-t22
+add-t22 c = search needs
+
+returns-3 : tie.Need-returns-3
+returns-3 c = search (own-ways, not-false, needs)
+
+known-kind-requires : tie.Need-known-kind-requires
+known-kind-requires c κs = search needs
+
+sub-check-item : tie.Need-sub-check-item
+sub-check-item c = search needs
+
+part-check-item-start : tie.Need-part-check-item-start
+part-check-item-start c = search needs
+
+part-check-item-end : tie.Need-part-check-item-end
+part-check-item-end c = search needs
+
+check-item-requires : tie.Need-check-item-requires
+check-item-requires c κs = search needs
+
+enum-known-refusal : tie.Need-enum-known-refusal
+enum-known-refusal c = search needs
+
+enum-told : tie.Need-enum-told
+enum-told c = search needs
+
+sort-of-requires : tie.Need-sort-of-requires
+sort-of-requires c κs = search needs
+
+progress-after-requires : tie.Need-progress-after-requires
+progress-after-requires c κs = search needs
+
+returns-4 : tie.Need-returns-4
+returns-4 c = search (own-ways, not-false, needs)
+
+returns-5 : tie.Need-returns-5
+returns-5 c =
+    own-good _ _ _ _ _ _ _ _ ((c .before .before .before .before .before .before .before .before .before .before .before .before .before .before .before .pre) .0) ((c .before .before .before .before .before .before .before .before .before .before .before .before .if1) .left) _ refl _ ((c .before .before .before .before .before .before .before .before .before .before .is-allowed) .ensures) (not-false _ ((c .before .before .before .before .before .before .before .before .before .if2) .left)) _ ((c .before .before .before .before .before .before .before .before .trails) .ensures) ((c .before .before .before .before .before .before .before .if3) .left) _ ((c .before .before .before .before .check-item) .ensures) ((c .before .before .enum-told) .given .1) _ ((c .before .before .before .before .before .before .known-kind) .ensures) _ ((c .before .sort-of) .ensures) _ ((c .progress-after) .ensures)
+
+pub judge-framed-spec : {M : Type 1} → statement M
+judge-framed-spec =
+    tie.close
+    (tie.spec
+    sub-if1
+    returns
+    shared-slice-read-tag
+    is-allowed-requires
+    returns-2
+    add-to
+    trails-requires
+    add-t22
+    returns-3
+    known-kind-requires
+    sub-check-item
+    part-check-item-start
+    part-check-item-end
+    check-item-requires
+    enum-known-refusal
+    enum-told
+    sort-of-requires
+    progress-after-requires
+    returns-4
+    returns-5)

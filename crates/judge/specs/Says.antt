@@ -1,0 +1,184 @@
+-- What the code's values say, in the words of the crate format: contracts of the crate's own functions. The one public call has format's own claim.
+use mathlib.Core.Path.{_≡_}
+use mathlib.Core.Bool.{Bool, true, false, cond, _&&_}
+use mathlib.Core.Option.{Option, none, some}
+use mathlib.Core.List.{List, [], _∷_, _++_}
+use Prim.Native.Nat.{ℕ, _+_, _-_, _/_, _^_, _≤_}
+use lib.Dec.{eqb, leb}
+use lib.ListN.{length, take, drop, getD}
+use lib.Bits.{bitOr, bitAnd}
+use Rattle.octets.specs.Numbers.{among}
+use Rattle.octets.specs.Header.{headerSize, bodySize}
+use Rattle.text.specs.Tokens.{Entries, entries}
+use Rattle.text.specs.Leaves.{maskOf}
+use Rattle.values.specs.declared.Kind.{Kind}
+use Rattle.values.specs.declared.Kind.the-variants.{HoldsItems, HoldsTokens, HoldsText, HoldsPlain, HoldsTime, HoldsBearer, HoldsNumber}
+use Rattle.values.specs.Table.{known, attribute}
+use Rattle.format.specs.declared.Refusal.{Refusal}
+use Rattle.format.specs.declared.Counts.{Counts}
+use Rattle.format.specs.declared.ReadAnswer.{ReadAnswer}
+use Rattle.format.specs.declared.ReadAnswer.the-variants.{Records, NotRead}
+use Rattle.format.specs.Tree.{count}
+use Rattle.format.specs.Tree.Items.{end}
+use Rattle.format.specs.Judge.{Judged, Context, isTop, isKnown, limit, first, itemRules, own, broken, late, lateAfter, waits, stageAfter, unless}
+use Rattle.format.specs.Judge.Judged.{refused, accepted}
+use Rattle.values.specs.declared.KnownKind.{KnownKind}
+use Rattle.values.specs.declared.KnownKind.the-variants.{Unknown, Known}
+use Rattle.judge.specs.declared.Check.{Check}
+use Rattle.judge.specs.declared.Check.the-variants.{Kept, Broken}
+use Rattle.judge.specs.declared.Progress.{Progress}
+use Rattle.judge.specs.declared.Sort.{Sort}
+use Rattle.judge.specs.declared.Sort.the-variants.{Skip, Leaf, Table, Element}
+use Rattle.judge.specs.declared.Item.{Item}
+use Rattle.judge.specs.declared.Item.the-variants.{Bad, Good}
+use Rattle.judge.specs.declared.tags.Limit.{Limit}
+use Rattle.judge.specs.declared.tags.Limit.the-variants.{Unlimited, AtMost}
+
+-- a place in an object, by what the code keeps of it and, in `seen` and `waiting`, what it doesn't keep
+abbrev pub ctx : (parent depth stage : ℕ) (seen : List ℕ) (table : Entries) (waiting : List (ℕ × List ℕ)) → Context
+ctx parent depth stage seen table waiting = record { parent = parent; depth = depth; stage = stage; seen = seen; table = table; waiting = waiting }
+
+-- all of it that rules 9 to 13 look at
+abbrev pub bare : ℕ → Entries → Context
+bare parent table = ctx parent 0 0 [] table []
+
+-- the code counts levels down, the definition up: the top has depth 1 and sixteen levels to go, itself among them
+unfoldable pub depthOf : ℕ → ℕ
+depthOf left = 17 - left
+
+-- what the lookup's answer says in the definition's words
+unfoldable pub asKind : KnownKind → Option Kind
+asKind Unknown = none
+asKind (Known k) = some k
+
+unfoldable pub limited : Option ℕ → Limit
+limited none = Unlimited
+limited (some n) = AtMost n
+
+unfoldable pub asLimit : ℕ → Limit
+asLimit parent = limited (limit parent)
+
+-- the first broken rule
+unfoldable pub checked : Check → Option Refusal
+checked Kept = none
+checked (Broken r) = some r
+
+unfoldable pub sorted : Option Kind → Sort
+sorted none = Skip
+sorted (some HoldsItems) = Element
+sorted (some HoldsTokens) = Table
+sorted (some HoldsText) = Leaf
+sorted (some HoldsPlain) = Leaf
+sorted (some HoldsTime) = Leaf
+sorted (some HoldsBearer) = Leaf
+sorted (some (HoldsNumber n)) = Leaf
+
+-- the bit of a tag from 0x80 to 0xBF in a mask; no other tag has one
+unfoldable pub hasBit : ℕ → ℕ → Bool
+hasBit mask tag = leb 0x80 tag && leb tag 0xBF && eqb (bitAnd (mask / 2 ^ (tag - 0x80)) 1) 1
+
+unfoldable pub withBit : ℕ → ℕ → ℕ
+withBit mask tag = cond (leb 0x80 tag && leb tag 0xBF) (bitOr mask (2 ^ (tag - 0x80))) mask
+
+-- a mask of bits tells which known attributes of an element are among the tags seen
+pub record Seen (parent mask : ℕ) (seen : List ℕ) : Type 0 where
+  pub bits : List ℕ
+  pub isMask : mask ≡ maskOf bits
+  pub tells : (tag : ℕ) → attribute tag ≡ true → isKnown (known parent tag) ≡ true → among tag seen ≡ among (tag - 0x80) bits
+
+-- where an item's body begins in a part, how large it is, and that its header lies in the part
+pub record Framed (s : List ℕ) (start size : ℕ) : Type 0 where
+  pub isStart : headerSize s ≡ start
+  pub isSize : bodySize s ≡ size
+  pub inPart : start ≤ length s
+
+-- rules 6 to 13 say what a check says, whatever tags the mask stands for and whatever waits
+unfoldable pub ItemSays : (parent tag left : ℕ) (progress : Progress) (place : ℕ) (table body : List ℕ) → Check → Type 0
+ItemSays parent tag left progress place table body r =
+    (seen : List ℕ) (waiting : List (ℕ × List ℕ)) → Seen parent (progress .mask) seen
+    → itemRules (ctx parent (depthOf left) (progress .stage) seen (entries table) waiting) place tag body ≡ checked r
+
+-- the rules of the first item of a part: its own, its own with the late 12 just after it, and all
+unfoldable pub ownOf : Context → ℕ → List ℕ → Option Refusal
+ownOf c at s = own c at (getD s 0 0) (headerSize s) (bodySize s) (length s) (take (bodySize s) (drop (headerSize s) s))
+
+unfoldable pub behindOf : Context → ℕ → List ℕ → Option Refusal
+behindOf c at s = first (ownOf c at s ∷ lateAfter c (getD s 0 0) (take (bodySize s) (drop (headerSize s) s)) ∷ [])
+
+unfoldable pub brokenOf : Context → ℕ → List ℕ → Option Refusal
+brokenOf c at s = broken c at (getD s 0 0) (headerSize s) (bodySize s) (length s) (take (bodySize s) (drop (headerSize s) s))
+
+-- the attributes of a part from one place up to another, and their texts that wait for the table
+pub data Waits : (parent base : ℕ) (part : List ℕ) (stop j : ℕ) → List (ℕ × List ℕ) → Type 0 where
+  done : (parent base : ℕ) (part : List ℕ) (stop j : ℕ) (ws : List (ℕ × List ℕ)) → j ≡ stop → ws ≡ [] → Waits parent base part stop j ws
+  more : (parent base : ℕ) (part : List ℕ) (stop j : ℕ) (ws : List (ℕ × List ℕ)) (start size : ℕ) (later : List (ℕ × List ℕ))
+      → 2 ≤ start → Framed (drop j part) start size → j + start + size ≤ stop → stop ≤ length part
+      → ws ≡ waits (known parent (getD (drop j part) 0 0)) [] (base + j) (take size (drop start (drop j part))) ++ later
+      → Waits parent base part stop (j + start + size) later → Waits parent base part stop j ws
+
+-- what waits in an element at a place: while only attributes of the top were read their texts, all from the element's start on, and else nothing
+unfoldable pub WaitsWhen : Bool → (parent base : ℕ) (part : List ℕ) (at : ℕ) → List (ℕ × List ℕ) → Type 0
+WaitsWhen true parent base part at ws = Waits parent base part at 0 ws
+WaitsWhen false parent base part at ws = ws ≡ []
+
+-- the late rule says what a check says, of all that waits
+unfoldable pub LateSays : Bool → (part : List ℕ) (run parent base : ℕ) (table : List ℕ) → Check → Type 0
+LateSays due part run parent base table r = (ws : List (ℕ × List ℕ)) → WaitsWhen due parent base part run ws → late (entries table) ws ≡ checked r
+
+-- one of the three rules above is broken so, whatever tags the mask stands for and whatever waits here
+unfoldable pub OwnIs : (parent left : ℕ) (progress : Progress) (table : List ℕ) (place : ℕ) (s : List ℕ) → Option Refusal → Type 0
+OwnIs parent left progress table place s o =
+    (seen : List ℕ) (waiting : List (ℕ × List ℕ)) → Seen parent (progress .mask) seen
+    → ownOf (ctx parent (depthOf left) (progress .stage) seen (entries table) waiting) place s ≡ o
+
+unfoldable pub BehindIs : (parent left : ℕ) (progress : Progress) (table : List ℕ) (base at : ℕ) (part : List ℕ) → Option Refusal → Type 0
+BehindIs parent left progress table base at part o =
+    (seen : List ℕ) (waiting : List (ℕ × List ℕ)) → Seen parent (progress .mask) seen → WaitsWhen (isTop parent && eqb (progress .stage) 0) parent base part at waiting
+    → behindOf (ctx parent (depthOf left) (progress .stage) seen (entries table) waiting) (base + at) (drop at part) ≡ o
+
+unfoldable pub AllIs : (parent left : ℕ) (progress : Progress) (table : List ℕ) (base at : ℕ) (part : List ℕ) → Option Refusal → Type 0
+AllIs parent left progress table base at part o =
+    (seen : List ℕ) (waiting : List (ℕ × List ℕ)) → Seen parent (progress .mask) seen → WaitsWhen (isTop parent && eqb (progress .stage) 0) parent base part at waiting
+    → brokenOf (ctx parent (depthOf left) (progress .stage) seen (entries table) waiting) (base + at) (drop at part) ≡ o
+
+-- how far an element was read after an item
+unfoldable pub after : ℕ → Progress → Progress
+after tag progress = record { stage = stageAfter tag; mask = withBit (progress .mask) tag }
+
+-- an item that breaks no rule: it lies in its part, its sort is that of its kind, and the next progress is told
+pub record Passed (parent : ℕ) (progress : Progress) (s : List ℕ) (sort : Sort) (start size : ℕ) (next : Progress) : Type 0 where
+  pub framed : Framed s start size
+  pub fits : start + size ≤ length s
+  pub sorts : sort ≡ sorted (known parent (getD s 0 0))
+  pub stages : next .stage ≡ stageAfter (getD s 0 0)
+  pub seens : (seen : List ℕ) → Seen parent (progress .mask) seen → Seen parent (next .mask) (getD s 0 0 ∷ seen)
+
+-- what an item says, where `R o` says that o is what is broken
+unfoldable pub Says : (R : Option Refusal → Type 0) (parent : ℕ) (progress : Progress) (s : List ℕ) → Item → Type 0
+Says R parent progress s (Bad r) = R (some r)
+Says R parent progress s (Good sort start size next) = R none × Passed parent progress s sort start size next
+
+-- the late 12 is judged just after an item where that is the table
+unfoldable pub tableSort : Sort → Bool
+tableSort Skip = false
+tableSort Leaf = false
+tableSort Table = true
+tableSort Element = false
+
+abbrev pub oneMore : Counts → Counts
+oneMore n = record { records = n .records + 1 }
+
+-- what judging items answers where so much was counted before them
+unfoldable pub counted : Counts → Judged → ReadAnswer
+counted before (refused r) = NotRead r
+counted before (accepted t) = Records (record { records = before .records + count t })
+
+-- the end of an element's items, at a place: what still waits is judged without a table
+unfoldable pub EndSays : (counts : Counts) (part : List ℕ) (at parent stage base : ℕ) → ReadAnswer → Type 0
+EndSays counts part at parent stage base r =
+    (waiting : List (ℕ × List ℕ)) → WaitsWhen (isTop parent && eqb stage 0) parent base part at waiting → r ≡ counted counts (unless (late [] waiting) (accepted end))
+
+-- an answer counts at most so many records
+abbrev pub CountsAtMost : ℕ → ReadAnswer → Type 0
+CountsAtMost m (Records counts) = counts .records ≤ m
+CountsAtMost m (NotRead r) = Unit {0}

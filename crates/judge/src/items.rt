@@ -1,0 +1,173 @@
+// The items of an element, in order, and the elements among them, to a depth of 16.
+ghost use mathlib.Core.Path.{_≡_};
+ghost use mathlib.Core.Bool.{_&&_};
+ghost use mathlib.Core.List.{[]};
+ghost use Prim.Native.Nat.{_+_, _-_, _≤_, _<_};
+ghost use lib.Dec.{eqb};
+ghost use lib.ListN.{length, take, drop};
+ghost use Rattle.text.specs.Tokens.{entries};
+ghost use Rattle.format.specs.Judge.{isTop, read};
+ghost use Rattle.judge.specs.Says.{ctx, depthOf, tableSort, BehindIs, AllIs, Says, oneMore, counted, EndSays, CountsAtMost};
+use crate::Check;
+use crate::Item;
+use crate::Progress;
+use crate::Sort;
+use crate::late::judge_late;
+use crate::rules::judge_own;
+use crate::tags::is_due_before;
+use crate::tags::is_waiting;
+use format::Counts;
+use format::ReadAnswer;
+
+// The late rule is judged just after the table.
+fn is_due_after(sort: Sort, parent: u8, stage: u8) -> bool
+    ensures { λ r. ⌜ r ≡ (tableSort sort && (isTop parent && eqb stage 0)) ⌝ }
+{
+    match sort {
+        Sort::Skip => false,
+        Sort::Leaf => false,
+        Sort::Table => is_waiting(parent, stage),
+        Sort::Element => false,
+    }
+}
+
+// The item at `at`: its own rules, and the late rule where it is the table.
+fn judge_item(
+    part: &[u8],
+    at: usize,
+    base: usize,
+    parent: u8,
+    left: u8,
+    progress: Progress,
+    table: &[u8],
+) -> Item
+    requires { ⌜ (base + length (now part) ≤ 32_768) × (at < length (now part)) ⌝ }
+    ensures { λ r. ⌜ Says (BehindIs parent left progress (now (table .entry)) base at (now (part .entry))) parent progress (drop at (now (part .entry))) r ⌝ }
+{
+    match judge_own(&part[at..], base + at, parent, left, progress, table) {
+        Item::Bad(refusal) => Item::Bad(refusal),
+        Item::Good(sort, start, size, next) => {
+            let from = at + start;
+            let to = from + size;
+            let due = is_due_after(sort, parent, progress.stage);
+            match judge_late(due, part, at, parent, base, &part[from..to]) {
+                Check::Broken(refusal) => Item::Bad(refusal),
+                Check::Kept => Item::Good(sort, start, size, next),
+            }
+        }
+    }
+}
+
+// All that is judged at the item at `at`: where it is neither attribute nor table, the late rule comes first, without a table.
+fn read_item(
+    part: &[u8],
+    at: usize,
+    base: usize,
+    parent: u8,
+    left: u8,
+    progress: Progress,
+    table: &[u8],
+) -> Item
+    requires { ⌜ (base + length (now part) ≤ 32_768) × (at < length (now part)) ⌝ }
+    ensures { λ r. ⌜ Says (AllIs parent left progress (now (table .entry)) base at (now (part .entry))) parent progress (drop at (now (part .entry))) r ⌝ }
+{
+    let due = is_due_before(parent, progress.stage, part[at]);
+    match judge_late(due, part, at, parent, base, &part[0..0]) {
+        Check::Broken(refusal) => Item::Bad(refusal),
+        Check::Kept => judge_item(part, at, base, parent, left, progress, table),
+    }
+}
+
+// The end of the items of an element: the late rule, where it still waits.
+fn end_items(
+    counts: Counts,
+    part: &[u8],
+    at: usize,
+    parent: u8,
+    stage: u8,
+    base: usize,
+) -> ReadAnswer
+    requires { ⌜ (base + length (now part) ≤ 32_768) × (at ≤ length (now part)) ⌝ }
+    ensures { λ r. ⌜ EndSays counts (now (part .entry)) at parent stage base r ⌝ }
+    ensures { λ r. ⌜ CountsAtMost (counts .records) r ⌝ }
+{
+    let due = is_waiting(parent, stage);
+    match judge_late(due, part, at, parent, base, &part[0..0]) {
+        Check::Broken(refusal) => ReadAnswer::NotRead(refusal),
+        Check::Kept => ReadAnswer::Records(counts),
+    }
+}
+
+// The items of a part, which begins at the place `base` of the object and is the body of an element with the tag `parent`, or the object (0).
+// So many levels of elements may still begin in it. `before` is what was counted before it, `given` the token table in force.
+pub fn read_items<'a>(
+    part: &'a [u8],
+    base: usize,
+    parent: u8,
+    left: u8,
+    before: Counts,
+    given: &'a [u8],
+) -> ReadAnswer
+    requires { ⌜ (base + length (now part) ≤ 32_768) × (before .records ≤ base) × (left ≤ 16) ⌝ }
+    ensures { λ r. ⌜ r ≡ counted before (read (ctx parent (depthOf left) 0 [] (entries (now (given .entry))) []) base (now (part .entry))) ⌝ }
+    ensures { λ r. ⌜ CountsAtMost (base + length (now (part .entry))) r ⌝ }
+{
+    let mut at: usize = 0;
+    let mut progress = Progress { stage: 0, mask: 0 };
+    let mut counts = before;
+    let mut table: &'a [u8] = given;
+    while at < part.len() {
+        match read_item(part, at, base, parent, left, progress, table) {
+            Item::Bad(refusal) => {
+                return ReadAnswer::NotRead(refusal);
+            }
+            Item::Good(sort, start, size, next) => {
+                let tag = part[at];
+                let from = at + start;
+                at = from + size;
+                progress = next;
+                match sort {
+                    Sort::Skip => {}
+                    Sort::Leaf => {
+                        counts.records = counts.records + 1;
+                    }
+                    Sort::Table => {
+                        table = &part[from..at];
+                    }
+                    Sort::Element => {
+                        match read_element(part, from, at, base, tag, left, counts, table) {
+                            ReadAnswer::NotRead(refusal) => {
+                                return ReadAnswer::NotRead(refusal);
+                            }
+                            ReadAnswer::Records(within) => {
+                                counts = within;
+                            }
+                        }
+                    }
+                }
+            }
+        }
+    }
+    end_items(counts, part, at, parent, progress.stage, base)
+}
+
+// An element, whose body lies in the part from `from` up to `to`: its items are read within that middle part and see nothing behind it. The
+// element itself is counted before them.
+fn read_element<'a>(
+    part: &'a [u8],
+    from: usize,
+    to: usize,
+    base: usize,
+    tag: u8,
+    left: u8,
+    before: Counts,
+    table: &'a [u8],
+) -> ReadAnswer
+    requires { ⌜ (from ≤ to) × (to ≤ length (now part)) × (base + length (now part) ≤ 32_768) × (before .records < base + from) × (0 < left) × (left ≤ 16) ⌝ }
+    ensures { λ r. ⌜ r ≡ counted (oneMore before) (read (ctx tag (depthOf (left - 1)) 0 [] (entries (now (table .entry))) []) (base + from) (take (to - from) (drop from (now (part .entry))))) ⌝ }
+    ensures { λ r. ⌜ CountsAtMost (base + to) r ⌝ }
+{
+    let mut counts = before;
+    counts.records = counts.records + 1;
+    read_items(&part[from..to], base + from, tag, left - 1, counts, table)
+}

@@ -1,0 +1,82 @@
+// The late rule 12, for the texts of the top's own attributes. Nothing is kept for it: while it waits, these attributes are all that was read
+// of the top, so they are found again from its start on.
+ghost use mathlib.Core.Path.{_≡_};
+ghost use mathlib.Core.Bool.{not, _||_};
+ghost use Prim.Native.Nat.{_+_, _≤_};
+ghost use lib.ListN.{length};
+ghost use Rattle.text.specs.Tokens.{entries, covered};
+ghost use Rattle.values.specs.Table.{known};
+ghost use Rattle.format.specs.Judge.{isText};
+ghost use Rattle.judge.specs.Says.{asKind, LateSays};
+use crate::Check;
+use format::Refusal;
+use octets::Header;
+use octets::read_header;
+use text::is_covered;
+use values::Kind;
+use values::KnownKind;
+use values::known_kind;
+
+fn is_text(known: KnownKind) -> bool
+    ensures { λ r. ⌜ r ≡ isText (asKind known) ⌝ }
+{
+    match known {
+        KnownKind::Unknown => false,
+        KnownKind::Known(kind) => match kind {
+            Kind::HoldsText => true,
+            _ => false,
+        },
+    }
+}
+
+// Each token octet of an attribute has an entry, if the attribute is text.
+fn is_settled(parent: u8, tag: u8, table: &[u8], body: &[u8]) -> bool
+    ensures { λ r. ⌜ r ≡ (not (isText (known parent tag)) || covered (entries (now (table .entry))) (now (body .entry))) ⌝ }
+{
+    if is_text(known_kind(parent, tag)) {
+        return is_covered(table, body);
+    }
+    true
+}
+
+// Where the rule is due: the attributes of a part up to `run`, held against a table. The part begins at the place `base`. Headers that
+// don't lie in the part aren't met there, since these attributes were judged before.
+pub fn judge_late(
+    due: bool,
+    part: &[u8],
+    run: usize,
+    parent: u8,
+    base: usize,
+    table: &[u8],
+) -> Check
+    requires { ⌜ (base + length (now part) ≤ 32_768) × (run ≤ length (now part)) ⌝ }
+    ensures { λ r. ⌜ LateSays due (now (part .entry)) run parent base (now (table .entry)) r ⌝ }
+{
+    if !due {
+        return Check::Kept;
+    }
+    let mut at: usize = 0;
+    while at < run {
+        match read_header(&part[at..]) {
+            Header::Past => {
+                return Check::Kept;
+            }
+            Header::Found { start, size } => {
+                if part.len() - at - start < size {
+                    return Check::Kept;
+                }
+                let from = at + start;
+                let to = from + size;
+                if is_settled(parent, part[at], table, &part[from..to]) {
+                    at = to;
+                } else {
+                    return Check::Broken(Refusal {
+                        number: 12,
+                        place: base + at,
+                    });
+                }
+            }
+        }
+    }
+    Check::Kept
+}

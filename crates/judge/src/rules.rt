@@ -1,0 +1,241 @@
+// The rules of one item, 2 to 13, by rising number, but for the late 12 (late.rt).
+ghost use mathlib.Core.Path.{_≡_};
+ghost use mathlib.Core.Bool.{_&&_, _||_};
+ghost use mathlib.Core.Option.{some};
+ghost use Prim.Native.Nat.{_+_, _≤_};
+ghost use lib.ListN.{length};
+ghost use Rattle.text.specs.Tokens.{entries, covered, shownLength};
+ghost use Rattle.values.specs.Table.{attribute};
+ghost use Rattle.values.specs.declared.Kind.the-variants.{HoldsText};
+ghost use Rattle.format.specs.Judge.{isKnown, isTop, shown, kindRules};
+ghost use Rattle.values.specs.Calls.{knownKind};
+ghost use Rattle.judge.specs.Says.{asKind, sorted, bare, checked, hasBit, after, ItemSays, Framed, OwnIs, Says};
+use crate::Check;
+use crate::Item;
+use crate::Progress;
+use crate::Sort;
+use crate::seen::has_bit;
+use crate::seen::with_bit;
+use crate::tags::Limit;
+use crate::tags::is_allowed;
+use crate::tags::is_of_top;
+use crate::tags::is_within_depth;
+use crate::tags::latest_of;
+use crate::tags::limit_of;
+use crate::tags::stage_after;
+use crate::tags::trails;
+use format::Refusal;
+use octets::Header;
+use octets::read_header;
+use text::check;
+use text::is_covered;
+use text::is_shown;
+use text::is_table;
+use values::Kind;
+use values::KnownKind;
+use values::fits_kind;
+use values::known_kind;
+
+// Rule 12 where it isn't late: the top's own attributes wait, and in any other text each token octet has an entry.
+fn is_held(parent: u8, tag: u8, table: &[u8], body: &[u8]) -> bool
+    ensures { λ r. ⌜ r ≡ ((attribute tag && isTop parent) || covered (entries (now (table .entry))) (now (body .entry))) ⌝ }
+{
+    if is_of_top(parent, tag) {
+        return true;
+    }
+    is_covered(table, body)
+}
+
+// Rule 13.
+fn is_short(parent: u8, tag: u8, table: &[u8], body: &[u8]) -> bool
+    ensures { λ r. ⌜ r ≡ shown parent tag (shownLength (entries (now (table .entry))) (now (body .entry))) ⌝ }
+{
+    if tag != 1 {
+        return true;
+    }
+    match limit_of(parent) {
+        Limit::Unlimited => true,
+        Limit::AtMost(n) => is_shown(table, body, n),
+    }
+}
+
+// Rules 10, 12 and 13, for text.
+fn check_text(parent: u8, tag: u8, place: usize, table: &[u8], body: &[u8]) -> Check
+    ensures { λ r. ⌜ checked r ≡ kindRules (bare parent (entries (now (table .entry)))) place tag (now (body .entry)) (some HoldsText) ⌝ }
+{
+    if !check(body, true) {
+        return Check::Broken(Refusal { number: 10, place });
+    }
+    if !is_held(parent, tag, table, body) {
+        return Check::Broken(Refusal { number: 12, place });
+    }
+    if !is_short(parent, tag, table, body) {
+        return Check::Broken(Refusal { number: 13, place });
+    }
+    Check::Kept
+}
+
+// Rules 9 to 13, for a kind.
+fn check_kind(kind: Kind, parent: u8, tag: u8, place: usize, table: &[u8], body: &[u8]) -> Check
+    ensures { λ r. ⌜ checked r ≡ kindRules (bare parent (entries (now (table .entry)))) place tag (now (body .entry)) (some kind) ⌝ }
+{
+    if !fits_kind(kind, body) {
+        return Check::Broken(Refusal { number: 9, place });
+    }
+    match kind {
+        Kind::HoldsText => check_text(parent, tag, place, table, body),
+        Kind::HoldsTokens => {
+            if is_table(body) {
+                return Check::Kept;
+            }
+            Check::Broken(Refusal { number: 11, place })
+        }
+        _ => Check::Kept,
+    }
+}
+
+// Rules 9 to 13: an unknown item isn't looked into.
+fn check_body(
+    known: KnownKind,
+    parent: u8,
+    tag: u8,
+    place: usize,
+    table: &[u8],
+    body: &[u8],
+) -> Check
+    ensures { λ r. ⌜ checked r ≡ kindRules (bare parent (entries (now (table .entry)))) place tag (now (body .entry)) (asKind known) ⌝ }
+{
+    match known {
+        KnownKind::Unknown => Check::Kept,
+        KnownKind::Known(kind) => check_kind(kind, parent, tag, place, table, body),
+    }
+}
+
+// Rule 8: a known attribute twice.
+fn is_twice(known: KnownKind, tag: u8, mask: u64) -> bool
+    ensures { λ r. ⌜ r ≡ (isKnown (asKind known) && hasBit mask tag) ⌝ }
+{
+    match known {
+        KnownKind::Unknown => false,
+        KnownKind::Known(_) => has_bit(mask, tag),
+    }
+}
+
+// Rules 6 to 13.
+fn check_item(
+    known: KnownKind,
+    parent: u8,
+    tag: u8,
+    left: u8,
+    progress: Progress,
+    place: usize,
+    table: &[u8],
+    body: &[u8],
+) -> Check
+    requires { ⌜ known ≡ knownKind parent tag ⌝ }
+    ensures { λ r. ⌜ ItemSays parent tag left progress place (now (table .entry)) (now (body .entry)) r ⌝ }
+{
+    if latest_of(tag) < progress.stage {
+        return Check::Broken(Refusal { number: 6, place });
+    }
+    if !is_within_depth(tag, left) {
+        return Check::Broken(Refusal { number: 7, place });
+    }
+    if is_twice(known, tag, progress.mask) {
+        return Check::Broken(Refusal { number: 8, place });
+    }
+    check_body(known, parent, tag, place, table, body)
+}
+
+fn sort_of(known: KnownKind) -> Sort
+    ensures { λ r. ⌜ r ≡ sorted (asKind known) ⌝ }
+{
+    match known {
+        KnownKind::Unknown => Sort::Skip,
+        KnownKind::Known(kind) => match kind {
+            Kind::HoldsItems => Sort::Element,
+            Kind::HoldsTokens => Sort::Table,
+            _ => Sort::Leaf,
+        },
+    }
+}
+
+fn progress_after(tag: u8, progress: Progress) -> Progress
+    ensures { λ r. ⌜ r ≡ after tag progress ⌝ }
+{
+    Progress {
+        stage: stage_after(tag),
+        mask: with_bit(progress.mask, tag),
+    }
+}
+
+// Rules 3 to 13 of the first item of a part, whose header was read.
+fn judge_framed(
+    rest: &[u8],
+    start: usize,
+    size: usize,
+    place: usize,
+    parent: u8,
+    left: u8,
+    progress: Progress,
+    table: &[u8],
+) -> Item
+    requires { ⌜ Framed (now rest) start size × (place + length (now rest) ≤ 32_768) ⌝ }
+    ensures { λ r. ⌜ Says (OwnIs parent left progress (now (table .entry)) place (now (rest .entry))) parent progress (now (rest .entry)) r ⌝ }
+{
+    if rest.len() - start < size {
+        return Item::Bad(Refusal { number: 3, place });
+    }
+    let tag = rest[0];
+    if !is_allowed(parent, tag) {
+        return Item::Bad(Refusal { number: 4, place });
+    }
+    let to = start + size;
+    if trails(parent, to, rest.len()) {
+        return Item::Bad(Refusal {
+            number: 5,
+            place: place + to,
+        });
+    }
+    let known = known_kind(parent, tag);
+    match check_item(
+        known,
+        parent,
+        tag,
+        left,
+        progress,
+        place,
+        table,
+        &rest[start..to],
+    ) {
+        Check::Broken(refusal) => Item::Bad(refusal),
+        Check::Kept => Item::Good(sort_of(known), start, size, progress_after(tag, progress)),
+    }
+}
+
+// Rules 2 to 13 of the first item of a part.
+pub fn judge_own(
+    rest: &[u8],
+    place: usize,
+    parent: u8,
+    left: u8,
+    progress: Progress,
+    table: &[u8],
+) -> Item
+    requires { ⌜ place + length (now rest) ≤ 32_768 ⌝ }
+    ensures { λ r. ⌜ Says (OwnIs parent left progress (now (table .entry)) place (now (rest .entry))) parent progress (now (rest .entry)) r ⌝ }
+{
+    match read_header(rest) {
+        Header::Past => Item::Bad(Refusal { number: 2, place }),
+        Header::Found { start, size } => judge_framed(
+            rest,
+            start,
+            size,
+            place,
+            parent,
+            left,
+            progress,
+            table,
+        ),
+    }
+}
