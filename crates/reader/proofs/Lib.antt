@@ -1,0 +1,8 @@
+pub mod Parts
+pub mod Leaves
+pub mod Laid
+pub mod Shares
+pub mod Opening
+pub mod Turns
+pub mod Reading
+pub mod Wrong

@@ -1,0 +1,89 @@
+-- The ways through read: refused, too few places, or filled.
+use mathlib.Core.Path.{_≡_, refl, sym, ap, _∙_}
+use mathlib.Core.Bool.{true, false, _&&_}
+use mathlib.Core.List.{List}
+use Prim.Native.Nat.{ℕ, _≤_, _<_}
+use native.Mathlib.Omega.{arith}
+use lib.Dec.{leb}
+use lib.ListN.{length}
+use borrow.Author.Tests.{leb-true, le-leb, lt-leb}
+use Rattle.octets.proofs.Tests.{and-right}
+use Rattle.format.specs.declared.Refusal.{Refusal}
+use Rattle.format.specs.declared.Counts.{Counts}
+use Rattle.format.specs.declared.ReadAnswer.{ReadAnswer}
+use Rattle.format.specs.declared.ReadAnswer.the-variants.{Records, NotRead}
+use Rattle.format.specs.Answers.{refusal}
+use Rattle.format.specs.Tree.{Items, count, records}
+use Rattle.format.specs.Judge.{Judged, judge, outermost, read, rule}
+use Rattle.format.specs.Judge.Judged.{refused, accepted}
+use Rattle.format.specs.Calls.{Lists, places, lay, judgeAnswer, readAnswer, readRecords, ReadClaim}
+use Rattle.format.proofs.Rules.{rule-true, unless-none, unless-accepted}
+use Rattle.format.proofs.Induction.{few}
+use Rattle.reader.specs.declared.filling.Place.{Place}
+use Rattle.reader.specs.Filling.{Accepts, Fillable, Filled, Fills}
+
+-- what the judge's answer says of the judgement
+was-refused : (j : Judged) (r : Refusal) → NotRead r ≡ judgeAnswer j → j ≡ refused r
+unfolding judgeAnswer
+was-refused (refused q) r h = cc
+was-refused (accepted t) r h = let z : _≡_ {A = ℕ} 0 1 = cc in absurd (omega arith)
+
+record Taken (j : Judged) (c : Counts) : Type 0 where
+  pub tree : Items
+  pub is : j ≡ accepted tree
+  pub many : c .records ≡ count tree
+
+was-accepted : (j : Judged) (c : Counts) → Records c ≡ judgeAnswer j → Taken j c
+unfolding judgeAnswer
+was-accepted (refused q) c h = let z : _≡_ {A = ℕ} 0 1 = cc in absurd (omega arith)
+was-accepted (accepted t) c h = let e : c ≡ record { records = count t } = cc in record { tree = t; is = refl; many = ap (λ x. x .records) e }
+
+-- an accepted object has no more octets than rule 1 allows
+small : (o : List ℕ) (t : Items) → judge o ≡ accepted t → length o ≤ 32_768
+unfolding judge
+small o t h = leb-true (length o) 32_768 (and-right (leb 1 (length o)) (leb (length o) 32_768) (rule-true 1 0 (leb 1 (length o) && leb (length o) 32_768) (unless-none (rule 1 0 (leb 1 (length o) && leb (length o) 32_768)) (read outermost 0 o) t h)))
+
+whole-accepts : (o : List ℕ) (t : Items) → judge o ≡ accepted t → Accepts 0 1 0 o t
+unfolding judge outermost
+whole-accepts o t h = record { context = outermost; isElement = refl; isDepth = refl; reads = unless-accepted (rule 1 0 (leb 1 (length o) && leb (length o) 32_768)) (read outermost 0 o) t h }
+
+-- where the top stands
+abbrev top : Place
+top = record { element = 0; number = 0; depth = 1; offset = 0; next = 0 }
+
+module _ (o : List ℕ) (l : Lists) (v : ReadAnswer) (e : v ≡ judgeAnswer (judge o)) where
+  pub read-refused : (r : Refusal) → v ≡ NotRead r → ReadClaim o l l (NotRead r)
+  unfolding readAnswer readRecords lay
+  read-refused r f = let j : judge o ≡ refused r = was-refused (judge o) r (sym f ∙ e) in record { answers = rw j; leaves = rw j }
+
+  module _ (c : Counts) (f : v ≡ Records c) where
+    taken : Taken (judge o) c
+    taken = was-accepted (judge o) c (sym f ∙ e)
+
+    module _ (n : ℕ) (en : n ≡ places l) where
+      pub read-full : n < c .records → ReadClaim o l l (NotRead (refusal 14 0))
+      unfolding readAnswer readRecords lay
+      read-full h =
+          let k : leb (count (taken .tree)) (places l) ≡ false = lt-leb (count (taken .tree)) (places l) (omega (arith, taken .many)) in
+          record { answers = rw (taken .is, k); leaves = rw (taken .is, k) }
+
+      module _ (h : c .records ≤ n) where
+        pub read-can : Fillable top o l
+        read-can = record {
+          tree = taken .tree;
+          accepts = whole-accepts o (taken .tree) (taken .is);
+          room = record {
+            above = omega arith;
+            few = omega (arith, few o (taken .tree) (taken .is), small o (taken .tree) (taken .is));
+            low = omega (arith, small o (taken .tree) (taken .is));
+            holds = omega (arith, taken .many);
+          };
+        }
+
+        pub read-filled : (l′ : Lists) (m : ℕ) → Fills top o l l′ m → ReadClaim o l l′ (Records c)
+        unfolding Fills readAnswer readRecords
+        read-filled l′ m g =
+            let k : leb (count (taken .tree)) (places l) ≡ true = le-leb (count (taken .tree)) (places l) (omega (arith, taken .many)) in
+            let d : Filled top (taken .tree) l l′ m = g (taken .tree) (whole-accepts o (taken .tree) (taken .is)) in
+            let same : c ≡ record { records = count (taken .tree) } = λ i. record { records = taken .many i } in
+            record { answers = rw (taken .is, k) (ap Records same); leaves = rw (taken .is, k) (d .laid) }

@@ -1,0 +1,156 @@
+-- An item's share of a tree: its records and their number, apart from those of the items after it.
+use mathlib.Core.Path.{_≡_, refl, sym, ap, ap₂, _∙_}
+use mathlib.Core.Bool.{Bool, true, false, cond, not, _&&_}
+use mathlib.Core.Option.{Option}
+use mathlib.Core.List.{List, [], _∷_, _++_, append-nil}
+use Prim.Native.Nat.{ℕ, _+_}
+use native.Mathlib.Nat.{add-zero}
+use native.Mathlib.Omega.{arith}
+use lib.Dec.{eqb}
+use Rattle.values.specs.declared.Kind.{Kind}
+use Rattle.values.specs.Table.{known}
+use Rattle.format.specs.declared.Record.{Record}
+use Rattle.format.specs.Tree.{Items, count, recordOf, records}
+use Rattle.format.specs.Tree.Items.{end, item}
+use Rattle.format.specs.Judge.{isKnown, isItems, isTokens}
+use Rattle.format.specs.Calls.{Lists, lay}
+use Rattle.format.proofs.Means.{items-known}
+use Rattle.format.proofs.Spans.{records-count}
+use Rattle.format.proofs.Lays.{lay-append}
+use Rattle.judge.proofs.AllWays.{tokens-four}
+use Rattle.reader.specs.declared.filling.Given.{Given}
+use Rattle.reader.specs.declared.filling.Given.the-variants.{Nothing, ItsRecord, ItsItemsToo}
+use Rattle.reader.specs.Filling.{givenBy, share}
+
+records-none : (depth parent n : ℕ) (v : Items) → records depth parent n v ≡ records depth parent n end ++ records depth parent (n + count end) v
+unfolding records count
+records-none depth parent n v = ap (λ (k : ℕ). records depth parent k v) (sym (add-zero n))
+
+count-none : (v : Items) → count v ≡ count end + count v
+unfolding count
+count-none v = omega arith
+
+module _ (tag start : ℕ) (body : List ℕ) where
+  -- an item, and then what comes after it
+  records-item : (depth parent n : ℕ) (u v : Items)
+      → records depth parent n (item tag start body u v) ≡ records depth parent n (item tag start body u end) ++ records depth parent (n + count (item tag start body u end)) v
+  unfolding records count
+  records-item depth parent n u v = go (eqb tag 4)
+    where
+      go : (b : Bool)
+          → cond b [] (recordOf depth parent tag start body ∷ records (depth + 1) n (n + 1) u) ++ records depth parent (cond b n (n + 1 + count u)) v
+          ≡ (cond b [] (recordOf depth parent tag start body ∷ records (depth + 1) n (n + 1) u) ++ []) ++ records depth parent (n + (cond b 0 (1 + count u) + 0)) v
+      go true = let e : n ≡ n + (0 + 0) = omega arith in ap (λ (k : ℕ). records depth parent k v) e
+      go false =
+          let e : n + 1 + count u ≡ n + (1 + count u + 0) = omega arith in
+          ap₂ (λ (rs : List Record) (k : ℕ). (recordOf depth parent tag start body ∷ rs) ++ records depth parent k v) (sym (append-nil (records (depth + 1) n (n + 1) u))) e
+
+  count-item : (u v : Items) → count (item tag start body u v) ≡ count (item tag start body u end) + count v
+  unfolding count
+  count-item u v = omega arith
+
+  records-share : (depth parent n : ℕ) (k : Option Kind) (u v : Items)
+      → records depth parent n (share k tag start body u v) ≡ records depth parent n (share k tag start body u end) ++ records depth parent (n + count (share k tag start body u end)) v
+  unfolding share
+  records-share depth parent n k u v = go (isItems k) (isKnown k)
+    where
+      go : (a b : Bool)
+          → records depth parent n (cond a (item tag start body u v) (cond b (item tag start body end v) v))
+          ≡ records depth parent n (cond a (item tag start body u end) (cond b (item tag start body end end) end))
+          ++ records depth parent (n + count (cond a (item tag start body u end) (cond b (item tag start body end end) end))) v
+      go true b = records-item depth parent n u v
+      go false true = records-item depth parent n end v
+      go false false = records-none depth parent n v
+
+  pub count-share : (k : Option Kind) (u v : Items) → count (share k tag start body u v) ≡ count (share k tag start body u end) + count v
+  unfolding share
+  count-share k u v = go (isItems k) (isKnown k)
+    where
+      go : (a b : Bool)
+          → count (cond a (item tag start body u v) (cond b (item tag start body end v) v)) ≡ count (cond a (item tag start body u end) (cond b (item tag start body end end) end)) + count v
+      go true b = count-item u v
+      go false true = count-item end v
+      go false false = count-none v
+
+  -- laid one after the other
+  pub lay-share : (depth parent n : ℕ) (k : Option Kind) (u v : Items) (l : Lists)
+      → lay n (records depth parent n (share k tag start body u v)) l
+      ≡ lay (n + count (share k tag start body u end)) (records depth parent (n + count (share k tag start body u end)) v) (lay n (records depth parent n (share k tag start body u end)) l)
+  lay-share depth parent n k u v l =
+      let own = records depth parent n (share k tag start body u end) in
+      let more = records depth parent (n + count (share k tag start body u end)) v in
+      ap (λ (rs : List Record). lay n rs l) (records-share depth parent n k u v) ∙ lay-append n own more l
+      ∙ ap (λ (m : ℕ). lay (n + m) more (lay n own l)) (records-count (share k tag start body u end) depth parent n)
+
+-- ---- an item's share alone, by what is written of it
+
+-- no record
+pub record Silent (t : Items) : Type 0 where
+  pub many : count t ≡ 0
+  pub laid : (depth parent n : ℕ) → records depth parent n t ≡ []
+
+-- a record, and those of the items inside
+pub record Written (t : Items) (tag start : ℕ) (body : List ℕ) (inside : Items) : Type 0 where
+  pub many : count t ≡ 1 + count inside
+  pub laid : (depth parent n : ℕ) → records depth parent n t ≡ recordOf depth parent tag start body ∷ records (depth + 1) n (n + 1) inside
+
+silent-end : Silent end
+unfolding count records
+silent-end = record { many = refl; laid = λ depth parent n. refl }
+
+module _ (tag start : ℕ) (body : List ℕ) (inside : Items) where
+  silent-table : eqb tag 4 ≡ true → Silent (item tag start body inside end)
+  unfolding count records
+  silent-table e = record { many = rw e (omega arith); laid = λ depth parent n. rw e }
+
+  written-item : eqb tag 4 ≡ false → Written (item tag start body inside end) tag start body inside
+  unfolding count records
+  written-item e = record { many = rw e (omega arith); laid = λ depth parent n. rw (e, append-nil) }
+
+module _ (p tag start : ℕ) (body : List ℕ) (u : Items) where
+  abbrev own : Items
+  own = share (known p tag) tag start body u end
+
+  -- by the tests of a kind: does it hold items, is it known, is it the table's
+  abbrev given : (a b c : Bool) → Given
+  given a b c = cond a ItsItemsToo (cond (b && not c) ItsRecord Nothing)
+
+  abbrev shared : (a b : Bool) → Items
+  shared a b = cond a (item tag start body u end) (cond b (item tag start body end end) end)
+
+  silent-by : (a b c : Bool) → c ≡ eqb tag 4 → Nothing ≡ given a b c → Silent (shared a b)
+  silent-by true b c e h = let z : _≡_ {A = ℕ} 0 1 = cc in absurd (omega arith)
+  silent-by false true true e h = silent-table tag start body end (sym e)
+  silent-by false true false e h = let z : _≡_ {A = ℕ} 0 1 = cc in absurd (omega arith)
+  silent-by false false c e h = silent-end
+
+  alone-by : (a b c : Bool) → c ≡ eqb tag 4 → ItsRecord ≡ given a b c → Written (shared a b) tag start body end
+  alone-by true b c e h = let z : _≡_ {A = ℕ} 0 1 = cc in absurd (omega arith)
+  alone-by false true true e h = let z : _≡_ {A = ℕ} 0 1 = cc in absurd (omega arith)
+  alone-by false true false e h = written-item tag start body end (sym e)
+  alone-by false false c e h = let z : _≡_ {A = ℕ} 0 1 = cc in absurd (omega arith)
+
+  items-by : (a b c : Bool) → ItsItemsToo ≡ given a b c → a ≡ true
+  items-by true b c h = refl
+  items-by false true true h = let z : _≡_ {A = ℕ} 0 1 = cc in absurd (omega arith)
+  items-by false true false h = let z : _≡_ {A = ℕ} 0 1 = cc in absurd (omega arith)
+  items-by false false c h = let z : _≡_ {A = ℕ} 0 1 = cc in absurd (omega arith)
+
+  pub silent : Nothing ≡ givenBy (known p tag) → Silent own
+  unfolding givenBy share
+  silent h = silent-by (isItems (known p tag)) (isKnown (known p tag)) (isTokens (known p tag)) (tokens-four p tag) h
+
+  pub written-alone : ItsRecord ≡ givenBy (known p tag) → Written own tag start body end
+  unfolding givenBy share
+  written-alone h = alone-by (isItems (known p tag)) (isKnown (known p tag)) (isTokens (known p tag)) (tokens-four p tag) h
+
+  pub holds-items : ItsItemsToo ≡ givenBy (known p tag) → isItems (known p tag) ≡ true
+  unfolding givenBy
+  holds-items h = items-by (isItems (known p tag)) (isKnown (known p tag)) (isTokens (known p tag)) h
+
+  pub written-items : ItsItemsToo ≡ givenBy (known p tag) → Written own tag start body u
+  unfolding share isTokens
+  written-items h =
+      let i = holds-items h in
+      let f : eqb tag 4 ≡ false = sym (tokens-four p tag) ∙ ap isTokens (items-known (known p tag) i) in
+      rw i (written-item tag start body u f)

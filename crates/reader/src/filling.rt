@@ -1,0 +1,208 @@
+// Filling lent lists with the records of an object that is accepted, and for whose records they have places. Nothing is judged again: an item's header says
+// where its body lies, and the table of known items what is written of it.
+ghost use mathlib.Core.Path.{_≡_};
+ghost use Prim.Native.Nat.{_+_, _<_, min};
+ghost use lib.ListN.{length};
+ghost use Rattle.values.specs.Table.{known};
+ghost use Rattle.format.specs.Tree.{kindOf, recordOf};
+ghost use Rattle.format.specs.Calls.{places, put};
+ghost use Rattle.reader.specs.Lent.{lent, Within};
+ghost use Rattle.reader.specs.Filling.{givenBy, Narrow, Fillable, Fills, ItemFillable, ItemFills};
+use format::Record;
+use octets::Header;
+use octets::read_header;
+use values::Kind;
+use values::KnownKind;
+use values::is_attribute;
+use values::known_kind;
+
+// Where reading stands: the element whose items are read (its tag and the number of its record), the depth of these items, an offset
+// of the object, and the number that the next record gets. The object itself counts as an element with the tag 0, whose one item is
+// the top.
+pub struct Place {
+    pub element: u8,
+    pub number: usize,
+    pub depth: u8,
+    pub offset: usize,
+    pub next: usize,
+}
+
+// What is written of an item: nothing, its record, or its record and those of the items inside it.
+pub enum Given {
+    Nothing,
+    ItsRecord,
+    ItsItemsToo,
+}
+
+fn least(a: usize, b: usize) -> usize
+    ensures { λ r. ⌜ r ≡ min a b ⌝ }
+{
+    if a < b { a } else { b }
+}
+
+// How many records the lists have places for.
+pub fn places(
+    tags: &[u8],
+    kinds: &[u8],
+    depths: &[u8],
+    parents: &[u16],
+    starts: &[u16],
+    sizes: &[u16],
+) -> usize
+    ensures { λ r. ⌜ r ≡ places (lent (tags .entry) (kinds .entry) (depths .entry) (parents .entry) (starts .entry) (sizes .entry)) ⌝ }
+{
+    least(
+        tags.len(),
+        least(
+            kinds.len(),
+            least(
+                depths.len(),
+                least(parents.len(), least(starts.len(), sizes.len())),
+            ),
+        ),
+    )
+}
+
+// The only stores into the lists.
+fn put_record(
+    tags: &mut [u8],
+    kinds: &mut [u8],
+    depths: &mut [u8],
+    parents: &mut [u16],
+    starts: &mut [u16],
+    sizes: &mut [u16],
+    i: usize,
+    r: Record,
+)
+    requires { ⌜ Within i (lent tags kinds depths parents starts sizes) ⌝ }
+    ensures { λ _. ⌜ lent (tags .exit) (kinds .exit) (depths .exit) (parents .exit) (starts .exit) (sizes .exit) ≡ put i r (lent (tags .entry) (kinds .entry) (depths .entry) (parents .entry) (starts .entry) (sizes .entry)) ⌝ }
+{
+    tags[i] = r.tag;
+    kinds[i] = r.kind;
+    depths[i] = r.depth;
+    parents[i] = r.parent;
+    starts[i] = r.start;
+    sizes[i] = r.size;
+}
+
+fn kind_of(tag: u8) -> u8
+    ensures { λ r. ⌜ r ≡ kindOf tag ⌝ }
+{
+    if is_attribute(tag) {
+        return 1;
+    }
+    if tag == 1 { 2 } else { 0 }
+}
+
+// An accepted object has at most 32,768 octets and half as many records, so that each field has its number whole.
+fn record_of(tag: u8, body: &[u8], place: Place) -> Record
+    requires { ⌜ Narrow place (now body) ⌝ }
+    ensures { λ r. ⌜ r ≡ recordOf (place .depth) (place .number) tag (place .offset) (now (body .entry)) ⌝ }
+{
+    let kind = kind_of(tag);
+    let parent = place.number as u16;
+    let start = place.offset as u16;
+    let size = body.len() as u16;
+    Record {
+        tag,
+        kind,
+        depth: place.depth,
+        parent,
+        start,
+        size,
+    }
+}
+
+fn given_by(parent: u8, tag: u8) -> Given
+    ensures { λ r. ⌜ r ≡ givenBy (known parent tag) ⌝ }
+{
+    let found = known_kind(parent, tag);
+    match found {
+        KnownKind::Unknown => Given::Nothing,
+        KnownKind::Known(kind) => match kind {
+            Kind::HoldsItems => Given::ItsItemsToo,
+            Kind::HoldsTokens => Given::Nothing,
+            Kind::HoldsText => Given::ItsRecord,
+            Kind::HoldsPlain => Given::ItsRecord,
+            Kind::HoldsTime => Given::ItsRecord,
+            Kind::HoldsBearer => Given::ItsRecord,
+            Kind::HoldsNumber(number) => Given::ItsRecord,
+        },
+    }
+}
+
+// The records of one item, whose body begins at the place's offset, and the number behind them.
+fn fill_item(
+    tag: u8,
+    body: &[u8],
+    place: Place,
+    tags: &mut [u8],
+    kinds: &mut [u8],
+    depths: &mut [u8],
+    parents: &mut [u16],
+    starts: &mut [u16],
+    sizes: &mut [u16],
+) -> usize
+    requires { ⌜ ItemFillable place tag (now body) (lent tags kinds depths parents starts sizes) ⌝ }
+    ensures { λ r. ⌜ ItemFills place tag (now (body .entry)) (lent (tags .entry) (kinds .entry) (depths .entry) (parents .entry) (starts .entry) (sizes .entry)) (lent (tags .exit) (kinds .exit) (depths .exit) (parents .exit) (starts .exit) (sizes .exit)) r ⌝ }
+{
+    let n = place.next;
+    let given = given_by(place.element, tag);
+    match given {
+        Given::Nothing => n,
+        Given::ItsRecord => {
+            let record = record_of(tag, body, place);
+            put_record(tags, kinds, depths, parents, starts, sizes, n, record);
+            n + 1
+        }
+        Given::ItsItemsToo => {
+            let record = record_of(tag, body, place);
+            put_record(tags, kinds, depths, parents, starts, sizes, n, record);
+            let inner = Place {
+                element: tag,
+                number: n,
+                depth: place.depth + 1,
+                offset: place.offset,
+                next: n + 1,
+            };
+            fill_items(body, inner, tags, kinds, depths, parents, starts, sizes)
+        }
+    }
+}
+
+// The records of the items in a part, which begins at the place's offset, and the number behind them.
+pub fn fill_items(
+    part: &[u8],
+    place: Place,
+    tags: &mut [u8],
+    kinds: &mut [u8],
+    depths: &mut [u8],
+    parents: &mut [u16],
+    starts: &mut [u16],
+    sizes: &mut [u16],
+) -> usize
+    requires { ⌜ Fillable place (now part) (lent tags kinds depths parents starts sizes) ⌝ }
+    ensures { λ r. ⌜ Fills place (now (part .entry)) (lent (tags .entry) (kinds .entry) (depths .entry) (parents .entry) (starts .entry) (sizes .entry)) (lent (tags .exit) (kinds .exit) (depths .exit) (parents .exit) (starts .exit) (sizes .exit)) r ⌝ }
+{
+    let mut next = place.next;
+    let mut at: usize = 0;
+    while at < part.len() {
+        let Header::Found { start, size } = read_header(&part[at..]) else {
+            return next;
+        };
+        let from = at + start;
+        let to = from + size;
+        let item = Place {
+            element: place.element,
+            number: place.number,
+            depth: place.depth,
+            offset: place.offset + from,
+            next,
+        };
+        let tag = part[at];
+        let body = &part[from..to];
+        next = fill_item(tag, body, item, tags, kinds, depths, parents, starts, sizes);
+        at = to;
+    }
+    next
+}

@@ -1,0 +1,86 @@
+// Reading: the records of an object into lists that the caller lends, and the octets that a record speaks of.
+ghost use mathlib.Core.Path.{_≡_};
+ghost use Prim.Native.Nat.{_^_, _<_};
+ghost use Rattle.format.specs.Calls.{ReadClaim, spanOf, bodyAt};
+ghost use Rattle.reader.specs.Lent.{lent};
+
+mod filling;
+
+use filling::Place;
+use filling::fill_items;
+use filling::places;
+use format::ReadAnswer;
+use format::Refusal;
+use format::Span;
+use judge::judge;
+
+// The records of an object in reading order, the first at number 0. Nothing is written before the whole object is accepted and the
+// shortest list is known to have a place for each record.
+pub fn read(
+    object: &[u8],
+    tags: &mut [u8],
+    kinds: &mut [u8],
+    depths: &mut [u8],
+    parents: &mut [u16],
+    starts: &mut [u16],
+    sizes: &mut [u16],
+) -> ReadAnswer
+    ensures { λ r. ⌜ ReadClaim (now (object .entry)) (lent (tags .entry) (kinds .entry) (depths .entry) (parents .entry) (starts .entry) (sizes .entry)) (lent (tags .exit) (kinds .exit) (depths .exit) (parents .exit) (starts .exit) (sizes .exit)) r ⌝ }
+{
+    let answer = judge(object);
+    match answer {
+        ReadAnswer::NotRead(refusal) => ReadAnswer::NotRead(refusal),
+        ReadAnswer::Records(counts) => {
+            let many = counts.records;
+            if places(tags, kinds, depths, parents, starts, sizes) < many {
+                return ReadAnswer::NotRead(Refusal {
+                    number: 14,
+                    place: 0,
+                });
+            }
+            let top = Place {
+                element: 0,
+                number: 0,
+                depth: 1,
+                offset: 0,
+                next: 0,
+            };
+            fill_items(object, top, tags, kinds, depths, parents, starts, sizes);
+            ReadAnswer::Records(counts)
+        }
+    }
+}
+
+fn wide(n: u16) -> usize
+    ensures { λ r. ⌜ (r ≡ n) × (r < 2 ^ 16) ⌝ }
+{
+    n as usize
+}
+
+// Where the body of a record lies, or the part of length 0 at the object's start where the lists have no such record or the object no such part.
+pub fn span(object: &[u8], starts: &[u16], sizes: &[u16], number: usize) -> Span
+    ensures { λ r. ⌜ r ≡ spanOf (now (object .entry)) (now (starts .entry)) (now (sizes .entry)) number ⌝ }
+{
+    if number >= starts.len() {
+        return Span { start: 0, size: 0 };
+    }
+    if number >= sizes.len() {
+        return Span { start: 0, size: 0 };
+    }
+    let start = wide(starts[number]);
+    let size = wide(sizes[number]);
+    if start + size > object.len() {
+        return Span { start: 0, size: 0 };
+    }
+    Span { start, size }
+}
+
+// The body of a record: that part of the very octets that were lent, no copy.
+pub fn body<'a>(object: &'a [u8], starts: &[u16], sizes: &[u16], number: usize) -> &'a [u8]
+    ensures { λ r. ⌜ now r ≡ bodyAt (now (object .entry)) (spanOf (now (object .entry)) (now (starts .entry)) (now (sizes .entry)) number) ⌝ }
+{
+    let part = span(object, starts, sizes, number);
+    let start = part.start;
+    let end = start + part.size;
+    &object[start..end]
+}
