@@ -1,4 +1,5 @@
--- What the code's values say, in the words of the crate format: contracts of the crate's own functions. The one public call has format's own claim.
+-- What the code's values say, in the words of the crate format: contracts of the crate's own functions. The one public call is claimed by format's definitions
+-- alone (specs/Judge, specs/Calls). Rules are those of document 01, Refusal numbers.
 use mathlib.Core.Path.{_≡_}
 use mathlib.Core.Bool.{Bool, true, false, cond, _&&_}
 use mathlib.Core.Option.{Option, none, some}
@@ -42,7 +43,7 @@ ctx parent depth stage seen table waiting = record { parent = parent; depth = de
 abbrev pub bare : ℕ → Entries → Context
 bare parent table = ctx parent 0 0 [] table []
 
--- the code counts levels down, the definition up: the top has depth 1 and sixteen levels to go, itself among them
+-- the code counts levels down, the definition counts depth up (document 01, Framing): at depth 1 sixteen levels of elements may begin, at depth 17 none
 unfoldable pub depthOf : ℕ → ℕ
 depthOf left = 17 - left
 
@@ -51,6 +52,7 @@ unfoldable pub asKind : KnownKind → Option Kind
 asKind Unknown = none
 asKind (Known k) = some k
 
+-- the limits of rule 13 in the code's words
 unfoldable pub limited : Option ℕ → Limit
 limited none = Unlimited
 limited (some n) = AtMost n
@@ -58,11 +60,12 @@ limited (some n) = AtMost n
 unfoldable pub asLimit : ℕ → Limit
 asLimit parent = limited (limit parent)
 
--- the first broken rule
+-- the first broken rule that a check found
 unfoldable pub checked : Check → Option Refusal
 checked Kept = none
 checked (Broken r) = some r
 
+-- what becomes of an item by its kind: an unknown one gives nothing, the table no record of its own (document 01, Records and meaning)
 unfoldable pub sorted : Option Kind → Sort
 sorted none = Skip
 sorted (some HoldsItems) = Element
@@ -80,7 +83,7 @@ hasBit mask tag = leb 0x80 tag && leb tag 0xBF && eqb (bitAnd (mask / 2 ^ (tag -
 unfoldable pub withBit : ℕ → ℕ → ℕ
 withBit mask tag = cond (leb 0x80 tag && leb tag 0xBF) (bitOr mask (2 ^ (tag - 0x80))) mask
 
--- a mask of bits tells which known attributes of an element are among the tags seen
+-- for rule 8: a mask of bits tells which known attributes of an element are among the tags seen
 pub record Seen (parent mask : ℕ) (seen : List ℕ) : Type 0 where
   pub bits : List ℕ
   pub isMask : mask ≡ maskOf bits
@@ -98,7 +101,7 @@ ItemSays parent tag left progress place table body r =
     (seen : List ℕ) (waiting : List (ℕ × List ℕ)) → Seen parent (progress .mask) seen
     → itemRules (ctx parent (depthOf left) (progress .stage) seen (entries table) waiting) place tag body ≡ checked r
 
--- the rules of the first item of a part: its own, its own with the late 12 just after it, and all
+-- what is broken at the first item of a part: of its own rules, of these and the late 12 just after it, and of all
 unfoldable pub ownOf : Context → ℕ → List ℕ → Option Refusal
 ownOf c at s = own c at (getD s 0 0) (headerSize s) (bodySize s) (length s) (take (bodySize s) (drop (headerSize s) s))
 
@@ -108,7 +111,7 @@ behindOf c at s = first (ownOf c at s ∷ lateAfter c (getD s 0 0) (take (bodySi
 unfoldable pub brokenOf : Context → ℕ → List ℕ → Option Refusal
 brokenOf c at s = broken c at (getD s 0 0) (headerSize s) (bodySize s) (length s) (take (bodySize s) (drop (headerSize s) s))
 
--- the attributes of a part from one place up to another, and their texts that wait for the table
+-- for the late 12: the attributes of a part from one place up to another, and their texts that wait for the table
 pub data Waits : (parent base : ℕ) (part : List ℕ) (stop j : ℕ) → List (ℕ × List ℕ) → Type 0 where
   done : (parent base : ℕ) (part : List ℕ) (stop j : ℕ) (ws : List (ℕ × List ℕ)) → j ≡ stop → ws ≡ [] → Waits parent base part stop j ws
   more : (parent base : ℕ) (part : List ℕ) (stop j : ℕ) (ws : List (ℕ × List ℕ)) (start size : ℕ) (later : List (ℕ × List ℕ))
@@ -125,7 +128,7 @@ WaitsWhen false parent base part at ws = ws ≡ []
 unfoldable pub LateSays : Bool → (part : List ℕ) (run parent base : ℕ) (table : List ℕ) → Check → Type 0
 LateSays due part run parent base table r = (ws : List (ℕ × List ℕ)) → WaitsWhen due parent base part run ws → late (entries table) ws ≡ checked r
 
--- one of the three rules above is broken so, whatever tags the mask stands for and whatever waits here
+-- each of the three, whatever tags the mask stands for and whatever waits here
 unfoldable pub OwnIs : (parent left : ℕ) (progress : Progress) (table : List ℕ) (place : ℕ) (s : List ℕ) → Option Refusal → Type 0
 OwnIs parent left progress table place s o =
     (seen : List ℕ) (waiting : List (ℕ × List ℕ)) → Seen parent (progress .mask) seen
@@ -165,6 +168,7 @@ tableSort Leaf = false
 tableSort Table = true
 tableSort Element = false
 
+-- a record more
 abbrev pub oneMore : Counts → Counts
 oneMore n = record { records = n .records + 1 }
 

@@ -1,0 +1,352 @@
+-- What writing does with a record, with an element's attributes, and with the items of an element from a record on.
+use mathlib.Core.Path.{_≡_, refl, sym, ap, _∙_, subst}
+use mathlib.Core.Bool.{Bool, true, false, cond}
+use mathlib.Core.List.{List, [], _∷_, _++_, append-assoc, append-nil}
+use Prim.Native.Nat.{ℕ, suc, _+_, _-_, _≤_, _<_}
+use native.Mathlib.Omega.{arith}
+use native.Mathlib.Nat.{add-sub-cancel-left}
+use lib.Dec.{eqb}
+use lib.ListN.{length, take, drop, getD, length-append}
+use borrow.Author.Tests.{lt-ltb, le-ltb, eq-eqb, ne-eqb}
+use Rattle.octets.specs.Header.{lengthField, framed}
+use Rattle.values.specs.Table.{attribute}
+use Rattle.format.specs.Tree.{Items}
+use Rattle.format.specs.Tree.Items.{end, item}
+use Rattle.format.specs.Meaning.{opens, attributesIn, rising}
+use Rattle.format.specs.Writer.{below, past, bodyIn, here, ruled}
+use Rattle.format.specs.Calls.{Lists, row}
+use Rattle.format.proofs.Kept.{ruled-parts}
+use Rattle.writer.specs.declared.emit.Role.{Role}
+use Rattle.writer.specs.declared.emit.Role.the-variants.{Gone, Element, Attribute, Other}
+use Rattle.writer.specs.declared.emit.Reached.{Reached}
+use Rattle.writer.specs.declared.size.Sized.{Sized}
+use Rattle.writer.specs.declared.size.Sized.the-variants.{Over, Size}
+use Rattle.writer.specs.Normal.{itemOctets, normalSize, attributeOctets, laterOctets}
+use Rattle.writer.specs.Steps.{itemsFrom, Holding, sizedFrom, roleOf, bodyAt, BodyAt, Lays, Fitting, Ordered, oneAttribute, elementOctets, openingOctets, Emits}
+use Rattle.writer.proofs.Rising.{rising-seven}
+use Rattle.writer.proofs.Sizes.{high-attribute, opens-no-attribute}
+use Rattle.writer.proofs.Order.{size-laid}
+use Rattle.writer.proofs.Lays.{lays-none, lays-append, lays-length, fitting-left, fitting-right}
+use Rattle.writer.proofs.Rows.{here-end, here-not, here-is, from-stop, from-single, from-nested, from-ahead, from-within}
+use Rattle.writer.proofs.Summing.{size-over, size-told}
+
+-- the roles of a record, by the code's tests
+module _ (depth own tag d : ℕ) (e : d ≡ own) where
+  pub role-gone : (d ≡ depth → ⊥) → Gone ≡ roleOf depth own tag
+  unfolding roleOf
+  role-gone h = rw (ne-eqb own depth (λ q. h (e ∙ q)))
+
+  module _ (h : d ≡ depth) (o : Bool) (oe : o ≡ opens tag) where
+    pub role-element : o ≡ true → Element tag ≡ roleOf depth own tag
+    unfolding roleOf
+    role-element q = rw (eq-eqb own depth (sym e ∙ h), sym oe ∙ q)
+
+    pub role-attribute : o ≡ false → 0x80 ≤ tag → Attribute ≡ roleOf depth own tag
+    unfolding roleOf attribute
+    role-attribute q a = rw (eq-eqb own depth (sym e ∙ h), sym oe ∙ q, lt-ltb 0x7F tag (omega arith))
+
+    pub role-other : o ≡ false → tag < 0x80 → Other tag ≡ roleOf depth own tag
+    unfolding roleOf attribute
+    role-other q a = rw (eq-eqb own depth (sym e ∙ h), sym oe ∙ q, le-ltb 0x7F tag (omega arith))
+
+-- a record's body as a part of the lent octets
+module _ (p tag i : ℕ) (starts sizes lent : List ℕ) (start size : ℕ) (a : start ≡ getD starts i 0) (b : size ≡ getD sizes i 0) where
+  same-body : take (start + size - start) (drop start lent) ≡ bodyAt i starts sizes lent
+  unfolding bodyAt
+  same-body = rw (add-sub-cancel-left, a, b)
+
+  pub body-fits : (to room : ℕ) → Fitting (itemOctets p tag (bodyAt i starts sizes lent)) to room → Fitting (itemOctets p tag (take (start + size - start) (drop start lent))) to room
+  body-fits to room f = rw same-body f
+
+  pub body-laid : (to : ℕ) (before after : List ℕ) (stop : ℕ) → Lays (itemOctets p tag (take (start + size - start) (drop start lent))) to before after stop
+      → Lays (itemOctets p tag (bodyAt i starts sizes lent)) to before after stop
+  body-laid to before after stop h = rw same-body at h
+
+-- attributes by rising tag, the loop's invariant: those of as many tags as there were turns are written, the others are left
+pub record Risen (p : ℕ) (t : Items) (to : ℕ) (before room : List ℕ) (stop turn : ℕ) : Type 0 where
+  pub most : turn ≤ 7
+  pub done : List ℕ
+  pub lays : Lays done to before room stop
+  pub left : attributeOctets p t ≡ done ++ rising (7 - turn) (0x80 + turn) (attributesIn [] p t)
+
+pub risen-start : (p : ℕ) (t : Items) (to : ℕ) (room : List ℕ) → Risen p t to room room to 0
+risen-start p t to room = record { most = omega arith; done = []; lays = lays-none to room; left = rising-seven p t }
+
+module _ (p : ℕ) (t : Items) (to : ℕ) (before room : List ℕ) (stop turn : ℕ) (inv : Risen p t to before room stop turn) where
+  pub risen-length : length room ≡ length before
+  risen-length = lays-length (inv .done) to before room stop (inv .lays)
+
+  pub risen-end : 7 ≤ turn → Lays (attributeOctets p t) to before room stop
+  unfolding rising
+  risen-end h =
+      let z : 7 - turn ≡ 0 = omega arith in
+      let e : attributeOctets p t ≡ inv .done = inv .left ∙ (ap (λ n. inv .done ++ rising n (0x80 + turn) (attributesIn [] p t)) z ∙ append-nil (inv .done)) in
+      rw e (inv .lays)
+
+  module _ (lt : turn < 7) (tag : ℕ) (e : tag ≡ 0x80 + turn) where
+    pub risen-attribute : attribute tag ≡ true
+    risen-attribute = high-attribute tag (omega arith)
+
+    rest : List ℕ
+    rest = rising (7 - (turn + 1)) (0x80 + (turn + 1)) (attributesIn [] p t)
+
+    step : attributeOctets p t ≡ inv .done ++ (oneAttribute p t tag ++ rest)
+    unfolding rising oneAttribute rest
+    step =
+        let z : 7 - turn ≡ suc (7 - (turn + 1)) = omega arith in
+        let w : suc (0x80 + turn) ≡ 0x80 + (turn + 1) = omega arith in
+        inv .left ∙ (ap (λ n. inv .done ++ rising n (0x80 + turn) (attributesIn [] p t)) z ∙ rw (w, ← e))
+
+    pub risen-fits : Fitting (attributeOctets p t) to (length before) → Fitting (oneAttribute p t tag) stop (length room)
+    risen-fits f =
+        let all : Fitting (inv .done ++ (oneAttribute p t tag ++ rest)) to (length before) = rw step at f in
+        fitting-left (oneAttribute p t tag) rest stop (length room) (fitting-right (inv .done) (oneAttribute p t tag ++ rest) to before room stop all (inv .lays))
+
+    pub risen-next : (after : List ℕ) (next : ℕ) → Lays (oneAttribute p t tag) stop room after next → Risen p t to before after next (turn + 1)
+    unfolding rest
+    risen-next after next h = record {
+      most = omega arith;
+      done = inv .done ++ oneAttribute p t tag;
+      lays = lays-append (inv .done) (oneAttribute p t tag) to before room stop after next (inv .lays) h;
+      left = step ∙ sym (append-assoc (inv .done) (oneAttribute p t tag) rest);
+    }
+
+-- an element up to its first child
+module _ (tag : ℕ) (t : Items) (o : Ordered tag t) (to : ℕ) (room : List ℕ) (f : Fitting (elementOctets tag t) to (length room)) where
+  size-inside : normalSize tag t ≡ length (attributeOctets tag t ++ laterOctets tag t)
+  size-inside = subst (λ p. normalSize p t ≡ length (attributeOctets p t ++ laterOctets p t)) (o .element) (size-laid t (o .spot) (o .rules))
+
+  parts : elementOctets tag t ≡ (tag ∷ lengthField (normalSize tag t)) ++ (attributeOctets tag t ++ laterOctets tag t)
+  unfolding elementOctets framed
+  parts = rw (size-inside)
+
+  all-fits : Fitting ((tag ∷ lengthField (normalSize tag t)) ++ (attributeOctets tag t ++ laterOctets tag t)) to (length room)
+  all-fits = rw parts at f
+
+  pub inside-small : normalSize tag t ≤ 32_768
+  inside-small =
+      let x = all-fits .inObject in
+      let l = length-append (tag ∷ lengthField (normalSize tag t)) (attributeOctets tag t ++ laterOctets tag t) in
+      omega (arith, size-inside)
+
+  module _ (mid : List ℕ) (at : ℕ) (h : Lays (tag ∷ lengthField (normalSize tag t)) to room mid at) where
+    rest-fits : Fitting (attributeOctets tag t ++ laterOctets tag t) at (length mid)
+    rest-fits = fitting-right (tag ∷ lengthField (normalSize tag t)) (attributeOctets tag t ++ laterOctets tag t) to room mid at all-fits h
+
+    pub attributes-fit : Fitting (attributeOctets tag t) at (length mid)
+    attributes-fit = fitting-left (attributeOctets tag t) (laterOctets tag t) at (length mid) rest-fits
+
+    pub opening-laid : (after : List ℕ) (stop : ℕ) → Lays (attributeOctets tag t) at mid after stop → Lays (openingOctets tag t) to room after stop
+    unfolding openingOctets
+    opening-laid after stop g = rw (← size-inside) (lays-append (tag ∷ lengthField (normalSize tag t)) (attributeOctets tag t) to room mid at after stop h g)
+
+  pub header-fits : Fitting (tag ∷ lengthField (normalSize tag t)) to (length room)
+  header-fits = fitting-left (tag ∷ lengthField (normalSize tag t)) (attributeOctets tag t ++ laterOctets tag t) to (length room) all-fits
+
+-- and with the size that was measured
+module _ (l : Lists) (n : ℕ) (lent : List ℕ) (tag depth i : ℕ) (o : Ordered tag (itemsFrom l n lent depth i .0)) (to : ℕ) (room : List ℕ)
+    (f : Fitting (elementOctets tag (itemsFrom l n lent depth i .0)) to (length room)) (v : Sized) (e : v ≡ sizedFrom l n lent tag depth i) where
+  pub opening-over : v ≡ Over → (after : List ℕ) (stop : ℕ) → Lays (openingOctets tag (itemsFrom l n lent depth i .0)) to room after stop
+  opening-over q after stop =
+      let big = size-over l n lent tag depth i v e q in
+      let small = inside-small tag (itemsFrom l n lent depth i .0) o to room f in
+      absurd (omega arith)
+
+  module _ (total next : ℕ) (q : v ≡ Size total next) where
+    total-is : total ≡ normalSize tag (itemsFrom l n lent depth i .0)
+    total-is = sym (size-told l n lent tag depth i v e total next q .0)
+
+    pub opening-header : (total ≤ 32_768) × Fitting (tag ∷ lengthField total) to (length room)
+    opening-header = (size-told l n lent tag depth i v e total next q .2, rw total-is (header-fits tag (itemsFrom l n lent depth i .0) o to room f))
+
+    module _ (mid : List ℕ) (at : ℕ) (h : Lays (tag ∷ lengthField total) to room mid at) where
+      header-laid : Lays (tag ∷ lengthField (normalSize tag (itemsFrom l n lent depth i .0))) to room mid at
+      header-laid = rw total-is at h
+
+      pub opening-attributes : Fitting (attributeOctets tag (itemsFrom l n lent depth i .0)) at (length mid)
+      opening-attributes = attributes-fit tag (itemsFrom l n lent depth i .0) o to room f mid at header-laid
+
+      pub opening-done : (after : List ℕ) (stop : ℕ) → Lays (attributeOctets tag (itemsFrom l n lent depth i .0)) at mid after stop
+          → Lays (openingOctets tag (itemsFrom l n lent depth i .0)) to room after stop
+      opening-done after stop g = opening-laid tag (itemsFrom l n lent depth i .0) o to room f mid at header-laid after stop g
+
+-- an element is its opening and its other items
+element-halves : (tag : ℕ) (t : Items) → elementOctets tag t ≡ openingOctets tag t ++ laterOctets tag t
+unfolding elementOctets openingOctets framed
+element-halves tag t =
+    sym (append-assoc (tag ∷ lengthField (length (attributeOctets tag t ++ laterOctets tag t))) (attributeOctets tag t) (laterOctets tag t))
+
+-- what a role says of the record
+unfoldable Tells : (depth own tag : ℕ) → Role → Type 0
+Tells depth own tag Gone = eqb own depth ≡ false
+Tells depth own tag (Element m) = (eqb own depth ≡ true) × (opens tag ≡ true) × (m ≡ tag)
+Tells depth own tag Attribute = (eqb own depth ≡ true) × (opens tag ≡ false) × (attribute tag ≡ true)
+Tells depth own tag (Other m) = (eqb own depth ≡ true) × (opens tag ≡ false) × (attribute tag ≡ false) × (m ≡ tag)
+
+tells : (depth own tag : ℕ) (r : Role) → r ≡ roleOf depth own tag → Tells depth own tag r
+unfolding roleOf Tells
+tells depth own tag r e = subst (Tells depth own tag) (sym e) (go (eqb own depth) (opens tag) (attribute tag) refl refl refl)
+  where
+    go : (a b c : Bool) → eqb own depth ≡ a → opens tag ≡ b → attribute tag ≡ c → Tells depth own tag (cond a (cond b (Element tag) (cond c Attribute (Other tag))) Gone)
+    go false b c x y z = x
+    go true true c x y z = (x, y, refl)
+    go true false true x y z = (x, y, z)
+    go true false false x y z = (x, y, z, refl)
+
+abbrev later : Lists → ℕ → List ℕ → (p depth i : ℕ) → List ℕ
+later l n lent p depth i = laterOctets p (itemsFrom l n lent depth i .0)
+
+-- the loop's invariant: the items before record i are written, those from it on are left and keep the rules
+pub record Written (l : Lists) (n : ℕ) (lent : List ℕ) (p depth at to : ℕ) (before room : List ℕ) (i stop : ℕ) : Type 0 where
+  pub low : at ≤ i
+  pub high : i ≤ n
+  pub ordered : Ordered p (itemsFrom l n lent depth i .0)
+  pub done : List ℕ
+  pub lays : Lays done to before room stop
+  pub left : later l n lent p depth at ≡ done ++ later l n lent p depth i
+  pub same : itemsFrom l n lent depth at .1 ≡ itemsFrom l n lent depth i .1
+
+pub written-start : (l : Lists) (n : ℕ) (lent : List ℕ) (p depth at to : ℕ) (room : List ℕ) → Ordered p (itemsFrom l n lent depth at .0) → at ≤ n
+    → Written l n lent p depth at to room room at to
+written-start l n lent p depth at to room o h = record { low = omega arith; high = h; ordered = o; done = []; lays = lays-none to room; left = refl; same = refl }
+
+module _ (l : Lists) (n : ℕ) (lent : List ℕ) (p depth at to : ℕ) (before room : List ℕ) (i stop : ℕ) (inv : Written l n lent p depth at to before room i stop) where
+  pub written-length : length room ≡ length before
+  written-length = lays-length (inv .done) to before room stop (inv .lays)
+
+  ended : here (row l) n depth i ≡ false → Emits (itemsFrom l n lent depth at) p to before room (record { end = stop; next = i })
+  unfolding laterOctets
+  ended e =
+      let t = from-stop l n lent depth i e in
+      let all : later l n lent p depth at ≡ inv .done = inv .left ∙ (ap (λ x. inv .done ++ laterOctets p (x .0)) t ∙ append-nil (inv .done)) in
+      record { lays = rw all (inv .lays); next = sym (inv .same ∙ ap (λ x. x .1) t) }
+
+  pub written-end : n ≤ i → Emits (itemsFrom l n lent depth at) p to before room (record { end = stop; next = i })
+  written-end h = ended (here-end l n lent depth i h)
+
+  -- one part more: octets that are the first of what is left
+  module _ (own : List ℕ) (j : ℕ) (first : later l n lent p depth i ≡ own ++ later l n lent p depth j) where
+    whole : later l n lent p depth at ≡ inv .done ++ (own ++ later l n lent p depth j)
+    whole = inv .left ∙ ap (λ x. inv .done ++ x) first
+
+    own-fits : Fitting (later l n lent p depth at) to (length before) → Fitting own stop (length room)
+    own-fits f =
+        let all : Fitting (inv .done ++ (own ++ later l n lent p depth j)) to (length before) = rw whole at f in
+        fitting-left own (later l n lent p depth j) stop (length room) (fitting-right (inv .done) (own ++ later l n lent p depth j) to before room stop all (inv .lays))
+
+    own-next : Ordered p (itemsFrom l n lent depth j .0) → itemsFrom l n lent depth i .1 ≡ itemsFrom l n lent depth j .1 → i ≤ j → j ≤ n → (after : List ℕ) (next : ℕ) → Lays own stop room after next
+        → Written l n lent p depth at to before after j next
+    own-next o e a b after next h =
+        let c = inv .low in
+        record {
+          low = omega arith;
+          high = b;
+          ordered = o;
+          done = inv .done ++ own;
+          lays = lays-append (inv .done) own to before room stop after next (inv .lays) h;
+          left = whole ∙ sym (append-assoc (inv .done) own (later l n lent p depth j));
+          same = inv .same ∙ e;
+        }
+
+  module _ (lt : i < n) (x : Role) (xe : x ≡ roleOf depth (row l i .depth) (row l i .tag)) where
+    pub written-gone : x ≡ Gone → Emits (itemsFrom l n lent depth at) p to before room (record { end = stop; next = i })
+    unfolding Tells
+    written-gone q = ended (here-not l n lent depth i (subst (Tells depth (row l i .depth) (row l i .tag)) q (tells depth (row l i .depth) (row l i .tag) x xe)))
+
+    -- the items behind an item keep the rules, and so do those inside it
+    ordered-parts : (y z : Items) → itemsFrom l n lent depth i .0 ≡ item (row l i .tag) (row l i .start) (bodyIn lent (row l i)) y z
+        → Ordered (row l i .tag) y × Ordered p z
+    unfolding below past
+    ordered-parts y z e =
+        let o = inv .ordered in
+        let r : ruled (o .spot) (item (row l i .tag) (row l i .start) (bodyIn lent (row l i)) y z) ≡ true = rw e at (o .rules) in
+        let u = ruled-parts (o .spot) (row l i .tag) (row l i .start) (bodyIn lent (row l i)) y z r in
+        (record { spot = below (o .spot) (row l i .tag); element = refl; rules = u .within }, record { spot = past (o .spot) (row l i .tag); element = o .element; rules = u .beside })
+
+    -- one that holds no items
+    module _ (d : eqb (row l i .depth) depth ≡ true) (o : opens (row l i .tag) ≡ false) where
+      single : itemsFrom l n lent depth i
+          ≡ (item (row l i .tag) (row l i .start) (bodyIn lent (row l i)) end (itemsFrom l n lent depth (i + 1) .0), itemsFrom l n lent depth (i + 1) .1)
+      single = from-single l n lent depth i (here-is l n lent depth i lt d) o
+
+      single-next : (own : List ℕ) → later l n lent p depth i ≡ own ++ later l n lent p depth (i + 1) → (after : List ℕ) (next : ℕ) → Lays own stop room after next
+          → Written l n lent p depth at to before after (i + 1) next
+      single-next own first after next h =
+          own-next own (i + 1) first (ordered-parts end (itemsFrom l n lent depth (i + 1) .0) (ap (λ y. y .0) single) .1) (ap (λ y. y .1) single) (omega arith) (omega arith) after next h
+
+    pub attribute-next : x ≡ Attribute → Written l n lent p depth at to before room (i + 1) stop
+    unfolding Tells laterOctets
+    attribute-next q =
+        let t : (eqb (row l i .depth) depth ≡ true) × (opens (row l i .tag) ≡ false) × (attribute (row l i .tag) ≡ true) =
+        subst (Tells depth (row l i .depth) (row l i .tag)) q (tells depth (row l i .depth) (row l i .tag) x xe) in
+        single-next (t .0) (t .1) [] (ap (λ y. laterOctets p (y .0)) (single (t .0) (t .1)) ∙ rw (t .2)) room stop (lays-none stop room)
+
+    module _ (m : ℕ) (q : x ≡ Other m) where
+      other-says : (eqb (row l i .depth) depth ≡ true) × (opens (row l i .tag) ≡ false) × (attribute (row l i .tag) ≡ false) × (m ≡ row l i .tag)
+      unfolding Tells
+      other-says = subst (Tells depth (row l i .depth) (row l i .tag)) q (tells depth (row l i .depth) (row l i .tag) x xe)
+
+      other-first : later l n lent p depth i ≡ itemOctets p m (bodyAt i (l .starts) (l .sizes) lent) ++ later l n lent p depth (i + 1)
+      unfolding laterOctets bodyIn bodyAt
+      other-first = let t = other-says in ap (λ y. laterOctets p (y .0)) (single (t .0) (t .1)) ∙ rw (t .1, t .2, t .3)
+
+      pub other-fits : Holding n l lent → Fitting (later l n lent p depth at) to (length before)
+          → BodyAt i (l .starts) (l .sizes) lent × Fitting (itemOctets p m (bodyAt i (l .starts) (l .sizes) lent)) stop (length room)
+      other-fits h f =
+          let a = h .starts in
+          let b = h .sizes in
+          (record { start = omega arith; size = omega arith; inside = h .bodies i lt }, own-fits (itemOctets p m (bodyAt i (l .starts) (l .sizes) lent)) (i + 1) other-first f)
+
+      pub other-next : (after : List ℕ) (next : ℕ) → Lays (itemOctets p m (bodyAt i (l .starts) (l .sizes) lent)) stop room after next
+          → Written l n lent p depth at to before after (i + 1) next
+      other-next after next h =
+          let t = other-says in
+          single-next (t .0) (t .1) (itemOctets p m (bodyAt i (l .starts) (l .sizes) lent)) other-first after next h
+
+    -- an element that holds items
+    module _ (m : ℕ) (q : x ≡ Element m) where
+      element-says : (eqb (row l i .depth) depth ≡ true) × (opens (row l i .tag) ≡ true) × (m ≡ row l i .tag)
+      unfolding Tells
+      element-says = subst (Tells depth (row l i .depth) (row l i .tag)) q (tells depth (row l i .depth) (row l i .tag) x xe)
+
+      nested : itemsFrom l n lent depth i
+          ≡ (
+            item (row l i .tag) (row l i .start) (bodyIn lent (row l i)) (itemsFrom l n lent (depth + 1) (i + 1) .0) (itemsFrom l n lent depth (itemsFrom l n lent (depth + 1) (i + 1) .1) .0),
+            itemsFrom l n lent depth (itemsFrom l n lent (depth + 1) (i + 1) .1) .1,
+          )
+      nested =
+          let t = element-says in
+          from-nested l n lent depth i (here-is l n lent depth i lt (t .0)) (t .1) (itemsFrom l n lent (depth + 1) (i + 1) .0) (itemsFrom l n lent (depth + 1) (i + 1) .1) refl
+
+      pub element-ordered : Ordered m (itemsFrom l n lent (depth + 1) (i + 1) .0)
+      element-ordered =
+          rw (element-says .2)
+          (ordered-parts (itemsFrom l n lent (depth + 1) (i + 1) .0) (itemsFrom l n lent depth (itemsFrom l n lent (depth + 1) (i + 1) .1) .0) (ap (λ y. y .0) nested) .0)
+
+      element-first : later l n lent p depth i ≡ elementOctets m (itemsFrom l n lent (depth + 1) (i + 1) .0) ++ later l n lent p depth (itemsFrom l n lent (depth + 1) (i + 1) .1)
+      unfolding laterOctets elementOctets
+      element-first = let t = element-says in ap (λ y. laterOctets p (y .0)) nested ∙ rw (opens-no-attribute (row l i .tag) (t .1), t .1, t .2)
+
+      pub element-fits : Fitting (later l n lent p depth at) to (length before) → Fitting (elementOctets m (itemsFrom l n lent (depth + 1) (i + 1) .0)) stop (length room)
+      element-fits f = own-fits (elementOctets m (itemsFrom l n lent (depth + 1) (i + 1) .0)) (itemsFrom l n lent (depth + 1) (i + 1) .1) element-first f
+
+      module _ (f : Fitting (later l n lent p depth at) to (length before)) (mid : List ℕ) (from : ℕ)
+          (h : Lays (openingOctets m (itemsFrom l n lent (depth + 1) (i + 1) .0)) stop room mid from) where
+        pub inner-fits : Fitting (laterOctets m (itemsFrom l n lent (depth + 1) (i + 1) .0)) from (length mid)
+        inner-fits =
+            fitting-right (openingOctets m (itemsFrom l n lent (depth + 1) (i + 1) .0)) (laterOctets m (itemsFrom l n lent (depth + 1) (i + 1) .0)) stop room mid from
+            (rw (element-halves m (itemsFrom l n lent (depth + 1) (i + 1) .0)) at (element-fits f)) h
+
+        module _ (after : List ℕ) (r : Reached) (g : Emits (itemsFrom l n lent (depth + 1) (i + 1)) m from mid after r) where
+          pub element-less : n - r .next < n - i
+          element-less = let e = g .next in omega (arith, from-ahead l n lent (depth + 1) (i + 1))
+
+          pub element-next : Written l n lent p depth at to before after (r .next) (r .end)
+          element-next =
+              let all : Lays (elementOctets m (itemsFrom l n lent (depth + 1) (i + 1) .0)) stop room after (r .end) =
+              rw (element-halves m (itemsFrom l n lent (depth + 1) (i + 1) .0))
+              (lays-append (openingOctets m (itemsFrom l n lent (depth + 1) (i + 1) .0)) (laterOctets m (itemsFrom l n lent (depth + 1) (i + 1) .0)) stop room mid from after (r .end) h (g .lays)) in
+              rw (g .next)
+              (own-next (elementOctets m (itemsFrom l n lent (depth + 1) (i + 1) .0)) (itemsFrom l n lent (depth + 1) (i + 1) .1) element-first
+              (ordered-parts (itemsFrom l n lent (depth + 1) (i + 1) .0) (itemsFrom l n lent depth (itemsFrom l n lent (depth + 1) (i + 1) .1) .0) (ap (λ y. y .0) nested) .1)
+              (ap (λ y. y .1) nested) (omega (arith, from-ahead l n lent (depth + 1) (i + 1))) (from-within l n lent (depth + 1) (i + 1) (omega arith)) after (r .end) all)

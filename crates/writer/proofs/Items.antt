@@ -1,0 +1,206 @@
+-- An item that holds no items: how long its octets can be, and what is measured and written of it.
+use mathlib.Core.Path.{_≡_, refl, sym, ap, _∙_, subst}
+use mathlib.Core.Bool.{Bool, true, false, cond, false≢true}
+use mathlib.Core.Option.{Option, none, some}
+use mathlib.Core.List.{List, [], _∷_, _++_}
+use Prim.Native.Nat.{ℕ, suc, _+_, _^_, _≤_, _<_}
+use native.Mathlib.Omega.{arith}
+use lib.Dec.{ltb}
+use lib.ListN.{length, length-append}
+use borrow.Author.Tests.{lt-ltb, le-leb}
+use mir.Syntax.{w64}
+use mir.Val.{Fits}
+use Rattle.octets.specs.Header.{lengthField, framed}
+use Rattle.octets.specs.declared.Put.{Put}
+use Rattle.octets.specs.Calls.{Puts}
+use Rattle.octets.proofs.Answers.{size-five, put-done, put-no-room, put-too-long}
+use Rattle.values.specs.declared.Kind.{Kind}
+use Rattle.values.specs.declared.KnownKind.{KnownKind}
+use Rattle.values.specs.declared.KnownKind.the-variants.{Unknown, Known}
+use Rattle.values.specs.declared.NormalSize.{NormalSize}
+use Rattle.values.specs.declared.NormalSize.the-variants.{Octets, NoValue}
+use Rattle.values.specs.Table.{known}
+use Rattle.values.specs.Values.{fits, meant, octetsOf}
+use Rattle.values.specs.Calls.{knownKind, normalOctets, normalSize as sizeOfValue, putAnswer as valueAnswer, Puts as PutsValue}
+use Rattle.values.specs.declared.Put.{Put as PutValue}
+use Rattle.values.specs.declared.Put.the-variants.{Done, NoRoom, Invalid}
+use Rattle.values.proofs.Laws.{known-kind, unknown-kind, put-written, put-kept, normal-sized, not-sized, normal-shorter}
+use Rattle.format.specs.Judge.{isItems}
+use Rattle.format.specs.Meaning.{opens, maybe}
+use Rattle.writer.specs.declared.item.Form.{Form}
+use Rattle.writer.specs.declared.item.Form.the-variants.{Nothing, Value}
+use Rattle.writer.specs.Normal.{framedSize, valueOctets, itemOctets}
+use Rattle.writer.specs.Steps.{writtenOf, Lays, Fitting}
+use Rattle.writer.proofs.Ways.{framed-length, value-fits}
+use Rattle.writer.proofs.Lays.{lays-none, lays-append, fitting-left, fitting-right}
+
+-- an item is at most five octets longer than its body
+pub framed-short : (n : ℕ) → framedSize n ≤ n + 5
+unfolding framedSize
+framed-short n = omega (arith, size-five n)
+
+-- a value's normal octets are no more than its octets
+pub value-short : (k : Kind) (body : List ℕ) → length (valueOctets k body) ≤ length body
+unfolding valueOctets normalOctets
+value-short k body = go (fits k body) refl
+  where
+    go : (b : Bool) → fits k body ≡ b → length (cond b (octetsOf (meant [] k body)) []) ≤ length body
+    go true e = normal-shorter k body e
+    go false e = omega arith
+
+-- whether a kind holds items, by its variant
+pub holder-is : (k l : Kind) → k ≡ l → (b : Bool) → b ≡ isItems (some l) → b ≡ isItems (some k)
+holder-is k l e b h = rw e h
+
+module _ (tag : ℕ) (r : KnownKind) (e : r ≡ knownKind 0 tag) where
+  pub opens-unknown : r ≡ Unknown → false ≡ opens tag
+  unfolding opens isItems
+  opens-unknown q = rw (unknown-kind 0 tag r e q)
+
+  pub opens-known : (k : Kind) → r ≡ Known k → (b : Bool) → b ≡ isItems (some k) → b ≡ opens tag
+  unfolding opens
+  opens-known k q b h = rw (known-kind 0 tag r e k q) h
+
+-- whether an item is written
+module _ (p tag : ℕ) (body : List ℕ) (r : KnownKind) (e : r ≡ knownKind p tag) where
+  pub written-unknown : r ≡ Unknown → Nothing ≡ writtenOf (known p tag) body
+  unfolding writtenOf
+  written-unknown q = rw (unknown-kind p tag r e q)
+
+  pub written-known : (k : Kind) → r ≡ Known k → (n : ℕ) → n ≡ length (valueOctets k body) → Value k n ≡ writtenOf (known p tag) body
+  unfolding writtenOf
+  written-known k q n h = rw (known-kind p tag r e k q, h)
+
+-- the size of a value
+module _ (k : Kind) (body : List ℕ) (r : NormalSize) (e : r ≡ sizeOfValue k body) where
+  pub value-octets : (n : ℕ) → r ≡ Octets n → n ≡ length (valueOctets k body)
+  unfolding normalOctets
+  value-octets n q = let z = normal-sized k body r e n q in z .size ∙ ap length (sym (value-fits k body (z .fit)))
+
+  pub value-none : r ≡ NoValue → 0 ≡ length (valueOctets k body)
+  unfolding valueOctets
+  value-none q = rw (not-sized k body r e q)
+
+pub framed-fits : (n h : ℕ) → n < 131072 → h ≡ suc (length (lengthField n)) → Fits w64 (h + n)
+framed-fits n h l e = omega (arith, size-five n)
+
+pub framed-is : (n h : ℕ) → h ≡ suc (length (lengthField n)) → h + n ≡ framedSize n
+unfolding framedSize
+framed-is n h e = rw e
+
+-- a header written where it has room
+module _ (tag n to : ℕ) (before after : List ℕ) (answer : Put) (f : (n ≤ 32_768) × Fitting (tag ∷ lengthField n) to (length before))
+    (p : Puts (ltb n (256 ^ 3)) (tag ∷ lengthField n) to before after answer) where
+  pub header-done : (stop : ℕ) → answer ≡ Put.Done stop → Lays (tag ∷ lengthField n) to before after stop
+  header-done stop q = let d = put-done (ltb n (256 ^ 3)) (tag ∷ lengthField n) to before after answer p stop q in record { leaves = d .laid; ends = d .place }
+
+  pub header-no-room : answer ≡ Put.NoRoom → Lays (tag ∷ lengthField n) to before after to
+  header-no-room q =
+      let d = put-no-room (ltb n (256 ^ 3)) (tag ∷ lengthField n) to before after answer p q .1 in
+      let r = f .1 .inRoom in
+      absurd (omega arith)
+
+  pub header-too-long : answer ≡ Put.TooLong → Lays (tag ∷ lengthField n) to before after to
+  header-too-long q =
+      let d = put-too-long (ltb n (256 ^ 3)) (tag ∷ lengthField n) to before after answer p q .0 in
+      let g = f .0 in
+      absurd (false≢true (sym d ∙ lt-ltb n (256 ^ 3) (omega arith)))
+
+-- a value written where it has room
+module _ (k : Kind) (body : List ℕ) (to : ℕ) (before after : List ℕ) (answer : PutValue) (f : Fitting (valueOctets k body) to (length before))
+    (p : PutsValue (fits k body) (normalOctets k body) before to answer after) where
+  octets-are : fits k body ≡ true → valueOctets k body ≡ normalOctets k body
+  unfolding normalOctets
+  octets-are e = value-fits k body e
+
+  pub value-done : (stop : ℕ) → answer ≡ Done stop → Lays (valueOctets k body) to before after stop
+  value-done stop q =
+      let w = put-written (fits k body) (normalOctets k body) before to answer after p stop q in
+      rw (octets-are (w .valid)) (record { leaves = w .holds; ends = w .ends })
+
+  kept : ((stop : ℕ) → answer ≡ Done stop → ⊥) → Lays (valueOctets k body) to before after to
+  unfolding valueAnswer valueOctets
+  kept n = go (fits k body) refl
+    where
+      go : (b : Bool) → fits k body ≡ b → Lays (valueOctets k body) to before after to
+      go false e = rw e (record { leaves = put-kept (fits k body) (normalOctets k body) before to answer after p n; ends = omega arith })
+      go true e =
+          let r = f .inRoom in
+          let l : length (normalOctets k body) ≡ length (valueOctets k body) = ap length (sym (octets-are e)) in
+          absurd (n (to + length (normalOctets k body)) (rw (e, le-leb (to + length (normalOctets k body)) (length before) (omega arith)) at (p .answered)))
+
+  pub value-no-room : answer ≡ NoRoom → Lays (valueOctets k body) to before after to
+  value-no-room q = kept (λ stop d. let z : _≡_ {A = ℕ} 0 1 = cc in omega arith)
+
+  pub value-invalid : answer ≡ Invalid → Lays (valueOctets k body) to before after to
+  value-invalid q = kept (λ stop d. let z : _≡_ {A = ℕ} 0 1 = cc in omega arith)
+
+module _ (p tag : ℕ) (body : List ℕ) where
+  -- what is written of an item
+  unfoldable Tells : Form → Type 0
+  Tells Nothing = itemOctets p tag body ≡ []
+  Tells (Value k n) = (itemOctets p tag body ≡ framed tag (valueOctets k body)) × (n ≡ length (valueOctets k body))
+
+  tells : (r : Form) → r ≡ writtenOf (known p tag) body → Tells r
+  unfolding Tells writtenOf itemOctets maybe
+  tells r e = subst Tells (sym e) (go (known p tag) refl)
+    where
+      go : (o : Option Kind) → known p tag ≡ o → Tells (writtenOf o body)
+      go none q = rw q
+      go (some k) q = (rw q, refl)
+
+  module _ (r : Form) (e : r ≡ writtenOf (known p tag) body) where
+    tells-nothing : r ≡ Nothing → itemOctets p tag body ≡ []
+    unfolding Tells
+    tells-nothing q = subst Tells q (tells r e)
+
+    tells-value : (k : Kind) (n : ℕ) → r ≡ Value k n → (itemOctets p tag body ≡ framed tag (valueOctets k body)) × (n ≡ length (valueOctets k body))
+    unfolding Tells
+    tells-value k n q = subst Tells q (tells r e)
+
+    -- measured
+    pub nothing-size : r ≡ Nothing → 0 ≡ length (itemOctets p tag body)
+    nothing-size q = ap length (sym (tells-nothing q))
+
+    pub value-bound : (k : Kind) (n : ℕ) → r ≡ Value k n → length body < 65536 → n < 131072
+    value-bound k n q l = omega (arith, tells-value k n q .1, value-short k body)
+
+    pub value-size : (k : Kind) (n m : ℕ) → r ≡ Value k n → m ≡ framedSize n → m ≡ length (itemOctets p tag body)
+    value-size k n m q f =
+        let t = tells-value k n q in
+        f ∙ (ap framedSize (t .1) ∙ (sym (framed-length tag (valueOctets k body)) ∙ ap length (sym (t .0))))
+
+    -- written
+    pub nothing-laid : (to : ℕ) (room : List ℕ) → r ≡ Nothing → Lays (itemOctets p tag body) to room room to
+    nothing-laid to room q = rw (tells-nothing q) (lays-none to room)
+
+    module _ (k : Kind) (n : ℕ) (q : r ≡ Value k n) where
+      value-parts : itemOctets p tag body ≡ (tag ∷ lengthField n) ++ valueOctets k body
+      unfolding framed
+      value-parts = let t = tells-value k n q in t .0 ∙ ap (λ m. (tag ∷ lengthField m) ++ valueOctets k body) (sym (t .1))
+
+      module _ (to : ℕ) (room : List ℕ) (f : Fitting (itemOctets p tag body) to (length room)) where
+        all-fits : Fitting ((tag ∷ lengthField n) ++ valueOctets k body) to (length room)
+        all-fits = rw value-parts at f
+
+        pub header-fits : (n ≤ 32_768) × Fitting (tag ∷ lengthField n) to (length room)
+        header-fits =
+            let x = all-fits .inObject in
+            let l = length-append (tag ∷ lengthField n) (valueOctets k body) in
+            let t = tells-value k n q .1 in
+            (omega arith, fitting-left (tag ∷ lengthField n) (valueOctets k body) to (length room) all-fits)
+
+        module _ (mid : List ℕ) (at : ℕ) (h : Lays (tag ∷ lengthField n) to room mid at) where
+          pub value-fits-room : Fitting (valueOctets k body) at (length mid)
+          value-fits-room = fitting-right (tag ∷ lengthField n) (valueOctets k body) to room mid at all-fits h
+
+          pub value-laid : (after : List ℕ) (end : ℕ) → Lays (valueOctets k body) at mid after end → Lays (itemOctets p tag body) to room after end
+          value-laid after end g = rw value-parts (lays-append (tag ∷ lengthField n) (valueOctets k body) to room mid at after end h g)
+
+  pub item-short : length (itemOctets p tag body) ≤ length body + 5
+  unfolding itemOctets maybe
+  item-short = go (known p tag)
+    where
+      go : (o : Option Kind) → length (maybe (λ k. framed tag (valueOctets k body)) o) ≤ length body + 5
+      go none = omega arith
+      go (some k) = omega (arith, framed-length tag (valueOctets k body), framed-short (length (valueOctets k body)), value-short k body)

@@ -1,0 +1,93 @@
+-- Records by number in the lists that measuring and writing read: whether one is here, and the items from it on.
+use mathlib.Core.Path.{_≡_, refl, ap, _∙_, fun-ext}
+use mathlib.Core.Bool.{Bool, true, false, cond}
+use mathlib.Core.List.{List}
+use Prim.Native.Nat.{ℕ, zero, suc, _+_, _≤_, _<_}
+use native.Mathlib.Omega.{arith}
+use native.Mathlib.Numerals.{add-one}
+use lib.Dec.{eqb, ltb}
+use borrow.Author.Tests.{lt-ltb, le-ltb}
+use Rattle.octets.proofs.Tests.{and-false}
+use Rattle.format.specs.Tree.{Items}
+use Rattle.format.specs.Tree.Items.{end, item}
+use Rattle.format.specs.Meaning.{opens}
+use Rattle.format.specs.Writer.{bodyIn, here, tree}
+use Rattle.format.specs.Calls.{Lists, row}
+use Rattle.format.proofs.Trees.{tree-stop, tree-single, tree-nested, tree-ahead, tree-within}
+use Rattle.writer.specs.Steps.{fourOf, itemsFrom, Holding}
+
+module _ (l : Lists) (n : ℕ) (lent : List ℕ) (d i : ℕ) where
+  pub here-end : n ≤ i → here (row l) n d i ≡ false
+  unfolding here
+  here-end h = rw (le-ltb i n h)
+
+  pub here-not : eqb (row l i .depth) d ≡ false → here (row l) n d i ≡ false
+  unfolding here
+  here-not h = rw h (and-false (ltb i n))
+
+  pub here-is : i < n → eqb (row l i .depth) d ≡ true → here (row l) n d i ≡ true
+  unfolding here
+  here-is h e = rw (lt-ltb i n h, e)
+
+  -- the items from record i on: none, one that holds no items, one that does
+  pub from-stop : here (row l) n d i ≡ false → itemsFrom l n lent d i ≡ (end, i)
+  unfolding itemsFrom
+  from-stop e = tree-stop (row l) n lent d i e
+
+  pub from-single : here (row l) n d i ≡ true → opens (row l i .tag) ≡ false
+      → itemsFrom l n lent d i ≡ (item (row l i .tag) (row l i .start) (bodyIn lent (row l i)) end (itemsFrom l n lent d (i + 1) .0), itemsFrom l n lent d (i + 1) .1)
+  unfolding itemsFrom
+  from-single e o = rw (add-one i) (tree-single (row l) n lent d i e o)
+
+  pub from-nested : here (row l) n d i ≡ true → opens (row l i .tag) ≡ true → (x : Items) (j : ℕ) → itemsFrom l n lent (d + 1) (i + 1) ≡ (x, j)
+      → itemsFrom l n lent d i ≡ (item (row l i .tag) (row l i .start) (bodyIn lent (row l i)) x (itemsFrom l n lent d j .0), itemsFrom l n lent d j .1)
+  unfolding itemsFrom
+  from-nested e o x j q = tree-nested (row l) n lent d i e o ∙ rw (← add-one i, ← add-one d, q)
+
+  -- in either case the first of them is record i
+  pub from-item : here (row l) n d i ≡ true → (x y : Items) × (itemsFrom l n lent d i .0 ≡ item (row l i .tag) (row l i .start) (bodyIn lent (row l i)) x y)
+  from-item e = go (opens (row l i .tag)) refl
+    where
+      go : (b : Bool) → opens (row l i .tag) ≡ b → (x y : Items) × (itemsFrom l n lent d i .0 ≡ item (row l i .tag) (row l i .start) (bodyIn lent (row l i)) x y)
+      go false o = (end, itemsFrom l n lent d (i + 1) .0, ap (λ z. z .0) (from-single e o))
+      go true o =
+          let inner = itemsFrom l n lent (d + 1) (i + 1) in
+          (inner .0, itemsFrom l n lent d (inner .1) .0, ap (λ z. z .0) (from-nested e o (inner .0) (inner .1) refl))
+
+  pub from-ahead : i ≤ itemsFrom l n lent d i .1
+  unfolding itemsFrom
+  from-ahead = tree-ahead (row l) n lent d i
+
+  pub from-within : i ≤ n → itemsFrom l n lent d i .1 ≤ n
+  unfolding itemsFrom
+  from-within h = tree-within (row l) n lent d i h
+
+-- fewer records have their places too
+pub holding-at : (n i : ℕ) (l : Lists) (lent : List ℕ) → Holding n l lent → i < n → Holding (i + 1) l lent
+holding-at n i l lent h q =
+    let a = h .tags in
+    let b = h .depths in
+    let c = h .starts in
+    let d = h .sizes in
+    record { tags = omega arith; depths = omega arith; starts = omega arith; sizes = omega arith; bodies = λ j k. h .bodies j (omega arith) }
+
+-- the tree goes by four of the lists alone
+abbrev pub fourIn : Lists → Lists
+fourIn l = fourOf (l .tags) (l .depths) (l .starts) (l .sizes)
+
+abbrev turn : Lists → ℕ → List ℕ → (d i : ℕ) → (ℕ → ℕ → Items × ℕ) → Items × ℕ
+turn l n lent d i f =
+    let inner : Items × ℕ = cond (opens (row l i .tag)) (f (suc d) (suc i)) (end, suc i) in
+    let rest = f d (inner .1) in
+    let one : Items × ℕ = (item (row l i .tag) (row l i .start) (bodyIn lent (row l i)) (inner .0) (rest .0), rest .1) in
+    cond (here (row l) n d i) one (end, i)
+
+turn-four : (l : Lists) (n : ℕ) (lent : List ℕ) (d i : ℕ) (f g : ℕ → ℕ → Items × ℕ) → f ≡ g → turn (fourIn l) n lent d i f ≡ turn l n lent d i g
+unfolding here bodyIn
+turn-four l n lent d i f g e = ap (turn l n lent d i) e
+
+pub tree-four : (l : Lists) (n : ℕ) (lent : List ℕ) (k d i : ℕ) → tree k (row (fourIn l)) n lent d i ≡ tree k (row l) n lent d i
+unfolding tree
+tree-four l n lent zero d i = refl
+tree-four l n lent (suc k) d i =
+    turn-four l n lent d i (tree k (row (fourIn l)) n lent) (tree k (row l) n lent) (fun-ext λ e. fun-ext λ j. tree-four l n lent k e j)

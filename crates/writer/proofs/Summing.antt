@@ -1,0 +1,209 @@
+-- One turn of the loop of `size_items`, by what the record at hand adds.
+use mathlib.Core.Path.{_≡_, refl, sym, ap, _∙_, subst}
+use mathlib.Core.Bool.{Bool, true, false, cond}
+use mathlib.Core.List.{List}
+use Prim.Native.Nat.{ℕ, _+_, _-_, _≤_, _<_}
+use native.Mathlib.Omega.{arith}
+use native.Mathlib.Nat.{add-sub-cancel-left}
+use lib.Dec.{eqb, leb}
+use lib.ListN.{length, take, drop, getD, length-take}
+use borrow.Author.Tests.{lt-leb, le-leb, leb-false, leb-true, eq-eqb, ne-eqb}
+use mir.Syntax.{w16, w64}
+use mir.Val.{Fits}
+use Rattle.format.specs.declared.Record.{Record}
+use Rattle.format.specs.Meaning.{opens}
+use Rattle.format.specs.Writer.{bodyIn, here}
+use Rattle.format.specs.Calls.{Lists, row}
+use Rattle.writer.specs.declared.size.Part.{Part}
+use Rattle.writer.specs.declared.size.Part.the-variants.{Past, Holds, Single}
+use Rattle.writer.specs.declared.size.Sized.{Sized}
+use Rattle.writer.specs.declared.size.Sized.the-variants.{Over, Size}
+use Rattle.writer.specs.Normal.{framedSize, itemOctets, normalSize}
+use Rattle.writer.specs.Steps.{itemsFrom, partOf, partAt, sizedOf, sizedFrom}
+use Rattle.writer.proofs.Items.{item-short, framed-short}
+use Rattle.writer.proofs.Rows.{here-end, here-not, here-is, from-stop, from-single, from-nested, from-ahead, from-within}
+
+-- what a record adds, by its tests
+module _ (p tag : ℕ) (body : List ℕ) (o : Bool) (e : o ≡ opens tag) where
+  pub part-holds : o ≡ true → Holds tag ≡ partOf p tag body
+  unfolding partOf
+  part-holds h = rw (sym e ∙ h)
+
+  pub part-single : o ≡ false → (m : ℕ) → m ≡ length (itemOctets p tag body) → Single m ≡ partOf p tag body
+  unfolding partOf
+  part-single h m q = rw (sym e ∙ h, q)
+
+module _ (p depth : ℕ) (lent : List ℕ) (l : Lists) (i d : ℕ) (e : d ≡ getD (l .depths) i 0) where
+  pub part-past : (d ≡ depth → ⊥) → Past ≡ partAt p depth lent (row l i)
+  unfolding partAt
+  part-past h = rw (ne-eqb (getD (l .depths) i 0) depth (λ q. h (e ∙ q)))
+
+  pub part-here : d ≡ depth → (start size : ℕ) → start ≡ getD (l .starts) i 0 → size ≡ getD (l .sizes) i 0 → (r : Part)
+      → r ≡ partOf p (getD (l .tags) i 0) (take (start + size - start) (drop start lent)) → r ≡ partAt p depth lent (row l i)
+  unfolding partAt bodyIn
+  part-here h start size a b r q = rw (eq-eqb (getD (l .depths) i 0) depth (sym e ∙ h), ← a, ← b) (rw add-sub-cancel-left at q)
+
+-- and what such an answer says of the record
+module _ (p depth : ℕ) (lent : List ℕ) (r : Record) where
+  unfoldable Tells : Part → Type 0
+  Tells Past = eqb (r .depth) depth ≡ false
+  Tells (Holds tag) = (eqb (r .depth) depth ≡ true) × (opens (r .tag) ≡ true) × (tag ≡ r .tag)
+  Tells (Single m) = (eqb (r .depth) depth ≡ true) × (opens (r .tag) ≡ false) × (m ≡ length (itemOctets p (r .tag) (bodyIn lent r)))
+
+  tells : (x : Part) → x ≡ partAt p depth lent r → Tells x
+  unfolding partAt partOf Tells
+  tells x e = subst Tells (sym e) (go (eqb (r .depth) depth) (opens (r .tag)) refl refl)
+    where
+      go : (a b : Bool) → eqb (r .depth) depth ≡ a → opens (r .tag) ≡ b → Tells (cond a (cond b (Holds (r .tag)) (Single (length (itemOctets p (r .tag) (bodyIn lent r))))) Past)
+      go false b f g = f
+      go true true f g = (f, g, refl)
+      go true false f g = (f, g, refl)
+
+abbrev sum : Lists → ℕ → List ℕ → (p d i : ℕ) → ℕ
+sum l n lent p d i = normalSize p (itemsFrom l n lent d i .0)
+
+abbrev next : Lists → ℕ → List ℕ → (d i : ℕ) → ℕ
+next l n lent d i = itemsFrom l n lent d i .1
+
+-- what a size says
+unfoldable SizeTells : ℕ → ℕ → Sized → Type 0
+SizeTells m j Over = 32_768 < m
+SizeTells m j (Size t k) = (m ≡ t) × (j ≡ k) × (t ≤ 32_768)
+
+size-tells : (l : Lists) (n : ℕ) (lent : List ℕ) (p d i : ℕ) (v : Sized) → v ≡ sizedFrom l n lent p d i → SizeTells (sum l n lent p d i) (next l n lent d i) v
+unfolding sizedFrom sizedOf SizeTells
+size-tells l n lent p d i v e = subst (SizeTells (sum l n lent p d i) (next l n lent d i)) (sym e) (go (leb (sum l n lent p d i) 32_768) refl)
+  where
+    go : (b : Bool) → leb (sum l n lent p d i) 32_768 ≡ b → SizeTells (sum l n lent p d i) (next l n lent d i) (cond b (Size (sum l n lent p d i) (next l n lent d i)) Over)
+    go true q = (refl, refl, leb-true _ _ q)
+    go false q = leb-false (sum l n lent p d i) 32_768 q
+
+pub size-over : (l : Lists) (n : ℕ) (lent : List ℕ) (p d i : ℕ) (v : Sized) → v ≡ sizedFrom l n lent p d i → v ≡ Over → 32_768 < sum l n lent p d i
+unfolding SizeTells
+size-over l n lent p d i v e q = subst (SizeTells (sum l n lent p d i) (next l n lent d i)) q (size-tells l n lent p d i v e)
+
+pub size-told : (l : Lists) (n : ℕ) (lent : List ℕ) (p d i : ℕ) (v : Sized) → v ≡ sizedFrom l n lent p d i → (t j : ℕ) → v ≡ Size t j
+    → (sum l n lent p d i ≡ t) × (next l n lent d i ≡ j) × (t ≤ 32_768)
+unfolding SizeTells
+size-told l n lent p d i v e t j q = subst (SizeTells (sum l n lent p d i) (next l n lent d i)) q (size-tells l n lent p d i v e)
+
+over-is : (l : Lists) (n : ℕ) (lent : List ℕ) (p d i : ℕ) → 32_768 < sum l n lent p d i → Over ≡ sizedFrom l n lent p d i
+unfolding sizedFrom sizedOf
+over-is l n lent p d i h = rw (lt-leb (sum l n lent p d i) 32_768 h)
+
+size-is : (l : Lists) (n : ℕ) (lent : List ℕ) (p d i m j : ℕ) → sum l n lent p d i ≡ m → next l n lent d i ≡ j → m ≤ 32_768 → Size m j ≡ sizedFrom l n lent p d i
+unfolding sizedFrom sizedOf
+size-is l n lent p d i m j e f h = rw (e, f, le-leb m 32_768 h)
+
+-- the loop's invariant: the size so far with the size from record i on is the size of all, and both end at one record
+pub record Sums (l : Lists) (n : ℕ) (lent : List ℕ) (at depth p i total : ℕ) : Type 0 where
+  pub low : at ≤ i
+  pub high : i ≤ n
+  pub small : total ≤ 32_768
+  pub added : sum l n lent p depth at ≡ total + sum l n lent p depth i
+  pub same : next l n lent depth at ≡ next l n lent depth i
+
+pub sums-start : (l : Lists) (n : ℕ) (lent : List ℕ) (at depth p : ℕ) → at ≤ n → Sums l n lent at depth p at 0
+sums-start l n lent at depth p h = record { low = omega arith; high = h; small = omega arith; added = omega arith; same = refl }
+
+module _ (l : Lists) (n : ℕ) (lent : List ℕ) (at depth p i total : ℕ) (inv : Sums l n lent at depth p i total) where
+  ended : here (row l) n depth i ≡ false → Size total i ≡ sizedFrom l n lent p depth at
+  unfolding normalSize
+  ended e =
+      let t = from-stop l n lent depth i e in
+      let z : sum l n lent p depth i ≡ 0 = ap (λ x. normalSize p (x .0)) t in
+      let a = inv .added in
+      size-is l n lent p depth at total i (omega arith) (inv .same ∙ ap (λ x. x .1) t) (inv .small)
+
+  pub sums-end : n ≤ i → Size total i ≡ sizedFrom l n lent p depth at
+  sums-end h = ended (here-end l n lent depth i h)
+
+  module _ (lt : i < n) (x : Part) (xe : x ≡ partAt p depth lent (row l i)) where
+    pub sums-past : x ≡ Past → Size total i ≡ sizedFrom l n lent p depth at
+    unfolding Tells
+    sums-past f = ended (here-not l n lent depth i (subst (Tells p depth lent (row l i)) f (tells p depth lent (row l i) x xe)))
+
+    module _ (m : ℕ) (f : x ≡ Single m) where
+      single-says : (eqb (row l i .depth) depth ≡ true) × (opens (row l i .tag) ≡ false) × (m ≡ length (itemOctets p (row l i .tag) (bodyIn lent (row l i))))
+      unfolding Tells
+      single-says = subst (Tells p depth lent (row l i)) f (tells p depth lent (row l i) x xe)
+
+      pub single-fits : Fits w16 (getD (l .sizes) i 0) → Fits w64 (total + m)
+      unfolding bodyIn
+      single-fits h =
+          let s = inv .small in
+          omega (arith, single-says .2, item-short p (row l i .tag) (bodyIn lent (row l i)), length-take (row l i .size) (drop (row l i .start) lent))
+
+      single-turn : (sum l n lent p depth at ≡ total + m + sum l n lent p depth (i + 1)) × (next l n lent depth at ≡ next l n lent depth (i + 1))
+      unfolding normalSize
+      single-turn =
+          let t = single-says in
+          let u = from-single l n lent depth i (here-is l n lent depth i lt (t .0)) (t .1) in
+          let z : sum l n lent p depth i ≡ length (itemOctets p (row l i .tag) (bodyIn lent (row l i))) + sum l n lent p depth (i + 1) = ap (λ y. normalSize p (y .0)) u ∙ rw (t .1) in
+          let a = inv .added in
+          let e = t .2 in
+          (omega arith, inv .same ∙ ap (λ y. y .1) u)
+
+      pub single-over : 32_768 < total + m → Over ≡ sizedFrom l n lent p depth at
+      single-over h = let a = single-turn .0 in over-is l n lent p depth at (omega arith)
+
+      pub single-next : total + m ≤ 32_768 → Sums l n lent at depth p (i + 1) (total + m)
+      single-next h = let a = single-turn in let k = inv .low in record { low = omega arith; high = omega arith; small = h; added = a .0; same = a .1 }
+
+    module _ (tag : ℕ) (f : x ≡ Holds tag) (v : Sized) (ve : v ≡ sizedFrom l n lent tag (depth + 1) (i + 1)) where
+      holds-turn : (sum l n lent p depth at ≡ total + framedSize (sum l n lent tag (depth + 1) (i + 1)) + sum l n lent p depth (next l n lent (depth + 1) (i + 1)))
+          × (next l n lent depth at ≡ next l n lent depth (next l n lent (depth + 1) (i + 1)))
+      unfolding Tells normalSize
+      holds-turn =
+          let t : (eqb (row l i .depth) depth ≡ true) × (opens (row l i .tag) ≡ true) × (tag ≡ row l i .tag) = subst (Tells p depth lent (row l i)) f (tells p depth lent (row l i) x xe) in
+          let u = from-nested l n lent depth i (here-is l n lent depth i lt (t .0)) (t .1) (itemsFrom l n lent (depth + 1) (i + 1) .0) (next l n lent (depth + 1) (i + 1)) refl in
+          let z : sum l n lent p depth i ≡ framedSize (sum l n lent tag (depth + 1) (i + 1)) + sum l n lent p depth (next l n lent (depth + 1) (i + 1)) =
+          ap (λ y. normalSize p (y .0)) u ∙ rw (t .1, ← t .2) in
+          let a = inv .added in
+          (omega arith, inv .same ∙ ap (λ y. y .1) u)
+
+      pub holds-over : v ≡ Over → Over ≡ sizedFrom l n lent p depth at
+      unfolding framedSize
+      holds-over q =
+          let w = size-over l n lent tag (depth + 1) (i + 1) v ve q in
+          let a = holds-turn .0 in
+          over-is l n lent p depth at (omega arith)
+
+      module _ (t j : ℕ) (q : v ≡ Size t j) where
+        pub inner-small : t < 131072
+        inner-small = let k = size-told l n lent tag (depth + 1) (i + 1) v ve t j q .2 in omega arith
+
+        between : (i + 1 ≤ j) × (j ≤ n)
+        between =
+            let k = size-told l n lent tag (depth + 1) (i + 1) v ve t j q .1 in
+            (omega (arith, from-ahead l n lent (depth + 1) (i + 1)), omega (arith, from-within l n lent (depth + 1) (i + 1) (omega arith)))
+
+        pub holds-less : n - j < n - i
+        holds-less = let b = between in omega arith
+
+        module _ (m : ℕ) (me : m ≡ framedSize t) where
+          pub inner-fits : Fits w64 (total + m)
+          inner-fits = let s = inv .small in omega (arith, inner-small, framed-short t)
+
+          holds-both : (sum l n lent p depth at ≡ total + m + sum l n lent p depth j) × (next l n lent depth at ≡ next l n lent depth j)
+          holds-both =
+              let k = size-told l n lent tag (depth + 1) (i + 1) v ve t j q in
+              rw (k .0, k .1, ← me) at holds-turn
+
+          pub inner-over : 32_768 < total + m → Over ≡ sizedFrom l n lent p depth at
+          inner-over g = let a = holds-both .0 in over-is l n lent p depth at (omega arith)
+
+          pub inner-next : total + m ≤ 32_768 → Sums l n lent at depth p j (total + m)
+          inner-next g = let b = between in let k = inv .low in record { low = omega arith; high = b .1; small = g; added = holds-both .0; same = holds-both .1 }
+
+-- the call for the items inside: fewer records are left, and no depth is beyond the number of its record
+pub falls-within : (n at i t : ℕ) → n - at ≡ t → at ≤ i → i < n → n - (i + 1) < t
+falls-within n at i t e a b = omega arith
+
+pub deeper : (at depth i : ℕ) → depth ≤ at + 1 → at ≤ i → depth + 1 ≤ i + 1 + 1
+deeper at depth i a b = omega arith
+
+-- a body that the records hold ends in the lent octets
+pub body-end : (i start size : ℕ) (l : Lists) (lent : List ℕ) → ((j : ℕ) → j < i + 1 → getD (l .starts) j 0 + getD (l .sizes) j 0 ≤ length lent)
+    → start ≡ getD (l .starts) i 0 → size ≡ getD (l .sizes) i 0 → start + size ≤ length lent
+body-end i start size l lent h a b = let k = h i (omega arith) in omega arith

@@ -1,0 +1,5 @@
+pub mod Rules
+pub mod Check
+pub mod Normal
+pub mod Steps
+pub mod Theorems

@@ -1,0 +1,129 @@
+-- What the parts of the writer answer, and what the room then holds: measuring and writing the items of an element from a record on.
+use mathlib.Core.Path.{_≡_}
+use mathlib.Core.Bool.{true, cond}
+use mathlib.Core.Option.{Option, none, some}
+use mathlib.Core.List.{List, [], _∷_, _++_}
+use Prim.Native.Nat.{ℕ, suc, _+_, _-_, _≤_, _<_}
+use lib.Dec.{eqb, leb}
+use lib.ListN.{length, take, drop, getD}
+use lib.Seq.{sets}
+use denote.Ref.{RefT}
+use Rattle.octets.specs.Header.{lengthField, framed}
+use Rattle.values.specs.declared.Kind.{Kind}
+use Rattle.values.specs.Table.{attribute}
+use Rattle.values.specs.Values.{octetsOf}
+use Rattle.format.specs.declared.Record.{Record}
+use Rattle.format.specs.Tree.{Items, find}
+use Rattle.format.specs.Meaning.{opens, attributesIn, maybe}
+use Rattle.format.specs.Writer.{Spot, bodyIn, tree, ruled}
+use Rattle.format.specs.Calls.{Lists, row}
+use Rattle.writer.specs.Normal.{valueOctets, itemOctets, normalSize, attributeOctets, laterOctets}
+use Rattle.writer.specs.declared.item.Form.{Form}
+use Rattle.writer.specs.declared.item.Form.the-variants.{Nothing, Value as Valued}
+use Rattle.writer.specs.declared.size.Part.{Part}
+use Rattle.writer.specs.declared.size.Part.the-variants.{Past, Holds, Single}
+use Rattle.writer.specs.declared.size.Sized.{Sized}
+use Rattle.writer.specs.declared.size.Sized.the-variants.{Over, Size}
+use Rattle.writer.specs.declared.emit.Found.{Found}
+use Rattle.writer.specs.declared.emit.Found.the-variants as found
+use Rattle.writer.specs.declared.emit.Reached.{Reached}
+use Rattle.writer.specs.declared.emit.Role.{Role}
+use Rattle.writer.specs.declared.emit.Role.the-variants.{Gone, Element, Attribute, Other}
+
+-- measuring and writing read four of the lent lists
+abbrev pub fourOf : (tags depths starts sizes : List ℕ) → Lists
+fourOf tags depths starts sizes = record { tags = tags; kinds = []; depths = depths; parents = []; starts = starts; sizes = sizes }
+
+abbrev pub four : (tags depths starts sizes : RefT (List ℕ)) → Lists
+four tags depths starts sizes = fourOf (tags .now) (depths .now) (starts .now) (sizes .now)
+
+-- the items of an element from record i on, at a depth, and the number of the first record past them
+unfoldable pub itemsFrom : Lists → ℕ → List ℕ → (depth i : ℕ) → Items × ℕ
+itemsFrom l n lent depth i = tree (suc (n - i)) (row l) n lent depth i
+
+-- n records have places in the four lists, and the bodies of all lie in the lent octets and have sizes of 16 bits
+pub record Holding (n : ℕ) (l : Lists) (lent : List ℕ) : Type 0 where
+  pub tags : n ≤ length (l .tags)
+  pub depths : n ≤ length (l .depths)
+  pub starts : n ≤ length (l .starts)
+  pub sizes : n ≤ length (l .sizes)
+  pub bodies : (i : ℕ) → i < n → getD (l .starts) i 0 + getD (l .sizes) i 0 ≤ length lent
+
+-- what is written of an item that holds no items: a value of its kind with so many octets; nothing where it isn't known
+unfoldable pub writtenOf : Option Kind → List ℕ → Form
+writtenOf none body = Nothing
+writtenOf (some k) body = Valued k (length (valueOctets k body))
+
+-- what a record adds to the size of an element's items: it holds items, or has a size of its own, or is none of them
+unfoldable pub partOf : (parent tag : ℕ) → List ℕ → Part
+partOf parent tag body = cond (opens tag) (Holds tag) (Single (length (itemOctets parent tag body)))
+
+unfoldable pub partAt : (parent depth : ℕ) → List ℕ → Record → Part
+partAt parent depth lent r = cond (eqb (r .depth) depth) (partOf parent (r .tag) (bodyIn lent r)) Past
+
+-- a size that an object may have, and where the items end; no size above 32,768 is told
+unfoldable pub sizedOf : ℕ → ℕ → Sized
+sizedOf total next = cond (leb total 32_768) (Size total next) Over
+
+unfoldable pub sizedFrom : Lists → ℕ → List ℕ → (parent depth i : ℕ) → Sized
+sizedFrom l n lent parent depth i = sizedOf (normalSize parent (itemsFrom l n lent depth i .0)) (itemsFrom l n lent depth i .1)
+
+-- octets laid into a room from a place on, and the place behind them
+pub record Lays (octets : List ℕ) (to : ℕ) (before after : List ℕ) (end : ℕ) : Type 0 where
+  pub leaves : after ≡ sets before to octets
+  pub ends : end ≡ to + length octets
+
+-- items of an element of a tag that keep the rules, whatever came before them
+pub record Ordered (parent : ℕ) (t : Items) : Type 0 where
+  pub spot : Spot
+  pub element : spot .parent ≡ parent
+  pub rules : ruled spot t ≡ true
+
+-- octets fit a room, and no more of an object is written than it may have
+pub record Fitting (octets : List ℕ) (to room : ℕ) : Type 0 where
+  pub inRoom : to + length octets ≤ room
+  pub inObject : to + length octets ≤ 32_768
+
+-- the record that was found by its tag, as `find` tells its body
+unfoldable pub bodyFound : Lists → List ℕ → Found → Option (List ℕ)
+bodyFound l lent found.Nowhere = none
+bodyFound l lent (found.At i) = some (bodyIn lent (row l i))
+
+-- the body of record i among starts and sizes, and that it lies in the lent octets
+unfoldable pub bodyAt : ℕ → (starts sizes lent : List ℕ) → List ℕ
+bodyAt i starts sizes lent = take (getD sizes i 0) (drop (getD starts i 0) lent)
+
+pub record BodyAt (i : ℕ) (starts sizes lent : List ℕ) : Type 0 where
+  pub start : i < length starts
+  pub size : i < length sizes
+  pub inside : getD starts i 0 + getD sizes i 0 ≤ length lent
+
+-- an element that holds items, and the same up to its first child: tag, length of all that is inside it, attributes
+unfoldable pub elementOctets : ℕ → Items → List ℕ
+elementOctets tag inside = framed tag (attributeOctets tag inside ++ laterOctets tag inside)
+
+unfoldable pub openingOctets : ℕ → Items → List ℕ
+openingOctets tag inside = (tag ∷ lengthField (length (attributeOctets tag inside ++ laterOctets tag inside))) ++ attributeOctets tag inside
+
+unfoldable pub roleOf : (depth own tag : ℕ) → Role
+roleOf depth own tag = cond (eqb own depth) (cond (opens tag) (Element tag) (cond (attribute tag) Attribute (Other tag))) Gone
+
+-- the items of an element after its attributes are written, and where they end in the room and in the lists
+pub record Emits (t : Items × ℕ) (parent to : ℕ) (before after : List ℕ) (answer : Reached) : Type 0 where
+  pub lays : Lays (laterOctets parent (t .0)) to before after (answer .end)
+  pub next : answer .next ≡ t .1
+
+-- a record that was found is one of n
+abbrev pub Within : ℕ → Found → Type 0
+Within n found.Nowhere = Unit {0}
+Within n (found.At i) = i < n
+
+-- the attribute of a tag is found where the items of the element have it, whatever their bodies are, as long as they keep the rules
+pub record Finds (n : ℕ) (tags depths : List ℕ) (at depth tag : ℕ) (answer : Found) : Type 0 where
+  pub within : Within n answer
+  pub body : (starts sizes lent : List ℕ) (s : Spot) → ruled s (itemsFrom (fourOf tags depths starts sizes) n lent depth at .0) ≡ true
+      → find tag (itemsFrom (fourOf tags depths starts sizes) n lent depth at .0) ≡ bodyFound (fourOf tags depths starts sizes) lent answer
+
+-- one attribute of an element
+unfoldable pub oneAttribute : ℕ → Items → ℕ → List ℕ
+oneAttribute parent inside tag = maybe (λ v. framed tag (octetsOf v)) (attributesIn [] parent inside tag)

@@ -1,0 +1,26 @@
+-- What theorems of the writer say, beyond the claim of its call.
+use mathlib.Core.Path.{_≡_}
+use mathlib.Core.Bool.{Bool, true, not, _&&_}
+use mathlib.Core.Option.{some}
+use mathlib.Core.List.{List, []}
+use Prim.Native.Nat.{ℕ}
+use lib.Dec.{eqb}
+use lib.ListN.{take, drop}
+use Rattle.format.specs.Tree.{Items}
+use Rattle.format.specs.Tree.Items.{end, item}
+use Rattle.format.specs.Meaning.{means, encode, meaning}
+use Rattle.format.specs.Calls.{Lists, treeGiven}
+
+-- an object that has no token table
+unfoldable pub tableless : Items → Bool
+tableless end = true
+tableless (item tag at body inside after) = not (eqb tag 4) && tableless inside && tableless after
+
+-- k octets were written from records: they are the normal form of the records' tree, they are accepted and mean what that tree means, and behind them the room
+-- is as before
+pub record Delivered (n : ℕ) (lists : Lists) (lent before after : List ℕ) (k : ℕ) : Type 0 where
+  pub tree : Items
+  pub given : treeGiven n lists lent ≡ some tree
+  pub octets : take k after ≡ encode (means [] tree)
+  pub meant : meaning (take k after) ≡ some (means [] tree)
+  pub rest : drop k after ≡ drop k before

@@ -1,0 +1,117 @@
+// How many octets records have in normal form. The size of an element's body comes from the items inside it, before the form of its
+// length is chosen. A size above 32,768 is never told: no object may have it, so the whole is refused (15), however long lists may be.
+// Cost: each record is looked at once.
+ghost use mathlib.Core.Path.{_≡_};
+ghost use Prim.Native.Nat.{_+_, _≤_, _<_};
+ghost use lib.ListN.{length, getD};
+ghost use Rattle.format.specs.Calls.{row};
+ghost use Rattle.writer.specs.Steps.{four, Holding, partOf, partAt, sizedFrom};
+use crate::item::framed_size;
+use crate::item::holds_items;
+use crate::item::item_size;
+use crate::item::wide;
+use crate::item::wide16;
+
+// What a record adds to the items of an element: it is none of them; it holds items that are to be measured; so many octets.
+pub enum Part {
+    Past,
+    Holds(u8),
+    Single(usize),
+}
+
+// The size of the items of an element, and the number of the first record past them. Over: above 32,768.
+pub enum Sized {
+    Over,
+    Size { total: usize, next: usize },
+}
+
+fn part_of(parent: u8, tag: u8, body: &[u8]) -> Part
+    requires { ⌜ length (now body) < 65536 ⌝ }
+    ensures { λ r. ⌜ r ≡ partOf parent tag (now (body .entry)) ⌝ }
+{
+    if holds_items(tag) {
+        return Part::Holds(tag);
+    }
+    Part::Single(item_size(parent, tag, body))
+}
+
+fn part_at(
+    tags: &[u8],
+    depths: &[u8],
+    starts: &[u16],
+    sizes: &[u16],
+    octets: &[u8],
+    i: usize,
+    depth: usize,
+    parent: u8,
+) -> Part
+    requires { ⌜ Holding (i + 1) (four tags depths starts sizes) (now octets) ⌝ }
+    ensures { λ r. ⌜ r ≡ partAt parent depth (now (octets .entry)) (row (four (tags .entry) (depths .entry) (starts .entry) (sizes .entry)) i) ⌝ }
+{
+    if wide(depths[i]) != depth {
+        return Part::Past;
+    }
+    let start = wide16(starts[i]);
+    let end = start + wide16(sizes[i]);
+    part_of(parent, tags[i], &octets[start..end])
+}
+
+// The items of an element of a tag from record `at` on, at a depth.
+pub fn size_items(
+    n: usize,
+    tags: &[u8],
+    depths: &[u8],
+    starts: &[u16],
+    sizes: &[u16],
+    octets: &[u8],
+    at: usize,
+    depth: usize,
+    parent: u8,
+) -> Sized
+    requires { ⌜ Holding n (four tags depths starts sizes) (now octets) × (at ≤ n) × (depth ≤ at + 1) ⌝ }
+    ensures { λ r. ⌜ r ≡ sizedFrom (four (tags .entry) (depths .entry) (starts .entry) (sizes .entry)) n (now (octets .entry)) parent depth at ⌝ }
+{
+    let mut i = at;
+    let mut total: usize = 0;
+    while i < n {
+        match part_at(tags, depths, starts, sizes, octets, i, depth, parent) {
+            Part::Past => {
+                return Sized::Size { total, next: i };
+            }
+            Part::Single(size) => {
+                let sum = total + size;
+                if sum > 32768 {
+                    return Sized::Over;
+                }
+                total = sum;
+                i = i + 1;
+            }
+            Part::Holds(tag) => {
+                match size_items(
+                    n,
+                    tags,
+                    depths,
+                    starts,
+                    sizes,
+                    octets,
+                    i + 1,
+                    depth + 1,
+                    tag,
+                ) {
+                    Sized::Over => {
+                        return Sized::Over;
+                    }
+                    Sized::Size { total: inner, next } => {
+                        let sum = total + framed_size(inner);
+                        if sum > 32768 {
+                            return Sized::Over;
+                        }
+                        total = sum;
+                        i = next;
+                    }
+                }
+            }
+        }
+    }
+    Sized::Size { total, next: i }
+}
