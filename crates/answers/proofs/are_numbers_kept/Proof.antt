@@ -1,0 +1,73 @@
+use Rattle.answers.proofs.Ways.{Keeping, keeping-ways}
+use Prim.Native.Nat.{_-_, _≤_}
+use lib.ListN.{length}
+use mathlib.Core.Path.{_≡_}
+use borrow.Author.Needs.{needs}
+use Rattle.answers.proofs.are_numbers_kept.Statement.{statement}
+use Rattle.answers.proofs.are_numbers_kept.Tie as tie
+use Rattle.answers.proofs.are_numbers_kept.Reads as reads
+use Rattle.answers.proofs.are_numbers_kept.Lts as lts
+use Rattle.answers.proofs.mark.Reads as mark-reads
+
+abbrev Inv-loop : tie.InvT-loop
+Inv-loop s from i₀ i = Keeping s from i
+
+abbrev μ-loop : tie.MeasureT-loop
+μ-loop s from i₀ i = length s - i
+
+-- src/main.rt:138:5
+loop-holds : tie.Need-loop-holds Inv-loop μ-loop
+loop-holds c = search (keeping-ways, needs)
+
+-- src/main.rt:139:12
+mul-if1 : tie.Need-mul-if1 Inv-loop μ-loop
+mul-if1 c = search (keeping-ways, needs)
+
+-- src/main.rt:139:12
+shared-slice-read-if1 : tie.Need-shared-slice-read-if1 Inv-loop μ-loop
+shared-slice-read-if1 c = search (keeping-ways, needs)
+
+-- src/main.rt:139:20
+mark-requires : tie.Need-mark-requires Inv-loop μ-loop
+mark-requires c κs = search (keeping-ways, needs)
+
+-- src/main.rt:139:20
+cast-if1 : tie.Need-cast-if1 Inv-loop μ-loop
+cast-if1 c = search (keeping-ways, needs)
+
+-- src/main.rt:140:13
+returns : tie.Need-returns Inv-loop μ-loop
+returns c = search (keeping-ways, needs)
+
+-- src/main.rt:142:13
+add-i : tie.Need-add-i Inv-loop μ-loop
+add-i c = search (keeping-ways, needs)
+
+-- src/main.rt:138:5
+loop-less : tie.Need-loop-less Inv-loop μ-loop
+loop-less c = search (keeping-ways, needs)
+
+-- src/main.rt:138:5
+loop-again : tie.Need-loop-again Inv-loop μ-loop
+loop-again c = search (keeping-ways, needs)
+
+-- src/main.rt:134:1
+returns-2 : tie.Need-returns-2 Inv-loop μ-loop
+returns-2 c = search (keeping-ways, needs)
+
+pub are-numbers-kept-spec : {M : Type 1} → statement M
+are-numbers-kept-spec =
+    tie.close
+    (tie.spec
+    Inv-loop
+    μ-loop
+    loop-holds
+    mul-if1
+    shared-slice-read-if1
+    mark-requires
+    cast-if1
+    returns
+    add-i
+    loop-less
+    loop-again
+    returns-2)

@@ -1,0 +1,37 @@
+use Rattle.leaves_run.proofs.Ways.{show-end}
+use borrow.Author.Needs.{needs}
+use Rattle.leaves_run.proofs.say_hex.Statement.{statement}
+use Rattle.leaves_run.proofs.say_hex.Tie as tie
+
+put-hex-requires : tie.Need-put-hex-requires
+put-hex-requires c κs = search needs
+
+enum-known-end : tie.Need-enum-known-end
+enum-known-end c = search needs
+
+enum-told : tie.Need-enum-told
+enum-told c = search needs
+
+same-length : tie.Need-same-length
+same-length c = search needs
+
+returns : tie.Need-returns
+returns c = search (show-end, needs)
+
+same-length-2 : tie.Need-same-length-2
+same-length-2 c = search needs
+
+returns-2 : tie.Need-returns-2
+returns-2 c = search needs
+
+pub say-hex-spec : {M : Type 1} → statement M
+say-hex-spec =
+    tie.close
+    (tie.spec
+    put-hex-requires
+    enum-known-end
+    enum-told
+    same-length
+    returns
+    same-length-2
+    returns-2)

@@ -1,0 +1,465 @@
+-- The ways through the calls: what is left of a text while it is stored, digits from the last one on, words, and the answers.
+use mathlib.Core.Path.{_≡_, refl, sym, ap, subst, _∙_}
+use mathlib.Core.Bool.{Bool, true, false, cond}
+use mathlib.Core.List.{List, [], _∷_, _++_, append-nil}
+use Prim.Native.Nat.{ℕ, zero, suc, _+_, _-_, _*_, _/_, _%_, _^_, _≤_, _<_}
+use native.Mathlib.Numerals.{add-one}
+use native.Mathlib.Omega.{arith}
+use lib.Dec.{leb}
+use lib.ListN.{length, drop, getD, set, length-append, length-set, drop-of-length-le, List·getD-eq-default}
+use lib.Seq.{sets, length-sets, set-comm, append-snoc, drop-cons}
+use mir.Syntax.{w8, w64}
+use mir.Val.{Fits}
+use borrow.Author.Tests.{le-leb, lt-leb, leb-true, leb-false, lt-ltb, le-ltb}
+use Rattle.show.specs.Digits.{decimal, hexDigit, twoDigits, hexLower, hexUpper}
+use Rattle.format.specs.declared.Record.{Record}
+use Rattle.format.specs.declared.Refusal.{Refusal}
+use Rattle.show.specs.Lines.{ascii, line, kindName, recordLine, recordsLine, refusalLine, badStreamLine, reasons, refusalWords}
+use Rattle.show.specs.Calls.{putAnswer, putLeaves, Puts, Wrote, Few}
+use Rattle.show.specs.declared.Put.{Put}
+use Rattle.show.proofs.Digits.{decimal-one, decimal-more, length-more, decimal-some, decimal-few}
+
+-- ---- laying texts over a list
+
+sets-append : (l : List ℕ) (i : ℕ) (a b : List ℕ) → sets (sets l i a) (i + length a) b ≡ sets l i (a ++ b)
+sets-append l i [] b = ap (λ (n : ℕ). sets l n b) (omega arith)
+sets-append l i (x ∷ a) b = ap (λ (n : ℕ). sets (sets (set l i x) (suc i) a) n b) (omega arith) ∙ sets-append (set l i x) (suc i) a b
+
+set-sets : (l : List ℕ) (i : ℕ) (a : List ℕ) (j x : ℕ) → j < i → set (sets l i a) j x ≡ sets (set l j x) i a
+set-sets l i [] j x h = refl
+set-sets l i (y ∷ a) j x h = set-sets (set l i y) (suc i) a j x (omega arith) ∙ ap (λ (m : List ℕ). sets m (suc i) a) (set-comm l i j y x (λ e. omega arith))
+
+-- ---- room
+
+module _ (room at size : ℕ) where
+  pub room-outside : room < at → false ≡ leb (at + size) room
+  room-outside h = sym (lt-leb (at + size) room (omega arith))
+
+  pub room-rest : at ≤ room → leb size (room - at) ≡ leb (at + size) room
+  room-rest h = go (leb size (room - at)) refl
+    where
+      go : (b : Bool) → leb size (room - at) ≡ b → leb size (room - at) ≡ leb (at + size) room
+      go true e = e ∙ sym (le-leb (at + size) room (omega (arith, leb-true size (room - at) e)))
+      go false e = e ∙ sym (lt-leb (at + size) room (omega (arith, leb-false size (room - at) e)))
+
+pub ruleset room-ways = (room-outside, room-rest)
+
+-- ---- the answers
+
+module _ (text : List ℕ) (at : ℕ) (out : List ℕ) (size : ℕ) (s : size ≡ length text) (b : Bool) (k : b ≡ leb (at + size) (length out)) where
+  pub put-none : b ≡ false → Puts text at out out Put.NoRoom
+  unfolding putAnswer putLeaves
+  put-none q = let e : leb (at + length text) (length out) ≡ false = ap (λ n. leb (at + n) (length out)) (sym s) ∙ sym k ∙ q in record { answers = rw e; leaves = rw e }
+
+  module _ (q : b ≡ true) where
+    pub put-room : at + length text ≤ length out
+    put-room = omega (arith, leb-true (at + size) (length out) (sym k ∙ q))
+
+    pub put-done : (out′ : List ℕ) (end : ℕ) → Wrote text at out out′ end → Puts text at out out′ (Put.Done end)
+    unfolding putAnswer putLeaves
+    put-done out′ end w =
+        let e : leb (at + length text) (length out) ≡ true = le-leb (at + length text) (length out) put-room in
+        record { answers = rw e (ap Put.Done (w .ends)); leaves = rw e (w .leaves) }
+
+-- ---- what is left of a text while it is stored
+
+pub record Left (text : List ℕ) (at : ℕ) (out₀ rest out : List ℕ) (to : ℕ) : Type 0 where
+  pub room : to + length rest ≤ length out
+  pub long : length out ≡ length out₀
+  pub same : sets out to rest ≡ sets out₀ at text
+  pub ends : to + length rest ≡ at + length text
+
+pub left-begin : (text : List ℕ) (at : ℕ) (out : List ℕ) → at + length text ≤ length out → Left text at out text out at
+left-begin text at out h = record { room = h; long = refl; same = refl; ends = refl }
+
+module _ (text : List ℕ) (at : ℕ) (out₀ : List ℕ) where
+  pub left-done : (out : List ℕ) (to : ℕ) → Left text at out₀ [] out to → Wrote text at out₀ out to
+  left-done out to v = record { ends = omega (arith, v .ends); leaves = v .same }
+
+  pub left-one : (x : ℕ) (rest out : List ℕ) (to : ℕ) → Left text at out₀ (x ∷ rest) out to → Left text at out₀ rest (set out to x) (to + 1)
+  left-one x rest out to v =
+      record {
+        room = rw length-set (omega (arith, v .room));
+        long = length-set out to x ∙ v .long;
+        same = ap (λ (n : ℕ). sets (set out to x) n rest) (add-one to) ∙ v .same;
+        ends = omega (arith, v .ends);
+      }
+
+  module _ (p rest out : List ℕ) (to : ℕ) (v : Left text at out₀ (p ++ rest) out to) where
+    pub left-room : to + length p ≤ length out
+    left-room = omega (arith, v .room, length-append p rest)
+
+    pub left-more : (out′ : List ℕ) (to′ : ℕ) → Wrote p to out out′ to′ → Left text at out₀ rest out′ to′
+    left-more out′ to′ w =
+        let e : length out′ ≡ length out = ap length (w .leaves) ∙ length-sets out to p in
+        record {
+          room = omega (arith, v .room, length-append p rest, w .ends, e);
+          long = e ∙ v .long;
+          same = ap (λ (n : ℕ). sets out′ n rest) (w .ends) ∙ ap (λ (o : List ℕ). sets o (to + length p) rest) (w .leaves) ∙ sets-append out to p rest ∙ v .same;
+          ends = omega (arith, v .ends, length-append p rest, w .ends);
+        }
+
+pub wrote-long : (text : List ℕ) (at : ℕ) (out out′ : List ℕ) (to : ℕ) → Wrote text at out out′ to → length out′ ≡ length out
+wrote-long text at out out′ to w = ap length (w .leaves) ∙ length-sets out at text
+
+drop-next : (s : List ℕ) (i : ℕ) → i < length s → drop i s ≡ getD s i 0 ∷ drop (i + 1) s
+drop-next s i h = drop-cons s i 0 h ∙ ap (λ (n : ℕ). getD s i 0 ∷ drop n s) (sym (add-one i))
+
+-- ---- octets as they are
+
+pub record Copying (out₀ : List ℕ) (at : ℕ) (s out : List ℕ) (i : ℕ) : Type 0 where
+  pub within : i ≤ length s
+  pub left : Left s at out₀ (drop i s) out (at + i)
+
+module _ (out₀ : List ℕ) (at : ℕ) (s : List ℕ) where
+  pub copy-begin : at + length s ≤ length out₀ → Copying out₀ at s out₀ 0
+  copy-begin h = record { within = omega arith; left = let e : at ≡ at + 0 = omega arith in subst (λ (m : ℕ). Left s at out₀ s out₀ m) e (left-begin s at out₀ h) }
+
+  module _ (out : List ℕ) (i : ℕ) (v : Copying out₀ at s out i) where
+    pub copy-long : length out ≡ length out₀
+    copy-long = v .left .long
+
+    pub copy-end : length out₀ < 2 ^ 64 → Fits w64 (at + i)
+    copy-end l = record { fits = omega (arith, v .left .room, v .left .long) }
+
+    pub copy-done : length s ≤ i → Wrote s at out₀ out (at + i)
+    copy-done h = left-done s at out₀ out (at + i) (rw (drop-of-length-le s h) at (v .left))
+
+    module _ (h : i < length s) where
+      pub copy-in : at + i < length out
+      copy-in = omega (arith, v .left .room, ap length (drop-next s i h))
+
+      pub copy-again : Copying out₀ at s (set out (at + i) (getD s i 0)) (i + 1)
+      copy-again =
+          let e : at + i + 1 ≡ at + (i + 1) = omega arith in
+          record { within = omega arith; left = rw e at (left-one s at out₀ (getD s i 0) (drop (i + 1) s) out (at + i) (rw (drop-next s i h) at (v .left))) }
+
+pub ruleset copy-ways = (copy-begin, copy-long, copy-end, copy-done, copy-in, copy-again)
+
+-- ---- how many digits
+
+pub record Measuring (n rest size : ℕ) : Type 0 where
+  pub same : size + length (decimal rest) ≡ 1 + length (decimal n)
+
+pub measure-begin : (n : ℕ) → Measuring n n 1
+measure-begin n = record { same = refl }
+
+few : (n : ℕ) → n < 2 ^ 64 → length (decimal n) ≤ 20
+few n h = decimal-few 19 n (omega arith)
+
+module _ (n rest size : ℕ) (v : Measuring n rest size) where
+  pub measure-fits : n < 2 ^ 64 → Fits w64 (size + 1)
+  measure-fits h = record { fits = omega (arith, v .same, decimal-some rest, few n h) }
+
+  pub measure-again : 10 ≤ rest → Measuring n (rest / 10) (size + 1)
+  measure-again h = record { same = omega (arith, v .same, length-more rest h) }
+
+  pub measure-done : n < 2 ^ 64 → rest < 10 → Few n size
+  measure-done h g = record { exact = omega (arith, v .same, ap length (decimal-one rest g)); few = omega (arith, v .same, decimal-some rest, few n h) }
+
+pub ruleset measure-ways = (measure-begin, measure-fits, measure-again, measure-done)
+
+-- ---- digits from the last one on: those stored stand behind those to come
+
+pub record Spelling (out₀ : List ℕ) (at n : ℕ) (out : List ℕ) (to rest : ℕ) : Type 0 where
+  pub stored : List ℕ
+  pub whole : decimal n ≡ decimal rest ++ stored
+  pub place : to ≡ at + length (decimal rest)
+  pub room : at + length (decimal n) ≤ length out₀
+  pub same : out ≡ sets out₀ to stored
+
+module _ (out₀ : List ℕ) (at n : ℕ) where
+  pub spell-begin : (size : ℕ) → Few n size → at + length (decimal n) ≤ length out₀ → Spelling out₀ at n out₀ (at + size) n
+  spell-begin size f h = record { stored = []; whole = sym (append-nil (decimal n)); place = ap (λ m. at + m) (f .exact); room = h; same = refl }
+
+  module _ (size : ℕ) (f : Few n size) (h : at + length (decimal n) ≤ length out₀) where
+    pub spell-end : length out₀ < 2 ^ 64 → Fits w64 (at + size)
+    spell-end l = record { fits = omega (arith, f .exact) }
+
+  module _ (out : List ℕ) (to rest : ℕ) (v : Spelling out₀ at n out to rest) where
+    long : length out ≡ length out₀
+    long = ap length (v .same) ∙ length-sets out₀ to (v .stored)
+
+    pub spell-long : length out ≡ length out₀
+    spell-long = long
+
+    size-of : length (decimal n) ≡ length (decimal rest) + length (v .stored)
+    size-of = ap length (v .whole) ∙ length-append (decimal rest) (v .stored)
+
+    pub spell-back : 1 ≤ to
+    spell-back = omega (arith, v .place, decimal-some rest)
+
+    pub spell-in : to - 1 < length out
+    spell-in = omega (arith, v .place, v .room, long, size-of, decimal-some rest)
+
+    pub spell-first : at < length out
+    spell-first = omega (arith, v .place, v .room, long, size-of, decimal-some rest)
+
+    pub spell-again : (d : ℕ) → 10 ≤ rest → d ≡ 48 + rest % 10 → Spelling out₀ at n (set out (to - 1) d) (to - 1) (rest / 10)
+    spell-again d h e =
+        let back : to ≡ suc (to - 1) = omega (arith, spell-back) in
+        record {
+          stored = d ∷ v .stored;
+          whole =
+              v .whole ∙ ap (λ o. o ++ v .stored) (decimal-more rest h) ∙ append-snoc (decimal (rest / 10)) (48 + rest % 10) (v .stored) ∙ ap (λ m. decimal (rest / 10) ++ m ∷ v .stored) (sym e);
+          place = omega (arith, v .place, length-more rest h);
+          room = v .room;
+          same =
+              ap (λ o. set o (to - 1) d) (v .same) ∙ set-sets out₀ to (v .stored) (to - 1) d (omega (arith, spell-back)) ∙ ap (λ m. sets (set out₀ (to - 1) d) m (v .stored)) back;
+        }
+
+    pub spell-done : (size d : ℕ) → Few n size → rest < 10 → d ≡ 48 + rest → Wrote (decimal n) at out₀ (set out at d) (at + size)
+    spell-done size d f h e =
+        let one : decimal rest ≡ d ∷ [] = decimal-one rest h ∙ ap (λ m. m ∷ []) (sym e) in
+        let next : to ≡ suc at = omega (arith, v .place, ap length one) in
+        record {
+          ends = ap (λ m. at + m) (f .exact);
+          leaves =
+              ap (λ o. set o at d) (v .same) ∙ set-sets out₀ to (v .stored) at d (omega arith) ∙ ap (λ m. sets (set out₀ at d) m (v .stored)) next
+              ∙ ap (sets out₀ at) (ap (λ o. o ++ v .stored) (sym one) ∙ sym (v .whole));
+        }
+
+pub ruleset spell-ways = (spell-begin, spell-end, spell-long, spell-back, spell-in, spell-first, spell-again, spell-done)
+
+-- ---- hexadecimal digits
+
+module _ (ten d : ℕ) where
+  pub digit-low : d < 10 → 48 + d ≡ hexDigit ten d
+  unfolding hexDigit
+  digit-low h = rw (lt-ltb d 10 h)
+
+  pub digit-high : 10 ≤ d → ten + (d - 10) ≡ hexDigit ten d
+  unfolding hexDigit
+  digit-high h = rw (le-ltb d 10 h)
+
+pub ruleset digit-ways = (digit-low, digit-high)
+
+pub length-two : (ten b : ℕ) → length (twoDigits ten b) ≡ 2
+unfolding twoDigits
+length-two ten b = refl
+
+module _ (ten b at : ℕ) (out : List ℕ) (h : at + length (twoDigits ten b) ≤ length out) where
+  pub two-first : at < length out
+  two-first = omega (arith, length-two ten b)
+
+  pub two-second : (x : ℕ) → at + 1 < length (set out at x)
+  two-second x = rw length-set (omega (arith, length-two ten b))
+
+  pub two-end : length out < 2 ^ 64 → Fits w64 (at + 2)
+  two-end l = record { fits = omega (arith, length-two ten b) }
+
+  pub two-done : (x y : ℕ) → x ≡ hexDigit ten (b / 16) → y ≡ hexDigit ten (b % 16) → Wrote (twoDigits ten b) at out (set (set out at x) (at + 1) y) (at + 2)
+  unfolding twoDigits
+  two-done x y p q = record { ends = refl; leaves = ap (λ n. set (set out at x) n y) (add-one at) ∙ rw (p, q) }
+
+pub ruleset two-ways = (two-first, two-second, two-end, two-done)
+
+pub length-hex : (s : List ℕ) → length (hexLower s) ≡ 2 * length s
+unfolding hexLower
+length-hex [] = refl
+length-hex (b ∷ s) = length-append (twoDigits 97 b) (hexLower s) ∙ omega (arith, length-two 97 b, length-hex s)
+
+pub record Hexing (out₀ : List ℕ) (at : ℕ) (s out : List ℕ) (to i : ℕ) : Type 0 where
+  pub within : i ≤ length s
+  pub left : Left (hexLower s) at out₀ (hexLower (drop i s)) out to
+
+module _ (out₀ : List ℕ) (at : ℕ) (s : List ℕ) where
+  pub hex-begin : at + length (hexLower s) ≤ length out₀ → Hexing out₀ at s out₀ at 0
+  hex-begin h = record { within = omega arith; left = left-begin (hexLower s) at out₀ h }
+
+  module _ (out : List ℕ) (to i : ℕ) (v : Hexing out₀ at s out to i) where
+    pub hex-long : length out ≡ length out₀
+    hex-long = v .left .long
+
+    pub hex-done : length s ≤ i → Wrote (hexLower s) at out₀ out to
+    unfolding hexLower
+    hex-done h = left-done (hexLower s) at out₀ out to (rw (drop-of-length-le s h) at (v .left))
+
+    module _ (h : i < length s) where
+      next : hexLower (drop i s) ≡ twoDigits 97 (getD s i 0) ++ hexLower (drop (i + 1) s)
+      unfolding hexLower
+      next = ap hexLower (drop-next s i h)
+
+      rest : Left (hexLower s) at out₀ (twoDigits 97 (getD s i 0) ++ hexLower (drop (i + 1) s)) out to
+      rest = rw next at (v .left)
+
+      pub hex-room : to + length (twoDigits 97 (getD s i 0)) ≤ length out
+      hex-room = left-room (hexLower s) at out₀ (twoDigits 97 (getD s i 0)) (hexLower (drop (i + 1) s)) out to rest
+
+      pub hex-again : (out′ : List ℕ) (to′ : ℕ) → Wrote (twoDigits 97 (getD s i 0)) to out out′ to′ → Hexing out₀ at s out′ to′ (i + 1)
+      hex-again out′ to′ w =
+          record { within = omega arith; left = left-more (hexLower s) at out₀ (twoDigits 97 (getD s i 0)) (hexLower (drop (i + 1) s)) out to rest out′ to′ w }
+
+pub ruleset hex-ways = (hex-begin, hex-long, hex-done, hex-room, hex-again)
+
+-- ---- a word with the character behind it
+
+module _ (w : List ℕ) (b at : ℕ) (out : List ℕ) (h : at + length (w ++ (b ∷ [])) ≤ length out) where
+  behind : Left (w ++ (b ∷ [])) at out (w ++ (b ∷ [])) out at
+  behind = left-begin (w ++ (b ∷ [])) at out h
+
+  pub word-room : at + length w ≤ length out
+  word-room = left-room (w ++ (b ∷ [])) at out w (b ∷ []) out at behind
+
+  module _ (out′ : List ℕ) (to : ℕ) (k : Wrote w at out out′ to) where
+    last : Left (w ++ (b ∷ [])) at out (b ∷ []) out′ to
+    last = left-more (w ++ (b ∷ [])) at out w (b ∷ []) out at behind out′ to k
+
+    pub word-in : to < length out′
+    word-in = omega (arith, last .room)
+
+    pub word-end : length out < 2 ^ 64 → Fits w64 (to + 1)
+    word-end l = record { fits = omega (arith, last .room, last .long) }
+
+    pub word-done : Wrote (w ++ (b ∷ [])) at out (set out′ to b) (to + 1)
+    word-done = left-done (w ++ (b ∷ [])) at out (set out′ to b) (to + 1) (left-one (w ++ (b ∷ [])) at out b [] out′ to last)
+
+pub ruleset word-ways = (word-room, word-in, word-end, word-done)
+
+-- ---- a kind's name
+
+module _ (k : ℕ) where
+  pub kind-element : k ≡ 0 → kindName k ≡ ascii "element"
+  unfolding kindName
+  kind-element e = rw e
+
+  pub kind-attribute : k ≡ 1 → kindName k ≡ ascii "attribute"
+  unfolding kindName
+  kind-attribute e = rw e
+
+  pub kind-cdata : k ≡ 2 → kindName k ≡ ascii "cdata"
+  unfolding kindName
+  kind-cdata e = rw e
+
+pub kind-other : (k : ℕ) → (k ≡ 0 → ⊥) → (k ≡ 1 → ⊥) → (k ≡ 2 → ⊥) → kindName k ≡ ascii "unknown"
+unfolding kindName
+kind-other zero f g h = absurd (f refl)
+kind-other (suc zero) f g h = absurd (g refl)
+kind-other (suc (suc zero)) f g h = absurd (h refl)
+kind-other (suc (suc (suc k))) f g h = refl
+
+-- what holds of a text holds of the same text
+module _ (text given : List ℕ) (e : text ≡ given) (at : ℕ) (out : List ℕ) where
+  pub word-same : (b : ℕ) → at + length (text ++ (b ∷ [])) ≤ length out → at + length (given ++ (b ∷ [])) ≤ length out
+  word-same b h = rw e at h
+
+  pub wrote-same : (b : ℕ) (out′ : List ℕ) (to : ℕ) → Wrote (given ++ (b ∷ [])) at out out′ to → Wrote (text ++ (b ∷ [])) at out out′ to
+  wrote-same b out′ to w = rw e w
+
+  pub puts-same : (out′ : List ℕ) (r : Put) → Puts given at out out′ r → Puts text at out out′ r
+  puts-same out′ r p = rw e p
+
+-- ---- a line word by word
+
+-- there is room for the words that are left, as a line
+pub record Room (ws : List (List ℕ)) (at : ℕ) (out : List ℕ) : Type 0 where
+  pub fits : at + length (line ws) ≤ length out
+
+length-word : (w : List ℕ) (b : ℕ) → length (w ++ (b ∷ [])) ≡ length w + 1
+length-word w b = length-append w (b ∷ [])
+
+length-line : (w v : List ℕ) (ws : List (List ℕ)) → length (line (w ∷ v ∷ ws)) ≡ length w + 1 + length (line (v ∷ ws))
+unfolding line
+length-line w v ws = length-append (w ++ (32 ∷ [])) (line (v ∷ ws)) ∙ ap (λ (n : ℕ). n + length (line (v ∷ ws))) (length-word w 32)
+
+length-end : (w : List ℕ) → length (line (w ∷ [])) ≡ length w + 1
+unfolding line
+length-end w = length-word w 10
+
+module _ {w v : List ℕ} {ws : List (List ℕ)} {at : ℕ} {out : List ℕ} (h : Room (w ∷ v ∷ ws) at out) where
+  pub room-word : at + length (w ++ (32 ∷ [])) ≤ length out
+  room-word = omega (arith, h .fits, length-line w v ws, length-word w 32)
+
+  pub room-after : {o : List ℕ} {t : ℕ} → Wrote (w ++ (32 ∷ [])) at out o t → Room (v ∷ ws) t o
+  room-after {o} {t} k = record { fits = omega (arith, h .fits, length-line w v ws, length-word w 32, k .ends, wrote-long (w ++ (32 ∷ [])) at out o t k) }
+
+pub room-last : {w : List ℕ} {at : ℕ} {out : List ℕ} → Room (w ∷ []) at out → at + length (w ++ (10 ∷ [])) ≤ length out
+room-last {w} h = omega (arith, h .fits, length-end w, length-word w 10)
+
+pub line-last : (w : List ℕ) (at : ℕ) (out o : List ℕ) (t : ℕ) → Wrote (w ++ (10 ∷ [])) at out o t → Wrote (line (w ∷ [])) at out o t
+unfolding line
+line-last w at out o t k = k
+
+pub line-more : (w v : List ℕ) (ws : List (List ℕ)) (at : ℕ) (out o : List ℕ) (t : ℕ) (o′ : List ℕ) (t′ : ℕ) → Wrote (w ++ (32 ∷ [])) at out o t → Wrote (line (v ∷ ws)) t o o′ t′ → Wrote (line (w ∷ v ∷ ws)) at out o′ t′
+unfolding line
+line-more w v ws at out o t o′ t′ k m =
+    let p : List ℕ = w ++ (32 ∷ []) in
+    record {
+      ends = omega (arith, k .ends, m .ends, length-append p (line (v ∷ ws)));
+      leaves = m .leaves ∙ ap (λ (n : ℕ). sets o n (line (v ∷ ws))) (k .ends) ∙ ap (λ (l : List ℕ). sets l (at + length p) (line (v ∷ ws))) (k .leaves) ∙ sets-append out at p (line (v ∷ ws));
+    }
+
+pub ruleset line-ways = (room-word, room-after, room-last, line-last, line-more)
+
+-- ---- each line's words, and how long it is
+
+module _ (r : Record) where
+  pub record-room : (at : ℕ) (out : List ℕ) → at + length (recordLine r) ≤ length out → Room (decimal (r .depth) ∷ hexUpper (r .tag) ∷ kindName (r .kind) ∷ decimal (r .start) ∷ decimal (r .size) ∷ []) at out
+  unfolding recordLine
+  record-room at out h = record { fits = h }
+
+  pub record-length : (d k s z : ℕ) → Few (r .depth) d → k ≡ length (kindName (r .kind)) → Few (r .start) s → Few (r .size) z → 7 + d + k + s + z ≡ length (recordLine r)
+  unfolding recordLine twoDigits
+  record-length d k s z fd fk fs fz =
+      omega (
+        arith,
+        fd .exact,
+        fs .exact,
+        fz .exact,
+        length-line (decimal (r .depth)) (hexUpper (r .tag)) (kindName (r .kind) ∷ decimal (r .start) ∷ decimal (r .size) ∷ []),
+        length-line (hexUpper (r .tag)) (kindName (r .kind)) (decimal (r .start) ∷ decimal (r .size) ∷ []),
+        length-line (kindName (r .kind)) (decimal (r .start)) (decimal (r .size) ∷ []),
+        length-line (decimal (r .start)) (decimal (r .size)) [],
+        length-end (decimal (r .size)),
+      )
+
+module _ (n : ℕ) where
+  pub records-room : (at : ℕ) (out : List ℕ) → at + length (recordsLine n) ≤ length out → Room (ascii "records" ∷ decimal n ∷ []) at out
+  unfolding recordsLine
+  records-room at out h = record { fits = h }
+
+  pub records-length : (d : ℕ) → Few n d → 9 + d ≡ length (recordsLine n)
+  unfolding recordsLine ascii
+  records-length d f = omega (arith, f .exact, length-line (ascii "records") (decimal n) [], length-end (decimal n))
+
+  pub bad-room : (at : ℕ) (out : List ℕ) → at + length (badStreamLine n) ≤ length out → Room (ascii "bad stream at" ∷ decimal n ∷ []) at out
+  unfolding badStreamLine
+  bad-room at out h = record { fits = h }
+
+  pub bad-length : (d : ℕ) → Few n d → 15 + d ≡ length (badStreamLine n)
+  unfolding badStreamLine ascii
+  bad-length d f = omega (arith, f .exact, length-line (ascii "bad stream at") (decimal n) [], length-end (decimal n))
+
+module _ (r : Refusal) where
+  pub refusal-room : (at : ℕ) (out : List ℕ) → at + length (refusalLine r) ≤ length out → Room (ascii "refused" ∷ decimal (r .number) ∷ ascii "at" ∷ decimal (r .place) ∷ []) at out
+  unfolding refusalLine
+  refusal-room at out h = record { fits = h }
+
+  pub refusal-length : (n p : ℕ) → Few (r .number) n → Few (r .place) p → 13 + n + p ≡ length (refusalLine r)
+  unfolding refusalLine ascii
+  refusal-length n p fn fp =
+      omega (
+        arith,
+        fn .exact,
+        fp .exact,
+        length-line (ascii "refused") (decimal (r .number)) (ascii "at" ∷ decimal (r .place) ∷ []),
+        length-line (decimal (r .number)) (ascii "at") (decimal (r .place) ∷ []),
+        length-line (ascii "at") (decimal (r .place)) [],
+        length-end (decimal (r .place)),
+      )
+
+-- ---- a refusal in words, by its number
+
+pub words-same : (n k : ℕ) → n ≡ k → (at : ℕ) (out out′ : List ℕ) (r : Put) → Puts (refusalWords k) at out out′ r → Puts (refusalWords n) at out out′ r
+words-same n k e at out out′ r p = rw e p
+
+pub above : {k : ℕ} (n : ℕ) → k ≤ n → (n ≡ k → ⊥) → suc k ≤ n
+above {k} n h f = go (leb (suc k) n) refl
+  where
+    go : (b : Bool) → leb (suc k) n ≡ b → suc k ≤ n
+    go true e = leb-true (suc k) n e
+    go false e = let same : n ≡ k = omega (arith, leb-false (suc k) n e) in absurd (f same)
+
+pub words-other : (n : ℕ) → 17 ≤ n → refusalWords n ≡ ascii "no such refusal"
+unfolding refusalWords reasons
+words-other n h = ap ascii (List·getD-eq-default reasons "no such refusal" h)

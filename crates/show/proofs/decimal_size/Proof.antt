@@ -1,0 +1,36 @@
+use Rattle.show.proofs.Writing.{Measuring, measure-ways}
+use borrow.Author.Needs.{needs}
+use Rattle.show.proofs.decimal_size.Statement.{statement}
+use Rattle.show.proofs.decimal_size.Tie as tie
+use Rattle.show.proofs.decimal_size.Reads as reads
+use Rattle.show.proofs.decimal_size.Lts as lts
+
+abbrev Inv-loop : tie.InvT-loop
+Inv-loop n rest₀ size₀ rest size = Measuring n rest size
+
+abbrev μ-loop : tie.MeasureT-loop
+μ-loop n rest₀ size₀ rest size = rest
+
+-- src/lib.rt:56:5
+loop-holds : tie.Need-loop-holds Inv-loop μ-loop
+loop-holds c = search (measure-ways, needs)
+
+-- src/lib.rt:58:16
+add-size : tie.Need-add-size Inv-loop μ-loop
+add-size c = search (measure-ways, needs)
+
+-- src/lib.rt:56:5
+loop-less : tie.Need-loop-less Inv-loop μ-loop
+loop-less c = search (measure-ways, needs)
+
+-- src/lib.rt:56:5
+loop-again : tie.Need-loop-again Inv-loop μ-loop
+loop-again c = search (measure-ways, needs)
+
+-- src/lib.rt:51:1
+returns : tie.Need-returns Inv-loop μ-loop
+returns c = search (measure-ways, needs)
+
+pub decimal-size-spec : {M : Type 1} → statement M
+decimal-size-spec =
+    tie.close (tie.spec Inv-loop μ-loop loop-holds add-size loop-less loop-again returns)

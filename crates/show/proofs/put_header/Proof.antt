@@ -1,0 +1,29 @@
+use Rattle.show.specs.Lines.{ascii, line, headerLine, touchedLine}
+use Rattle.show.proofs.Writing.{puts-same}
+use borrow.Author.Needs.{needs}
+use Rattle.show.proofs.put_header.Statement.{statement}
+use Rattle.show.proofs.put_header.Tie as tie
+use Rattle.show.proofs.put_header.Reads as reads
+use Rattle.show.proofs.put_header.Lts as lts
+use Rattle.show.proofs.put_bytes.Reads as put-bytes-reads
+
+-- src/lib.rt:216:24
+slice-aggregate-put-bytes : tie.Need-slice-aggregate-put-bytes
+slice-aggregate-put-bytes c = search (puts-same, needs)
+
+-- src/lib.rt:216:5
+put-bytes-requires : tie.Need-put-bytes-requires
+put-bytes-requires c κs = search (puts-same, needs)
+
+-- src/lib.rt:213:1
+same-length : tie.Need-same-length
+same-length c = search (puts-same, needs)
+
+-- src/lib.rt:213:1
+returns : tie.Need-returns
+unfolding ascii headerLine touchedLine line
+returns c = search (puts-same, needs)
+
+pub put-header-spec : {M : Type 1} → statement M
+put-header-spec =
+    tie.close (tie.spec slice-aggregate-put-bytes put-bytes-requires same-length returns)

@@ -1,0 +1,45 @@
+use borrow.Author.Tests.{not-true, not-false}
+use Rattle.show.proofs.Writing.{put-none, put-room, put-done}
+use borrow.Author.Needs.{needs}
+use Rattle.show.proofs.put_record.Statement.{statement}
+use Rattle.show.proofs.put_record.Tie as tie
+use Rattle.show.proofs.put_record.Reads as reads
+use Rattle.show.proofs.put_record.Lts as lts
+use Rattle.show.proofs.has_room.Reads as has-room-reads
+use Rattle.show.proofs.record_size.Reads as record-size-reads
+use Rattle.show.proofs.store_record.Reads as store-record-reads
+
+-- src/lib.rt:250:33
+record-size-requires : tie.Need-record-size-requires
+record-size-requires c κs = search (put-none, put-room, put-done, not-true, not-false, needs)
+
+-- src/lib.rt:250:9
+has-room-requires : tie.Need-has-room-requires
+has-room-requires c κs = search (put-none, put-room, put-done, not-true, not-false, needs)
+
+-- src/lib.rt:251:9
+returns : tie.Need-returns
+returns c = search (put-none, put-room, put-done, not-true, not-false, needs)
+
+-- src/lib.rt:253:15
+store-record-requires : tie.Need-store-record-requires
+store-record-requires c κs = search (put-none, put-room, put-done, not-true, not-false, needs)
+
+-- src/lib.rt:247:1
+same-length : tie.Need-same-length
+same-length c = search (put-none, put-room, put-done, not-true, not-false, needs)
+
+-- src/lib.rt:247:1
+returns-2 : tie.Need-returns-2
+returns-2 c = search (put-none, put-room, put-done, not-true, not-false, needs)
+
+pub put-record-spec : {M : Type 1} → statement M
+put-record-spec =
+    tie.close
+    (tie.spec
+    record-size-requires
+    has-room-requires
+    returns
+    store-record-requires
+    same-length
+    returns-2)

@@ -1,0 +1,343 @@
+// The text of answers, for the programs: numbers, octets in hexadecimal, the lines of a listing, a refusal as a line and in words. Each call writes its text into a
+// lent slice from a place on and says where it ended; where the text doesn't fit, the slice stays as it was.
+//
+// A call measures its text, asks for room, and only then stores it, word by word. What stores (`store_..`, `.._word`) is told that there is room.
+use format::Record;
+use format::Refusal;
+ghost use mathlib.Core.Path.{_≡_};
+ghost use mathlib.Core.List.{[], _∷_, _++_};
+ghost use Prim.Native.Nat.{_+_, _≤_, _<_};
+ghost use lib.Dec.{leb};
+ghost use lib.ListN.{length};
+ghost use Rattle.show.specs.Digits.{decimal, hexDigit, twoDigits, hexLower, hexUpper};
+ghost use Rattle.show.specs.Lines.{kindName, headerLine, recordLine, recordsLine, refusalLine, touchedLine, badStreamLine, refusalWords};
+ghost use Rattle.show.specs.Calls.{Puts, Wrote, Few};
+
+// Text put into a lent slice. Done: the place behind its last character.
+pub enum Put {
+    Done(usize),
+    NoRoom,
+}
+
+const UPPER: u8 = b'A';
+
+const LOWER: u8 = b'a';
+
+const SPACE: u8 = b' ';
+
+const NEWLINE: u8 = b'\n';
+
+fn has_room(room: usize, at: usize, size: usize) -> bool
+    ensures { λ r. ⌜ r ≡ leb (at + size) room ⌝ }
+{
+    if at > room {
+        return false;
+    }
+    size <= room - at
+}
+
+// ---- what stores
+
+fn store_octets(out: &mut [u8], at: usize, s: &[u8]) -> usize
+    requires { ⌜ at + length (now s) ≤ length (now out) ⌝ }
+    ensures { λ r. ⌜ Wrote (now (s .entry)) at (now (out .entry)) (now (out .exit)) r ⌝ }
+{
+    let mut i: usize = 0;
+    while i < s.len() {
+        out[at + i] = s[i];
+        i = i + 1;
+    }
+    at + i
+}
+
+// At most 20 digits, so the sum of a few sizes is a small number.
+fn decimal_size(n: usize) -> usize
+    ensures { λ r. ⌜ Few n r ⌝ }
+{
+    let mut rest = n;
+    let mut size: usize = 1;
+    while rest >= 10 {
+        rest = rest / 10;
+        size = size + 1;
+    }
+    size
+}
+
+fn digit(d: usize) -> u8
+    requires { ⌜ d < 10 ⌝ }
+    ensures { λ r. ⌜ r ≡ 48 + d ⌝ }
+{
+    48 + (d as u8)
+}
+
+// The last digit first, from the end of the text's place.
+fn store_decimal(out: &mut [u8], at: usize, n: usize) -> usize
+    requires { ⌜ at + length (decimal n) ≤ length (now out) ⌝ }
+    ensures { λ r. ⌜ Wrote (decimal n) at (now (out .entry)) (now (out .exit)) r ⌝ }
+{
+    let end = at + decimal_size(n);
+    let mut to = end;
+    let mut rest = n;
+    while rest >= 10 {
+        to = to - 1;
+        out[to] = digit(rest % 10);
+        rest = rest / 10;
+    }
+    out[at] = digit(rest);
+    end
+}
+
+fn hex_digit(ten: u8, d: u8) -> u8
+    requires { ⌜ ten < 128 ⌝ }
+    requires { ⌜ d < 16 ⌝ }
+    ensures { λ r. ⌜ r ≡ hexDigit ten d ⌝ }
+{
+    if d < 10 {
+        return 48 + d;
+    }
+    ten + (d - 10)
+}
+
+fn store_hex(out: &mut [u8], at: usize, ten: u8, b: u8) -> usize
+    requires { ⌜ ten < 128 ⌝ }
+    requires { ⌜ at + length (twoDigits ten b) ≤ length (now out) ⌝ }
+    ensures { λ r. ⌜ Wrote (twoDigits ten b) at (now (out .entry)) (now (out .exit)) r ⌝ }
+{
+    out[at] = hex_digit(ten, b / 16);
+    out[at + 1] = hex_digit(ten, b % 16);
+    at + 2
+}
+
+fn store_all_hex(out: &mut [u8], at: usize, s: &[u8]) -> usize
+    requires { ⌜ at + length (hexLower (now s)) ≤ length (now out) ⌝ }
+    ensures { λ r. ⌜ Wrote (hexLower (now (s .entry))) at (now (out .entry)) (now (out .exit)) r ⌝ }
+{
+    let mut to = at;
+    let mut i: usize = 0;
+    while i < s.len() {
+        to = store_hex(out, to, LOWER, s[i]);
+        i = i + 1;
+    }
+    to
+}
+
+// ---- words, each with the character behind it
+
+fn octets_word(out: &mut [u8], at: usize, s: &[u8], behind: u8) -> usize
+    requires { ⌜ at + length (now s ++ (behind ∷ [])) ≤ length (now out) ⌝ }
+    ensures { λ r. ⌜ Wrote (now (s .entry) ++ (behind ∷ [])) at (now (out .entry)) (now (out .exit)) r ⌝ }
+{
+    let to = store_octets(out, at, s);
+    out[to] = behind;
+    to + 1
+}
+
+fn number_word(out: &mut [u8], at: usize, n: usize, behind: u8) -> usize
+    requires { ⌜ at + length (decimal n ++ (behind ∷ [])) ≤ length (now out) ⌝ }
+    ensures { λ r. ⌜ Wrote (decimal n ++ (behind ∷ [])) at (now (out .entry)) (now (out .exit)) r ⌝ }
+{
+    let to = store_decimal(out, at, n);
+    out[to] = behind;
+    to + 1
+}
+
+fn tag_word(out: &mut [u8], at: usize, tag: u8, behind: u8) -> usize
+    requires { ⌜ at + length (hexUpper tag ++ (behind ∷ [])) ≤ length (now out) ⌝ }
+    ensures { λ r. ⌜ Wrote (hexUpper tag ++ (behind ∷ [])) at (now (out .entry)) (now (out .exit)) r ⌝ }
+{
+    let to = store_hex(out, at, UPPER, tag);
+    out[to] = behind;
+    to + 1
+}
+
+fn kind_word(out: &mut [u8], at: usize, kind: u8, behind: u8) -> usize
+    requires { ⌜ at + length (kindName kind ++ (behind ∷ [])) ≤ length (now out) ⌝ }
+    ensures { λ r. ⌜ Wrote (kindName kind ++ (behind ∷ [])) at (now (out .entry)) (now (out .exit)) r ⌝ }
+{
+    match kind {
+        0 => octets_word(out, at, b"element", behind),
+        1 => octets_word(out, at, b"attribute", behind),
+        2 => octets_word(out, at, b"cdata", behind),
+        _ => octets_word(out, at, b"unknown", behind),
+    }
+}
+
+fn kind_size(kind: u8) -> usize
+    ensures { λ r. ⌜ r ≡ length (kindName kind) ⌝ }
+    ensures { λ r. ⌜ r ≤ 9 ⌝ }
+{
+    match kind {
+        0 => 7,
+        1 => 9,
+        2 => 5,
+        _ => 7,
+    }
+}
+
+// ---- numbers and octets
+
+pub fn put_bytes(out: &mut [u8], at: usize, s: &[u8]) -> Put
+    ensures { λ r. ⌜ Puts (now (s .entry)) at (now (out .entry)) (now (out .exit)) r ⌝ }
+{
+    if !has_room(out.len(), at, s.len()) {
+        return Put::NoRoom;
+    }
+    Put::Done(store_octets(out, at, s))
+}
+
+pub fn put_decimal(out: &mut [u8], at: usize, n: usize) -> Put
+    ensures { λ r. ⌜ Puts (decimal n) at (now (out .entry)) (now (out .exit)) r ⌝ }
+{
+    if !has_room(out.len(), at, decimal_size(n)) {
+        return Put::NoRoom;
+    }
+    Put::Done(store_decimal(out, at, n))
+}
+
+pub fn put_hex(out: &mut [u8], at: usize, s: &[u8]) -> Put
+    ensures { λ r. ⌜ Puts (hexLower (now (s .entry))) at (now (out .entry)) (now (out .exit)) r ⌝ }
+{
+    if !has_room(out.len(), at, 2 * s.len()) {
+        return Put::NoRoom;
+    }
+    Put::Done(store_all_hex(out, at, s))
+}
+
+pub fn put_hex_upper(out: &mut [u8], at: usize, b: u8) -> Put
+    ensures { λ r. ⌜ Puts (hexUpper b) at (now (out .entry)) (now (out .exit)) r ⌝ }
+{
+    if !has_room(out.len(), at, 2) {
+        return Put::NoRoom;
+    }
+    Put::Done(store_hex(out, at, UPPER, b))
+}
+
+// ---- lines
+
+pub fn put_header(out: &mut [u8], at: usize) -> Put
+    ensures { λ r. ⌜ Puts headerLine at (now (out .entry)) (now (out .exit)) r ⌝ }
+{
+    put_bytes(out, at, b"depth tag kind offset length\n")
+}
+
+pub fn put_touched(out: &mut [u8], at: usize) -> Put
+    ensures { λ r. ⌜ Puts touchedLine at (now (out .entry)) (now (out .exit)) r ⌝ }
+{
+    put_bytes(out, at, b"touched\n")
+}
+
+// Two digits of the tag, four spaces and a newline beside what is measured.
+fn record_size(r: Record) -> usize
+    ensures { λ size. ⌜ size ≡ length (recordLine r) ⌝ }
+{
+    let depth = decimal_size(r.depth as usize);
+    let start = decimal_size(r.start as usize);
+    let size = decimal_size(r.size as usize);
+    7 + depth + kind_size(r.kind) + start + size
+}
+
+fn store_record(out: &mut [u8], at: usize, r: Record) -> usize
+    requires { ⌜ at + length (recordLine r) ≤ length (now out) ⌝ }
+    ensures { λ end. ⌜ Wrote (recordLine r) at (now (out .entry)) (now (out .exit)) end ⌝ }
+{
+    let tag = number_word(out, at, r.depth as usize, SPACE);
+    let kind = tag_word(out, tag, r.tag, SPACE);
+    let start = kind_word(out, kind, r.kind, SPACE);
+    let size = number_word(out, start, r.start as usize, SPACE);
+    number_word(out, size, r.size as usize, NEWLINE)
+}
+
+pub fn put_record(out: &mut [u8], at: usize, r: Record) -> Put
+    ensures { λ put. ⌜ Puts (recordLine r) at (now (out .entry)) (now (out .exit)) put ⌝ }
+{
+    if !has_room(out.len(), at, record_size(r)) {
+        return Put::NoRoom;
+    }
+    Put::Done(store_record(out, at, r))
+}
+
+fn store_records(out: &mut [u8], at: usize, n: usize) -> usize
+    requires { ⌜ at + length (recordsLine n) ≤ length (now out) ⌝ }
+    ensures { λ end. ⌜ Wrote (recordsLine n) at (now (out .entry)) (now (out .exit)) end ⌝ }
+{
+    let to = octets_word(out, at, b"records", SPACE);
+    number_word(out, to, n, NEWLINE)
+}
+
+pub fn put_records(out: &mut [u8], at: usize, n: usize) -> Put
+    ensures { λ put. ⌜ Puts (recordsLine n) at (now (out .entry)) (now (out .exit)) put ⌝ }
+{
+    if !has_room(out.len(), at, 9 + decimal_size(n)) {
+        return Put::NoRoom;
+    }
+    Put::Done(store_records(out, at, n))
+}
+
+fn store_bad_stream(out: &mut [u8], at: usize, n: usize) -> usize
+    requires { ⌜ at + length (badStreamLine n) ≤ length (now out) ⌝ }
+    ensures { λ end. ⌜ Wrote (badStreamLine n) at (now (out .entry)) (now (out .exit)) end ⌝ }
+{
+    let to = octets_word(out, at, b"bad stream at", SPACE);
+    number_word(out, to, n, NEWLINE)
+}
+
+pub fn put_bad_stream(out: &mut [u8], at: usize, n: usize) -> Put
+    ensures { λ put. ⌜ Puts (badStreamLine n) at (now (out .entry)) (now (out .exit)) put ⌝ }
+{
+    if !has_room(out.len(), at, 15 + decimal_size(n)) {
+        return Put::NoRoom;
+    }
+    Put::Done(store_bad_stream(out, at, n))
+}
+
+fn store_refusal(out: &mut [u8], at: usize, r: Refusal) -> usize
+    requires { ⌜ at + length (refusalLine r) ≤ length (now out) ⌝ }
+    ensures { λ end. ⌜ Wrote (refusalLine r) at (now (out .entry)) (now (out .exit)) end ⌝ }
+{
+    let number = octets_word(out, at, b"refused", SPACE);
+    let word = number_word(out, number, r.number as usize, SPACE);
+    let place = octets_word(out, word, b"at", SPACE);
+    number_word(out, place, r.place, NEWLINE)
+}
+
+pub fn put_refusal(out: &mut [u8], at: usize, r: Refusal) -> Put
+    ensures { λ put. ⌜ Puts (refusalLine r) at (now (out .entry)) (now (out .exit)) put ⌝ }
+{
+    let number = decimal_size(r.number as usize);
+    let place = decimal_size(r.place);
+    if !has_room(out.len(), at, 13 + number + place) {
+        return Put::NoRoom;
+    }
+    Put::Done(store_refusal(out, at, r))
+}
+
+// ---- a refusal in words
+
+pub fn put_refusal_words(out: &mut [u8], at: usize, number: u8) -> Put
+    ensures { λ r. ⌜ Puts (refusalWords number) at (now (out .entry)) (now (out .exit)) r ⌝ }
+{
+    match number {
+        0 => put_bytes(out, at, b"nothing is refused"),
+        1 => put_bytes(out, at, b"the object has no octets or more than 32768"),
+        2 => put_bytes(out, at, b"a tag or a length field is cut off"),
+        3 => put_bytes(out, at, b"a body is longer than what holds it"),
+        4 => put_bytes(out, at, b"this tag may not stand here"),
+        5 => put_bytes(out, at, b"something follows the top element"),
+        6 => put_bytes(
+            out,
+            at,
+            b"the items are out of order, or one is there twice",
+        ),
+        7 => put_bytes(out, at, b"an element lies deeper than 16"),
+        8 => put_bytes(out, at, b"an attribute is there twice"),
+        9 => put_bytes(out, at, b"a value has a wrong length or is out of range"),
+        10 => put_bytes(out, at, b"a text is not valid"),
+        11 => put_bytes(out, at, b"the token table is not valid"),
+        12 => put_bytes(out, at, b"a token has no entry in the table"),
+        13 => put_bytes(out, at, b"a text is too long to be shown"),
+        14 => put_bytes(out, at, b"there are more records than places"),
+        15 => put_bytes(out, at, b"the output is larger than the room for it"),
+        16 => put_bytes(out, at, b"the records are not a well-formed tree"),
+        _ => put_bytes(out, at, b"no such refusal"),
+    }
+}

@@ -1,0 +1,38 @@
+#!/usr/bin/env python3
+"""The cases that the gate runs the program `answers` on:  program_cases.py > crates/answers/stdin
+
+Document 01's table and its run cases, and annex C of 002, as listings; then a letter that no case has.
+What is expected is what the second program makes of them:  second < crates/answers/stdin > crates/answers/stdout
+"""
+import sys
+
+from edges import ANNEX_C, each, nest, time_octets, top
+from make_cases import case_l, item
+
+
+def objects():
+    yield from each("|03|0301|0400|030000|030407000600|030401000100|0303060101|0300|03FE00040602656E|030904040102656E060101|03040602656E")
+    yield ANNEX_C
+    for size in (253, 254):  # the shortest length form of one octet, and the next
+        yield top(item(0x01, b"a" * size))
+    for total in (32768, 32769):
+        yield top(item(0x01, b"a" * (total - 8)))
+    for depth in (16, 17):
+        yield nest(depth)
+    for date in (99999, 100000):
+        yield top(item(0x81, time_octets(date=date)))
+    for size in (8, 9):
+        yield top(item(0x10, item(0x01, b"n" * size)))
+
+
+def cases():
+    for octets in objects():
+        yield case_l(99, octets)
+    for places in (0, 1, 2, 65535):  # two records
+        yield case_l(places, bytes.fromhex("03040602656E"))
+    yield b"?"
+
+
+if __name__ == "__main__":
+    for case in cases():
+        sys.stdout.buffer.write(case)
