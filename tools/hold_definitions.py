@@ -23,6 +23,8 @@ from streams import LISTING, run, split_answers  # noqa: E402
 LONGEST = 160  # octets in a case: the prover computes some milliseconds for each element
 CHUNK = 20     # cases under one claim
 KINDS = {"element": 0, "attribute": 1, "cdata": 2}
+DEFINITIONS = {"octets": "Numbers Header", "text": "Text Tokens", "values": "Table Times Bearers Values",
+               "format": "Tree Judge Meaning Writer Loaded Calls"}
 LENT = "record { records = 16_384; store = 65_536; room = 32_768 }"
 
 ANSWERS = """-- What the definitions answer to a case of the stream.
@@ -146,15 +148,11 @@ def answer_term(answer):
 
 
 def opened_names(crates):
-    """Every definition that the prover must see through: use lines, and the names for an unfolding line."""
+    """Every definition of document 01 that the prover must see through: use lines, and the names for an unfolding line."""
     lines, names = [], []
-    for crate in ("octets", "text", "values", "format"):
-        folder = os.path.join(crates, crate, "specs")
-        for file in sorted(os.listdir(folder)):
-            module = file.removesuffix(".antt")
-            if module in ("Lib", "Bench"):
-                continue
-            with open(os.path.join(folder, file), encoding="utf-8") as text:
+    for crate, modules in DEFINITIONS.items():
+        for module in modules.split():
+            with open(os.path.join(crates, crate, "specs", module + ".antt"), encoding="utf-8") as text:
                 found = re.findall(r"^unfoldable pub (\S+) :", text.read(), re.M)
             if found:
                 lines.append(f"use Rattle.{crate}.specs.{module}.{{{', '.join(found)}}}")
