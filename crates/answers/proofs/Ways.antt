@@ -102,25 +102,26 @@ module _ (s₀ s : List ℕ) (i : ℕ) (v : Marking s₀ s i) where
 
 pub ruleset marking-ways = (marking-begin, marking-long, marking-done, marking-again)
 
-pub record Keeping (s : List ℕ) (from i : ℕ) : Type 0 where
-  pub marks : (k : ℕ) → from ≤ k → k < i → getD s k 0 ≡ markOf k
+-- where no place passed had another mark
+pub record Keeping (s : List ℕ) (from : ℕ) (kept : Bool) (i : ℕ) : Type 0 where
+  pub marks : kept ≡ true → (k : ℕ) → from ≤ k → k < i → getD s k 0 ≡ markOf k
 
-pub keeping-begin : (s : List ℕ) (from : ℕ) → Keeping s from from
-keeping-begin s from = record { marks = λ k f g. absurd (omega arith) }
+pub keeping-begin : (s : List ℕ) (from : ℕ) → Keeping s from true from
+keeping-begin s from = record { marks = λ y k f g. absurd (omega arith) }
 
-pub keeping-no : (s : List ℕ) (from : ℕ) → (false ≡ true → Marked s from)
-keeping-no s from e = absurd (false≢true e)
+pub keeping-no : (s : List ℕ) (from : ℕ) (kept : Bool) (i : ℕ) → kept ≡ false → Keeping s from kept i
+keeping-no s from kept i e = record { marks = λ y. absurd (false≢true (sym e ∙ y)) }
 
-module _ (s : List ℕ) (from i : ℕ) (v : Keeping s from i) where
-  pub keeping-done : length s ≤ i → (true ≡ true → Marked s from)
-  keeping-done h e = λ k f g. v .marks k f (omega arith)
+module _ (s : List ℕ) (from : ℕ) (kept : Bool) (i : ℕ) (v : Keeping s from kept i) where
+  pub keeping-done : length s ≤ i → (kept ≡ true → Marked s from)
+  keeping-done h y = λ k f g. v .marks y k f (omega arith)
 
-  pub keeping-again : (m : ℕ) → getD s i 0 ≡ m → m ≡ markOf i → Keeping s from (i + 1)
-  keeping-again m e q = record { marks = λ k f g. go k f g (eqb k i) refl }
+  pub keeping-again : (kept′ : Bool) → kept′ ≡ kept → (m : ℕ) → getD s i 0 ≡ m → m ≡ markOf i → Keeping s from kept′ (i + 1)
+  keeping-again kept′ same m e q = record { marks = λ y k f g. go (sym same ∙ y) k f g (eqb k i) refl }
     where
-      go : (k : ℕ) → from ≤ k → k < i + 1 → (b : Bool) → eqb k i ≡ b → getD s k 0 ≡ markOf k
-      go k f g true w = let same : k ≡ i = eqb-true k i w in rw same (e ∙ q)
-      go k f g false w = v .marks k f (omega (arith, eqb-false k i w))
+      go : kept ≡ true → (k : ℕ) → from ≤ k → k < i + 1 → (b : Bool) → eqb k i ≡ b → getD s k 0 ≡ markOf k
+      go y k f g true w = let here : k ≡ i = eqb-true k i w in rw here (e ∙ q)
+      go y k f g false w = v .marks y k f (omega (arith, eqb-false k i w))
 
 pub ruleset keeping-ways = (keeping-begin, keeping-no, keeping-done, keeping-again)
 

@@ -1,7 +1,7 @@
 -- The marks that lie in lent memory before a call, so that it shows what the call left alone; and what the functions of the program keep within.
 use mathlib.Core.Path.{_≡_}
 use mathlib.Core.List.{List}
-use Prim.Native.Nat.{ℕ, _+_, _%_, _≤_, _<_}
+use Prim.Native.Nat.{ℕ, _-_, _%_, _≤_, _<_}
 use lib.ListN.{length, getD}
 use Rattle.show.specs.declared.Put.{Put}
 use Rattle.show.specs.declared.Put.the-variants.{Done, NoRoom}
@@ -11,7 +11,7 @@ use Rattle.answers.specs.declared.Turn.{Turn}
 
 -- the mark of a place, which is another than that of the places near it
 unfoldable pub markOf : ℕ → ℕ
-markOf i = 1 + i % 251
+markOf i = 255 - i % 256
 
 -- a list that has its marks from a place on
 abbrev pub Marked : List ℕ → ℕ → Type 0

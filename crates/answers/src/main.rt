@@ -98,12 +98,12 @@ fn case_of(part: &[u8]) -> Case
     Case::Bad
 }
 
-// ---- marks in lent memory
+// ---- marks in lent memory; the loops have one way through, so that the compiler takes many places at once
 
 fn mark(i: usize) -> u8
     ensures { λ r. ⌜ r ≡ markOf i ⌝ }
 {
-    1 + (i % 251) as u8
+    255 - (i % 256) as u8
 }
 
 fn mark_octets(s: &mut [u8])
@@ -129,27 +129,29 @@ fn mark_numbers(s: &mut [u16])
 fn are_octets_kept(s: &[u8], from: usize) -> bool
     ensures { λ r. ⌜ (r ≡ true → Marked (now (s .entry)) from) ⌝ }
 {
+    let mut kept = true;
     let mut i = from;
     while i < s.len() {
         if s[i] != mark(i) {
-            return false;
+            kept = false;
         }
         i = i + 1;
     }
-    true
+    kept
 }
 
 fn are_numbers_kept(s: &[u16], from: usize) -> bool
     ensures { λ r. ⌜ (r ≡ true → Marked (now (s .entry)) from) ⌝ }
 {
+    let mut kept = true;
     let mut i = from;
     while i < s.len() {
         if s[i] != mark(i) as u16 {
-            return false;
+            kept = false;
         }
         i = i + 1;
     }
-    true
+    kept
 }
 
 // ---- output

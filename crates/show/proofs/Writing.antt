@@ -7,27 +7,18 @@ use native.Mathlib.Numerals.{add-one}
 use native.Mathlib.Omega.{arith}
 use lib.Dec.{leb}
 use lib.ListN.{length, drop, getD, set, length-append, length-set, drop-of-length-le, List·getD-eq-default}
-use lib.Seq.{sets, length-sets, set-comm, append-snoc, drop-cons}
+use lib.Seq.{sets, length-sets, append-snoc}
 use mir.Syntax.{w8, w64}
 use mir.Val.{Fits}
 use borrow.Author.Tests.{le-leb, lt-leb, leb-true, leb-false, lt-ltb, le-ltb}
 use Rattle.show.specs.Digits.{decimal, hexDigit, twoDigits, hexLower, hexUpper}
+use Rattle.octets.proofs.Lists.{sets-append, set-sets, drop-next}
 use Rattle.format.specs.declared.Record.{Record}
 use Rattle.format.specs.declared.Refusal.{Refusal}
 use Rattle.show.specs.Lines.{ascii, line, kindName, recordLine, recordsLine, refusalLine, badStreamLine, reasons, refusalWords}
 use Rattle.show.specs.Calls.{putAnswer, putLeaves, Puts, Wrote, Few}
 use Rattle.show.specs.declared.Put.{Put}
 use Rattle.show.proofs.Digits.{decimal-one, decimal-more, length-more, decimal-some, decimal-few}
-
--- ---- laying texts over a list
-
-sets-append : (l : List ℕ) (i : ℕ) (a b : List ℕ) → sets (sets l i a) (i + length a) b ≡ sets l i (a ++ b)
-sets-append l i [] b = ap (λ (n : ℕ). sets l n b) (omega arith)
-sets-append l i (x ∷ a) b = ap (λ (n : ℕ). sets (sets (set l i x) (suc i) a) n b) (omega arith) ∙ sets-append (set l i x) (suc i) a b
-
-set-sets : (l : List ℕ) (i : ℕ) (a : List ℕ) (j x : ℕ) → j < i → set (sets l i a) j x ≡ sets (set l j x) i a
-set-sets l i [] j x h = refl
-set-sets l i (y ∷ a) j x h = set-sets (set l i y) (suc i) a j x (omega arith) ∙ ap (λ (m : List ℕ). sets m (suc i) a) (set-comm l i j y x (λ e. omega arith))
 
 -- ---- room
 
@@ -102,9 +93,6 @@ module _ (text : List ℕ) (at : ℕ) (out₀ : List ℕ) where
 pub wrote-long : (text : List ℕ) (at : ℕ) (out out′ : List ℕ) (to : ℕ) → Wrote text at out out′ to → length out′ ≡ length out
 wrote-long text at out out′ to w = ap length (w .leaves) ∙ length-sets out at text
 
-drop-next : (s : List ℕ) (i : ℕ) → i < length s → drop i s ≡ getD s i 0 ∷ drop (i + 1) s
-drop-next s i h = drop-cons s i 0 h ∙ ap (λ (n : ℕ). getD s i 0 ∷ drop n s) (sym (add-one i))
-
 -- ---- octets as they are
 
 pub record Copying (out₀ : List ℕ) (at : ℕ) (s out : List ℕ) (i : ℕ) : Type 0 where
@@ -127,12 +115,12 @@ module _ (out₀ : List ℕ) (at : ℕ) (s : List ℕ) where
 
     module _ (h : i < length s) where
       pub copy-in : at + i < length out
-      copy-in = omega (arith, v .left .room, ap length (drop-next s i h))
+      copy-in = omega (arith, v .left .room, ap length (drop-next s i 0 h))
 
       pub copy-again : Copying out₀ at s (set out (at + i) (getD s i 0)) (i + 1)
       copy-again =
           let e : at + i + 1 ≡ at + (i + 1) = omega arith in
-          record { within = omega arith; left = rw e at (left-one s at out₀ (getD s i 0) (drop (i + 1) s) out (at + i) (rw (drop-next s i h) at (v .left))) }
+          record { within = omega arith; left = rw e at (left-one s at out₀ (getD s i 0) (drop (i + 1) s) out (at + i) (rw (drop-next s i 0 h) at (v .left))) }
 
 pub ruleset copy-ways = (copy-begin, copy-long, copy-end, copy-done, copy-in, copy-again)
 
@@ -278,7 +266,7 @@ module _ (out₀ : List ℕ) (at : ℕ) (s : List ℕ) where
     module _ (h : i < length s) where
       next : hexLower (drop i s) ≡ twoDigits 97 (getD s i 0) ++ hexLower (drop (i + 1) s)
       unfolding hexLower
-      next = ap hexLower (drop-next s i h)
+      next = ap hexLower (drop-next s i 0 h)
 
       rest : Left (hexLower s) at out₀ (twoDigits 97 (getD s i 0) ++ hexLower (drop (i + 1) s)) out to
       rest = rw next at (v .left)

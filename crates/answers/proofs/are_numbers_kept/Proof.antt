@@ -1,3 +1,4 @@
+use mathlib.Core.Logic.{⊎-elim}
 use Rattle.answers.proofs.Ways.{Keeping, keeping-ways}
 use Prim.Native.Nat.{_-_, _≤_}
 use lib.ListN.{length}
@@ -10,50 +11,46 @@ use Rattle.answers.proofs.are_numbers_kept.Lts as lts
 use Rattle.answers.proofs.mark.Reads as mark-reads
 
 abbrev Inv-loop : tie.InvT-loop
-Inv-loop s from i₀ i = Keeping s from i
+Inv-loop s from kept₀ i₀ kept i = Keeping s from kept i
 
 abbrev μ-loop : tie.MeasureT-loop
-μ-loop s from i₀ i = length s - i
+μ-loop s from kept₀ i₀ kept i = length s - i
 
--- src/main.rt:138:5
+-- src/main.rt:148:5
 loop-holds : tie.Need-loop-holds Inv-loop μ-loop
 loop-holds c = search (keeping-ways, needs)
 
--- src/main.rt:139:12
+-- src/main.rt:149:12
 mul-if1 : tie.Need-mul-if1 Inv-loop μ-loop
 mul-if1 c = search (keeping-ways, needs)
 
--- src/main.rt:139:12
+-- src/main.rt:149:12
 shared-slice-read-if1 : tie.Need-shared-slice-read-if1 Inv-loop μ-loop
 shared-slice-read-if1 c = search (keeping-ways, needs)
 
--- src/main.rt:139:20
+-- src/main.rt:149:20
 mark-requires : tie.Need-mark-requires Inv-loop μ-loop
 mark-requires c κs = search (keeping-ways, needs)
 
--- src/main.rt:139:20
+-- src/main.rt:149:20
 cast-if1 : tie.Need-cast-if1 Inv-loop μ-loop
 cast-if1 c = search (keeping-ways, needs)
 
--- src/main.rt:140:13
-returns : tie.Need-returns Inv-loop μ-loop
-returns c = search (keeping-ways, needs)
-
--- src/main.rt:142:13
+-- src/main.rt:152:13
 add-i : tie.Need-add-i Inv-loop μ-loop
 add-i c = search (keeping-ways, needs)
 
--- src/main.rt:138:5
+-- src/main.rt:148:5
 loop-less : tie.Need-loop-less Inv-loop μ-loop
 loop-less c = search (keeping-ways, needs)
 
--- src/main.rt:138:5
+-- src/main.rt:148:5
 loop-again : tie.Need-loop-again Inv-loop μ-loop
-loop-again c = search (keeping-ways, needs)
+loop-again c = ⊎-elim (λ w. search (keeping-ways, needs)) (λ w. search (keeping-ways, needs)) (c .if1 .came)
 
--- src/main.rt:134:1
-returns-2 : tie.Need-returns-2 Inv-loop μ-loop
-returns-2 c = search (keeping-ways, needs)
+-- src/main.rt:143:1
+returns : tie.Need-returns Inv-loop μ-loop
+returns c = search (keeping-ways, needs)
 
 pub are-numbers-kept-spec : {M : Type 1} → statement M
 are-numbers-kept-spec =
@@ -66,8 +63,7 @@ are-numbers-kept-spec =
     shared-slice-read-if1
     mark-requires
     cast-if1
-    returns
     add-i
     loop-less
     loop-again
-    returns-2)
+    returns)

@@ -6,18 +6,18 @@ use Rattle.answers.proofs.mark.Tie as tie
 use Rattle.answers.proofs.mark.Reads as reads
 use Rattle.answers.proofs.mark.Lts as lts
 
--- src/main.rt:98:9
+-- src/main.rt:106:11
 cast-result : tie.Need-cast-result
 cast-result c = search needs
 
--- src/main.rt:98:5
-add-result : tie.Need-add-result
-add-result c = search needs
+-- src/main.rt:106:5
+sub-result : tie.Need-sub-result
+sub-result c = search needs
 
--- src/main.rt:95:1
+-- src/main.rt:103:1
 returns : tie.Need-returns
 unfolding markOf
 returns c = refl
 
 pub mark-spec : {M : Type 1} → statement M
-mark-spec = tie.close (tie.spec cast-result add-result returns)
+mark-spec = tie.close (tie.spec cast-result sub-result returns)

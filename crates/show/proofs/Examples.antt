@@ -1,0 +1,71 @@
+-- The lines by computation: document 01's listing whole (Bench cases), and answers that no call of this crate may give.
+use mathlib.Core.Path.{_≡_, refl, sym, ap, _∙_}
+use mathlib.Core.Bool.{true, false, cond}
+use mathlib.Core.List.{List, [], _∷_, _++_}
+use Prim.Native.Nat.{ℕ}
+use native.Mathlib.Omega.{arith}
+use lib.ListN.{getD}
+use Rattle.format.specs.Answers.{refusal}
+use Rattle.format.specs.declared.Record.{Record}
+use Rattle.show.specs.declared.Put.{Put}
+use Rattle.show.specs.Digits.{tens, decimal, hexDigit, twoDigits, hexLower, hexUpper}
+use Rattle.show.specs.Lines.{ascii, line, kindName, headerLine, recordLine, recordsLine, refusalLine, reasons, refusalWords}
+use Rattle.show.specs.Calls.{putAnswer, putLeaves, Puts}
+
+-- the listing of 03 04 06 02 65 6E
+top : Record
+top = record { tag = 3; kind = 0; depth = 1; parent = 0; start = 2; size = 4 }
+
+language : Record
+language = record { tag = 6; kind = 0; depth = 2; parent = 0; start = 4; size = 2 }
+
+listing : headerLine ++ (recordLine top ++ (recordLine language ++ recordsLine 2)) ≡ ascii "depth tag kind offset length\n1 03 element 2 4\n2 06 element 4 2\nrecords 2\n"
+unfolding top language headerLine recordLine recordsLine line ascii kindName decimal tens twoDigits hexDigit
+listing = refl
+
+refused : refusalLine (refusal 12 32768) ≡ ascii "refused 12 at 32768\n"
+unfolding refusalLine line ascii decimal tens
+refused = refl
+
+-- a number is written as it is, without a digit more
+zeros : List ℕ
+zeros = 0 ∷ 0 ∷ 0 ∷ []
+
+number-reversed : Puts (decimal 10) 0 zeros (48 ∷ 49 ∷ 0 ∷ []) (Put.Done 2) → ⊥
+unfolding zeros putAnswer putLeaves decimal tens
+number-reversed p = let z : _≡_ {A = ℕ} 48 49 = ap (λ o. getD o 0 0) (p .leaves) in omega arith
+
+number-padded : Puts (decimal 7) 0 zeros (48 ∷ 55 ∷ 0 ∷ []) (Put.Done 2) → ⊥
+unfolding zeros putAnswer putLeaves decimal tens
+number-padded p = let z : _≡_ {A = ℕ} 48 55 = ap (λ o. getD o 0 0) (p .leaves) in omega arith
+
+-- what has no room leaves the slice alone, and says so
+number-cut : Puts (decimal 1000) 0 zeros (49 ∷ 48 ∷ 48 ∷ []) Put.NoRoom → ⊥
+unfolding zeros putAnswer putLeaves decimal tens
+number-cut p = let z : _≡_ {A = ℕ} 49 0 = ap (λ o. getD o 0 0) (p .leaves) in omega arith
+
+end-of : Put → ℕ
+end-of (Put.Done n) = n
+end-of Put.NoRoom = 0
+
+number-claimed : Puts (decimal 1000) 0 zeros zeros (Put.Done 4) → ⊥
+unfolding zeros putAnswer putLeaves decimal tens end-of
+number-claimed p = let z : _≡_ {A = ℕ} 4 0 = ap end-of (p .answers) in omega arith
+
+-- octets have lower-case letters, and a tag upper-case ones
+octets-upper : Puts (hexLower (0xAB ∷ [])) 0 zeros (65 ∷ 66 ∷ 0 ∷ []) (Put.Done 2) → ⊥
+unfolding zeros putAnswer putLeaves hexLower twoDigits hexDigit
+octets-upper p = let z : _≡_ {A = ℕ} 65 97 = ap (λ o. getD o 0 0) (p .leaves) in omega arith
+
+tag-swapped : Puts (hexUpper 0x1C) 0 zeros (67 ∷ 49 ∷ 0 ∷ []) (Put.Done 2) → ⊥
+unfolding zeros putAnswer putLeaves twoDigits hexDigit
+tag-swapped p = let z : _≡_ {A = ℕ} 67 49 = ap (λ o. getD o 0 0) (p .leaves) in omega arith
+
+-- each refusal has words of its own
+body-words : refusalWords 3 ≡ ascii "a body is longer than what holds it"
+unfolding refusalWords reasons ascii
+body-words = refl
+
+tree-words : refusalWords 16 ≡ ascii "the records are not a well-formed tree"
+unfolding refusalWords reasons ascii
+tree-words = refl
