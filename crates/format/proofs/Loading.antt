@@ -41,18 +41,18 @@ loaded-table : (T : Entries) (p at from : ℕ) (body : List ℕ) (x u : Items) �
 unfolding loadedIn
 loaded-table T p at from body x u = refl
 
-loaded-held : (T : Entries) (p at tag from : ℕ) (body : List ℕ) (x u : Items) → eqb tag 4 ≡ false → opens tag ≡ true
+pub loaded-held : (T : Entries) (p at tag from : ℕ) (body : List ℕ) (x u : Items) → eqb tag 4 ≡ false → opens tag ≡ true
     → loadedIn T p at (item tag from body x u) ≡ item tag 0 [] (loadedIn T tag at x) (loadedIn T p (at + length (storeIn T tag x)) u)
 unfolding loadedIn
 loaded-held T p at tag from body x u f o = rw (f, o)
 
-loaded-single : (T : Entries) (p at tag from : ℕ) (body : List ℕ) (x u : Items) → eqb tag 4 ≡ false → opens tag ≡ false
+pub loaded-single : (T : Entries) (p at tag from : ℕ) (body : List ℕ) (x u : Items) → eqb tag 4 ≡ false → opens tag ≡ false
     → loadedIn T p at (item tag from body x u) ≡ item tag at (stored T (known p tag) body) end (loadedIn T p (at + length (stored T (known p tag) body)) u)
 unfolding loadedIn
 loaded-single T p at tag from body x u f o = rw (f, o)
 
 -- no attribute holds items, nor does CDATA
-attribute-shut : (tag : ℕ) → attribute tag ≡ true → opens tag ≡ false
+pub attribute-shut : (tag : ℕ) → attribute tag ≡ true → opens tag ≡ false
 unfolding opens
 attribute-shut tag a = go (isItems (known 0 tag)) refl
   where

@@ -1,0 +1,13 @@
+pub mod Places
+pub mod Tables
+pub mod Parts
+pub mod Adding
+pub mod Measuring
+pub mod Whole
+pub mod Flat
+pub mod Storing
+pub mod Running
+pub mod Relaid
+pub mod Loads
+pub mod Normalised
+pub mod Compared

@@ -1,0 +1,4 @@
+pub mod Measure
+pub mod Sizes
+pub mod Store
+pub mod Load
