@@ -7,16 +7,16 @@ returns : tie.Need-returns
 returns c = search (line-end, needs)
 
 room-requires : tie.Need-room-requires
-room-requires c κs = search (line-end, needs)
+room-requires c κs = search needs
 
 put-touched-requires : tie.Need-put-touched-requires
-put-touched-requires c κs = search (line-end, needs)
+put-touched-requires c κs = search needs
 
 end-of-requires : tie.Need-end-of-requires
-end-of-requires c κs = search (line-end, needs)
+end-of-requires c κs = search needs
 
 same-length : tie.Need-same-length
-same-length c = search (line-end, needs)
+same-length c = search needs
 
 returns-2 : tie.Need-returns-2
 returns-2 c = search (line-end, needs)

@@ -4,16 +4,16 @@ use Rattle.answers.proofs.lines.say_refusal.Statement.{statement}
 use Rattle.answers.proofs.lines.say_refusal.Tie as tie
 
 room-requires : tie.Need-room-requires
-room-requires c κs = search (line-end, needs)
+room-requires c κs = search needs
 
 put-refusal-requires : tie.Need-put-refusal-requires
-put-refusal-requires c κs = search (line-end, needs)
+put-refusal-requires c κs = search needs
 
 end-of-requires : tie.Need-end-of-requires
-end-of-requires c κs = search (line-end, needs)
+end-of-requires c κs = search needs
 
 same-length : tie.Need-same-length
-same-length c = search (line-end, needs)
+same-length c = search needs
 
 returns : tie.Need-returns
 returns c = search (line-end, needs)
