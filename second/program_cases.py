@@ -1,13 +1,13 @@
 #!/usr/bin/env python3
 """The cases that the gate runs the program `answers` on:  program_cases.py > crates/answers/stdin
 
-Document 01's table and its run cases, and annex C of 002, as listings; then a letter that no case has.
+Document 01's table and its run cases, and annex C of 002, as listings; records for the writer; then a letter that no case has.
 What is expected is what the second program makes of them:  second < crates/answers/stdin > crates/answers/stdout
 """
 import sys
 
 from edges import ANNEX_C, each, nest, time_octets, top
-from make_cases import case_l, item
+from make_cases import case_l, case_w, item
 
 
 def objects():
@@ -25,11 +25,24 @@ def objects():
         yield top(item(0x10, item(0x01, b"n" * size)))
 
 
+def written():
+    """Records for the writer: a tree of two, with rooms around what it needs, and what is refused."""
+    head, language = [0x03, 0, 1, 0, 0, 0], [0x06, 0, 2, 0, 0, 2]
+    for room in (0, 5, 6, 65536):
+        yield case_w(2, [head, language], room, b"en")
+    for count in (0, 1, 3):
+        yield case_w(count, [head, language], 99, b"en")
+    for size in (32760, 32761):  # with its two headers: 32,768 octets, and one more
+        yield case_w(2, [head, [0x01, 2, 2, 0, 0, size]], 65536, b"n" * size)
+    yield case_w(2, [head, language] + [[9] * 6] * 15000, 99, b"en")  # more than the program's buffer of 131,072 octets
+
+
 def cases():
     for octets in objects():
         yield case_l(99, octets)
     for places in (0, 1, 2, 65535):  # two records
         yield case_l(places, bytes.fromhex("03040602656E"))
+    yield from written()
     yield b"?"
 
 

@@ -1,28 +1,38 @@
--- The ways through the program's functions: fields of a case, marks, and where lines end.
-use mathlib.Core.Path.{_≡_, refl, sym, ap, subst, _∙_}
-use mathlib.Core.Bool.{Bool, true, false, cond, _&&_, false≢true}
+-- The ways through the program's functions: fields of a case, marks, where lines end, and the stream.
+use mathlib.Core.Path.{_≡_, refl, sym, ap, _∙_}
+use mathlib.Core.Bool.{Bool, true, false, cond, false≢true}
 use mathlib.Core.List.{List}
-use Prim.Native.Nat.{ℕ, zero, suc, _+_, _-_, _%_, _^_, _≤_, _<_}
+use Prim.Native.Nat.{ℕ, _+_, _-_, _^_, _≤_, _<_}
 use native.Mathlib.Omega.{arith}
 use lib.Dec.{eqb, leb}
 use lib.ListN.{length, take, drop, getD, set, length-set, length-drop}
 use lib.Seq.{sets, length-take-le, length-sets, getD-set-same, getD-set-other}
-use borrow.Author.Tests.{le-leb, lt-leb, leb-true, leb-false, eq-eqb, ne-eqb, eqb-true, eqb-false}
-use mir.Syntax.{w64}
+use borrow.Author.Tests.{le-leb, lt-leb, leb-true, eq-eqb, ne-eqb, eqb-true, eqb-false}
+use mir.Syntax.{w16}
 use mir.Val.{Fits}
-use Rattle.octets.specs.Numbers.{value, Octets}
+use Rattle.octets.specs.Numbers.{value, Octets as AllOctets}
 use Rattle.octets.specs.Calls.{numberOf}
 use Rattle.octets.specs.declared.Number.{Number}
 use Rattle.octets.proofs.Numbers.{octets-drop, octets-take, value-of-length}
 use Rattle.show.specs.declared.Put.{Put}
 use Rattle.show.specs.Calls.{Puts, putAnswer, putLeaves}
-use Rattle.answers.specs.declared.Case.{Case}
-use Rattle.answers.specs.declared.Case.the-variants.{End, Bad, Listing}
-use Rattle.answers.specs.Cases.{listingOf, caseOf, Within, Asked}
-use Rattle.answers.specs.declared.Step.{Step}
-use Rattle.answers.specs.declared.Window.{Window}
-use Rattle.answers.specs.declared.Turn.{Turn}
-use Rattle.answers.specs.Marks.{markOf, Marked, endOf, Stepped, Standing, Turned, Ample}
+use Rattle.format.specs.declared.WriteAnswer.{WriteAnswer}
+use Rattle.format.specs.declared.WriteAnswer.the-variants.{Octets, NotWritten}
+use Rattle.format.specs.Calls.{Lists, WriteClaim}
+use Rattle.writer.proofs.Theorems.{claim-fits}
+use Rattle.answers.specs.declared.cases.Case.{Case}
+use Rattle.answers.specs.declared.cases.Case.the-variants.{End, Bad, Listing, Written}
+use Rattle.answers.specs.declared.cases.Tail.{Tail}
+use Rattle.answers.specs.declared.cases.Tail.the-variants.{Bad as BadTail, Fields}
+use Rattle.answers.specs.declared.stream.Window.{Window}
+use Rattle.answers.specs.declared.stream.Turn.{Turn}
+use Rattle.answers.specs.declared.stream.Turn.the-variants.{Answered}
+use Rattle.answers.specs.declared.written.Taken.{Taken}
+use Rattle.answers.specs.declared.written.Taken.the-variants.{Behind}
+use Rattle.answers.specs.Cases.{sizeAt, listingOf, writtenOf, caseOf, Asked, tailOf, FieldsWithin, TailWithin}
+use Rattle.answers.specs.Marks.{markOf, Marked}
+use Rattle.answers.specs.Lines.{endOf, Handed}
+use Rattle.answers.specs.Stream.{Standing, Reaches, Stepped, Turned, Ample}
 
 -- ---- fields
 
@@ -37,32 +47,61 @@ module _ (s : List ℕ) (h : length s ≤ 4) (r : Number) (e : r ≡ numberOf s)
 
 pub ruleset field-ways = (number-told, number-short)
 
+module _ (part : List ℕ) (at : ℕ) where
+  pub size-cut : length part < at + 3 → 65_537 ≡ sizeAt part at
+  unfolding sizeAt
+  size-cut h = rw (lt-leb (at + 3) (length part) h)
+
+  pub size-is : at + 3 ≤ length part → (n : ℕ) → n ≡ value (take (at + 3 - at) (drop at part)) → n ≡ sizeAt part at
+  unfolding sizeAt
+  size-is h n e =
+      let three : at + 3 - at ≡ 3 = omega arith in
+      rw (le-leb (at + 3) (length part) h) (rw three at e)
+
+  -- a number of two octets
+  pub two-few : AllOctets part → at + 2 ≤ length part → value (take 2 (drop at part)) ≤ 65_535
+  two-few o h =
+      let few : value (take 2 (drop at part)) < 256 ^ 2 = value-of-length 2 (take 2 (drop at part)) (octets-take 2 (drop at part) (octets-drop at part o)) (length-take-le 2 (drop at part) (rw length-drop (omega arith))) in
+      omega arith
+
+  pub two-fits : AllOctets part → at + 2 ≤ length part → (n : ℕ) → n ≡ value (take (at + 2 - at) (drop at part)) → Fits w16 n
+  two-fits o h n e =
+      let two : at + 2 - at ≡ 2 = omega arith in
+      let few : n ≡ value (take 2 (drop at part)) = rw two at e in
+      record { fits = omega (arith, two-few o h) }
+
 -- ---- cases
 
 module _ (part : List ℕ) where
-  pub listing-short : length part < 6 → Bad ≡ listingOf part
-  unfolding listingOf
-  listing-short h = rw (lt-leb 6 (length part) h)
-
-  module _ (long : 6 ≤ length part) (size : ℕ) (e : size ≡ value (take 3 (drop 3 part))) where
+  module _ (size : ℕ) (e : size ≡ sizeAt part 3) where
     pub listing-large : 65_536 < size → Bad ≡ listingOf part
     unfolding listingOf
-    listing-large h = rw (le-leb 6 (length part) long, sym e, lt-leb size 65_536 h)
+    listing-large h = rw (sym e, lt-leb size 65_536 h)
 
     module _ (h : size ≤ 65_536) where
       pub listing-cut : length part < 6 + size → Bad ≡ listingOf part
       unfolding listingOf
-      listing-cut g = rw (le-leb 6 (length part) long, sym e, le-leb size 65_536 h, lt-leb (6 + size) (length part) g)
+      listing-cut g = rw (sym e, le-leb size 65_536 h, lt-leb (6 + size) (length part) g)
 
       module _ (g : 6 + size ≤ length part) (places : ℕ) (p : places ≡ value (take 2 (drop 1 part))) where
         pub listing-is : Listing places size ≡ listingOf part
         unfolding listingOf
-        listing-is = rw (le-leb 6 (length part) long, sym e, sym p, le-leb size 65_536 h, le-leb (6 + size) (length part) g)
+        listing-is = rw (sym e, sym p, le-leb size 65_536 h, le-leb (6 + size) (length part) g)
 
-        pub listing-within : Octets part → Within part places size
-        listing-within o =
-            let few : value (take 2 (drop 1 part)) < 256 ^ 2 = value-of-length 2 (take 2 (drop 1 part)) (octets-take 2 (drop 1 part) (octets-drop 1 part o)) (length-take-le 2 (drop 1 part) (rw length-drop (omega arith))) in
-            record { few = omega arith; whole = g }
+        pub listing-asked : AllOctets part → Asked (length part) (Listing places size)
+        listing-asked o = record { few = omega (arith, two-few part 1 o (omega arith)); whole = g }
+
+  pub written-cut : length part < 5 → Bad ≡ writtenOf part
+  unfolding writtenOf
+  written-cut h = rw (lt-leb 5 (length part) h)
+
+  module _ (h : 5 ≤ length part) (count : ℕ) (n : count ≡ value (take 2 (drop 1 part))) (places : ℕ) (p : places ≡ value (take 2 (drop 3 part))) where
+    pub written-is : Written count places ≡ writtenOf part
+    unfolding writtenOf
+    written-is = rw (sym n, sym p, le-leb 5 (length part) h)
+
+    pub written-asked : AllOctets part → Asked (length part) (Written count places)
+    written-asked o = record { few = omega (arith, two-few part 3 o (omega arith)); whole = h }
 
   pub case-end : length part ≡ 0 → End ≡ caseOf part
   unfolding caseOf
@@ -71,11 +110,43 @@ module _ (part : List ℕ) where
   module _ (some : length part ≡ 0 → ⊥) where
     pub case-listing : getD part 0 0 ≡ 76 → (r : Case) → r ≡ listingOf part → r ≡ caseOf part
     unfolding caseOf
-    case-listing h r e = rw (ne-eqb (length part) 0 some, eq-eqb (getD part 0 0) 76 h) e
+    case-listing h r e = rw (ne-eqb (length part) 0 some, h) e
 
-    pub case-bad : (getD part 0 0 ≡ 76 → ⊥) → Bad ≡ caseOf part
+    pub case-written : getD part 0 0 ≡ 87 → (r : Case) → r ≡ writtenOf part → r ≡ caseOf part
     unfolding caseOf
-    case-bad h = rw (ne-eqb (length part) 0 some, ne-eqb (getD part 0 0) 76 h)
+    case-written h r e = rw (ne-eqb (length part) 0 some, h) e
+
+    pub case-bad : (getD part 0 0 ≡ 76 → ⊥) → (getD part 0 0 ≡ 87 → ⊥) → Bad ≡ caseOf part
+    unfolding caseOf
+    case-bad h g = rw (ne-eqb (length part) 0 some, ne-eqb (getD part 0 0) 76 h, ne-eqb (getD part 0 0) 87 g)
+
+  module _ (room : ℕ) (e : room ≡ sizeAt part 0) where
+    pub tail-roomy : 65_536 < room → BadTail ≡ tailOf part
+    unfolding tailOf
+    tail-roomy h = rw (sym e, lt-leb room 65_536 h)
+
+    module _ (h : room ≤ 65_536) (size : ℕ) (f : size ≡ sizeAt part 3) where
+      pub tail-large : 65_536 < size → BadTail ≡ tailOf part
+      unfolding tailOf
+      tail-large g = rw (sym e, sym f, le-leb room 65_536 h, lt-leb size 65_536 g)
+
+      pub tail-cut : size ≤ 65_536 → length part < 6 + size → BadTail ≡ tailOf part
+      unfolding tailOf
+      tail-cut g k = rw (sym e, sym f, le-leb room 65_536 h, le-leb size 65_536 g, lt-leb (6 + size) (length part) k)
+
+      pub tail-is : size ≤ 65_536 → 6 + size ≤ length part → Fields room size ≡ tailOf part
+      unfolding tailOf
+      tail-is g k = rw (sym e, sym f, le-leb room 65_536 h, le-leb size 65_536 g, le-leb (6 + size) (length part) k)
+
+pub ruleset size-ways = (size-cut, size-is)
+
+pub ruleset listing-ways = (listing-large, listing-cut, listing-is)
+
+pub ruleset written-ways = (written-cut, written-is)
+
+pub ruleset case-ways = (case-end, case-listing, case-written, case-bad)
+
+pub ruleset tail-ways = (tail-roomy, tail-large, tail-cut, tail-is)
 
 -- ---- marks
 
@@ -150,84 +221,106 @@ module _ (text : List ℕ) (at : ℕ) (before after : List ℕ) (p : Put) (k : P
   pub line-end : (r : ℕ) → r ≡ endOf p at → at ≤ length before → r ≤ length after
   line-end r e h = omega (arith, puts-long, puts-within h)
 
--- ---- what a case asks
+-- ---- what is handed out lies in the room
 
-module _ (part : List ℕ) (r : Case) (a : Asked part r) (places size : ℕ) (e : r ≡ Listing places size) where
-  asked : Within part places size
-  asked = rw e at a
+pub written-handed : (n : ℕ) (l : Lists) (lent before after : List ℕ) (answer : WriteAnswer) → WriteClaim n l lent before after answer → length after ≡ length before
+    → Handed (length after) answer
+written-handed n l lent before after (Octets k) c e = omega (arith, claim-fits n l lent before after k c .room)
+written-handed n l lent before after (NotWritten r) c e = tt
 
-  pub asked-end : length part < 2 ^ 64 → Fits w64 (6 + size)
-  asked-end l = record { fits = omega (arith, asked .whole) }
+pub handed-part : (room : List ℕ) (r : WriteAnswer) → Handed (length room) r → (n : ℕ) → r ≡ Octets n → n ≡ length (take n room)
+handed-part room r h n e = let inside : n ≤ length room = rw e at h in part-count n room inside
 
-  pub asked-whole : 6 + size ≤ length part
-  asked-whole = asked .whole
+-- ---- what is left of the stream
 
-  pub asked-places : (l : List ℕ) → 65_535 ≤ length l → places ≤ length l
-  asked-places l h = omega (arith, asked .few)
+module _ (input : List ℕ) (w : Window) (v : Standing (length input) w) where
+  pub left-long : length (take (w .to - w .from) (drop (w .from) input)) ≡ w .to - w .from
+  left-long = length-take-le (w .to - w .from) (drop (w .from) input) (rw length-drop (omega (arith, v .inside)))
 
-  pub asked-count : (l : List ℕ) → 65_535 ≤ length l → places ≡ length (take places l)
-  asked-count l h = part-count places l (asked-places l h)
+  pub asked-left : (c : Case) → Asked (length (take (w .to - w .from) (drop (w .from) input))) c → Asked (w .to - w .from) c
+  asked-left c a = rw left-long at a
 
-pub ruleset asked-ways = (asked-end, asked-whole, asked-places, asked-count)
+  pub tail-left : (t : Tail) → TailWithin (length (take (w .to - w .from) (drop (w .from) input))) t → (room size : ℕ) → t ≡ Fields room size
+      → FieldsWithin (w .to - w .from) room size
+  tail-left t a room size e = let b : FieldsWithin (length (take (w .to - w .from) (drop (w .from) input))) room size = rw e at a in rw left-long at b
 
--- ---- the loop over the stream
+module _ (left : ℕ) (c : Case) (a : Asked left c) where
+  pub listing-whole : (places size : ℕ) → c ≡ Listing places size → 6 + size ≤ left
+  listing-whole places size e = let b : Asked left (Listing places size) = rw e at a in b .whole
 
-pub record Running (input₀ tags₀ kinds₀ depths₀ parents₀ starts₀ sizes₀ out₀ input tags kinds depths parents starts sizes out : List ℕ) (w : Window) (used : ℕ) : Type 0 where
-  pub standing : Standing (length input) w
-  pub ample : Ample tags kinds depths parents starts sizes
-  pub room : used ≤ length out
-  pub input-long : length input ≡ length input₀
-  pub tags-long : length tags ≡ length tags₀
-  pub kinds-long : length kinds ≡ length kinds₀
-  pub depths-long : length depths ≡ length depths₀
-  pub parents-long : length parents ≡ length parents₀
-  pub starts-long : length starts ≡ length starts₀
-  pub sizes-long : length sizes ≡ length sizes₀
-  pub out-long : length out ≡ length out₀
+  pub written-whole : (count places : ℕ) → c ≡ Written count places → 5 ≤ left
+  written-whole count places e = let b : Asked left (Written count places) = rw e at a in b .whole
 
--- a case lies within what isn't answered yet
-pub passed-room : (input : List ℕ) (w : Window) → Standing (length input) w → (room : ℕ) (s : Step) → Stepped (length (take (w .to - w .from) (drop (w .from) input))) room s → w .from + s .size ≤ w .to
-passed-room input w v room s k =
-    let e : length (take (w .to - w .from) (drop (w .from) input)) ≡ w .to - w .from = length-take-le (w .to - w .from) (drop (w .from) input) (rw length-drop (omega (arith, v .inside))) in
-    omega (arith, v .rising, k .size)
+-- a body behind a head of six octets lies within the buffer
+pub body-inside : (buffer : ℕ) (w : Window) → Standing buffer w → (size : ℕ) → 6 + size ≤ w .to - w .from → w .from + 6 + size ≤ buffer
+body-inside buffer w v size h = omega (arith, v .rising, v .inside)
 
-pub running-again :
-    {input₀ tags₀ kinds₀ depths₀ parents₀ starts₀ sizes₀ out₀ input tags kinds depths parents starts sizes out : List ℕ} {w : Window} {used : ℕ}
-    → Running input₀ tags₀ kinds₀ depths₀ parents₀ starts₀ sizes₀ out₀ input tags kinds depths parents starts sizes out w used
-    → {input′ tags′ kinds′ depths′ parents′ starts′ sizes′ out′ : List ℕ} {t : Turn}
-    → Turned (length input′) (length out′) t
-    → length input′ ≡ length input
-    → length tags′ ≡ length tags
-    → length kinds′ ≡ length kinds
-    → length depths′ ≡ length depths
-    → length parents′ ≡ length parents
-    → length starts′ ≡ length starts
-    → length sizes′ ≡ length sizes
-    → length out′ ≡ length out
-    → Running input₀ tags₀ kinds₀ depths₀ parents₀ starts₀ sizes₀ out₀ input′ tags′ kinds′ depths′ parents′ starts′ sizes′ out′ (t .w) (t .used)
-running-again v k i t kd d p s z o =
-    record {
-      standing = k .standing;
-      ample =
-          record {
-            tag = omega (arith, v .ample .tag);
-            kind = omega (arith, v .ample .kind);
-            depth = omega (arith, v .ample .depth);
-            parent = omega (arith, v .ample .parent);
-            start = omega (arith, v .ample .start);
-            size = omega (arith, v .ample .size);
-          };
-      room = k .used;
-      input-long = i ∙ v .input-long;
-      tags-long = t ∙ v .tags-long;
-      kinds-long = kd ∙ v .kinds-long;
-      depths-long = d ∙ v .depths-long;
-      parents-long = p ∙ v .parents-long;
-      starts-long = s ∙ v .starts-long;
-      sizes-long = z ∙ v .sizes-long;
-      out-long = o ∙ v .out-long;
-    }
-
--- the window behind a case lies within the buffer
+-- the window behind a piece lies within the buffer
 pub passed-stands : (buffer : ℕ) (w w′ : Window) (size : ℕ) → Standing buffer w → w .from + size ≤ w .to → (w′ .from ≡ w .from + size) × (w′ .to ≡ w .to) → Standing buffer w′
 passed-stands buffer w w′ size v h e = record { rising = omega (arith, e .0, e .1); inside = omega (arith, e .1, v .inside) }
+
+-- ---- lists
+
+pub ample-fewer : {n : ℕ} {tags kinds depths parents starts sizes : List ℕ} → Ample n tags kinds depths parents starts sizes → (m : ℕ) → m ≤ n → Ample m tags kinds depths parents starts sizes
+ample-fewer a m h =
+    record { tag = omega (arith, a .tag); kind = omega (arith, a .kind); depth = omega (arith, a .depth); parent = omega (arith, a .parent); start = omega (arith, a .start); size = omega (arith, a .size) }
+
+-- as many places as a case has lent
+pub ample-part : {tags kinds depths parents starts sizes : List ℕ} → Ample 65_535 tags kinds depths parents starts sizes → (n : ℕ) → n ≤ 65_535
+    → Ample (length (take n tags)) (take n tags) (take n kinds) (take n depths) (take n parents) (take n starts) (take n sizes)
+ample-part {tags} {kinds} {depths} {parents} {starts} {sizes} a n h =
+    record {
+      tag = omega arith;
+      kind = long tags (a .tag) kinds (a .kind);
+      depth = long tags (a .tag) depths (a .depth);
+      parent = long tags (a .tag) parents (a .parent);
+      start = long tags (a .tag) starts (a .start);
+      size = long tags (a .tag) sizes (a .size);
+    }
+  where
+    long : (l : List ℕ) → 65_535 ≤ length l → (k : List ℕ) → 65_535 ≤ length k → length (take n l) ≤ length (take n k)
+    long l f k g = omega (arith, length-take-le n l (omega arith), length-take-le n k (omega arith))
+
+-- lists that have the lengths that they had
+pub record Kept (tags₀ kinds₀ depths₀ parents₀ starts₀ sizes₀ tags kinds depths parents starts sizes : List ℕ) : Type 0 where
+  pub tag : length tags ≡ length tags₀
+  pub kind : length kinds ≡ length kinds₀
+  pub depth : length depths ≡ length depths₀
+  pub parent : length parents ≡ length parents₀
+  pub start : length starts ≡ length starts₀
+  pub size : length sizes ≡ length sizes₀
+
+pub kept-again :
+    {tags₀ kinds₀ depths₀ parents₀ starts₀ sizes₀ tags kinds depths parents starts sizes tags′ kinds′ depths′ parents′ starts′ sizes′ : List ℕ}
+    → Kept tags₀ kinds₀ depths₀ parents₀ starts₀ sizes₀ tags kinds depths parents starts sizes
+    → Kept tags kinds depths parents starts sizes tags′ kinds′ depths′ parents′ starts′ sizes′
+    → Kept tags₀ kinds₀ depths₀ parents₀ starts₀ sizes₀ tags′ kinds′ depths′ parents′ starts′ sizes′
+kept-again k l =
+    record { tag = l .tag ∙ k .tag; kind = l .kind ∙ k .kind; depth = l .depth ∙ k .depth; parent = l .parent ∙ k .parent; start = l .start ∙ k .start; size = l .size ∙ k .size }
+
+-- cases answered so far
+pub record Running (input₀ tags₀ kinds₀ depths₀ parents₀ starts₀ sizes₀ room₀ out₀ input tags kinds depths parents starts sizes room out : List ℕ) (w : Window) (used : ℕ) : Type 0 where
+  pub standing : Standing (length input) w
+  pub inside : used ≤ length out
+  pub lists : Kept tags₀ kinds₀ depths₀ parents₀ starts₀ sizes₀ tags kinds depths parents starts sizes
+  pub input-long : length input ≡ length input₀
+  pub room-long : length room ≡ length room₀
+  pub out-long : length out ≡ length out₀
+
+pub turned : (buffer room : ℕ) (t : Turn) → Turned buffer room t → (w : Window) (used : ℕ) → t ≡ Answered w used → Stepped buffer room w used
+turned buffer room t r w used e = rw e at r
+
+-- records taken so far
+pub reached : (buffer : ℕ) (t : Taken) → Reaches buffer t → (w : Window) → t ≡ Behind w → Standing buffer w
+reached buffer t r w e = rw e at r
+
+pub record Taking (input₀ tags₀ kinds₀ depths₀ parents₀ starts₀ sizes₀ input tags kinds depths parents starts sizes : List ℕ) (w : Window) : Type 0 where
+  pub standing : Standing (length input) w
+  pub lists : Kept tags₀ kinds₀ depths₀ parents₀ starts₀ sizes₀ tags kinds depths parents starts sizes
+  pub input-long : length input ≡ length input₀
+
+pub ample-kept : {n : ℕ} {tags₀ kinds₀ depths₀ parents₀ starts₀ sizes₀ tags kinds depths parents starts sizes : List ℕ}
+    → Ample n tags₀ kinds₀ depths₀ parents₀ starts₀ sizes₀ → Kept tags₀ kinds₀ depths₀ parents₀ starts₀ sizes₀ tags kinds depths parents starts sizes
+    → Ample n tags kinds depths parents starts sizes
+ample-kept a k =
+    record { tag = omega (arith, a .tag, k .tag); kind = omega (arith, a .kind, k .kind); depth = omega (arith, a .depth, k .depth); parent = omega (arith, a .parent, k .parent); start = omega (arith, a .start, k .start); size = omega (arith, a .size, k .size) }

@@ -1,2 +1,4 @@
 pub mod Cases
 pub mod Marks
+pub mod Lines
+pub mod Stream

@@ -1,0 +1,23 @@
+use borrow.Author.Needs.{needs}
+use Rattle.answers.proofs.Ways.{line-end}
+use Rattle.answers.proofs.lines.say_header.Statement.{statement}
+use Rattle.answers.proofs.lines.say_header.Tie as tie
+
+room-requires : tie.Need-room-requires
+room-requires c κs = search needs
+
+put-header-requires : tie.Need-put-header-requires
+put-header-requires c κs = search needs
+
+end-of-requires : tie.Need-end-of-requires
+end-of-requires c κs = search needs
+
+same-length : tie.Need-same-length
+same-length c = search needs
+
+returns : tie.Need-returns
+returns c = search (line-end, needs)
+
+pub say-header-spec : {M : Type 1} → statement M
+say-header-spec =
+    tie.close (tie.spec room-requires put-header-requires end-of-requires same-length returns)

@@ -1,0 +1,23 @@
+use borrow.Author.Needs.{needs}
+use Rattle.answers.proofs.Ways.{line-end}
+use Rattle.answers.proofs.lines.say_record.Statement.{statement}
+use Rattle.answers.proofs.lines.say_record.Tie as tie
+
+room-requires : tie.Need-room-requires
+room-requires c κs = search needs
+
+put-record-requires : tie.Need-put-record-requires
+put-record-requires c κs = search needs
+
+end-of-requires : tie.Need-end-of-requires
+end-of-requires c κs = search needs
+
+same-length : tie.Need-same-length
+same-length c = search needs
+
+returns : tie.Need-returns
+returns c = search (line-end, needs)
+
+pub say-record-spec : {M : Type 1} → statement M
+say-record-spec =
+    tie.close (tie.spec room-requires put-record-requires end-of-requires same-length returns)

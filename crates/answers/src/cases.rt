@@ -1,0 +1,117 @@
+// What a stream of cases says: the case with which a part of it begins, and the fields behind the records of a W. Numbers are most significant octet first.
+ghost use mathlib.Core.Path.{_≡_};
+ghost use Prim.Native.Nat.{_≤_};
+ghost use lib.ListN.{length};
+ghost use Rattle.octets.specs.Numbers.{value};
+ghost use Rattle.answers.specs.Cases.{sizeAt, listingOf, writtenOf, caseOf, Asked, placesOf, tailOf, TailWithin};
+
+// The largest size of an object, of octets and of a room.
+const LARGEST: usize = 65_536;
+
+// A case. Listing: places to lend, and the size of the object behind the letter and its fields. Written: how many records to write, and how many follow.
+pub enum Case {
+    End,
+    Bad,
+    Listing { places: usize, size: usize },
+    Written { count: usize, places: usize },
+}
+
+// What follows the records of a W: the room to lend, and the size of the octets behind these fields.
+pub enum Tail {
+    Bad,
+    Fields { room: usize, size: usize },
+}
+
+pub fn field(s: &[u8]) -> usize
+    requires { ⌜ length (now s) ≤ 4 ⌝ }
+    ensures { λ r. ⌜ r ≡ value (now (s .entry)) ⌝ }
+{
+    match octets::read_number(s) {
+        octets::Number::Is(n) => n as usize,
+        octets::Number::TooLong => 0,
+    }
+}
+
+// A size in 24 bits. One that is cut off counts as too large, so that a caller has one test for both.
+fn size_at(part: &[u8], at: usize) -> usize
+    requires { ⌜ at ≤ 65_540 ⌝ }
+    ensures { λ r. ⌜ r ≡ sizeAt (now (part .entry)) at ⌝ }
+{
+    let end = at + 3;
+    if end > part.len() {
+        return LARGEST + 1;
+    }
+    field(&part[at..end])
+}
+
+fn listing_of(part: &[u8]) -> Case
+    ensures { λ r. ⌜ r ≡ listingOf (now (part .entry)) ⌝ }
+    ensures { λ r. ⌜ Asked (length (now (part .entry))) r ⌝ }
+{
+    let size = size_at(part, 3);
+    if size > LARGEST {
+        return Case::Bad;
+    }
+    if 6 + size > part.len() {
+        return Case::Bad;
+    }
+    let places = field(&part[1..3]);
+    Case::Listing { places, size }
+}
+
+fn written_of(part: &[u8]) -> Case
+    ensures { λ r. ⌜ r ≡ writtenOf (now (part .entry)) ⌝ }
+    ensures { λ r. ⌜ Asked (length (now (part .entry))) r ⌝ }
+{
+    if part.len() < 5 {
+        return Case::Bad;
+    }
+    let count = field(&part[1..3]);
+    let places = field(&part[3..5]);
+    Case::Written { count, places }
+}
+
+pub fn case_of(part: &[u8]) -> Case
+    ensures { λ r. ⌜ r ≡ caseOf (now (part .entry)) ⌝ }
+    ensures { λ r. ⌜ Asked (length (now (part .entry))) r ⌝ }
+{
+    if part.len() == 0 {
+        return Case::End;
+    }
+    let letter = part[0];
+    match letter {
+        b'L' => listing_of(part),
+        b'W' => written_of(part),
+        _ => Case::Bad,
+    }
+}
+
+// How many places a case has lent.
+pub fn places_of(case: Case) -> usize
+    ensures { λ r. ⌜ r ≡ placesOf case ⌝ }
+{
+    match case {
+        Case::End => 0,
+        Case::Bad => 0,
+        Case::Listing { places, size: _ } => places,
+        Case::Written { count: _, places } => places,
+    }
+}
+
+pub fn tail_of(part: &[u8]) -> Tail
+    ensures { λ r. ⌜ r ≡ tailOf (now (part .entry)) ⌝ }
+    ensures { λ r. ⌜ TailWithin (length (now (part .entry))) r ⌝ }
+{
+    let room = size_at(part, 0);
+    if room > LARGEST {
+        return Tail::Bad;
+    }
+    let size = size_at(part, 3);
+    if size > LARGEST {
+        return Tail::Bad;
+    }
+    if 6 + size > part.len() {
+        return Tail::Bad;
+    }
+    Tail::Fields { room, size }
+}

@@ -1,0 +1,82 @@
+// L: an object's listing.
+use crate::lines::say_header;
+use crate::lines::say_if_touched;
+use crate::lines::say_record;
+use crate::lines::say_records;
+use crate::lines::say_refusal;
+use crate::marks::are_lists_kept;
+use crate::marks::mark_lists;
+use format::ReadAnswer;
+use format::Record;
+ghost use Prim.Native.Nat.{_≤_};
+ghost use lib.ListN.{length};
+
+fn octet_at(s: &[u8], i: usize) -> u8 {
+    if i < s.len() { s[i] } else { 0 }
+}
+
+fn number_at(s: &[u16], i: usize) -> u16 {
+    if i < s.len() { s[i] } else { 0 }
+}
+
+fn say_listing(
+    tags: &[u8],
+    kinds: &[u8],
+    depths: &[u8],
+    parents: &[u16],
+    starts: &[u16],
+    sizes: &[u16],
+    n: usize,
+    out: &mut [u8],
+    used: usize,
+) -> usize
+    requires { ⌜ used ≤ length (now out) ⌝ }
+    ensures { λ r. ⌜ r ≤ length (now (out .exit)) ⌝ }
+{
+    let mut to = say_header(out, used);
+    let mut i: usize = 0;
+    while i < n {
+        let r = Record {
+            tag: octet_at(tags, i),
+            kind: octet_at(kinds, i),
+            depth: octet_at(depths, i),
+            parent: number_at(parents, i),
+            start: number_at(starts, i),
+            size: number_at(sizes, i),
+        };
+        to = say_record(out, to, r);
+        i = i + 1;
+    }
+    say_records(out, to, n)
+}
+
+// The lists are the places that the case asks for, and no more.
+pub fn answer_listing(
+    object: &[u8],
+    tags: &mut [u8],
+    kinds: &mut [u8],
+    depths: &mut [u8],
+    parents: &mut [u16],
+    starts: &mut [u16],
+    sizes: &mut [u16],
+    out: &mut [u8],
+    used: usize,
+) -> usize
+    requires { ⌜ used ≤ length (now out) ⌝ }
+    ensures { λ r. ⌜ r ≤ length (now (out .exit)) ⌝ }
+{
+    mark_lists(tags, kinds, depths, parents, starts, sizes);
+    match reader::read(object, tags, kinds, depths, parents, starts, sizes) {
+        ReadAnswer::Records(counts) => {
+            let n = counts.records;
+            let to = say_listing(tags, kinds, depths, parents, starts, sizes, n, out, used);
+            let kept = are_lists_kept(tags, kinds, depths, parents, starts, sizes, n);
+            say_if_touched(out, to, kept)
+        }
+        ReadAnswer::NotRead(refusal) => {
+            let to = say_refusal(out, used, refusal);
+            let kept = are_lists_kept(tags, kinds, depths, parents, starts, sizes, 0);
+            say_if_touched(out, to, kept)
+        }
+    }
+}
