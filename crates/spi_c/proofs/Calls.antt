@@ -1,0 +1,77 @@
+-- From the claims of the library's calls to those of the calls for C.
+use mathlib.Core.Path.{_≡_, refl, sym, ap, subst, _∙_}
+use mathlib.Core.Bool.{Bool, true, false, cond, _&&_}
+use mathlib.Core.List.{List}
+use Prim.Native.Nat.{ℕ, _+_, _<_, min}
+use native.Mathlib.Omega.{arith}
+use lib.Dec.{leb, ltb}
+use lib.ListN.{length, getD}
+use Rattle.format.specs.declared.Outcome.{Outcome}
+use Rattle.format.specs.declared.SameOutcome.{SameOutcome}
+use Rattle.format.specs.declared.Span.{Span}
+use Rattle.format.specs.declared.ReadAnswer.{ReadAnswer}
+use Rattle.format.specs.declared.WriteAnswer.{WriteAnswer}
+use Rattle.format.specs.declared.SameAnswer.{SameAnswer}
+use Rattle.format.specs.Answers.{readOutcome, writeOutcome, sameOutcome}
+use Rattle.format.specs.Calls.{Lists, places, ReadClaim, spanOf, treeGiven, WriteClaim, lentBy, NormaliseClaim, SameClaim}
+use Rattle.spi_c.specs.Packed.{packedOutcome, packedSame, Small, SmallSame, SmallSpan}
+use Rattle.spi_c.specs.Claims.{ReadsC, WritesC, NormalisesC, SameC}
+use Rattle.spi_c.proofs.Told.{told-small, told-same-small, read-told, write-told, normal-told, same-told}
+
+-- an answer is known, and with it its outcome and the number
+module _ {A O : Type 0} (outcome : A → O) (answer known : A) (e : answer ≡ known) (o : O) (told : o ≡ outcome answer) where
+  outcome-known : o ≡ outcome known
+  outcome-known = told ∙ ap outcome e
+
+  outcome-packed : (pack : O → ℕ) (a : ℕ) → a ≡ pack o → a ≡ pack (outcome known)
+  outcome-packed pack a h = h ∙ ap pack outcome-known
+
+  outcome-is : (P : O → Type 0) → P (outcome known) → P o
+  outcome-is P h = subst P (sym outcome-known) h
+
+module _ (object : List ℕ) (before after : Lists) (answer : ReadAnswer) (claim : ReadClaim object before after answer) (o : Outcome) (told : o ≡ readOutcome answer) where
+  pub read-small : Small o
+  read-small = outcome-is readOutcome _ _ (claim .answers) o told Small (told-small (read-told (places before) object))
+
+  pub read-says : (a : ℕ) → a ≡ packedOutcome o → ReadsC object before after a
+  read-says a h = record { answers = outcome-packed readOutcome _ _ (claim .answers) o told packedOutcome a h; leaves = record { answers = refl; leaves = claim .leaves } }
+
+module _ (n : ℕ) (lists : Lists) (lent before after : List ℕ) (answer : WriteAnswer) (claim : WriteClaim n lists lent before after answer) (o : Outcome) (told : o ≡ writeOutcome answer) where
+  pub write-small : Small o
+  write-small = outcome-is writeOutcome _ _ (claim .answers) o told Small (told-small (write-told (length before) (treeGiven n lists lent)))
+
+  pub write-says : (a : ℕ) → a ≡ packedOutcome o → WritesC n lists lent before after a
+  write-says a h = record { answers = outcome-packed writeOutcome _ _ (claim .answers) o told packedOutcome a h; leaves = record { answers = refl; leaves = claim .leaves } }
+
+module _ (object : List ℕ) (lists lists′ : Lists) (store store′ room room′ : List ℕ) (answer : WriteAnswer) (claim : NormaliseClaim object lists lists′ store store′ room room′ answer) (o : Outcome)
+    (told : o ≡ writeOutcome answer) where
+  pub normal-small : Small o
+  normal-small = outcome-is writeOutcome _ _ (claim .answers) o told Small (told-small (normal-told (lentBy lists store room) object))
+
+  pub normal-says : (a : ℕ) → a ≡ packedOutcome o → NormalisesC object lists lists′ store store′ room room′ a
+  normal-says a h =
+      record {
+        answers = outcome-packed writeOutcome _ _ (claim .answers) o told packedOutcome a h;
+        leaves = record { answers = refl; leavesLists = claim .leavesLists; leavesStore = claim .leavesStore; leavesRoom = claim .leavesRoom };
+      }
+
+module _ (a b : List ℕ) (lists lists′ : Lists) (store store′ roomA roomA′ roomB roomB′ : List ℕ) (answer : SameAnswer) (claim : SameClaim a b lists lists′ store store′ roomA roomA′ roomB roomB′ answer)
+    (o : SameOutcome) (told : o ≡ sameOutcome answer) where
+  pub same-small : SmallSame o
+  same-small = outcome-is sameOutcome _ _ (claim .answers) o told SmallSame (told-same-small (same-told (lentBy lists store roomA) (lentBy lists store roomB) a b))
+
+  pub same-says : (n : ℕ) → n ≡ packedSame o → SameC a b lists lists′ store store′ roomA roomA′ roomB roomB′ n
+  same-says n h =
+      record {
+        answers = outcome-packed sameOutcome _ _ (claim .answers) o told packedSame n h;
+        leaves = record { answers = refl; leavesLists = claim .leavesLists; leavesStore = claim .leavesStore; leavesFirst = claim .leavesFirst; leavesSecond = claim .leavesSecond };
+      }
+
+-- numbers of 16 bits make a small span
+pub span-small : (object starts sizes : List ℕ) (i : ℕ) → getD starts i 0 < 0x1_0000 → getD sizes i 0 < 0x1_0000 → (s : Span) → s ≡ spanOf object starts sizes i → SmallSpan s
+unfolding spanOf
+span-small object starts sizes i f g s e = subst SmallSpan (sym e) (go (ltb i (min (length starts) (length sizes)) && leb (getD starts i 0 + getD sizes i 0) (length object)))
+  where
+    go : (b : Bool) → SmallSpan (cond b (record { start = getD starts i 0; size = getD sizes i 0 }) (record { start = 0; size = 0 }))
+    go true = record { start = omega arith; size = omega arith }
+    go false = record { start = omega arith; size = omega arith }

@@ -1,0 +1,4 @@
+pub mod Packing
+pub mod Told
+pub mod Calls
+pub mod Wrong

@@ -1,0 +1,30 @@
+-- What is packed into a number is read back from it.
+use mathlib.Core.Path.{_≡_, ap, _∙_}
+use Prim.Native.Nat.{ℕ, _+_, _*_, _/_, _%_, _<_}
+use native.Mathlib.Nat.{div-eq-of-lt-le, mul-add-mod-self-right, mod-eq-of-lt}
+use native.Mathlib.Omega.{arith}
+use Rattle.format.specs.declared.Span.{Span}
+use Rattle.spi_c.specs.Packed.{packed, numberIn, objectIn, valueIn, packedSpan, spanIn, SmallSpan}
+
+module _ (n o v : ℕ) (small : o < 0x100) (fits : v < 0x1_0000_0000_0000) where
+  pub packed-number : numberIn (packed n o v) ≡ n
+  unfolding packed
+  packed-number = div-eq-of-lt-le 0x100_0000_0000_0000 (omega arith) (omega arith)
+
+  packed-halves : packed n o v ≡ (n * 0x100 + o) * 0x1_0000_0000_0000 + v
+  unfolding packed
+  packed-halves = omega arith
+
+  pub packed-object : objectIn (packed n o v) ≡ o
+  packed-object =
+      let q : packed n o v / 0x1_0000_0000_0000 ≡ n * 0x100 + o = div-eq-of-lt-le 0x1_0000_0000_0000 (omega (arith, packed-halves)) (omega (arith, packed-halves)) in
+      ap (λ x. x % 0x100) q ∙ (mul-add-mod-self-right n 0x100 o ∙ mod-eq-of-lt small)
+
+  pub packed-value : valueIn (packed n o v) ≡ v
+  packed-value = ap (λ x. x % 0x1_0000_0000_0000) packed-halves ∙ (mul-add-mod-self-right (n * 0x100 + o) 0x1_0000_0000_0000 v ∙ mod-eq-of-lt fits)
+
+-- start and size are read back
+pub span-back : (s : Span) → SmallSpan s → spanIn (packedSpan s) ≡ s
+unfolding packedSpan spanIn
+span-back s l =
+    rw (div-eq-of-lt-le {k = s .start} 0x1_0000_0000 {m = s .start * 0x1_0000_0000 + s .size} (omega arith) (omega arith), mul-add-mod-self-right (s .start) 0x1_0000_0000 (s .size), mod-eq-of-lt (l .size))

@@ -1,0 +1,202 @@
+-- The answers of the calls fit their bits, and are read back from the number that packs them.
+use mathlib.Core.Path.{_≡_, refl, subst}
+use mathlib.Core.Bool.{Bool, true, false, cond, _&&_}
+use mathlib.Core.Option.{Option, none, some}
+use mathlib.Core.List.{List, []}
+use Prim.Native.Nat.{ℕ, _≤_, _<_, min}
+use native.Mathlib.Omega.{arith}
+use lib.Dec.{eqb, leb}
+use lib.ListN.{length}
+use borrow.Author.Tests.{ne-eqb, leb-true}
+use Rattle.octets.proofs.Tests.{and-left, and-right}
+use Rattle.format.specs.declared.Refusal.{Refusal}
+use Rattle.format.specs.declared.Outcome.{Outcome}
+use Rattle.format.specs.declared.SameOutcome.{SameOutcome}
+use Rattle.format.specs.declared.ReadAnswer.the-variants.{Records, NotRead}
+use Rattle.format.specs.declared.WriteAnswer.{WriteAnswer}
+use Rattle.format.specs.declared.WriteAnswer.the-variants.{Octets, NotWritten}
+use Rattle.format.specs.declared.SameAnswer.{SameAnswer}
+use Rattle.format.specs.declared.SameAnswer.the-variants.{Same, Different}
+use Rattle.format.specs.Answers.{refusal, readOutcome, writeOutcome, sameOutcome}
+use Rattle.format.specs.Tree.{Items, count}
+use Rattle.format.specs.Judge.{Judged, rule, unless, outermost, read, judge}
+use Rattle.format.specs.Judge.Judged.{refused, accepted}
+use Rattle.format.specs.Meaning.{means, encode, normalOf}
+use Rattle.format.specs.Loaded.{storeOf}
+use Rattle.format.specs.Calls.{readAnswer, roomy, writeAnswer, Lent, storedWithin, fitsLent, misfit, normalAnswer, sameOctets, refusalOr, secondRefusalOr, sameAnswer}
+use Rattle.format.proofs.Induction.{few}
+use Rattle.format.proofs.Refusals.{refusal-inside}
+use Rattle.spi_c.specs.Packed.{packed, packedOutcome, outcomeIn, packedSame, sameIn, Small, SmallSame}
+use Rattle.spi_c.proofs.Packing.{packed-number, packed-object, packed-value}
+
+-- what every refusal of a call is
+pub record Kept (r : Refusal) : Type 0 where
+  pub least : 1 ≤ r .number
+  pub most : r .number ≤ 16
+  pub place : r .place ≤ 32_768
+
+-- the outcomes that calls have: a count and no refusal, or a refusal and no count
+pub data Told : Outcome → Type 0 where
+  counts : (n : ℕ) → n ≤ 32_768 → Told (record { number = 0; place = 0; count = n })
+  refuses : (r : Refusal) → Kept r → Told (record { number = r .number; place = r .place; count = 0 })
+
+pub told-small : {o : Outcome} → Told o → Small o
+told-small (counts n l) = record { place = omega arith; count = omega arith }
+told-small (refuses r k) = record { place = omega arith; count = omega arith }
+
+-- number, place and count are read back
+pub told-back : {o : Outcome} → Told o → outcomeIn (packedOutcome o) ≡ o
+unfolding packedOutcome outcomeIn
+told-back (counts n l) = rw (packed-number 0 0 n (omega arith) (omega arith), packed-value 0 0 n (omega arith) (omega arith))
+told-back (refuses r k) =
+    let e = ne-eqb (r .number) 0 (λ z. omega arith) in
+    rw (e, packed-number (r .number) 0 (r .place) (omega arith) (omega arith), packed-value (r .number) 0 (r .place) (omega arith) (omega arith), e)
+
+-- the same of a comparison
+pub data ToldSame : SameOutcome → Type 0 where
+  decides : (b : Bool) → ToldSame (record { same = b; which = 0; number = 0; place = 0 })
+  refuses : (w : ℕ) (r : Refusal) → w < 0x100 → Kept r → ToldSame (record { same = false; which = w; number = r .number; place = r .place })
+
+pub told-same-small : {o : SameOutcome} → ToldSame o → SmallSame o
+told-same-small (decides b) = record { place = omega arith }
+told-same-small (refuses w r l k) = record { place = omega arith }
+
+packed-refusal : (n w v : ℕ) → 1 ≤ n → eqb (packed n w v) 1 ≡ false
+unfolding packed
+packed-refusal n w v l = ne-eqb (packed n w v) 1 (λ z. omega arith)
+
+same-refused : (w : ℕ) (r : Refusal) → w < 0x100 → Kept r
+    → sameIn (packedSame (record { same = false; which = w; number = r .number; place = r .place })) ≡ record { same = false; which = w; number = r .number; place = r .place }
+unfolding packedSame sameIn
+same-refused w r l k =
+    let e = ne-eqb (r .number) 0 (λ z. omega arith) in
+    rw (e, packed-refusal (r .number) w (r .place) (k .least), packed-object (r .number) w (r .place) l (omega arith), packed-number (r .number) w (r .place) l (omega arith), packed-value (r .number) w (r .place) l (omega arith), e)
+
+pub told-same-back : {o : SameOutcome} → ToldSame o → sameIn (packedSame o) ≡ o
+unfolding packedSame sameIn packed
+told-same-back (decides false) = refl
+told-same-back (decides true) = refl
+told-same-back (refuses w r l k) = same-refused w r l k
+
+-- ---- an object: rule 1 bounds its size, and with it places and counts
+module _ (o : List ℕ) where
+  abbrev sized : Bool
+  sized = leb 1 (length o) && leb (length o) 32_768
+
+  judged-kept : (r : Refusal) → judge o ≡ refused r → Kept r
+  unfolding judge rule unless
+  judged-kept r h = go sized refl h
+    where
+      inside : sized ≡ true → Kept r
+      inside e =
+          let a = leb-true 1 (length o) (and-left (leb 1 (length o)) (leb (length o) 32_768) e) in
+          let b = leb-true (length o) 32_768 (and-right (leb 1 (length o)) (leb (length o) 32_768) e) in
+          let i = refusal-inside o r a h in
+          record { least = i .least; most = omega (arith, i .most); place = omega (arith, i .place) }
+
+      go : (b : Bool) → sized ≡ b → unless (rule 1 0 b) (read outermost 0 o) ≡ refused r → Kept r
+      go true e q = inside e
+      go false e q = let p : refusal 1 0 ≡ r = cc in subst (λ x. Kept x) p (record { least = omega arith; most = omega arith; place = omega arith })
+
+  accepted-few : (t : Items) → judge o ≡ accepted t → count t ≤ 32_768
+  unfolding judge rule unless
+  accepted-few t h = go sized refl h
+    where
+      go : (b : Bool) → sized ≡ b → unless (rule 1 0 b) (read outermost 0 o) ≡ accepted t → count t ≤ 32_768
+      go true e q = omega (arith, leb-true (length o) 32_768 (and-right (leb 1 (length o)) (leb (length o) 32_768) e), few o t h)
+      go false e q = let z : _≡_ {A = ℕ} 0 1 = cc in absurd (omega arith)
+
+late-refusal : (n : ℕ) → 1 ≤ n → n ≤ 16 → Kept (refusal n 0)
+late-refusal n l m = record { least = l; most = m; place = omega arith }
+
+-- ---- read
+read-cases : (n : ℕ) (o : List ℕ) (j : Judged) → judge o ≡ j → Told (readOutcome (readAnswer n j))
+unfolding readAnswer
+read-cases n o (refused r) h = refuses r (judged-kept o r h)
+read-cases n o (accepted t) h = go (leb (count t) n)
+  where
+    go : (b : Bool) → Told (readOutcome (cond b (Records (record { records = count t })) (NotRead (refusal 14 0))))
+    go true = counts (count t) (accepted-few o t h)
+    go false = refuses (refusal 14 0) (late-refusal 14 (omega arith) (omega arith))
+
+pub read-told : (n : ℕ) (o : List ℕ) → Told (readOutcome (readAnswer n (judge o)))
+read-told n o = read-cases n o (judge o) refl
+
+-- ---- write
+roomy-small : (room : ℕ) (o : List ℕ) → roomy room o ≡ true → length o ≤ 32_768
+unfolding roomy
+roomy-small room o h = omega (arith, leb-true (length o) (min room 32_768) h)
+
+pub write-told : (room : ℕ) (t : Option Items) → Told (writeOutcome (writeAnswer room t))
+unfolding writeAnswer
+write-told room none = refuses (refusal 16 0) (late-refusal 16 (omega arith) (omega arith))
+write-told room (some t) = go (roomy room (encode (means [] t))) refl
+  where
+    go : (b : Bool) → roomy room (encode (means [] t)) ≡ b → Told (writeOutcome (cond b (Octets (length (encode (means [] t)))) (NotWritten (refusal 15 0))))
+    go true e = counts (length (encode (means [] t))) (roomy-small room (encode (means [] t)) e)
+    go false e = refuses (refusal 15 0) (late-refusal 15 (omega arith) (omega arith))
+
+-- ---- normalise: an answer that is a kept refusal, or few enough octets
+data Handed : WriteAnswer → Type 0 where
+  octets : (n : ℕ) → n ≤ 32_768 → Handed (Octets n)
+  nothing : (r : Refusal) → Kept r → Handed (NotWritten r)
+
+misfit-handed : (lent : Lent) (t : Items) → Handed (misfit lent t)
+unfolding misfit
+misfit-handed lent t = go (leb (count t) (lent .records))
+  where
+    go : (b : Bool) → Handed (cond b (NotWritten (refusal 15 0)) (NotWritten (refusal 14 0)))
+    go true = nothing (refusal 15 0) (late-refusal 15 (omega arith) (omega arith))
+    go false = nothing (refusal 14 0) (late-refusal 14 (omega arith) (omega arith))
+
+fits-small : (lent : Lent) (t : Items) → fitsLent lent t ≡ true → length (normalOf t) ≤ 32_768
+unfolding fitsLent storedWithin
+fits-small lent t h =
+    let a = leb (length (storeOf t)) (lent .store) in
+    let b = roomy (lent .room) (normalOf t) in
+    roomy-small (lent .room) (normalOf t) (and-right a b (and-right (leb (count t) (lent .records)) (a && b) h))
+
+accepted-handed : (lent : Lent) (t : Items) → Handed (normalAnswer lent (accepted t))
+unfolding normalAnswer
+accepted-handed lent t = go (fitsLent lent t) refl
+  where
+    go : (b : Bool) → fitsLent lent t ≡ b → Handed (cond b (Octets (length (normalOf t))) (misfit lent t))
+    go true e = octets (length (normalOf t)) (fits-small lent t e)
+    go false e = misfit-handed lent t
+
+handed-told : {a : WriteAnswer} → Handed a → Told (writeOutcome a)
+handed-told (octets n l) = counts n l
+handed-told (nothing r k) = refuses r k
+
+normal-cases : (lent : Lent) (o : List ℕ) (j : Judged) → judge o ≡ j → Told (writeOutcome (normalAnswer lent j))
+unfolding normalAnswer
+normal-cases lent o (refused r) h = refuses r (judged-kept o r h)
+normal-cases lent o (accepted t) h = handed-told (accepted-handed lent t)
+
+pub normal-told : (lent : Lent) (o : List ℕ) → Told (writeOutcome (normalAnswer lent (judge o)))
+normal-told lent o = normal-cases lent o (judge o) refl
+
+-- ---- same
+first-or : {a : WriteAnswer} (s : SameAnswer) → Handed a → ToldSame (sameOutcome s) → ToldSame (sameOutcome (refusalOr a s))
+unfolding refusalOr
+first-or s (octets n l) h = h
+first-or s (nothing r k) h = refuses 1 r (omega arith) k
+
+second-or : {a : WriteAnswer} (s : SameAnswer) → Handed a → ToldSame (sameOutcome s) → ToldSame (sameOutcome (secondRefusalOr a s))
+unfolding secondRefusalOr
+second-or s (octets n l) h = h
+second-or s (nothing r k) h = refuses 2 r (omega arith) k
+
+decided : (b : Bool) → ToldSame (sameOutcome (cond b Same Different))
+decided true = decides true
+decided false = decides false
+
+same-cases : (first second : Lent) (o p : List ℕ) (i j : Judged) → judge o ≡ i → judge p ≡ j → ToldSame (sameOutcome (sameAnswer first second i j))
+unfolding sameAnswer
+same-cases first second o p (refused r) j h g = refuses 1 r (omega arith) (judged-kept o r h)
+same-cases first second o p (accepted t) (refused r) h g = refuses 2 r (omega arith) (judged-kept p r g)
+same-cases first second o p (accepted t) (accepted u) h g =
+    first-or _ (accepted-handed first t) (second-or _ (accepted-handed second u) (decided (sameOctets (normalOf t) (normalOf u))))
+
+pub same-told : (first second : Lent) (o p : List ℕ) → ToldSame (sameOutcome (sameAnswer first second (judge o) (judge p)))
+same-told first second o p = same-cases first second o p (judge o) (judge p) refl refl

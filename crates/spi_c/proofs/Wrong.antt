@@ -1,0 +1,67 @@
+-- What answers are not. A number that meets a call's claim is read back as the call's outcome, so that each wrong outcome that is refuted of a call below (reader,
+-- writer and normal, proofs/Wrong and its kin) is refuted of the call for C; and wrong ways to pack an outcome, refuted by computation.
+use mathlib.Core.Path.{_≡_, refl, ap, _∙_}
+use mathlib.Core.List.{List}
+use Prim.Native.Nat.{ℕ, _<_}
+use native.Mathlib.Omega.{arith}
+use lib.ListN.{length, getD}
+use Rattle.format.specs.declared.ReadAnswer.the-variants.{Records, NotRead}
+use Rattle.format.specs.declared.SameAnswer.the-variants.{Same, Different, FirstRefused, SecondRefused}
+use Rattle.format.specs.Answers.{refusal, readOutcome, writeOutcome, sameOutcome}
+use Rattle.format.specs.Judge.{judge}
+use Rattle.format.specs.Calls.{Lists, places, readAnswer, spanOf, treeGiven, writeAnswer, lentBy, normalAnswer, sameAnswer}
+use Rattle.spi_c.specs.Packed.{packed, packedOutcome, outcomeIn, packedSame, sameIn, packedSpan, spanIn}
+use Rattle.spi_c.specs.Claims.{ReadsC, SpansC, WritesC, NormalisesC, SameC}
+use Rattle.spi_c.proofs.Packing.{span-back}
+use Rattle.spi_c.proofs.Told.{told-back, told-same-back, read-told, write-told, normal-told, same-told}
+use Rattle.spi_c.proofs.Calls.{span-small}
+
+-- ---- each call's number, read back
+pub read-back : (object : List ℕ) (before after : Lists) (a : ℕ) → ReadsC object before after a → outcomeIn a ≡ readOutcome (readAnswer (places before) (judge object))
+read-back object before after a c = ap outcomeIn (c .answers) ∙ told-back (read-told (places before) object)
+
+pub span-back-of : (object starts sizes : List ℕ) (i a : ℕ) → getD starts i 0 < 0x1_0000 → getD sizes i 0 < 0x1_0000 → SpansC object starts sizes i a → spanIn a ≡ spanOf object starts sizes i
+span-back-of object starts sizes i a f g c = ap spanIn (c .answers) ∙ span-back (spanOf object starts sizes i) (span-small object starts sizes i f g (spanOf object starts sizes i) refl)
+
+pub write-back : (n : ℕ) (lists : Lists) (lent before after : List ℕ) (a : ℕ) → WritesC n lists lent before after a
+    → outcomeIn a ≡ writeOutcome (writeAnswer (length before) (treeGiven n lists lent))
+write-back n lists lent before after a c = ap outcomeIn (c .answers) ∙ told-back (write-told (length before) (treeGiven n lists lent))
+
+pub normalise-back : (object : List ℕ) (lists lists′ : Lists) (store store′ room room′ : List ℕ) (a : ℕ) → NormalisesC object lists lists′ store store′ room room′ a
+    → outcomeIn a ≡ writeOutcome (normalAnswer (lentBy lists store room) (judge object))
+normalise-back object lists lists′ store store′ room room′ a c = ap outcomeIn (c .answers) ∙ told-back (normal-told (lentBy lists store room) object)
+
+pub same-back : (a b : List ℕ) (lists lists′ : Lists) (store store′ roomA roomA′ roomB roomB′ : List ℕ) (n : ℕ) → SameC a b lists lists′ store store′ roomA roomA′ roomB roomB′ n
+    → sameIn n ≡ sameOutcome (sameAnswer (lentBy lists store roomA) (lentBy lists store roomB) (judge a) (judge b))
+same-back a b lists lists′ store store′ roomA roomA′ roomB roomB′ n c = ap sameIn (c .answers) ∙ told-same-back (same-told (lentBy lists store roomA) (lentBy lists store roomB) a b)
+
+-- ---- a refusal told by its place alone, as if it were a count; a count told as a refusal
+pub refusal-unnumbered : packedOutcome (readOutcome (NotRead (refusal 13 412))) ≡ 412 → ⊥
+unfolding packedOutcome packed
+refusal-unnumbered e = omega arith
+
+pub count-refused : packedOutcome (readOutcome (Records (record { records = 7 }))) ≡ packed 7 0 0 → ⊥
+unfolding packedOutcome packed
+count-refused e = omega arith
+
+-- ---- the first object named for the second; a refusal told as two meanings; different told as same
+pub first-named : packedSame (sameOutcome (SecondRefused (refusal 2 0))) ≡ packedSame (sameOutcome (FirstRefused (refusal 2 0))) → ⊥
+unfolding packedSame packed
+first-named e = omega arith
+
+pub refusal-different : packedSame (sameOutcome (FirstRefused (refusal 2 0))) ≡ packedSame (sameOutcome Different) → ⊥
+unfolding packedSame packed
+refusal-different e = omega arith
+
+pub same-different : packedSame (sameOutcome Same) ≡ packedSame (sameOutcome Different) → ⊥
+unfolding packedSame packed
+same-different e = omega arith
+
+-- ---- start and size changed round; the end told for the size
+pub span-turned : packedSpan (record { start = 4; size = 2 }) ≡ packedSpan (record { start = 2; size = 4 }) → ⊥
+unfolding packedSpan
+span-turned e = omega arith
+
+pub span-end-told : packedSpan (record { start = 4; size = 2 }) ≡ packedSpan (record { start = 4; size = 6 }) → ⊥
+unfolding packedSpan
+span-end-told e = omega arith

@@ -1,0 +1,29 @@
+-- What each call for C answers, and what each lent list then holds: the claims of format's calls, with the answer as one number.
+use mathlib.Core.Path.{_≡_}
+use mathlib.Core.List.{List}
+use Prim.Native.Nat.{ℕ}
+use lib.ListN.{length}
+use Rattle.format.specs.Answers.{readOutcome, writeOutcome, sameOutcome}
+use Rattle.format.specs.Judge.{judge}
+use Rattle.format.specs.Calls.{Lists, places, readAnswer, ReadClaim, spanOf, treeGiven, writeAnswer, WriteClaim, lentBy, normalAnswer, NormaliseClaim, sameAnswer, SameClaim}
+use Rattle.spi_c.specs.Packed.{packedOutcome, packedSame, packedSpan}
+
+pub record ReadsC (object : List ℕ) (before after : Lists) (a : ℕ) : Type 0 where
+  pub answers : a ≡ packedOutcome (readOutcome (readAnswer (places before) (judge object)))
+  pub leaves : ReadClaim object before after (readAnswer (places before) (judge object))
+
+pub record SpansC (object starts sizes : List ℕ) (number a : ℕ) : Type 0 where
+  pub answers : a ≡ packedSpan (spanOf object starts sizes number)
+
+pub record WritesC (n : ℕ) (lists : Lists) (lent before after : List ℕ) (a : ℕ) : Type 0 where
+  pub answers : a ≡ packedOutcome (writeOutcome (writeAnswer (length before) (treeGiven n lists lent)))
+  pub leaves : WriteClaim n lists lent before after (writeAnswer (length before) (treeGiven n lists lent))
+
+pub record NormalisesC (object : List ℕ) (lists lists′ : Lists) (store store′ room room′ : List ℕ) (a : ℕ) : Type 0 where
+  pub answers : a ≡ packedOutcome (writeOutcome (normalAnswer (lentBy lists store room) (judge object)))
+  pub leaves : NormaliseClaim object lists lists′ store store′ room room′ (normalAnswer (lentBy lists store room) (judge object))
+
+pub record SameC (a b : List ℕ) (lists lists′ : Lists) (store store′ roomA roomA′ roomB roomB′ : List ℕ) (answer : ℕ) : Type 0 where
+  pub answers : answer ≡ packedSame (sameOutcome (sameAnswer (lentBy lists store roomA) (lentBy lists store roomB) (judge a) (judge b)))
+  pub leaves :
+      SameClaim a b lists lists′ store store′ roomA roomA′ roomB roomB′ (sameAnswer (lentBy lists store roomA) (lentBy lists store roomB) (judge a) (judge b))

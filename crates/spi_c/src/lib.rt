@@ -1,0 +1,172 @@
+// The library for programs in C: each call answers by one number of 64 bits, so that no slot for an answer is lent. include/spi.h declares it.
+ghost use mathlib.Core.Path.{_≡_};
+ghost use Prim.Native.Nat.{_<_};
+ghost use Rattle.text.specs.Text.{text};
+ghost use Rattle.reader.specs.Lent.{lent};
+ghost use Rattle.writer.specs.Check.{lists};
+ghost use Rattle.spi_c.specs.Packed.{packed, packedOutcome, packedSame, packedSpan, Small, SmallSame, SmallSpan};
+ghost use Rattle.spi_c.specs.Claims.{ReadsC, SpansC, WritesC, NormalisesC, SameC};
+use format::Outcome;
+use format::SameOutcome;
+use format::Span;
+
+fn packed(number: u8, object: u8, value: usize) -> u64
+    requires { ⌜ value < 0x1_0000_0000_0000 ⌝ }
+    ensures { λ r. ⌜ r ≡ packed number object value ⌝ }
+{
+    (number as u64) * 0x100_0000_0000_0000 + (object as u64) * 0x1_0000_0000_0000 + (value as u64)
+}
+
+fn packed_outcome(o: Outcome) -> u64
+    requires { ⌜ Small o ⌝ }
+    ensures { λ r. ⌜ r ≡ packedOutcome o ⌝ }
+{
+    if o.number == 0 {
+        return packed(o.number, 0, o.count);
+    }
+    packed(o.number, 0, o.place)
+}
+
+fn packed_same(o: SameOutcome) -> u64
+    requires { ⌜ SmallSame o ⌝ }
+    ensures { λ r. ⌜ r ≡ packedSame o ⌝ }
+{
+    if o.number == 0 {
+        if o.same {
+            return packed(o.number, o.which, 1);
+        }
+        return packed(o.number, o.which, 0);
+    }
+    packed(o.number, o.which, o.place)
+}
+
+fn packed_span(s: Span) -> u64
+    requires { ⌜ SmallSpan s ⌝ }
+    ensures { λ r. ⌜ r ≡ packedSpan s ⌝ }
+{
+    (s.start as u64) * 0x1_0000_0000 + (s.size as u64)
+}
+
+// The records of an object, into six lists.
+#[no_mangle]
+pub extern "C" fn spi_read(
+    object: &[u8],
+    tags: &mut [u8],
+    kinds: &mut [u8],
+    depths: &mut [u8],
+    parents: &mut [u16],
+    starts: &mut [u16],
+    sizes: &mut [u16],
+) -> u64
+    ensures { λ r. ⌜ ReadsC (now (object .entry)) (lent (tags .entry) (kinds .entry) (depths .entry) (parents .entry) (starts .entry) (sizes .entry)) (lent (tags .exit) (kinds .exit) (depths .exit) (parents .exit) (starts .exit) (sizes .exit)) r ⌝ }
+{
+    let answer = reader::read(object, tags, kinds, depths, parents, starts, sizes);
+    packed_outcome(answer.outcome())
+}
+
+// Where the body of a record lies: the start in the upper half of the number, the size in the lower.
+#[no_mangle]
+pub extern "C" fn spi_span(object: &[u8], starts: &[u16], sizes: &[u16], number: usize) -> u64
+    ensures { λ r. ⌜ SpansC (now (object .entry)) (now (starts .entry)) (now (sizes .entry)) number r ⌝ }
+{
+    packed_span(reader::span(object, starts, sizes, number))
+}
+
+// The normal form of the first `count` records, whose bodies lie in `octets`, into `room`.
+#[no_mangle]
+pub extern "C" fn spi_write(
+    count: usize,
+    tags: &[u8],
+    kinds: &[u8],
+    depths: &[u8],
+    parents: &[u16],
+    starts: &[u16],
+    sizes: &[u16],
+    octets: &[u8],
+    room: &mut [u8],
+) -> u64
+    ensures { λ r. ⌜ WritesC count (lists (tags .entry) (kinds .entry) (depths .entry) (parents .entry) (starts .entry) (sizes .entry)) (now (octets .entry)) (now (room .entry)) (now (room .exit)) r ⌝ }
+{
+    let answer = writer::write(
+        count,
+        tags,
+        kinds,
+        depths,
+        parents,
+        starts,
+        sizes,
+        octets,
+        room,
+    );
+    packed_outcome(answer.outcome())
+}
+
+// The normal form of an object, into `room`; the lists and the store then hold its loaded tree.
+#[no_mangle]
+pub extern "C" fn spi_normalise(
+    object: &[u8],
+    tags: &mut [u8],
+    kinds: &mut [u8],
+    depths: &mut [u8],
+    parents: &mut [u16],
+    starts: &mut [u16],
+    sizes: &mut [u16],
+    store: &mut [u8],
+    room: &mut [u8],
+) -> u64
+    ensures { λ r. ⌜ NormalisesC (now (object .entry)) (lent (tags .entry) (kinds .entry) (depths .entry) (parents .entry) (starts .entry) (sizes .entry)) (lent (tags .exit) (kinds .exit) (depths .exit) (parents .exit) (starts .exit) (sizes .exit)) (now (store .entry)) (now (store .exit)) (now (room .entry)) (now (room .exit)) r ⌝ }
+{
+    let answer = normal::normalise(
+        object,
+        tags,
+        kinds,
+        depths,
+        parents,
+        starts,
+        sizes,
+        store,
+        room,
+    );
+    packed_outcome(answer.outcome())
+}
+
+// Whether two objects mean the same.
+#[no_mangle]
+pub extern "C" fn spi_same(
+    a: &[u8],
+    b: &[u8],
+    tags: &mut [u8],
+    kinds: &mut [u8],
+    depths: &mut [u8],
+    parents: &mut [u16],
+    starts: &mut [u16],
+    sizes: &mut [u16],
+    store: &mut [u8],
+    room_a: &mut [u8],
+    room_b: &mut [u8],
+) -> u64
+    ensures { λ r. ⌜ SameC (now (a .entry)) (now (b .entry)) (lent (tags .entry) (kinds .entry) (depths .entry) (parents .entry) (starts .entry) (sizes .entry)) (lent (tags .exit) (kinds .exit) (depths .exit) (parents .exit) (starts .exit) (sizes .exit)) (now (store .entry)) (now (store .exit)) (now («room_a» .entry)) (now («room_a» .exit)) (now («room_b» .entry)) (now («room_b» .exit)) r ⌝ }
+{
+    let answer = normal::same(
+        a,
+        b,
+        tags,
+        kinds,
+        depths,
+        parents,
+        starts,
+        sizes,
+        store,
+        room_a,
+        room_b,
+    );
+    packed_same(answer.outcome())
+}
+
+// Whether octets are text, in which token octets may stand or not.
+#[no_mangle]
+pub extern "C" fn spi_check_text(octets: &[u8], tokens: bool) -> bool
+    ensures { λ r. ⌜ r ≡ text tokens (now (octets .entry)) ⌝ }
+{
+    text::check(octets, tokens)
+}

@@ -1,0 +1,168 @@
+/*
+ * spi.h - the proved library for binary service and programme information, for C on x86-64 Linux.
+ *
+ * `rt staticlib spi_c` proves the library and writes target/staticlib/libspi_c.a; link that.
+ *
+ * Each call takes memory that the caller lends, as a pointer and a count of elements, and answers by
+ * one number of 64 bits.  It keeps nothing after it returns, allocates nothing and calls nothing.
+ *
+ * Proved of each call, for every input: its answer and what each lent list then holds are those that
+ * the rules of document 01 give (crates/spi_c/specs/Claims.antt), it reads and writes nothing outside
+ * what is lent, and it ends.  After a refusal everything lent holds what it held before.
+ *
+ * Believed, not proved, and for the caller to see to:
+ *   - these declarations match the library, and the library is linked for the machine it was made for;
+ *   - a pointer is good for as many elements as its count says, is aligned for its type, and is not
+ *     NULL, even where the count is 0;
+ *   - memory that a call writes overlaps nothing else that is lent to that call; memory that it only
+ *     reads (const) may overlap other such memory; nobody else writes to either during the call;
+ *   - there is stack: 64 KB are plenty.
+ */
+#ifndef SPI_H
+#define SPI_H
+
+#include <stdbool.h>
+#include <stddef.h>
+#include <stdint.h>
+
+#ifdef __cplusplus
+extern "C" {
+#endif
+
+/* ---- Answers ----------------------------------------------------------------------------------
+ *
+ * bits 63 to 56   the refusal, 0 where there is none
+ * bits 55 to 48   spi_same alone: the object that is refused, 1 or 2
+ * bits 47 to 0    the place of the refusal in its object; where there is none, the call's count
+ */
+enum spi_refusal {
+    SPI_OK = 0,
+    SPI_BAD_SIZE = 1,             /* no octets, or more than 32,768 */
+    SPI_HEADER_PAST_END = 2,      /* a length field runs past the end of what encloses its item */
+    SPI_BODY_PAST_END = 3,        /* so does a body */
+    SPI_TAG_NOT_ALLOWED = 4,      /* a tag that may not stand there */
+    SPI_OCTETS_AFTER_TOP = 5,     /* octets behind the top */
+    SPI_OUT_OF_ORDER = 6,         /* an item that comes too late among its element's items */
+    SPI_TOO_DEEP = 7,             /* an element below depth 16 */
+    SPI_ATTRIBUTE_TWICE = 8,      /* a known attribute a second time */
+    SPI_BAD_VALUE = 9,            /* a value with a wrong size or a field out of range */
+    SPI_BAD_TEXT = 10,            /* octets that are no text */
+    SPI_BAD_TOKEN_TABLE = 11,     /* octets that are no token table */
+    SPI_TOKEN_WITHOUT_ENTRY = 12, /* a token that the table has no entry for */
+    SPI_TEXT_TOO_LONG = 13,       /* a shown text above its limit */
+    SPI_TOO_FEW_PLACES = 14,      /* fewer places for records than there are records */
+    SPI_TOO_LARGE = 15,           /* a room or store too small, or octets above 32,768 */
+    SPI_NOT_WELL_FORMED = 16      /* records that are no well-formed tree */
+};
+
+static inline enum spi_refusal spi_refused(uint64_t answer)
+{
+    return (enum spi_refusal)(answer >> 56);
+}
+
+static inline int spi_refused_object(uint64_t answer)
+{
+    return (int)(answer >> 48 & 0xFF);
+}
+
+/* The place of a refusal, else the count. */
+static inline size_t spi_value(uint64_t answer)
+{
+    return (size_t)(answer & 0xFFFFFFFFFFFF);
+}
+
+/* ---- Records ----------------------------------------------------------------------------------
+ *
+ * A known item is a record, and the records are six lists; an item's fields stand at its number.
+ *
+ * tags      the item's tag
+ * kinds     0 an element, 1 an attribute, 2 CDATA
+ * depths    1 for the top, one more for what is in it, and so on
+ * parents   the number of the element it stands in (0 for the top)
+ * starts    where its body begins
+ * sizes     how many octets its body has
+ *
+ * The shortest of the six counts as the number of places.
+ */
+enum spi_kind { SPI_ELEMENT = 0, SPI_ATTRIBUTE = 1, SPI_CDATA = 2 };
+
+enum {
+    SPI_MOST_OCTETS = 32768, /* of an object, read or written */
+    SPI_MOST_RECORDS = 16384 /* of an object that is accepted */
+};
+
+/* Reads an object into the lists.  Refused by 1 to 14; the count is that of the records. */
+uint64_t spi_read(const uint8_t *object, size_t octets,
+                  uint8_t *tags, size_t tags_count,
+                  uint8_t *kinds, size_t kinds_count,
+                  uint8_t *depths, size_t depths_count,
+                  uint16_t *parents, size_t parents_count,
+                  uint16_t *starts, size_t starts_count,
+                  uint16_t *sizes, size_t sizes_count);
+
+/* Where the body of a record lies: the start in bits 63 to 32, the size in bits 31 to 0.  Both are 0
+ * where the lists have no such record or the object no such part; nothing is refused. */
+uint64_t spi_span(const uint8_t *object, size_t octets,
+                  const uint16_t *starts, size_t starts_count,
+                  const uint16_t *sizes, size_t sizes_count,
+                  size_t number);
+
+static inline size_t spi_span_start(uint64_t span)
+{
+    return (size_t)(span >> 32);
+}
+
+static inline size_t spi_span_size(uint64_t span)
+{
+    return (size_t)(span & 0xFFFFFFFF);
+}
+
+/* Writes the normal form of the first `records` records, whose bodies lie in `lent`, to the room.
+ * Refused by 16 and 15, at place 0; the count is that of the octets. */
+uint64_t spi_write(size_t records,
+                   const uint8_t *tags, size_t tags_count,
+                   const uint8_t *kinds, size_t kinds_count,
+                   const uint8_t *depths, size_t depths_count,
+                   const uint16_t *parents, size_t parents_count,
+                   const uint16_t *starts, size_t starts_count,
+                   const uint16_t *sizes, size_t sizes_count,
+                   const uint8_t *lent, size_t lent_count,
+                   uint8_t *room, size_t room_count);
+
+/* Writes the normal form of an object to the room.  The lists and the store then hold its records
+ * with every token replaced and every value in normal form: the store has their bodies.  Refused by
+ * 1 to 15; the count is that of the octets.  With SPI_MOST_RECORDS places and SPI_MOST_OCTETS of store
+ * and of room, 14 never comes, and 15 only where the normal form has more octets than an object may. */
+uint64_t spi_normalise(const uint8_t *object, size_t octets,
+                       uint8_t *tags, size_t tags_count,
+                       uint8_t *kinds, size_t kinds_count,
+                       uint8_t *depths, size_t depths_count,
+                       uint16_t *parents, size_t parents_count,
+                       uint16_t *starts, size_t starts_count,
+                       uint16_t *sizes, size_t sizes_count,
+                       uint8_t *store, size_t store_count,
+                       uint8_t *room, size_t room_count);
+
+/* Whether two objects mean the same: the count is 1 where they do, else 0.  Both use the lists and the
+ * store, the second after the first; each has a room of its own for its normal form.  Refused by 1 to
+ * 13 of the first object, then of the second, then 14 and 15 of the first, then of the second. */
+uint64_t spi_same(const uint8_t *first, size_t first_octets,
+                  const uint8_t *second, size_t second_octets,
+                  uint8_t *tags, size_t tags_count,
+                  uint8_t *kinds, size_t kinds_count,
+                  uint8_t *depths, size_t depths_count,
+                  uint16_t *parents, size_t parents_count,
+                  uint16_t *starts, size_t starts_count,
+                  uint16_t *sizes, size_t sizes_count,
+                  uint8_t *store, size_t store_count,
+                  uint8_t *first_room, size_t first_room_count,
+                  uint8_t *second_room, size_t second_room_count);
+
+/* Whether octets are text; `tokens` says whether token octets may stand in it. */
+bool spi_check_text(const uint8_t *text, size_t octets, bool tokens);
+
+#ifdef __cplusplus
+}
+#endif
+
+#endif
