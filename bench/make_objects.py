@@ -1,0 +1,124 @@
+#!/usr/bin/env python3
+"""Makes the objects of the benchmark:  make_objects.py FOLDER
+
+    day-N.spi     a day's programmes: English and accented text, tokens, times, bearers
+    small-N.spi   many small items: numbers, times and short names
+    other-N.spi   the day again in its longest forms, without tokens: other octets, the same meaning
+
+N is 1, 4, 16 and 32: the object and its normal form have as many octets as fit N * 1024.
+"""
+import random
+import sys
+from pathlib import Path
+
+from make_cases import Bearer, Fixed, Node, Text, Time, item
+
+KILO = 1024
+TOKENS = {0x01: "the ", 0x02: "Radio ", 0x03: " and ", 0x04: "Programme", 0x05: "music ", 0x06: "of the day", 0x07: "presented by ", 0x08: "à la ",
+          0x0B: "São Paulo", 0x0C: "http://www.example.org/"}
+WORDS = ("morning evening news weather traffic jazz concert live studio guest story garden history science football report letters from a small town "
+         "with words that people use every day when they talk on air while others listen at home or in cars").split()
+ACCENTED = "café Müller Żubrówka señor garçon København naïve Zürich Łódź déjà-vu crème brûlée São façade Ærø Györ Šibenik".split()
+MINUTES = 24 * 60
+
+
+def text(rng, size, limit):
+    """About `size` octets of text, at most `limit`, in pieces of which some are tokens."""
+    pieces, total = [], 0
+    while total < size:
+        roll, token = rng.random(), 0
+        if roll < 0.2:
+            token = rng.choice(list(TOKENS))
+            octets = TOKENS[token].encode()
+        else:
+            octets = (rng.choice(ACCENTED if roll < 0.3 else WORDS) + " ").encode()
+        if total + len(octets) > limit:
+            break
+        pieces.append((octets, token))
+        total += len(octets)
+    return Text(pieces)
+
+
+def element(tag, *parts):
+    node = Node(tag)
+    for part in parts:
+        (node.attributes if part.tag >= 0x80 else node.children).append(part)
+    return node
+
+
+def shown(rng, tag, size, limit):
+    return element(tag, Node(0x01, text(rng, size, limit)))
+
+
+def number(rng, tag, octets):
+    return Node(tag, Fixed(rng.randbytes(octets)))
+
+
+def time(rng, tag, minute):
+    return Node(tag, Time(58800 + minute // MINUTES, minute // 60 % 24, minute % 60, rng.choice([0, 0, 30]), False, rng.choice([0, 2])))
+
+
+def bearer(tag):
+    return Node(tag, Bearer(b"\xe1\xc1\x85", b"\xc2\x21", 0))
+
+
+def programme(rng, minute):
+    """A programme with names, its place in the schedule, descriptions, a genre and a link."""
+    return element(
+        0x1C, Node(0x80, text(rng, 30, 60)), number(rng, 0x81, 3), number(rng, 0x82, 2), number(rng, 0x83, 1),
+        shown(rng, 0x11, 12, 16), shown(rng, 0x12, 40, 128),
+        element(0x19, element(0x2C, time(rng, 0x80, minute), number(rng, 0x81, 2)), element(0x2D, bearer(0x80))),
+        element(0x13, shown(rng, 0x1A, 120, 180)), element(0x13, shown(rng, 0x1B, rng.choice([200, 400]), 1200)),
+        element(0x14, number(rng, 0x80, 4), number(rng, 0x81, 1)), element(0x18, Node(0x80, text(rng, 40, 80))))
+
+
+def small(rng, minute):
+    """A programme of many items with little in them."""
+    return element(
+        0x1C, number(rng, 0x81, 3), number(rng, 0x82, 2), number(rng, 0x83, 1), shown(rng, 0x10, 6, 8),
+        element(0x19, element(0x2C, time(rng, 0x80, minute), number(rng, 0x81, 2)), element(0x2F, number(rng, 0x80, 2), number(rng, 0x81, 2))),
+        element(0x14, number(rng, 0x80, 1), number(rng, 0x81, 1)), element(0x17, number(rng, 0x81, 3), number(rng, 0x82, 2)))
+
+
+def octets(rng, node, form, tokens):
+    """An element or value as it stands: its length in one of the three forms, tokens as such or replaced."""
+    if node.value is None:
+        return item(node.tag, b"".join(octets(rng, part, form, tokens) for part in node.items()), form)
+    if isinstance(node.value, Text):
+        return item(node.tag, b"".join(bytes([token]) if token and tokens else piece for piece, token in node.value.pieces), form)
+    return item(node.tag, node.value.encoded(rng), form)
+
+
+def whole(rng, schedule, form, tokens):
+    table = b"".join(bytes([tag, len(word.encode())]) + word.encode() for tag, word in TOKENS.items())
+    front = (item(0x04, table) if tokens else b"") + item(0x06, b"en")
+    return item(0x02, front + octets(rng, schedule, form, tokens), form)
+
+
+def grown(make, limit, form):
+    """As many programmes as fit the limit: their octets with tokens and without, the latter with lengths of a form."""
+    rng = random.Random(f"{make.__name__} {limit}")
+    schedule = element(0x21, number(rng, 0x80, 2), time(rng, 0x81, 0), Node(0x82, text(rng, 20, 40)),
+                       element(0x24, time(rng, 0x80, 0), time(rng, 0x81, MINUTES - 1), element(0x25, bearer(0x80))))
+    kept = None
+    for count in range(4 * limit):
+        seed = f"{limit} {count}"
+        forms = whole(random.Random(seed), schedule, 0, True), whole(random.Random(seed), schedule, form, False)
+        if max(map(len, forms)) > limit:
+            return kept
+        kept = forms
+        schedule.children.append(make(rng, 5 * count % MINUTES))
+    raise ValueError("the programmes never fill the object")
+
+
+def main():
+    folder = Path(sys.argv[1])
+    for kilo in (1, 4, 16, 32):
+        day, other = grown(programme, kilo * KILO, 2)
+        (folder / f"day-{kilo}.spi").write_bytes(day)
+        (folder / f"other-{kilo}.spi").write_bytes(other)
+        (folder / f"small-{kilo}.spi").write_bytes(grown(small, kilo * KILO, 0)[0])
+
+
+if __name__ == "__main__":
+    main()
