@@ -104,6 +104,7 @@ static uint64_t second_text(void)
 typedef uint64_t (*call)(void);
 
 static volatile uint64_t kept;
+static double greatest_ratio, greatest_growth;
 
 static double now(void)
 {
@@ -134,10 +135,14 @@ static void compare(const char *name, size_t octets, call library, call other_pr
         least[0] = mine < least[0] ? mine : least[0];
         least[1] = its < least[1] ? its : least[1];
     }
-    double each = least[0] / (double)octets;
-    printf("%-22s %6zu %9.3f %9.3f %7.2f", name, octets, each, least[1] / (double)octets, least[0] / least[1]);
-    if (*before != 0)
-        printf(" %8.2f", each / *before);
+    double each = least[0] / (double)octets, ratio = least[0] / least[1];
+    printf("%-22s %6zu %9.3f %9.3f %7.2f", name, octets, each, least[1] / (double)octets, ratio);
+    greatest_ratio = ratio > greatest_ratio ? ratio : greatest_ratio;
+    if (*before != 0) {
+        double growth = each / *before;
+        printf(" %8.2f", growth);
+        greatest_growth = growth > greatest_growth ? growth : greatest_growth;
+    }
     printf("\n");
     *before = each;
 }
@@ -268,5 +273,6 @@ int main(int count, char **arguments)
     compare_objects(folder, "day", "other", "same day", library_same, second_same, true);
     compare_objects(folder, "small", "small", "same small", library_same, second_same, true);
     compare_texts(folder);
+    printf("greatest ratio %.2f (goal 1.50), greatest growth %.2f (goal 1.20)\n", greatest_ratio, greatest_growth);
     return 0;
 }
