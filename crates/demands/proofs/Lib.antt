@@ -1,1 +1,3 @@
 pub mod Only
+pub mod Laws
+pub mod One
