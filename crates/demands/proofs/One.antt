@@ -1,6 +1,6 @@
 -- Demand 1: from each call's claim alone.
 use mathlib.Core.Path.{_≡_, refl, sym, ap, _∙_, subst}
-use mathlib.Core.Bool.{Bool, true, false, cond, false≢true}
+use mathlib.Core.Bool.{Bool, true, false, cond, _&&_, false≢true}
 use mathlib.Core.Logic.{_↔_}
 use mathlib.Core.Option.{Option, none, some}
 use mathlib.Core.List.{List, [], _∷_, _++_}
@@ -24,6 +24,7 @@ use Rattle.show.specs.declared.Put.{Put as ShowPut}
 use Rattle.show.specs.Calls.{putAnswer as showAnswer, putLeaves as showLeaves}
 use Rattle.format.specs.declared.Record.{Record}
 use Rattle.format.specs.declared.Refusal.{Refusal}
+use Rattle.format.specs.declared.Counts.{Counts}
 use Rattle.format.specs.declared.ReadAnswer.{ReadAnswer}
 use Rattle.format.specs.declared.ReadAnswer.the-variants.{Records, NotRead}
 use Rattle.format.specs.declared.WriteAnswer.{WriteAnswer}
@@ -91,3 +92,184 @@ write-ends n lists lent before after answer c =
     go : (o : Option Items) → after ≡ sets before 0 (writeOctets (length before) o) → Ends (OfCall (15 ∷ 16 ∷ [])) (after ≡ before) (writeOutcome (writeAnswer (length before) o))
     go none e = refusedAt 16 0 (ofCall 16 refl) (e ∙ sets-none before 0)
     go (some t) e = one t (roomy (length before) (encode (means [] t))) e
+
+-- nothing is handed out of an object with a refusal
+nothing-handed : {A : Type 0} (lent : Lent) (f : Items → List A) (j : Judged) (r : Refusal) → normalAnswer lent j ≡ NotWritten r → handed lent f j ≡ []
+unfolding normalAnswer handed
+nothing-handed lent f (refused q) r h = refl
+nothing-handed lent f (accepted t) r h = go (fitsLent lent t) h
+  where
+    go : (b : Bool) → cond b (Octets (length (normalOf t))) (misfit lent t) ≡ NotWritten r → cond b (f t) [] ≡ []
+    go true e = never (cc)
+    go false e = refl
+
+-- what an accepted object lacks
+lack : (lent : Lent) (t : Items) → fitsLent lent t ≡ false → (r : Refusal) × (misfit lent t ≡ NotWritten r) × Lacks lent t r
+unfolding misfit
+lack lent t f = go (leb (count t) (lent .records)) refl
+  where
+    go : (b : Bool) → leb (count t) (lent .records) ≡ b → (r : Refusal) × (cond b (NotWritten (refusal 15 0)) (NotWritten (refusal 14 0)) ≡ NotWritten r) × Lacks lent t r
+    go true q = (refusal 15 0, refl, fifteen (leb-true (count t) (lent .records) q) (λ s. false≢true (sym f ∙ suffices-fits lent t s)))
+    go false q = (refusal 14 0, refl, fourteen (leb-false (count t) (lent .records) q))
+
+-- and that has the number 14 or 15, at 0
+lack-told : (object : List ℕ) (lent : Lent) (t : Items) (r : Refusal) → Lacks lent t r → Refuses object (14 ∷ 15 ∷ []) (r .number) (r .place)
+unfolding among
+lack-told object lent t r (fourteen l) = forCall 14 0 (ofCall 14 refl)
+lack-told object lent t r (fifteen l s) = forCall 15 0 (ofCall 15 refl)
+
+-- how normalising ends, of any judgement
+data Normal (lent : Lent) : Judged → Type 0 where
+  bad : {r : Refusal} → normalAnswer lent (refused r) ≡ NotWritten r → Normal lent (refused r)
+  lacking : {t : Items} (r : Refusal) → normalAnswer lent (accepted t) ≡ NotWritten r → Lacks lent t r → Normal lent (accepted t)
+  good : {t : Items} → normalAnswer lent (accepted t) ≡ Octets (length (normalOf t)) → Suffices lent t → Normal lent (accepted t)
+
+normal : (lent : Lent) (j : Judged) → Normal lent j
+unfolding normalAnswer
+normal lent (refused r) = bad refl
+normal lent (accepted t) = go (fitsLent lent t) refl
+  where
+    go : (b : Bool) → fitsLent lent t ≡ b → Normal lent (accepted t)
+    go true f = good {t = t} (rw f) (fits-suffices lent t f)
+    go false f = let l = lack lent t f in lacking {t = t} (l .0) (rw f (l .1)) (l .2)
+
+pub normalise-ends : NormaliseEnds
+normalise-ends object lists lists′ store store′ room room′ answer c =
+    subst (λ x. Ends (Refuses object (14 ∷ 15 ∷ [])) ((lists′ ≡ lists) × (store′ ≡ store) × (room′ ≡ room)) (writeOutcome x)) (sym (c .answers)) (go (judge object) refl (normal lent (judge object)))
+  where
+    lent : Lent
+    lent = lentBy lists store room
+
+    kept : (r : Refusal) → normalAnswer lent (judge object) ≡ NotWritten r → (lists′ ≡ lists) × (store′ ≡ store) × (room′ ≡ room)
+    kept r e = (
+      c .leavesLists ∙ ap (λ rs. lay 0 rs lists) (nothing-handed lent _ (judge object) r e) ∙ lay-none 0 lists,
+      c .leavesStore ∙ ap (sets store 0) (nothing-handed lent _ (judge object) r e) ∙ sets-none store 0,
+      c .leavesRoom ∙ ap (sets room 0) (nothing-handed lent _ (judge object) r e) ∙ sets-none room 0,
+    )
+
+    go : (j : Judged) → judge object ≡ j → Normal lent j → Ends (Refuses object (14 ∷ 15 ∷ [])) ((lists′ ≡ lists) × (store′ ≡ store) × (room′ ≡ room)) (writeOutcome (normalAnswer lent (judge object)))
+    go (refused r) h (bad e) = rw (h, e) (refusedAt (r .number) (r .place) (forObject (r .number) (r .place) (of-object object r h)) (kept r (rw h e)))
+    go (accepted t) h (lacking r e l) = rw (h, e) (refusedAt (r .number) (r .place) (lack-told object lent t r l) (kept r (rw h e)))
+    go (accepted t) h (good e s) = rw (h, e) (answered (length (normalOf t)))
+
+-- how comparing ends, of any two judgements
+data Compared (first second : Lent) : Judged → Judged → Type 0 where
+  badFirst : {r : Refusal} {b : Judged} → sameAnswer first second (refused r) b ≡ FirstRefused r → Compared first second (refused r) b
+  badSecond : {t : Items} {r : Refusal} → sameAnswer first second (accepted t) (refused r) ≡ SecondRefused r → Compared first second (accepted t) (refused r)
+  lackingFirst : {t u : Items} (r : Refusal) → sameAnswer first second (accepted t) (accepted u) ≡ FirstRefused r → Lacks first t r → Compared first second (accepted t) (accepted u)
+  lackingSecond : {t u : Items} (r : Refusal) → sameAnswer first second (accepted t) (accepted u) ≡ SecondRefused r → Suffices first t → Lacks second u r
+      → Compared first second (accepted t) (accepted u)
+  bothGood : {t u : Items} → sameAnswer first second (accepted t) (accepted u) ≡ cond (sameOctets (normalOf t) (normalOf u)) Same Different → Suffices first t → Suffices second u
+      → Compared first second (accepted t) (accepted u)
+
+compare : (first second : Lent) (a b : Judged) → Compared first second a b
+unfolding sameAnswer refusalOr secondRefusalOr
+compare first second (refused r) b = badFirst refl
+compare first second (accepted t) (refused r) = badSecond refl
+compare first second (accepted t) (accepted u) = go (normal first (accepted t)) (normal second (accepted u))
+  where
+    go : Normal first (accepted t) → Normal second (accepted u) → Compared first second (accepted t) (accepted u)
+    go (lacking r e l) n = lackingFirst {t = t} {u = u} r (rw e) l
+    go (good e s) (lacking r f l) = lackingSecond {t = t} {u = u} r (rw (e, f)) s l
+    go (good e s) (good f v) = bothGood {t = t} {u = u} (rw (e, f)) s v
+
+-- two objects that fit are compared
+both-compared : (first second : Lent) (t u : Items) → fitsLent first t ≡ true → fitsLent second u ≡ true
+    → sameAnswer first second (accepted t) (accepted u) ≡ cond (sameOctets (normalOf t) (normalOf u)) Same Different
+unfolding sameAnswer normalAnswer refusalOr secondRefusalOr
+both-compared first second t u f s = rw (f, s)
+
+-- nothing is handed out of either object with a refusal
+no-both : (first second : Lent) (a b : Judged) → ((answer : Bool) → sameAnswer first second a b ≡ cond answer Same Different → ⊥) → bothFit first second a b ≡ false
+unfolding bothFit
+no-both first second (refused r) b not = refl
+no-both first second (accepted t) (refused r) not = refl
+no-both first second (accepted t) (accepted u) not = go (fitsLent first t) (fitsLent second u) refl refl
+  where
+    go : (x y : Bool) → fitsLent first t ≡ x → fitsLent second u ≡ y → x && y ≡ false
+    go false y f s = refl
+    go true false f s = refl
+    go true true f s = absurd (not (sameOctets (normalOf t) (normalOf u)) (both-compared first second t u f s))
+
+pub same-ends : SameCallEnds
+unfolding ofFirst ofSecond
+same-ends a b lists lists′ store store′ roomA roomA′ roomB roomB′ answer c =
+    subst (λ x. SameEnds (Refuses a (14 ∷ 15 ∷ [])) (Refuses b (14 ∷ 15 ∷ [])) Kept (sameOutcome x)) (sym (c .answers)) (go (judge a) (judge b) refl refl (compare first second (judge a) (judge b)))
+  where
+    first : Lent
+    first = lentBy lists store roomA
+
+    second : Lent
+    second = lentBy lists store roomB
+
+    Kept : Type 0
+    Kept = (lists′ ≡ lists) × (store′ ≡ store) × (roomA′ ≡ roomA) × (roomB′ ≡ roomB)
+
+    kept : ((answer : Bool) → sameAnswer first second (judge a) (judge b) ≡ cond answer Same Different → ⊥) → Kept
+    kept not =
+        let f = no-both first second (judge a) (judge b) not in (
+          c .leavesLists ∙ rw (f, lay-none, lay-none),
+          c .leavesStore ∙ rw (f, sets-none),
+          c .leavesFirst ∙ rw (f, sets-none),
+          c .leavesSecond ∙ rw (f, sets-none),
+        )
+
+    not-compared : (x : Bool) (r : Refusal) → (FirstRefused r ≡ cond x Same Different → ⊥) × (SecondRefused r ≡ cond x Same Different → ⊥)
+    not-compared true r = ((λ e. never (cc)), (λ e. never (cc)))
+    not-compared false r = ((λ e. never (cc)), (λ e. never (cc)))
+
+    told : (x : Bool) → SameEnds (Refuses a (14 ∷ 15 ∷ [])) (Refuses b (14 ∷ 15 ∷ [])) Kept (sameOutcome (cond x Same Different))
+    told true = compared true
+    told false = compared false
+
+    go : (j k : Judged) → judge a ≡ j → judge b ≡ k → Compared first second j k
+        → SameEnds (Refuses a (14 ∷ 15 ∷ [])) (Refuses b (14 ∷ 15 ∷ [])) Kept (sameOutcome (sameAnswer first second (judge a) (judge b)))
+    go (refused r) k h g (badFirst e) = rw (h, g, e) (firstAt (r .number) (r .place) (forObject (r .number) (r .place) (of-object a r h)) (kept (λ x q. not-compared x r .0 (sym e ∙ (rw (h, g) at q)))))
+    go (accepted t) (refused r) h g (badSecond e) = rw (h, g, e) (secondAt (r .number) (r .place) (forObject (r .number) (r .place) (of-object b r g)) (kept (λ x q. not-compared x r .1 (sym e ∙ (rw (h, g) at q)))))
+    go (accepted t) (accepted u) h g (lackingFirst r e l) = rw (h, g, e) (firstAt (r .number) (r .place) (lack-told a first t r l) (kept (λ x q. not-compared x r .0 (sym e ∙ (rw (h, g) at q)))))
+    go (accepted t) (accepted u) h g (lackingSecond r e s l) = rw (h, g, e) (secondAt (r .number) (r .place) (lack-told b second u r l) (kept (λ x q. not-compared x r .1 (sym e ∙ (rw (h, g) at q)))))
+    go (accepted t) (accepted u) h g (bothGood e s v) = rw (h, g, e) (told (sameOctets (normalOf t) (normalOf u)))
+
+-- ---- the order of the refusals
+module _ (j : Judged) (n : ℕ) (answer : ReadAnswer) where
+  read-order : ((r : Refusal) → j ≡ refused r → r .number ≤ 13) → answer ≡ readAnswer n j → ReadOrder j n answer
+  unfolding readAnswer
+  read-order low e = go j refl e
+    where
+      bad : (s : Refusal) → j ≡ refused s → answer ≡ NotRead s → ReadOrder j n answer
+      bad s h e = record {
+        ofObject = λ r l. ((λ q. cc), (λ q. cc));
+        fourteen = ((λ q. let p : s ≡ refusal 14 0 = cc in absurd (omega (arith, low s h, ap (λ x. x .number) p))), (λ q. never (let p = q .1 in cc)));
+        records = λ m. ((λ q. never (cc)), (λ q. never (let p = q .1 in cc)));
+      }
+
+      few : (t : Items) → j ≡ accepted t → n < count t → answer ≡ NotRead (refusal 14 0) → ReadOrder j n answer
+      few t h l e = record {
+        ofObject = λ r m. ((λ q. let p : r ≡ refusal 14 0 = cc in absurd (omega (arith, ap (λ x. x .number) p))), (λ q. never (cc)));
+        fourteen = ((λ q. (t, h, l)), (λ q. e));
+        records = λ m. ((λ q. never (cc)), (λ q. let p : q .0 ≡ t = (let z = q .1 in cc) in absurd (omega (arith, l, q .2, q .3, ap count p))));
+      }
+
+      handed-out : (t : Items) → j ≡ accepted t → count t ≤ n → answer ≡ Records (record { records = count t }) → ReadOrder j n answer
+      handed-out t h l e = record {
+        ofObject = λ r m. ((λ q. never (cc)), (λ q. never (cc)));
+        fourteen = ((λ q. never (cc)), (λ q. let p : q .0 ≡ t = (let z = q .1 in cc) in absurd (omega (arith, l, q .2, ap count p))));
+        records = λ m. (
+          (λ q. let w : _≡_ {A = Counts} (record { records = m }) (record { records = count t }) = cc in let p : m ≡ count t = ap (λ x. x .records) w in (t, h, p, omega arith)),
+          (λ q. let p : q .0 ≡ t = (let z = q .1 in cc) in e ∙ ap (λ k. Records (record { records = k })) (ap count (sym p) ∙ sym (q .2))),
+        );
+      }
+
+      go : (i : Judged) → j ≡ i → answer ≡ readAnswer n i → ReadOrder j n answer
+      go (refused s) h e = bad s h e
+      go (accepted t) h e = one (leb (count t) n) refl e
+        where
+          one : (b : Bool) → leb (count t) n ≡ b → answer ≡ cond b (Records (record { records = count t })) (NotRead (refusal 14 0)) → ReadOrder j n answer
+          one true q e = handed-out t h (leb-true (count t) n q) e
+          one false q e = few t h (leb-false (count t) n q) e
+
+pub read-in-order : ReadInOrder
+read-in-order object before after answer c = read-order (judge object) (places before) answer (λ r h. of-object object r h .most) (c .answers)
+
+pub read-records-in-order : ReadRecordsInOrder
+read-records-in-order object before after slice slice′ answer c = read-order (judge object) (min (length slice) (places before)) answer (λ r h. of-object object r h .most) (c .answers)
