@@ -1,8 +1,8 @@
 -- Demand 1: from each call's claim alone.
-use mathlib.Core.Path.{_≡_, refl, sym, ap, _∙_, subst}
+use mathlib.Core.Path.{_≡_, refl, sym, ap, ap₂, _∙_, subst}
 use mathlib.Core.Bool.{Bool, true, false, cond, _&&_, false≢true}
 use mathlib.Core.Logic.{_↔_}
-use mathlib.Core.Option.{Option, none, some}
+use mathlib.Core.Option.{Option, none, some, Option·some-injective, Option·none-ne-some}
 use mathlib.Core.List.{List, [], _∷_, _++_}
 use Prim.Native.Nat.{ℕ, _+_, _≤_, _<_, min}
 use native.Mathlib.Omega.{arith}
@@ -208,7 +208,7 @@ same-ends a b lists lists′ store store′ roomA roomA′ roomB roomB′ answer
     kept : ((answer : Bool) → sameAnswer first second (judge a) (judge b) ≡ cond answer Same Different → ⊥) → Kept
     kept not =
         let f = no-both first second (judge a) (judge b) not in (
-          c .leavesLists ∙ rw (f, lay-none, lay-none),
+          c .leavesLists ∙ rw f (lay-none 0 (lay 0 [] lists) ∙ lay-none 0 lists),
           c .leavesStore ∙ rw (f, sets-none),
           c .leavesFirst ∙ rw (f, sets-none),
           c .leavesSecond ∙ rw (f, sets-none),
@@ -273,3 +273,216 @@ read-in-order object before after answer c = read-order (judge object) (places b
 
 pub read-records-in-order : ReadRecordsInOrder
 read-records-in-order object before after slice slice′ answer c = read-order (judge object) (min (length slice) (places before)) answer (λ r h. of-object object r h .most) (c .answers)
+
+module _ (n : ℕ) (lists : Lists) (lent : List ℕ) (room : ℕ) (answer : WriteAnswer) where
+  -- two trees of the same records are one
+  one-given : (t u : Items) → treeGiven n lists lent ≡ some t → GivenTree n lists lent u → u ≡ t
+  one-given t u h g = Option·some-injective u t (sym (tree-given n lists lent u g) ∙ h)
+
+  write-order : answer ≡ writeAnswer room (treeGiven n lists lent) → WriteOrder n lists lent room answer
+  unfolding writeAnswer roomy
+  write-order e = go (treeGiven n lists lent) refl e
+    where
+      size : Items → ℕ
+      size t = length (encode (means [] t))
+
+      apart : NotWritten (refusal 16 0) ≡ NotWritten (refusal 15 0) → ⊥
+      apart q = let p : refusal 16 0 ≡ refusal 15 0 = cc in omega (arith, ap (λ x. x .number) p)
+
+      none-given : treeGiven n lists lent ≡ none → answer ≡ NotWritten (refusal 16 0) → WriteOrder n lists lent room answer
+      none-given h e =
+          let lost : (t : Items) → GivenTree n lists lent t → ⊥ = λ t g. Option·none-ne-some t (sym h ∙ tree-given n lists lent t g) in
+          record {
+            sixteen = ((λ q. lost), (λ q. e));
+            fifteen = ((λ q. absurd (apart (sym e ∙ q))), (λ q. absurd (lost (q .0) (q .1))));
+            octets = λ k. ((λ q. never (cc)), (λ q. absurd (lost (q .0) (q .1))));
+          }
+
+      no-room : (t : Items) → treeGiven n lists lent ≡ some t → min room 32_768 < size t → answer ≡ NotWritten (refusal 15 0) → WriteOrder n lists lent room answer
+      no-room t h l e = record {
+        sixteen = ((λ q. absurd (apart (sym q ∙ e))), (λ q. absurd (q t (given-tree n lists lent t h))));
+        fifteen = ((λ q. (t, given-tree n lists lent t h, l)), (λ q. e));
+        octets = λ k. ((λ q. never (cc)), (λ q. absurd (omega (arith, l, q .2, q .3, ap size (one-given t (q .0) h (q .1))))));
+      }
+
+      written : (t : Items) → treeGiven n lists lent ≡ some t → size t ≤ min room 32_768 → answer ≡ Octets (size t) → WriteOrder n lists lent room answer
+      written t h l e = record {
+        sixteen = ((λ q. never (cc)), (λ q. absurd (q t (given-tree n lists lent t h))));
+        fifteen = ((λ q. never (cc)), (λ q. absurd (omega (arith, l, q .2, ap size (one-given t (q .0) h (q .1))))));
+        octets = λ k. (
+          (λ q. let p : k ≡ size t = cc in (t, given-tree n lists lent t h, p, omega arith)),
+          (λ q. e ∙ ap Octets (ap size (sym (one-given t (q .0) h (q .1))) ∙ sym (q .2))),
+        );
+      }
+
+      go : (o : Option Items) → treeGiven n lists lent ≡ o → answer ≡ writeAnswer room o → WriteOrder n lists lent room answer
+      go none h e = none-given h e
+      go (some t) h e = one (leb (size t) (min room 32_768)) refl e
+        where
+          one : (b : Bool) → leb (size t) (min room 32_768) ≡ b → answer ≡ cond b (Octets (size t)) (NotWritten (refusal 15 0)) → WriteOrder n lists lent room answer
+          one true q e = written t h (leb-true (size t) (min room 32_768) q) e
+          one false q e = no-room t h (leb-false (size t) (min room 32_768) q) e
+
+pub write-in-order : WriteInOrder
+write-in-order n lists lent before after answer c = write-order n lists lent (length before) answer (c .answers)
+
+-- what is lacking has one number, 14 or 15, and nothing suffices then
+lack-one : (lent : Lent) (t : Items) (r s : Refusal) → Lacks lent t r → Lacks lent t s → r ≡ s
+lack-one lent t r s (fourteen l) (fourteen m) = refl
+lack-one lent t r s (fourteen l) (fifteen m f) = absurd (omega arith)
+lack-one lent t r s (fifteen l f) (fourteen m) = absurd (omega arith)
+lack-one lent t r s (fifteen l f) (fifteen m g) = refl
+
+lack-late : (lent : Lent) (t : Items) (r : Refusal) → Lacks lent t r → 14 ≤ r .number
+lack-late lent t r (fourteen l) = omega arith
+lack-late lent t r (fifteen l f) = omega arith
+
+lack-short : (lent : Lent) (t : Items) (r : Refusal) → Lacks lent t r → Suffices lent t → ⊥
+lack-short lent t r (fourteen l) s = omega (arith, s .records)
+lack-short lent t r (fifteen l f) s = f s
+
+module _ (j : Judged) (lent : Lent) (answer : WriteAnswer) where
+  normalise-order : ((r : Refusal) → j ≡ refused r → r .number ≤ 13) → answer ≡ normalAnswer lent j → NormaliseOrder j lent answer
+  normalise-order low e = go j refl (normal lent j) e
+    where
+      refusing : (s : Refusal) → j ≡ refused s → answer ≡ NotWritten s → NormaliseOrder j lent answer
+      refusing s h e = record {
+        ofObject = λ r l. ((λ q. cc), (λ q. cc));
+        lacking = λ r l. ((λ q. let p : s ≡ r = cc in absurd (omega (arith, low s h, ap (λ x. x .number) p))), (λ q. never (let p = q .1 in cc)));
+        octets = λ k. ((λ q. never (cc)), (λ q. never (let p = q .1 in cc)));
+      }
+
+      short : (t : Items) (s : Refusal) → j ≡ accepted t → Lacks lent t s → answer ≡ NotWritten s → NormaliseOrder j lent answer
+      short t s h l e = record {
+        ofObject = λ r m. ((λ q. let p : s ≡ r = cc in absurd (omega (arith, lack-late lent t s l, ap (λ x. x .number) p))), (λ q. never (cc)));
+        lacking = λ r m. (
+          (λ q. let p : s ≡ r = cc in (t, h, subst (Lacks lent t) p l)),
+          (λ q. let p : q .0 ≡ t = (let z = q .1 in cc) in e ∙ ap NotWritten (lack-one lent t s r l (subst (λ x. Lacks lent x r) p (q .2)))),
+        );
+        octets = λ k. ((λ q. never (cc)), (λ q. let p : q .0 ≡ t = (let z = q .1 in cc) in absurd (lack-short lent t s l (subst (Suffices lent) p (q .3)))));
+      }
+
+      fine : (t : Items) → j ≡ accepted t → Suffices lent t → answer ≡ Octets (length (normalOf t)) → NormaliseOrder j lent answer
+      fine t h s e = record {
+        ofObject = λ r m. ((λ q. never (cc)), (λ q. never (cc)));
+        lacking = λ r m. ((λ q. never (cc)), (λ q. let p : q .0 ≡ t = (let z = q .1 in cc) in absurd (lack-short lent t r (subst (λ x. Lacks lent x r) p (q .2)) s)));
+        octets = λ k. (
+          (λ q. let p : k ≡ length (normalOf t) = cc in (t, h, p, s)),
+          (λ q. let p : q .0 ≡ t = (let z = q .1 in cc) in e ∙ ap Octets (ap (λ x. length (normalOf x)) (sym p) ∙ sym (q .2))),
+        );
+      }
+
+      go : (i : Judged) → j ≡ i → Normal lent i → answer ≡ normalAnswer lent j → NormaliseOrder j lent answer
+      go (refused s) h (bad f) e = refusing s h (e ∙ ap (normalAnswer lent) h ∙ f)
+      go (accepted t) h (lacking s f l) e = short t s h l (e ∙ ap (normalAnswer lent) h ∙ f)
+      go (accepted t) h (good f s) e = fine t h s (e ∙ ap (normalAnswer lent) h ∙ f)
+
+pub normalise-in-order : NormaliseInOrder
+normalise-in-order object lists lists′ store store′ room room′ answer c =
+    normalise-order (judge object) (lentBy lists store room) answer (λ r h. of-object object r h .most) (c .answers)
+
+module _ (j k : Judged) (first second : Lent) (answer : SameAnswer) where
+  same-order : ((r : Refusal) → j ≡ refused r → r .number ≤ 13) → ((r : Refusal) → k ≡ refused r → r .number ≤ 13) → answer ≡ sameAnswer first second j k
+      → SameOrder j k first second answer
+  same-order lowA lowB e = go j k refl refl (compare first second j k) e
+    where
+      firstRefusing : (s : Refusal) → j ≡ refused s → answer ≡ FirstRefused s → SameOrder j k first second answer
+      firstRefusing s h e = record {
+        ofFirst = λ r l. ((λ q. cc), (λ q. cc));
+        ofSecond = λ r l. ((λ q. never (cc)), (λ q. never (let p = q .1 in cc)));
+        lackingFirst = λ r l. ((λ q. let p : s ≡ r = cc in absurd (omega (arith, lowA s h, ap (λ x. x .number) p))), (λ q. never (let p = q .2 in cc)));
+        lackingSecond = λ r l. ((λ q. never (cc)), (λ q. never (let p = q .2 in cc)));
+      }
+
+      secondRefusing : (t : Items) (s : Refusal) → j ≡ accepted t → k ≡ refused s → answer ≡ SecondRefused s → SameOrder j k first second answer
+      secondRefusing t s h g e = record {
+        ofFirst = λ r l. ((λ q. never (cc)), (λ q. never (cc)));
+        ofSecond = λ r l. ((λ q. (t, h, (cc))), (λ q. let p = q .2 in cc));
+        lackingFirst = λ r l. ((λ q. never (cc)), (λ q. never (let p = q .3 in cc)));
+        lackingSecond = λ r l. ((λ q. let p : s ≡ r = cc in absurd (omega (arith, lowB s g, ap (λ x. x .number) p))), (λ q. never (let p = q .3 in cc)));
+      }
+
+      firstShort : (t u : Items) (s : Refusal) → j ≡ accepted t → k ≡ accepted u → Lacks first t s → answer ≡ FirstRefused s → SameOrder j k first second answer
+      firstShort t u s h g l e = record {
+        ofFirst = λ r m. ((λ q. let p : s ≡ r = cc in absurd (omega (arith, lack-late first t s l, ap (λ x. x .number) p))), (λ q. never (cc)));
+        ofSecond = λ r m. ((λ q. never (cc)), (λ q. never (let p = q .2 in cc)));
+        lackingFirst = λ r m. (
+          (λ q. let p : s ≡ r = cc in (t, u, h, g, subst (Lacks first t) p l)),
+          (λ q. let p : q .0 ≡ t = (let z = q .2 in cc) in e ∙ ap FirstRefused (lack-one first t s r l (subst (λ x. Lacks first x r) p (q .4)))),
+        );
+        lackingSecond = λ r m. ((λ q. never (cc)), (λ q. let p : q .0 ≡ t = (let z = q .2 in cc) in absurd (lack-short first t s l (subst (Suffices first) p (q .4)))));
+      }
+
+      secondShort : (t u : Items) (s : Refusal) → j ≡ accepted t → k ≡ accepted u → Suffices first t → Lacks second u s → answer ≡ SecondRefused s → SameOrder j k first second answer
+      secondShort t u s h g f l e = record {
+        ofFirst = λ r m. ((λ q. never (cc)), (λ q. never (cc)));
+        ofSecond = λ r m. ((λ q. let p : s ≡ r = cc in absurd (omega (arith, lack-late second u s l, ap (λ x. x .number) p))), (λ q. never (let p = q .2 in cc)));
+        lackingFirst = λ r m. ((λ q. never (cc)), (λ q. let p : q .0 ≡ t = (let z = q .2 in cc) in absurd (lack-short first t r (subst (λ x. Lacks first x r) p (q .4)) f)));
+        lackingSecond = λ r m. (
+          (λ q. let p : s ≡ r = cc in (t, u, h, g, f, subst (Lacks second u) p l)),
+          (λ q. let p : q .1 ≡ u = (let z = q .3 in cc) in e ∙ ap SecondRefused (lack-one second u s r l (subst (λ x. Lacks second x r) p (q .5)))),
+        );
+      }
+
+      neither : (t u : Items) → j ≡ accepted t → k ≡ accepted u → Suffices first t → Suffices second u → ((r : Refusal) → (answer ≡ FirstRefused r → ⊥) × (answer ≡ SecondRefused r → ⊥))
+          → SameOrder j k first second answer
+      neither t u h g f s not = record {
+        ofFirst = λ r m. ((λ q. absurd (not r .0 q)), (λ q. never (cc)));
+        ofSecond = λ r m. ((λ q. absurd (not r .1 q)), (λ q. never (let p = q .2 in cc)));
+        lackingFirst = λ r m. ((λ q. absurd (not r .0 q)), (λ q. let p : q .0 ≡ t = (let z = q .2 in cc) in absurd (lack-short first t r (subst (λ x. Lacks first x r) p (q .4)) f)));
+        lackingSecond = λ r m. ((λ q. absurd (not r .1 q)), (λ q. let p : q .1 ≡ u = (let z = q .3 in cc) in absurd (lack-short second u r (subst (λ x. Lacks second x r) p (q .5)) s)));
+      }
+
+      told : (x : Bool) → answer ≡ cond x Same Different → (r : Refusal) → (answer ≡ FirstRefused r → ⊥) × (answer ≡ SecondRefused r → ⊥)
+      told true e r = ((λ q. never (cc)), (λ q. never (cc)))
+      told false e r = ((λ q. never (cc)), (λ q. never (cc)))
+
+      go : (a b : Judged) → j ≡ a → k ≡ b → Compared first second a b → answer ≡ sameAnswer first second j k → SameOrder j k first second answer
+      go (refused s) b h g (badFirst f) e = firstRefusing s h (e ∙ ap₂ (sameAnswer first second) h g ∙ f)
+      go (accepted t) (refused s) h g (badSecond f) e = secondRefusing t s h g (e ∙ ap₂ (sameAnswer first second) h g ∙ f)
+      go (accepted t) (accepted u) h g (lackingFirst s f l) e = firstShort t u s h g l (e ∙ ap₂ (sameAnswer first second) h g ∙ f)
+      go (accepted t) (accepted u) h g (lackingSecond s f v l) e = secondShort t u s h g v l (e ∙ ap₂ (sameAnswer first second) h g ∙ f)
+      go (accepted t) (accepted u) h g (bothGood f v w) e = neither t u h g v w (told (sameOctets (normalOf t) (normalOf u)) (e ∙ ap₂ (sameAnswer first second) h g ∙ f))
+
+pub same-in-order : SameInOrder
+same-in-order a b lists lists′ store store′ roomA roomA′ roomB roomB′ answer c =
+    same-order (judge a) (judge b) (lentBy lists store roomA) (lentBy lists store roomB) answer (λ r h. of-object a r h .most) (λ r h. of-object b r h .most) (c .answers)
+
+-- ---- the leaves: one law
+put-ends : (A : Type 0) (done : ℕ → A) (noRoom invalid : A) (valid : Bool) (octets : List ℕ) (at : ℕ) (before after : List ℕ) (answer : A)
+    → answer ≡ cond valid (cond (leb (at + length octets) (length before)) (done (at + length octets)) noRoom) invalid
+    → after ≡ cond valid (cond (leb (at + length octets) (length before)) (sets before at octets) before) before
+    → PutEnds A done noRoom invalid valid octets at before after answer
+put-ends A done noRoom invalid valid octets at before after answer e f = subst (PutEnds A done noRoom invalid valid octets at before after) (sym e) (go valid refl f)
+  where
+    one : (b : Bool) → valid ≡ true → leb (at + length octets) (length before) ≡ b → after ≡ cond b (sets before at octets) before
+        → PutEnds A done noRoom invalid valid octets at before after (cond b (done (at + length octets)) noRoom)
+    one true v q f = put v (leb-true (at + length octets) (length before) q) f
+    one false v q f = lacksRoom v (leb-false (at + length octets) (length before) q) f
+
+    go : (v : Bool) → valid ≡ v → after ≡ cond v (cond (leb (at + length octets) (length before)) (sets before at octets) before) before
+        → PutEnds A done noRoom invalid valid octets at before after (cond v (cond (leb (at + length octets) (length before)) (done (at + length octets)) noRoom) invalid)
+    go true v f = one (leb (at + length octets) (length before)) v refl f
+    go false v f = notValid v f
+
+pub octets-put-ends : OctetsPutEnds
+unfolding octetsAnswer octetsOut
+octets-put-ends exists octets at before after answer c =
+    put-ends OctetsPut OctetsPut.Done OctetsPut.NoRoom OctetsPut.TooLong exists octets at before after answer (c .answers) (c .leaves ∙ go exists)
+  where
+    go : (b : Bool) → cond (b && leb (at + length octets) (length before)) (sets before at octets) before ≡ cond b (cond (leb (at + length octets) (length before)) (sets before at octets) before) before
+    go true = refl
+    go false = refl
+
+pub expand-ends : ExpandEnds
+unfolding expandFits expandAnswer expandOut
+expand-ends entries text before after at answer c = put-ends Expanded ExpandDone ExpandNoRoom ExpandNoRoom true (expanded entries text) at before after answer (c .answers) (c .leaves)
+
+pub value-put-ends : ValuePutEnds
+unfolding valuesAnswer valuesOut
+value-put-ends valid octets before at answer after c =
+    put-ends ValuesPut ValuesPut.Done ValuesPut.NoRoom ValuesPut.Invalid valid octets at before after answer (c .answered) (c .holds)
+
+pub show-put-ends : ShowPutEnds
+unfolding showAnswer showLeaves
+show-put-ends text at before after answer c = put-ends ShowPut ShowPut.Done ShowPut.NoRoom ShowPut.NoRoom true text at before after answer (c .answers) (c .leaves)
