@@ -13,9 +13,9 @@ use Rattle.octets.proofs.Tests.{and-left, and-right, and-true}
 use Rattle.format.specs.declared.Refusal.{Refusal}
 use Rattle.format.specs.Answers.{refusal}
 use Rattle.format.specs.Tree.{Items, count}
-use Rattle.format.specs.Judge.{rule, unless, judge}
+use Rattle.format.specs.Judge.{Judged, rule, unless, judge}
 use Rattle.format.specs.Judge.Judged.{refused, accepted}
-use Rattle.format.specs.Meaning.{normalOf}
+use Rattle.format.specs.Meaning.{Meaning, meaningOf, ifAccepted, meaning, normalOf}
 use Rattle.format.specs.Writer.{rebuilt}
 use Rattle.format.specs.Loaded.{storeOf}
 use Rattle.format.specs.Calls.{Lists, row, places, Lent, roomy, storedWithin, fitsLent, treeGiven}
@@ -80,3 +80,17 @@ module _ (n : ℕ) (lists : Lists) (lent : List ℕ) (t : Items) where
           let w = rebuilt-whole (row lists) n lent t h in
           record { some = w .some; placed = leb-true n (places lists) q; records = sym (w .records); located = w .located; rules = w .rules }
       go false q h = absurd (Option·none-ne-some t h)
+
+-- an object that means something is accepted, with a tree that means it
+pub has-meaning : (o : List ℕ) (m : Meaning) → meaning o ≡ some m → (t : Items) × (judge o ≡ accepted t) × (meaningOf t ≡ m)
+unfolding meaning ifAccepted
+has-meaning o m e = go (judge o) refl e
+  where
+    go : (j : Judged) → judge o ≡ j → ifAccepted meaningOf j ≡ some m → (t : Items) × (judge o ≡ accepted t) × (meaningOf t ≡ m)
+    go (refused r) h e = absurd (Option·none-ne-some m e)
+    go (accepted t) h e = (t, h, Option·some-injective (meaningOf t) m e)
+
+-- and an accepted object means what its tree means
+pub accepted-means : (o : List ℕ) (t : Items) → judge o ≡ accepted t → meaning o ≡ some (meaningOf t)
+unfolding meaning ifAccepted
+accepted-means o t h = rw h

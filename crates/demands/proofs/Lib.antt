@@ -1,3 +1,4 @@
-pub mod Only
 pub mod Laws
 pub mod One
+pub mod Two
+pub mod Only

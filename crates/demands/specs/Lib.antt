@@ -1,2 +1,3 @@
-pub mod Only
 pub mod One
+pub mod Two
+pub mod Only
