@@ -1,4 +1,5 @@
 pub mod Laws
 pub mod One
 pub mod Two
+pub mod Three
 pub mod Only

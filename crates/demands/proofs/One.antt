@@ -153,7 +153,7 @@ normalise-ends object lists lists′ store store′ room room′ answer c =
     go (accepted t) h (good e s) = rw (h, e) (answered (length (normalOf t)))
 
 -- how comparing ends, of any two judgements
-data Compared (first second : Lent) : Judged → Judged → Type 0 where
+pub data Compared (first second : Lent) : Judged → Judged → Type 0 where
   badFirst : {r : Refusal} {b : Judged} → sameAnswer first second (refused r) b ≡ FirstRefused r → Compared first second (refused r) b
   badSecond : {t : Items} {r : Refusal} → sameAnswer first second (accepted t) (refused r) ≡ SecondRefused r → Compared first second (accepted t) (refused r)
   lackingFirst : {t u : Items} (r : Refusal) → sameAnswer first second (accepted t) (accepted u) ≡ FirstRefused r → Lacks first t r → Compared first second (accepted t) (accepted u)
@@ -162,7 +162,7 @@ data Compared (first second : Lent) : Judged → Judged → Type 0 where
   bothGood : {t u : Items} → sameAnswer first second (accepted t) (accepted u) ≡ cond (sameOctets (normalOf t) (normalOf u)) Same Different → Suffices first t → Suffices second u
       → Compared first second (accepted t) (accepted u)
 
-compare : (first second : Lent) (a b : Judged) → Compared first second a b
+pub compare : (first second : Lent) (a b : Judged) → Compared first second a b
 unfolding sameAnswer refusalOr secondRefusalOr
 compare first second (refused r) b = badFirst refl
 compare first second (accepted t) (refused r) = badSecond refl
@@ -174,7 +174,7 @@ compare first second (accepted t) (accepted u) = go (normal first (accepted t)) 
     go (good e s) (good f v) = bothGood {t = t} {u = u} (rw (e, f)) s v
 
 -- two objects that fit are compared
-both-compared : (first second : Lent) (t u : Items) → fitsLent first t ≡ true → fitsLent second u ≡ true
+pub both-compared : (first second : Lent) (t u : Items) → fitsLent first t ≡ true → fitsLent second u ≡ true
     → sameAnswer first second (accepted t) (accepted u) ≡ cond (sameOctets (normalOf t) (normalOf u)) Same Different
 unfolding sameAnswer normalAnswer refusalOr secondRefusalOr
 both-compared first second t u f s = rw (f, s)
