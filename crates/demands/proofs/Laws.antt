@@ -26,7 +26,7 @@ use Rattle.demands.specs.One.{OfObject, GivenTree, Suffices}
 pub never : {A : Type 0} → _≡_ {A = ℕ} 0 1 → A
 never z = absurd (omega arith)
 
-empty-refused : judge [] ≡ refused (refusal 1 0)
+pub empty-refused : judge [] ≡ refused (refusal 1 0)
 unfolding judge rule unless
 empty-refused = refl
 

@@ -1,7 +1,7 @@
 -- Demand 1: from each call's claim alone.
 use mathlib.Core.Path.{_≡_, refl, sym, ap, ap₂, _∙_, subst}
 use mathlib.Core.Bool.{Bool, true, false, cond, _&&_, false≢true}
-use mathlib.Core.Logic.{_↔_}
+use mathlib.Core.Logic.{_↔_, _⊎_, inl, inr}
 use mathlib.Core.Option.{Option, none, some, Option·some-injective, Option·none-ne-some}
 use mathlib.Core.List.{List, [], _∷_, _++_}
 use Prim.Native.Nat.{ℕ, _+_, _≤_, _<_, min}
@@ -9,9 +9,10 @@ use native.Mathlib.Omega.{arith}
 use lib.Dec.{leb}
 use lib.ListN.{length, drop}
 use lib.Seq.{sets}
-use borrow.Author.Tests.{leb-true, leb-false, le-leb, lt-leb}
+use borrow.Author.Tests.{leb-true, leb-false, lt-leb}
 use Rattle.octets.specs.Numbers.{among}
 use Rattle.octets.proofs.Lists.{sets-none}
+use Rattle.octets.proofs.Tests.{and-false}
 use Rattle.octets.specs.declared.Put.{Put as OctetsPut}
 use Rattle.octets.specs.Calls.{putAnswer as octetsAnswer, putOut as octetsOut}
 use Rattle.text.specs.Tokens.{expanded}
@@ -33,12 +34,12 @@ use Rattle.format.specs.declared.SameAnswer.{SameAnswer}
 use Rattle.format.specs.declared.SameAnswer.the-variants.{Same, Different, FirstRefused, SecondRefused}
 use Rattle.format.specs.Answers.{refusal, readOutcome, writeOutcome, sameOutcome}
 use Rattle.format.specs.Tree.{Items, count, recordsOf}
-use Rattle.format.specs.Judge.{Judged, judge}
+use Rattle.format.specs.Judge.{Judged, rule, unless, judge}
 use Rattle.format.specs.Judge.Judged.{refused, accepted}
 use Rattle.format.specs.Meaning.{means, encode, normalOf}
 use Rattle.format.specs.Calls.{Lists, places, lay, judgeAnswer, readAnswer, readRecords, roomy, treeGiven, writeAnswer, writeOctets, Lent, lentBy, fitsLent, misfit, normalAnswer, handed, refusalOr, secondRefusalOr, sameOctets, sameAnswer, bothFit, ofFirst, ofSecond}
 use Rattle.format.proofs.Lays.{lay-none}
-use Rattle.demands.specs.One.{OfObject, OfCall, Refuses, Ends, SameEnds, JudgeEnds, ReadEnds, ReadRecordsEnds, WriteEnds, NormaliseEnds, SameCallEnds, ReadOrder, ReadInOrder, ReadRecordsInOrder, GivenTree, WriteOrder, WriteInOrder, Suffices, Lacks, NormaliseOrder, NormaliseInOrder, SameOrder, SameInOrder, PutEnds, OctetsPutEnds, ExpandEnds, ValuePutEnds, ShowPutEnds}
+use Rattle.demands.specs.One.{OfObject, OfCall, Refuses, Ends, SameEnds, JudgeEnds, ReadEnds, ReadRecordsEnds, WriteEnds, NormaliseEnds, SameCallEnds, OneBeforeAll, ReadOrder, ReadInOrder, ReadRecordsInOrder, GivenTree, WriteOrder, WriteInOrder, Suffices, Lacks, NormaliseOrder, NormaliseInOrder, SameOrder, SameInOrder, PutEnds, OctetsPutEnds, ExpandEnds, ValuePutEnds, ShowPutEnds}
 use Rattle.demands.specs.One.OfCall.{ofCall}
 use Rattle.demands.specs.One.Refuses.{forObject, forCall}
 use Rattle.demands.specs.One.Ends.{answered, refusedAt}
@@ -231,6 +232,11 @@ same-ends a b lists lists′ store store′ roomA roomA′ roomB roomB′ answer
     go (accepted t) (accepted u) h g (bothGood e s v) = rw (h, g, e) (told (sameOctets (normalOf t) (normalOf u)))
 
 -- ---- the order of the refusals
+pub one-before-all : OneBeforeAll
+unfolding judge rule unless
+one-before-all object (inl e) = rw (lt-leb 1 (length object) (omega arith))
+one-before-all object (inr l) = rw (lt-leb (length object) 32_768 l, and-false (leb 1 (length object)))
+
 module _ (j : Judged) (n : ℕ) (answer : ReadAnswer) where
   read-order : ((r : Refusal) → j ≡ refused r → r .number ≤ 13) → answer ≡ readAnswer n j → ReadOrder j n answer
   unfolding readAnswer

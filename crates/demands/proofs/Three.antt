@@ -30,15 +30,15 @@ use Rattle.demands.proofs.One.{Compared, compare, both-compared, normal
 use Rattle.demands.proofs.One.Compared.{badFirst, badSecond, lackingFirst, lackingSecond, bothGood}
 
 -- what a call of normalise that gives octets leaves in its room
-record Normalised (object room room′ : List ℕ) (n : ℕ) : Type 0 where
-  tree : Items
-  is : judge object ≡ accepted tree
-  octets : take n room′ ≡ normalOf tree
-  many : n ≡ length (normalOf tree)
-  small : length (normalOf tree) ≤ 32_768
-  behind : drop n room′ ≡ drop n room
+pub record Normalised (object room room′ : List ℕ) (n : ℕ) : Type 0 where
+  pub tree : Items
+  pub is : judge object ≡ accepted tree
+  pub octets : take n room′ ≡ normalOf tree
+  pub many : n ≡ length (normalOf tree)
+  pub small : length (normalOf tree) ≤ 32_768
+  pub behind : drop n room′ ≡ drop n room
 
-normalised : (object : List ℕ) (lists lists′ : Lists) (store store′ room room′ : List ℕ) (n : ℕ) → NormaliseClaim object lists lists′ store store′ room room′ (Written n)
+pub normalised : (object : List ℕ) (lists lists′ : Lists) (store store′ room room′ : List ℕ) (n : ℕ) → NormaliseClaim object lists lists′ store store′ room room′ (Written n)
     → Normalised object room room′ n
 unfolding handed
 normalised object lists lists′ store store′ room room′ n c =

@@ -65,7 +65,7 @@ pub one-tree : OneTree
 one-tree = agree-one-tree
 
 -- the records of an object that has places for them
-records-read : (m : ℕ) (t : Items) → count t ≤ m → readRecords m (accepted t) ≡ recordsOf t
+pub records-read : (m : ℕ) (t : Items) → count t ≤ m → readRecords m (accepted t) ≡ recordsOf t
 unfolding readRecords
 records-read m t l = rw (le-leb (count t) m l)
 

@@ -2,3 +2,5 @@ pub mod One
 pub mod Two
 pub mod Three
 pub mod Only
+pub mod Bench
+pub mod Frauds

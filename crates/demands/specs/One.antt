@@ -4,7 +4,7 @@
 -- No statement here has a premise but the call's claim: what is given and lent is any list whatever. That each call ends is Rattle's own check of its code.
 use mathlib.Core.Path.{_≡_}
 use mathlib.Core.Bool.{Bool, true, false}
-use mathlib.Core.Logic.{_↔_}
+use mathlib.Core.Logic.{_↔_, _⊎_}
 use mathlib.Core.List.{List, [], _∷_}
 use Prim.Native.Nat.{ℕ, _+_, _≤_, _<_, min}
 use lib.ListN.{length}
@@ -106,6 +106,10 @@ SameCallEnds =
 
 -- ---- by the order in document 01. The order within an object is that of the definition `judge` (format/specs/Judge); these say how its refusals, 14, 15 and 16
 -- stand to one another
+
+-- an object that is empty or above 32,768 octets is refused with 1, at 0, whatever else it is
+abbrev pub OneBeforeAll : Type 0
+OneBeforeAll = (object : List ℕ) → (length object ≡ 0) ⊎ (32_768 < length object) → judge object ≡ refused (refusal 1 0)
 
 -- read: 1 to 13 exactly when the object is refused so; 14 exactly when it is accepted and has more records than there are places; else its records
 pub record ReadOrder (judged : Judged) (places : ℕ) (answer : ReadAnswer) : Type 0 where
