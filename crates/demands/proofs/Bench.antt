@@ -1,13 +1,12 @@
 -- The bench, from format's one claim over the table, and what the calls answer of it.
 use mathlib.Core.Path.{_≡_, refl, sym, ap, _∙_}
 use mathlib.Core.Bool.{true}
-use mathlib.Core.List.{List, [], _∷_}
+use mathlib.Core.List.{List, _∷_}
 use Prim.Native.Nat.{ℕ}
 use native.Mathlib.Omega.{arith}
-use lib.ListN.{length, take}
+use lib.ListN.{length}
 use Rattle.format.specs.declared.Record.{Record}
 use Rattle.format.specs.declared.Refusal.{Refusal}
-use Rattle.format.specs.declared.ReadAnswer.the-variants.{Records}
 use Rattle.format.specs.Tree.{Items, count, recordsOf}
 use Rattle.format.specs.Judge.{Judged, judge}
 use Rattle.format.specs.Judge.Judged.{refused, accepted}
@@ -18,7 +17,7 @@ use Rattle.format.specs.Bench.Outcome.{refuses, normally}
 use Rattle.format.proofs.Bench.{bench, slipped, listing as listed-is}
 use Rattle.format.proofs.Spans.{records-count}
 use Rattle.format.proofs.Lays.{tabled-laid}
-use Rattle.demands.specs.Bench.{BenchTable, Slips, listedObject, listing, Listing, TableRead, BenchRead, BenchNormalise, ListingRead}
+use Rattle.demands.specs.Bench.{BenchTable, Slips, listedObject, listing, Listing, BenchRead, BenchNormalise, ListingRead}
 use Rattle.demands.proofs.Laws.{never, of-object}
 use Rattle.demands.proofs.One.{read-in-order}
 use Rattle.demands.proofs.Two.{records-read}

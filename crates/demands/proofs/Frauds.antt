@@ -1,16 +1,12 @@
 -- The frauds, each shut out.
-use mathlib.Core.Path.{_≡_, refl, sym, ap, _∙_, subst}
+use mathlib.Core.Path.{_≡_, sym, ap, _∙_}
 use mathlib.Core.Bool.{true}
-use mathlib.Core.Option.{none, Option·none-ne-some}
-use mathlib.Core.List.{List, [], _∷_}
-use Prim.Native.Nat.{ℕ, _+_}
+use mathlib.Core.List.{List, []}
+use Prim.Native.Nat.{_+_}
 use native.Mathlib.Omega.{arith}
-use lib.ListN.{take, getD}
-use Rattle.format.specs.declared.Record.{Record}
-use Rattle.format.specs.declared.ReadAnswer.the-variants.{Records, NotRead}
+use lib.ListN.{getD}
+use Rattle.format.specs.declared.ReadAnswer.the-variants.{NotRead}
 use Rattle.format.specs.Answers.{refusal}
-use Rattle.format.specs.Tree.{recordsOf}
-use Rattle.format.specs.Writer.{tabled}
 use Rattle.format.specs.Meaning.{means}
 use Rattle.format.specs.Calls.{row}
 use Rattle.format.specs.Bench.{Outcome, outcome, cases}

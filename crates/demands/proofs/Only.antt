@@ -1,5 +1,5 @@
 -- Only one answer: each claim gives an equation for the answer and one for each lent thing, and two things that equal a third are equal.
-use mathlib.Core.Path.{_≡_, sym, _∙_}
+use mathlib.Core.Path.{sym, _∙_}
 use Rattle.demands.specs.Only.{OneAnswer, OneRead, OneReadRecords, OneWrite, OneNormalise, OneSame, OneOctetsPut, OneExpand, OneValuePut, OneShowPut}
 
 pub one-answer : OneAnswer

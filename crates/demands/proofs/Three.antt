@@ -11,7 +11,6 @@ use lib.Seq.{sets}
 use Rattle.octets.specs.Numbers.{Octets}
 use Rattle.octets.proofs.Numbers.{octets-take}
 use Rattle.octets.proofs.Lists.{part-of-sets, drop-sets}
-use Rattle.format.specs.declared.WriteAnswer.{WriteAnswer}
 use Rattle.format.specs.declared.WriteAnswer.the-variants.{Octets as Written}
 use Rattle.format.specs.declared.SameAnswer.{SameAnswer}
 use Rattle.format.specs.declared.SameAnswer.the-variants.{Same, Different}
@@ -23,8 +22,7 @@ use Rattle.format.specs.Calls.{Lists, Lent, lentBy, handed, sameOctets, sameAns
 use Rattle.format.proofs.Normal.{normal-means, same-normal}
 use Rattle.format.proofs.Calls.{same-exactly as same-meaning}
 use Rattle.grammar.proofs.Agree.{complete}
-use Rattle.demands.specs.One.{Suffices}
-use Rattle.demands.specs.Three.{SameNormalForms, NormalForm, NormalAccepted, NormalAgain, NormalAgainGiven, BothSuffice, Comparison, SameExactly}
+use Rattle.demands.specs.Three.{SameNormalForms, NormalAccepted, NormalAgain, NormalAgainGiven, BothSuffice, Comparison, SameExactly}
 use Rattle.demands.proofs.Laws.{never, suffices-fits, has-meaning, accepted-means}
 use Rattle.demands.proofs.One.{Compared, compare, both-compared, normalise-in-order}
 use Rattle.demands.proofs.One.Compared.{badFirst, badSecond, lackingFirst, lackingSecond, bothGood}

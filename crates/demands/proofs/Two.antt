@@ -1,33 +1,29 @@
 -- Demand 2: from the claims, with the grammar's agreement with the judgement.
 use mathlib.Core.Path.{_≡_, refl, sym, ap, _∙_, subst}
-use mathlib.Core.Logic.{_↔_}
 use mathlib.Core.List.{List, [], _++_}
 use Prim.Native.Nat.{ℕ, _≤_, min}
 use native.Mathlib.Nat.{min-le-right, le-min}
 use native.Mathlib.Omega.{arith}
 use lib.ListN.{length, take, drop}
 use borrow.Author.Tests.{le-leb}
-use Rattle.octets.specs.Numbers.{Octets}
 use Rattle.octets.proofs.Numbers.{octets-take}
-use Rattle.format.specs.declared.Record.{Record}
 use Rattle.format.specs.declared.Refusal.{Refusal}
 use Rattle.format.specs.declared.Counts.{Counts}
-use Rattle.format.specs.declared.ReadAnswer.{ReadAnswer}
 use Rattle.format.specs.declared.ReadAnswer.the-variants.{Records, NotRead}
 use Rattle.format.specs.declared.WriteAnswer.the-variants.{Octets as Written}
 use Rattle.format.specs.Tree.{Items, count, recordsOf}
 use Rattle.format.specs.Judge.{Judged, judge}
 use Rattle.format.specs.Judge.Judged.{refused, accepted}
 use Rattle.format.specs.Meaning.{means, encode}
-use Rattle.format.specs.Calls.{Lists, row, places, lay, judgeAnswer, readRecords, ReadRecordsClaim, WriteClaim}
+use Rattle.format.specs.Calls.{Lists, row, places, lay, judgeAnswer, readRecords, WriteClaim}
 use Rattle.format.proofs.Lays.{row-lay-behind, tabled-laid}
 use Rattle.format.proofs.Spans.{located, records-count}
 use Rattle.format.proofs.Regrown.{shaped, regrows-all}
 use Rattle.grammar.specs.Grammar.{Accepts}
 use Rattle.grammar.proofs.Agree.{sound, complete, one-tree as agree-one-tree}
 use Rattle.writer.proofs.Theorems.{delivered}
-use Rattle.demands.specs.One.{ReadOrder, GivenTree}
-use Rattle.demands.specs.Two.{AcceptedExactly, ReadExactly, JudgedExactly, OneTree, HandedOut, TreeHandedOut, SliceHandedOut, ReadsBack, WrittenReadsBack}
+use Rattle.demands.specs.One.{ReadOrder}
+use Rattle.demands.specs.Two.{AcceptedExactly, ReadExactly, JudgedExactly, OneTree, HandedOut, TreeHandedOut, SliceHandedOut, WrittenReadsBack}
 use Rattle.demands.proofs.Laws.{never, of-object, tree-given, has-meaning}
 use Rattle.demands.proofs.One.{read-in-order, read-records-in-order, write-in-order}
 
