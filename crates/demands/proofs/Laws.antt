@@ -21,6 +21,7 @@ use Rattle.format.specs.Loaded.{storeOf}
 use Rattle.format.specs.Calls.{Lists, row, places, Lent, roomy, storedWithin, fitsLent, treeGiven}
 use Rattle.format.proofs.Refusals.{refusal-inside}
 use Rattle.format.proofs.Rebuilt.{rebuilt-whole, whole-rebuilt}
+use Rattle.demands.proofs.RuleOne.{one-only}
 use Rattle.demands.specs.One.{OfObject, GivenTree, Suffices}
 
 pub never : {A : Type 0} → _≡_ {A = ℕ} 0 1 → A
@@ -35,10 +36,10 @@ pub of-object : (object : List ℕ) (r : Refusal) → judge object ≡ refused r
 of-object [] r h =
     let e : r ≡ refusal 1 0 = (let q = empty-refused in cc) in
     let number : r .number ≡ 1 = ap (λ x. x .number) e in
-    record { least = omega arith; most = omega arith; inside = λ l. absurd (omega arith); empty = λ l. ap (λ x. x .place) e }
+    record { least = omega arith; most = omega arith; inside = λ l. absurd (omega arith); empty = λ l. ap (λ x. x .place) e; one = λ n. ap (λ x. x .place) e }
 of-object (b ∷ bs) r h =
     let i = refusal-inside (b ∷ bs) r (omega arith) h in
-    record { least = i .least; most = i .most; inside = λ l. i .place; empty = λ l. absurd (omega arith) }
+    record { least = i .least; most = i .most; inside = λ l. i .place; empty = λ l. absurd (omega arith); one = λ n. one-only (b ∷ bs) r h n .0 }
 
 -- memory that suffices is what `fitsLent` tests
 module _ (lent : Lent) (t : Items) where

@@ -1,3 +1,4 @@
+pub mod RuleOne
 pub mod Laws
 pub mod One
 pub mod Two

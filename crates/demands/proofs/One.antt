@@ -1,7 +1,7 @@
 -- Demand 1: from each call's claim alone.
 use mathlib.Core.Path.{_≡_, refl, sym, ap, ap₂, _∙_, subst}
 use mathlib.Core.Bool.{Bool, true, false, cond, _&&_, false≢true}
-use mathlib.Core.Logic.{inl, inr}
+use mathlib.Core.Logic.{_⊎_, inl, inr}
 use mathlib.Core.Option.{Option, none, some, Option·some-injective, Option·none-ne-some}
 use mathlib.Core.List.{List, [], _∷_, _++_}
 use Prim.Native.Nat.{ℕ, _+_, _≤_, _<_, min}
@@ -38,13 +38,14 @@ use Rattle.format.specs.Judge.Judged.{refused, accepted}
 use Rattle.format.specs.Meaning.{means, encode, normalOf}
 use Rattle.format.specs.Calls.{Lists, places, lay, judgeAnswer, readAnswer, readRecords, roomy, treeGiven, writeAnswer, writeOctets, Lent, lentBy, fitsLent, misfit, normalAnswer, handed, refusalOr, secondRefusalOr, sameOctets, sameAnswer, bothFit, ofFirst, ofSecond}
 use Rattle.format.proofs.Lays.{lay-none}
-use Rattle.demands.specs.One.{OfObject, OfCall, Refuses, Ends, SameEnds, JudgeEnds, ReadEnds, ReadRecordsEnds, WriteEnds, NormaliseEnds, SameCallEnds, OneBeforeAll, ReadOrder, ReadInOrder, ReadRecordsInOrder, GivenTree, WriteOrder, WriteInOrder, Suffices, Lacks, NormaliseOrder, NormaliseInOrder, SameOrder, SameInOrder, PutEnds, OctetsPutEnds, ExpandEnds, ValuePutEnds, ShowPutEnds}
+use Rattle.demands.specs.One.{OfObject, OfCall, Refuses, Ends, SameEnds, JudgeEnds, ReadEnds, ReadRecordsEnds, WriteEnds, NormaliseEnds, SameCallEnds, OneExactly, ReadOrder, ReadInOrder, ReadRecordsInOrder, GivenTree, WriteOrder, WriteInOrder, Suffices, Lacks, NormaliseOrder, NormaliseInOrder, SameOrder, SameInOrder, PutEnds, OctetsPutEnds, ExpandEnds, ValuePutEnds, ShowPutEnds}
 use Rattle.demands.specs.One.OfCall.{ofCall}
 use Rattle.demands.specs.One.Refuses.{forObject, forCall}
 use Rattle.demands.specs.One.Ends.{answered, refusedAt}
 use Rattle.demands.specs.One.SameEnds.{answered as compared, firstAt, secondAt}
 use Rattle.demands.specs.One.Lacks.{fourteen, fifteen}
 use Rattle.demands.specs.One.PutEnds.{put, lacksRoom, notValid}
+use Rattle.demands.proofs.RuleOne.{one-only}
 use Rattle.demands.proofs.Laws.{never, of-object, suffices-fits, fits-suffices, tree-given, given-tree}
 
 -- ---- how each call ends
@@ -231,10 +232,13 @@ same-ends a b lists lists′ store store′ roomA roomA′ roomB roomB′ answer
     go (accepted t) (accepted u) h g (bothGood e s v) = rw (h, g, e) (told (sameOctets (normalOf t) (normalOf u)))
 
 -- ---- the order of the refusals
-pub one-before-all : OneBeforeAll
+pub one-exactly : OneExactly
 unfolding judge rule unless
-one-before-all object (inl e) = rw (lt-leb 1 (length object) (omega arith))
-one-before-all object (inr l) = rw (lt-leb (length object) 32_768 l, and-false (leb 1 (length object)))
+one-exactly object place = ((λ h. one-only object (refusal 1 place) h refl), (λ f. broken (f .1) ∙ ap (λ p. refused (refusal 1 p)) (sym (f .0))))
+  where
+    broken : (length object ≡ 0) ⊎ (32_768 < length object) → judge object ≡ refused (refusal 1 0)
+    broken (inl e) = rw (lt-leb 1 (length object) (omega arith))
+    broken (inr l) = rw (lt-leb (length object) 32_768 l, and-false (leb 1 (length object)))
 
 module _ (j : Judged) (n : ℕ) (answer : ReadAnswer) where
   read-order : ((r : Refusal) → j ≡ refused r → r .number ≤ 13) → answer ≡ readAnswer n j → ReadOrder j n answer

@@ -42,12 +42,13 @@ use Rattle.format.proofs.Spans.{Located}
 
 -- ---- an answer, or one numbered refusal and a place; and a refusal leaves all lent memory untouched
 
--- a refusal for what stands in the object: a number from 1 to 13, and the offset of one of its octets; 0 where the object is empty
+-- a refusal for what stands in the object: a number from 1 to 13, and the offset of one of its octets; 0 for 1, and where the object is empty
 pub record OfObject (object : List ℕ) (number place : ℕ) : Type 0 where
   pub least : 1 ≤ number
   pub most : number ≤ 13
   pub inside : 0 < length object → place < length object
   pub empty : length object ≡ 0 → place ≡ 0
+  pub one : number ≡ 1 → place ≡ 0
 
 -- a refusal for what is lent or given: one of the numbers that the call has for that, at place 0
 pub data OfCall (numbers : List ℕ) : ℕ → ℕ → Type 0 where
@@ -107,9 +108,9 @@ SameCallEnds =
 -- ---- by the order in document 01. The order within an object is that of the definition `judge` (format/specs/Judge); these say how its refusals, 14, 15 and 16
 -- stand to one another
 
--- an object that is empty or above 32,768 octets is refused with 1, at 0, whatever else it is
-abbrev pub OneBeforeAll : Type 0
-OneBeforeAll = (object : List ℕ) → (length object ≡ 0) ⊎ (32_768 < length object) → judge object ≡ refused (refusal 1 0)
+-- 1 exactly when the object is empty or above 32,768 octets, whatever else it is; its place is 0
+abbrev pub OneExactly : Type 0
+OneExactly = (object : List ℕ) (place : ℕ) → (judge object ≡ refused (refusal 1 place)) ↔ ((place ≡ 0) × ((length object ≡ 0) ⊎ (32_768 < length object)))
 
 -- read: 1 to 13 exactly when the object is refused so; 14 exactly when it is accepted and has more records than there are places; else its records
 pub record ReadOrder (judged : Judged) (places : ℕ) (answer : ReadAnswer) : Type 0 where
