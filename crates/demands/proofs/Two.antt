@@ -14,17 +14,17 @@ use Rattle.format.specs.declared.WriteAnswer.the-variants.{Octets as Written}
 use Rattle.format.specs.Tree.{Items, count, recordsOf}
 use Rattle.format.specs.Judge.{Judged, judge}
 use Rattle.format.specs.Judge.Judged.{refused, accepted}
-use Rattle.format.specs.Meaning.{means, encode}
+use Rattle.format.specs.Meaning.{means, tableOf, encode}
 use Rattle.format.specs.Calls.{Lists, row, places, lay, judgeAnswer, readRecords, WriteClaim}
 use Rattle.format.proofs.Lays.{row-lay-behind, tabled-laid}
 use Rattle.format.proofs.Spans.{located, records-count}
-use Rattle.format.proofs.Regrown.{shaped, regrows-all}
+use Rattle.format.proofs.Regrown.{shaped, regrows-all, regrown-means}
 use Rattle.grammar.specs.Grammar.{Accepts}
 use Rattle.grammar.proofs.Agree.{sound, complete, one-tree as agree-one-tree}
 use Rattle.writer.proofs.Theorems.{delivered}
 use Rattle.demands.specs.One.{ReadOrder}
 use Rattle.demands.specs.Two.{AcceptedExactly, ReadExactly, JudgedExactly, OneTree, HandedOut, TreeHandedOut, SliceHandedOut, WrittenReadsBack}
-use Rattle.demands.proofs.Laws.{never, of-object, tree-given, has-meaning}
+use Rattle.demands.proofs.Laws.{never, of-object, tree-given, located-lies, has-meaning}
 use Rattle.demands.proofs.One.{read-in-order, read-records-in-order, write-in-order}
 
 pub accepted-exactly : AcceptedExactly
@@ -75,8 +75,8 @@ handed-out object t h before after n many room laid =
       many = many;
       stand = stand;
       behind = λ i l. ap (λ x. row x i) laid ∙ row-lay-behind 0 (recordsOf t) before i (omega arith);
-      located = located object t h;
-      regrown = regrows-all (row after) n object t (shaped object t h) (located object t h) (sym stand) many;
+      lies = located-lies object t (located object t h);
+      regrown = ap (λ x. means (tableOf t) (x .0)) (regrows-all (row after) n object t (shaped object t h) (located object t h) (sym stand) many) ∙ regrown-means t;
     }
 
 pub tree-handed-out : TreeHandedOut

@@ -7,7 +7,7 @@ use mathlib.Core.Bool.{Bool, true, false}
 use mathlib.Core.Logic.{_↔_, _⊎_}
 use mathlib.Core.List.{List, [], _∷_}
 use Prim.Native.Nat.{ℕ, _+_, _≤_, _<_, min}
-use lib.ListN.{length}
+use lib.ListN.{length, take, drop}
 use lib.Seq.{sets}
 use Rattle.octets.specs.Numbers.{among}
 use Rattle.octets.specs.declared.Put.{Put as OctetsPut}
@@ -32,13 +32,13 @@ use Rattle.format.specs.declared.SameAnswer.{SameAnswer}
 use Rattle.format.specs.declared.SameAnswer.the-variants.{FirstRefused, SecondRefused}
 use Rattle.format.specs.Answers.{refusal, readOutcome, writeOutcome, sameOutcome}
 use Rattle.format.specs.Tree.{Items, count, recordsOf}
+use Rattle.format.specs.Tree.Items.{end, item}
 use Rattle.format.specs.Judge.{Judged, judge}
 use Rattle.format.specs.Judge.Judged.{refused, accepted}
 use Rattle.format.specs.Meaning.{means, encode, normalOf}
 use Rattle.format.specs.Writer.{atTop, ruled, tabled}
 use Rattle.format.specs.Loaded.{storeOf}
 use Rattle.format.specs.Calls.{Lists, row, places, Lent, lentBy, judgeAnswer, ReadClaim, ReadRecordsClaim, WriteClaim, NormaliseClaim, SameClaim}
-use Rattle.format.proofs.Spans.{Located}
 
 -- ---- an answer, or one numbered refusal and a place; and a refusal leaves all lent memory untouched
 
@@ -127,6 +127,12 @@ ReadRecordsInOrder =
     (object : List ℕ) (before after : Lists) (slice slice′ : List Record) (answer : ReadAnswer) → ReadRecordsClaim object before after slice slice′ answer
     → ReadOrder (judge object) (min (length slice) (places before)) answer
 
+-- each item's body is the part of the octets that begins at the item's offset
+abbrev pub LiesIn : List ℕ → Items → Type 0
+LiesIn octets end = Unit {0}
+LiesIn octets (item tag at body inside after) =
+    (at + length body ≤ length octets) × (take (length body) (drop at octets) ≡ body) × LiesIn octets inside × LiesIn octets after
+
 -- the n records of the lists, over lent octets, are a well-formed tree: there is one, and no more of them than places; they are the records of the tree, so that
 -- kinds, reading order, parents and depths agree; each body lies in the lent octets; and each item keeps rules 4 and 6 to 13, as a known item other than 0x04
 -- without token octets, of which only elements that hold items hold any
@@ -134,7 +140,7 @@ pub record GivenTree (n : ℕ) (lists : Lists) (lent : List ℕ) (t : Items) : T
   pub some : 0 < n
   pub placed : n ≤ places lists
   pub records : tabled (row lists) n 0 ≡ recordsOf t
-  pub located : Located lent t
+  pub lies : LiesIn lent t
   pub rules : ruled atTop t ≡ true
 
 -- write: 16 exactly when the records aren't a well-formed tree; 15 exactly when they are and its normal form is above the room or above 32,768; else its octets

@@ -17,13 +17,11 @@ use Rattle.format.specs.declared.WriteAnswer.{WriteAnswer}
 use Rattle.format.specs.declared.WriteAnswer.the-variants.{Octets as Written}
 use Rattle.format.specs.Tree.{Items, count, recordsOf}
 use Rattle.format.specs.Judge.{judge}
-use Rattle.format.specs.Meaning.{means, meaningOf, encode}
+use Rattle.format.specs.Meaning.{means, tableOf, meaningOf, encode}
 use Rattle.format.specs.Writer.{tree, tabled}
 use Rattle.format.specs.Calls.{Lists, row, places, judgeAnswer, ReadClaim, ReadRecordsClaim, WriteClaim}
-use Rattle.format.proofs.Spans.{Located}
-use Rattle.format.proofs.Regrown.{untabled}
 use Rattle.grammar.specs.Grammar.{Accepts}
-use Rattle.demands.specs.One.{GivenTree}
+use Rattle.demands.specs.One.{LiesIn, GivenTree}
 
 -- ---- an object is accepted exactly when it obeys the standard
 
@@ -52,14 +50,14 @@ abbrev pub OneTree : Type 0
 OneTree = (object : List ℕ) (t u : Items) → Accepts object t → Accepts object u → t ≡ u
 
 -- n records of a tree stand in lists that held something before: as many as the tree has known items but the token table; the first n of the lists are these, in
--- reading order; behind them the lists are as before; each body is that very part of the object; and the records alone, over the object, say the tree again,
--- but for its token table
+-- reading order; behind them the lists are as before; each body is that very part of the object; and the tree that the records alone say, over the object, means
+-- what the object means (only the token table has no record)
 pub record HandedOut (object : List ℕ) (t : Items) (before after : Lists) (n : ℕ) : Type 0 where
   pub many : n ≡ count t
   pub stand : tabled (row after) n 0 ≡ recordsOf t
   pub behind : (i : ℕ) → n ≤ i → row after i ≡ row before i
-  pub located : Located object t
-  pub regrown : tree (suc n) (row after) n object 1 0 ≡ (untabled t, n)
+  pub lies : LiesIn object t
+  pub regrown : means (tableOf t) (tree (suc n) (row after) n object 1 0 .0) ≡ meaningOf t
 
 abbrev pub TreeHandedOut : Type 0
 TreeHandedOut =
