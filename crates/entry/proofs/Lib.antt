@@ -1,1 +1,3 @@
 pub mod Lending
+pub mod Walking
+pub mod Copying

@@ -1,7 +1,8 @@
 -- What copying records out of the lists into a slice asks and leaves.
-use mathlib.Core.List.{List, _++_}
+use mathlib.Core.List.{List}
 use Prim.Native.Nat.{ℕ, _≤_}
-use lib.ListN.{length, drop}
+use lib.ListN.{length}
+use lib.Seq.{sets}
 use Rattle.format.specs.declared.Record.{Record}
 use Rattle.format.specs.Writer.{tabled}
 use Rattle.format.specs.Calls.{Lists, places, row}
@@ -11,6 +12,6 @@ pub record Copyable (many : ℕ) (l : Lists) (slice : List Record) : Type 0 wher
   pub listed : many ≤ places l
   pub placed : many ≤ length slice
 
--- the first records of the lists, before what lay behind them in the slice
+-- the first records of the lists, laid over the slice
 abbrev pub copied : Lists → ℕ → List Record → List Record
-copied l many slice = tabled (row l) many 0 ++ drop many slice
+copied l many slice = sets slice 0 (tabled (row l) many 0)
