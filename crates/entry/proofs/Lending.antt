@@ -76,33 +76,33 @@ abbrev pub Names : List Slice → Type 0
 Names [] = Unit {0}
 Names (x ∷ xs) = GName × Names xs
 
-abbrev pub Lists : List Slice → Type 0
-Lists [] = Unit {0}
-Lists (x ∷ xs) = Elems x × Lists xs
+abbrev pub Contents : List Slice → Type 0
+Contents [] = Unit {0}
+Contents (x ∷ xs) = Elems x × Contents xs
 
 abbrev pub names : (xs : List Slice) → Names xs
 names [] = tt
 names (x ∷ xs) = (x .ref .name, names xs)
 
-abbrev pub lists : (xs : List Slice) → Lists xs
-lists [] = tt
-lists (x ∷ xs) = (x .ref .now, lists xs)
+abbrev pub contents : (xs : List Slice) → Contents xs
+contents [] = tt
+contents (x ∷ xs) = (x .ref .now, contents xs)
 
-abbrev pub Each : ((x : Slice) → GName → Elems x → Fml) → (xs : List Slice) → Names xs → Lists xs → Fml → Fml
+abbrev pub Each : ((x : Slice) → GName → Elems x → Fml) → (xs : List Slice) → Names xs → Contents xs → Fml → Fml
 Each F [] d z end = end
 Each F (x ∷ xs) d z end = fsep (F x (d .0) (z .0)) (Each F xs (d .1) (z .1) end)
 
 -- the same of two lists for each
-abbrev pub Pairs : ((x : Slice) → GName → Elems x → Elems x → Fml) → (xs : List Slice) → Names xs → (y z : Lists xs) → Fml
+abbrev pub Pairs : ((x : Slice) → GName → Elems x → Elems x → Fml) → (xs : List Slice) → Names xs → (y z : Contents xs) → Fml
 Pairs F [] d y z = ftrue
 Pairs F (x ∷ xs) d y z = fsep (F x (d .0) (y .0) (z .0)) (Pairs F xs (d .1) (y .1) (z .1))
 
 -- what is owned of them at some lists, and their tokens, before an end
-abbrev pub Own : (xs : List Slice) → Lists xs → Fml → Fml
+abbrev pub Own : (xs : List Slice) → Contents xs → Fml → Fml
 Own xs z end = Each Mine xs (names xs) z end
 
 abbrev pub Tokens : List Slice → Fml → Fml
-Tokens xs end = Each (λ x δ ys. Token x) xs (names xs) (lists xs) end
+Tokens xs end = Each (λ x δ ys. Token x) xs (names xs) (contents xs) end
 
 module _ {M : Type 1} (𝓤 : URA M) (H : Heap 𝓤) (A : Atoms 𝓤) (W : Given 𝓤 H A) where
   abbrev ⟦_⟧ : Fml → SProp 𝓤
@@ -175,49 +175,49 @@ module _ {M : Type 1} (𝓤 : URA M) (H : Heap 𝓤) (A : Atoms 𝓤) (W : Given
   -- ---- a row of slices. Of a recursion each step is a lemma of its own
   module _ (F : (x : Slice) → GName → Elems x → Fml) where
     -- the end taken off, and put on
-    off-step : (x : Slice) (xs : List Slice) (d : Names (x ∷ xs)) (z : Lists (x ∷ xs)) (end : Fml) → ent 𝓤 ⟦ Each F xs (d .1) (z .1) end ⟧ (⟦ Each F xs (d .1) (z .1) ftrue ⟧ ∗ ⟦ end ⟧)
+    off-step : (x : Slice) (xs : List Slice) (d : Names (x ∷ xs)) (z : Contents (x ∷ xs)) (end : Fml) → ent 𝓤 ⟦ Each F xs (d .1) (z .1) end ⟧ (⟦ Each F xs (d .1) (z .1) ftrue ⟧ ∗ ⟦ end ⟧)
         → ent 𝓤 ⟦ Each F (x ∷ xs) d z end ⟧ (⟦ Each F (x ∷ xs) d z ftrue ⟧ ∗ ⟦ end ⟧)
     off-step x xs d z end more =
         qed W (‵ (Each F (x ∷ xs) d z end) ∷ []) ∵ fsplit ! $ move ! (1 ∷ []) $ use1 W (‵ (Each F xs (d .1) (z .1) ftrue) ⊛ ‵ end) more $ split ! $ move ! (2 ∷ 0 ∷ []) $ fjoin ! $ done !
 
-    pub off : (xs : List Slice) (d : Names xs) (z : Lists xs) (end : Fml) → ent 𝓤 ⟦ Each F xs d z end ⟧ (⟦ Each F xs d z ftrue ⟧ ∗ ⟦ end ⟧)
+    pub off : (xs : List Slice) (d : Names xs) (z : Contents xs) (end : Fml) → ent 𝓤 ⟦ Each F xs d z end ⟧ (⟦ Each F xs d z ftrue ⟧ ∗ ⟦ end ⟧)
     off [] d z end = qed W (‵ end ∷ []) ∵ nothing ! $ done !
     off (x ∷ xs) d z end = off-step x xs d z end (off xs (d .1) (z .1) end)
 
-    on-step : (x : Slice) (xs : List Slice) (d : Names (x ∷ xs)) (z : Lists (x ∷ xs)) (end : Fml) → ent 𝓤 (⟦ Each F xs (d .1) (z .1) ftrue ⟧ ∗ ⟦ end ⟧) ⟦ Each F xs (d .1) (z .1) end ⟧
+    on-step : (x : Slice) (xs : List Slice) (d : Names (x ∷ xs)) (z : Contents (x ∷ xs)) (end : Fml) → ent 𝓤 (⟦ Each F xs (d .1) (z .1) ftrue ⟧ ∗ ⟦ end ⟧) ⟦ Each F xs (d .1) (z .1) end ⟧
         → ent 𝓤 (⟦ Each F (x ∷ xs) d z ftrue ⟧ ∗ ⟦ end ⟧) ⟦ Each F (x ∷ xs) d z end ⟧
     on-step x xs d z end more =
         qed W (‵ (Each F (x ∷ xs) d z ftrue) ∷ ‵ end ∷ []) ∵ fsplit ! $ move ! (1 ∷ 2 ∷ []) $ use2 W (‵ (Each F xs (d .1) (z .1) end)) more $ move ! (1 ∷ 0 ∷ []) $ fjoin ! $ done !
 
-    pub on : (xs : List Slice) (d : Names xs) (z : Lists xs) (end : Fml) → ent 𝓤 (⟦ Each F xs d z ftrue ⟧ ∗ ⟦ end ⟧) ⟦ Each F xs d z end ⟧
+    pub on : (xs : List Slice) (d : Names xs) (z : Contents xs) (end : Fml) → ent 𝓤 (⟦ Each F xs d z ftrue ⟧ ∗ ⟦ end ⟧) ⟦ Each F xs d z end ⟧
     on [] d z end = qed W (‵ ftrue ∷ ‵ end ∷ []) ∵ drop ! $ done !
     on (x ∷ xs) d z end = on-step x xs d z end (on xs (d .1) (z .1) end)
 
     -- had twice where each is
-    twice-step : ((x : Slice) (δ : GName) (ys : Elems x) → ent 𝓤 ⟦ F x δ ys ⟧ (⟦ F x δ ys ⟧ ∗ ⟦ F x δ ys ⟧)) → (x : Slice) (xs : List Slice) (d : Names (x ∷ xs)) (z : Lists (x ∷ xs))
+    twice-step : ((x : Slice) (δ : GName) (ys : Elems x) → ent 𝓤 ⟦ F x δ ys ⟧ (⟦ F x δ ys ⟧ ∗ ⟦ F x δ ys ⟧)) → (x : Slice) (xs : List Slice) (d : Names (x ∷ xs)) (z : Contents (x ∷ xs))
         → ent 𝓤 ⟦ Each F xs (d .1) (z .1) ftrue ⟧ (⟦ Each F xs (d .1) (z .1) ftrue ⟧ ∗ ⟦ Each F xs (d .1) (z .1) ftrue ⟧)
         → ent 𝓤 ⟦ Each F (x ∷ xs) d z ftrue ⟧ (⟦ Each F (x ∷ xs) d z ftrue ⟧ ∗ ⟦ Each F (x ∷ xs) d z ftrue ⟧)
     twice-step one x xs d z more =
         qed W (‵ (Each F (x ∷ xs) d z ftrue) ∷ []) ∵ fsplit ! $ use1 W (‵ (F x (d .0) (z .0)) ⊛ ‵ (F x (d .0) (z .0))) (one x (d .0) (z .0)) $ split ! $ move ! (2 ∷ []) $
         use1 W (‵ (Each F xs (d .1) (z .1) ftrue) ⊛ ‵ (Each F xs (d .1) (z .1) ftrue)) more $ split ! $ move ! (2 ∷ 0 ∷ []) $ fjoin ! $ frame ! $ move ! (1 ∷ 0 ∷ []) $ fjoin ! $ done !
 
-    twice-all : ((x : Slice) (δ : GName) (ys : Elems x) → ent 𝓤 ⟦ F x δ ys ⟧ (⟦ F x δ ys ⟧ ∗ ⟦ F x δ ys ⟧)) → (xs : List Slice) (d : Names xs) (z : Lists xs)
+    twice-all : ((x : Slice) (δ : GName) (ys : Elems x) → ent 𝓤 ⟦ F x δ ys ⟧ (⟦ F x δ ys ⟧ ∗ ⟦ F x δ ys ⟧)) → (xs : List Slice) (d : Names xs) (z : Contents xs)
         → ent 𝓤 ⟦ Each F xs d z ftrue ⟧ (⟦ Each F xs d z ftrue ⟧ ∗ ⟦ Each F xs d z ftrue ⟧)
     twice-all one [] d z = qed W (‵ ftrue ∷ []) ∵ nothing ! $ done !
     twice-all one (x ∷ xs) d z = twice-step one x xs d z (twice-all one xs (d .1) (z .1))
 
-  pub shared-twice : (κ : Lft) (xs : List Slice) (d : Names xs) (z : Lists xs) → ent 𝓤 ⟦ Each (Shared κ) xs d z ftrue ⟧ (⟦ Each (Shared κ) xs d z ftrue ⟧ ∗ ⟦ Each (Shared κ) xs d z ftrue ⟧)
+  pub shared-twice : (κ : Lft) (xs : List Slice) (d : Names xs) (z : Contents xs) → ent 𝓤 ⟦ Each (Shared κ) xs d z ftrue ⟧ (⟦ Each (Shared κ) xs d z ftrue ⟧ ∗ ⟦ Each (Shared κ) xs d z ftrue ⟧)
   shared-twice κ = twice-all (Shared κ) (λ x δ ys. shr-slice-copy 𝓤 H A W (named 0) κ (x .elem) .twice (at x δ ys) (slice-vals (x .ref)))
 
   -- all lent: F is what the callee has of each, G what is kept
   module _ (F G : (x : Slice) → GName → Elems x → Fml) where
-    abbrev Goes : (xs : List Slice) → Lists xs → SProp 𝓤
+    abbrev Goes : (xs : List Slice) → Contents xs → SProp 𝓤
     Goes xs z = ex 𝓤 (λ (d : Names xs). ⟦ Each F xs d z ftrue ⟧ ∗ ⟦ Each G xs d z ftrue ⟧)
 
     abbrev One : Type 2
     One = (x : Slice) (ys : Elems x) → ent 𝓤 (⟦ Mine x (x .ref .name) ys ⟧ ∗ ⟦ Token x ⟧) (H .⇛ (ex 𝓤 (λ (δ : GName). ⟦ F x δ ys ⟧ ∗ ⟦ G x δ ys ⟧)))
 
-    goes-step : One → (x : Slice) (xs : List Slice) (z : Lists (x ∷ xs)) → ent 𝓤 (⟦ Own xs (z .1) ftrue ⟧ ∗ ⟦ Tokens xs ftrue ⟧) (H .⇛ (Goes xs (z .1)))
+    goes-step : One → (x : Slice) (xs : List Slice) (z : Contents (x ∷ xs)) → ent 𝓤 (⟦ Own xs (z .1) ftrue ⟧ ∗ ⟦ Tokens xs ftrue ⟧) (H .⇛ (Goes xs (z .1)))
         → ent 𝓤 (⟦ Own (x ∷ xs) z ftrue ⟧ ∗ ⟦ Tokens (x ∷ xs) ftrue ⟧) (H .⇛ (Goes (x ∷ xs) z))
     goes-step one x xs z more =
         qed W (‵ (Own (x ∷ xs) z ftrue) ∷ ‵ (Tokens (x ∷ xs) ftrue) ∷ []) ∵ updating ! $ fsplit ! $ move ! (2 ∷ []) $ fsplit ! $ move ! (2 ∷ 0 ∷ []) $
@@ -227,14 +227,14 @@ module _ {M : Type 1} (𝓤 : URA M) (H : Heap 𝓤) (A : Atoms 𝓤) (W : Given
         move ! (2 ∷ 0 ∷ []) $ fjoin ! $ move ! (2 ∷ 1 ∷ []) $ fjoin ! $ move ! (1 ∷ 0 ∷ []) $
         at-once ! $ show ! (λ (d : Names (x ∷ xs)). ⟦ Each F (x ∷ xs) d z ftrue ⟧ ∗ ⟦ Each G (x ∷ xs) d z ftrue ⟧) (δ, d) $ done !))
 
-    all-go : One → (xs : List Slice) (z : Lists xs) → ent 𝓤 (⟦ Own xs z ftrue ⟧ ∗ ⟦ Tokens xs ftrue ⟧) (H .⇛ (Goes xs z))
+    all-go : One → (xs : List Slice) (z : Contents xs) → ent 𝓤 (⟦ Own xs z ftrue ⟧ ∗ ⟦ Tokens xs ftrue ⟧) (H .⇛ (Goes xs z))
     all-go one [] z = qed W (‵ ftrue ∷ ‵ ftrue ∷ []) ∵ updating ! $ at-once ! $ show ! (λ (d : Unit {0}). ⟦ ftrue ⟧ ∗ ⟦ ftrue ⟧) tt $ done !
     all-go one (x ∷ xs) z = goes-step one x xs z (all-go one xs (z .1))
 
-  pub lends-all : (κ : Lft) (xs : List Slice) (z : Lists xs) → ent 𝓤 (⟦ Own xs z ftrue ⟧ ∗ ⟦ Tokens xs ftrue ⟧) (H .⇛ (ex 𝓤 (λ (d : Names xs). ⟦ Each (Lent κ) xs d z ftrue ⟧ ∗ ⟦ Each (Kept κ) xs d z ftrue ⟧)))
+  pub lends-all : (κ : Lft) (xs : List Slice) (z : Contents xs) → ent 𝓤 (⟦ Own xs z ftrue ⟧ ∗ ⟦ Tokens xs ftrue ⟧) (H .⇛ (ex 𝓤 (λ (d : Names xs). ⟦ Each (Lent κ) xs d z ftrue ⟧ ∗ ⟦ Each (Kept κ) xs d z ftrue ⟧)))
   lends-all κ = all-go (Lent κ) (Kept κ) (lends κ)
 
-  pub shares-all : (κ : Lft) (xs : List Slice) (z : Lists xs) → ent 𝓤 (⟦ Own xs z ftrue ⟧ ∗ ⟦ Tokens xs ftrue ⟧) (H .⇛ (ex 𝓤 (λ (d : Names xs). ⟦ Each (Shared κ) xs d z ftrue ⟧ ∗ ⟦ Each (KeptShared κ) xs d z ftrue ⟧)))
+  pub shares-all : (κ : Lft) (xs : List Slice) (z : Contents xs) → ent 𝓤 (⟦ Own xs z ftrue ⟧ ∗ ⟦ Tokens xs ftrue ⟧) (H .⇛ (ex 𝓤 (λ (d : Names xs). ⟦ Each (Shared κ) xs d z ftrue ⟧ ∗ ⟦ Each (KeptShared κ) xs d z ftrue ⟧)))
   shares-all κ = all-go (Shared κ) (KeptShared κ) (shares-out κ)
 
   -- all back: G is what was kept of each, with what the callee says of it
@@ -242,7 +242,7 @@ module _ {M : Type 1} (𝓤 : URA M) (H : Heap 𝓤) (A : Atoms 𝓤) (W : Given
     abbrev Back : Type 2
     Back = (x : Slice) (δ : GName) (ys zs : Elems x) → ent 𝓤 (A .dead κ ∗ ⟦ G x δ ys zs ⟧) (H .⇛ (⟦ Mine x (x .ref .name) zs ⟧ ∗ ⟦ Token x ⟧))
 
-    back-step : Back → (x : Slice) (xs : List Slice) (d : Names (x ∷ xs)) (y z : Lists (x ∷ xs))
+    back-step : Back → (x : Slice) (xs : List Slice) (d : Names (x ∷ xs)) (y z : Contents (x ∷ xs))
         → ent 𝓤 (A .dead κ ∗ ⟦ Pairs G xs (d .1) (y .1) (z .1) ⟧) (H .⇛ (⟦ Own xs (z .1) ftrue ⟧ ∗ ⟦ Tokens xs ftrue ⟧))
         → ent 𝓤 (A .dead κ ∗ ⟦ Pairs G (x ∷ xs) d y z ⟧) (H .⇛ (⟦ Own (x ∷ xs) z ftrue ⟧ ∗ ⟦ Tokens (x ∷ xs) ftrue ⟧))
     back-step one x xs d y z more =
@@ -250,7 +250,7 @@ module _ {M : Type 1} (𝓤 : URA M) (H : Heap 𝓤) (A : Atoms 𝓤) (W : Given
         use2 W (later (‵ (Mine x (x .ref .name) (z .0)) ⊛ ‵ (Token x))) (one x (d .0) (y .0) (z .0)) $ await ! tt $ split ! $ move ! (3 ∷ 2 ∷ []) $
         use2 W (later (‵ (Own xs (z .1) ftrue) ⊛ ‵ (Tokens xs ftrue))) more $ await ! tt $ split ! $ move ! (2 ∷ 0 ∷ []) $ fjoin ! $ move ! (2 ∷ 1 ∷ []) $ fjoin ! $ move ! (1 ∷ 0 ∷ []) $ at-once ! $ done !
 
-    all-back : Back → (xs : List Slice) (d : Names xs) (y z : Lists xs) → ent 𝓤 (A .dead κ ∗ ⟦ Pairs G xs d y z ⟧) (H .⇛ (⟦ Own xs z ftrue ⟧ ∗ ⟦ Tokens xs ftrue ⟧))
+    all-back : Back → (xs : List Slice) (d : Names xs) (y z : Contents xs) → ent 𝓤 (A .dead κ ∗ ⟦ Pairs G xs d y z ⟧) (H .⇛ (⟦ Own xs z ftrue ⟧ ∗ ⟦ Tokens xs ftrue ⟧))
     all-back one [] d y z = qed W (‵ (fdead κ) ∷ ‵ ftrue ∷ []) ∵ updating ! $ drop ! $ nothing ! $ at-once ! $ done !
     all-back one (x ∷ xs) d y z = back-step one x xs d y z (all-back one xs (d .1) (y .1) (z .1))
 
@@ -258,19 +258,19 @@ module _ {M : Type 1} (𝓤 : URA M) (H : Heap 𝓤) (A : Atoms 𝓤) (W : Given
     abbrev Both : (x : Slice) → GName → Elems x → Elems x → Fml
     Both x δ ys zs = fsep (F x δ ys) (G x δ ys zs)
 
-    both-step : (x : Slice) (xs : List Slice) (d : Names (x ∷ xs)) (y z : Lists (x ∷ xs))
+    both-step : (x : Slice) (xs : List Slice) (d : Names (x ∷ xs)) (y z : Contents (x ∷ xs))
         → ent 𝓤 (⟦ Each F xs (d .1) (y .1) ftrue ⟧ ∗ ⟦ Pairs G xs (d .1) (y .1) (z .1) ⟧) ⟦ Pairs Both xs (d .1) (y .1) (z .1) ⟧
         → ent 𝓤 (⟦ Each F (x ∷ xs) d y ftrue ⟧ ∗ ⟦ Pairs G (x ∷ xs) d y z ⟧) ⟦ Pairs Both (x ∷ xs) d y z ⟧
     both-step x xs d y z more =
         qed W (‵ (Each F (x ∷ xs) d y ftrue) ∷ ‵ (Pairs G (x ∷ xs) d y z) ∷ []) ∵ fsplit ! $ move ! (2 ∷ []) $ fsplit ! $ move ! (2 ∷ 0 ∷ []) $ fjoin ! $ move ! (2 ∷ 1 ∷ []) $
         use2 W (‵ (Pairs Both xs (d .1) (y .1) (z .1))) more $ move ! (1 ∷ 0 ∷ []) $ fjoin ! $ done !
 
-    both : (xs : List Slice) (d : Names xs) (y z : Lists xs) → ent 𝓤 (⟦ Each F xs d y ftrue ⟧ ∗ ⟦ Pairs G xs d y z ⟧) ⟦ Pairs Both xs d y z ⟧
+    both : (xs : List Slice) (d : Names xs) (y z : Contents xs) → ent 𝓤 (⟦ Each F xs d y ftrue ⟧ ∗ ⟦ Pairs G xs d y z ⟧) ⟦ Pairs Both xs d y z ⟧
     both [] d y z = qed W (‵ ftrue ∷ ‵ ftrue ∷ []) ∵ drop ! $ done !
     both (x ∷ xs) d y z = both-step x xs d y z (both xs (d .1) (y .1) (z .1))
 
-  pub ends-all : (κ : Lft) (xs : List Slice) (d : Names xs) (y z : Lists xs) → ent 𝓤 (A .dead κ ∗ ⟦ Each (Kept κ) xs d y ftrue ⟧ ∗ ⟦ Pairs Left xs d y z ⟧) (H .⇛ (⟦ Own xs z ftrue ⟧ ∗ ⟦ Tokens xs ftrue ⟧))
+  pub ends-all : (κ : Lft) (xs : List Slice) (d : Names xs) (y z : Contents xs) → ent 𝓤 (A .dead κ ∗ ⟦ Each (Kept κ) xs d y ftrue ⟧ ∗ ⟦ Pairs Left xs d y z ⟧) (H .⇛ (⟦ Own xs z ftrue ⟧ ∗ ⟦ Tokens xs ftrue ⟧))
   ends-all κ xs d y z = via 𝓤 _ (monoR 𝓤 (A .dead κ) (both (Kept κ) Left xs d y z)) (all-back κ (Both (Kept κ) Left) (ends κ) xs d y z)
 
-  pub shared-ends-all : (κ : Lft) (xs : List Slice) (d : Names xs) (z : Lists xs) → ent 𝓤 (A .dead κ ∗ ⟦ Pairs (λ x δ ys zs. KeptShared κ x δ zs) xs d z z ⟧) (H .⇛ (⟦ Own xs z ftrue ⟧ ∗ ⟦ Tokens xs ftrue ⟧))
+  pub shared-ends-all : (κ : Lft) (xs : List Slice) (d : Names xs) (z : Contents xs) → ent 𝓤 (A .dead κ ∗ ⟦ Pairs (λ x δ ys zs. KeptShared κ x δ zs) xs d z z ⟧) (H .⇛ (⟦ Own xs z ftrue ⟧ ∗ ⟦ Tokens xs ftrue ⟧))
   shared-ends-all κ xs d z = all-back κ (λ x δ ys zs. KeptShared κ x δ zs) (λ x δ ys zs. shared-ends κ x δ zs) xs d z z

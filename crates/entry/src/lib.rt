@@ -4,7 +4,6 @@ ghost use Rattle.format.specs.Answers.{readOutcome};
 ghost use Rattle.format.specs.Calls.{row, ReadRecordsClaim};
 ghost use Rattle.reader.specs.Lent.{lent, Within};
 ghost use Rattle.entry.specs.Copies.{Copyable, copied};
-
 use format::ReadAnswer;
 use format::Record;
 use reader::read_at_most;

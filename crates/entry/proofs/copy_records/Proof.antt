@@ -53,7 +53,7 @@ use Rattle.format.proofs.Record.Laws as T′
 use Rattle.reader.specs.Lent.{lent}
 use Rattle.reader.proofs.Laid.{within-places}
 use Rattle.entry.specs.Copies.{Copyable, copied}
-use Rattle.entry.proofs.Lending.{Slice, Shared, Each, names, lists, shared-twice}
+use Rattle.entry.proofs.Lending.{Slice, Shared, Each, names, contents, shared-twice}
 use Rattle.entry.proofs.Walking.{Blocks, Values, cells, lying, alloc-all, free-all, set-behind, pass-slice, arg, tests}
 use Rattle.entry.proofs.Copying.{copied-none, copied-next, copied-length}
 use Rattle.entry.proofs.record_at as record-at
@@ -128,7 +128,7 @@ module _ {M : Type 1} (𝓤 : URA M) (H : Heap 𝓤) (A : Atoms 𝓤) (W : Given
   six = of8 x₁ ∷ of8 x₂ ∷ of8 x₃ ∷ of16 x₄ ∷ of16 x₅ ∷ of16 x₆ ∷ []
 
   abbrev Six : Fml
-  Six = Each (Shared κ′) six (names six) (lists six) ftrue
+  Six = Each (Shared κ′) six (names six) (contents six) ftrue
 
   -- ---- record_at: what it is passed, what it asks, and what it says
   abbrev row-args : ℕ → ℕ × (RefT (List ℕ) × (RefT (List ℕ) × (RefT (List ℕ) × (RefT (List ℕ) × (RefT (List ℕ) × (RefT (List ℕ) × Unit {0}))))))
@@ -141,7 +141,7 @@ module _ {M : Type 1} (𝓤 : URA M) (H : Heap 𝓤) (A : Atoms 𝓤) (W : Given
   asked i h =
       let fits : i < 2 ^ 64 = omega arith in
       let below : i < places l = omega (arith, can .listed) in
-      qed W (‵ (flft κ′ q′) ∷ ‵ Six ∷ []) ∵ move ! (1 ∷ []) $ use1 W (‵ Six ⊛ ‵ Six) (shared-twice 𝓤 H A W κ′ six (names six) (lists six)) $ split ! $ frame ! $
+      qed W (‵ (flft κ′ q′) ∷ ‵ Six ∷ []) ∵ move ! (1 ∷ []) $ use1 W (‵ Six ⊛ ‵ Six) (shared-twice 𝓤 H A W κ′ six (names six) (contents six)) $ split ! $ frame ! $
       says ! (within-places i l below) $ nothing ! $ move ! (2 ∷ 0 ∷ []) $ join ! $ frame ! $ owned ! usize (Is usize) (uint-makes 𝓤 H A W w64) i _ (refl, fits) $ fjoin ! $ done !
 
   said : (i : ℕ) (r : Record) → ent 𝓤 (ensured 𝓤 H A record-at.ended (record-at.clauses 𝓤 H A mem run) (κ′, tt) (row-args i) tt r) (fact 𝓤 (r ≡ row l i))
@@ -264,8 +264,22 @@ module _ {M : Type 1} (𝓤 : URA M) (H : Heap 𝓤) (A : Atoms 𝓤) (W : Given
   copy-records-walks : Walks 𝓤 H A copy-records.ended stayed (WpFn 𝓤 H (𝓣 .C) (𝓣 .Λ) code.function) (copy-records.clauses 𝓤 H A mem run)
   copy-records-walks = walked 𝓤 H A copy-records.ended stayed (copy-records.clauses 𝓤 H A mem run) (WpFn 𝓤 H (𝓣 .C) (𝓣 .Λ) code.function)
       (λ κs. (uint-vals w64, (slice-vals, (slice-vals, (slice-vals, (slice-vals, (slice-vals, (slice-vals, (slice-vals, tt)))))))))
-      (λ κs. (uint-tells w64, (mut-slice-tells (named 0) (κs .0) R, (shr-slice-tells (named 1) (κs .1 .0) u8, (shr-slice-tells (named 1) (κs .1 .0) u8, (shr-slice-tells (named 1) (κs .1 .0) u8,
-      (shr-slice-tells (named 1) (κs .1 .0) u16, (shr-slice-tells (named 1) (κs .1 .0) u16, (shr-slice-tells (named 1) (κs .1 .0) u16, tt)))))))))
+      (λ κs. (
+        uint-tells w64,
+        (
+          mut-slice-tells (named 0) (κs .0) R,
+          (
+            shr-slice-tells (named 1) (κs .1 .0) u8,
+            (
+              shr-slice-tells (named 1) (κs .1 .0) u8,
+              (
+                shr-slice-tells (named 1) (κs .1 .0) u8,
+                (shr-slice-tells (named 1) (κs .1 .0) u16, (shr-slice-tells (named 1) (κs .1 .0) u16, (shr-slice-tells (named 1) (κs .1 .0) u16, tt))),
+              ),
+            ),
+          ),
+        ),
+      ))
       (λ κs qs bounds (many, (x, (x₁, (x₂, (x₃, (x₄, (x₅, (x₆, e)))))))) g (m, (f, (f₁, (f₂, (f₃, (f₄, (f₅, (f₆, e′)))))))). needs 𝓤 (Copyable many (lent x₁ x₂ x₃ x₄ x₅ x₆) (x .now)) _ (λ can.
       walk 𝓤 H A W mem run (κs .0) (κs .1 .0) (qs .0) (qs .1 .0) many x x₁ x₂ x₃ x₄ x₅ x₆ (m .1) (f .0 .1) (f₁ .0 .1 .0) (f₂ .0 .1 .0) (f₃ .0 .1 .0) (f₄ .0 .1 .0) (f₅ .0 .1 .0) (f₆ .0 .1 .0) can 𝓣 known))
 
