@@ -1,13 +1,13 @@
 -- Records copied out of the lists one by one; and read_records, as what the reader leaves in the lists and what is then copied.
-use mathlib.Core.Path.{_≡_, refl, sym, ap, subst, _∙_}
+use mathlib.Core.Path.{_≡_, refl, sym, ap, _∙_}
 use mathlib.Core.Bool.{Bool, true, false, cond}
-use mathlib.Core.List.{List, [], _∷_, _++_}
-use Prim.Native.Nat.{ℕ, suc, _+_, _≤_, _<_, min}
+use mathlib.Core.List.{List, [], _++_}
+use Prim.Native.Nat.{ℕ, _+_, _≤_, min}
 use native.Mathlib.Nat.{zero-add}
 use native.Mathlib.Numerals.{add-one}
 use native.Mathlib.Omega.{arith}
 use lib.Dec.{leb}
-use lib.ListN.{length, take, drop, set}
+use lib.ListN.{length, drop, set}
 use lib.Seq.{sets, length-sets, take-all}
 use borrow.Author.Tests.{leb-true}
 use Rattle.octets.proofs.Lists.{sets-none, sets-last, sets-start}
@@ -15,11 +15,11 @@ use Rattle.format.specs.declared.Record.{Record}
 use Rattle.format.specs.declared.ReadAnswer.{ReadAnswer}
 use Rattle.format.specs.declared.ReadAnswer.the-variants.{Records, NotRead}
 use Rattle.format.specs.Answers.{readOutcome, refusal}
-use Rattle.format.specs.Tree.{Items, count, recordsOf}
+use Rattle.format.specs.Tree.{count, recordsOf}
 use Rattle.format.specs.Judge.{Judged, judge}
 use Rattle.format.specs.Judge.Judged.{refused, accepted}
 use Rattle.format.specs.Writer.{tabled}
-use Rattle.format.specs.Calls.{Lists, places, row, lay, readAnswer, readRecords, ReadAtMostClaim, ReadRecordsClaim}
+use Rattle.format.specs.Calls.{Lists, places, row, readAnswer, readRecords, ReadAtMostClaim, ReadRecordsClaim}
 use Rattle.format.proofs.Lays.{tabled-more, tabled-laid, places-lay}
 use Rattle.format.proofs.Tabled.{tabled-length}
 use Rattle.format.proofs.Spans.{records-count}

@@ -71,7 +71,7 @@ abbrev pub KeptShared : Lft → (x : Slice) → GName → Elems x → Fml
 KeptShared κ x δ ys =
     fsep (flent κ (arr-parts (shares (x .elem)) (length ys) .part fullShare ys (x .ref .ptr .0) (x .ref .ptr .1))) (Opened x (x .ref .name) ys)
 
--- ---- a row of slices: a name and a list for each, those that they were passed with, and what is said of each, before an end
+-- ---- a row of slices: a name and a list for each, and those that they were passed with
 abbrev pub Names : List Slice → Type 0
 Names [] = Unit {0}
 Names (x ∷ xs) = GName × Names xs
@@ -88,6 +88,24 @@ abbrev pub contents : (xs : List Slice) → Contents xs
 contents [] = tt
 contents (x ∷ xs) = (x .ref .now, contents xs)
 
+-- as arguments of a call: the references, and their machine values
+abbrev pub Refs : List Slice → Type 0
+Refs [] = Unit {0}
+Refs (x ∷ xs) = RefT (Elems x) × Refs xs
+
+abbrev pub refs : (xs : List Slice) → Names xs → Contents xs → Refs xs
+refs [] d z = tt
+refs (x ∷ xs) d z = (at x (d .0) (z .0), refs xs (d .1) (z .1))
+
+abbrev pub Machine : List Slice → Type 0
+Machine [] = Unit {0}
+Machine (x ∷ xs) = List Val × Machine xs
+
+abbrev pub machine : (xs : List Slice) → Machine xs
+machine [] = tt
+machine (x ∷ xs) = (slice-vals (x .ref), machine xs)
+
+-- what is said of each, before an end
 abbrev pub Each : ((x : Slice) → GName → Elems x → Fml) → (xs : List Slice) → Names xs → Contents xs → Fml → Fml
 Each F [] d z end = end
 Each F (x ∷ xs) d z end = fsep (F x (d .0) (z .0)) (Each F xs (d .1) (z .1) end)

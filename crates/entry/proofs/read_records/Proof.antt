@@ -14,7 +14,7 @@ use base.Logic.{SProp, ent, emp, id⊢, via, fst∗, exE, snd∗}
 use base.Fml.{Lft, Share, Fml, ftrue, fsep, flft}
 use prog.Memory.{Memory}
 use prog.Routine.{Routine}
-use prog.Wp.{Heap, Calls, Loops, WpFn, Tables}
+use prog.Wp.{Heap, WpFn, Tables}
 use ghost.Atoms.{Atoms, sem}
 use contract.Lifetimes.{Lfts, Shares}
 use contract.Monad.{Fun, fact}
@@ -55,7 +55,7 @@ use Rattle.reader.proofs.read_at_most.Symbol as read-at-most-def
 use Rattle.reader.proofs.read_at_most.Symbol.{name as #reader·read-at-most}
 use Rattle.reader.proofs.read_at_most.Met as read-at-most-thm
 use Rattle.entry.specs.Copies.{Copyable, copied}
-use Rattle.entry.proofs.Lending.{Slice, at, Mine, Lent, Shared, Left, Token, Kept, KeptShared, Names, Contents, names, contents, Each, Pairs, Own, Tokens, off, on, lends-all, ends-all, shares-all, shared-ends-all}
+use Rattle.entry.proofs.Lending.{Slice, Mine, Lent, Shared, Left, Token, Kept, KeptShared, Names, Contents, names, contents, Refs, refs, machine, Each, Pairs, Own, Tokens, off, on, lends-all, ends-all, shares-all, shared-ends-all}
 use Rattle.entry.proofs.Walking.{all-set, alloc-all, free-all, set-behind, pass-slice, arg, borrows}
 use Rattle.entry.proofs.Copying.{copied-length, can-copy, all-read}
 use Rattle.entry.proofs.handed_out as handed-out
@@ -105,8 +105,14 @@ module _ {M : Type 1} (𝓤 : URA M) (H : Heap 𝓤) (A : Atoms 𝓤) (W : Given
   abbrev v : {X : Type 0} → RefT (List X) → Val
   v y = sliceVal (y .ptr .0, y .ptr .1) (length (y .now))
 
+  abbrev of8 : Lft → Share → RefT (List ℕ) → Slice
+  of8 α s y = record { elem = u8; long = α; part = s; ref = y }
+
+  abbrev of16 : Lft → Share → RefT (List ℕ) → Slice
+  of16 α s y = record { elem = u16; long = α; part = s; ref = y }
+
   abbrev slices : List Slice
-  slices = record { elem = u8; long = κ₁; part = q₁; ref = x₁ } ∷ record { elem = u8; long = κ₂; part = q₂; ref = x₂ } ∷ record { elem = u8; long = κ₃; part = q₃; ref = x₃ } ∷ record { elem = u16; long = κ₄; part = q₄; ref = x₄ } ∷ record { elem = u16; long = κ₅; part = q₅; ref = x₅ } ∷ record { elem = u16; long = κ₆; part = q₆; ref = x₆ } ∷ []
+  slices = of8 κ₁ q₁ x₁ ∷ of8 κ₂ q₂ x₂ ∷ of8 κ₃ q₃ x₃ ∷ of16 κ₄ q₄ x₄ ∷ of16 κ₅ q₅ x₅ ∷ of16 κ₆ q₆ x₆ ∷ []
 
   -- what they hold, as the record of lists
   abbrev of : Contents slices → Lists
@@ -122,11 +128,11 @@ module _ {M : Type 1} (𝓤 : URA M) (H : Heap 𝓤) (A : Atoms 𝓤) (W : Given
   Lists-lent ν d = Each (Lent (ν ∷ [])) slices d (contents slices) ftrue
 
   -- ---- read_at_most: what it is passed and what it asks
-  abbrev read-args : Names slices → RefT (List ℕ) × (ℕ × (RefT (List ℕ) × (RefT (List ℕ) × (RefT (List ℕ) × (RefT (List ℕ) × (RefT (List ℕ) × (RefT (List ℕ) × Unit {0})))))))
-  read-args d = (object, (most, (record { ptr = x₁ .ptr; name = d .0; now = x₁ .now }, (record { ptr = x₂ .ptr; name = d .1 .0; now = x₂ .now }, (record { ptr = x₃ .ptr; name = d .1 .1 .0; now = x₃ .now }, (record { ptr = x₄ .ptr; name = d .1 .1 .1 .0; now = x₄ .now }, (record { ptr = x₅ .ptr; name = d .1 .1 .1 .1 .0; now = x₅ .now }, (record { ptr = x₆ .ptr; name = d .1 .1 .1 .1 .1 .0; now = x₆ .now }, tt))))))))
+  abbrev read-args : Names slices → RefT (List ℕ) × (ℕ × Refs slices)
+  read-args d = (object, (most, refs slices d (contents slices)))
 
   abbrev to-read : ℕ → Names slices → Read 𝓤 H A mem run .Ghost
-  to-read ν d = (((κ, (ν ∷ [], tt)), (q, (fullShare, tt)), tt, read-args d, (v object ∷ [], (vint w64 most ∷ [], (v x₁ ∷ [], (v x₂ ∷ [], (v x₃ ∷ [], (v x₄ ∷ [], (v x₅ ∷ [], (v x₆ ∷ [], tt))))))))), tt)
+  to-read ν d = (((κ, (ν ∷ [], tt)), (q, (fullShare, tt)), tt, read-args d, (v object ∷ [], (vint w64 most ∷ [], machine slices))), tt)
 
   asked-read : (ν : ℕ) (d : Names slices) → ent 𝓤 (⋆ 𝓤 H A (‵ (flft κ q) ∷ ‵ (flft (ν ∷ []) fullShare) ∷ ‵ Object ∷ ‵ (Lists-lent ν d) ∷ [])) (Read 𝓤 H A mem run .pre (to-read ν d))
   asked-read ν d =
@@ -151,11 +157,11 @@ module _ {M : Type 1} (𝓤 : URA M) (H : Heap 𝓤) (A : Atoms 𝓤) (W : Given
   abbrev Lists-shared : ℕ → Names slices → Contents slices → Fml
   Lists-shared ν d z = Each (Shared (ν ∷ [])) slices d z ftrue
 
-  abbrev copy-args : Names slices → Contents slices → ℕ → ℕ × (RefT (List Record) × (RefT (List ℕ) × (RefT (List ℕ) × (RefT (List ℕ) × (RefT (List ℕ) × (RefT (List ℕ) × (RefT (List ℕ) × Unit {0})))))))
-  copy-args d z n = (n, (x, (record { ptr = x₁ .ptr; name = d .0; now = z .0 }, (record { ptr = x₂ .ptr; name = d .1 .0; now = z .1 .0 }, (record { ptr = x₃ .ptr; name = d .1 .1 .0; now = z .1 .1 .0 }, (record { ptr = x₄ .ptr; name = d .1 .1 .1 .0; now = z .1 .1 .1 .0 }, (record { ptr = x₅ .ptr; name = d .1 .1 .1 .1 .0; now = z .1 .1 .1 .1 .0 }, (record { ptr = x₆ .ptr; name = d .1 .1 .1 .1 .1 .0; now = z .1 .1 .1 .1 .1 .0 }, tt))))))))
+  abbrev copy-args : Names slices → Contents slices → ℕ → ℕ × (RefT (List Record) × Refs slices)
+  copy-args d z n = (n, (x, refs slices d z))
 
   abbrev to-copy : ℕ → Names slices → Contents slices → ℕ → Val → Copy 𝓤 H A mem run .Ghost
-  to-copy ν d z n u = (((κ′, (ν ∷ [], tt)), (q′, (fullShare, tt)), tt, copy-args d z n, (u ∷ [], (v x ∷ [], (v x₁ ∷ [], (v x₂ ∷ [], (v x₃ ∷ [], (v x₄ ∷ [], (v x₅ ∷ [], (v x₆ ∷ [], tt))))))))), tt)
+  to-copy ν d z n u = (((κ′, (ν ∷ [], tt)), (q′, (fullShare, tt)), tt, copy-args d z n, (u ∷ [], (v x ∷ [], machine slices))), tt)
 
   asked-copy : (ν : ℕ) (d : Names slices) (z : Contents slices) (n : ℕ) (u : Val) → Is usize n (u ∷ []) → Copyable n (of z) (x .now)
       → ent 𝓤 (⋆ 𝓤 H A (‵ (flft κ′ q′) ∷ ‵ (flft (ν ∷ []) fullShare) ∷ ‵ Records ∷ ‵ (Lists-shared ν d z) ∷ [])) (Copy 𝓤 H A mem run .pre (to-copy ν d z n u))
