@@ -22,13 +22,13 @@ use Rattle.format.specs.Calls.{Lists, places, put, lay, readAnswer, readRecords
 use Rattle.reader.specs.Lent.{six}
 
 -- an element of four octets, and in it one of two (the listing of document 01)
-abbrev object : List ℕ
+abbrev pub object : List ℕ
 object = 0x03 ∷ 0x04 ∷ 0x06 ∷ 0x02 ∷ 0x65 ∷ 0x6E ∷ []
 
-abbrev tree : Items
+abbrev pub tree : Items
 tree = item 0x03 2 (0x06 ∷ 0x02 ∷ 0x65 ∷ 0x6E ∷ []) (item 0x06 4 (0x65 ∷ 0x6E ∷ []) end end) end
 
-judged : judge object ≡ accepted tree
+pub judged : judge object ≡ accepted tree
 unfolding among value headerSize bodySize layout token character single goesOn utf8 text entry orItself stands expanded present covers covered shownLength rows kindIn known attribute fits isKnown isItems isTokens isText isValue isTop allowed latest stageAfter limit notAbove shown ofTop rule first kindRules itemRules own late lateBefore lateAfter broken within waits next unless followed joined byKind items outermost judge
 judged = refl
 
@@ -42,22 +42,22 @@ twos = 9 ∷ 9 ∷ []
 abbrev threes : List ℕ
 threes = 9 ∷ 9 ∷ 9 ∷ []
 
-abbrev one : Lists
+abbrev pub one : Lists
 one = six ones ones ones ones ones ones
 
 abbrev uneven : Lists
 uneven = six twos twos twos twos twos ones
 
-abbrev two : Lists
+abbrev pub two : Lists
 two = six twos twos twos twos twos twos
 
 abbrev three : Lists
 three = six threes threes threes threes threes threes
 
-abbrev top : Record
+abbrev pub top : Record
 top = record { tag = 0x03; kind = 0; depth = 1; parent = 0; start = 2; size = 4 }
 
-abbrev inner : Record
+abbrev pub inner : Record
 inner = record { tag = 0x06; kind = 0; depth = 2; parent = 0; start = 4; size = 2 }
 
 -- what is answered and left, by places
