@@ -225,12 +225,14 @@ module _ {M : Type 1} (𝓤 : URA M) (H : Heap 𝓤) (A : Atoms 𝓤) (W : Given
         lft-new ! tt (λ ν. move ! (5 ∷ 2 ∷ []) $ use2 W (later (some (λ (d : Names slices). ‵ (Lists-lent ν d) ⊛ ‵ (Each (Kept (ν ∷ [])) slices d (contents slices) ftrue)))) (lends-all 𝓤 H A W (ν ∷ []) slices (contents slices)) $
         await ! tt $ pick ! (λ d. split ! $ move ! (6 ∷ []) $ use1 W (‵ Object ⊛ ‵ Object) (shr-slice-copy 𝓤 H A W (named 0) κ u8 .twice object (v object ∷ [])) $ split ! $
         move ! (6 ∷ 4 ∷ 0 ∷ 2 ∷ []) $ group ! 4 $ use1 W (raw (Read 𝓤 H A mem run .pre (to-read ν d))) (asked-read ν d) $
+        -- [what read_at_most asks; the object; what is kept of the lists; the records' token; the records; the locals]
         calls-at ! (fmOf 𝓤 H (W .laws) 𝓣) (Read 𝓤 H A mem run) known-read (to-read ν d) (arg ! 7 refl (arg ! 23 refl (arg ! 31 refl (arg ! 35 refl (arg ! 39 refl (arg ! 43 refl (arg ! 47 refl (arg ! 51 refl (no-more !))))))))) (λ w.
         use1 W (later (some (λ (r : ReadAnswer). ((‵ (flft κ q) ⊛ ‵ (flft (ν ∷ []) fullShare) ⊛ ‵ ftrue) ⊛ ‵ (A-row .own r (w ∷ []))) ⊛ raw (ensured 𝓤 H A read-at-most.ended (read-at-most.clauses 𝓤 H A mem run) (κ, (ν ∷ [], tt)) (read-args d) tt r))))
         (id⊢ 𝓤 _) $ await ! tt $ pick ! (λ r. split ! $ move ! (1 ∷ []) $
         use1 W (some (λ (zz : Unit {0} × (Unit {0} × Contents slices)). ‵ (fsep ftrue (fsep ftrue (Pairs Left slices d (contents slices) (zz .1 .1)))) ⊛ raw (fact 𝓤 (ReadAtMostClaim (object .now) most l (of (zz .1 .1)) r))))
         (id⊢ 𝓤 _) $ pick ! (λ zz. let z = zz .1 .1 in split ! $ move ! (1 ∷ []) $ heard ! (ReadAtMostClaim (object .now) most l (of z) r) (λ claim. fsplit ! $ drop ! $ fsplit ! $ drop ! $
         move ! (1 ∷ []) $ split ! $ split ! $ move ! (1 ∷ []) $ split ! $ move ! (1 ∷ []) $ drop ! $ move ! (2 ∷ []) $ peeks ! A-row (Is A-row) (shows 𝓤 H A A-row) r (w ∷ []) (λ is. drop ! $
+        -- [ν's token; the object's; what read_at_most leaves; the object; what is kept; the records' token; the records; the locals]
         let typed = EL.lawful Answer.the-type Answer′.the-laws 𝓤 H A W tt .typed r (w ∷ []) is .0 in
         land ! (from ! (stop !)) (init ! 27 refl typed) $
         -- ν ends, and the lists are back
@@ -242,6 +244,7 @@ module _ {M : Type 1} (𝓤 : URA M) (H : Heap 𝓤) (A : Atoms 𝓤) (W : Given
         split ! $ move ! (1 ∷ []) $ use1 W (raw (fact 𝓤 (n ≡ readOutcome r .count))) (said-count r n) $ heard ! (n ≡ readOutcome r .count) (λ counted. split ! $ drop ! $
         peeks ! usize (Is usize) (shows 𝓤 H A usize) n (u ∷ []) (λ isn. drop ! $ land ! (from ! (stop !)) (init ! 28 refl (uint-lawful 𝓤 H A W w64 .typed n _ isn .0)) $
         -- the lists are shared out for ν′, and copy_records is called, with the records
+        -- [the lists; their tokens; the object's token; the object; the records' token; the records; the locals]
         borrows ! 22 56 58 refl refl refl refl refl refl refl refl (room .0) $
         borrows ! 10 60 62 refl refl refl refl refl refl refl refl fits₁ $
         borrows ! 12 64 66 refl refl refl refl refl refl refl refl fits₂ $
@@ -252,12 +255,14 @@ module _ {M : Type 1} (𝓤 : URA M) (H : Heap 𝓤) (A : Atoms 𝓤) (W : Given
         lft-new ! tt (λ ν′. move ! (1 ∷ 2 ∷ []) $ use2 W (later (some (λ (d′ : Names slices). ‵ (Lists-shared ν′ d′ z) ⊛ ‵ (Each (KeptShared (ν′ ∷ [])) slices d′ z ftrue)))) (shares-all 𝓤 H A W (ν′ ∷ []) slices z) $
         await ! tt $ pick ! (λ d′. split ! $ move ! (5 ∷ 2 ∷ 6 ∷ 0 ∷ []) $ group ! 4 $
         use1 W (raw (Copy 𝓤 H A mem run .pre (to-copy ν′ d′ z n u))) (asked-copy ν′ d′ z n u isn (can-copy (object .now) (x .now) l (of z) r claim n counted)) $
+        -- [what copy_records asks; what is kept of the lists; the object's token; the object; the locals]
         calls-at ! (fmOf 𝓤 H (W .laws) 𝓣) (Copy 𝓤 H A mem run) known-copy (to-copy ν′ d′ z n u) (arg ! 26 refl (arg ! 56 refl (arg ! 60 refl (arg ! 64 refl (arg ! 68 refl (arg ! 72 refl (arg ! 76 refl (arg ! 80 refl (no-more !))))))))) (λ w′.
         use1 W (later (some (λ (e : Unit {0}). ((‵ (flft κ′ q′) ⊛ ‵ (flft (ν′ ∷ []) fullShare) ⊛ ‵ ftrue) ⊛ ‵ (Nothing .own e (w′ ∷ []))) ⊛ raw (ensured 𝓤 H A copy-records.ended (copy-records.clauses 𝓤 H A mem run) (κ′, (ν′ ∷ [], tt)) (copy-args d′ z n) tt e))))
         (id⊢ 𝓤 _) $ await ! tt $ pick ! (λ e. split ! $ move ! (1 ∷ []) $
         use1 W (some (λ (y : Unit {0} × (List Record × (Unit {0} × (Unit {0} × (Unit {0} × (Unit {0} × (Unit {0} × (Unit {0} × Unit {0})))))))). ‵ (lasts copy-records.ended (κ′, (ν′ ∷ [], tt)) (copy-args d′ z n) y) ⊛ raw (fact 𝓤 (y .1 .0 ≡ copied (of z) n (x .now)))))
         (id⊢ 𝓤 _) $ pick ! (λ y. split ! $ move ! (1 ∷ []) $ heard ! (y .1 .0 ≡ copied (of z) n (x .now)) (λ copy. fsplit ! $ drop ! $ fsplit ! $ fsplit ! $ move ! (1 ∷ []) $ drop ! $ move ! (1 ∷ []) $ drop ! $
         move ! (1 ∷ []) $ split ! $ split ! $ move ! (1 ∷ []) $ split ! $ move ! (1 ∷ []) $ drop ! $ move ! (2 ∷ []) $ feqL ! (λ unit.
+        -- [ν′'s token; the records'; their last list; what is kept of the lists; the object's token; the object; the locals]
         land ! (from ! (stop !)) (init ! 54 refl (subst (λ (t : Val). T (hasTy tyUnit t) × WT t) (sym (ap only unit)) (tt, tt))) $
         -- ν′ ends, the lists are back, and the answer is returned
         lft-end ! tt $ move ! (0 ∷ 3 ∷ []) $ use2 W (later (‵ (Own slices z ftrue) ⊛ ‵ (Tokens slices ftrue))) (shared-ends-all 𝓤 H A W (ν′ ∷ []) slices d′ z) $ await ! tt $ split ! $
