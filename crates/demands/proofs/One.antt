@@ -38,7 +38,7 @@ use Rattle.format.specs.Judge.Judged.{refused, accepted}
 use Rattle.format.specs.Meaning.{means, encode, normalOf}
 use Rattle.format.specs.Calls.{Lists, places, lay, judgeAnswer, readAnswer, readRecords, roomy, treeGiven, writeAnswer, writeOctets, Lent, lentBy, fitsLent, misfit, normalAnswer, handed, refusalOr, secondRefusalOr, sameOctets, sameAnswer, bothFit, ofFirst, ofSecond}
 use Rattle.format.proofs.Lays.{lay-none}
-use Rattle.demands.specs.One.{OfObject, OfCall, Refuses, Ends, SameEnds, JudgeEnds, ReadEnds, ReadRecordsEnds, WriteEnds, NormaliseEnds, SameCallEnds, OneExactly, ReadOrder, ReadInOrder, ReadRecordsInOrder, GivenTree, WriteOrder, WriteInOrder, Suffices, Lacks, NormaliseOrder, NormaliseInOrder, SameOrder, SameInOrder, PutEnds, OctetsPutEnds, ExpandEnds, ValuePutEnds, ShowPutEnds}
+use Rattle.demands.specs.One.{OfObject, OfCall, Refuses, Ends, SameEnds, JudgeEnds, ReadEnds, ReadAtMostEnds, ReadRecordsEnds, WriteEnds, NormaliseEnds, SameCallEnds, OneExactly, ReadOrder, ReadInOrder, ReadAtMostInOrder, ReadRecordsInOrder, GivenTree, WriteOrder, WriteInOrder, Suffices, Lacks, NormaliseOrder, NormaliseInOrder, SameOrder, SameInOrder, PutEnds, OctetsPutEnds, ExpandEnds, ValuePutEnds, ShowPutEnds}
 use Rattle.demands.specs.One.OfCall.{ofCall}
 use Rattle.demands.specs.One.Refuses.{forObject, forCall}
 use Rattle.demands.specs.One.Ends.{answered, refusedAt}
@@ -72,6 +72,11 @@ pub read-ends : ReadEnds
 read-ends object before after answer c =
     subst (λ x. Ends (Refuses object (14 ∷ [])) (after ≡ before) (readOutcome x)) (sym (c .answers))
     (read-ended object (places before) (after ≡ before) (judge object) refl (λ e. c .leaves ∙ ap (λ rs. lay 0 rs before) e ∙ lay-none 0 before))
+
+pub read-at-most-ends : ReadAtMostEnds
+read-at-most-ends object most before after answer c =
+    subst (λ x. Ends (Refuses object (14 ∷ [])) (after ≡ before) (readOutcome x)) (sym (c .answers))
+    (read-ended object (min most (places before)) (after ≡ before) (judge object) refl (λ e. c .leaves ∙ ap (λ rs. lay 0 rs before) e ∙ lay-none 0 before))
 
 pub read-records-ends : ReadRecordsEnds
 read-records-ends object before after slice slice′ answer c =
@@ -279,6 +284,9 @@ module _ (j : Judged) (n : ℕ) (answer : ReadAnswer) where
 
 pub read-in-order : ReadInOrder
 read-in-order object before after answer c = read-order (judge object) (places before) answer (λ r h. of-object object r h .most) (c .answers)
+
+pub read-at-most-in-order : ReadAtMostInOrder
+read-at-most-in-order object most before after answer c = read-order (judge object) (min most (places before)) answer (λ r h. of-object object r h .most) (c .answers)
 
 pub read-records-in-order : ReadRecordsInOrder
 read-records-in-order object before after slice slice′ answer c = read-order (judge object) (min (length slice) (places before)) answer (λ r h. of-object object r h .most) (c .answers)

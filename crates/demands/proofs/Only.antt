@@ -1,12 +1,15 @@
 -- Only one answer: each claim gives an equation for the answer and one for each lent thing, and two things that equal a third are equal.
 use mathlib.Core.Path.{sym, _∙_}
-use Rattle.demands.specs.Only.{OneAnswer, OneRead, OneReadRecords, OneWrite, OneNormalise, OneSame, OneOctetsPut, OneExpand, OneValuePut, OneShowPut}
+use Rattle.demands.specs.Only.{OneAnswer, OneRead, OneReadAtMost, OneReadRecords, OneWrite, OneNormalise, OneSame, OneOctetsPut, OneExpand, OneValuePut, OneShowPut}
 
 pub one-answer : OneAnswer
 one-answer A claimed one other e f = e ∙ sym f
 
 pub one-read : OneRead
 one-read object before one other answer answer′ c d = (one-answer _ _ answer answer′ (c .answers) (d .answers), one-answer _ _ one other (c .leaves) (d .leaves))
+
+pub one-read-at-most : OneReadAtMost
+one-read-at-most object most before one other answer answer′ c d = (one-answer _ _ answer answer′ (c .answers) (d .answers), one-answer _ _ one other (c .leaves) (d .leaves))
 
 pub one-read-records : OneReadRecords
 one-read-records object before one other slice oneSlice otherSlice answer answer′ c d = (

@@ -38,7 +38,7 @@ use Rattle.format.specs.Judge.Judged.{refused, accepted}
 use Rattle.format.specs.Meaning.{means, encode, normalOf}
 use Rattle.format.specs.Writer.{atTop, ruled, tabled}
 use Rattle.format.specs.Loaded.{storeOf}
-use Rattle.format.specs.Calls.{Lists, row, places, Lent, lentBy, judgeAnswer, ReadClaim, ReadRecordsClaim, WriteClaim, NormaliseClaim, SameClaim}
+use Rattle.format.specs.Calls.{Lists, row, places, Lent, lentBy, judgeAnswer, ReadClaim, ReadAtMostClaim, ReadRecordsClaim, WriteClaim, NormaliseClaim, SameClaim}
 
 -- ---- an answer, or one numbered refusal and a place; and a refusal leaves all lent memory untouched
 
@@ -78,6 +78,12 @@ JudgeEnds = (object : List ℕ) (answer : ReadAnswer) → answer ≡ judgeAnswer
 abbrev pub ReadEnds : Type 0
 ReadEnds =
     (object : List ℕ) (before after : Lists) (answer : ReadAnswer) → ReadClaim object before after answer
+    → Ends (Refuses object (14 ∷ [])) (after ≡ before) (readOutcome answer)
+
+-- read_at_most, whose caller may say fewer places, likewise
+abbrev pub ReadAtMostEnds : Type 0
+ReadAtMostEnds =
+    (object : List ℕ) (most : ℕ) (before after : Lists) (answer : ReadAnswer) → ReadAtMostClaim object most before after answer
     → Ends (Refuses object (14 ∷ [])) (after ≡ before) (readOutcome answer)
 
 -- read_records likewise
@@ -120,6 +126,12 @@ pub record ReadOrder (judged : Judged) (places : ℕ) (answer : ReadAnswer) : Ty
 
 abbrev pub ReadInOrder : Type 0
 ReadInOrder = (object : List ℕ) (before after : Lists) (answer : ReadAnswer) → ReadClaim object before after answer → ReadOrder (judge object) (places before) answer
+
+-- read_at_most: no more places than its caller says
+abbrev pub ReadAtMostInOrder : Type 0
+ReadAtMostInOrder =
+    (object : List ℕ) (most : ℕ) (before after : Lists) (answer : ReadAnswer) → ReadAtMostClaim object most before after answer
+    → ReadOrder (judge object) (min most (places before)) answer
 
 -- read_records: the slice's places count too
 abbrev pub ReadRecordsInOrder : Type 0

@@ -15,7 +15,7 @@ use Rattle.format.specs.declared.Record.{Record}
 use Rattle.format.specs.declared.ReadAnswer.{ReadAnswer}
 use Rattle.format.specs.declared.WriteAnswer.{WriteAnswer}
 use Rattle.format.specs.declared.SameAnswer.{SameAnswer}
-use Rattle.format.specs.Calls.{Lists, ReadClaim, ReadRecordsClaim, WriteClaim, NormaliseClaim, SameClaim}
+use Rattle.format.specs.Calls.{Lists, ReadClaim, ReadAtMostClaim, ReadRecordsClaim, WriteClaim, NormaliseClaim, SameClaim}
 use Rattle.show.specs.declared.Put.{Put as ShowPut}
 use Rattle.show.specs.Calls.{Puts as ShowPuts}
 
@@ -28,6 +28,13 @@ abbrev pub OneRead : Type 0
 OneRead =
     (object : List ℕ) (before one other : Lists) (answer answer′ : ReadAnswer)
     → ReadClaim object before one answer → ReadClaim object before other answer′
+    → (answer ≡ answer′) × (one ≡ other)
+
+-- read_at_most
+abbrev pub OneReadAtMost : Type 0
+OneReadAtMost =
+    (object : List ℕ) (most : ℕ) (before one other : Lists) (answer answer′ : ReadAnswer)
+    → ReadAtMostClaim object most before one answer → ReadAtMostClaim object most before other answer′
     → (answer ≡ answer′) × (one ≡ other)
 
 -- read_records

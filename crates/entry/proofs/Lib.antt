@@ -1,5 +1,4 @@
 pub mod Lending
 pub mod Walking
 pub mod Copying
-pub mod Only
 pub mod Wrong
