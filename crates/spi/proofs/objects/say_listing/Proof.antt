@@ -1,0 +1,73 @@
+use Prim.Native.Nat.{_-_}
+use borrow.Author.Needs.{needs}
+use Rattle.spi.proofs.objects.say_listing.Statement.{statement}
+use Rattle.spi.proofs.objects.say_listing.Tie as tie
+
+abbrev Inv-loop : tie.InvT-loop
+Inv-loop tags kinds depths parents starts sizes n i₀ i = Unit {0}
+
+abbrev μ-loop : tie.MeasureT-loop
+μ-loop tags kinds depths parents starts sizes n i₀ i = n - i
+
+say-header-requires : tie.Need-say-header-requires Inv-loop μ-loop
+say-header-requires c κs = search needs
+
+loop-holds : tie.Need-loop-holds Inv-loop μ-loop
+loop-holds c = search needs
+
+octet-at-requires : tie.Need-octet-at-requires Inv-loop μ-loop
+octet-at-requires c κs = search needs
+
+octet-at-requires-2 : tie.Need-octet-at-requires-2 Inv-loop μ-loop
+octet-at-requires-2 c κs = search needs
+
+octet-at-requires-3 : tie.Need-octet-at-requires-3 Inv-loop μ-loop
+octet-at-requires-3 c κs = search needs
+
+number-at-requires : tie.Need-number-at-requires Inv-loop μ-loop
+number-at-requires c κs = search needs
+
+number-at-requires-2 : tie.Need-number-at-requires-2 Inv-loop μ-loop
+number-at-requires-2 c κs = search needs
+
+number-at-requires-3 : tie.Need-number-at-requires-3 Inv-loop μ-loop
+number-at-requires-3 c κs = search needs
+
+say-record-requires : tie.Need-say-record-requires Inv-loop μ-loop
+say-record-requires c κs = search needs
+
+add-i : tie.Need-add-i Inv-loop μ-loop
+add-i c = search needs
+
+loop-less : tie.Need-loop-less Inv-loop μ-loop
+loop-less c = search needs
+
+loop-again : tie.Need-loop-again Inv-loop μ-loop
+loop-again c = search needs
+
+say-records-requires : tie.Need-say-records-requires Inv-loop μ-loop
+say-records-requires c κs = search needs
+
+returns : tie.Need-returns Inv-loop μ-loop
+returns c = search needs
+
+pub say-listing-spec : {M : Type 1} → statement M
+say-listing-spec =
+    tie.close
+    (tie.spec
+    Inv-loop
+    μ-loop
+    say-header-requires
+    loop-holds
+    octet-at-requires
+    octet-at-requires-2
+    octet-at-requires-3
+    number-at-requires
+    number-at-requires-2
+    number-at-requires-3
+    say-record-requires
+    add-i
+    loop-less
+    loop-again
+    say-records-requires
+    returns)
