@@ -1,6 +1,5 @@
 // Two objects compared: whether they mean the same, the sizes of both, and where their normal forms first differ.
 use crate::lines::say;
-use crate::lines::say_if_refused;
 use crate::lines::say_number;
 use crate::lines::say_refused;
 use crate::lines::say_sizes;
@@ -12,6 +11,7 @@ use crate::status::BAD;
 use crate::status::GOOD;
 use crate::status::worse;
 use crate::words::shared;
+use format::Outcome;
 use format::SameOutcome;
 
 fn verdict(a: &[u8], b: &[u8]) -> SameOutcome {
@@ -75,6 +75,15 @@ fn report(
     BAD
 }
 
+// Check's line of a refused file.
+fn say_if_refused(path: &[u8], judged: Outcome) -> u8 {
+    if judged.number == 0 {
+        return GOOD;
+    }
+    say_refused(path, judged.number, judged.place)
+}
+
+// Each file that is refused has its line. Where both are accepted, a normal form may still be too large.
 pub fn compare(first: &[u8], a: &[u8], second: &[u8], b: &[u8]) -> u8 {
     let one = judge::judge(a).outcome();
     let two = judge::judge(b).outcome();

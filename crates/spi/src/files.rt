@@ -4,13 +4,13 @@ ghost use Prim.Native.Nat.{_+_, _≤_};
 ghost use lib.ListN.{length};
 ghost use Rattle.io.specs.Counts.{Counts};
 
-// The longest name for which the name beside it fits a path.
+// The longest name of an output, so that the name beside it fits a path.
 const LONGEST: usize = 4_000;
 
-// How much of a buffer a file fills, where nothing failed.
-pub struct Loaded {
-    pub whole: bool,
-    pub size: usize,
+// How many octets were read, where nothing failed.
+struct Got {
+    whole: bool,
+    size: usize,
 }
 
 // An argument and the file that it names.
@@ -20,66 +20,60 @@ pub struct Named {
     pub size: usize,
 }
 
-// What one call read.
-struct Step {
-    failed: bool,
-    count: usize,
-}
-
-fn read_some(fd: i32, buf: &mut [u8], at: usize) -> Step
+fn read_some(fd: i32, buf: &mut [u8], at: usize) -> Got
     requires { ⌜ at ≤ length (now buf) ⌝ }
-    ensures { λ r. ⌜ at + r .count ≤ length (now (buf .exit)) ⌝ }
+    ensures { λ r. ⌜ at + r .size ≤ length (now (buf .exit)) ⌝ }
 {
     let part = &mut buf[at..];
     let got = libc::read(fd, part);
-    Step {
-        failed: got < 0,
-        count: io::count(got, part),
+    Got {
+        whole: got >= 0,
+        size: io::count(got, part),
     }
 }
 
 // Reads until the buffer is full or the file ends.
-fn read_all(fd: i32, path: &[u8], buf: &mut [u8]) -> Loaded
+fn read_all(fd: i32, path: &[u8], buf: &mut [u8]) -> Got
     ensures { λ r. ⌜ Counts (r .size) (now (buf .exit)) ⌝ }
 {
     let mut to: usize = 0;
     while to < buf.len() {
-        let step = read_some(fd, buf, to);
-        if step.failed {
+        let more = read_some(fd, buf, to);
+        if !more.whole {
             os::fail(path);
-            return Loaded {
+            return Got {
                 whole: false,
                 size: 0,
             };
         }
-        if step.count == 0 {
-            return Loaded {
+        if more.size == 0 {
+            return Got {
                 whole: true,
                 size: to,
             };
         }
-        to = to + step.count;
+        to = to + more.size;
     }
-    Loaded {
+    Got {
         whole: true,
         size: to,
     }
 }
 
-fn load(path: &[u8], buf: &mut [u8]) -> Loaded
+fn load(path: &[u8], buf: &mut [u8]) -> Got
     ensures { λ r. ⌜ Counts (r .size) (now (buf .exit)) ⌝ }
 {
     let fd = os::open_read(path);
     if fd < 0 {
         os::fail(path);
-        return Loaded {
+        return Got {
             whole: false,
             size: 0,
         };
     }
-    let loaded = read_all(fd, path, buf);
+    let got = read_all(fd, path, buf);
     libc::close(fd);
-    loaded
+    got
 }
 
 pub fn load_argument(i: usize, path: &mut [u8], buf: &mut [u8]) -> Named
@@ -87,11 +81,19 @@ pub fn load_argument(i: usize, path: &mut [u8], buf: &mut [u8]) -> Named
     ensures { λ r. ⌜ Counts (r .size) (now (buf .exit)) ⌝ }
 {
     let name = os::arg(i, path);
-    let loaded = load(&path[..name], buf);
+    if os::errno() != 0 {
+        os::fail(b"spi: a file's name");
+        return Named {
+            whole: false,
+            name: 0,
+            size: 0,
+        };
+    }
+    let got = load(&path[..name], buf);
     Named {
-        whole: loaded.whole,
+        whole: got.whole,
         name,
-        size: loaded.size,
+        size: got.size,
     }
 }
 
@@ -140,16 +142,23 @@ fn put_in_place(fd: i32, beside: &[u8], path: &[u8], octets: &[u8]) -> bool {
     true
 }
 
+fn no_name() -> bool {
+    io::write_all(
+        libc::STDERR_FILENO,
+        b"spi: the output has no name, or too long a name\n",
+    );
+    false
+}
+
 // The octets are written to a file beside the one asked for, which then takes its name: that file is complete, or as it was.
 pub fn save(path: &[u8], octets: &[u8]) -> bool {
-    let mut name = io::buffer();
-    if path.len() > LONGEST {
-        io::write_all(
-            libc::STDERR_FILENO,
-            b"spi: the name of the output is too long\n",
-        );
-        return false;
+    if path.len() == 0 {
+        return no_name();
     }
+    if path.len() > LONGEST {
+        return no_name();
+    }
+    let mut name = io::buffer();
     let end = name_beside(path, &mut name);
     let fd = os::create(&name[..end]);
     if fd < 0 {

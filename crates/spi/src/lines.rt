@@ -1,7 +1,5 @@
-// What is said on standard output.
+// What is said on standard output. The script that runs the program sees whether it got there.
 use crate::status::BAD;
-use crate::status::GOOD;
-use format::Outcome;
 use format::Record;
 use libc::STDOUT_FILENO;
 use show::Put;
@@ -63,13 +61,6 @@ pub fn say_refused(path: &[u8], number: u8, place: usize) -> u8 {
     say_words(number);
     say(b"\n");
     BAD
-}
-
-pub fn say_if_refused(path: &[u8], o: Outcome) -> u8 {
-    if o.number == 0 {
-        return GOOD;
-    }
-    say_refused(path, o.number, o.place)
 }
 
 pub fn say_accepted(path: &[u8], records: usize, octets: usize) {

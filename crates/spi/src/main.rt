@@ -14,8 +14,8 @@ use crate::comparing::compare;
 use crate::files::load_argument;
 use crate::files::save;
 use crate::lines::say;
-use crate::lines::say_if_refused;
 use crate::lines::say_number;
+use crate::lines::say_refused;
 use crate::lines::say_saved;
 use crate::memory::file_buffer;
 use crate::memory::room;
@@ -27,6 +27,14 @@ use crate::status::GOOD;
 use crate::status::worse;
 use crate::words::is_word;
 use libc::STDERR_FILENO;
+
+// What is to be done with a file.
+enum Task {
+    Check,
+    List,
+    Normal,
+    Compare,
+}
 
 fn usage(text: &[u8]) -> u8 {
     io::write_all(STDERR_FILENO, b"usage: spi ");
@@ -45,46 +53,12 @@ fn help() -> u8 {
     GOOD
 }
 
-fn check_one(i: usize) -> u8 {
-    let mut path = io::buffer();
-    let mut object = file_buffer();
-    let got = load_argument(i, &mut path, &mut object);
-    if !got.whole {
-        return FAILED;
-    }
-    let name = got.name;
-    let size = got.size;
-    check(&path[..name], &object[..size])
-}
-
-fn check_all(count: usize) -> u8 {
-    let mut status = GOOD;
-    let mut i: usize = 2;
-    while i < count {
-        status = worse(status, check_one(i));
-        i = i + 1;
-    }
-    status
-}
-
-fn list_one() -> u8 {
-    let mut path = io::buffer();
-    let mut object = file_buffer();
-    let got = load_argument(2, &mut path, &mut object);
-    if !got.whole {
-        return FAILED;
-    }
-    let name = got.name;
-    let size = got.size;
-    list(&path[..name], &object[..size])
-}
-
 // An object's normal form to the file that the third argument names.
 fn save_normal(path: &[u8], object: &[u8]) -> u8 {
     let mut normal = room();
     let made = normal_form(object, &mut normal);
     if made.number > 0 {
-        return say_if_refused(path, made);
+        return say_refused(path, made.number, made.place);
     }
     let mut out = io::buffer();
     let name = os::arg(3, &mut out);
@@ -96,19 +70,7 @@ fn save_normal(path: &[u8], object: &[u8]) -> u8 {
     GOOD
 }
 
-fn normalise_one() -> u8 {
-    let mut path = io::buffer();
-    let mut object = file_buffer();
-    let got = load_argument(2, &mut path, &mut object);
-    if !got.whole {
-        return FAILED;
-    }
-    let name = got.name;
-    let size = got.size;
-    save_normal(&path[..name], &object[..size])
-}
-
-// The second of two files, of which the first is read.
+// An object compared with that in the file that the third argument names.
 fn compare_with(first: &[u8], a: &[u8]) -> u8 {
     let mut path = io::buffer();
     let mut object = file_buffer();
@@ -121,16 +83,36 @@ fn compare_with(first: &[u8], a: &[u8]) -> u8 {
     compare(first, a, &path[..name], &object[..size])
 }
 
-fn compare_two() -> u8 {
+fn treat(task: Task, path: &[u8], object: &[u8]) -> u8 {
+    match task {
+        Task::Check => check(path, object),
+        Task::List => list(path, object),
+        Task::Normal => save_normal(path, object),
+        Task::Compare => compare_with(path, object),
+    }
+}
+
+// A task on the file that an argument names.
+fn treat_argument(task: Task, i: usize) -> u8 {
     let mut path = io::buffer();
     let mut object = file_buffer();
-    let got = load_argument(2, &mut path, &mut object);
+    let got = load_argument(i, &mut path, &mut object);
     if !got.whole {
         return FAILED;
     }
     let name = got.name;
     let size = got.size;
-    compare_with(&path[..name], &object[..size])
+    treat(task, &path[..name], &object[..size])
+}
+
+fn check_all(count: usize) -> u8 {
+    let mut status = GOOD;
+    let mut i: usize = 2;
+    while i < count {
+        status = worse(status, treat_argument(Task::Check, i));
+        i = i + 1;
+    }
+    status
 }
 
 fn no_such_command(command: &[u8]) -> u8 {
@@ -138,6 +120,14 @@ fn no_such_command(command: &[u8]) -> u8 {
     io::write_all(STDERR_FILENO, command);
     io::write_all(STDERR_FILENO, b"\n");
     usage(b"check | list | normal | compare | help")
+}
+
+// A task on a command's first file, where the command has all its words.
+fn treat_first(task: Task, whole: bool, words: &[u8]) -> u8 {
+    if !whole {
+        return usage(words);
+    }
+    treat_argument(task, 2)
 }
 
 // `count` counts the program's name and the command too.
@@ -150,25 +140,13 @@ fn obey(command: &[u8], count: usize) -> u8 {
         };
     }
     if is_word(command, b"list") {
-        return if count == 3 {
-            list_one()
-        } else {
-            usage(b"list FILE")
-        };
+        return treat_first(Task::List, count == 3, b"list FILE");
     }
     if is_word(command, b"normal") {
-        return if count == 4 {
-            normalise_one()
-        } else {
-            usage(b"normal FILE OUT")
-        };
+        return treat_first(Task::Normal, count == 4, b"normal FILE OUT");
     }
     if is_word(command, b"compare") {
-        return if count == 4 {
-            compare_two()
-        } else {
-            usage(b"compare FILE FILE")
-        };
+        return treat_first(Task::Compare, count == 4, b"compare FILE FILE");
     }
     if is_word(command, b"help") {
         return help();

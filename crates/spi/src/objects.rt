@@ -1,9 +1,9 @@
 // What the library says of one object.
 use crate::lines::say_accepted;
 use crate::lines::say_header;
-use crate::lines::say_if_refused;
 use crate::lines::say_record;
 use crate::lines::say_records;
+use crate::lines::say_refused;
 use crate::memory::number_places;
 use crate::memory::octet_places;
 use crate::memory::room;
@@ -15,7 +15,7 @@ ghost use Rattle.io.specs.Counts.{Counts};
 pub fn check(path: &[u8], object: &[u8]) -> u8 {
     let judged = judge::judge(object).outcome();
     if judged.number > 0 {
-        return say_if_refused(path, judged);
+        return say_refused(path, judged.number, judged.place);
     }
     say_accepted(path, judged.count, object.len());
     GOOD
@@ -27,6 +27,25 @@ fn octet_at(s: &[u8], i: usize) -> u8 {
 
 fn number_at(s: &[u16], i: usize) -> u16 {
     if i < s.len() { s[i] } else { 0 }
+}
+
+fn record_at(
+    tags: &[u8],
+    kinds: &[u8],
+    depths: &[u8],
+    parents: &[u16],
+    starts: &[u16],
+    sizes: &[u16],
+    i: usize,
+) -> Record {
+    Record {
+        tag: octet_at(tags, i),
+        kind: octet_at(kinds, i),
+        depth: octet_at(depths, i),
+        parent: number_at(parents, i),
+        start: number_at(starts, i),
+        size: number_at(sizes, i),
+    }
 }
 
 fn say_listing(
@@ -41,15 +60,7 @@ fn say_listing(
     say_header();
     let mut i: usize = 0;
     while i < n {
-        let r = Record {
-            tag: octet_at(tags, i),
-            kind: octet_at(kinds, i),
-            depth: octet_at(depths, i),
-            parent: number_at(parents, i),
-            start: number_at(starts, i),
-            size: number_at(sizes, i),
-        };
-        say_record(r);
+        say_record(record_at(tags, kinds, depths, parents, starts, sizes, i));
         i = i + 1;
     }
     say_records(n);
@@ -73,7 +84,7 @@ pub fn list(path: &[u8], object: &[u8]) -> u8 {
     );
     let read = answer.outcome();
     if read.number > 0 {
-        return say_if_refused(path, read);
+        return say_refused(path, read.number, read.place);
     }
     say_listing(
         &tags,

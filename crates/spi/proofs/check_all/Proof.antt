@@ -12,8 +12,8 @@ abbrev μ-loop : tie.MeasureT-loop
 loop-holds : tie.Need-loop-holds Inv-loop μ-loop
 loop-holds c = search needs
 
-check-one-requires : tie.Need-check-one-requires Inv-loop μ-loop
-check-one-requires c κs = search needs
+treat-argument-requires : tie.Need-treat-argument-requires Inv-loop μ-loop
+treat-argument-requires c κs = search needs
 
 worse-requires : tie.Need-worse-requires Inv-loop μ-loop
 worse-requires c κs = search needs
@@ -37,7 +37,7 @@ check-all-spec =
     Inv-loop
     μ-loop
     loop-holds
-    check-one-requires
+    treat-argument-requires
     worse-requires
     add-i
     loop-less

@@ -15,23 +15,8 @@ say-header-requires c κs = search needs
 loop-holds : tie.Need-loop-holds Inv-loop μ-loop
 loop-holds c = search needs
 
-octet-at-requires : tie.Need-octet-at-requires Inv-loop μ-loop
-octet-at-requires c κs = search needs
-
-octet-at-requires-2 : tie.Need-octet-at-requires-2 Inv-loop μ-loop
-octet-at-requires-2 c κs = search needs
-
-octet-at-requires-3 : tie.Need-octet-at-requires-3 Inv-loop μ-loop
-octet-at-requires-3 c κs = search needs
-
-number-at-requires : tie.Need-number-at-requires Inv-loop μ-loop
-number-at-requires c κs = search needs
-
-number-at-requires-2 : tie.Need-number-at-requires-2 Inv-loop μ-loop
-number-at-requires-2 c κs = search needs
-
-number-at-requires-3 : tie.Need-number-at-requires-3 Inv-loop μ-loop
-number-at-requires-3 c κs = search needs
+record-at-requires : tie.Need-record-at-requires Inv-loop μ-loop
+record-at-requires c κs = search needs
 
 say-record-requires : tie.Need-say-record-requires Inv-loop μ-loop
 say-record-requires c κs = search needs
@@ -59,12 +44,7 @@ say-listing-spec =
     μ-loop
     say-header-requires
     loop-holds
-    octet-at-requires
-    octet-at-requires-2
-    octet-at-requires-3
-    number-at-requires
-    number-at-requires-2
-    number-at-requires-3
+    record-at-requires
     say-record-requires
     add-i
     loop-less
