@@ -150,7 +150,8 @@ fn no_name() -> bool {
     false
 }
 
-// The octets are written to a file beside the one asked for, which then takes its name: that file is complete, or as it was.
+// The octets are written to a file beside the one asked for, which then takes its name: that file is complete, or as it was. The script ./spi asks first that
+// the name is no link's, folder's or device's.
 pub fn save(path: &[u8], octets: &[u8]) -> bool {
     if path.len() == 0 {
         return no_name();
