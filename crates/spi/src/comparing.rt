@@ -46,6 +46,7 @@ fn say_difference(a: &[u8], b: &[u8]) {
     say(b"\n");
 }
 
+// Both normal forms are known to fit their rooms.
 fn report(
     first: &[u8],
     a: &[u8],
