@@ -9,7 +9,7 @@ mod filling;
 use filling::Place;
 use filling::fill_items;
 use filling::least;
-use filling::places;
+pub use filling::places;
 use format::ReadAnswer;
 use format::Refusal;
 use format::Span;
