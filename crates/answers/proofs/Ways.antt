@@ -1,8 +1,9 @@
 -- The ways through the program's functions: fields of a case, marks, where lines end, and the stream.
 use mathlib.Core.Path.{_≡_, refl, sym, ap, _∙_}
-use mathlib.Core.Bool.{Bool, true, false, cond, false≢true}
+use mathlib.Core.Bool.{Bool, true, false, cond, _&&_, false≢true}
 use mathlib.Core.List.{List}
-use Prim.Native.Nat.{ℕ, _+_, _-_, _^_, _≤_, _<_}
+use Prim.Native.Nat.{ℕ, _+_, _-_, _^_, _≤_, _<_, min}
+use native.Mathlib.Nat.{min-le-left}
 use native.Mathlib.Omega.{arith}
 use lib.Dec.{eqb, leb}
 use lib.ListN.{length, take, drop, getD, set, length-set, length-drop}
@@ -18,10 +19,17 @@ use Rattle.show.specs.declared.Put.{Put}
 use Rattle.show.specs.Calls.{Puts, putAnswer, putLeaves}
 use Rattle.format.specs.declared.WriteAnswer.{WriteAnswer}
 use Rattle.format.specs.declared.WriteAnswer.the-variants.{Octets, NotWritten}
-use Rattle.format.specs.Calls.{Lists, WriteClaim}
+use Rattle.format.specs.Answers.{refusal}
+use Rattle.format.specs.Tree.{Items, count}
+use Rattle.format.specs.Judge.{Judged, judge}
+use Rattle.format.specs.Judge.Judged.{refused, accepted}
+use Rattle.format.specs.Meaning.{normalOf as normalForm}
+use Rattle.format.specs.Loaded.{storeOf as storeForm}
+use Rattle.format.specs.Calls.{Lists, places, WriteClaim, Lent, lentBy, roomy, storedWithin, fitsLent, misfit, normalAnswer, NormaliseClaim}
+use Rattle.octets.proofs.Tests.{and-right}
 use Rattle.writer.proofs.Theorems.{claim-fits}
 use Rattle.answers.specs.declared.cases.Case.{Case}
-use Rattle.answers.specs.declared.cases.Case.the-variants.{End, Bad, Listing, Written}
+use Rattle.answers.specs.declared.cases.Case.the-variants.{End, Bad, Listing, Normal, Written, Same}
 use Rattle.answers.specs.declared.cases.Tail.{Tail}
 use Rattle.answers.specs.declared.cases.Tail.the-variants.{Bad as BadTail, Fields}
 use Rattle.answers.specs.declared.stream.Window.{Window}
@@ -29,7 +37,7 @@ use Rattle.answers.specs.declared.stream.Turn.{Turn}
 use Rattle.answers.specs.declared.stream.Turn.the-variants.{Answered}
 use Rattle.answers.specs.declared.written.Taken.{Taken}
 use Rattle.answers.specs.declared.written.Taken.the-variants.{Behind}
-use Rattle.answers.specs.Cases.{sizeAt, listingOf, writtenOf, caseOf, Asked, tailOf, FieldsWithin, TailWithin}
+use Rattle.answers.specs.Cases.{sizeAt, listingOf, normalOf, writtenOf, sameOf, caseOf, Asked, tailOf, FieldsWithin, TailWithin}
 use Rattle.answers.specs.Marks.{markOf, Marked}
 use Rattle.answers.specs.Lines.{endOf, Handed}
 use Rattle.answers.specs.Stream.{Standing, Reaches, Stepped, Turned, Ample}
@@ -89,7 +97,35 @@ module _ (part : List ℕ) where
         listing-is = rw (sym e, sym p, le-leb size 65_536 h, le-leb (6 + size) (length part) g)
 
         pub listing-asked : AllOctets part → Asked (length part) (Listing places size)
-        listing-asked o = record { few = omega (arith, two-few part 1 o (omega arith)); whole = g }
+        listing-asked o = record { few = omega (arith, two-few part 1 o (omega arith)); stored = omega arith; roomy = omega arith; whole = g }
+
+  module _ (store : ℕ) (e : store ≡ sizeAt part 3) where
+    pub normal-stored : 65_536 < store → Bad ≡ normalOf part
+    unfolding normalOf
+    normal-stored h = rw (sym e, lt-leb store 65_536 h)
+
+    module _ (h : store ≤ 65_536) (room : ℕ) (f : room ≡ sizeAt part 6) where
+      pub normal-roomy : 65_536 < room → Bad ≡ normalOf part
+      unfolding normalOf
+      normal-roomy g = rw (sym e, sym f, le-leb store 65_536 h, lt-leb room 65_536 g)
+
+      module _ (g : room ≤ 65_536) (size : ℕ) (k : size ≡ sizeAt part 9) where
+        pub normal-large : 65_536 < size → Bad ≡ normalOf part
+        unfolding normalOf
+        normal-large l = rw (sym e, sym f, sym k, le-leb store 65_536 h, le-leb room 65_536 g, lt-leb size 65_536 l)
+
+        module _ (l : size ≤ 65_536) where
+          pub normal-cut : length part < 12 + size → Bad ≡ normalOf part
+          unfolding normalOf
+          normal-cut m = rw (sym e, sym f, sym k, le-leb store 65_536 h, le-leb room 65_536 g, le-leb size 65_536 l, lt-leb (12 + size) (length part) m)
+
+          module _ (m : 12 + size ≤ length part) (places : ℕ) (p : places ≡ value (take 2 (drop 1 part))) where
+            pub normal-is : Normal places store room size ≡ normalOf part
+            unfolding normalOf
+            normal-is = rw (sym e, sym f, sym k, sym p, le-leb store 65_536 h, le-leb room 65_536 g, le-leb size 65_536 l, le-leb (12 + size) (length part) m)
+
+            pub normal-asked : AllOctets part → Asked (length part) (Normal places store room size)
+            normal-asked o = record { few = omega (arith, two-few part 1 o (omega arith)); stored = h; roomy = g; whole = m }
 
   pub written-cut : length part < 5 → Bad ≡ writtenOf part
   unfolding writtenOf
@@ -101,7 +137,26 @@ module _ (part : List ℕ) where
     written-is = rw (sym n, sym p, le-leb 5 (length part) h)
 
     pub written-asked : AllOctets part → Asked (length part) (Written count places)
-    written-asked o = record { few = omega (arith, two-few part 3 o (omega arith)); whole = h }
+    written-asked o = record { few = omega (arith, two-few part 3 o (omega arith)); stored = omega arith; roomy = omega arith; whole = h }
+
+  module _ (first : ℕ) (e : first ≡ sizeAt part 1) where
+    pub same-large : 65_536 < first → Bad ≡ sameOf part
+    unfolding sameOf
+    same-large h = rw (sym e, lt-leb first 65_536 h)
+
+    module _ (h : first ≤ 65_536) (second : ℕ) (f : second ≡ sizeAt part (4 + first)) where
+      pub second-large : 65_536 < second → Bad ≡ sameOf part
+      unfolding sameOf
+      second-large g = rw (sym e, sym f, le-leb first 65_536 h, lt-leb second 65_536 g)
+
+      module _ (g : second ≤ 65_536) where
+        pub same-cut : length part < 7 + first + second → Bad ≡ sameOf part
+        unfolding sameOf
+        same-cut k = rw (sym e, sym f, le-leb first 65_536 h, le-leb second 65_536 g, lt-leb (7 + first + second) (length part) k)
+
+        pub same-is : 7 + first + second ≤ length part → Same first second ≡ sameOf part
+        unfolding sameOf
+        same-is k = rw (sym e, sym f, le-leb first 65_536 h, le-leb second 65_536 g, le-leb (7 + first + second) (length part) k)
 
   pub case-end : length part ≡ 0 → End ≡ caseOf part
   unfolding caseOf
@@ -112,13 +167,22 @@ module _ (part : List ℕ) where
     unfolding caseOf
     case-listing h r e = rw (ne-eqb (length part) 0 some, h) e
 
+    pub case-normal : getD part 0 0 ≡ 78 → (r : Case) → r ≡ normalOf part → r ≡ caseOf part
+    unfolding caseOf
+    case-normal h r e = rw (ne-eqb (length part) 0 some, h) e
+
     pub case-written : getD part 0 0 ≡ 87 → (r : Case) → r ≡ writtenOf part → r ≡ caseOf part
     unfolding caseOf
     case-written h r e = rw (ne-eqb (length part) 0 some, h) e
 
-    pub case-bad : (getD part 0 0 ≡ 76 → ⊥) → (getD part 0 0 ≡ 87 → ⊥) → Bad ≡ caseOf part
+    pub case-same : getD part 0 0 ≡ 83 → (r : Case) → r ≡ sameOf part → r ≡ caseOf part
     unfolding caseOf
-    case-bad h g = rw (ne-eqb (length part) 0 some, ne-eqb (getD part 0 0) 76 h, ne-eqb (getD part 0 0) 87 g)
+    case-same h r e = rw (ne-eqb (length part) 0 some, h) e
+
+    pub case-bad : (getD part 0 0 ≡ 76 → ⊥) → (getD part 0 0 ≡ 78 → ⊥) → (getD part 0 0 ≡ 87 → ⊥) → (getD part 0 0 ≡ 83 → ⊥) → Bad ≡ caseOf part
+    unfolding caseOf
+    case-bad h g k l =
+        rw (ne-eqb (length part) 0 some, ne-eqb (getD part 0 0) 76 h, ne-eqb (getD part 0 0) 78 g, ne-eqb (getD part 0 0) 87 k, ne-eqb (getD part 0 0) 83 l)
 
   module _ (room : ℕ) (e : room ≡ sizeAt part 0) where
     pub tail-roomy : 65_536 < room → BadTail ≡ tailOf part
@@ -142,9 +206,13 @@ pub ruleset size-ways = (size-cut, size-is)
 
 pub ruleset listing-ways = (listing-large, listing-cut, listing-is)
 
+pub ruleset normal-ways = (normal-stored, normal-roomy, normal-large, normal-cut, normal-is)
+
+pub ruleset same-ways = (same-large, second-large, same-cut, same-is)
+
 pub ruleset written-ways = (written-cut, written-is)
 
-pub ruleset case-ways = (case-end, case-listing, case-written, case-bad)
+pub ruleset case-ways = (case-end, case-listing, case-normal, case-written, case-same, case-bad)
 
 pub ruleset tail-ways = (tail-roomy, tail-large, tail-cut, tail-is)
 
@@ -228,6 +296,32 @@ pub written-handed : (n : ℕ) (l : Lists) (lent before after : List ℕ) (answe
 written-handed n l lent before after (Octets k) c e = omega (arith, claim-fits n l lent before after k c .room)
 written-handed n l lent before after (NotWritten r) c e = tt
 
+pub normal-handed : (object : List ℕ) (l l′ : Lists) (store store′ before after : List ℕ) (answer : WriteAnswer) → NormaliseClaim object l l′ store store′ before after answer
+    → length after ≡ length before → Handed (length after) answer
+unfolding normalAnswer misfit fitsLent storedWithin roomy
+normal-handed object l l′ store store′ before after (NotWritten r) c e = tt
+normal-handed object l l′ store store′ before after (Octets k) c e = go (judge object) (c .answers)
+  where
+    lent : Lent
+    lent = lentBy l store before
+
+    misfitting : (b : Bool) → Octets k ≡ cond b (NotWritten (refusal 15 0)) (NotWritten (refusal 14 0)) → ⊥
+    misfitting true q = let z : _≡_ {A = ℕ} 0 1 = cc in omega arith
+    misfitting false q = let z : _≡_ {A = ℕ} 0 1 = cc in omega arith
+
+    fitting : (t : Items) (b : Bool) → fitsLent lent t ≡ b → Octets k ≡ cond b (Octets (length (normalForm t))) (misfit lent t) → k ≤ length after
+    fitting t true f q =
+        let size : k ≡ length (normalForm t) = cc in
+        let a = leb (length (storeForm t)) (length store) in
+        let b = leb (length (normalForm t)) (min (length before) 32_768) in
+        let fit = leb-true (length (normalForm t)) (min (length before) 32_768) (and-right a b (and-right (leb (count t) (places l)) (a && b) f)) in
+        omega (arith, min-le-left (length before) 32_768)
+    fitting t false f q = absurd (misfitting (leb (count t) (places l)) q)
+
+    go : (j : Judged) → Octets k ≡ normalAnswer lent j → k ≤ length after
+    go (refused r) q = let z : _≡_ {A = ℕ} 0 1 = cc in absurd (omega arith)
+    go (accepted t) q = fitting t (fitsLent lent t) refl q
+
 pub handed-part : (room : List ℕ) (r : WriteAnswer) → Handed (length room) r → (n : ℕ) → r ≡ Octets n → n ≡ length (take n room)
 handed-part room r h n e = let inside : n ≤ length room = rw e at h in part-count n room inside
 
@@ -248,8 +342,14 @@ module _ (left : ℕ) (c : Case) (a : Asked left c) where
   pub listing-whole : (places size : ℕ) → c ≡ Listing places size → 6 + size ≤ left
   listing-whole places size e = let b : Asked left (Listing places size) = rw e at a in b .whole
 
+  pub normal-within : (places store room size : ℕ) → c ≡ Normal places store room size → Asked left (Normal places store room size)
+  normal-within places store room size e = rw e at a
+
   pub written-whole : (count places : ℕ) → c ≡ Written count places → 5 ≤ left
   written-whole count places e = let b : Asked left (Written count places) = rw e at a in b .whole
+
+  pub same-whole : (first second : ℕ) → c ≡ Same first second → 7 + first + second ≤ left
+  same-whole first second e = let b : Asked left (Same first second) = rw e at a in b .whole
 
 -- a body behind a head of six octets lies within the buffer
 pub body-inside : (buffer : ℕ) (w : Window) → Standing buffer w → (size : ℕ) → 6 + size ≤ w .to - w .from → w .from + 6 + size ≤ buffer
@@ -299,12 +399,14 @@ kept-again k l =
     record { tag = l .tag ∙ k .tag; kind = l .kind ∙ k .kind; depth = l .depth ∙ k .depth; parent = l .parent ∙ k .parent; start = l .start ∙ k .start; size = l .size ∙ k .size }
 
 -- cases answered so far
-pub record Running (input₀ tags₀ kinds₀ depths₀ parents₀ starts₀ sizes₀ room₀ out₀ input tags kinds depths parents starts sizes room out : List ℕ) (w : Window) (used : ℕ) : Type 0 where
+pub record Running (input₀ tags₀ kinds₀ depths₀ parents₀ starts₀ sizes₀ store₀ room₀ other₀ out₀ input tags kinds depths parents starts sizes store room other out : List ℕ) (w : Window) (used : ℕ) : Type 0 where
   pub standing : Standing (length input) w
   pub inside : used ≤ length out
   pub lists : Kept tags₀ kinds₀ depths₀ parents₀ starts₀ sizes₀ tags kinds depths parents starts sizes
   pub input-long : length input ≡ length input₀
+  pub store-long : length store ≡ length store₀
   pub room-long : length room ≡ length room₀
+  pub other-long : length other ≡ length other₀
   pub out-long : length out ≡ length out₀
 
 pub turned : (buffer room : ℕ) (t : Turn) → Turned buffer room t → (w : Window) (used : ℕ) → t ≡ Answered w used → Stepped buffer room w used

@@ -3,17 +3,37 @@ ghost use mathlib.Core.Path.{_≡_};
 ghost use Prim.Native.Nat.{_≤_};
 ghost use lib.ListN.{length};
 ghost use Rattle.octets.specs.Numbers.{value};
-ghost use Rattle.answers.specs.Cases.{sizeAt, listingOf, writtenOf, caseOf, Asked, placesOf, tailOf, TailWithin};
+ghost use Rattle.answers.specs.Cases.{sizeAt, listingOf, normalOf, writtenOf, sameOf, caseOf, Asked, placesOf, tailOf, TailWithin};
 
 // The largest size of an object, of octets and of a room.
 const LARGEST: usize = 65_536;
 
-// A case. Listing: places to lend, and the size of the object behind the letter and its fields. Written: how many records to write, and how many follow.
+// The places that are lent to a comparison.
+const SAME_PLACES: usize = 16_384;
+
+// A case. Listing: places to lend, and the size of the object behind the letter and its fields. Normal: the same, with the sizes of the store and of the room to
+// lend. Written: how many records to write, and how many follow. Same: the sizes of both objects, of which each stands behind its size.
 pub enum Case {
     End,
     Bad,
-    Listing { places: usize, size: usize },
-    Written { count: usize, places: usize },
+    Listing {
+        places: usize,
+        size: usize,
+    },
+    Normal {
+        places: usize,
+        store: usize,
+        room: usize,
+        size: usize,
+    },
+    Written {
+        count: usize,
+        places: usize,
+    },
+    Same {
+        first: usize,
+        second: usize,
+    },
 }
 
 // What follows the records of a W: the room to lend, and the size of the octets behind these fields.
@@ -59,6 +79,34 @@ fn listing_of(part: &[u8]) -> Case
     Case::Listing { places, size }
 }
 
+fn normal_of(part: &[u8]) -> Case
+    ensures { λ r. ⌜ r ≡ normalOf (now (part .entry)) ⌝ }
+    ensures { λ r. ⌜ Asked (length (now (part .entry))) r ⌝ }
+{
+    let store = size_at(part, 3);
+    if store > LARGEST {
+        return Case::Bad;
+    }
+    let room = size_at(part, 6);
+    if room > LARGEST {
+        return Case::Bad;
+    }
+    let size = size_at(part, 9);
+    if size > LARGEST {
+        return Case::Bad;
+    }
+    if 12 + size > part.len() {
+        return Case::Bad;
+    }
+    let places = field(&part[1..3]);
+    Case::Normal {
+        places,
+        store,
+        room,
+        size,
+    }
+}
+
 fn written_of(part: &[u8]) -> Case
     ensures { λ r. ⌜ r ≡ writtenOf (now (part .entry)) ⌝ }
     ensures { λ r. ⌜ Asked (length (now (part .entry))) r ⌝ }
@@ -71,6 +119,24 @@ fn written_of(part: &[u8]) -> Case
     Case::Written { count, places }
 }
 
+fn same_of(part: &[u8]) -> Case
+    ensures { λ r. ⌜ r ≡ sameOf (now (part .entry)) ⌝ }
+    ensures { λ r. ⌜ Asked (length (now (part .entry))) r ⌝ }
+{
+    let first = size_at(part, 1);
+    if first > LARGEST {
+        return Case::Bad;
+    }
+    let second = size_at(part, 4 + first);
+    if second > LARGEST {
+        return Case::Bad;
+    }
+    if 7 + first + second > part.len() {
+        return Case::Bad;
+    }
+    Case::Same { first, second }
+}
+
 pub fn case_of(part: &[u8]) -> Case
     ensures { λ r. ⌜ r ≡ caseOf (now (part .entry)) ⌝ }
     ensures { λ r. ⌜ Asked (length (now (part .entry))) r ⌝ }
@@ -81,7 +147,9 @@ pub fn case_of(part: &[u8]) -> Case
     let letter = part[0];
     match letter {
         b'L' => listing_of(part),
+        b'N' => normal_of(part),
         b'W' => written_of(part),
+        b'S' => same_of(part),
         _ => Case::Bad,
     }
 }
@@ -94,7 +162,17 @@ pub fn places_of(case: Case) -> usize
         Case::End => 0,
         Case::Bad => 0,
         Case::Listing { places, size: _ } => places,
+        Case::Normal {
+            places,
+            store: _,
+            room: _,
+            size: _,
+        } => places,
         Case::Written { count: _, places } => places,
+        Case::Same {
+            first: _,
+            second: _,
+        } => SAME_PLACES,
     }
 }
 

@@ -1,12 +1,14 @@
 // The lines of answers, put into the output, which is written out where it has no room for another line.
+use crate::marks::are_octets_kept;
 use format::Record;
 use format::Refusal;
+use format::WriteAnswer;
 use libc::STDOUT_FILENO;
 use show::Put;
 ghost use mathlib.Core.Path.{_≡_};
 ghost use Prim.Native.Nat.{_≤_, _<_};
 ghost use lib.ListN.{length};
-ghost use Rattle.answers.specs.Lines.{endOf, Piece};
+ghost use Rattle.answers.specs.Lines.{endOf, Piece, Handed};
 
 // No line of a listing is longer, and no piece of a longer line.
 const LINE: usize = 128;
@@ -125,4 +127,51 @@ pub fn say_hex(out: &mut [u8], used: usize, s: &[u8]) -> usize
         i = end;
     }
     to
+}
+
+fn say_decimal(out: &mut [u8], used: usize, n: usize) -> usize
+    requires { ⌜ used ≤ length (now out) ⌝ }
+    ensures { λ r. ⌜ r ≤ length (now (out .exit)) ⌝ }
+{
+    let at = room(out, used);
+    end_of(show::put_decimal(out, at, n), at)
+}
+
+// A refusal, and which of two objects was refused.
+pub fn say_refusal_in(out: &mut [u8], used: usize, r: Refusal, which: &[u8]) -> usize
+    requires { ⌜ used ≤ length (now out) ⌝ }
+    ensures { λ end. ⌜ end ≤ length (now (out .exit)) ⌝ }
+{
+    let number = say_bytes(out, used, b"refused ");
+    let word = say_decimal(out, number, r.number as usize);
+    let place = say_bytes(out, word, b" at ");
+    let behind = say_decimal(out, place, r.place);
+    say_bytes(out, behind, which)
+}
+
+// A word and the octets that were handed out, or the refusal. After octets the room behind them must be as it was, after a refusal all that was lent.
+pub fn say_octets(
+    word: &[u8],
+    answer: WriteAnswer,
+    room: &[u8],
+    is_rest_kept: bool,
+    out: &mut [u8],
+    used: usize,
+) -> usize
+    requires { ⌜ Handed (length (now room)) answer ⌝ }
+    requires { ⌜ used ≤ length (now out) ⌝ }
+    ensures { λ r. ⌜ r ≤ length (now (out .exit)) ⌝ }
+{
+    match answer {
+        WriteAnswer::Octets(n) => {
+            let octets = say_bytes(out, used, word);
+            let newline = say_hex(out, octets, &room[..n]);
+            let to = say_bytes(out, newline, b"\n");
+            say_if_touched(out, to, are_octets_kept(room, n))
+        }
+        WriteAnswer::NotWritten(refusal) => {
+            let to = say_refusal(out, used, refusal);
+            say_if_touched(out, to, is_rest_kept && are_octets_kept(room, 0))
+        }
+    }
 }

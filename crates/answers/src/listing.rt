@@ -6,10 +6,14 @@ use crate::lines::say_records;
 use crate::lines::say_refusal;
 use crate::marks::are_lists_kept;
 use crate::marks::mark_lists;
+use crate::stream::Turn;
+use crate::stream::Window;
+use crate::stream::passed;
 use format::ReadAnswer;
 use format::Record;
-ghost use Prim.Native.Nat.{_≤_};
+ghost use Prim.Native.Nat.{_+_, _-_, _≤_};
 ghost use lib.ListN.{length};
+ghost use Rattle.answers.specs.Stream.{Standing, Turned};
 
 fn octet_at(s: &[u8], i: usize) -> u8 {
     if i < s.len() { s[i] } else { 0 }
@@ -50,8 +54,7 @@ fn say_listing(
     say_records(out, to, n)
 }
 
-// The lists are the places that the case asks for, and no more.
-pub fn answer_listing(
+fn list_object(
     object: &[u8],
     tags: &mut [u8],
     kinds: &mut [u8],
@@ -78,5 +81,43 @@ pub fn answer_listing(
             let kept = are_lists_kept(tags, kinds, depths, parents, starts, sizes, 0);
             say_if_touched(out, to, kept)
         }
+    }
+}
+
+// The lists are the places of the case, and no more.
+pub fn answer_listing(
+    size: usize,
+    input: &[u8],
+    tags: &mut [u8],
+    kinds: &mut [u8],
+    depths: &mut [u8],
+    parents: &mut [u16],
+    starts: &mut [u16],
+    sizes: &mut [u16],
+    out: &mut [u8],
+    here: Window,
+    used: usize,
+) -> Turn
+    requires { ⌜ Standing (length (now input)) here ⌝ }
+    requires { ⌜ 6 + size ≤ here .to - here .from ⌝ }
+    requires { ⌜ used ≤ length (now out) ⌝ }
+    ensures { λ r. ⌜ Turned (length (now (input .entry))) (length (now (out .exit))) r ⌝ }
+{
+    let start = here.from + 6;
+    let end = start + size;
+    let used = list_object(
+        &input[start..end],
+        tags,
+        kinds,
+        depths,
+        parents,
+        starts,
+        sizes,
+        out,
+        used,
+    );
+    Turn::Answered {
+        w: passed(here, 6 + size),
+        used,
     }
 }

@@ -99,3 +99,19 @@ pub fn mark_lists(
     mark_numbers(starts);
     mark_numbers(sizes);
 }
+
+// Whether lists and a store are as they were.
+pub fn is_all_kept(
+    tags: &[u8],
+    kinds: &[u8],
+    depths: &[u8],
+    parents: &[u16],
+    starts: &[u16],
+    sizes: &[u16],
+    store: &[u8],
+) -> bool {
+    if !are_octets_kept(store, 0) {
+        return false;
+    }
+    are_lists_kept(tags, kinds, depths, parents, starts, sizes, 0)
+}

@@ -5,8 +5,8 @@ ghost use Prim.Native.Nat.{_+_, _≤_};
 ghost use lib.ListN.{length};
 ghost use Rattle.answers.specs.Stream.{Standing};
 
-// No piece is longer: six octets and an object.
-const LONGEST_PIECE: usize = 65_542;
+// No piece is longer: an S with its letter, two sizes and two objects.
+const LONGEST_PIECE: usize = 131_079;
 
 // The part of the buffer that isn't answered yet, the offset in the stream at which it begins, and whether there may be more to read.
 pub struct Window {

@@ -2,20 +2,15 @@
 use crate::cases::Tail;
 use crate::cases::field;
 use crate::cases::tail_of;
-use crate::lines::say_bytes;
-use crate::lines::say_hex;
-use crate::lines::say_if_touched;
-use crate::lines::say_refusal;
-use crate::marks::are_octets_kept;
+use crate::lines::say_octets;
 use crate::marks::mark_octets;
 use crate::stream::Turn;
 use crate::stream::Window;
 use crate::stream::fetch;
 use crate::stream::passed;
-use format::WriteAnswer;
-ghost use Prim.Native.Nat.{_+_, _≤_, _<_};
+ghost use mathlib.Core.Path.{_≡_};
+ghost use Prim.Native.Nat.{_+_, _≤_};
 ghost use lib.ListN.{length};
-ghost use Rattle.answers.specs.Lines.{Handed};
 ghost use Rattle.answers.specs.Stream.{Standing, Reaches, Turned, Ample};
 
 // A record of the stream: its tag, kind and depth, and three numbers of two octets.
@@ -127,26 +122,6 @@ fn take_records(
     Taken::Behind(behind)
 }
 
-// A word and the octets that were handed out, or the refusal; then whether the room behind the octets is as it was.
-fn say_octets(word: &[u8], answer: WriteAnswer, room: &[u8], out: &mut [u8], used: usize) -> usize
-    requires { ⌜ Handed (length (now room)) answer ⌝ }
-    requires { ⌜ used ≤ length (now out) ⌝ }
-    ensures { λ r. ⌜ r ≤ length (now (out .exit)) ⌝ }
-{
-    match answer {
-        WriteAnswer::Octets(n) => {
-            let octets = say_bytes(out, used, word);
-            let newline = say_hex(out, octets, &room[..n]);
-            let to = say_bytes(out, newline, b"\n");
-            say_if_touched(out, to, are_octets_kept(room, n))
-        }
-        WriteAnswer::NotWritten(refusal) => {
-            let to = say_refusal(out, used, refusal);
-            say_if_touched(out, to, are_octets_kept(room, 0))
-        }
-    }
-}
-
 fn answer_records(
     count: usize,
     tags: &[u8],
@@ -175,7 +150,7 @@ fn answer_records(
         octets,
         room,
     );
-    say_octets(b"written ", answer, room, out, used)
+    say_octets(b"written ", answer, room, true, out, used)
 }
 
 // The fields and octets behind the records, and the answer.
@@ -194,7 +169,7 @@ fn answer_tail(
     used: usize,
 ) -> Turn
     requires { ⌜ Standing (length (now input)) w ⌝ }
-    requires { ⌜ 65_536 ≤ length (now room) ⌝ }
+    requires { ⌜ 65_536 ≡ length (now room) ⌝ }
     requires { ⌜ used ≤ length (now out) ⌝ }
     ensures { λ r. ⌜ Turned (length (now (input .exit))) (length (now (out .exit))) r ⌝ }
 {
@@ -244,7 +219,7 @@ pub fn answer_written(
 ) -> Turn
     requires { ⌜ Standing (length (now input)) w ⌝ }
     requires { ⌜ Ample (length (now tags)) (now tags) (now kinds) (now depths) (now parents) (now starts) (now sizes) ⌝ }
-    requires { ⌜ 65_536 ≤ length (now room) ⌝ }
+    requires { ⌜ 65_536 ≡ length (now room) ⌝ }
     requires { ⌜ used ≤ length (now out) ⌝ }
     ensures { λ r. ⌜ Turned (length (now (input .exit))) (length (now (out .exit))) r ⌝ }
 {

@@ -71,6 +71,11 @@ pub record ReadClaim (object : List ℕ) (before after : Lists) (answer : ReadAn
   pub answers : answer ≡ readAnswer (places before) (judge object)
   pub leaves : after ≡ lay 0 (readRecords (places before) (judge object)) before
 
+-- read_at_most: the same with no more places than the caller says
+pub record ReadAtMostClaim (object : List ℕ) (most : ℕ) (before after : Lists) (answer : ReadAnswer) : Type 0 where
+  pub answers : answer ≡ readAnswer (min most (places before)) (judge object)
+  pub leaves : after ≡ lay 0 (readRecords (min most (places before)) (judge object)) before
+
 -- read_records: the same with a slice of records too, whose length counts among the places; the records stand in it before what lay behind them
 pub record ReadRecordsClaim (object : List ℕ) (before after : Lists) (slice slice′ : List Record) (answer : ReadAnswer) : Type 0 where
   pub answers : answer ≡ readAnswer (min (length slice) (places before)) (judge object)

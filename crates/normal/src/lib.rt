@@ -13,12 +13,12 @@ mod table;
 
 use crate::load::Standing;
 use crate::load::load;
-use crate::load::places;
 use crate::load::survey;
 use format::ReadAnswer;
 use format::Refusal;
 use format::SameAnswer;
 use format::WriteAnswer;
+use reader::places;
 
 // The normal form of an object, written to `room`. The lists and the store then hold the loaded tree. On a refusal (1 to 13 of the object, 14, 15) all that is
 // lent is as it was.

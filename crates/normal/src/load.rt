@@ -1,10 +1,8 @@
 // Loading: the records of an accepted object in the lists, over a store that holds its expanded texts, normal values and plain octets. Nothing is touched before
 // the object is measured, and nothing then before it is accepted.
 ghost use mathlib.Core.Path.{_≡_};
-ghost use Prim.Native.Nat.{min};
 ghost use lib.ListN.{length};
 ghost use Rattle.format.specs.Judge.{judge};
-ghost use Rattle.format.specs.Calls.{places};
 ghost use Rattle.reader.specs.Lent.{lent};
 ghost use Rattle.normal.specs.Load.{sufficient, unfit, LoadClaim, surveyed};
 use crate::measure::Measured;
@@ -14,41 +12,13 @@ use crate::table::table_of;
 use format::ReadAnswer;
 use format::Refusal;
 use judge::judge;
+use reader::places;
 
 // An object held against what is lent: refused by the judgement; accepted, but without places for it (14) or room (15); or it fits.
 pub enum Standing {
     Bad(Refusal),
     Misfit(Refusal),
     Fits,
-}
-
-fn least(a: usize, b: usize) -> usize
-    ensures { λ r. ⌜ r ≡ min a b ⌝ }
-{
-    if a < b { a } else { b }
-}
-
-// How many records the lists have places for.
-pub fn places(
-    tags: &[u8],
-    kinds: &[u8],
-    depths: &[u8],
-    parents: &[u16],
-    starts: &[u16],
-    sizes: &[u16],
-) -> usize
-    ensures { λ r. ⌜ r ≡ places (lent (tags .entry) (kinds .entry) (depths .entry) (parents .entry) (starts .entry) (sizes .entry)) ⌝ }
-{
-    least(
-        tags.len(),
-        least(
-            kinds.len(),
-            least(
-                depths.len(),
-                least(parents.len(), least(starts.len(), sizes.len())),
-            ),
-        ),
-    )
 }
 
 fn is_sufficient(needs: Measured, store: usize, room: usize) -> bool

@@ -1,8 +1,8 @@
--- The ways through read: refused, too few places, or filled.
+-- The ways through read_at_most: refused, too few places, or filled; and read, whose limit is none.
 use mathlib.Core.Path.{_≡_, refl, sym, ap, _∙_}
 use mathlib.Core.Bool.{true, false, _&&_}
 use mathlib.Core.List.{List}
-use Prim.Native.Nat.{ℕ, _≤_, _<_}
+use Prim.Native.Nat.{ℕ, _≤_, _<_, min}
 use native.Mathlib.Omega.{arith}
 use lib.Dec.{leb}
 use lib.ListN.{length}
@@ -16,7 +16,7 @@ use Rattle.format.specs.Answers.{refusal}
 use Rattle.format.specs.Tree.{Items, count, records}
 use Rattle.format.specs.Judge.{Judged, judge, outermost, read, rule}
 use Rattle.format.specs.Judge.Judged.{refused, accepted}
-use Rattle.format.specs.Calls.{Lists, places, lay, judgeAnswer, readAnswer, readRecords, ReadClaim}
+use Rattle.format.specs.Calls.{Lists, places, lay, judgeAnswer, readAnswer, readRecords, ReadClaim, ReadAtMostClaim}
 use Rattle.format.proofs.Rules.{rule-true, unless-none, unless-accepted}
 use Rattle.format.proofs.Induction.{few}
 use Rattle.reader.specs.declared.filling.Place.{Place}
@@ -51,8 +51,8 @@ whole-accepts o t h = record { context = outermost; isElement = refl; isDepth = 
 abbrev top : Place
 top = record { element = 0; number = 0; depth = 1; offset = 0; next = 0 }
 
-module _ (o : List ℕ) (l : Lists) (v : ReadAnswer) (e : v ≡ judgeAnswer (judge o)) where
-  pub read-refused : (r : Refusal) → v ≡ NotRead r → ReadClaim o l l (NotRead r)
+module _ (o : List ℕ) (most : ℕ) (l : Lists) (v : ReadAnswer) (e : v ≡ judgeAnswer (judge o)) where
+  pub read-refused : (r : Refusal) → v ≡ NotRead r → ReadAtMostClaim o most l l (NotRead r)
   unfolding readAnswer readRecords lay
   read-refused r f = let j : judge o ≡ refused r = was-refused (judge o) r (sym f ∙ e) in record { answers = rw j; leaves = rw j }
 
@@ -60,11 +60,11 @@ module _ (o : List ℕ) (l : Lists) (v : ReadAnswer) (e : v ≡ judgeAnswer (jud
     taken : Taken (judge o) c
     taken = was-accepted (judge o) c (sym f ∙ e)
 
-    module _ (n : ℕ) (en : n ≡ places l) where
-      pub read-full : n < c .records → ReadClaim o l l (NotRead (refusal 14 0))
+    module _ (there n : ℕ) (et : there ≡ places l) (en : n ≡ min most there) where
+      pub read-full : n < c .records → ReadAtMostClaim o most l l (NotRead (refusal 14 0))
       unfolding readAnswer readRecords lay
       read-full h =
-          let k : leb (count (taken .tree)) (places l) ≡ false = lt-leb (count (taken .tree)) (places l) (omega (arith, taken .many)) in
+          let k : leb (count (taken .tree)) (min most (places l)) ≡ false = lt-leb (count (taken .tree)) (min most (places l)) (omega (arith, taken .many)) in
           record { answers = rw (taken .is, k); leaves = rw (taken .is, k) }
 
       module _ (h : c .records ≤ n) where
@@ -80,10 +80,15 @@ module _ (o : List ℕ) (l : Lists) (v : ReadAnswer) (e : v ≡ judgeAnswer (jud
           };
         }
 
-        pub read-filled : (l′ : Lists) (m : ℕ) → Fills top o l l′ m → ReadClaim o l l′ (Records c)
+        pub read-filled : (l′ : Lists) (m : ℕ) → Fills top o l l′ m → ReadAtMostClaim o most l l′ (Records c)
         unfolding Fills readAnswer readRecords
         read-filled l′ m g =
-            let k : leb (count (taken .tree)) (places l) ≡ true = le-leb (count (taken .tree)) (places l) (omega (arith, taken .many)) in
+            let k : leb (count (taken .tree)) (min most (places l)) ≡ true = le-leb (count (taken .tree)) (min most (places l)) (omega (arith, taken .many)) in
             let d : Filled top (taken .tree) l l′ m = g (taken .tree) (whole-accepts o (taken .tree) (taken .is)) in
             let same : c ≡ record { records = count (taken .tree) } = λ i. record { records = taken .many i } in
             record { answers = rw (taken .is, k) (ap Records same); leaves = rw (taken .is, k) (d .laid) }
+
+-- the places of the tags' list are no limit
+pub read-whole : (o : List ℕ) (l l′ : Lists) (r : ReadAnswer) → ReadAtMostClaim o (length (l .tags)) l l′ r → ReadClaim o l l′ r
+unfolding places
+read-whole o l l′ r c = let e : min (length (l .tags)) (places l) ≡ places l = omega arith in record { answers = rw (sym e) (c .answers); leaves = rw (sym e) (c .leaves) }

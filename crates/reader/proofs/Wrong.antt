@@ -18,17 +18,17 @@ use Rattle.format.specs.Tree.{Items, kindOf, count, records}
 use Rattle.format.specs.Tree.Items.{end, item}
 use Rattle.format.specs.Judge.{isKnown, isItems, isTokens, isText, isValue, isTop, allowed, latest, stageAfter, limit, notAbove, shown, ofTop, rule, first, kindRules, itemRules, own, late, lateBefore, lateAfter, broken, within, waits, next, unless, followed, joined, byKind, items, outermost, judge}
 use Rattle.format.specs.Judge.Judged.{accepted}
-use Rattle.format.specs.Calls.{Lists, places, put, lay, readAnswer, readRecords, ReadClaim, spanOf, bodyAt}
+use Rattle.format.specs.Calls.{Lists, places, put, lay, readAnswer, readRecords, ReadClaim, ReadAtMostClaim, spanOf, bodyAt}
 use Rattle.reader.specs.Lent.{six}
 
 -- an element of four octets, and in it one of two (the listing of document 01)
-abbrev object : List ℕ
+abbrev pub object : List ℕ
 object = 0x03 ∷ 0x04 ∷ 0x06 ∷ 0x02 ∷ 0x65 ∷ 0x6E ∷ []
 
-abbrev tree : Items
+abbrev pub tree : Items
 tree = item 0x03 2 (0x06 ∷ 0x02 ∷ 0x65 ∷ 0x6E ∷ []) (item 0x06 4 (0x65 ∷ 0x6E ∷ []) end end) end
 
-judged : judge object ≡ accepted tree
+pub judged : judge object ≡ accepted tree
 unfolding among value headerSize bodySize layout token character single goesOn utf8 text entry orItself stands expanded present covers covered shownLength rows kindIn known attribute fits isKnown isItems isTokens isText isValue isTop allowed latest stageAfter limit notAbove shown ofTop rule first kindRules itemRules own late lateBefore lateAfter broken within waits next unless followed joined byKind items outermost judge
 judged = refl
 
@@ -42,22 +42,22 @@ twos = 9 ∷ 9 ∷ []
 abbrev threes : List ℕ
 threes = 9 ∷ 9 ∷ 9 ∷ []
 
-abbrev one : Lists
+abbrev pub one : Lists
 one = six ones ones ones ones ones ones
 
 abbrev uneven : Lists
 uneven = six twos twos twos twos twos ones
 
-abbrev two : Lists
+abbrev pub two : Lists
 two = six twos twos twos twos twos twos
 
 abbrev three : Lists
 three = six threes threes threes threes threes threes
 
-abbrev top : Record
+abbrev pub top : Record
 top = record { tag = 0x03; kind = 0; depth = 1; parent = 0; start = 2; size = 4 }
 
-abbrev inner : Record
+abbrev pub inner : Record
 inner = record { tag = 0x06; kind = 0; depth = 2; parent = 0; start = 4; size = 2 }
 
 -- what is answered and left, by places
@@ -108,6 +108,34 @@ read-own-parent after r e c = let z : _≡_ {A = ℕ} 0 1 = sym (ap (λ l. getD 
 
 pub read-cleared : (after : Lists) (r : ReadAnswer) → getD (after .kinds) 2 0 ≡ 0 → ReadClaim object three after r → ⊥
 read-cleared after r e c = let z : _≡_ {A = ℕ} 9 0 = sym (ap (λ l. getD (l .kinds) 2 0) (with-three after r c)) ∙ e in omega arith
+
+-- ---- read_at_most: more records than the caller allows; a limit that the lists don't have the places for; the records left in spite of the refusal
+module _ (after : Lists) (r : ReadAnswer) where
+  with-limit : ReadAtMostClaim object 1 two after r → (r ≡ NotRead (refusal 14 0)) × (after ≡ two)
+  unfolding readAnswer readRecords places lay count
+  with-limit c = (rw judged at (c .answers), rw judged at (c .leaves))
+
+  with-wide-limit : ReadAtMostClaim object 2 one after r → r ≡ NotRead (refusal 14 0)
+  unfolding readAnswer places count
+  with-wide-limit c = rw judged at (c .answers)
+
+pub limit-unheeded : (after : Lists) → ReadAtMostClaim object 1 two after (Records (record { records = 2 })) → ⊥
+limit-unheeded after c = let h = with-limit after (Records (record { records = 2 })) c .0 in let z : _≡_ {A = ℕ} 0 1 = cc h in omega arith
+
+pub limit-for-places : (after : Lists) → ReadAtMostClaim object 2 one after (Records (record { records = 2 })) → ⊥
+limit-for-places after c = let h = with-wide-limit after (Records (record { records = 2 })) c in let z : _≡_ {A = ℕ} 0 1 = cc h in omega arith
+
+pub limit-overrun : (r : ReadAnswer) → ReadAtMostClaim object 1 two (put 1 inner (put 0 top two)) r → ⊥
+limit-overrun r c = let z : _≡_ {A = ℕ} 3 9 = ap (λ l. getD (l .tags) 0 0) (with-limit (put 1 inner (put 0 top two)) r c .1) in omega arith
+
+-- ---- places: of the first list; of the longest
+pub places-of-tags : places (six twos ones twos twos twos twos) ≡ 2 → ⊥
+unfolding places
+places-of-tags h = let z : _≡_ {A = ℕ} 1 2 = h in omega arith
+
+pub places-of-longest : places (six ones ones ones ones ones twos) ≡ 2 → ⊥
+unfolding places
+places-of-longest h = let z : _≡_ {A = ℕ} 1 2 = h in omega arith
 
 -- ---- span: a size with one octet too many; nothing where a body ends with the object; a span past its end; a number that only one of the lists has
 pub span-longer : spanOf object (2 ∷ 4 ∷ []) (4 ∷ 2 ∷ []) 1 ≡ record { start = 4; size = 3 } → ⊥

@@ -1,38 +1,42 @@
 // Reading: the records of an object into lists that the caller lends, and the octets that a record speaks of.
 ghost use mathlib.Core.Path.{_≡_};
 ghost use Prim.Native.Nat.{_^_, _<_};
-ghost use Rattle.format.specs.Calls.{ReadClaim, spanOf, bodyAt};
+ghost use Rattle.format.specs.Calls.{ReadClaim, ReadAtMostClaim, spanOf, bodyAt};
 ghost use Rattle.reader.specs.Lent.{lent};
 
 mod filling;
 
 use filling::Place;
 use filling::fill_items;
-use filling::places;
+use filling::least;
+pub use filling::places;
 use format::ReadAnswer;
 use format::Refusal;
 use format::Span;
 use judge::judge;
 
-// The records of an object in reading order, the first at number 0. Nothing is written before the whole object is accepted and the
-// shortest list is known to have a place for each record.
-pub fn read(
-    object: &[u8],
-    tags: &mut [u8],
-    kinds: &mut [u8],
-    depths: &mut [u8],
-    parents: &mut [u16],
-    starts: &mut [u16],
-    sizes: &mut [u16],
+// The records of an object in reading order, the first at number 0, into no more places than the caller says. Nothing is written before
+// the whole object is accepted and each record is known to have a place, in the shortest list too. The lists are lent for one lifetime, so
+// that a caller that is proved by hand hands over one.
+pub fn read_at_most<'o, 'l>(
+    object: &'o [u8],
+    most: usize,
+    tags: &'l mut [u8],
+    kinds: &'l mut [u8],
+    depths: &'l mut [u8],
+    parents: &'l mut [u16],
+    starts: &'l mut [u16],
+    sizes: &'l mut [u16],
 ) -> ReadAnswer
-    ensures { λ r. ⌜ ReadClaim (now (object .entry)) (lent (tags .entry) (kinds .entry) (depths .entry) (parents .entry) (starts .entry) (sizes .entry)) (lent (tags .exit) (kinds .exit) (depths .exit) (parents .exit) (starts .exit) (sizes .exit)) r ⌝ }
+    ensures { λ r. ⌜ ReadAtMostClaim (now (object .entry)) most (lent (tags .entry) (kinds .entry) (depths .entry) (parents .entry) (starts .entry) (sizes .entry)) (lent (tags .exit) (kinds .exit) (depths .exit) (parents .exit) (starts .exit) (sizes .exit)) r ⌝ }
 {
     let answer = judge(object);
     match answer {
         ReadAnswer::NotRead(refusal) => ReadAnswer::NotRead(refusal),
         ReadAnswer::Records(counts) => {
             let many = counts.records;
-            if places(tags, kinds, depths, parents, starts, sizes) < many {
+            let there = places(tags, kinds, depths, parents, starts, sizes);
+            if least(most, there) < many {
                 return ReadAnswer::NotRead(Refusal {
                     number: 14,
                     place: 0,
@@ -49,6 +53,22 @@ pub fn read(
             ReadAnswer::Records(counts)
         }
     }
+}
+
+// The same into as many places as the lists have. The tags' list has no fewer places than the shortest, so its length sets no limit.
+pub fn read(
+    object: &[u8],
+    tags: &mut [u8],
+    kinds: &mut [u8],
+    depths: &mut [u8],
+    parents: &mut [u16],
+    starts: &mut [u16],
+    sizes: &mut [u16],
+) -> ReadAnswer
+    ensures { λ r. ⌜ ReadClaim (now (object .entry)) (lent (tags .entry) (kinds .entry) (depths .entry) (parents .entry) (starts .entry) (sizes .entry)) (lent (tags .exit) (kinds .exit) (depths .exit) (parents .exit) (starts .exit) (sizes .exit)) r ⌝ }
+{
+    let most = tags.len();
+    read_at_most(object, most, tags, kinds, depths, parents, starts, sizes)
 }
 
 fn wide(n: u16) -> usize

@@ -1,10 +1,14 @@
 -- The lines by computation: document 01's listing whole (Bench cases), and answers that no call of this crate may give.
 use mathlib.Core.Path.{_≡_, refl, sym, ap, _∙_}
-use mathlib.Core.Bool.{true, false, cond}
+use mathlib.Core.Bool.{Bool, true, false, cond}
 use mathlib.Core.List.{List, [], _∷_, _++_}
-use Prim.Native.Nat.{ℕ}
+use Prim.Native.Nat.{ℕ, _+_}
 use native.Mathlib.Omega.{arith}
-use lib.ListN.{getD}
+use lib.Dec.{leb}
+use lib.ListN.{length, take, drop, getD}
+use lib.Seq.{sets}
+use borrow.Author.Tests.{leb-true}
+use Rattle.octets.proofs.Lists.{part-of-sets}
 use Rattle.format.specs.Answers.{refusal}
 use Rattle.format.specs.declared.Record.{Record}
 use Rattle.show.specs.declared.Put.{Put}
@@ -69,3 +73,23 @@ body-words = refl
 tree-words : refusalWords 16 ≡ ascii "the records are not a well-formed tree"
 unfolding refusalWords reasons ascii
 tree-words = refl
+
+-- two answers that no call of this crate may give, whatever its text is: that a text was put which doesn't stand there, and that there is no room where a part of
+-- it was left
+not-put : (text : List ℕ) (at : ℕ) (out : List ℕ) (n : ℕ) → (take (length text) (drop at out) ≡ text → ⊥) → Puts text at out out (Put.Done n) → ⊥
+unfolding putAnswer putLeaves
+not-put text at out n h p = go (leb (at + length text) (length out)) refl
+  where
+    go : (b : Bool) → leb (at + length text) (length out) ≡ b → ⊥
+    go true e =
+        let laid : out ≡ sets out at text = rw e at (p .leaves) in
+        h (ap (λ o. take (length text) (drop at o)) laid ∙ part-of-sets out at text (leb-true (at + length text) (length out) e))
+    go false e = let w : Put.Done n ≡ Put.NoRoom = rw e at (p .answers) in let z : _≡_ {A = ℕ} 0 1 = cc in omega arith
+
+part-left : (text : List ℕ) (at : ℕ) (out out′ : List ℕ) → (out′ ≡ out → ⊥) → Puts text at out out′ Put.NoRoom → ⊥
+unfolding putAnswer putLeaves
+part-left text at out out′ h p = go (leb (at + length text) (length out)) refl
+  where
+    go : (b : Bool) → leb (at + length text) (length out) ≡ b → ⊥
+    go true e = let w : Put.NoRoom ≡ Put.Done (at + length text) = rw e at (p .answers) in let z : _≡_ {A = ℕ} 0 1 = cc in omega arith
+    go false e = h (rw e at (p .leaves))

@@ -1,3 +1,4 @@
+use mathlib.Core.Path.{_∙_}
 use native.Mathlib.Omega.{arith}
 use borrow.Author.Needs.{needs}
 use Rattle.answers.proofs.Ways.{part-count, asked-left, ample-part}
@@ -27,49 +28,50 @@ slice-relend-prefix-answer c = search needs
 
 slice-aggregate-answer : tie.Need-slice-aggregate-answer
 slice-aggregate-answer c =
-    part-count _ (c .before .before .before .before .before .before .before .before .before .before .before .before .before .before .before .before .before .before .before .args .tags .now) (omega (arith, c .before .before .places-of .ensures, c .before .before .before .case-of .ensures .1 .few, c .before .before .before .before .before .before .before .before .before .before .before .before .before .before .before .before .before .before .before .pre .1 .0 .tag))
+    part-count _ (c .before .before .before .before .before .before .before .before .before .before .before .before .before .before .before .before .before .before .before .before .before .args .tags .now) (omega (arith, c .before .before .places-of .ensures, c .before .before .before .case-of .ensures .1 .few, c .before .before .before .before .before .before .before .before .before .before .before .before .before .before .before .before .before .before .before .before .before .pre .1 .0 .tag))
 
 slice-relend-prefix-answer-2 : tie.Need-slice-relend-prefix-answer-2
 slice-relend-prefix-answer-2 c = search needs
 
 slice-aggregate-answer-2 : tie.Need-slice-aggregate-answer-2
 slice-aggregate-answer-2 c =
-    part-count _ (c .before .before .before .before .before .before .before .before .before .before .before .before .before .before .before .before .before .before .before .before .args .kinds .now) (omega (arith, c .before .before .before .places-of .ensures, c .before .before .before .before .case-of .ensures .1 .few, c .before .before .before .before .before .before .before .before .before .before .before .before .before .before .before .before .before .before .before .before .pre .1 .0 .kind))
+    part-count _ (c .before .before .before .before .before .before .before .before .before .before .before .before .before .before .before .before .before .before .before .before .before .before .args .kinds .now) (omega (arith, c .before .before .before .places-of .ensures, c .before .before .before .before .case-of .ensures .1 .few, c .before .before .before .before .before .before .before .before .before .before .before .before .before .before .before .before .before .before .before .before .before .before .pre .1 .0 .kind))
 
 slice-relend-prefix-answer-3 : tie.Need-slice-relend-prefix-answer-3
 slice-relend-prefix-answer-3 c = search needs
 
 slice-aggregate-answer-3 : tie.Need-slice-aggregate-answer-3
 slice-aggregate-answer-3 c =
-    part-count _ (c .before .before .before .before .before .before .before .before .before .before .before .before .before .before .before .before .before .before .before .before .before .args .depths .now) (omega (arith, c .before .before .before .before .places-of .ensures, c .before .before .before .before .before .case-of .ensures .1 .few, c .before .before .before .before .before .before .before .before .before .before .before .before .before .before .before .before .before .before .before .before .before .pre .1 .0 .depth))
+    part-count _ (c .before .before .before .before .before .before .before .before .before .before .before .before .before .before .before .before .before .before .before .before .before .before .before .args .depths .now) (omega (arith, c .before .before .before .before .places-of .ensures, c .before .before .before .before .before .case-of .ensures .1 .few, c .before .before .before .before .before .before .before .before .before .before .before .before .before .before .before .before .before .before .before .before .before .before .before .pre .1 .0 .depth))
 
 slice-relend-prefix-answer-4 : tie.Need-slice-relend-prefix-answer-4
 slice-relend-prefix-answer-4 c = search needs
 
 slice-aggregate-answer-4 : tie.Need-slice-aggregate-answer-4
 slice-aggregate-answer-4 c =
-    part-count _ (c .before .before .before .before .before .before .before .before .before .before .before .before .before .before .before .before .before .before .before .before .before .before .args .parents .now) (omega (arith, c .before .before .before .before .before .places-of .ensures, c .before .before .before .before .before .before .case-of .ensures .1 .few, c .before .before .before .before .before .before .before .before .before .before .before .before .before .before .before .before .before .before .before .before .before .before .pre .1 .0 .parent))
+    part-count _ (c .before .before .before .before .before .before .before .before .before .before .before .before .before .before .before .before .before .before .before .before .before .before .before .before .args .parents .now) (omega (arith, c .before .before .before .before .before .places-of .ensures, c .before .before .before .before .before .before .case-of .ensures .1 .few, c .before .before .before .before .before .before .before .before .before .before .before .before .before .before .before .before .before .before .before .before .before .before .before .before .pre .1 .0 .parent))
 
 slice-relend-prefix-answer-5 : tie.Need-slice-relend-prefix-answer-5
 slice-relend-prefix-answer-5 c = search needs
 
 slice-aggregate-answer-5 : tie.Need-slice-aggregate-answer-5
 slice-aggregate-answer-5 c =
-    part-count _ (c .before .before .before .before .before .before .before .before .before .before .before .before .before .before .before .before .before .before .before .before .before .before .before .args .starts .now) (omega (arith, c .before .before .before .before .before .before .places-of .ensures, c .before .before .before .before .before .before .before .case-of .ensures .1 .few, c .before .before .before .before .before .before .before .before .before .before .before .before .before .before .before .before .before .before .before .before .before .before .before .pre .1 .0 .start))
+    part-count _ (c .before .before .before .before .before .before .before .before .before .before .before .before .before .before .before .before .before .before .before .before .before .before .before .before .before .args .starts .now) (omega (arith, c .before .before .before .before .before .before .places-of .ensures, c .before .before .before .before .before .before .before .case-of .ensures .1 .few, c .before .before .before .before .before .before .before .before .before .before .before .before .before .before .before .before .before .before .before .before .before .before .before .before .before .pre .1 .0 .start))
 
 slice-relend-prefix-answer-6 : tie.Need-slice-relend-prefix-answer-6
 slice-relend-prefix-answer-6 c = search needs
 
 slice-aggregate-answer-6 : tie.Need-slice-aggregate-answer-6
 slice-aggregate-answer-6 c =
-    part-count _ (c .before .before .before .before .before .before .before .before .before .before .before .before .before .before .before .before .before .before .before .before .before .before .before .before .args .sizes .now) (omega (arith, c .before .before .before .before .before .before .before .places-of .ensures, c .before .before .before .before .before .before .before .before .case-of .ensures .1 .few, c .before .before .before .before .before .before .before .before .before .before .before .before .before .before .before .before .before .before .before .before .before .before .before .before .pre .1 .0 .size))
+    part-count _ (c .before .before .before .before .before .before .before .before .before .before .before .before .before .before .before .before .before .before .before .before .before .before .before .before .before .before .args .sizes .now) (omega (arith, c .before .before .before .before .before .before .before .places-of .ensures, c .before .before .before .before .before .before .before .before .case-of .ensures .1 .few, c .before .before .before .before .before .before .before .before .before .before .before .before .before .before .before .before .before .before .before .before .before .before .before .before .before .before .pre .1 .0 .size))
 
 answer-requires : tie.Need-answer-requires
 answer-requires c κs =
-    (c .before .before .before .before .before .before .before .before .before .before .before .before .before .before .before .fetch .ensures, (asked-left (c .before .before .before .before .before .before .before .before .before .before .before .before .before .before .before .fetch .last .0) _ (c .before .before .before .before .before .before .before .before .before .before .before .before .before .before .before .fetch .ensures) _ (c .before .before .before .before .before .before .before .before .before .before .case-of .ensures .1), (ample-part (c .before .before .before .before .before .before .before .before .before .before .before .before .before .before .before .before .before .before .before .before .before .before .before .before .before .before .pre .1 .0) (c .before .before .before .before .before .before .before .before .before .places-of .result) (omega (arith, c .before .before .before .before .before .before .before .before .before .places-of .ensures, c .before .before .before .before .before .before .before .before .before .before .case-of .ensures .1 .few)), c .before .before .before .before .before .before .before .before .before .before .before .before .before .before .before .before .before .before .before .before .before .before .before .before .before .before .pre .1 .1)))
+    (c .before .before .before .before .before .before .before .before .before .before .before .before .before .before .before .before .before .fetch .ensures, (asked-left (c .before .before .before .before .before .before .before .before .before .before .before .before .before .before .before .before .before .fetch .last .0) _ (c .before .before .before .before .before .before .before .before .before .before .before .before .before .before .before .before .before .fetch .ensures) _ (c .before .before .before .before .before .before .before .before .before .before .before .before .case-of .ensures .1), (ample-part (c .before .before .before .before .before .before .before .before .before .before .before .before .before .before .before .before .before .before .before .before .before .before .before .before .before .before .before .before .before .before .pre .1 .0) (c .before .before .before .before .before .before .before .before .before .before .before .places-of .result) (omega (arith, c .before .before .before .before .before .before .before .before .before .before .before .places-of .ensures, c .before .before .before .before .before .before .before .before .before .before .before .before .case-of .ensures .1 .few)), c .before .before .before .before .before .before .before .before .before .before .before .before .before .before .before .before .before .before .before .before .before .before .before .before .before .before .before .before .before .before .pre .1 .1)))
 
 same-length : tie.Need-same-length
-same-length c = search needs
+same-length c =
+    c .before .before .before .before .before .before .before .before .before .before .before .before .before .before .before .before .before .before .before .before .before .before .answer .kept .1 .0 ∙ c .before .before .before .before .before .before .before .before .before .before .before .before .before .before .before .before .before .before .before .before .before .before .before .before .before .before .before .before .before .before .before .before .before .before .before .before .before .before .before .before .fetch .kept .0
 
 same-length-2 : tie.Need-same-length-2
 same-length-2 c = search needs
@@ -94,6 +96,12 @@ same-length-8 c = search needs
 
 same-length-9 : tie.Need-same-length-9
 same-length-9 c = search needs
+
+same-length-10 : tie.Need-same-length-10
+same-length-10 c = search needs
+
+same-length-11 : tie.Need-same-length-11
+same-length-11 c = search needs
 
 returns : tie.Need-returns
 returns c = search needs
@@ -130,4 +138,6 @@ one-case-spec =
     same-length-7
     same-length-8
     same-length-9
+    same-length-10
+    same-length-11
     returns)

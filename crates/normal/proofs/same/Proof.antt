@@ -8,7 +8,7 @@ use Rattle.normal.proofs.same.Lts as lts
 use Rattle.normal.proofs.compare.Reads as compare-reads
 use Rattle.normal.proofs.first_bad_or.Reads as first-bad-or-reads
 use Rattle.normal.proofs.first_or.Reads as first-or-reads
-use Rattle.normal.proofs.load.places.Reads as places-reads
+use Rattle.reader.proofs.places.Reads as places-reads
 use Rattle.normal.proofs.load.survey.Reads as survey-reads
 
 places-requires : tie.Need-places-requires

@@ -6,7 +6,7 @@ use Rattle.normal.proofs.load.load.Tie as tie
 use Rattle.normal.proofs.load.load.Reads as reads
 use Rattle.normal.proofs.load.load.Lts as lts
 use Rattle.normal.proofs.load.is_sufficient.Reads as is-sufficient-reads
-use Rattle.normal.proofs.load.places.Reads as places-reads
+use Rattle.reader.proofs.places.Reads as places-reads
 use Rattle.normal.proofs.load.refuse.Reads as refuse-reads
 use Rattle.normal.proofs.measure.measure.Reads as measure-reads
 use Rattle.normal.proofs.store.store_all.Reads as store-all-reads

@@ -1,7 +1,7 @@
 use borrow.Author.Needs.{needs}
 use Rattle.answers.proofs.Ways.{handed-part}
-use Rattle.answers.proofs.written.say_octets.Statement.{statement}
-use Rattle.answers.proofs.written.say_octets.Tie as tie
+use Rattle.answers.proofs.lines.say_octets.Statement.{statement}
+use Rattle.answers.proofs.lines.say_octets.Tie as tie
 
 enum-known-answer : tie.Need-enum-known-answer
 enum-known-answer c = search needs

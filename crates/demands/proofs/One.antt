@@ -1,0 +1,505 @@
+-- Demand 1: from each call's claim alone.
+use mathlib.Core.Path.{_≡_, refl, sym, ap, ap₂, _∙_, subst}
+use mathlib.Core.Bool.{Bool, true, false, cond, _&&_, false≢true}
+use mathlib.Core.Logic.{_⊎_, inl, inr}
+use mathlib.Core.Option.{Option, none, some, Option·some-injective, Option·none-ne-some}
+use mathlib.Core.List.{List, [], _∷_, _++_}
+use Prim.Native.Nat.{ℕ, _+_, _≤_, _<_, min}
+use native.Mathlib.Omega.{arith}
+use lib.Dec.{leb}
+use lib.ListN.{length, drop}
+use lib.Seq.{sets}
+use borrow.Author.Tests.{leb-true, leb-false, lt-leb}
+use Rattle.octets.specs.Numbers.{among}
+use Rattle.octets.proofs.Lists.{sets-none}
+use Rattle.octets.proofs.Tests.{and-false}
+use Rattle.octets.specs.declared.Put.{Put as OctetsPut}
+use Rattle.octets.specs.Calls.{putAnswer as octetsAnswer, putOut as octetsOut}
+use Rattle.text.specs.Tokens.{expanded}
+use Rattle.text.specs.declared.Expanded.{Expanded}
+use Rattle.text.specs.declared.Expanded.the-variants.{Done as ExpandDone, NoRoom as ExpandNoRoom}
+use Rattle.text.specs.Calls.{expandFits, expandAnswer, expandOut}
+use Rattle.values.specs.declared.Put.{Put as ValuesPut}
+use Rattle.values.specs.Calls.{putAnswer as valuesAnswer, putOut as valuesOut}
+use Rattle.show.specs.declared.Put.{Put as ShowPut}
+use Rattle.show.specs.Calls.{putAnswer as showAnswer, putLeaves as showLeaves}
+use Rattle.format.specs.declared.Refusal.{Refusal}
+use Rattle.format.specs.declared.Counts.{Counts}
+use Rattle.format.specs.declared.ReadAnswer.{ReadAnswer}
+use Rattle.format.specs.declared.ReadAnswer.the-variants.{Records, NotRead}
+use Rattle.format.specs.declared.WriteAnswer.{WriteAnswer}
+use Rattle.format.specs.declared.WriteAnswer.the-variants.{Octets, NotWritten}
+use Rattle.format.specs.declared.SameAnswer.{SameAnswer}
+use Rattle.format.specs.declared.SameAnswer.the-variants.{Same, Different, FirstRefused, SecondRefused}
+use Rattle.format.specs.Answers.{refusal, readOutcome, writeOutcome, sameOutcome}
+use Rattle.format.specs.Tree.{Items, count, recordsOf}
+use Rattle.format.specs.Judge.{Judged, rule, unless, judge}
+use Rattle.format.specs.Judge.Judged.{refused, accepted}
+use Rattle.format.specs.Meaning.{means, encode, normalOf}
+use Rattle.format.specs.Calls.{Lists, places, lay, judgeAnswer, readAnswer, readRecords, roomy, treeGiven, writeAnswer, writeOctets, Lent, lentBy, fitsLent, misfit, normalAnswer, handed, refusalOr, secondRefusalOr, sameOctets, sameAnswer, bothFit, ofFirst, ofSecond}
+use Rattle.format.proofs.Lays.{lay-none}
+use Rattle.demands.specs.One.{OfObject, OfCall, Refuses, Ends, SameEnds, JudgeEnds, ReadEnds, ReadAtMostEnds, ReadRecordsEnds, WriteEnds, NormaliseEnds, SameCallEnds, OneExactly, ReadOrder, ReadInOrder, ReadAtMostInOrder, ReadRecordsInOrder, GivenTree, WriteOrder, WriteInOrder, Suffices, Lacks, NormaliseOrder, NormaliseInOrder, SameOrder, SameInOrder, PutEnds, OctetsPutEnds, ExpandEnds, ValuePutEnds, ShowPutEnds}
+use Rattle.demands.specs.One.OfCall.{ofCall}
+use Rattle.demands.specs.One.Refuses.{forObject, forCall}
+use Rattle.demands.specs.One.Ends.{answered, refusedAt}
+use Rattle.demands.specs.One.SameEnds.{answered as compared, firstAt, secondAt}
+use Rattle.demands.specs.One.Lacks.{fourteen, fifteen}
+use Rattle.demands.specs.One.PutEnds.{put, lacksRoom, notValid}
+use Rattle.demands.proofs.RuleOne.{one-only}
+use Rattle.demands.proofs.Laws.{never, of-object, suffices-fits, fits-suffices, tree-given, given-tree}
+
+-- ---- how each call ends
+pub judge-ends : JudgeEnds
+unfolding judgeAnswer
+judge-ends object answer e = subst (λ x. Ends (OfObject object) (Unit {0}) (readOutcome x)) (sym e) (go (judge object) refl)
+  where
+    go : (j : Judged) → judge object ≡ j → Ends (OfObject object) (Unit {0}) (readOutcome (judgeAnswer j))
+    go (refused r) h = refusedAt (r .number) (r .place) (of-object object r h) tt
+    go (accepted t) h = answered (count t)
+
+read-ended : (object : List ℕ) (n : ℕ) (Kept : Type 0) (j : Judged) → judge object ≡ j → (readRecords n j ≡ [] → Kept)
+    → Ends (Refuses object (14 ∷ [])) Kept (readOutcome (readAnswer n j))
+unfolding readAnswer readRecords among
+read-ended object n Kept (refused r) h kept = refusedAt (r .number) (r .place) (forObject (r .number) (r .place) (of-object object r h)) (kept refl)
+read-ended object n Kept (accepted t) h kept = go (leb (count t) n) kept
+  where
+    go : (b : Bool) → (cond b (recordsOf t) [] ≡ [] → Kept)
+        → Ends (Refuses object (14 ∷ [])) Kept (readOutcome (cond b (Records (record { records = count t })) (NotRead (refusal 14 0))))
+    go true k = answered (count t)
+    go false k = refusedAt 14 0 (forCall 14 0 (ofCall 14 refl)) (k refl)
+
+pub read-ends : ReadEnds
+read-ends object before after answer c =
+    subst (λ x. Ends (Refuses object (14 ∷ [])) (after ≡ before) (readOutcome x)) (sym (c .answers))
+    (read-ended object (places before) (after ≡ before) (judge object) refl (λ e. c .leaves ∙ ap (λ rs. lay 0 rs before) e ∙ lay-none 0 before))
+
+pub read-at-most-ends : ReadAtMostEnds
+read-at-most-ends object most before after answer c =
+    subst (λ x. Ends (Refuses object (14 ∷ [])) (after ≡ before) (readOutcome x)) (sym (c .answers))
+    (read-ended object (min most (places before)) (after ≡ before) (judge object) refl (λ e. c .leaves ∙ ap (λ rs. lay 0 rs before) e ∙ lay-none 0 before))
+
+pub read-records-ends : ReadRecordsEnds
+read-records-ends object before after slice slice′ answer c =
+    let n = min (length slice) (places before) in
+    subst (λ x. Ends (Refuses object (14 ∷ [])) ((after ≡ before) × (slice′ ≡ slice)) (readOutcome x)) (sym (c .answers))
+    (read-ended object n ((after ≡ before) × (slice′ ≡ slice)) (judge object) refl
+    (λ e. (c .leaves ∙ ap (λ rs. lay 0 rs before) e ∙ lay-none 0 before, c .fills ∙ ap (λ rs. rs ++ drop (length rs) slice) e)))
+
+pub write-ends : WriteEnds
+unfolding writeAnswer writeOctets among
+write-ends n lists lent before after answer c =
+    subst (λ x. Ends (OfCall (15 ∷ 16 ∷ [])) (after ≡ before) (writeOutcome x)) (sym (c .answers)) (go (treeGiven n lists lent) (c .leaves))
+  where
+    one : (t : Items) (b : Bool) → after ≡ sets before 0 (cond b (encode (means [] t)) [])
+        → Ends (OfCall (15 ∷ 16 ∷ [])) (after ≡ before) (writeOutcome (cond b (Octets (length (encode (means [] t)))) (NotWritten (refusal 15 0))))
+    one t true e = answered (length (encode (means [] t)))
+    one t false e = refusedAt 15 0 (ofCall 15 refl) (e ∙ sets-none before 0)
+
+    go : (o : Option Items) → after ≡ sets before 0 (writeOctets (length before) o) → Ends (OfCall (15 ∷ 16 ∷ [])) (after ≡ before) (writeOutcome (writeAnswer (length before) o))
+    go none e = refusedAt 16 0 (ofCall 16 refl) (e ∙ sets-none before 0)
+    go (some t) e = one t (roomy (length before) (encode (means [] t))) e
+
+-- nothing is handed out of an object with a refusal
+nothing-handed : {A : Type 0} (lent : Lent) (f : Items → List A) (j : Judged) (r : Refusal) → normalAnswer lent j ≡ NotWritten r → handed lent f j ≡ []
+unfolding normalAnswer handed
+nothing-handed lent f (refused q) r h = refl
+nothing-handed lent f (accepted t) r h = go (fitsLent lent t) h
+  where
+    go : (b : Bool) → cond b (Octets (length (normalOf t))) (misfit lent t) ≡ NotWritten r → cond b (f t) [] ≡ []
+    go true e = never (cc)
+    go false e = refl
+
+-- what an accepted object lacks
+lack : (lent : Lent) (t : Items) → fitsLent lent t ≡ false → (r : Refusal) × (misfit lent t ≡ NotWritten r) × Lacks lent t r
+unfolding misfit
+lack lent t f = go (leb (count t) (lent .records)) refl
+  where
+    go : (b : Bool) → leb (count t) (lent .records) ≡ b → (r : Refusal) × (cond b (NotWritten (refusal 15 0)) (NotWritten (refusal 14 0)) ≡ NotWritten r) × Lacks lent t r
+    go true q = (refusal 15 0, refl, fifteen (leb-true (count t) (lent .records) q) (λ s. false≢true (sym f ∙ suffices-fits lent t s)))
+    go false q = (refusal 14 0, refl, fourteen (leb-false (count t) (lent .records) q))
+
+-- and that has the number 14 or 15, at 0
+lack-told : (object : List ℕ) (lent : Lent) (t : Items) (r : Refusal) → Lacks lent t r → Refuses object (14 ∷ 15 ∷ []) (r .number) (r .place)
+unfolding among
+lack-told object lent t r (fourteen l) = forCall 14 0 (ofCall 14 refl)
+lack-told object lent t r (fifteen l s) = forCall 15 0 (ofCall 15 refl)
+
+-- how normalising ends, of any judgement
+data Normal (lent : Lent) : Judged → Type 0 where
+  bad : {r : Refusal} → normalAnswer lent (refused r) ≡ NotWritten r → Normal lent (refused r)
+  lacking : {t : Items} (r : Refusal) → normalAnswer lent (accepted t) ≡ NotWritten r → Lacks lent t r → Normal lent (accepted t)
+  good : {t : Items} → normalAnswer lent (accepted t) ≡ Octets (length (normalOf t)) → Suffices lent t → Normal lent (accepted t)
+
+normal : (lent : Lent) (j : Judged) → Normal lent j
+unfolding normalAnswer
+normal lent (refused r) = bad refl
+normal lent (accepted t) = go (fitsLent lent t) refl
+  where
+    go : (b : Bool) → fitsLent lent t ≡ b → Normal lent (accepted t)
+    go true f = good {t = t} (rw f) (fits-suffices lent t f)
+    go false f = let l = lack lent t f in lacking {t = t} (l .0) (rw f (l .1)) (l .2)
+
+pub normalise-ends : NormaliseEnds
+normalise-ends object lists lists′ store store′ room room′ answer c =
+    subst (λ x. Ends (Refuses object (14 ∷ 15 ∷ [])) ((lists′ ≡ lists) × (store′ ≡ store) × (room′ ≡ room)) (writeOutcome x)) (sym (c .answers)) (go (judge object) refl (normal lent (judge object)))
+  where
+    lent : Lent
+    lent = lentBy lists store room
+
+    kept : (r : Refusal) → normalAnswer lent (judge object) ≡ NotWritten r → (lists′ ≡ lists) × (store′ ≡ store) × (room′ ≡ room)
+    kept r e = (
+      c .leavesLists ∙ ap (λ rs. lay 0 rs lists) (nothing-handed lent _ (judge object) r e) ∙ lay-none 0 lists,
+      c .leavesStore ∙ ap (sets store 0) (nothing-handed lent _ (judge object) r e) ∙ sets-none store 0,
+      c .leavesRoom ∙ ap (sets room 0) (nothing-handed lent _ (judge object) r e) ∙ sets-none room 0,
+    )
+
+    go : (j : Judged) → judge object ≡ j → Normal lent j → Ends (Refuses object (14 ∷ 15 ∷ [])) ((lists′ ≡ lists) × (store′ ≡ store) × (room′ ≡ room)) (writeOutcome (normalAnswer lent (judge object)))
+    go (refused r) h (bad e) = rw (h, e) (refusedAt (r .number) (r .place) (forObject (r .number) (r .place) (of-object object r h)) (kept r (rw h e)))
+    go (accepted t) h (lacking r e l) = rw (h, e) (refusedAt (r .number) (r .place) (lack-told object lent t r l) (kept r (rw h e)))
+    go (accepted t) h (good e s) = rw (h, e) (answered (length (normalOf t)))
+
+-- how comparing ends, of any two judgements
+pub data Compared (first second : Lent) : Judged → Judged → Type 0 where
+  badFirst : {r : Refusal} {b : Judged} → sameAnswer first second (refused r) b ≡ FirstRefused r → Compared first second (refused r) b
+  badSecond : {t : Items} {r : Refusal} → sameAnswer first second (accepted t) (refused r) ≡ SecondRefused r → Compared first second (accepted t) (refused r)
+  lackingFirst : {t u : Items} (r : Refusal) → sameAnswer first second (accepted t) (accepted u) ≡ FirstRefused r → Lacks first t r → Compared first second (accepted t) (accepted u)
+  lackingSecond : {t u : Items} (r : Refusal) → sameAnswer first second (accepted t) (accepted u) ≡ SecondRefused r → Suffices first t → Lacks second u r
+      → Compared first second (accepted t) (accepted u)
+  bothGood : {t u : Items} → sameAnswer first second (accepted t) (accepted u) ≡ cond (sameOctets (normalOf t) (normalOf u)) Same Different → Suffices first t → Suffices second u
+      → Compared first second (accepted t) (accepted u)
+
+pub compare : (first second : Lent) (a b : Judged) → Compared first second a b
+unfolding sameAnswer refusalOr secondRefusalOr
+compare first second (refused r) b = badFirst refl
+compare first second (accepted t) (refused r) = badSecond refl
+compare first second (accepted t) (accepted u) = go (normal first (accepted t)) (normal second (accepted u))
+  where
+    go : Normal first (accepted t) → Normal second (accepted u) → Compared first second (accepted t) (accepted u)
+    go (lacking r e l) n = lackingFirst {t = t} {u = u} r (rw e) l
+    go (good e s) (lacking r f l) = lackingSecond {t = t} {u = u} r (rw (e, f)) s l
+    go (good e s) (good f v) = bothGood {t = t} {u = u} (rw (e, f)) s v
+
+-- two objects that fit are compared
+pub both-compared : (first second : Lent) (t u : Items) → fitsLent first t ≡ true → fitsLent second u ≡ true
+    → sameAnswer first second (accepted t) (accepted u) ≡ cond (sameOctets (normalOf t) (normalOf u)) Same Different
+unfolding sameAnswer normalAnswer refusalOr secondRefusalOr
+both-compared first second t u f s = rw (f, s)
+
+-- nothing is handed out of either object with a refusal
+no-both : (first second : Lent) (a b : Judged) → ((answer : Bool) → sameAnswer first second a b ≡ cond answer Same Different → ⊥) → bothFit first second a b ≡ false
+unfolding bothFit
+no-both first second (refused r) b not = refl
+no-both first second (accepted t) (refused r) not = refl
+no-both first second (accepted t) (accepted u) not = go (fitsLent first t) (fitsLent second u) refl refl
+  where
+    go : (x y : Bool) → fitsLent first t ≡ x → fitsLent second u ≡ y → x && y ≡ false
+    go false y f s = refl
+    go true false f s = refl
+    go true true f s = absurd (not (sameOctets (normalOf t) (normalOf u)) (both-compared first second t u f s))
+
+pub same-ends : SameCallEnds
+unfolding ofFirst ofSecond
+same-ends a b lists lists′ store store′ roomA roomA′ roomB roomB′ answer c =
+    subst (λ x. SameEnds (Refuses a (14 ∷ 15 ∷ [])) (Refuses b (14 ∷ 15 ∷ [])) Kept (sameOutcome x)) (sym (c .answers)) (go (judge a) (judge b) refl refl (compare first second (judge a) (judge b)))
+  where
+    first : Lent
+    first = lentBy lists store roomA
+
+    second : Lent
+    second = lentBy lists store roomB
+
+    Kept : Type 0
+    Kept = (lists′ ≡ lists) × (store′ ≡ store) × (roomA′ ≡ roomA) × (roomB′ ≡ roomB)
+
+    kept : ((answer : Bool) → sameAnswer first second (judge a) (judge b) ≡ cond answer Same Different → ⊥) → Kept
+    kept not =
+        let f = no-both first second (judge a) (judge b) not in (
+          c .leavesLists ∙ rw f (lay-none 0 (lay 0 [] lists) ∙ lay-none 0 lists),
+          c .leavesStore ∙ rw (f, sets-none),
+          c .leavesFirst ∙ rw (f, sets-none),
+          c .leavesSecond ∙ rw (f, sets-none),
+        )
+
+    not-compared : (x : Bool) (r : Refusal) → (FirstRefused r ≡ cond x Same Different → ⊥) × (SecondRefused r ≡ cond x Same Different → ⊥)
+    not-compared true r = ((λ e. never (cc)), (λ e. never (cc)))
+    not-compared false r = ((λ e. never (cc)), (λ e. never (cc)))
+
+    told : (x : Bool) → SameEnds (Refuses a (14 ∷ 15 ∷ [])) (Refuses b (14 ∷ 15 ∷ [])) Kept (sameOutcome (cond x Same Different))
+    told true = compared true
+    told false = compared false
+
+    go : (j k : Judged) → judge a ≡ j → judge b ≡ k → Compared first second j k
+        → SameEnds (Refuses a (14 ∷ 15 ∷ [])) (Refuses b (14 ∷ 15 ∷ [])) Kept (sameOutcome (sameAnswer first second (judge a) (judge b)))
+    go (refused r) k h g (badFirst e) = rw (h, g, e) (firstAt (r .number) (r .place) (forObject (r .number) (r .place) (of-object a r h)) (kept (λ x q. not-compared x r .0 (sym e ∙ (rw (h, g) at q)))))
+    go (accepted t) (refused r) h g (badSecond e) = rw (h, g, e) (secondAt (r .number) (r .place) (forObject (r .number) (r .place) (of-object b r g)) (kept (λ x q. not-compared x r .1 (sym e ∙ (rw (h, g) at q)))))
+    go (accepted t) (accepted u) h g (lackingFirst r e l) = rw (h, g, e) (firstAt (r .number) (r .place) (lack-told a first t r l) (kept (λ x q. not-compared x r .0 (sym e ∙ (rw (h, g) at q)))))
+    go (accepted t) (accepted u) h g (lackingSecond r e s l) = rw (h, g, e) (secondAt (r .number) (r .place) (lack-told b second u r l) (kept (λ x q. not-compared x r .1 (sym e ∙ (rw (h, g) at q)))))
+    go (accepted t) (accepted u) h g (bothGood e s v) = rw (h, g, e) (told (sameOctets (normalOf t) (normalOf u)))
+
+-- ---- the order of the refusals
+pub one-exactly : OneExactly
+unfolding judge rule unless
+one-exactly object place = ((λ h. one-only object (refusal 1 place) h refl), (λ f. broken (f .1) ∙ ap (λ p. refused (refusal 1 p)) (sym (f .0))))
+  where
+    broken : (length object ≡ 0) ⊎ (32_768 < length object) → judge object ≡ refused (refusal 1 0)
+    broken (inl e) = rw (lt-leb 1 (length object) (omega arith))
+    broken (inr l) = rw (lt-leb (length object) 32_768 l, and-false (leb 1 (length object)))
+
+module _ (j : Judged) (n : ℕ) (answer : ReadAnswer) where
+  read-order : ((r : Refusal) → j ≡ refused r → r .number ≤ 13) → answer ≡ readAnswer n j → ReadOrder j n answer
+  unfolding readAnswer
+  read-order low e = go j refl e
+    where
+      bad : (s : Refusal) → j ≡ refused s → answer ≡ NotRead s → ReadOrder j n answer
+      bad s h e = record {
+        ofObject = λ r l. ((λ q. cc), (λ q. cc));
+        fourteen = ((λ q. let p : s ≡ refusal 14 0 = cc in absurd (omega (arith, low s h, ap (λ x. x .number) p))), (λ q. never (let p = q .1 in cc)));
+        records = λ m. ((λ q. never (cc)), (λ q. never (let p = q .1 in cc)));
+      }
+
+      few : (t : Items) → j ≡ accepted t → n < count t → answer ≡ NotRead (refusal 14 0) → ReadOrder j n answer
+      few t h l e = record {
+        ofObject = λ r m. ((λ q. let p : r ≡ refusal 14 0 = cc in absurd (omega (arith, ap (λ x. x .number) p))), (λ q. never (cc)));
+        fourteen = ((λ q. (t, h, l)), (λ q. e));
+        records = λ m. ((λ q. never (cc)), (λ q. let p : q .0 ≡ t = (let z = q .1 in cc) in absurd (omega (arith, l, q .2, q .3, ap count p))));
+      }
+
+      handed-out : (t : Items) → j ≡ accepted t → count t ≤ n → answer ≡ Records (record { records = count t }) → ReadOrder j n answer
+      handed-out t h l e = record {
+        ofObject = λ r m. ((λ q. never (cc)), (λ q. never (cc)));
+        fourteen = ((λ q. never (cc)), (λ q. let p : q .0 ≡ t = (let z = q .1 in cc) in absurd (omega (arith, l, q .2, ap count p))));
+        records = λ m. (
+          (λ q. let w : _≡_ {A = Counts} (record { records = m }) (record { records = count t }) = cc in let p : m ≡ count t = ap (λ x. x .records) w in (t, h, p, omega arith)),
+          (λ q. let p : q .0 ≡ t = (let z = q .1 in cc) in e ∙ ap (λ k. Records (record { records = k })) (ap count (sym p) ∙ sym (q .2))),
+        );
+      }
+
+      go : (i : Judged) → j ≡ i → answer ≡ readAnswer n i → ReadOrder j n answer
+      go (refused s) h e = bad s h e
+      go (accepted t) h e = one (leb (count t) n) refl e
+        where
+          one : (b : Bool) → leb (count t) n ≡ b → answer ≡ cond b (Records (record { records = count t })) (NotRead (refusal 14 0)) → ReadOrder j n answer
+          one true q e = handed-out t h (leb-true (count t) n q) e
+          one false q e = few t h (leb-false (count t) n q) e
+
+pub read-in-order : ReadInOrder
+read-in-order object before after answer c = read-order (judge object) (places before) answer (λ r h. of-object object r h .most) (c .answers)
+
+pub read-at-most-in-order : ReadAtMostInOrder
+read-at-most-in-order object most before after answer c = read-order (judge object) (min most (places before)) answer (λ r h. of-object object r h .most) (c .answers)
+
+pub read-records-in-order : ReadRecordsInOrder
+read-records-in-order object before after slice slice′ answer c = read-order (judge object) (min (length slice) (places before)) answer (λ r h. of-object object r h .most) (c .answers)
+
+module _ (n : ℕ) (lists : Lists) (lent : List ℕ) (room : ℕ) (answer : WriteAnswer) where
+  -- two trees of the same records are one
+  one-given : (t u : Items) → treeGiven n lists lent ≡ some t → GivenTree n lists lent u → u ≡ t
+  one-given t u h g = Option·some-injective u t (sym (tree-given n lists lent u g) ∙ h)
+
+  write-order : answer ≡ writeAnswer room (treeGiven n lists lent) → WriteOrder n lists lent room answer
+  unfolding writeAnswer roomy
+  write-order e = go (treeGiven n lists lent) refl e
+    where
+      size : Items → ℕ
+      size t = length (encode (means [] t))
+
+      apart : NotWritten (refusal 16 0) ≡ NotWritten (refusal 15 0) → ⊥
+      apart q = let p : refusal 16 0 ≡ refusal 15 0 = cc in omega (arith, ap (λ x. x .number) p)
+
+      none-given : treeGiven n lists lent ≡ none → answer ≡ NotWritten (refusal 16 0) → WriteOrder n lists lent room answer
+      none-given h e =
+          let lost : (t : Items) → GivenTree n lists lent t → ⊥ = λ t g. Option·none-ne-some t (sym h ∙ tree-given n lists lent t g) in
+          record {
+            sixteen = ((λ q. lost), (λ q. e));
+            fifteen = ((λ q. absurd (apart (sym e ∙ q))), (λ q. absurd (lost (q .0) (q .1))));
+            octets = λ k. ((λ q. never (cc)), (λ q. absurd (lost (q .0) (q .1))));
+          }
+
+      no-room : (t : Items) → treeGiven n lists lent ≡ some t → min room 32_768 < size t → answer ≡ NotWritten (refusal 15 0) → WriteOrder n lists lent room answer
+      no-room t h l e = record {
+        sixteen = ((λ q. absurd (apart (sym q ∙ e))), (λ q. absurd (q t (given-tree n lists lent t h))));
+        fifteen = ((λ q. (t, given-tree n lists lent t h, l)), (λ q. e));
+        octets = λ k. ((λ q. never (cc)), (λ q. absurd (omega (arith, l, q .2, q .3, ap size (one-given t (q .0) h (q .1))))));
+      }
+
+      written : (t : Items) → treeGiven n lists lent ≡ some t → size t ≤ min room 32_768 → answer ≡ Octets (size t) → WriteOrder n lists lent room answer
+      written t h l e = record {
+        sixteen = ((λ q. never (cc)), (λ q. absurd (q t (given-tree n lists lent t h))));
+        fifteen = ((λ q. never (cc)), (λ q. absurd (omega (arith, l, q .2, ap size (one-given t (q .0) h (q .1))))));
+        octets = λ k. (
+          (λ q. let p : k ≡ size t = cc in (t, given-tree n lists lent t h, p, omega arith)),
+          (λ q. e ∙ ap Octets (ap size (sym (one-given t (q .0) h (q .1))) ∙ sym (q .2))),
+        );
+      }
+
+      go : (o : Option Items) → treeGiven n lists lent ≡ o → answer ≡ writeAnswer room o → WriteOrder n lists lent room answer
+      go none h e = none-given h e
+      go (some t) h e = one (leb (size t) (min room 32_768)) refl e
+        where
+          one : (b : Bool) → leb (size t) (min room 32_768) ≡ b → answer ≡ cond b (Octets (size t)) (NotWritten (refusal 15 0)) → WriteOrder n lists lent room answer
+          one true q e = written t h (leb-true (size t) (min room 32_768) q) e
+          one false q e = no-room t h (leb-false (size t) (min room 32_768) q) e
+
+pub write-in-order : WriteInOrder
+write-in-order n lists lent before after answer c = write-order n lists lent (length before) answer (c .answers)
+
+-- what is lacking has one number, 14 or 15, and nothing suffices then
+lack-one : (lent : Lent) (t : Items) (r s : Refusal) → Lacks lent t r → Lacks lent t s → r ≡ s
+lack-one lent t r s (fourteen l) (fourteen m) = refl
+lack-one lent t r s (fourteen l) (fifteen m f) = absurd (omega arith)
+lack-one lent t r s (fifteen l f) (fourteen m) = absurd (omega arith)
+lack-one lent t r s (fifteen l f) (fifteen m g) = refl
+
+lack-late : (lent : Lent) (t : Items) (r : Refusal) → Lacks lent t r → 14 ≤ r .number
+lack-late lent t r (fourteen l) = omega arith
+lack-late lent t r (fifteen l f) = omega arith
+
+lack-short : (lent : Lent) (t : Items) (r : Refusal) → Lacks lent t r → Suffices lent t → ⊥
+lack-short lent t r (fourteen l) s = omega (arith, s .records)
+lack-short lent t r (fifteen l f) s = f s
+
+module _ (j : Judged) (lent : Lent) (answer : WriteAnswer) where
+  normalise-order : ((r : Refusal) → j ≡ refused r → r .number ≤ 13) → answer ≡ normalAnswer lent j → NormaliseOrder j lent answer
+  normalise-order low e = go j refl (normal lent j) e
+    where
+      refusing : (s : Refusal) → j ≡ refused s → answer ≡ NotWritten s → NormaliseOrder j lent answer
+      refusing s h e = record {
+        ofObject = λ r l. ((λ q. cc), (λ q. cc));
+        lacking = λ r l. ((λ q. let p : s ≡ r = cc in absurd (omega (arith, low s h, ap (λ x. x .number) p))), (λ q. never (let p = q .1 in cc)));
+        octets = λ k. ((λ q. never (cc)), (λ q. never (let p = q .1 in cc)));
+      }
+
+      short : (t : Items) (s : Refusal) → j ≡ accepted t → Lacks lent t s → answer ≡ NotWritten s → NormaliseOrder j lent answer
+      short t s h l e = record {
+        ofObject = λ r m. ((λ q. let p : s ≡ r = cc in absurd (omega (arith, lack-late lent t s l, ap (λ x. x .number) p))), (λ q. never (cc)));
+        lacking = λ r m. (
+          (λ q. let p : s ≡ r = cc in (t, h, subst (Lacks lent t) p l)),
+          (λ q. let p : q .0 ≡ t = (let z = q .1 in cc) in e ∙ ap NotWritten (lack-one lent t s r l (subst (λ x. Lacks lent x r) p (q .2)))),
+        );
+        octets = λ k. ((λ q. never (cc)), (λ q. let p : q .0 ≡ t = (let z = q .1 in cc) in absurd (lack-short lent t s l (subst (Suffices lent) p (q .3)))));
+      }
+
+      fine : (t : Items) → j ≡ accepted t → Suffices lent t → answer ≡ Octets (length (normalOf t)) → NormaliseOrder j lent answer
+      fine t h s e = record {
+        ofObject = λ r m. ((λ q. never (cc)), (λ q. never (cc)));
+        lacking = λ r m. ((λ q. never (cc)), (λ q. let p : q .0 ≡ t = (let z = q .1 in cc) in absurd (lack-short lent t r (subst (λ x. Lacks lent x r) p (q .2)) s)));
+        octets = λ k. (
+          (λ q. let p : k ≡ length (normalOf t) = cc in (t, h, p, s)),
+          (λ q. let p : q .0 ≡ t = (let z = q .1 in cc) in e ∙ ap Octets (ap (λ x. length (normalOf x)) (sym p) ∙ sym (q .2))),
+        );
+      }
+
+      go : (i : Judged) → j ≡ i → Normal lent i → answer ≡ normalAnswer lent j → NormaliseOrder j lent answer
+      go (refused s) h (bad f) e = refusing s h (e ∙ ap (normalAnswer lent) h ∙ f)
+      go (accepted t) h (lacking s f l) e = short t s h l (e ∙ ap (normalAnswer lent) h ∙ f)
+      go (accepted t) h (good f s) e = fine t h s (e ∙ ap (normalAnswer lent) h ∙ f)
+
+pub normalise-in-order : NormaliseInOrder
+normalise-in-order object lists lists′ store store′ room room′ answer c =
+    normalise-order (judge object) (lentBy lists store room) answer (λ r h. of-object object r h .most) (c .answers)
+
+module _ (j k : Judged) (first second : Lent) (answer : SameAnswer) where
+  same-order : ((r : Refusal) → j ≡ refused r → r .number ≤ 13) → ((r : Refusal) → k ≡ refused r → r .number ≤ 13) → answer ≡ sameAnswer first second j k
+      → SameOrder j k first second answer
+  same-order lowA lowB e = go j k refl refl (compare first second j k) e
+    where
+      firstRefusing : (s : Refusal) → j ≡ refused s → answer ≡ FirstRefused s → SameOrder j k first second answer
+      firstRefusing s h e = record {
+        ofFirst = λ r l. ((λ q. cc), (λ q. cc));
+        ofSecond = λ r l. ((λ q. never (cc)), (λ q. never (let p = q .1 in cc)));
+        lackingFirst = λ r l. ((λ q. let p : s ≡ r = cc in absurd (omega (arith, lowA s h, ap (λ x. x .number) p))), (λ q. never (let p = q .2 in cc)));
+        lackingSecond = λ r l. ((λ q. never (cc)), (λ q. never (let p = q .2 in cc)));
+      }
+
+      secondRefusing : (t : Items) (s : Refusal) → j ≡ accepted t → k ≡ refused s → answer ≡ SecondRefused s → SameOrder j k first second answer
+      secondRefusing t s h g e = record {
+        ofFirst = λ r l. ((λ q. never (cc)), (λ q. never (cc)));
+        ofSecond = λ r l. ((λ q. (t, h, (cc))), (λ q. let p = q .2 in cc));
+        lackingFirst = λ r l. ((λ q. never (cc)), (λ q. never (let p = q .3 in cc)));
+        lackingSecond = λ r l. ((λ q. let p : s ≡ r = cc in absurd (omega (arith, lowB s g, ap (λ x. x .number) p))), (λ q. never (let p = q .3 in cc)));
+      }
+
+      firstShort : (t u : Items) (s : Refusal) → j ≡ accepted t → k ≡ accepted u → Lacks first t s → answer ≡ FirstRefused s → SameOrder j k first second answer
+      firstShort t u s h g l e = record {
+        ofFirst = λ r m. ((λ q. let p : s ≡ r = cc in absurd (omega (arith, lack-late first t s l, ap (λ x. x .number) p))), (λ q. never (cc)));
+        ofSecond = λ r m. ((λ q. never (cc)), (λ q. never (let p = q .2 in cc)));
+        lackingFirst = λ r m. (
+          (λ q. let p : s ≡ r = cc in (t, u, h, g, subst (Lacks first t) p l)),
+          (λ q. let p : q .0 ≡ t = (let z = q .2 in cc) in e ∙ ap FirstRefused (lack-one first t s r l (subst (λ x. Lacks first x r) p (q .4)))),
+        );
+        lackingSecond = λ r m. ((λ q. never (cc)), (λ q. let p : q .0 ≡ t = (let z = q .2 in cc) in absurd (lack-short first t s l (subst (Suffices first) p (q .4)))));
+      }
+
+      secondShort : (t u : Items) (s : Refusal) → j ≡ accepted t → k ≡ accepted u → Suffices first t → Lacks second u s → answer ≡ SecondRefused s → SameOrder j k first second answer
+      secondShort t u s h g f l e = record {
+        ofFirst = λ r m. ((λ q. never (cc)), (λ q. never (cc)));
+        ofSecond = λ r m. ((λ q. let p : s ≡ r = cc in absurd (omega (arith, lack-late second u s l, ap (λ x. x .number) p))), (λ q. never (let p = q .2 in cc)));
+        lackingFirst = λ r m. ((λ q. never (cc)), (λ q. let p : q .0 ≡ t = (let z = q .2 in cc) in absurd (lack-short first t r (subst (λ x. Lacks first x r) p (q .4)) f)));
+        lackingSecond = λ r m. (
+          (λ q. let p : s ≡ r = cc in (t, u, h, g, f, subst (Lacks second u) p l)),
+          (λ q. let p : q .1 ≡ u = (let z = q .3 in cc) in e ∙ ap SecondRefused (lack-one second u s r l (subst (λ x. Lacks second x r) p (q .5)))),
+        );
+      }
+
+      neither : (t u : Items) → j ≡ accepted t → k ≡ accepted u → Suffices first t → Suffices second u → ((r : Refusal) → (answer ≡ FirstRefused r → ⊥) × (answer ≡ SecondRefused r → ⊥))
+          → SameOrder j k first second answer
+      neither t u h g f s not = record {
+        ofFirst = λ r m. ((λ q. absurd (not r .0 q)), (λ q. never (cc)));
+        ofSecond = λ r m. ((λ q. absurd (not r .1 q)), (λ q. never (let p = q .2 in cc)));
+        lackingFirst = λ r m. ((λ q. absurd (not r .0 q)), (λ q. let p : q .0 ≡ t = (let z = q .2 in cc) in absurd (lack-short first t r (subst (λ x. Lacks first x r) p (q .4)) f)));
+        lackingSecond = λ r m. ((λ q. absurd (not r .1 q)), (λ q. let p : q .1 ≡ u = (let z = q .3 in cc) in absurd (lack-short second u r (subst (λ x. Lacks second x r) p (q .5)) s)));
+      }
+
+      told : (x : Bool) → answer ≡ cond x Same Different → (r : Refusal) → (answer ≡ FirstRefused r → ⊥) × (answer ≡ SecondRefused r → ⊥)
+      told true e r = ((λ q. never (cc)), (λ q. never (cc)))
+      told false e r = ((λ q. never (cc)), (λ q. never (cc)))
+
+      go : (a b : Judged) → j ≡ a → k ≡ b → Compared first second a b → answer ≡ sameAnswer first second j k → SameOrder j k first second answer
+      go (refused s) b h g (badFirst f) e = firstRefusing s h (e ∙ ap₂ (sameAnswer first second) h g ∙ f)
+      go (accepted t) (refused s) h g (badSecond f) e = secondRefusing t s h g (e ∙ ap₂ (sameAnswer first second) h g ∙ f)
+      go (accepted t) (accepted u) h g (lackingFirst s f l) e = firstShort t u s h g l (e ∙ ap₂ (sameAnswer first second) h g ∙ f)
+      go (accepted t) (accepted u) h g (lackingSecond s f v l) e = secondShort t u s h g v l (e ∙ ap₂ (sameAnswer first second) h g ∙ f)
+      go (accepted t) (accepted u) h g (bothGood f v w) e = neither t u h g v w (told (sameOctets (normalOf t) (normalOf u)) (e ∙ ap₂ (sameAnswer first second) h g ∙ f))
+
+pub same-in-order : SameInOrder
+same-in-order a b lists lists′ store store′ roomA roomA′ roomB roomB′ answer c =
+    same-order (judge a) (judge b) (lentBy lists store roomA) (lentBy lists store roomB) answer (λ r h. of-object a r h .most) (λ r h. of-object b r h .most) (c .answers)
+
+-- ---- the leaves: one law
+put-ends : (A : Type 0) (done : ℕ → A) (noRoom invalid : A) (valid : Bool) (octets : List ℕ) (at : ℕ) (before after : List ℕ) (answer : A)
+    → answer ≡ cond valid (cond (leb (at + length octets) (length before)) (done (at + length octets)) noRoom) invalid
+    → after ≡ cond valid (cond (leb (at + length octets) (length before)) (sets before at octets) before) before
+    → PutEnds A done noRoom invalid valid octets at before after answer
+put-ends A done noRoom invalid valid octets at before after answer e f = subst (PutEnds A done noRoom invalid valid octets at before after) (sym e) (go valid refl f)
+  where
+    one : (b : Bool) → valid ≡ true → leb (at + length octets) (length before) ≡ b → after ≡ cond b (sets before at octets) before
+        → PutEnds A done noRoom invalid valid octets at before after (cond b (done (at + length octets)) noRoom)
+    one true v q f = put v (leb-true (at + length octets) (length before) q) f
+    one false v q f = lacksRoom v (leb-false (at + length octets) (length before) q) f
+
+    go : (v : Bool) → valid ≡ v → after ≡ cond v (cond (leb (at + length octets) (length before)) (sets before at octets) before) before
+        → PutEnds A done noRoom invalid valid octets at before after (cond v (cond (leb (at + length octets) (length before)) (done (at + length octets)) noRoom) invalid)
+    go true v f = one (leb (at + length octets) (length before)) v refl f
+    go false v f = notValid v f
+
+pub octets-put-ends : OctetsPutEnds
+unfolding octetsAnswer octetsOut
+octets-put-ends exists octets at before after answer c =
+    put-ends OctetsPut OctetsPut.Done OctetsPut.NoRoom OctetsPut.TooLong exists octets at before after answer (c .answers) (c .leaves ∙ go exists)
+  where
+    go : (b : Bool) → cond (b && leb (at + length octets) (length before)) (sets before at octets) before ≡ cond b (cond (leb (at + length octets) (length before)) (sets before at octets) before) before
+    go true = refl
+    go false = refl
+
+pub expand-ends : ExpandEnds
+unfolding expandFits expandAnswer expandOut
+expand-ends entries text before after at answer c = put-ends Expanded ExpandDone ExpandNoRoom ExpandNoRoom true (expanded entries text) at before after answer (c .answers) (c .leaves)
+
+pub value-put-ends : ValuePutEnds
+unfolding valuesAnswer valuesOut
+value-put-ends valid octets before at answer after c =
+    put-ends ValuesPut ValuesPut.Done ValuesPut.NoRoom ValuesPut.Invalid valid octets at before after answer (c .answered) (c .holds)
+
+pub show-put-ends : ShowPutEnds
+unfolding showAnswer showLeaves
+show-put-ends text at before after answer c = put-ends ShowPut ShowPut.Done ShowPut.NoRoom ShowPut.NoRoom true text at before after answer (c .answers) (c .leaves)

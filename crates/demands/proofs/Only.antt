@@ -1,0 +1,51 @@
+-- Only one answer: each claim gives an equation for the answer and one for each lent thing, and two things that equal a third are equal.
+use mathlib.Core.Path.{sym, _∙_}
+use Rattle.demands.specs.Only.{OneAnswer, OneRead, OneReadAtMost, OneReadRecords, OneWrite, OneNormalise, OneSame, OneOctetsPut, OneExpand, OneValuePut, OneShowPut}
+
+pub one-answer : OneAnswer
+one-answer A claimed one other e f = e ∙ sym f
+
+pub one-read : OneRead
+one-read object before one other answer answer′ c d = (one-answer _ _ answer answer′ (c .answers) (d .answers), one-answer _ _ one other (c .leaves) (d .leaves))
+
+pub one-read-at-most : OneReadAtMost
+one-read-at-most object most before one other answer answer′ c d = (one-answer _ _ answer answer′ (c .answers) (d .answers), one-answer _ _ one other (c .leaves) (d .leaves))
+
+pub one-read-records : OneReadRecords
+one-read-records object before one other slice oneSlice otherSlice answer answer′ c d = (
+  one-answer _ _ answer answer′ (c .answers) (d .answers),
+  one-answer _ _ one other (c .leaves) (d .leaves),
+  one-answer _ _ oneSlice otherSlice (c .fills) (d .fills),
+)
+
+pub one-write : OneWrite
+one-write n lists lent before one other answer answer′ c d = (one-answer _ _ answer answer′ (c .answers) (d .answers), one-answer _ _ one other (c .leaves) (d .leaves))
+
+pub one-normalise : OneNormalise
+one-normalise object lists oneLists otherLists store oneStore otherStore room oneRoom otherRoom answer answer′ c d = (
+  one-answer _ _ answer answer′ (c .answers) (d .answers),
+  one-answer _ _ oneLists otherLists (c .leavesLists) (d .leavesLists),
+  one-answer _ _ oneStore otherStore (c .leavesStore) (d .leavesStore),
+  one-answer _ _ oneRoom otherRoom (c .leavesRoom) (d .leavesRoom),
+)
+
+pub one-same : OneSame
+one-same a b lists oneLists otherLists store oneStore otherStore roomA oneA otherA roomB oneB otherB answer answer′ c d = (
+  one-answer _ _ answer answer′ (c .answers) (d .answers),
+  one-answer _ _ oneLists otherLists (c .leavesLists) (d .leavesLists),
+  one-answer _ _ oneStore otherStore (c .leavesStore) (d .leavesStore),
+  one-answer _ _ oneA otherA (c .leavesFirst) (d .leavesFirst),
+  one-answer _ _ oneB otherB (c .leavesSecond) (d .leavesSecond),
+)
+
+pub one-octets-put : OneOctetsPut
+one-octets-put exists octets at before one other answer answer′ c d = (one-answer _ _ answer answer′ (c .answers) (d .answers), one-answer _ _ one other (c .leaves) (d .leaves))
+
+pub one-expand : OneExpand
+one-expand entries text before one other at answer answer′ c d = (one-answer _ _ answer answer′ (c .answers) (d .answers), one-answer _ _ one other (c .leaves) (d .leaves))
+
+pub one-value-put : OneValuePut
+one-value-put valid octets before at answer answer′ one other c d = (one-answer _ _ answer answer′ (c .answered) (d .answered), one-answer _ _ one other (c .holds) (d .holds))
+
+pub one-show-put : OneShowPut
+one-show-put text at before one other answer answer′ c d = (one-answer _ _ answer answer′ (c .answers) (d .answers), one-answer _ _ one other (c .leaves) (d .leaves))

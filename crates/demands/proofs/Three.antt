@@ -1,0 +1,148 @@
+-- Demand 3: from the claims, with the theorems on meaning and normal form.
+use mathlib.Core.Path.{_≡_, refl, sym, ap, ap₂, _∙_}
+use mathlib.Core.Bool.{Bool, true, false, cond}
+use mathlib.Core.Logic.{_↔_}
+use mathlib.Core.Option.{some, Option·some-injective}
+use mathlib.Core.List.{List}
+use Prim.Native.Nat.{ℕ, _≤_}
+use native.Mathlib.Omega.{arith}
+use lib.ListN.{length, take, drop}
+use lib.Seq.{sets}
+use Rattle.octets.specs.Numbers.{Octets}
+use Rattle.octets.proofs.Numbers.{octets-take}
+use Rattle.octets.proofs.Lists.{part-of-sets, drop-sets}
+use Rattle.format.specs.declared.WriteAnswer.the-variants.{Octets as Written}
+use Rattle.format.specs.declared.SameAnswer.{SameAnswer}
+use Rattle.format.specs.declared.SameAnswer.the-variants.{Same, Different}
+use Rattle.format.specs.Tree.{Items}
+use Rattle.format.specs.Judge.{Judged, judge}
+use Rattle.format.specs.Judge.Judged.{refused, accepted}
+use Rattle.format.specs.Meaning.{meaningOf, meaning, encode, normalOf}
+use Rattle.format.specs.Calls.{Lists, Lent, lentBy, handed, sameOctets, sameAnswer, NormaliseClaim}
+use Rattle.format.proofs.Normal.{normal-means, same-normal}
+use Rattle.format.proofs.Calls.{same-exactly as same-meaning}
+use Rattle.grammar.proofs.Agree.{complete}
+use Rattle.demands.specs.Three.{SameNormalForms, NormalAccepted, NormalAgain, NormalAgainGiven, BothSuffice, Comparison, SameExactly}
+use Rattle.demands.proofs.Laws.{never, suffices-fits, has-meaning, accepted-means}
+use Rattle.demands.proofs.One.{Compared, compare, both-compared, normalise-in-order}
+use Rattle.demands.proofs.One.Compared.{badFirst, badSecond, lackingFirst, lackingSecond, bothGood}
+
+-- what a call of normalise that gives octets leaves in its room
+pub record Normalised (object room room′ : List ℕ) (n : ℕ) : Type 0 where
+  pub tree : Items
+  pub is : judge object ≡ accepted tree
+  pub octets : take n room′ ≡ normalOf tree
+  pub many : n ≡ length (normalOf tree)
+  pub small : length (normalOf tree) ≤ 32_768
+  pub behind : drop n room′ ≡ drop n room
+
+pub normalised : (object : List ℕ) (lists lists′ : Lists) (store store′ room room′ : List ℕ) (n : ℕ) → NormaliseClaim object lists lists′ store store′ room room′ (Written n)
+    → Normalised object room room′ n
+unfolding handed
+normalised object lists lists′ store store′ room room′ n c =
+    let f = normalise-in-order object lists lists′ store store′ room room′ (Written n) c .octets n .0 refl in
+    let t = f .0 in
+    let laid : room′ ≡ sets room 0 (normalOf t) = c .leavesRoom ∙ rw (f .1, suffices-fits (lentBy lists store room) t (f .3)) in
+    record {
+      tree = t;
+      is = f .1;
+      octets = ap₂ take (f .2) laid ∙ part-of-sets room 0 (normalOf t) (omega (arith, f .3 .room));
+      many = f .2;
+      small = f .3 .object;
+      behind = ap (drop n) laid ∙ drop-sets n room 0 (normalOf t) (omega (arith, f .2));
+    }
+
+pub same-normal-forms : SameNormalForms
+same-normal-forms a b os ps listsA listsA′ storeA storeA′ roomA roomA′ n c listsB listsB′ storeB storeB′ roomB roomB′ m d =
+    let f = normalised a listsA listsA′ storeA storeA′ roomA roomA′ n c in
+    let g = normalised b listsB listsB′ storeB storeB′ roomB roomB′ m d in
+    let p = accepted-means a (f .tree) (f .is) in
+    let q = accepted-means b (g .tree) (g .is) in
+    let one = same-normal a b os ps (meaningOf (f .tree)) (meaningOf (g .tree)) p q (f .small) in (
+      (λ e. p ∙ ap some (one .0 (sym (f .octets) ∙ e ∙ g .octets)) ∙ sym q),
+      (λ e. f .octets ∙ one .1 (Option·some-injective (meaningOf (f .tree)) (meaningOf (g .tree)) (sym p ∙ e ∙ q)) ∙ sym (g .octets)),
+    )
+
+-- the octets of a normal form mean what the object means
+form-means : (object : List ℕ) → Octets object → (room room′ : List ℕ) (n : ℕ) (f : Normalised object room room′ n) → meaning (take n room′) ≡ some (meaningOf (f .tree))
+form-means object os room room′ n f = ap meaning (f .octets) ∙ normal-means object os (meaningOf (f .tree)) (accepted-means object (f .tree) (f .is)) (f .small)
+
+pub normal-accepted : NormalAccepted
+normal-accepted object os lists lists′ store store′ room room′ n out c =
+    let f = normalised object lists lists′ store store′ room room′ n c in
+    let e = form-means object os room room′ n f in
+    let m = has-meaning (take n room′) (meaningOf (f .tree)) e in
+    record {
+      again = m .0;
+      accepts = complete (take n room′) (m .0) (octets-take n room′ out) (m .1);
+      means-same = e ∙ sym (accepted-means object (f .tree) (f .is));
+      behind = f .behind;
+    }
+
+-- the tree of a normal form has that normal form
+form-again : (object : List ℕ) → Octets object → (room room′ : List ℕ) (n : ℕ) → Normalised object room room′ n → (u : Items) → judge (take n room′) ≡ accepted u → normalOf u ≡ take n room′
+form-again object os room room′ n f u h =
+    let e = form-means object os room room′ n f in
+    ap encode (Option·some-injective (meaningOf u) (meaningOf (f .tree)) (sym (accepted-means (take n room′) u h) ∙ e)) ∙ sym (f .octets)
+
+pub normal-again : NormalAgain
+normal-again object os lists lists′ store store′ room room′ n c again again′ store₂ store₂′ room₂ room₂′ m d =
+    let f = normalised object lists lists′ store store′ room room′ n c in
+    let g = normalised (take n room′) again again′ store₂ store₂′ room₂ room₂′ m d in
+    let same : normalOf (g .tree) ≡ take n room′ = form-again object os room room′ n f (g .tree) (g .is) in
+    (g .many ∙ ap length (same ∙ f .octets) ∙ sym (f .many), g .octets ∙ same)
+
+pub normal-again-given : NormalAgainGiven
+normal-again-given object os lists lists′ store store′ room room′ n c again again′ store₂ store₂′ room₂ room₂′ answer d s =
+    let f = normalised object lists lists′ store store′ room room′ n c in
+    let m = has-meaning (take n room′) (meaningOf (f .tree)) (form-means object os room room′ n f) in
+    let u = m .0 in
+    let long : n ≡ length (normalOf u) = f .many ∙ ap length (sym (form-again object os room room′ n f u (m .1) ∙ f .octets)) in
+    normalise-in-order (take n room′) again again′ store₂ store₂′ room₂ room₂′ answer d .octets n .1 (u, m .1, long, s u (m .1))
+
+-- ---- comparing
+module _ (a b : List ℕ) (first second : Lent) (answer : SameAnswer) (e : answer ≡ sameAnswer first second (judge a) (judge b)) where
+  -- what is answered when two objects are compared
+  both : (x : Bool) → answer ≡ cond x Same Different → BothSuffice a b first second
+  both x q = go (judge a) (judge b) refl refl (compare first second (judge a) (judge b)) (sym q ∙ e)
+    where
+      told : (x : Bool) {A : Type 0} → (y : SameAnswer) → cond x Same Different ≡ y → (Same ≡ y → A) → (Different ≡ y → A) → A
+      told true y q f g = f q
+      told false y q f g = g q
+
+      go : (j k : Judged) → judge a ≡ j → judge b ≡ k → Compared first second j k → cond x Same Different ≡ sameAnswer first second (judge a) (judge b) → BothSuffice a b first second
+      go (refused r) k h g (badFirst f) q = told x _ (q ∙ ap₂ (sameAnswer first second) h g ∙ f) (λ z. never (cc)) (λ z. never (cc))
+      go (accepted t) (refused r) h g (badSecond f) q = told x _ (q ∙ ap₂ (sameAnswer first second) h g ∙ f) (λ z. never (cc)) (λ z. never (cc))
+      go (accepted t) (accepted u) h g (lackingFirst r f l) q = told x _ (q ∙ ap₂ (sameAnswer first second) h g ∙ f) (λ z. never (cc)) (λ z. never (cc))
+      go (accepted t) (accepted u) h g (lackingSecond r f s l) q = told x _ (q ∙ ap₂ (sameAnswer first second) h g ∙ f) (λ z. never (cc)) (λ z. never (cc))
+      go (accepted t) (accepted u) h g (bothGood f s v) q = record { treeA = t; treeB = u; acceptedA = h; acceptedB = g; forA = s; forB = v }
+
+  module _ (os : Octets a) (ps : Octets b) where
+    same-when : BothSuffice a b first second → (answer ≡ Same) ↔ (meaning a ≡ meaning b)
+    same-when s =
+        let p = accepted-means a (s .treeA) (s .acceptedA) in
+        let q = accepted-means b (s .treeB) (s .acceptedB) in
+        let at : answer ≡ sameAnswer first second (accepted (s .treeA)) (accepted (s .treeB)) = e ∙ ap₂ (sameAnswer first second) (s .acceptedA) (s .acceptedB) in
+        let one = same-meaning a b (s .treeA) (s .treeB) os ps (s .acceptedA) (s .acceptedB) first second (suffices-fits first (s .treeA) (s .forA)) (suffices-fits second (s .treeB) (s .forB)) in (
+          (λ f. p ∙ ap some (one .0 (sym at ∙ f)) ∙ sym q),
+          (λ f. at ∙ one .1 (Option·some-injective (meaningOf (s .treeA)) (meaningOf (s .treeB)) (sym p ∙ f ∙ q))),
+        )
+
+    different-when : BothSuffice a b first second → (meaning a ≡ meaning b → ⊥) → answer ≡ Different
+    different-when s apart =
+        let at : answer ≡ sameAnswer first second (accepted (s .treeA)) (accepted (s .treeB)) = e ∙ ap₂ (sameAnswer first second) (s .acceptedA) (s .acceptedB) in
+        go (sameOctets (normalOf (s .treeA)) (normalOf (s .treeB)))
+        (at ∙ both-compared first second (s .treeA) (s .treeB) (suffices-fits first (s .treeA) (s .forA)) (suffices-fits second (s .treeB) (s .forB)))
+      where
+        go : (x : Bool) → answer ≡ cond x Same Different → answer ≡ Different
+        go true f = absurd (apart (same-when s .0 f))
+        go false f = f
+
+    comparison : Comparison a b first second answer
+    comparison = record {
+      same = ((λ f. (both true f, same-when (both true f) .0 f)), (λ s. same-when (s .0) .1 (s .1)));
+      different = ((λ f. (both false f, (λ g. let h = same-when (both false f) .1 g in never (cc)))), (λ s. different-when (s .0) (s .1)));
+    }
+
+pub same-exactly : SameExactly
+same-exactly a b os ps lists lists′ store store′ roomA roomA′ roomB roomB′ answer c = comparison a b (lentBy lists store roomA) (lentBy lists store roomB) answer (c .answers) os ps

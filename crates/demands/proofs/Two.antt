@@ -1,0 +1,118 @@
+-- Demand 2: from the claims, with the grammar's agreement with the judgement.
+use mathlib.Core.Path.{_≡_, refl, sym, ap, _∙_, subst}
+use mathlib.Core.List.{List, [], _++_}
+use Prim.Native.Nat.{ℕ, _≤_, min}
+use native.Mathlib.Nat.{min-le-right, le-min}
+use native.Mathlib.Omega.{arith}
+use lib.ListN.{length, take, drop}
+use borrow.Author.Tests.{le-leb}
+use Rattle.octets.proofs.Numbers.{octets-take}
+use Rattle.format.specs.declared.Refusal.{Refusal}
+use Rattle.format.specs.declared.Counts.{Counts}
+use Rattle.format.specs.declared.ReadAnswer.the-variants.{Records, NotRead}
+use Rattle.format.specs.declared.WriteAnswer.the-variants.{Octets as Written}
+use Rattle.format.specs.Tree.{Items, count, recordsOf}
+use Rattle.format.specs.Judge.{Judged, judge}
+use Rattle.format.specs.Judge.Judged.{refused, accepted}
+use Rattle.format.specs.Meaning.{means, tableOf, encode}
+use Rattle.format.specs.Calls.{Lists, row, places, lay, judgeAnswer, readRecords, WriteClaim}
+use Rattle.format.proofs.Lays.{row-lay-behind, tabled-laid}
+use Rattle.format.proofs.Spans.{located, records-count}
+use Rattle.format.proofs.Regrown.{shaped, regrows-all, regrown-means}
+use Rattle.grammar.specs.Grammar.{Accepts}
+use Rattle.grammar.proofs.Agree.{sound, complete, one-tree as agree-one-tree}
+use Rattle.writer.proofs.Theorems.{delivered}
+use Rattle.demands.specs.One.{ReadOrder}
+use Rattle.demands.specs.Two.{AcceptedExactly, ReadExactly, JudgedExactly, OneTree, HandedOut, TreeHandedOut, SliceHandedOut, WrittenReadsBack}
+use Rattle.demands.proofs.Laws.{never, of-object, tree-given, located-lies, has-meaning}
+use Rattle.demands.proofs.One.{read-in-order, read-records-in-order, write-in-order}
+
+pub accepted-exactly : AcceptedExactly
+accepted-exactly object os before after answer c = (
+  (λ calm. go calm (judge object) refl),
+  (λ a r l e. never (let h : judge object ≡ refused r = order .ofObject r l .0 e in let g = sound object (a .0) (a .1) in cc)),
+)
+  where
+    order : ReadOrder (judge object) (places before) answer
+    order = read-in-order object before after answer c
+
+    go : ((r : Refusal) → r .number ≤ 13 → answer ≡ NotRead r → ⊥) → (j : Judged) → judge object ≡ j → (t : Items) × Accepts object t
+    go calm (refused r) h = let l = of-object object r h .most in absurd (calm r l (order .ofObject r l .1 h))
+    go calm (accepted t) h = (t, complete object t os h)
+
+pub read-exactly : ReadExactly
+read-exactly object os before after answer c n =
+    let order = read-in-order object before after answer c in (
+      (λ e. let f = order .records n .0 e in (f .0, complete object (f .0) os (f .1), f .2, f .3)),
+      (λ a. order .records n .1 (a .0, sound object (a .0) (a .1), a .2, a .3)),
+    )
+
+pub judged-exactly : JudgedExactly
+unfolding judgeAnswer
+judged-exactly object os answer e n = ((λ q. go (judge object) refl (sym q ∙ e)), (λ a. e ∙ ap judgeAnswer (sound object (a .0) (a .1)) ∙ ap (λ k. Records (record { records = k })) (sym (a .2))))
+  where
+    go : (j : Judged) → judge object ≡ j → Records (record { records = n }) ≡ judgeAnswer j → (t : Items) × Accepts object t × (n ≡ count t)
+    go (refused r) h q = never (cc)
+    go (accepted t) h q =
+        let w : _≡_ {A = Counts} (record { records = n }) (record { records = count t }) = cc in
+        (t, complete object t os h, ap (λ x. x .records) w)
+
+pub one-tree : OneTree
+one-tree = agree-one-tree
+
+-- the records of an object that has places for them
+pub records-read : (m : ℕ) (t : Items) → count t ≤ m → readRecords m (accepted t) ≡ recordsOf t
+unfolding readRecords
+records-read m t l = rw (le-leb (count t) m l)
+
+-- what stands in lists over which the records of an accepted object are laid
+handed-out : (object : List ℕ) (t : Items) → judge object ≡ accepted t → (before after : Lists) (n : ℕ) → n ≡ count t → n ≤ places before → after ≡ lay 0 (recordsOf t) before
+    → HandedOut object t before after n
+handed-out object t h before after n many room laid =
+    let long : n ≡ length (recordsOf t) = many ∙ sym (records-count t 1 0 0) in
+    let stand = tabled-laid (recordsOf t) before after n laid long room in
+    record {
+      many = many;
+      stand = stand;
+      behind = λ i l. ap (λ x. row x i) laid ∙ row-lay-behind 0 (recordsOf t) before i (omega arith);
+      lies = located-lies object t (located object t h);
+      regrown = ap (λ x. means (tableOf t) (x .0)) (regrows-all (row after) n object t (shaped object t h) (located object t h) (sym stand) many) ∙ regrown-means t;
+    }
+
+pub tree-handed-out : TreeHandedOut
+tree-handed-out object os before after n c t a =
+    let h = sound object t a in
+    let f = read-in-order object before after (Records (record { records = n })) c .records n .0 refl in
+    let same : f .0 ≡ t = (let z = f .1 in cc) in
+    let many : n ≡ count t = f .2 ∙ ap count same in
+    handed-out object t h before after n many (f .3) (c .leaves ∙ ap (λ rs. lay 0 rs before) (ap (readRecords (places before)) h ∙ records-read (places before) t (omega (arith, f .3))))
+
+pub slice-handed-out : SliceHandedOut
+slice-handed-out object os before after slice slice′ n c t a =
+    let m = min (length slice) (places before) in
+    let h = sound object t a in
+    let f = read-records-in-order object before after slice slice′ (Records (record { records = n })) c .records n .0 refl in
+    let same : f .0 ≡ t = (let z = f .1 in cc) in
+    let many : n ≡ count t = f .2 ∙ ap count same in
+    let handed : readRecords m (judge object) ≡ recordsOf t = ap (readRecords m) h ∙ records-read m t (omega (arith, f .3)) in (
+      handed-out object t h before after n many (omega (arith, f .3, min-le-right (length slice) (places before))) (c .leaves ∙ ap (λ rs. lay 0 rs before) handed),
+      c .fills ∙ ap (λ rs. rs ++ drop (length rs) slice) handed ∙ ap (λ k. recordsOf t ++ drop k slice) (records-count t 1 0 0 ∙ sym many),
+    )
+
+pub written-reads-back : WrittenReadsBack
+written-reads-back n lists lent before after answer os out c t g room object =
+    let k = length (encode (means [] t)) in
+    let e : answer ≡ Written k = write-in-order n lists lent before after answer c .octets k .1 (t, g, refl, le-min room object) in
+    let d = delivered n lists lent before after os k (subst (WriteClaim n lists lent before after) e c) in
+    let same : d .tree ≡ t = (let p = d .given in let q = tree-given n lists lent t g in cc) in
+    let m = has-meaning (take k after) (means [] (d .tree)) (d .meant) in (
+      k,
+      e,
+      record {
+        octets = d .octets ∙ ap (λ x. encode (means [] x)) same;
+        again = m .0;
+        accepts = complete (take k after) (m .0) (octets-take k after out) (m .1);
+        means-same = m .2 ∙ ap (means []) same;
+        behind = d .rest;
+      },
+    )

@@ -1,0 +1,6 @@
+pub mod One
+pub mod Two
+pub mod Three
+pub mod Only
+pub mod Bench
+pub mod Frauds

@@ -1,0 +1,94 @@
+-- Only one answer: two answers that meet a call's claim, with what is lent as they leave it, are the same (document 01, What the auditor will try). Each public
+-- call's `ensures` is its claim, so nothing is left open in what a call answers and leaves.
+use mathlib.Core.Path.{_≡_}
+use mathlib.Core.Bool.{Bool}
+use mathlib.Core.List.{List}
+use Prim.Native.Nat.{ℕ}
+use Rattle.octets.specs.declared.Put.{Put as OctetsPut}
+use Rattle.octets.specs.Calls.{Puts as OctetsPuts}
+use Rattle.text.specs.Tokens.{Entries}
+use Rattle.text.specs.declared.Expanded.{Expanded}
+use Rattle.text.specs.Calls.{ExpandClaim}
+use Rattle.values.specs.declared.Put.{Put as ValuesPut}
+use Rattle.values.specs.Calls.{Puts as ValuesPuts}
+use Rattle.format.specs.declared.Record.{Record}
+use Rattle.format.specs.declared.ReadAnswer.{ReadAnswer}
+use Rattle.format.specs.declared.WriteAnswer.{WriteAnswer}
+use Rattle.format.specs.declared.SameAnswer.{SameAnswer}
+use Rattle.format.specs.Calls.{Lists, ReadClaim, ReadAtMostClaim, ReadRecordsClaim, WriteClaim, NormaliseClaim, SameClaim}
+use Rattle.show.specs.declared.Put.{Put as ShowPut}
+use Rattle.show.specs.Calls.{Puts as ShowPuts}
+
+-- every call whose claim is an equation for its answer: judge, span, body, and all calls of octets, text, values and format that are lent nothing to write
+abbrev pub OneAnswer : Type 1
+OneAnswer = (A : Type 0) (claimed one other : A) → one ≡ claimed → other ≡ claimed → one ≡ other
+
+-- read
+abbrev pub OneRead : Type 0
+OneRead =
+    (object : List ℕ) (before one other : Lists) (answer answer′ : ReadAnswer)
+    → ReadClaim object before one answer → ReadClaim object before other answer′
+    → (answer ≡ answer′) × (one ≡ other)
+
+-- read_at_most
+abbrev pub OneReadAtMost : Type 0
+OneReadAtMost =
+    (object : List ℕ) (most : ℕ) (before one other : Lists) (answer answer′ : ReadAnswer)
+    → ReadAtMostClaim object most before one answer → ReadAtMostClaim object most before other answer′
+    → (answer ≡ answer′) × (one ≡ other)
+
+-- read_records
+abbrev pub OneReadRecords : Type 0
+OneReadRecords =
+    (object : List ℕ) (before one other : Lists) (slice oneSlice otherSlice : List Record) (answer answer′ : ReadAnswer)
+    → ReadRecordsClaim object before one slice oneSlice answer → ReadRecordsClaim object before other slice otherSlice answer′
+    → (answer ≡ answer′) × (one ≡ other) × (oneSlice ≡ otherSlice)
+
+-- write
+abbrev pub OneWrite : Type 0
+OneWrite =
+    (n : ℕ) (lists : Lists) (lent before one other : List ℕ) (answer answer′ : WriteAnswer)
+    → WriteClaim n lists lent before one answer → WriteClaim n lists lent before other answer′
+    → (answer ≡ answer′) × (one ≡ other)
+
+-- normalise
+abbrev pub OneNormalise : Type 0
+OneNormalise =
+    (object : List ℕ) (lists oneLists otherLists : Lists) (store oneStore otherStore room oneRoom otherRoom : List ℕ) (answer answer′ : WriteAnswer)
+    → NormaliseClaim object lists oneLists store oneStore room oneRoom answer → NormaliseClaim object lists otherLists store otherStore room otherRoom answer′
+    → (answer ≡ answer′) × (oneLists ≡ otherLists) × (oneStore ≡ otherStore) × (oneRoom ≡ otherRoom)
+
+-- same
+abbrev pub OneSame : Type 0
+OneSame =
+    (a b : List ℕ) (lists oneLists otherLists : Lists) (store oneStore otherStore roomA oneA otherA roomB oneB otherB : List ℕ) (answer answer′ : SameAnswer)
+    → SameClaim a b lists oneLists store oneStore roomA oneA roomB oneB answer → SameClaim a b lists otherLists store otherStore roomA otherA roomB otherB answer′
+    → (answer ≡ answer′) × (oneLists ≡ otherLists) × (oneStore ≡ otherStore) × (oneA ≡ otherA) × (oneB ≡ otherB)
+
+-- write_header, put_number, copy_into
+abbrev pub OneOctetsPut : Type 0
+OneOctetsPut =
+    (exists : Bool) (octets : List ℕ) (at : ℕ) (before one other : List ℕ) (answer answer′ : OctetsPut)
+    → OctetsPuts exists octets at before one answer → OctetsPuts exists octets at before other answer′
+    → (answer ≡ answer′) × (one ≡ other)
+
+-- expand
+abbrev pub OneExpand : Type 0
+OneExpand =
+    (entries : Entries) (text before one other : List ℕ) (at : ℕ) (answer answer′ : Expanded)
+    → ExpandClaim entries text before one at answer → ExpandClaim entries text before other at answer′
+    → (answer ≡ answer′) × (one ≡ other)
+
+-- Time::put, Bearer::put, put_normal
+abbrev pub OneValuePut : Type 0
+OneValuePut =
+    (valid : Bool) (octets before : List ℕ) (at : ℕ) (answer answer′ : ValuesPut) (one other : List ℕ)
+    → ValuesPuts valid octets before at answer one → ValuesPuts valid octets before at answer′ other
+    → (answer ≡ answer′) × (one ≡ other)
+
+-- every call of show
+abbrev pub OneShowPut : Type 0
+OneShowPut =
+    (text : List ℕ) (at : ℕ) (before one other : List ℕ) (answer answer′ : ShowPut)
+    → ShowPuts text at before one answer → ShowPuts text at before other answer′
+    → (answer ≡ answer′) × (one ≡ other)

@@ -1,0 +1,79 @@
+-- Demand 3. Normal forms of two accepted objects are the same octets exactly when the objects mean the same, meaning being defined without the writer. A normal
+-- form is accepted, means what its source meant, and normalises to itself.
+--
+-- `meaning` (format/specs/Meaning) is defined by `judge`, `means` and the values alone; the normal form `encode` stands below it in that file, and the records for
+-- the writer in another. The premise `Octets` is as in Two. That normalise answers with octets says that the object is accepted and fits what is lent
+-- (One, NormaliseOrder); each call may be lent other memory.
+use mathlib.Core.Path.{_≡_}
+use mathlib.Core.Logic.{_↔_}
+use mathlib.Core.List.{List}
+use Prim.Native.Nat.{ℕ}
+use lib.ListN.{take, drop}
+use Rattle.octets.specs.Numbers.{Octets}
+use Rattle.format.specs.declared.WriteAnswer.{WriteAnswer}
+use Rattle.format.specs.declared.WriteAnswer.the-variants.{Octets as Written}
+use Rattle.format.specs.declared.SameAnswer.{SameAnswer}
+use Rattle.format.specs.declared.SameAnswer.the-variants.{Same, Different}
+use Rattle.format.specs.Tree.{Items}
+use Rattle.format.specs.Judge.{judge}
+use Rattle.format.specs.Judge.Judged.{accepted}
+use Rattle.format.specs.Meaning.{meaning}
+use Rattle.format.specs.Calls.{Lists, Lent, lentBy, NormaliseClaim, SameClaim}
+use Rattle.grammar.specs.Grammar.{Accepts}
+use Rattle.demands.specs.One.{Suffices}
+
+-- the normal forms of two accepted objects are the same octets exactly when the objects mean the same
+abbrev pub SameNormalForms : Type 0
+SameNormalForms =
+    (a b : List ℕ) → Octets a → Octets b
+    → (listsA listsA′ : Lists) (storeA storeA′ roomA roomA′ : List ℕ) (n : ℕ) → NormaliseClaim a listsA listsA′ storeA storeA′ roomA roomA′ (Written n)
+    → (listsB listsB′ : Lists) (storeB storeB′ roomB roomB′ : List ℕ) (m : ℕ) → NormaliseClaim b listsB listsB′ storeB storeB′ roomB roomB′ (Written m)
+    → (take n roomA′ ≡ take m roomB′) ↔ (meaning a ≡ meaning b)
+
+-- a normal form is accepted and means what its source meant; behind it the room is as before
+pub record NormalForm (object room room′ : List ℕ) (n : ℕ) : Type 0 where
+  pub again : Items
+  pub accepts : Accepts (take n room′) again
+  pub means-same : meaning (take n room′) ≡ meaning object
+  pub behind : drop n room′ ≡ drop n room
+
+abbrev pub NormalAccepted : Type 0
+NormalAccepted =
+    (object : List ℕ) → Octets object → (lists lists′ : Lists) (store store′ room room′ : List ℕ) (n : ℕ) → Octets room′
+    → NormaliseClaim object lists lists′ store store′ room room′ (Written n) → NormalForm object room room′ n
+
+-- a normal form normalises to itself: whatever is lent to the second call, its octets are the same wherever it gives any
+abbrev pub NormalAgain : Type 0
+NormalAgain =
+    (object : List ℕ) → Octets object
+    → (lists lists′ : Lists) (store store′ room room′ : List ℕ) (n : ℕ) → NormaliseClaim object lists lists′ store store′ room room′ (Written n)
+    → (again again′ : Lists) (store₂ store₂′ room₂ room₂′ : List ℕ) (m : ℕ) → NormaliseClaim (take n room′) again again′ store₂ store₂′ room₂ room₂′ (Written m)
+    → (m ≡ n) × (take m room₂′ ≡ take n room′)
+
+-- and it gives them where what is lent suffices for the normal form
+abbrev pub NormalAgainGiven : Type 0
+NormalAgainGiven =
+    (object : List ℕ) → Octets object
+    → (lists lists′ : Lists) (store store′ room room′ : List ℕ) (n : ℕ) → NormaliseClaim object lists lists′ store store′ room room′ (Written n)
+    → (again again′ : Lists) (store₂ store₂′ room₂ room₂′ : List ℕ) (answer : WriteAnswer) → NormaliseClaim (take n room′) again again′ store₂ store₂′ room₂ room₂′ answer
+    → ((u : Items) → judge (take n room′) ≡ accepted u → Suffices (lentBy again store₂ room₂) u)
+    → answer ≡ Written n
+
+-- two accepted objects for which what is lent suffices
+pub record BothSuffice (a b : List ℕ) (first second : Lent) : Type 0 where
+  pub treeA : Items
+  pub treeB : Items
+  pub acceptedA : judge a ≡ accepted treeA
+  pub acceptedB : judge b ≡ accepted treeB
+  pub forA : Suffices first treeA
+  pub forB : Suffices second treeB
+
+-- same answers `Same` exactly when both objects are accepted and fit and mean the same, and `Different` exactly when they are and fit and do not
+pub record Comparison (a b : List ℕ) (first second : Lent) (answer : SameAnswer) : Type 0 where
+  pub same : (answer ≡ Same) ↔ (BothSuffice a b first second × (meaning a ≡ meaning b))
+  pub different : (answer ≡ Different) ↔ (BothSuffice a b first second × (meaning a ≡ meaning b → ⊥))
+
+abbrev pub SameExactly : Type 0
+SameExactly =
+    (a b : List ℕ) → Octets a → Octets b → (lists lists′ : Lists) (store store′ roomA roomA′ roomB roomB′ : List ℕ) (answer : SameAnswer)
+    → SameClaim a b lists lists′ store store′ roomA roomA′ roomB roomB′ answer → Comparison a b (lentBy lists store roomA) (lentBy lists store roomB) answer

@@ -1,0 +1,4 @@
+pub mod Lending
+pub mod Walking
+pub mod Copying
+pub mod Wrong

@@ -1,0 +1,76 @@
+-- The ways through the program's functions that aren't arithmetic alone: where octets first differ, and a normal form within its room.
+use mathlib.Core.Path.{_≡_, refl, ap}
+use mathlib.Core.Bool.{false}
+use mathlib.Core.List.{List}
+use Prim.Native.Nat.{ℕ, suc, _+_, _≤_, _<_}
+use native.Mathlib.Omega.{arith}
+use lib.Dec.{T}
+use lib.IntN.{ℤ, pos, negsuc}
+use lib.Signed.{ltZ, nonNeg}
+use lib.ListN.{length, drop, getD, drop-of-length-le}
+use borrow.Author.Tests.{eq-eqb, ne-eqb}
+use Rattle.octets.proofs.Lists.{drop-next}
+use Rattle.io.specs.Counts.{Counts}
+use Rattle.io.proofs.Counting.{counts}
+use Rattle.format.specs.declared.Outcome.{Outcome}
+use Rattle.format.specs.declared.WriteAnswer.{WriteAnswer}
+use Rattle.format.specs.declared.WriteAnswer.the-variants.{Octets, NotWritten}
+use Rattle.format.specs.Answers.{writeOutcome}
+use Rattle.format.specs.Calls.{Lists, lentBy, NormaliseClaim}
+use Rattle.normal.proofs.Normalised.{fit, written}
+use Rattle.spi.specs.Common.{common}
+
+-- ---- octets compared
+
+-- the octets up to a place are shared
+pub record Shared (a b : List ℕ) (i : ℕ) : Type 0 where
+  pub first : i ≤ length a
+  pub second : i ≤ length b
+  pub rest : common a b ≡ i + common (drop i a) (drop i b)
+
+pub shared-begin : (a b : List ℕ) → Shared a b 0
+shared-begin a b = record { first = omega arith; second = omega arith; rest = omega arith }
+
+module _ (a b : List ℕ) (i : ℕ) (v : Shared a b i) where
+  pub shared-first : length a ≤ i → i ≡ common a b
+  unfolding common
+  shared-first h = let none : common (drop i a) (drop i b) ≡ 0 = rw (drop-of-length-le a h) in omega (arith, v .rest)
+
+  module _ (h : i < length a) where
+    pub shared-second : length b ≤ i → i ≡ common a b
+    unfolding common
+    shared-second g =
+        let none : common (drop i a) (drop i b) ≡ 0 = rw (drop-next a i 0 h, drop-of-length-le b g) in
+        omega (arith, v .rest)
+
+    module _ (g : i < length b) where
+      pub shared-differ : (getD a i 0 ≡ getD b i 0 → ⊥) → i ≡ common a b
+      unfolding common
+      shared-differ n =
+          let none : common (drop i a) (drop i b) ≡ 0 = rw (drop-next a i 0 h, drop-next b i 0 g, ne-eqb (getD a i 0) (getD b i 0) n) in
+          omega (arith, v .rest)
+
+      pub shared-again : getD a i 0 ≡ getD b i 0 → Shared a b (i + 1)
+      unfolding common
+      shared-again e =
+          let next : common (drop i a) (drop i b) ≡ suc (common (drop (i + 1) a) (drop (i + 1) b)) = rw (drop-next a i 0 h, drop-next b i 0 g, eq-eqb (getD a i 0) (getD b i 0) e) in
+          record { first = omega arith; second = omega arith; rest = omega (arith, v .rest) }
+
+pub ruleset shared-ways = (shared-begin, shared-first, shared-second, shared-differ, shared-again)
+
+-- ---- a normal form
+
+-- what is handed out lies in the room
+pub normal-within : (o : List ℕ) (l l′ : Lists) (store store′ room room′ : List ℕ) (answer : WriteAnswer) → NormaliseClaim o l l′ store store′ room room′ answer
+    → length room′ ≡ length room → (r : Outcome) → r ≡ writeOutcome answer → Counts (r .count) room′
+normal-within o l l′ store store′ room room′ (Octets n) c e r q =
+    let w = written o l l′ store store′ room room′ (Octets n) c n refl in
+    let f = fit (lentBy l store room) (w .tree) (w .fits) in
+    counts (r .count) room′ (omega (arith, ap (λ x. x .count) q, w .many, f .room))
+normal-within o l l′ store store′ room room′ (NotWritten r₁) c e r q = counts (r .count) room′ (omega (arith, ap (λ x. x .count) q))
+
+-- ---- a number that isn't negative
+
+pub not-negative : (z : ℤ) → ltZ z (pos 0) ≡ false → T (nonNeg z)
+not-negative (pos n) e = tt
+not-negative (negsuc n) e = let z : _≡_ {A = ℕ} 0 1 = cc in absurd (omega arith)

@@ -1,0 +1,102 @@
+// Two objects compared: whether they mean the same, the sizes of both, and where their normal forms first differ.
+use crate::lines::say;
+use crate::lines::say_number;
+use crate::lines::say_refused;
+use crate::lines::say_sizes;
+use crate::memory::number_places;
+use crate::memory::octet_places;
+use crate::memory::room;
+use crate::objects::normal_form;
+use crate::status::BAD;
+use crate::status::GOOD;
+use crate::status::worse;
+use crate::words::shared;
+use format::Outcome;
+use format::SameOutcome;
+
+fn verdict(a: &[u8], b: &[u8]) -> SameOutcome {
+    let mut tags = octet_places();
+    let mut kinds = octet_places();
+    let mut depths = octet_places();
+    let mut parents = number_places();
+    let mut starts = number_places();
+    let mut sizes = number_places();
+    let mut store = room();
+    let mut room_a = room();
+    let mut room_b = room();
+    let answer = normal::same(
+        a,
+        b,
+        &mut tags,
+        &mut kinds,
+        &mut depths,
+        &mut parents,
+        &mut starts,
+        &mut sizes,
+        &mut store,
+        &mut room_a,
+        &mut room_b,
+    );
+    answer.outcome()
+}
+
+fn say_difference(a: &[u8], b: &[u8]) {
+    say(b"the normal forms first differ at ");
+    say_number(shared(a, b));
+    say(b"\n");
+}
+
+// Both normal forms are known to fit their rooms.
+fn report(
+    first: &[u8],
+    a: &[u8],
+    first_records: usize,
+    second: &[u8],
+    b: &[u8],
+    second_records: usize,
+    same: bool,
+) -> u8 {
+    let mut room_a = room();
+    let mut room_b = room();
+    let made_a = normal_form(a, &mut room_a);
+    let made_b = normal_form(b, &mut room_b);
+    let n = made_a.count;
+    let m = made_b.count;
+    if same {
+        say(b"same\n")
+    } else {
+        say(b"different\n")
+    }
+    say_sizes(first, a.len(), first_records, n);
+    say_sizes(second, b.len(), second_records, m);
+    if same {
+        return GOOD;
+    }
+    say_difference(&room_a[..n], &room_b[..m]);
+    BAD
+}
+
+// Check's line of a refused file.
+fn say_if_refused(path: &[u8], judged: Outcome) -> u8 {
+    if judged.number == 0 {
+        return GOOD;
+    }
+    say_refused(path, judged.number, judged.place)
+}
+
+// Each file that is refused has its line. Where both are accepted, a normal form may still be too large.
+pub fn compare(first: &[u8], a: &[u8], second: &[u8], b: &[u8]) -> u8 {
+    let one = judge::judge(a).outcome();
+    let two = judge::judge(b).outcome();
+    let status = worse(say_if_refused(first, one), say_if_refused(second, two));
+    if status > GOOD {
+        return status;
+    }
+    let said = verdict(a, b);
+    let which = said.which;
+    match which {
+        1 => say_refused(first, said.number, said.place),
+        2 => say_refused(second, said.number, said.place),
+        _ => report(first, a, one.count, second, b, two.count, said.same),
+    }
+}

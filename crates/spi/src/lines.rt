@@ -1,0 +1,95 @@
+// What is said on standard output. The script that runs the program sees whether it got there.
+use crate::status::BAD;
+use format::Record;
+use libc::STDOUT_FILENO;
+use show::Put;
+ghost use Rattle.io.specs.Counts.{Counts};
+
+// No line of a listing is longer, and no refusal in words.
+const LINE: usize = 128;
+
+pub fn say(text: &[u8]) {
+    io::write_all(STDOUT_FILENO, text);
+}
+
+pub fn say_number(n: usize) {
+    io::print_decimal(STDOUT_FILENO, n as u64);
+}
+
+// Where a text ended that was put into a line. `show` ends it within the line; to ask once more spares each caller a proof.
+pub fn end_of(put: Put, line: &[u8]) -> usize
+    ensures { λ r. ⌜ Counts r (now (line .entry)) ⌝ }
+{
+    match put {
+        Put::Done(end) => if end <= line.len() { end } else { 0 },
+        Put::NoRoom => 0,
+    }
+}
+
+pub fn say_header() {
+    let mut line = [0u8; LINE];
+    let end = end_of(show::put_header(&mut line, 0), &line);
+    say(&line[..end]);
+}
+
+pub fn say_record(r: Record) {
+    let mut line = [0u8; LINE];
+    let end = end_of(show::put_record(&mut line, 0, r), &line);
+    say(&line[..end]);
+}
+
+pub fn say_records(n: usize) {
+    let mut line = [0u8; LINE];
+    let end = end_of(show::put_records(&mut line, 0, n), &line);
+    say(&line[..end]);
+}
+
+fn say_words(number: u8) {
+    let mut line = [0u8; LINE];
+    let end = end_of(show::put_refusal_words(&mut line, 0, number), &line);
+    say(&line[..end]);
+}
+
+// The line of a refused file, and the status.
+pub fn say_refused(path: &[u8], number: u8, place: usize) -> u8 {
+    say(path);
+    say(b": refused ");
+    say_number(number as usize);
+    say(b" at ");
+    say_number(place);
+    say(b": ");
+    say_words(number);
+    say(b"\n");
+    BAD
+}
+
+pub fn say_accepted(path: &[u8], records: usize, octets: usize) {
+    say(path);
+    say(b": ok, ");
+    say_number(records);
+    say(b" records, ");
+    say_number(octets);
+    say(b" octets\n");
+}
+
+pub fn say_saved(path: &[u8], octets: usize, out: &[u8], normal: usize) {
+    say(path);
+    say(b": ");
+    say_number(octets);
+    say(b" octets; normal form: ");
+    say_number(normal);
+    say(b" octets, written to ");
+    say(out);
+    say(b"\n");
+}
+
+pub fn say_sizes(path: &[u8], octets: usize, records: usize, normal: usize) {
+    say(path);
+    say(b": ");
+    say_number(octets);
+    say(b" octets, ");
+    say_number(records);
+    say(b" records, normal form ");
+    say_number(normal);
+    say(b" octets\n");
+}

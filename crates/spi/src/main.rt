@@ -1,0 +1,172 @@
+// The command for people: checks objects in files, lists their records, writes their normal form, compares two. The script ./spi builds it and runs it.
+//
+// What is said of an object is proved where it is found, in `judge`, `reader`, `normal` and `show`; here every function is safe and ends. A program has no exit
+// status, so the last line on standard output is a status of its own, which the script takes away and ends with.
+mod comparing;
+mod files;
+mod lines;
+mod memory;
+mod objects;
+mod status;
+mod words;
+
+use crate::comparing::compare;
+use crate::files::load_argument;
+use crate::files::save;
+use crate::lines::say;
+use crate::lines::say_number;
+use crate::lines::say_refused;
+use crate::lines::say_saved;
+use crate::memory::file_buffer;
+use crate::memory::room;
+use crate::objects::check;
+use crate::objects::list;
+use crate::objects::normal_form;
+use crate::status::FAILED;
+use crate::status::GOOD;
+use crate::status::worse;
+use crate::words::is_word;
+use libc::STDERR_FILENO;
+
+// What is to be done with a file.
+enum Task {
+    Check,
+    List,
+    Normal,
+    Compare,
+}
+
+fn usage(text: &[u8]) -> u8 {
+    io::write_all(STDERR_FILENO, b"usage: spi ");
+    io::write_all(STDERR_FILENO, text);
+    io::write_all(STDERR_FILENO, b"\n");
+    FAILED
+}
+
+fn help() -> u8 {
+    say(b"spi check FILE..        for each file: ok, or why it is refused and where\n");
+    say(b"spi list FILE           the records of an object\n");
+    say(b"spi normal FILE OUT     writes an object's normal form to the file OUT\n");
+    say(b"spi compare FILE FILE   whether two objects mean the same\n");
+    say(b"spi help                these lines\n");
+    say(b"status: 0 ok or same, 1 refused or different, 2 no such command or file\n");
+    GOOD
+}
+
+// An object's normal form to the file that the third argument names.
+fn save_normal(path: &[u8], object: &[u8]) -> u8 {
+    let mut normal = room();
+    let made = normal_form(object, &mut normal);
+    if made.number > 0 {
+        return say_refused(path, made.number, made.place);
+    }
+    let mut out = io::buffer();
+    let name = os::arg(3, &mut out);
+    let size = made.count;
+    if !save(&out[..name], &normal[..size]) {
+        return FAILED;
+    }
+    say_saved(path, object.len(), &out[..name], size);
+    GOOD
+}
+
+// An object compared with that in the file that the third argument names.
+fn compare_with(first: &[u8], a: &[u8]) -> u8 {
+    let mut path = io::buffer();
+    let mut object = file_buffer();
+    let got = load_argument(3, &mut path, &mut object);
+    if !got.whole {
+        return FAILED;
+    }
+    let name = got.name;
+    let size = got.size;
+    compare(first, a, &path[..name], &object[..size])
+}
+
+fn treat(task: Task, path: &[u8], object: &[u8]) -> u8 {
+    match task {
+        Task::Check => check(path, object),
+        Task::List => list(path, object),
+        Task::Normal => save_normal(path, object),
+        Task::Compare => compare_with(path, object),
+    }
+}
+
+// A task on the file that an argument names.
+fn treat_argument(task: Task, i: usize) -> u8 {
+    let mut path = io::buffer();
+    let mut object = file_buffer();
+    let got = load_argument(i, &mut path, &mut object);
+    if !got.whole {
+        return FAILED;
+    }
+    let name = got.name;
+    let size = got.size;
+    treat(task, &path[..name], &object[..size])
+}
+
+fn check_all(count: usize) -> u8 {
+    let mut status = GOOD;
+    let mut i: usize = 2;
+    while i < count {
+        status = worse(status, treat_argument(Task::Check, i));
+        i = i + 1;
+    }
+    status
+}
+
+fn no_such_command(command: &[u8]) -> u8 {
+    io::write_all(STDERR_FILENO, b"spi: no such command: ");
+    io::write_all(STDERR_FILENO, command);
+    io::write_all(STDERR_FILENO, b"\n");
+    usage(b"check | list | normal | compare | help")
+}
+
+// A task on a command's first file, where the command has all its words.
+fn treat_first(task: Task, whole: bool, words: &[u8]) -> u8 {
+    if !whole {
+        return usage(words);
+    }
+    treat_argument(task, 2)
+}
+
+// `count` counts the program's name and the command too.
+fn obey(command: &[u8], count: usize) -> u8 {
+    if is_word(command, b"check") {
+        return if count > 2 {
+            check_all(count)
+        } else {
+            usage(b"check FILE..")
+        };
+    }
+    if is_word(command, b"list") {
+        return treat_first(Task::List, count == 3, b"list FILE");
+    }
+    if is_word(command, b"normal") {
+        return treat_first(Task::Normal, count == 4, b"normal FILE OUT");
+    }
+    if is_word(command, b"compare") {
+        return treat_first(Task::Compare, count == 4, b"compare FILE FILE");
+    }
+    if is_word(command, b"help") {
+        return help();
+    }
+    no_such_command(command)
+}
+
+fn run() -> u8 {
+    let count = os::arg_count();
+    if count < 2 {
+        return usage(b"check | list | normal | compare | help");
+    }
+    let mut command = io::buffer();
+    let n = os::arg(1, &mut command);
+    obey(&command[..n], count)
+}
+
+fn main() {
+    let status = run();
+    say(b"spi status ");
+    say_number(status as usize);
+    say(b"\n");
+}

@@ -1,0 +1,35 @@
+// The memory that the program lends. An object has at most 32,768 octets, and an item at least 2, so there is a place for each record; the store of a normal form
+// is no larger than the normal form.
+ghost use mathlib.Core.Path.{_≡_};
+ghost use lib.ListN.{length};
+
+const OBJECT: usize = 32_768;
+
+// One more octet than an object has, so that a larger file shows.
+const FILE: usize = 32_769;
+
+const PLACES: usize = 16_384;
+
+pub fn file_buffer() -> [u8; FILE]
+    ensures { λ r. ⌜ 32_769 ≡ length r ⌝ }
+{
+    [0; FILE]
+}
+
+pub fn room() -> [u8; OBJECT]
+    ensures { λ r. ⌜ 32_768 ≡ length r ⌝ }
+{
+    [0; OBJECT]
+}
+
+pub fn octet_places() -> [u8; PLACES]
+    ensures { λ r. ⌜ 16_384 ≡ length r ⌝ }
+{
+    [0; PLACES]
+}
+
+pub fn number_places() -> [u16; PLACES]
+    ensures { λ r. ⌜ 16_384 ≡ length r ⌝ }
+{
+    [0; PLACES]
+}

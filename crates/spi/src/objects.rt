@@ -1,0 +1,124 @@
+// What the library says of one object.
+use crate::lines::say_accepted;
+use crate::lines::say_header;
+use crate::lines::say_record;
+use crate::lines::say_records;
+use crate::lines::say_refused;
+use crate::memory::number_places;
+use crate::memory::octet_places;
+use crate::memory::room;
+use crate::status::GOOD;
+use format::Outcome;
+use format::Record;
+ghost use Rattle.io.specs.Counts.{Counts};
+
+pub fn check(path: &[u8], object: &[u8]) -> u8 {
+    let judged = judge::judge(object).outcome();
+    if judged.number > 0 {
+        return say_refused(path, judged.number, judged.place);
+    }
+    say_accepted(path, judged.count, object.len());
+    GOOD
+}
+
+fn octet_at(s: &[u8], i: usize) -> u8 {
+    if i < s.len() { s[i] } else { 0 }
+}
+
+fn number_at(s: &[u16], i: usize) -> u16 {
+    if i < s.len() { s[i] } else { 0 }
+}
+
+fn record_at(
+    tags: &[u8],
+    kinds: &[u8],
+    depths: &[u8],
+    parents: &[u16],
+    starts: &[u16],
+    sizes: &[u16],
+    i: usize,
+) -> Record {
+    Record {
+        tag: octet_at(tags, i),
+        kind: octet_at(kinds, i),
+        depth: octet_at(depths, i),
+        parent: number_at(parents, i),
+        start: number_at(starts, i),
+        size: number_at(sizes, i),
+    }
+}
+
+fn say_listing(
+    tags: &[u8],
+    kinds: &[u8],
+    depths: &[u8],
+    parents: &[u16],
+    starts: &[u16],
+    sizes: &[u16],
+    n: usize,
+) {
+    say_header();
+    let mut i: usize = 0;
+    while i < n {
+        say_record(record_at(tags, kinds, depths, parents, starts, sizes, i));
+        i = i + 1;
+    }
+    say_records(n);
+}
+
+pub fn list(path: &[u8], object: &[u8]) -> u8 {
+    let mut tags = octet_places();
+    let mut kinds = octet_places();
+    let mut depths = octet_places();
+    let mut parents = number_places();
+    let mut starts = number_places();
+    let mut sizes = number_places();
+    let answer = reader::read(
+        object,
+        &mut tags,
+        &mut kinds,
+        &mut depths,
+        &mut parents,
+        &mut starts,
+        &mut sizes,
+    );
+    let read = answer.outcome();
+    if read.number > 0 {
+        return say_refused(path, read.number, read.place);
+    }
+    say_listing(
+        &tags,
+        &kinds,
+        &depths,
+        &parents,
+        &starts,
+        &sizes,
+        read.count,
+    );
+    GOOD
+}
+
+// The normal form of an object in a lent room: how many octets it has, or why there is none.
+pub fn normal_form(object: &[u8], lent: &mut [u8]) -> Outcome
+    ensures { λ r. ⌜ Counts (r .count) (now (lent .exit)) ⌝ }
+{
+    let mut tags = octet_places();
+    let mut kinds = octet_places();
+    let mut depths = octet_places();
+    let mut parents = number_places();
+    let mut starts = number_places();
+    let mut sizes = number_places();
+    let mut store = room();
+    let answer = normal::normalise(
+        object,
+        &mut tags,
+        &mut kinds,
+        &mut depths,
+        &mut parents,
+        &mut starts,
+        &mut sizes,
+        &mut store,
+        lent,
+    );
+    answer.outcome()
+}
