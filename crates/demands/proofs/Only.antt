@@ -1,6 +1,6 @@
 -- Only one answer: each claim gives an equation for the answer and one for each lent thing, and two things that equal a third are equal.
 use mathlib.Core.Path.{sym, _∙_}
-use Rattle.demands.specs.Only.{OneAnswer, OneRead, OneReadAtMost, OneReadRecords, OneWrite, OneNormalise, OneSame, OneOctetsPut, OneExpand, OneValuePut, OneShowPut}
+use Rattle.demands.specs.Only.{OneAnswer, OneRead, OneReadAtMost, OneReadRecords, OneWrite, OneNormalise, OneSame, OneOctetsPut, OneExpand, OneValuePut, OneShowPut, OneReadC, OneSpanC, OneWriteC, OneNormaliseC, OneSameC}
 
 pub one-answer : OneAnswer
 one-answer A claimed one other e f = e ∙ sym f
@@ -49,3 +49,31 @@ one-value-put valid octets before at answer answer′ one other c d = (one-answe
 
 pub one-show-put : OneShowPut
 one-show-put text at before one other answer answer′ c d = (one-answer _ _ answer answer′ (c .answers) (d .answers), one-answer _ _ one other (c .leaves) (d .leaves))
+
+-- ---- the calls for C
+
+pub one-read-c : OneReadC
+one-read-c object before one other answer answer′ c d = (one-answer _ _ answer answer′ (c .answers) (d .answers), one-answer _ _ one other (c .leaves .leaves) (d .leaves .leaves))
+
+pub one-span-c : OneSpanC
+one-span-c object starts sizes number answer answer′ c d = one-answer _ _ answer answer′ (c .answers) (d .answers)
+
+pub one-write-c : OneWriteC
+one-write-c n lists lent before one other answer answer′ c d = (one-answer _ _ answer answer′ (c .answers) (d .answers), one-answer _ _ one other (c .leaves .leaves) (d .leaves .leaves))
+
+pub one-normalise-c : OneNormaliseC
+one-normalise-c object lists oneLists otherLists store oneStore otherStore room oneRoom otherRoom answer answer′ c d = (
+  one-answer _ _ answer answer′ (c .answers) (d .answers),
+  one-answer _ _ oneLists otherLists (c .leaves .leavesLists) (d .leaves .leavesLists),
+  one-answer _ _ oneStore otherStore (c .leaves .leavesStore) (d .leaves .leavesStore),
+  one-answer _ _ oneRoom otherRoom (c .leaves .leavesRoom) (d .leaves .leavesRoom),
+)
+
+pub one-same-c : OneSameC
+one-same-c a b lists oneLists otherLists store oneStore otherStore roomA oneA otherA roomB oneB otherB answer answer′ c d = (
+  one-answer _ _ answer answer′ (c .answers) (d .answers),
+  one-answer _ _ oneLists otherLists (c .leaves .leavesLists) (d .leaves .leavesLists),
+  one-answer _ _ oneStore otherStore (c .leaves .leavesStore) (d .leaves .leavesStore),
+  one-answer _ _ oneA otherA (c .leaves .leavesFirst) (d .leaves .leavesFirst),
+  one-answer _ _ oneB otherB (c .leaves .leavesSecond) (d .leaves .leavesSecond),
+)

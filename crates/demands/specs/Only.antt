@@ -18,6 +18,7 @@ use Rattle.format.specs.declared.SameAnswer.{SameAnswer}
 use Rattle.format.specs.Calls.{Lists, ReadClaim, ReadAtMostClaim, ReadRecordsClaim, WriteClaim, NormaliseClaim, SameClaim}
 use Rattle.show.specs.declared.Put.{Put as ShowPut}
 use Rattle.show.specs.Calls.{Puts as ShowPuts}
+use Rattle.spi_c.specs.Claims.{ReadsC, SpansC, WritesC, NormalisesC, SameC}
 
 -- every call whose claim is an equation for its answer: judge, span, body, and all calls of octets, text, values and format that are lent nothing to write
 abbrev pub OneAnswer : Type 1
@@ -92,3 +93,30 @@ OneShowPut =
     (text : List ℕ) (at : ℕ) (before one other : List ℕ) (answer answer′ : ShowPut)
     → ShowPuts text at before one answer → ShowPuts text at before other answer′
     → (answer ≡ answer′) × (one ≡ other)
+
+-- the calls for C: the one number that each answers, and what is lent as above
+abbrev pub OneReadC : Type 0
+OneReadC =
+    (object : List ℕ) (before one other : Lists) (answer answer′ : ℕ) → ReadsC object before one answer → ReadsC object before other answer′
+    → (answer ≡ answer′) × (one ≡ other)
+
+abbrev pub OneSpanC : Type 0
+OneSpanC = (object starts sizes : List ℕ) (number answer answer′ : ℕ) → SpansC object starts sizes number answer → SpansC object starts sizes number answer′ → answer ≡ answer′
+
+abbrev pub OneWriteC : Type 0
+OneWriteC =
+    (n : ℕ) (lists : Lists) (lent before one other : List ℕ) (answer answer′ : ℕ)
+    → WritesC n lists lent before one answer → WritesC n lists lent before other answer′
+    → (answer ≡ answer′) × (one ≡ other)
+
+abbrev pub OneNormaliseC : Type 0
+OneNormaliseC =
+    (object : List ℕ) (lists oneLists otherLists : Lists) (store oneStore otherStore room oneRoom otherRoom : List ℕ) (answer answer′ : ℕ)
+    → NormalisesC object lists oneLists store oneStore room oneRoom answer → NormalisesC object lists otherLists store otherStore room otherRoom answer′
+    → (answer ≡ answer′) × (oneLists ≡ otherLists) × (oneStore ≡ otherStore) × (oneRoom ≡ otherRoom)
+
+abbrev pub OneSameC : Type 0
+OneSameC =
+    (a b : List ℕ) (lists oneLists otherLists : Lists) (store oneStore otherStore roomA oneA otherA roomB oneB otherB : List ℕ) (answer answer′ : ℕ)
+    → SameC a b lists oneLists store oneStore roomA oneA roomB oneB answer → SameC a b lists otherLists store otherStore roomA otherA roomB otherB answer′
+    → (answer ≡ answer′) × (oneLists ≡ otherLists) × (oneStore ≡ otherStore) × (oneA ≡ otherA) × (oneB ≡ otherB)
