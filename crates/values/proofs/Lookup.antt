@@ -9,10 +9,10 @@ use native.Mathlib.Nat.{div-div-eq-div-mul, pow-succ'}
 use native.Mathlib.Omega.{arith}
 use types.Run.{OneOf}
 use lib.Bits.{bitAnd, and-mask}
-use lib.Dec.{eqb, leb}
+use lib.Dec.{eqb, leb, ltb}
 use lib.ListN.{getD, List·getD-eq-default}
 use lib.Pow.{pow-add}
-use borrow.Author.Tests.{ltb-true, eqb-true, eqb-false, ne-eqb, lt-leb, lt-ltb}
+use borrow.Author.Tests.{ltb-true, ltb-false, eqb-true, eqb-false, ne-eqb, lt-leb, lt-ltb}
 use Rattle.octets.proofs.Tests.{and-left, and-right}
 use Rattle.values.specs.declared.Kind.{Kind}
 use Rattle.values.specs.declared.Kind.the-variants.{HoldsItems, HoldsTokens, HoldsText, HoldsPlain, HoldsTime, HoldsBearer, HoldsNumber}
@@ -218,27 +218,40 @@ unfolding knownKind known asKnown
 look-beyond parent tag h = sym (ap asKnown (no-kind (λ e t k. leb t 0x86) (cond (attribute tag) parent 0) tag all-tags (λ k. lt-leb tag 0x86 h)))
 
 module _ (tag : ℕ) (b : Bool) (a : b ≡ attribute tag) where
-  attribute-tag : b ≡ true → 0x7F < tag
+  pub row-parent : b ≡ true → (parent : ℕ) → parent ≡ cond (attribute tag) parent tag
+  row-parent t parent = rw (sym a ∙ t)
+
+  pub row-own : b ≡ false → (parent : ℕ) → tag ≡ cond (attribute tag) parent tag
+  row-own t parent = rw (sym a ∙ t)
+
+  pub place-above : b ≡ true → (w : ℕ) → w ≡ tag → 0x7F ≤ w
   unfolding attribute
-  attribute-tag t = ltb-true 0x7F tag (sym a ∙ t)
+  place-above t w q = omega (arith, ltb-true 0x7F tag (sym a ∙ t))
 
-  pub look-place : (w : ℕ) → b ≡ true → w ≡ tag → 0x7F ≤ w
-  look-place w t q = omega (arith, attribute-tag t)
+  pub place-lowest : b ≡ false → 0 ≡ tag - 0x7F
+  unfolding attribute
+  place-lowest t = omega (arith, ltb-false 0x7F tag (sym a ∙ t))
 
-  module _ (parent codes code : ℕ) (r : KnownKind) (k : r ≡ knownBy code) where
-    found : (e tag′ : ℕ) → cond (attribute tag) parent 0 ≡ e → tag′ ≡ tag → code ≡ codeOf (kindIn e tag′ rows) → r ≡ knownKind parent tag
-    unfolding knownKind known
-    found e tag′ p q d = k ∙ ap knownBy d ∙ known-code (kindIn e tag′ rows) ∙ ap₂ (λ x y. asKnown (kindIn x y rows)) (sym p) q
+pub ruleset place-ways = (row-parent, row-own, place-above, place-lowest)
 
-    pub look-attribute : (w : ℕ) → b ≡ true → tag ≤ 0x86 → w ≡ tag → codes ≡ codesOf parent → code ≡ codes / 16 ^ (w - 0x7F) % 16
-        → r ≡ knownKind parent tag
-    look-attribute w t h q c d =
-        let g : 0x7F < tag = attribute-tag t in
-        let i : w - 0x7F ≡ suc (tag - 0x80) = omega arith in
-        found parent (0x80 + (tag - 0x80)) (ap (λ x. cond x parent 0) (sym a ∙ t)) (omega arith)
-        (d ∙ ap₂ (λ x y. x / 16 ^ y % 16) c i ∙ upper-digit parent (tag - 0x80) (omega arith))
+-- the digit of an item in its row
+item-digit : (parent tag : ℕ) → tag ≤ 0x86 → codesOf (cond (attribute tag) parent tag) / 16 ^ (tag - 0x7F) % 16 ≡ codeOf (known parent tag)
+unfolding known attribute
+item-digit parent tag h = go (ltb 0x7F tag) refl
+  where
+    go : (b : Bool) → ltb 0x7F tag ≡ b → codesOf (cond b parent tag) / 16 ^ (tag - 0x7F) % 16 ≡ codeOf (kindIn (cond b parent 0) tag rows)
+    go true e =
+        let above : 0x7F < tag = ltb-true 0x7F tag e in
+        let place : tag - 0x7F ≡ suc (tag - 0x80) = omega arith in
+        let same : 0x80 + (tag - 0x80) ≡ tag = omega arith in
+        ap (λ i. codesOf parent / 16 ^ i % 16) place ∙ upper-digit parent (tag - 0x80) (omega arith) ∙ ap (λ t. codeOf (kindIn parent t rows)) same
+    go false e =
+        let within : tag ≤ 0x7F = ltb-false 0x7F tag e in
+        let place : tag - 0x7F ≡ 0 = omega arith in
+        ap (λ i. codesOf tag / 16 ^ i % 16) place ∙ lowest-digit tag
 
-    pub look-other : b ≡ false → codes ≡ codesOf tag → code ≡ codes / 16 ^ 0 % 16 → r ≡ knownKind parent tag
-    look-other t c d = found 0 tag (ap (λ x. cond x parent 0) (sym a ∙ t)) refl (d ∙ ap (λ x. x / 16 ^ 0 % 16) c ∙ lowest-digit tag)
-
-pub ruleset look-ways = (look-beyond, look-place, look-attribute, look-other)
+pub look-row : (parent tag element codes place code : ℕ) (r : KnownKind) → element ≡ cond (attribute tag) parent tag → codes ≡ codesOf element
+    → place ≡ tag - 0x7F → code ≡ codes / 16 ^ place % 16 → r ≡ knownBy code → tag ≤ 0x86 → r ≡ knownKind parent tag
+unfolding knownKind
+look-row parent tag element codes place code r e c p d k h =
+    k ∙ ap knownBy (d ∙ ap₂ (λ n i. n / 16 ^ i % 16) (c ∙ ap codesOf e) p ∙ item-digit parent tag h) ∙ known-code (known parent tag)

@@ -1,6 +1,7 @@
 // The table of known items, and the lookup of a pair's kind.
 ghost use mathlib.Core.Path.{_≡_};
-ghost use Prim.Native.Nat.{_/_, _%_, _^_, _<_};
+ghost use mathlib.Core.Bool.{cond};
+ghost use Prim.Native.Nat.{_-_, _/_, _%_, _^_, _<_};
 ghost use Rattle.values.specs.Table.{attribute};
 ghost use Rattle.values.specs.Index.{codesOf, knownBy};
 ghost use Rattle.values.specs.Calls.{knownKind};
@@ -81,15 +82,33 @@ pub fn is_attribute(tag: u8) -> bool
     tag > 0x7F
 }
 
-// The kind of an item directly in an element. However large the object is, one row and one digit of it are looked at.
+// The kind of an item directly in an element. However large the object is, one row is looked at, and one digit of it.
 pub fn known_kind(parent: u8, tag: u8) -> KnownKind
     ensures { λ r. ⌜ r ≡ knownKind parent tag ⌝ }
 {
     if tag > 0x86 {
         return KnownKind::Unknown;
     }
+    let codes = codes_of(row_of(parent, tag));
+    kind_by(code_at(codes, place_of(tag)))
+}
+
+// The element in whose row an item stands: an attribute in that of its parent, any other in its own.
+fn row_of(parent: u8, tag: u8) -> u8
+    ensures { λ r. ⌜ r ≡ cond (attribute tag) parent tag ⌝ }
+{
     if is_attribute(tag) {
-        return kind_by(code_at(codes_of(parent), wide(tag) - 0x7F));
+        return parent;
     }
-    kind_by(code_at(codes_of(tag), 0))
+    tag
+}
+
+// The place of an item in its row: 0 for what is no attribute.
+fn place_of(tag: u8) -> u32
+    ensures { λ r. ⌜ r ≡ tag - 0x7F ⌝ }
+{
+    if is_attribute(tag) {
+        return wide(tag) - 0x7F;
+    }
+    0
 }
