@@ -1,341 +1,257 @@
--- The table in code against the rows of the definition: the packed numbers, the index, and the walk over the pairs of one slot.
+-- The table in code against the rows of the definition: the arms, the digits, and the lookup.
 use mathlib.Core.Path.{_≡_, refl, sym, ap, ap₂, _∙_}
-use mathlib.Core.Bool.{Bool, true, false, cond, _&&_, false≢true}
+use mathlib.Core.Bool.{Bool, true, false, cond, _&&_, _||_, false≢true}
+use mathlib.Core.Logic.{inl, inr}
 use mathlib.Core.Option.{Option, none, some}
-use mathlib.Core.List.{List, [], _∷_, map}
-use Prim.Native.Nat.{ℕ, zero, suc, zero-le, _+_, _*_, _/_, _%_, _^_, _≤_, _<_}
-use native.Mathlib.Numerals.{add-one}
+use mathlib.Core.List.{List, [], _∷_}
+use Prim.Native.Nat.{ℕ, zero, suc, zero-le, _+_, _-_, _*_, _/_, _%_, _^_, _≤_, _<_}
+use native.Mathlib.Nat.{div-div-eq-div-mul, pow-succ'}
 use native.Mathlib.Omega.{arith}
-use lib.Bits.{bitAnd, bitOr, and-mask}
+use types.Run.{OneOf}
+use lib.Bits.{bitAnd, and-mask}
 use lib.Dec.{eqb, leb, ltb}
-use lib.ListN.{length, drop, getD, List·getD-map, List·getD-eq-default}
-use lib.Seq.{drop-cons}
-use mir.Syntax.{w64}
-use mir.Val.{Fits}
-use borrow.Author.Tests.{leb-true, ltb-true, ltb-false, eqb-true, eqb-false, le-leb, lt-leb, eq-eqb}
-use Rattle.octets.proofs.Tests.{and-left, and-right, and-true}
+use lib.ListN.{getD, List·getD-eq-default}
+use lib.Pow.{pow-add}
+use borrow.Author.Tests.{ltb-true, ltb-false, eqb-true, eqb-false, ne-eqb, lt-leb, lt-ltb}
+use Rattle.octets.proofs.Tests.{and-left, and-right}
 use Rattle.values.specs.declared.Kind.{Kind}
 use Rattle.values.specs.declared.Kind.the-variants.{HoldsItems, HoldsTokens, HoldsText, HoldsPlain, HoldsTime, HoldsBearer, HoldsNumber}
 use Rattle.values.specs.declared.NumberKind.the-variants.{Duration, ShortId, Enumerated, Integer}
-use Rattle.values.specs.declared.KnownKind.the-variants.{Unknown, Known}
+use Rattle.values.specs.declared.KnownKind.{KnownKind}
+use Rattle.values.specs.declared.KnownKind.the-variants.{Unknown}
 use Rattle.values.specs.Table.{rows, kindIn, known, attribute}
-use Rattle.values.specs.Index.{codeOf, kinds, kindBy, packedRow, packedRows, slot, before}
+use Rattle.values.specs.Index.{codeOf, answers, knownBy, attributeCodes, codesOf}
 use Rattle.values.specs.Calls.{asKnown, knownKind}
-use Rattle.values.proofs.Shifts.{joined}
 use Rattle.values.proofs.Known.{every, row-holds}
 
-abbrev Rows : Type 0
-Rows = List (ℕ × ℕ × Kind)
-
 -- codes
-pub kind-code : (k : Kind) → kindBy (codeOf k) ≡ k
-unfolding kindBy kinds codeOf
-kind-code HoldsItems = refl
-kind-code HoldsTokens = refl
-kind-code HoldsText = refl
-kind-code HoldsPlain = refl
-kind-code HoldsTime = refl
-kind-code HoldsBearer = refl
-kind-code (HoldsNumber Duration) = refl
-kind-code (HoldsNumber ShortId) = refl
-kind-code (HoldsNumber Enumerated) = refl
-kind-code (HoldsNumber Integer) = refl
+known-code : (o : Option Kind) → knownBy (codeOf o) ≡ asKnown o
+unfolding knownBy answers codeOf asKnown
+known-code none = refl
+known-code (some HoldsItems) = refl
+known-code (some HoldsTokens) = refl
+known-code (some HoldsText) = refl
+known-code (some HoldsPlain) = refl
+known-code (some HoldsTime) = refl
+known-code (some HoldsBearer) = refl
+known-code (some (HoldsNumber Duration)) = refl
+known-code (some (HoldsNumber ShortId)) = refl
+known-code (some (HoldsNumber Enumerated)) = refl
+known-code (some (HoldsNumber Integer)) = refl
 
-code-small : (k : Kind) → codeOf k < 256
+code-small : (o : Option Kind) → codeOf o < 16
 unfolding codeOf
-code-small HoldsItems = omega arith
-code-small HoldsTokens = omega arith
-code-small HoldsText = omega arith
-code-small HoldsPlain = omega arith
-code-small HoldsTime = omega arith
-code-small HoldsBearer = omega arith
-code-small (HoldsNumber Duration) = omega arith
-code-small (HoldsNumber ShortId) = omega arith
-code-small (HoldsNumber Enumerated) = omega arith
-code-small (HoldsNumber Integer) = omega arith
+code-small none = omega arith
+code-small (some HoldsItems) = omega arith
+code-small (some HoldsTokens) = omega arith
+code-small (some HoldsText) = omega arith
+code-small (some HoldsPlain) = omega arith
+code-small (some HoldsTime) = omega arith
+code-small (some HoldsBearer) = omega arith
+code-small (some (HoldsNumber Duration)) = omega arith
+code-small (some (HoldsNumber ShortId)) = omega arith
+code-small (some (HoldsNumber Enumerated)) = omega arith
+code-small (some (HoldsNumber Integer)) = omega arith
 
-pub kind-is : (code n : ℕ) → code ≡ n → kindBy n ≡ kindBy code
-kind-is code n e = ap kindBy (sym e)
+pub code-is : (code n : ℕ) → code ≡ n → knownBy n ≡ knownBy code
+code-is code n e = ap knownBy (sym e)
 
 next : (code n : ℕ) → n ≤ code → (code ≡ n → ⊥) → suc n ≤ code
 next code n h e = omega arith
 
-above : (code : ℕ) → 9 ≤ code → HoldsNumber Integer ≡ kindBy code
-unfolding kindBy kinds
-above code h = go (eqb code 9) refl
+pub code-last : (code : ℕ) → (code ≡ 1 → ⊥) → (code ≡ 2 → ⊥) → (code ≡ 3 → ⊥) → (code ≡ 4 → ⊥) → (code ≡ 5 → ⊥) → (code ≡ 6 → ⊥) → (code ≡ 7 → ⊥)
+    → (code ≡ 8 → ⊥) → (code ≡ 9 → ⊥) → (code ≡ 10 → ⊥) → Unknown ≡ knownBy code
+unfolding knownBy answers
+code-last code n1 n2 n3 n4 n5 n6 n7 n8 n9 n10 = go (eqb code 0) refl
   where
-    go : (b : Bool) → eqb code 9 ≡ b → HoldsNumber Integer ≡ kindBy code
-    go true e = kind-is code 9 (eqb-true code 9 e)
-    go false e = sym (List·getD-eq-default kinds (HoldsNumber Integer) {n = code} (omega (arith, eqb-false code 9 e)))
+    past : (code ≡ 0 → ⊥) → 11 ≤ code
+    past n0 =
+        next code 10 (next code 9 (next code 8 (next code 7 (next code 6 (next code 5 (next code 4 (next code 3 (next code 2 (next code 1
+        (next code 0 (zero-le) n0) n1) n2) n3) n4) n5) n6) n7) n8) n9) n10
 
-pub kind-last : (code : ℕ) → (code ≡ 0 → ⊥) → (code ≡ 1 → ⊥) → (code ≡ 2 → ⊥) → (code ≡ 3 → ⊥) → (code ≡ 4 → ⊥) → (code ≡ 5 → ⊥) → (code ≡ 6 → ⊥) → (code ≡ 7 → ⊥) → (code ≡ 8 → ⊥)
-    → HoldsNumber Integer ≡ kindBy code
-kind-last code n0 n1 n2 n3 n4 n5 n6 n7 n8 =
-    above code (next code 8 (next code 7 (next code 6 (next code 5 (next code 4 (next code 3 (next code 2 (next code 1 (next code 0 (zero-le) n0) n1) n2) n3) n4) n5) n6) n7) n8)
+    go : (b : Bool) → eqb code 0 ≡ b → Unknown ≡ knownBy code
+    go true e = code-is code 0 (eqb-true code 0 e)
+    go false e = sym (List·getD-eq-default answers Unknown {n = code} (past (eqb-false code 0 e)))
 
--- the packed numbers hold exactly the rows
-unfoldable pub unpacked : ℕ → ℕ × ℕ × Kind
-unpacked n = (n / 65536, n / 256 % 256, kindBy (n % 256))
+-- the arms of `codes_of`, in its order: a row, and the elements that have it
+unfoldable pub arms : List (ℕ × List ℕ)
+arms =
+    (0x3, 0x01 ∷ 0x06 ∷ []) ∷ (0x1, 0x02 ∷ 0x13 ∷ 0x19 ∷ 0x33 ∷ 0x36 ∷ []) ∷ (0x335A1, 0x03 ∷ []) ∷ (0x2, 0x04 ∷ [])
+    ∷ (0x31, 0x10 ∷ 0x12 ∷ 0x16 ∷ 0x1A ∷ []) ∷ (0x31, 0x11 ∷ 0x1B ∷ []) ∷ (0x941, 0x14 ∷ []) ∷ (0xA831, 0x17 ∷ []) ∷ (0x533331, 0x18 ∷ [])
+    ∷ (0x3099A831, 0x1C ∷ 0x2E ∷ []) ∷ (0x35A1, 0x20 ∷ []) ∷ (0x35A1, 0x21 ∷ []) ∷ (0xA9A831, 0x23 ∷ []) ∷ (0x551, 0x24 ∷ 0x38 ∷ [])
+    ∷ (0x61, 0x25 ∷ []) ∷ (0x41, 0x26 ∷ []) ∷ (0xA1, 0x28 ∷ []) ∷ (0x3061, 0x29 ∷ 0x2D ∷ []) ∷ (0xAA93331, 0x2B ∷ []) ∷ (0x75751, 0x2C ∷ [])
+    ∷ (0x77771, 0x2F ∷ []) ∷ (0x331, 0x31 ∷ []) ∷ (0x331, 0x32 ∷ []) ∷ (0x4, 0x34 ∷ []) ∷ (0x4, 0x35 ∷ []) ∷ (0x7551, 0x37 ∷ []) ∷ []
 
-pub packed-rows : map unpacked packedRows ≡ rows
-unfolding unpacked packedRows packedRow codeOf kindBy kinds rows
-packed-rows = refl
+-- each element of each arm has the arm's row
+all : (ℕ → Bool) → List ℕ → Bool
+all P [] = true
+all P (n ∷ ns) = P n && all P ns
 
--- keys and slots
-module _ (element tag : ℕ) (b : Bool) (a : b ≡ attribute tag) where
-  pub key-attribute : b ≡ true → (x y : ℕ) → x ≡ element → x < 256 → y ≡ tag → y < 256 → bitOr (x * 2 ^ 8 % 2 ^ 32) y ≡ cond (attribute tag) element 0 * 256 + tag
-  key-attribute t x y p h q g = rw (sym a ∙ t) (joined 8 8 x y (omega arith) h g ∙ omega (arith, p, q))
+rowsRight : List (ℕ × List ℕ) → Bool
+rowsRight [] = true
+rowsRight (a ∷ l) = all (λ n. eqb (a .0) (codesOf n)) (a .1) && rowsRight l
 
-  pub key-other : b ≡ false → (y : ℕ) → y ≡ tag → y ≡ cond (attribute tag) element 0 * 256 + tag
-  key-other t y q = rw (sym a ∙ t) (omega (arith, q))
+arms-right : rowsRight arms ≡ true
+unfolding all rowsRight arms codesOf attributeCodes codeOf kindIn rows
+arms-right = refl
 
-  pub slot-attribute : b ≡ true → 0x39 + element ≡ slot element tag
-  unfolding slot
-  slot-attribute t = rw (sym a ∙ t) refl
+among : (P : ℕ → Bool) (x : ℕ) (ns : List ℕ) → all P ns ≡ true → OneOf ns x → P x ≡ true
+unfolding all
+among P x [] q h = absurd h
+among P x (n ∷ []) q h = ap P h ∙ and-left (P n) true q
+among P x (n ∷ m ∷ ns) q (inl h) = ap P h ∙ and-left (P n) (all P (m ∷ ns)) q
+among P x (n ∷ m ∷ ns) q (inr h) = among P x (m ∷ ns) (and-right (P n) (all P (m ∷ ns)) q) h
 
-  pub slot-other : b ≡ false → tag ≡ slot element tag
-  unfolding slot
-  slot-other t = rw (sym a ∙ t) refl
+arm-of : (l : List (ℕ × List ℕ)) → rowsRight l ≡ true → (i x : ℕ) → OneOf (getD l i (0, []) .1) x → getD l i (0, []) .0 ≡ codesOf x
+unfolding rowsRight
+arm-of [] q i x h = absurd h
+arm-of (a ∷ l) q zero x h =
+    eqb-true (a .0) (codesOf x) (among (λ n. eqb (a .0) (codesOf n)) x (a .1) (and-left (all (λ n. eqb (a .0) (codesOf n)) (a .1)) (rowsRight l) q) h)
+arm-of (a ∷ l) q (suc i) x h = arm-of l (and-right (all (λ n. eqb (a .0) (codesOf n)) (a .1)) (rowsRight l) q) i x h
 
--- the element under which an item is looked up has the item's slot
-slot-same : (parent tag : ℕ) → slot (cond (attribute tag) parent 0) tag ≡ slot parent tag
-unfolding slot
-slot-same parent tag = go (attribute tag)
-  where
-    go : (b : Bool) → cond b (0x39 + cond b parent 0) tag ≡ cond b (0x39 + parent) tag
-    go true = refl
-    go false = refl
+pub arm-is : (i x : ℕ) → OneOf (getD arms i (0, []) .1) x → getD arms i (0, []) .0 ≡ codesOf x
+arm-is = arm-of arms arms-right
 
--- tests of every row
-every-map : (P Q : ℕ → ℕ → Kind → Bool) (rs : Rows) → ((e t : ℕ) (k : Kind) → P e t k ≡ true → Q e t k ≡ true) → every P rs ≡ true → every Q rs ≡ true
-every-map P Q [] f h = refl
-every-map P Q (r ∷ rs) f h =
-    let p = P (r .0) (r .1) (r .2) in
-    and-true (Q (r .0) (r .1) (r .2)) (every Q rs) (f (r .0) (r .1) (r .2) (and-left p (every P rs) h)) (every-map P Q rs f (and-right p (every P rs) h))
+-- what is in no arm has no code
+abbrev pub NoneOf : Type 0 → List (ℕ × List ℕ) → ℕ → Type 0
+NoneOf N [] x = N
+NoneOf N (a ∷ l) x = NoneOf (N × (OneOf (a .1) x → ⊥)) l x
 
-every-at : (P : ℕ → ℕ → Kind → Bool) (rs : Rows) (i : ℕ) (d : ℕ × ℕ × Kind) → every P rs ≡ true → i < length rs → P (getD rs i d .0) (getD rs i d .1) (getD rs i d .2) ≡ true
-every-at P [] i d q h = absurd (omega arith)
-every-at P (r ∷ rs) zero d q h = and-left (P (r .0) (r .1) (r .2)) (every P rs) q
-every-at P (r ∷ rs) (suc i) d q h = every-at P rs i d (and-right (P (r .0) (r .1) (r .2)) (every P rs) q) (omega arith)
+member : ℕ → List ℕ → Bool
+member x [] = false
+member x (n ∷ ns) = eqb x n || member x ns
+
+inArms : ℕ → List (ℕ × List ℕ) → Bool
+inArms x [] = false
+inArms x (a ∷ l) = member x (a .1) || inArms x l
+
+no-member : (x : ℕ) (ns : List ℕ) → (OneOf ns x → ⊥) → member x ns ≡ false
+unfolding member
+no-member x [] h = refl
+no-member x (n ∷ []) h = rw (ne-eqb x n h)
+no-member x (n ∷ m ∷ ns) h = rw (ne-eqb x n (λ e. h (inl e))) (no-member x (m ∷ ns) (λ o. h (inr o)))
+
+in-no-arm : (N : Type 0) (l : List (ℕ × List ℕ)) (x : ℕ) → NoneOf N l x → N × (inArms x l ≡ false)
+unfolding inArms
+in-no-arm N [] x h = (h, refl)
+in-no-arm N (a ∷ l) x h =
+    let r = in-no-arm (N × (OneOf (a .1) x → ⊥)) l x h in
+    (r .0 .0, rw (no-member x (a .1) (r .0 .1)) (r .1))
 
 -- what fails a test that each row passes has no row
-no-kind : (P : ℕ → ℕ → Kind → Bool) (e tag : ℕ) (rs : Rows) → every P rs ≡ true → ((k : Kind) → P e tag k ≡ false) → kindIn e tag rs ≡ none
-no-kind P e tag rs q f = go (kindIn e tag rs) refl
+no-kind : (P : ℕ → ℕ → Kind → Bool) (e tag : ℕ) → every P rows ≡ true → ((k : Kind) → P e tag k ≡ false) → kindIn e tag rows ≡ none
+no-kind P e tag q f = go (kindIn e tag rows) refl
   where
-    go : (o : Option Kind) → kindIn e tag rs ≡ o → o ≡ none
+    go : (o : Option Kind) → kindIn e tag rows ≡ o → o ≡ none
     go none h = refl
-    go (some k) h = absurd (false≢true (sym (f k) ∙ row-holds P e tag k rs q h))
+    go (some k) h = absurd (false≢true (sym (f k) ∙ row-holds P e tag k rows q h))
 
--- the rows before a slot's are no row of the slot
-before-skips : (e tag : ℕ) (rs : Rows) → kindIn e tag rs ≡ kindIn e tag (drop (before (slot e tag) rs) rs)
-unfolding kindIn before
-before-skips e tag [] = refl
-before-skips e tag (r ∷ rs) = go (before-skips e tag rs) (ltb (slot (r .0) (r .1)) (slot e tag)) refl (eqb e (r .0)) (eqb tag (r .1)) refl refl
-  where
-    go : kindIn e tag rs ≡ kindIn e tag (drop (before (slot e tag) rs) rs)
-        → (b : Bool) → ltb (slot (r .0) (r .1)) (slot e tag) ≡ b → (x y : Bool) → eqb e (r .0) ≡ x → eqb tag (r .1) ≡ y
-        → kindIn e tag (r ∷ rs) ≡ kindIn e tag (drop (cond b (suc (before (slot e tag) rs)) 0) (r ∷ rs))
-    go ih true l true true p q =
-        let s : slot (r .0) (r .1) ≡ slot e tag = ap₂ slot (sym (eqb-true e (r .0) p)) (sym (eqb-true tag (r .1) q)) in
-        absurd (omega (arith, s, ltb-true (slot (r .0) (r .1)) (slot e tag) l))
-    go ih true l true false p q = rw (p, q) ih
-    go ih true l false y p q = rw p ih
-    go ih false l x y p q = refl
+inArm : ℕ → ℕ → Kind → Bool
+inArm e t k = inArms (cond (attribute t) e t) arms
 
-before-le : (s : ℕ) (rs : Rows) → before s rs ≤ length rs
-unfolding before
-before-le s [] = omega arith
-before-le s (r ∷ rs) = go (before-le s rs) (ltb (slot (r .0) (r .1)) s)
-  where
-    go : before s rs ≤ length rs → (b : Bool) → cond b (suc (before s rs)) 0 ≤ suc (length rs)
-    go ih true = omega arith
-    go ih false = omega arith
+rows-in-arms : every inArm rows ≡ true
+unfolding inArm inArms member arms rows attribute
+rows-in-arms = refl
 
-before-more : (s : ℕ) (rs : Rows) → before s rs ≤ before (suc s) rs
-unfolding before
-before-more s [] = omega arith
-before-more s (r ∷ rs) = go (before-more s rs) (ltb (slot (r .0) (r .1)) s) (ltb (slot (r .0) (r .1)) (suc s)) refl refl
-  where
-    go : before s rs ≤ before (suc s) rs → (b d : Bool) → ltb (slot (r .0) (r .1)) s ≡ b → ltb (slot (r .0) (r .1)) (suc s) ≡ d
-        → cond b (suc (before s rs)) 0 ≤ cond d (suc (before (suc s) rs)) 0
-    go ih true true p q = omega arith
-    go ih true false p q = absurd (omega (arith, ltb-true (slot (r .0) (r .1)) s p, ltb-false (slot (r .0) (r .1)) (suc s) q))
-    go ih false d p q = omega arith
+module _ (element : ℕ) (out : inArms element arms ≡ false) where
+  no-own : kindIn 0 element rows ≡ none
+  unfolding inArm inArms member arms
+  no-own = no-kind inArm 0 element rows-in-arms (λ k. go (attribute element))
+    where
+      go : (b : Bool) → inArms (cond b 0 element) arms ≡ false
+      go true = refl
+      go false = out
 
--- a row of a slot, or of a later one
-abbrev from : ℕ → ℕ → ℕ → Kind → Bool
-from s e t k = leb s (slot e t)
+  no-attribute-code : (tag n : ℕ) → 0x7F < tag → attributeCodes element tag n ≡ 0
+  unfolding attributeCodes attribute inArm codeOf
+  no-attribute-code tag zero h = refl
+  no-attribute-code tag (suc n) h =
+      let f : (k : Kind) → inArm element tag k ≡ false = λ k. ap (λ b. inArms (cond b element tag) arms) (lt-ltb 0x7F tag h) ∙ out in
+      omega (arith, ap codeOf (no-kind inArm element tag rows-in-arms f), no-attribute-code (suc tag) n (omega arith))
 
--- the rows stand by rising slot, so none of a slot stands after its last
-rising : Rows → Bool
-rising [] = true
-rising (r ∷ rs) = every (from (slot (r .0) (r .1))) rs && rising rs
+  no-code : 0 ≡ codesOf element
+  unfolding codesOf codeOf
+  no-code = omega (arith, ap codeOf no-own, no-attribute-code 0x80 7 (omega arith))
 
-rows-rise : rising rows ≡ true
-unfolding rising rows slot attribute
-rows-rise = refl
+pub arm-rest : (x : ℕ) → NoneOf (Unit {0}) arms x → 0 ≡ codesOf x
+arm-rest x h = no-code x (in-no-arm (Unit {0}) arms x h .1)
 
-from-later : (s : ℕ) (r : ℕ × ℕ × Kind) (rs : Rows) → s ≤ slot (r .0) (r .1) → every (from (slot (r .0) (r .1))) rs ≡ true → every (from s) (r ∷ rs) ≡ true
-from-later s r rs h q =
-    let first = slot (r .0) (r .1) in
-    and-true (leb s first) (every (from s) rs) (le-leb s first h)
-    (every-map (from first) (from s) rs (λ e t k g. le-leb s (slot e t) (omega (arith, h, leb-true first (slot e t) g))) q)
+-- digits
+two-four : (place : ℕ) → 2 ^ (4 * place) ≡ 16 ^ place
+two-four zero = refl
+two-four (suc p) = ap (λ n. 2 ^ n) (omega arith) ∙ pow-add 2 4 (4 * p) ∙ ap (λ n. 16 * n) (two-four p) ∙ sym (pow-succ' 16 p)
 
-none-after : (e tag : ℕ) (rs : Rows) → rising rs ≡ true → kindIn e tag (drop (before (suc (slot e tag)) rs) rs) ≡ none
-unfolding before rising kindIn
-none-after e tag [] h = refl
-none-after e tag (r ∷ rs) h =
-    let later = every (from (slot (r .0) (r .1))) rs in
-    go (none-after e tag rs (and-right later (rising rs) h)) (and-left later (rising rs) h) (ltb (slot (r .0) (r .1)) (suc (slot e tag))) refl
-  where
-    go : kindIn e tag (drop (before (suc (slot e tag)) rs) rs) ≡ none → every (from (slot (r .0) (r .1))) rs ≡ true
-        → (b : Bool) → ltb (slot (r .0) (r .1)) (suc (slot e tag)) ≡ b → kindIn e tag (drop (cond b (suc (before (suc (slot e tag)) rs)) 0) (r ∷ rs)) ≡ none
-    go ih q true l = ih
-    go ih q false l =
-        no-kind (from (suc (slot e tag))) e tag (r ∷ rs) (from-later (suc (slot e tag)) r rs (ltb-false (slot (r .0) (r .1)) (suc (slot e tag)) l) q)
-        (λ k. lt-leb (suc (slot e tag)) (slot e tag) (omega arith))
+pub digit-at : (codes place : ℕ) → bitAnd (codes / 2 ^ (4 * place)) 15 ≡ codes / 16 ^ place % 16
+digit-at codes place = and-mask (codes / 2 ^ (4 * place)) 4 ∙ ap (λ n. codes / n % 16) (two-four place)
 
--- the constant index holds how many rows stand before each slot
-unfoldable pub starts : ℕ → ℕ → List ℕ
-starts s zero = []
-starts s (suc n) = before s rows ∷ starts (suc s) n
+above-first : (d n place : ℕ) → d < 16 → (d + 16 * n) / 16 ^ suc place ≡ n / 16 ^ place
+above-first d n place h =
+    ap (λ m. (d + 16 * n) / m) (pow-succ' 16 place) ∙ sym (div-div-eq-div-mul (d + 16 * n) 16 (16 ^ place)) ∙ ap (λ m. m / 16 ^ place) (omega arith)
 
-starts-at : (s n i : ℕ) → i < n → getD (starts s n) i 0 ≡ before (s + i) rows
-unfolding starts
-starts-at s zero i h = absurd (omega arith)
-starts-at s (suc n) zero h = ap (λ m. before m rows) (omega arith)
-starts-at s (suc n) (suc i) h = starts-at (suc s) n i (omega arith) ∙ ap (λ m. before m rows) (omega arith)
+attribute-digit : (element tag n i : ℕ) → i < n → attributeCodes element tag n / 16 ^ i % 16 ≡ codeOf (kindIn element (tag + i) rows)
+unfolding attributeCodes
+attribute-digit element tag zero i h = absurd (omega arith)
+attribute-digit element tag (suc n) zero h =
+    let same : tag + 0 ≡ tag = omega arith in
+    omega (arith, code-small (kindIn element tag rows), ap (λ t. codeOf (kindIn element t rows)) same)
+attribute-digit element tag (suc n) (suc i) h =
+    ap (λ m. m % 16) (above-first (codeOf (kindIn element tag rows)) (attributeCodes element (suc tag) n) i (code-small (kindIn element tag rows)))
+    ∙ attribute-digit element (suc tag) n i (omega arith) ∙ ap (λ t. codeOf (kindIn element t rows)) (omega arith)
 
-unfoldable pub index : List ℕ
-index = starts 0 115
+lowest-digit : (element : ℕ) → codesOf element / 16 ^ 0 % 16 ≡ codeOf (kindIn 0 element rows)
+unfolding codesOf
+lowest-digit element = omega (arith, code-small (kindIn 0 element rows))
 
-pub index-at : (s : ℕ) → s < 115 → getD index s 0 ≡ before s rows
-unfolding index
-index-at s h = starts-at 0 115 s h ∙ ap (λ m. before m rows) (omega arith)
+upper-digit : (element i : ℕ) → i < 7 → codesOf element / 16 ^ suc i % 16 ≡ codeOf (kindIn element (0x80 + i) rows)
+unfolding codesOf
+upper-digit element i h =
+    ap (λ m. m % 16) (above-first (codeOf (kindIn 0 element rows)) (attributeCodes element 0x80 7) i (code-small (kindIn 0 element rows)))
+    ∙ attribute-digit element 0x80 7 i h
 
--- a slot of a tag has at most one row, and one of an element at most six
-unfoldable pub apart : ℕ → List ℕ → Bool
-apart most [] = true
-apart most (a ∷ []) = true
-apart most (a ∷ b ∷ l) = leb b (a + most) && apart most (b ∷ l)
-
-pub tag-steps : apart 1 (starts 0 0x3A) ≡ true
-unfolding apart starts before slot attribute rows
-tag-steps = refl
-
-pub element-steps : apart 6 (starts 0x39 0x3A) ≡ true
-unfolding apart starts before slot attribute rows
-element-steps = refl
-
-row-count : (s : ℕ) → before s rows ≤ 113
-unfolding rows
-row-count s = before-le s rows
-
-pub index-fits : (s : ℕ) → s < 115 → Fits w64 (getD index s 0)
-index-fits s h = record { fits = omega (arith, index-at s h, row-count s) }
-
--- the walk over the rows of a slot: what is known of the item is what the rows from here on say
-pub record Looking (parent tag end i : ℕ) : Type 0 where
-  pub last : end ≡ before (suc (slot parent tag)) rows
-  pub upto : i ≤ end
-  pub same : knownKind parent tag ≡ asKnown (kindIn (cond (attribute tag) parent 0) tag (drop i rows))
-
-all-slots : every (λ e t k. leb (slot e t) 0x71) rows ≡ true
-unfolding rows slot attribute
-all-slots = refl
-
-pub look-beyond : (parent tag place : ℕ) → place ≡ slot parent tag → 0x71 < place → Unknown ≡ knownKind parent tag
-unfolding knownKind asKnown known
-look-beyond parent tag place p h =
-    let e = cond (attribute tag) parent 0 in
-    sym (ap asKnown (no-kind (λ a t k. leb (slot a t) 0x71) e tag rows all-slots
-    (λ k. lt-leb (slot e tag) 0x71 (omega (arith, p, slot-same parent tag)))))
-
-pub look-begin : (parent tag place end i : ℕ) → place ≡ slot parent tag → end ≡ before (place + 1) rows → i ≡ before place rows → Looking parent tag end i
-unfolding knownKind known
-look-begin parent tag place end i p q r =
-    let e = cond (attribute tag) parent 0 in
-    let s : place ≡ slot e tag = p ∙ sym (slot-same parent tag) in
-    let l : end ≡ before (suc place) rows = q ∙ ap (λ m. before m rows) (add-one place) in
-    record {
-      last = l ∙ ap (λ m. before (suc m) rows) p;
-      upto = omega (arith, r, l, before-more place rows);
-      same = ap asKnown (before-skips e tag rows ∙ ap (λ m. kindIn e tag (drop m rows)) (ap (λ m. before m rows) (sym s) ∙ sym r));
-    }
-
-abbrev noRow : ℕ × ℕ × Kind
-noRow = (0, 0, HoldsItems)
-
-packed-at : (i : ℕ) → getD packedRows i 0 ≡ packedRow (getD rows i noRow)
-unfolding packedRows packedRow codeOf
-packed-at i = List·getD-map packedRow rows i noRow
-
-all-tags : every (λ e t k. ltb t 256) rows ≡ true
+-- the lookup
+all-tags : every (λ e t k. leb t 0x86) rows ≡ true
 unfolding rows
 all-tags = refl
 
-count : (i : ℕ) → i < 113 → i < length rows
-unfolding rows
-count i h = h
+pub look-beyond : (parent tag : ℕ) → 0x86 < tag → Unknown ≡ knownKind parent tag
+unfolding knownKind known asKnown
+look-beyond parent tag h = sym (ap asKnown (no-kind (λ e t k. leb t 0x86) (cond (attribute tag) parent 0) tag all-tags (λ k. lt-leb tag 0x86 h)))
 
-module _ (parent tag end i : ℕ) (inv : Looking parent tag end i) where
-  pub look-done : end ≤ i → Unknown ≡ knownKind parent tag
-  unfolding asKnown
-  look-done h =
-      let e = cond (attribute tag) parent 0 in
-      let s : before (suc (slot e tag)) rows ≡ i = ap (λ m. before (suc m) rows) (slot-same parent tag) ∙ omega (arith, inv .last, inv .upto) in
-      sym (inv .same ∙ ap asKnown (ap (λ m. kindIn e tag (drop m rows)) (sym s) ∙ none-after e tag rows rows-rise))
+module _ (tag : ℕ) (b : Bool) (a : b ≡ attribute tag) where
+  pub row-parent : b ≡ true → (parent : ℕ) → parent ≡ cond (attribute tag) parent tag
+  row-parent t parent = rw (sym a ∙ t)
 
-  pub look-in : i < end → i < 113
-  look-in h = omega (arith, inv .last, row-count (suc (slot parent tag)))
+  pub row-own : b ≡ false → (parent : ℕ) → tag ≡ cond (attribute tag) parent tag
+  row-own t parent = rw (sym a ∙ t)
 
-  module _ (h : i < end) (pair : ℕ) (p : pair ≡ getD packedRows i 0) (key : ℕ) (k : key ≡ cond (attribute tag) parent 0 * 256 + tag) (small : tag < 256) where
-    row : ℕ × ℕ × Kind
-    row = getD rows i noRow
+  pub place-above : b ≡ true → (w : ℕ) → w ≡ tag → 0x7F ≤ w
+  unfolding attribute
+  place-above t w q = omega (arith, ltb-true 0x7F tag (sym a ∙ t))
 
-    here : drop i rows ≡ row ∷ drop (i + 1) rows
-    unfolding row
-    here = drop-cons rows i noRow (count i (look-in h)) ∙ ap (λ m. getD rows i noRow ∷ drop m rows) (sym (add-one i))
+  pub place-lowest : b ≡ false → 0 ≡ tag - 0x7F
+  unfolding attribute
+  place-lowest t = omega (arith, ltb-false 0x7F tag (sym a ∙ t))
 
-    pair-is : pair ≡ row .0 * 65536 + row .1 * 256 + codeOf (row .2)
-    unfolding row packedRow
-    pair-is = p ∙ packed-at i
+pub ruleset place-ways = (row-parent, row-own, place-above, place-lowest)
 
-    tag-small : row .1 < 256
-    unfolding row
-    tag-small = ltb-true (row .1) 256 (every-at (λ e t l. ltb t 256) rows i noRow all-tags (count i (look-in h)))
+-- the digit of an item in its row
+item-digit : (parent tag : ℕ) → tag ≤ 0x86 → codesOf (cond (attribute tag) parent tag) / 16 ^ (tag - 0x7F) % 16 ≡ codeOf (known parent tag)
+unfolding known attribute
+item-digit parent tag h = go (ltb 0x7F tag) refl
+  where
+    go : (b : Bool) → ltb 0x7F tag ≡ b → codesOf (cond b parent tag) / 16 ^ (tag - 0x7F) % 16 ≡ codeOf (kindIn (cond b parent 0) tag rows)
+    go true e =
+        let above : 0x7F < tag = ltb-true 0x7F tag e in
+        let place : tag - 0x7F ≡ suc (tag - 0x80) = omega arith in
+        let same : 0x80 + (tag - 0x80) ≡ tag = omega arith in
+        ap (λ i. codesOf parent / 16 ^ i % 16) place ∙ upper-digit parent (tag - 0x80) (omega arith) ∙ ap (λ t. codeOf (kindIn parent t rows)) same
+    go false e =
+        let within : tag ≤ 0x7F = ltb-false 0x7F tag e in
+        let place : tag - 0x7F ≡ 0 = omega arith in
+        ap (λ i. codesOf tag / 16 ^ i % 16) place ∙ lowest-digit tag
 
-    key-is : pair / 2 ^ 8 ≡ row .0 * 256 + row .1
-    key-is = omega (arith, pair-is, code-small (row .2))
-
-    code-is : bitAnd pair 255 ≡ codeOf (row .2)
-    code-is = and-mask pair 8 ∙ omega (arith, pair-is, code-small (row .2))
-
-    abbrev element : ℕ
-    element = cond (attribute tag) parent 0
-
-    pub look-hit : (r : Kind) → pair / 2 ^ 8 ≡ key → r ≡ kindBy (bitAnd pair 255) → Known r ≡ knownKind parent tag
-    unfolding asKnown kindIn
-    look-hit r q f =
-        let x : element ≡ row .0 = omega (arith, key-is, k, q, tag-small) in
-        let y : tag ≡ row .1 = omega (arith, key-is, k, q, tag-small) in
-        sym (inv .same ∙ ap (λ l. asKnown (kindIn element tag l)) here
-        ∙ ap₂ (λ a b. asKnown (cond (a && b) (some (row .2)) (kindIn element tag (drop (i + 1) rows)))) (eq-eqb element (row .0) x) (eq-eqb tag (row .1) y)
-        ∙ ap Known (sym (f ∙ ap kindBy code-is ∙ kind-code (row .2))))
-
-    pub look-on : (pair / 2 ^ 8 ≡ key → ⊥) → Looking parent tag end (i + 1)
-    unfolding kindIn
-    look-on q =
-        record {
-          last = inv .last;
-          upto = omega arith;
-          same = inv .same ∙ ap (λ l. asKnown (kindIn element tag l)) here
-              ∙ ap (λ b. asKnown (cond b (some (row .2)) (kindIn element tag (drop (i + 1) rows)))) (other (eqb element (row .0)) refl (eqb tag (row .1)) refl);
-        }
-      where
-        other : (x : Bool) → eqb element (row .0) ≡ x → (y : Bool) → eqb tag (row .1) ≡ y → x && y ≡ false
-        other true e true f = absurd (q (key-is ∙ omega (arith, k, eqb-true element (row .0) e, eqb-true tag (row .1) f)))
-        other true e false f = refl
-        other false e y f = refl
-
-pub ruleset look-ways = (look-beyond, look-begin, look-done, look-in, look-hit, look-on)
+pub look-row : (parent tag element codes place code : ℕ) (r : KnownKind) → element ≡ cond (attribute tag) parent tag → codes ≡ codesOf element
+    → place ≡ tag - 0x7F → code ≡ codes / 16 ^ place % 16 → r ≡ knownBy code → tag ≤ 0x86 → r ≡ knownKind parent tag
+unfolding knownKind
+look-row parent tag element codes place code r e c p d k h =
+    k ∙ ap knownBy (d ∙ ap₂ (λ n i. n / 16 ^ i % 16) (c ∙ ap codesOf e) p ∙ item-digit parent tag h) ∙ known-code (known parent tag)

@@ -17,7 +17,7 @@ use Rattle.values.specs.declared.Put.the-variants.{Done, NoRoom, Invalid
 use Rattle.values.specs.Calls.{putAnswer, putOut, Puts}
 
 -- a number of j bits above one of k bits, in 32
-pub joined : (j k x y : ℕ) → j + k ≤ 32 → x < 2 ^ j → y < 2 ^ k → bitOr (x * 2 ^ k % 2 ^ 32) y ≡ x * 2 ^ k + y
+joined : (j k x y : ℕ) → j + k ≤ 32 → x < 2 ^ j → y < 2 ^ k → bitOr (x * 2 ^ k % 2 ^ 32) y ≡ x * 2 ^ k + y
 joined j k x y l h g = ap (λ n. bitOr n y) (shl-exact j k 32 h l) ∙ or-shifted x k y g
 
 -- two octets

@@ -1,48 +1,43 @@
--- The table as code keeps it: each row one number, and an index by what a lookup knows.
-use mathlib.Core.Bool.{cond}
-use mathlib.Core.List.{List, [], _∷_, map}
-use Prim.Native.Nat.{ℕ, suc, _+_, _*_}
-use lib.Dec.{ltb}
+-- The table as code keeps it: for each element one number, with a digit for the element itself and one for each attribute in it.
+use mathlib.Core.List.{List, [], _∷_}
+use mathlib.Core.Option.{Option, none, some}
+use Prim.Native.Nat.{ℕ, zero, suc, _+_, _*_}
 use lib.ListN.{getD}
 use Rattle.values.specs.declared.Kind.{Kind}
 use Rattle.values.specs.declared.Kind.the-variants.{HoldsItems, HoldsTokens, HoldsText, HoldsPlain, HoldsTime, HoldsBearer, HoldsNumber}
 use Rattle.values.specs.declared.NumberKind.the-variants.{Duration, ShortId, Enumerated, Integer}
-use Rattle.values.specs.Table.{rows, attribute}
+use Rattle.values.specs.declared.KnownKind.{KnownKind}
+use Rattle.values.specs.declared.KnownKind.the-variants.{Unknown, Known}
+use Rattle.values.specs.Table.{rows, kindIn}
 
--- the code of a kind (document 01, Framing and Expected forms: a constant table of pairs, each with a kind code)
-unfoldable pub codeOf : Kind → ℕ
-codeOf HoldsItems = 0
-codeOf HoldsTokens = 1
-codeOf HoldsText = 2
-codeOf HoldsPlain = 3
-codeOf HoldsTime = 4
-codeOf HoldsBearer = 5
-codeOf (HoldsNumber Duration) = 6
-codeOf (HoldsNumber ShortId) = 7
-codeOf (HoldsNumber Enumerated) = 8
-codeOf (HoldsNumber Integer) = 9
+-- the code of a kind (document 01, Framing and Expected forms: a constant table of pairs, each with a kind code), and 0 where there is none
+unfoldable pub codeOf : Option Kind → ℕ
+codeOf none = 0
+codeOf (some HoldsItems) = 1
+codeOf (some HoldsTokens) = 2
+codeOf (some HoldsText) = 3
+codeOf (some HoldsPlain) = 4
+codeOf (some HoldsTime) = 5
+codeOf (some HoldsBearer) = 6
+codeOf (some (HoldsNumber Duration)) = 7
+codeOf (some (HoldsNumber ShortId)) = 8
+codeOf (some (HoldsNumber Enumerated)) = 9
+codeOf (some (HoldsNumber Integer)) = 10
 
--- the kinds in the order of their codes, and the kind of a code
-unfoldable pub kinds : List Kind
-kinds =
-    HoldsItems ∷ HoldsTokens ∷ HoldsText ∷ HoldsPlain ∷ HoldsTime ∷ HoldsBearer ∷ HoldsNumber Duration ∷ HoldsNumber ShortId
-    ∷ HoldsNumber Enumerated ∷ HoldsNumber Integer ∷ []
+-- the answers of a lookup in the order of their codes, and the answer of a code
+unfoldable pub answers : List KnownKind
+answers =
+    Unknown ∷ Known HoldsItems ∷ Known HoldsTokens ∷ Known HoldsText ∷ Known HoldsPlain ∷ Known HoldsTime ∷ Known HoldsBearer
+    ∷ Known (HoldsNumber Duration) ∷ Known (HoldsNumber ShortId) ∷ Known (HoldsNumber Enumerated) ∷ Known (HoldsNumber Integer) ∷ []
 
-unfoldable pub kindBy : ℕ → Kind
-kindBy code = getD kinds code (HoldsNumber Integer)
+unfoldable pub knownBy : ℕ → KnownKind
+knownBy code = getD answers code Unknown
 
--- a row as one number: its element, its tag and its kind code, an octet each
-unfoldable pub packedRow : ℕ × ℕ × Kind → ℕ
-packedRow r = r .0 * 65536 + r .1 * 256 + codeOf (r .2)
+-- the codes of so many attributes in an element, from a tag on, as digits to the base 16, the lowest first
+unfoldable pub attributeCodes : ℕ → ℕ → ℕ → ℕ
+attributeCodes element tag zero = 0
+attributeCodes element tag (suc n) = codeOf (kindIn element tag rows) + 16 * attributeCodes element (suc tag) n
 
-unfoldable pub packedRows : List ℕ
-packedRows = map packedRow rows
-
--- where an item is looked up: by its tag, or, behind the tags of annex D, an attribute by its element
-unfoldable pub slot : ℕ → ℕ → ℕ
-slot element tag = cond (attribute tag) (0x39 + element) tag
-
--- how many rows stand at the front, before the first that is of the slot or a later one
-unfoldable pub before : ℕ → List (ℕ × ℕ × Kind) → ℕ
-before s [] = 0
-before s (r ∷ rs) = cond (ltb (slot (r .0) (r .1)) s) (suc (before s rs)) 0
+-- the row of an element: as the lowest digit the code of the item with this tag itself, above it those of the attributes 0x80 to 0x86
+unfoldable pub codesOf : ℕ → ℕ
+codesOf element = codeOf (kindIn 0 element rows) + 16 * attributeCodes element 0x80 7
