@@ -8,7 +8,7 @@ use native.Mathlib.Nat.{add-sub-cancel-left}
 use lib.Dec.{eqb}
 use lib.ListN.{length, take, drop, getD, length-append}
 use borrow.Author.Tests.{lt-ltb, le-ltb, eq-eqb, ne-eqb}
-use Rattle.octets.specs.Header.{lengthField, framed}
+use Rattle.octets.specs.Header.{framed}
 use Rattle.values.specs.Table.{attribute}
 use Rattle.format.specs.Tree.{Items}
 use Rattle.format.specs.Tree.Items.{end, item}
@@ -19,16 +19,13 @@ use Rattle.format.proofs.Kept.{ruled-parts}
 use Rattle.writer.specs.declared.emit.Role.{Role}
 use Rattle.writer.specs.declared.emit.Role.the-variants.{Gone, Element, Attribute, Other}
 use Rattle.writer.specs.declared.emit.Reached.{Reached}
-use Rattle.writer.specs.declared.size.Sized.{Sized}
-use Rattle.writer.specs.declared.size.Sized.the-variants.{Over, Size}
-use Rattle.writer.specs.Normal.{itemOctets, normalSize, attributeOctets, laterOctets}
-use Rattle.writer.specs.Steps.{itemsFrom, Holding, sizedFrom, roleOf, bodyAt, BodyAt, Lays, Fitting, Ordered, oneAttribute, elementOctets, openingOctets, Emits}
+use Rattle.writer.specs.Normal.{itemOctets, attributeOctets, laterOctets}
+use Rattle.writer.specs.Steps.{itemsFrom, Holding, roleOf, bodyAt, BodyAt, Lays, Fitting, Ordered, oneAttribute, elementOctets, between, Framable, Emits}
 use Rattle.writer.proofs.Rising.{rising-seven}
 use Rattle.writer.proofs.Sizes.{high-attribute, opens-no-attribute}
-use Rattle.writer.proofs.Order.{size-laid}
 use Rattle.writer.proofs.Lays.{lays-none, lays-append, lays-length, fitting-left, fitting-right}
+use Rattle.writer.proofs.Framing.{first-fits, second-fits, framable, framed-laid}
 use Rattle.writer.proofs.Rows.{here-end, here-not, here-is, from-stop, from-single, from-nested, from-ahead, from-within}
-use Rattle.writer.proofs.Summing.{size-over, size-told}
 
 -- the roles of a record, by the code's tests
 module _ (depth own tag d : ℕ) (e : d ≡ own) where
@@ -110,71 +107,6 @@ module _ (p : ℕ) (t : Items) (to : ℕ) (before room : List ℕ) (stop turn : 
       lays = lays-append (inv .done) (oneAttribute p t tag) to before room stop after next (inv .lays) h;
       left = step ∙ sym (append-assoc (inv .done) (oneAttribute p t tag) rest);
     }
-
--- an element up to its first child
-module _ (tag : ℕ) (t : Items) (o : Ordered tag t) (to : ℕ) (room : List ℕ) (f : Fitting (elementOctets tag t) to (length room)) where
-  size-inside : normalSize tag t ≡ length (attributeOctets tag t ++ laterOctets tag t)
-  size-inside = subst (λ p. normalSize p t ≡ length (attributeOctets p t ++ laterOctets p t)) (o .element) (size-laid t (o .spot) (o .rules))
-
-  parts : elementOctets tag t ≡ (tag ∷ lengthField (normalSize tag t)) ++ (attributeOctets tag t ++ laterOctets tag t)
-  unfolding elementOctets framed
-  parts = rw (size-inside)
-
-  all-fits : Fitting ((tag ∷ lengthField (normalSize tag t)) ++ (attributeOctets tag t ++ laterOctets tag t)) to (length room)
-  all-fits = rw parts at f
-
-  pub inside-small : normalSize tag t ≤ 32_768
-  inside-small =
-      let x = all-fits .inObject in
-      let l = length-append (tag ∷ lengthField (normalSize tag t)) (attributeOctets tag t ++ laterOctets tag t) in
-      omega (arith, size-inside)
-
-  module _ (mid : List ℕ) (at : ℕ) (h : Lays (tag ∷ lengthField (normalSize tag t)) to room mid at) where
-    rest-fits : Fitting (attributeOctets tag t ++ laterOctets tag t) at (length mid)
-    rest-fits = fitting-right (tag ∷ lengthField (normalSize tag t)) (attributeOctets tag t ++ laterOctets tag t) to room mid at all-fits h
-
-    pub attributes-fit : Fitting (attributeOctets tag t) at (length mid)
-    attributes-fit = fitting-left (attributeOctets tag t) (laterOctets tag t) at (length mid) rest-fits
-
-    pub opening-laid : (after : List ℕ) (stop : ℕ) → Lays (attributeOctets tag t) at mid after stop → Lays (openingOctets tag t) to room after stop
-    unfolding openingOctets
-    opening-laid after stop g = rw (← size-inside) (lays-append (tag ∷ lengthField (normalSize tag t)) (attributeOctets tag t) to room mid at after stop h g)
-
-  pub header-fits : Fitting (tag ∷ lengthField (normalSize tag t)) to (length room)
-  header-fits = fitting-left (tag ∷ lengthField (normalSize tag t)) (attributeOctets tag t ++ laterOctets tag t) to (length room) all-fits
-
--- and with the size that was measured
-module _ (l : Lists) (n : ℕ) (lent : List ℕ) (tag depth i : ℕ) (o : Ordered tag (itemsFrom l n lent depth i .0)) (to : ℕ) (room : List ℕ)
-    (f : Fitting (elementOctets tag (itemsFrom l n lent depth i .0)) to (length room)) (v : Sized) (e : v ≡ sizedFrom l n lent tag depth i) where
-  pub opening-over : v ≡ Over → (after : List ℕ) (stop : ℕ) → Lays (openingOctets tag (itemsFrom l n lent depth i .0)) to room after stop
-  opening-over q after stop =
-      let big = size-over l n lent tag depth i v e q in
-      let small = inside-small tag (itemsFrom l n lent depth i .0) o to room f in
-      absurd (omega arith)
-
-  module _ (total next : ℕ) (q : v ≡ Size total next) where
-    total-is : total ≡ normalSize tag (itemsFrom l n lent depth i .0)
-    total-is = sym (size-told l n lent tag depth i v e total next q .0)
-
-    pub opening-header : (total ≤ 32_768) × Fitting (tag ∷ lengthField total) to (length room)
-    opening-header = (size-told l n lent tag depth i v e total next q .2, rw total-is (header-fits tag (itemsFrom l n lent depth i .0) o to room f))
-
-    module _ (mid : List ℕ) (at : ℕ) (h : Lays (tag ∷ lengthField total) to room mid at) where
-      header-laid : Lays (tag ∷ lengthField (normalSize tag (itemsFrom l n lent depth i .0))) to room mid at
-      header-laid = rw total-is at h
-
-      pub opening-attributes : Fitting (attributeOctets tag (itemsFrom l n lent depth i .0)) at (length mid)
-      opening-attributes = attributes-fit tag (itemsFrom l n lent depth i .0) o to room f mid at header-laid
-
-      pub opening-done : (after : List ℕ) (stop : ℕ) → Lays (attributeOctets tag (itemsFrom l n lent depth i .0)) at mid after stop
-          → Lays (openingOctets tag (itemsFrom l n lent depth i .0)) to room after stop
-      opening-done after stop g = opening-laid tag (itemsFrom l n lent depth i .0) o to room f mid at header-laid after stop g
-
--- an element is its opening and its other items
-element-halves : (tag : ℕ) (t : Items) → elementOctets tag t ≡ openingOctets tag t ++ laterOctets tag t
-unfolding elementOctets openingOctets framed
-element-halves tag t =
-    sym (append-assoc (tag ∷ lengthField (length (attributeOctets tag t ++ laterOctets tag t))) (attributeOctets tag t) (laterOctets tag t))
 
 -- what a role says of the record
 unfoldable Tells : (depth own tag : ℕ) → Role → Type 0
@@ -330,23 +262,36 @@ module _ (l : Lists) (n : ℕ) (lent : List ℕ) (p depth at to : ℕ) (before r
       pub element-fits : Fitting (later l n lent p depth at) to (length before) → Fitting (elementOctets m (itemsFrom l n lent (depth + 1) (i + 1) .0)) stop (length room)
       element-fits f = own-fits (elementOctets m (itemsFrom l n lent (depth + 1) (i + 1) .0)) (itemsFrom l n lent (depth + 1) (i + 1) .1) element-first f
 
-      module _ (f : Fitting (later l n lent p depth at) to (length before)) (mid : List ℕ) (from : ℕ)
-          (h : Lays (openingOctets m (itemsFrom l n lent (depth + 1) (i + 1) .0)) stop room mid from) where
-        pub inner-fits : Fitting (laterOctets m (itemsFrom l n lent (depth + 1) (i + 1) .0)) from (length mid)
-        inner-fits =
-            fitting-right (openingOctets m (itemsFrom l n lent (depth + 1) (i + 1) .0)) (laterOctets m (itemsFrom l n lent (depth + 1) (i + 1) .0)) stop room mid from
-            (rw (element-halves m (itemsFrom l n lent (depth + 1) (i + 1) .0)) at (element-fits f)) h
+      abbrev inside : Items
+      inside = itemsFrom l n lent (depth + 1) (i + 1) .0
 
-        module _ (after : List ℕ) (r : Reached) (g : Emits (itemsFrom l n lent (depth + 1) (i + 1)) m from mid after r) where
-          pub element-less : n - r .next < n - i
-          element-less = let e = g .next in omega (arith, from-ahead l n lent (depth + 1) (i + 1))
+      -- its attributes and its other items are written behind two places, then its header
+      module _ (f : Fitting (later l n lent p depth at) to (length before)) where
+        framed-fits : Fitting (framed m (attributeOctets m inside ++ laterOctets m inside)) stop (length room)
+        unfolding elementOctets
+        framed-fits = element-fits f
 
-          pub element-next : Written l n lent p depth at to before after (r .next) (r .end)
-          element-next =
-              let all : Lays (elementOctets m (itemsFrom l n lent (depth + 1) (i + 1) .0)) stop room after (r .end) =
-              rw (element-halves m (itemsFrom l n lent (depth + 1) (i + 1) .0))
-              (lays-append (openingOctets m (itemsFrom l n lent (depth + 1) (i + 1) .0)) (laterOctets m (itemsFrom l n lent (depth + 1) (i + 1) .0)) stop room mid from after (r .end) h (g .lays)) in
-              rw (g .next)
-              (own-next (elementOctets m (itemsFrom l n lent (depth + 1) (i + 1) .0)) (itemsFrom l n lent (depth + 1) (i + 1) .1) element-first
-              (ordered-parts (itemsFrom l n lent (depth + 1) (i + 1) .0) (itemsFrom l n lent depth (itemsFrom l n lent (depth + 1) (i + 1) .1) .0) (ap (λ y. y .0) nested) .1)
-              (ap (λ y. y .1) nested) (omega (arith, from-ahead l n lent (depth + 1) (i + 1))) (from-within l n lent (depth + 1) (i + 1) (omega arith)) after (r .end) all)
+        pub attributes-fit : Fitting (attributeOctets m inside) (stop + 2) (length room)
+        attributes-fit = first-fits m stop (attributeOctets m inside) (laterOctets m inside) room framed-fits
+
+        module _ (mid : List ℕ) (from : ℕ) (h : Lays (attributeOctets m inside) (stop + 2) room mid from) where
+          pub inner-fits : Fitting (laterOctets m inside) from (length mid)
+          inner-fits = second-fits m stop (attributeOctets m inside) (laterOctets m inside) room framed-fits mid from h
+
+          module _ (after : List ℕ) (r : Reached) (g : Emits (itemsFrom l n lent (depth + 1) (i + 1)) m from mid after r) where
+            pub element-framable : Framable m stop (r .end) after
+            element-framable = framable m stop (attributeOctets m inside) (laterOctets m inside) room framed-fits mid from h after (r .end) (g .lays)
+
+            pub element-less : n - r .next < n - i
+            element-less = let e = g .next in omega (arith, from-ahead l n lent (depth + 1) (i + 1))
+
+            pub element-next : (last : List ℕ) (next : ℕ) → Lays (framed m (between (stop + 2) (r .end) after)) stop after last next
+                → Written l n lent p depth at to before last (r .next) next
+            unfolding elementOctets
+            element-next last next k =
+                let all : Lays (elementOctets m inside) stop room last next =
+                framed-laid m stop (attributeOctets m inside) (laterOctets m inside) room framed-fits mid from h after (r .end) (g .lays) last next k in
+                rw (g .next)
+                (own-next (elementOctets m inside) (itemsFrom l n lent (depth + 1) (i + 1) .1) element-first
+                (ordered-parts inside (itemsFrom l n lent depth (itemsFrom l n lent (depth + 1) (i + 1) .1) .0) (ap (λ y. y .0) nested) .1)
+                (ap (λ y. y .1) nested) (omega (arith, from-ahead l n lent (depth + 1) (i + 1))) (from-within l n lent (depth + 1) (i + 1) (omega arith)) last next all)

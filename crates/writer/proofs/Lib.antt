@@ -12,6 +12,7 @@ pub mod Found
 pub mod Sizes
 pub mod Order
 pub mod Lays
+pub mod Framing
 pub mod Items
 pub mod Rows
 pub mod Summing

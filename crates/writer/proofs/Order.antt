@@ -5,7 +5,6 @@ use mathlib.Core.Option.{none}
 use mathlib.Core.List.{List, [], _++_, append-assoc, append-nil}
 use Prim.Native.Nat.{ℕ}
 use borrow.Author.Tests.{eqb-false}
-use lib.ListN.{length}
 use Rattle.octets.specs.Header.{framed}
 use Rattle.text.specs.Tokens.{expanded}
 use Rattle.values.specs.declared.Kind.the-variants.{HoldsText}
@@ -20,10 +19,10 @@ use Rattle.format.specs.Writer.{Spot, below, past, atTop, ruled}
 use Rattle.format.proofs.Kept.{Ruled, ruled-parts}
 use Rattle.format.proofs.Means.{means-attribute, means-cdata, means-element, means-leaf, opens-items, opens-leaf}
 use native.Mathlib.Omega.{arith}
-use Rattle.writer.specs.Normal.{valueOctets, itemOctets, normalSize, attributeOctets, laterOctets, bodyOctets}
+use Rattle.writer.specs.Normal.{valueOctets, itemOctets, attributeOctets, laterOctets}
 use Rattle.writer.proofs.Ways.{item-known, Way, way}
 use Rattle.writer.proofs.Ways.Way.{isAttribute, isCdata, isElement, isLeaf}
-use Rattle.writer.proofs.Sizes.{attribute-high, cdata-same, size-body, top-alone}
+use Rattle.writer.proofs.Sizes.{attribute-high, cdata-same, top-alone}
 
 abbrev cdata : Items → List ℕ
 cdata t = maybe (framed 1) (cdataIn [] t)
@@ -79,12 +78,7 @@ unfolding laterOctets means encode cdataIn find maybe
 laid end s h = refl
 laid (item tag at body x y) s h = laid-item tag at body x y (laid x) (laid y) s h
 
--- so the size of the items inside an element is the length of what is written of them
-pub size-laid : (t : Items) (s : Spot) → ruled s t ≡ true → normalSize (s .parent) t ≡ length (attributeOctets (s .parent) t ++ laterOctets (s .parent) t)
-unfolding bodyOctets
-size-laid t s h = size-body t s h ∙ ap (λ o. length (attributeOctets (s .parent) t ++ o)) (sym (laid t s h))
-
--- and all that is written of a whole tree is its normal form
+-- so all that is written of a whole tree is its normal form
 pub laid-whole : (t : Items) → ruled atTop t ≡ true → laterOctets 0 t ≡ encode (means [] t)
 unfolding atTop maybe
 laid-whole t h = laid t atTop h ∙ (ap (λ o. encode (means [] t) ++ maybe (framed 1) o) (top-alone t h .cdata) ∙ append-nil (encode (means [] t)))

@@ -2,13 +2,13 @@
 use mathlib.Core.Path.{_≡_}
 use mathlib.Core.Bool.{true, cond}
 use mathlib.Core.Option.{Option, none, some}
-use mathlib.Core.List.{List, [], _∷_, _++_}
+use mathlib.Core.List.{List, [], _++_}
 use Prim.Native.Nat.{ℕ, suc, _+_, _-_, _≤_, _<_}
 use lib.Dec.{eqb, leb}
 use lib.ListN.{length, take, drop, getD}
 use lib.Seq.{sets}
 use denote.Ref.{RefT}
-use Rattle.octets.specs.Header.{lengthField, framed}
+use Rattle.octets.specs.Header.{framed}
 use Rattle.values.specs.declared.Kind.{Kind}
 use Rattle.values.specs.Table.{attribute}
 use Rattle.values.specs.Values.{octetsOf}
@@ -98,12 +98,19 @@ pub record BodyAt (i : ℕ) (starts sizes lent : List ℕ) : Type 0 where
   pub size : i < length sizes
   pub inside : getD starts i 0 + getD sizes i 0 ≤ length lent
 
--- an element that holds items, and the same up to its first child: tag, length of all that is inside it, attributes
+-- an element that holds items: its attributes, then its other items
 unfoldable pub elementOctets : ℕ → Items → List ℕ
 elementOctets tag inside = framed tag (attributeOctets tag inside ++ laterOctets tag inside)
 
-unfoldable pub openingOctets : ℕ → Items → List ℕ
-openingOctets tag inside = (tag ∷ lengthField (length (attributeOctets tag inside ++ laterOctets tag inside))) ++ attributeOctets tag inside
+-- what a room holds from a place up to another
+unfoldable pub between : (from end : ℕ) → List ℕ → List ℕ
+between from end room = take (end - from) (drop from room)
+
+-- a body lies behind the two places of a short header, and the room has places for it with the header that it takes
+pub record Framable (tag to end : ℕ) (room : List ℕ) : Type 0 where
+  pub behind : to + 2 ≤ end
+  pub inside : end ≤ length room
+  pub fits : Fitting (framed tag (between (to + 2) end room)) to (length room)
 
 unfoldable pub roleOf : (depth own tag : ℕ) → Role
 roleOf depth own tag = cond (eqb own depth) (cond (opens tag) (Element tag) (cond (attribute tag) Attribute (Other tag))) Gone

@@ -1,7 +1,7 @@
-// Records written in normal form, into a room that is known to suffice. An element's size is measured, then its tag and length are
-// written, its attributes by rising tag, its child elements in the order of their records, its CDATA.
-// Cost: measuring looks at a record once for each element that it is in, 16 at most; each attribute is looked at once for each of the
-// seven attribute tags.
+// Records written in normal form, into a room that is known to suffice. Of an element its attributes are written by rising tag, its child elements in the order of
+// their records and its CDATA, all behind two places, and then the header that comes before them (frame.rt).
+// Cost: each record is looked at once, and each attribute once for each of the seven attribute tags. An octet moves once for each element around it whose length
+// takes more than one octet, 16 at most.
 ghost use mathlib.Core.Path.{_≡_};
 ghost use mathlib.Core.Bool.{true, cond};
 ghost use mathlib.Core.List.{List, []};
@@ -13,14 +13,12 @@ ghost use Rattle.format.specs.Meaning.{attributesIn};
 ghost use Rattle.format.specs.Writer.{bodyIn};
 ghost use Rattle.format.specs.Calls.{row};
 ghost use Rattle.writer.specs.Normal.{itemOctets, attributeOctets, laterOctets};
-ghost use Rattle.writer.specs.Steps.{four, itemsFrom, Holding, Lays, Ordered, Fitting, Finds, BodyAt, bodyAt, oneAttribute, elementOctets, openingOctets, roleOf, Emits};
+ghost use Rattle.writer.specs.Steps.{four, itemsFrom, Holding, Lays, Ordered, Fitting, Finds, BodyAt, bodyAt, oneAttribute, roleOf, Emits};
+use crate::frame::put_frame;
 use crate::item::holds_items;
-use crate::item::put_header;
 use crate::item::put_item;
 use crate::item::wide;
 use crate::item::wide16;
-use crate::size::Sized;
-use crate::size::size_items;
 
 // The record of an attribute.
 pub enum Found {
@@ -157,45 +155,6 @@ fn emit_attributes(
     end
 }
 
-// An element up to its first child: its tag, the length of all that is inside it, its attributes. Its items begin with record `at`.
-fn emit_opening(
-    n: usize,
-    tags: &[u8],
-    depths: &[u8],
-    starts: &[u16],
-    sizes: &[u16],
-    octets: &[u8],
-    at: usize,
-    depth: usize,
-    tag: u8,
-    room: &mut [u8],
-    to: usize,
-) -> usize
-    requires { ⌜ Holding n (four tags depths starts sizes) (now octets) × Ordered tag (itemsFrom (four tags depths starts sizes) n (now octets) depth at .0) × (at ≤ n) × (depth ≤ at + 1) ⌝ }
-    requires { ⌜ Fitting (elementOctets tag (itemsFrom (four tags depths starts sizes) n (now octets) depth at .0)) to (length (now room)) ⌝ }
-    ensures { λ r. ⌜ Lays (openingOctets tag (itemsFrom (four (tags .entry) (depths .entry) (starts .entry) (sizes .entry)) n (now (octets .entry)) depth at .0)) to (now (room .entry)) (now (room .exit)) r ⌝ }
-{
-    match size_items(n, tags, depths, starts, sizes, octets, at, depth, tag) {
-        Sized::Over => to,
-        Sized::Size { total, next: _ } => {
-            let end = put_header(room, to, tag, total);
-            emit_attributes(
-                n,
-                tags,
-                depths,
-                starts,
-                sizes,
-                octets,
-                at,
-                depth,
-                tag,
-                room,
-                end,
-            )
-        }
-    }
-}
-
 // What record `i` is to the items of an element: none of them, an element that holds items, or any other item, by its tag.
 fn role_at(tags: &[u8], depths: &[u8], i: usize, depth: usize) -> Role
     requires { ⌜ (i < length (now tags)) × (i < length (now depths)) ⌝ }
@@ -247,7 +206,7 @@ pub fn emit_items(
                 i = i + 1;
             }
             Role::Element(tag) => {
-                let from = emit_opening(
+                let from = emit_attributes(
                     n,
                     tags,
                     depths,
@@ -258,7 +217,7 @@ pub fn emit_items(
                     depth + 1,
                     tag,
                     room,
-                    end,
+                    end + 2,
                 );
                 let inner = emit_items(
                     n,
@@ -273,7 +232,7 @@ pub fn emit_items(
                     room,
                     from,
                 );
-                end = inner.end;
+                end = put_frame(room, end, tag, inner.end);
                 i = inner.next;
             }
         }

@@ -8,6 +8,7 @@ ghost use Rattle.writer.specs.Check.{lists};
 
 mod check;
 mod emit;
+mod frame;
 mod item;
 mod rules;
 mod size;
