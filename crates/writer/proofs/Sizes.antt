@@ -5,7 +5,7 @@ use mathlib.Core.Option.{Option, none, some, Option·map}
 use mathlib.Core.List.{List, [], _++_}
 use Prim.Native.Nat.{ℕ, _+_, _≤_}
 use native.Mathlib.Omega.{arith}
-use lib.ListN.{length, length-append}
+use lib.ListN.{length}
 use borrow.Author.Tests.{eq-eqb, ne-eqb, eqb-false, ltb-true, lt-ltb}
 use Rattle.octets.specs.Numbers.{among}
 use Rattle.octets.specs.Header.{framed}
@@ -24,7 +24,7 @@ use Rattle.format.specs.Writer.{Spot, below, past, atTop, ruled}
 use Rattle.format.proofs.Kept.{keeps-parts, Ruled, ruled-parts}
 use Rattle.format.proofs.Fine.{placed-parts}
 use Rattle.format.proofs.Means.{items-known, means-attribute, means-cdata, means-element, means-leaf, opens-items, opens-leaf}
-use Rattle.writer.specs.Normal.{valueOctets, normalSize, attributeOctets, bodyOctets}
+use Rattle.writer.specs.Normal.{valueOctets, normalSize, attributeOctets}
 use Rattle.writer.proofs.Rising.{rising-same, rising-none, rising-more, known-few}
 use Rattle.writer.proofs.Found.{not-attribute, seen-none}
 use Rattle.writer.proofs.Ways.{framed-length, value-fits, item-known, Way, way, three-end}
@@ -156,11 +156,6 @@ sized : (t : Items) → Sized t
 unfolding normalSize means encode cdataIn find maybe
 sized end s h = let e : attrs (s .parent) end ≡ 0 = ap length (no-attributes (s .parent)) in omega arith
 sized (item tag at body x y) s h = sized-item tag at body x y (sized x) (sized y) s h
-
--- the items inside an element
-pub size-body : (t : Items) (s : Spot) → ruled s t ≡ true → normalSize (s .parent) t ≡ length (bodyOctets (s .parent) t)
-unfolding bodyOctets
-size-body t s h = rw (length-append, length-append) (sized t s h)
 
 -- the top has no attribute and no CDATA beside it
 pub record Alone (t : Items) : Type 0 where

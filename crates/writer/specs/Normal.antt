@@ -10,7 +10,7 @@ use Rattle.values.specs.Table.{known, attribute}
 use Rattle.values.specs.Values.{fits, meant, octetsOf}
 use Rattle.format.specs.Tree.{Items}
 use Rattle.format.specs.Tree.Items.{end, item}
-use Rattle.format.specs.Meaning.{opens, attributesIn, cdataIn, means, maybe, rising, encode}
+use Rattle.format.specs.Meaning.{opens, attributesIn, maybe, rising}
 
 -- how many octets an item has whose body has n: its tag, the shortest length, its body
 unfoldable pub framedSize : ℕ → ℕ
@@ -40,7 +40,3 @@ laterOctets parent end = []
 laterOctets parent (item tag at body inside after) =
     let held = framed tag (attributeOctets tag inside ++ laterOctets tag inside) in
     cond (attribute tag) [] (cond (opens tag) held (itemOctets parent tag body)) ++ laterOctets parent after
-
--- the body of an element in normal form: attributes by rising tag, child elements, CDATA
-unfoldable pub bodyOctets : ℕ → Items → List ℕ
-bodyOctets parent inside = attributeOctets parent inside ++ (encode (means [] inside) ++ maybe (framed 1) (cdataIn [] inside))
