@@ -3,7 +3,7 @@ use Prim.Native.Nat.{ℕ, zero, suc, _+_, _-_, _^_, _≤_, _<_}
 use mathlib.Core.Path.{_≡_, refl, sym, ap, subst, _∙_}
 use mathlib.Core.List.{List, [], _∷_, _++_}
 use mathlib.Core.Bool.{Bool, true, false, _&&_}
-use lib.ListN.{length, getD, take, drop, length-drop, drop-of-length-le, take-append-drop}
+use lib.ListN.{length, getD, take, drop, length-drop, length-append, drop-of-length-le, take-append-drop}
 use lib.Seq.{drop-drop}
 use lib.Dec.{leb}
 use native.Mathlib.Omega.{arith}
@@ -11,11 +11,13 @@ use mir.Val.{Fits}
 use mir.Syntax.{w64}
 use borrow.Author.Tests.{leb-true}
 use Rattle.octets.proofs.Tests.{and-left, and-right, and-true}
-use Rattle.octets.proofs.Lists.{part-to-end, part-split, drop-next}
+use Rattle.octets.proofs.Lists.{part-to-end, part-split, length-part, drop-next}
 use Rattle.text.specs.Text.{utf8, text}
+use Rattle.text.specs.Tokens.{Entries, expanded, covered, shownLength, expandedSize}
 use Rattle.text.specs.Leaves.{onward, Steps}
 use Rattle.text.specs.Runs.{within, allWithin, RunTo}
-use Rattle.text.proofs.Laws.{ascii-text}
+use Rattle.text.proofs.Words.{high-octet, covered-cons}
+use Rattle.text.proofs.Laws.{ascii-text, expanded-append, covered-append, bare-covered, bare-expanded}
 
 -- ---- what `are_eight_within` answers
 from-right : (a b c d e f g h : Bool) → a && b && c && d && e && f && g && h ≡ a && (b && (c && (d && (e && (f && (g && (h && true)))))))
@@ -80,23 +82,59 @@ module _ (least most : ℕ) where
 pub ruleset run-ways = (run-begin, run-eight, run-one)
 
 -- ---- a text at a run: the octets of the run, and what comes behind it
-module _ (least most : ℕ) (s : List ℕ) (at end : ℕ) (run : RunTo least most s at end) where
-  pub run-split : drop at s ≡ take (end - at) (drop at s) ++ drop end s
-  run-split =
-      let place : at + (end - at) ≡ end = omega (arith, run .onward) in
-      sym (take-append-drop (end - at) (drop at s)) ∙ ap (λ q. take (end - at) (drop at s) ++ q) (drop-drop (end - at) at s ∙ ap (λ (n : ℕ). drop n s) place)
+run-split : (least most : ℕ) (s : List ℕ) (at end : ℕ) → RunTo least most s at end → drop at s ≡ take (end - at) (drop at s) ++ drop end s
+run-split least most s at end run =
+    let place : at + (end - at) ≡ end = omega (arith, run .onward) in
+    sym (take-append-drop (end - at) (drop at s)) ∙ ap (λ q. take (end - at) (drop at s) ++ q) (drop-drop (end - at) at s ∙ ap (λ (n : ℕ). drop n s) place)
 
 bounds : (least most b : ℕ) → within least most b ≡ true → (least ≤ b) × (b ≤ most)
 unfolding within
 bounds least most b h = (leb-true least b (and-left (leb least b) (leb b most) h), leb-true b most (and-right (leb least b) (leb b most) h))
 
 -- octets that are text by themselves: valid text goes on behind them
-plain-text-run : (t : Bool) (p r : List ℕ) → allWithin 0x20 0x7F p ≡ true → text t (p ++ r) ≡ text t r
+plain-octets : (t : Bool) (p r : List ℕ) → allWithin 0x20 0x7F p ≡ true → text t (p ++ r) ≡ text t r
 unfolding allWithin
-plain-text-run t [] r h = refl
-plain-text-run t (b ∷ p) r h =
+plain-octets t [] r h = refl
+plain-octets t (b ∷ p) r h =
     let w = bounds 0x20 0x7F b (and-left (within 0x20 0x7F b) (allWithin 0x20 0x7F p) h) in
-    ascii-text t b (p ++ r) (w .0) (omega arith) ∙ plain-text-run t p r (and-right (within 0x20 0x7F b) (allWithin 0x20 0x7F p) h)
+    ascii-text t b (p ++ r) (w .0) (omega arith) ∙ plain-octets t p r (and-right (within 0x20 0x7F b) (allWithin 0x20 0x7F p) h)
+
+plain-run : (t : Bool) (s : List ℕ) (at end : ℕ) → RunTo 0x20 0x7F s at end → text t (drop at s) ≡ text t (drop end s)
+plain-run t s at end run = ap (text t) (run-split 0x20 0x7F s at end run) ∙ plain-octets t (take (end - at) (drop at s)) (drop end s) (run .all)
+
+-- octets above those of tokens: they need no table and stand for themselves
+no-tokens : (p : List ℕ) → allWithin 0x14 0xFF p ≡ true → covered [] p ≡ true
+unfolding allWithin covered
+no-tokens [] h = refl
+no-tokens (b ∷ p) h =
+    let w = bounds 0x14 0xFF b (and-left (within 0x14 0xFF b) (allWithin 0x14 0xFF p) h) in
+    covered-cons b p (high-octet b (omega arith)) (no-tokens p (and-right (within 0x14 0xFF b) (allWithin 0x14 0xFF p) h))
+
+module _ (es : Entries) (s : List ℕ) (at end : ℕ) (run : RunTo 0x14 0xFF s at end) where
+  bare : covered [] (take (end - at) (drop at s)) ≡ true
+  bare = no-tokens (take (end - at) (drop at s)) (run .all)
+
+  pub covered-run : covered es (drop at s) ≡ covered es (drop end s)
+  covered-run =
+      ap (covered es) (run-split 0x14 0xFF s at end run)
+      ∙ covered-append es (take (end - at) (drop at s)) (drop end s) ∙ rw (bare-covered es (take (end - at) (drop at s)) bare)
+
+  pub expanded-run : expanded es (drop at s) ≡ take (end - at) (drop at s) ++ expanded es (drop end s)
+  expanded-run =
+      ap (expanded es) (run-split 0x14 0xFF s at end run)
+      ∙ expanded-append es (take (end - at) (drop at s)) (drop end s)
+      ∙ ap (λ q. q ++ expanded es (drop end s)) (bare-expanded es (take (end - at) (drop at s)) bare)
+
+  pub length-run : length (take (end - at) (drop at s)) ≡ end - at
+  length-run = length-part s at (end - at) (omega (arith, run .onward, run .inside))
+
+  pub shown-run : shownLength es (drop at s) ≡ end - at + shownLength es (drop end s)
+  unfolding shownLength
+  shown-run = ap length expanded-run ∙ length-append (take (end - at) (drop at s)) (expanded es (drop end s)) ∙ rw length-run
+
+  pub size-run : expandedSize es (drop at s) ≡ end - at + expandedSize es (drop end s)
+  unfolding expandedSize
+  size-run = ap length expanded-run ∙ length-append (take (end - at) (drop at s)) (expanded es (drop end s)) ∙ rw length-run
 
 -- ---- the loop of `check`
 pub record Holds (t : Bool) (s : List ℕ) (at : ℕ) : Type 0 where
@@ -113,11 +151,7 @@ module _ (t : Bool) (s : List ℕ) where
 
   module _ (at from : ℕ) (inv : Holds t s at) (run : RunTo 0x20 0x7F s at from) where
     behind : Holds t s from
-    behind =
-        record {
-          within = run .inside;
-          same = inv .same ∙ ap (text t) (run-split 0x20 0x7F s at from run) ∙ plain-text-run t (take (from - at) (drop at s)) (drop from s) (run .all);
-        }
+    behind = record { within = run .inside; same = inv .same ∙ plain-run t s at from run }
 
     pub check-end : from ≡ length s → true ≡ text t s
     check-end e = check-done from behind (omega arith)

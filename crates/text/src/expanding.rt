@@ -11,6 +11,7 @@ ghost use Rattle.text.specs.Leaves.{replacedBy};
 use crate::Expanded;
 use crate::Found;
 use crate::characters::is_token;
+use crate::runs::run_end;
 use crate::tables::find;
 
 // An octet that is no token, or one with an entry.
@@ -33,10 +34,14 @@ pub fn is_covered(table: &[u8], s: &[u8]) -> bool
 {
     let mut at: usize = 0;
     while at < s.len() {
-        if !has_text(table, s[at]) {
+        let from = run_end(s, at, 0x14, 0xFF);
+        if from == s.len() {
+            return true;
+        }
+        if !has_text(table, s[from]) {
             return false;
         }
-        at += 1;
+        at = from + 1;
     }
     true
 }
@@ -69,12 +74,21 @@ pub fn is_shown(table: &[u8], s: &[u8], limit: usize) -> bool
     let mut left = limit;
     let mut at: usize = 0;
     while at < s.len() {
-        let size = width(table, s[at]);
+        let from = run_end(s, at, 0x14, 0xFF);
+        let run = from - at;
+        if run > left {
+            return false;
+        }
+        left -= run;
+        if from == s.len() {
+            return true;
+        }
+        let size = width(table, s[from]);
         if size > left {
             return false;
         }
         left -= size;
-        at += 1;
+        at = from + 1;
     }
     true
 }
@@ -86,12 +100,21 @@ pub fn expanded_size(table: &[u8], s: &[u8], most: usize) -> usize
     let mut total: usize = 0;
     let mut at: usize = 0;
     while at < s.len() {
-        let size = width(table, s[at]);
+        let from = run_end(s, at, 0x14, 0xFF);
+        let run = from - at;
+        if most - total <= run {
+            return most;
+        }
+        total += run;
+        if from == s.len() {
+            return total;
+        }
+        let size = width(table, s[from]);
         if most - total <= size {
             return most;
         }
         total += size;
-        at += 1;
+        at = from + 1;
     }
     total
 }
