@@ -15,13 +15,13 @@ use Rattle.text.specs.Text.{token}
 use Rattle.text.specs.Tokens.{Entries, entries, entry, orItself, stands, expanded, present, covers, covered, shownLength, expandedSize}
 use Rattle.text.specs.Calls.{found, foundIn, Inside, expandFits, expandAnswer, expandOut}
 use Rattle.text.specs.Leaves.{replacedBy}
-use Rattle.text.specs.Runs.{RunTo}
+use Rattle.text.specs.Runs.{UntokenedTo}
 use Rattle.text.specs.declared.Expanded.the-variants.{Done, NoRoom}
 use Rattle.text.specs.declared.Found.{Found}
 use Rattle.text.specs.declared.Found.the-variants.{At, Nothing}
 use Rattle.octets.proofs.Lists.{drop-next, sets-append}
 use Rattle.text.proofs.Entries.{named, inside}
-use Rattle.text.proofs.RunLaws.{covered-run, shown-run, size-run}
+use Rattle.text.proofs.RunLaws.{run-length, covered-run, expanded-run, expanded-length-run, shown-run, size-run}
 
 -- ---- `has_text`
 module _ (table : List ℕ) (b : ℕ) (t : Bool) (k : t ≡ token b) where
@@ -57,7 +57,7 @@ module _ (es : Entries) (s : List ℕ) where
   unfolding covered
   cover-done at inv h = sym (inv .same ∙ ap (covered es) (drop-of-length-le s h))
 
-  module _ (at from : ℕ) (inv : Covering es s at) (run : RunTo 0x14 0xFF s at from) where
+  module _ (at from : ℕ) (inv : Covering es s at) (run : UntokenedTo s at from) where
     cover-behind : Covering es s from
     cover-behind = record { within = run .inside; same = inv .same ∙ covered-run es s at from run }
 
@@ -154,7 +154,7 @@ module _ (es : Entries) (s : List ℕ) (limit : ℕ) where
   unfolding shownLength expanded
   show-done left at inv h = sym (inv .same ∙ ap (λ q. leb (shownLength es q) left) (drop-of-length-le s h) ∙ le-leb 0 left (omega arith))
 
-  module _ (left at from : ℕ) (inv : Showing es s limit left at) (run : RunTo 0x14 0xFF s at from) where
+  module _ (left at from : ℕ) (inv : Showing es s limit left at) (run : UntokenedTo s at from) where
     show-run : leb (shownLength es s) limit ≡ leb (from - at + shownLength es (drop from s)) left
     show-run = inv .same ∙ rw (shown-run es s at from run)
 
@@ -201,7 +201,7 @@ module _ (es : Entries) (s : List ℕ) (most : ℕ) where
       let f : total ≡ expandedSize es s = omega (arith, inv .same) in
       sym (min-eq-right (omega (arith, inv .short)) ∙ sym f)
 
-  module _ (total at from : ℕ) (inv : Sizing es s most total at) (run : RunTo 0x14 0xFF s at from) where
+  module _ (total at from : ℕ) (inv : Sizing es s most total at) (run : UntokenedTo s at from) where
     pub size-past : most - total ≤ from - at → most ≡ min most (expandedSize es s)
     size-past g = sym (min-eq-left (omega (arith, inv .short, inv .same, size-run es s at from run)))
 
@@ -306,28 +306,54 @@ module _ (es : Entries) (s out₀ : List ℕ) (at : ℕ) where
     pub write-long : length out ≡ length out₀
     write-long = inv .long
 
-    module _ (h : i < length s) where
-      split : expanded es (drop i s) ≡ stands es (getD s i 0) ++ expanded es (drop (i + 1) s)
-      unfolding expanded
-      split = ap (expanded es) (drop-next s i 0 h)
+    -- what comes first of the expansion that is still to be written is laid where it belongs
+    write-part : (part : List ℕ) (n : ℕ) → n ≤ length s → expanded es (drop i s) ≡ part ++ expanded es (drop n s)
+        → (to′ : ℕ) (out′ : List ℕ) → to′ ≡ to + length part → out′ ≡ sets out to part → Writing es s out₀ at out′ to′ n
+    write-part part n h split to′ out′ e f =
+        record {
+          within = h;
+          room = omega (arith, inv .room, ap length split ∙ length-append part (expanded es (drop n s)), e);
+          long = ap length f ∙ length-sets out to part ∙ inv .long;
+          same =
+              ap₂ (λ o (k : ℕ). sets o k (expanded es (drop n s))) f e
+              ∙ sets-append out to part (expanded es (drop n s)) ∙ ap (λ q. sets out to q) (sym split) ∙ inv .same;
+        }
 
-      size : length (expanded es (drop i s)) ≡ length (stands es (getD s i 0)) + length (expanded es (drop (i + 1) s))
-      size = ap length split ∙ length-append (stands es (getD s i 0)) (expanded es (drop (i + 1) s))
+  module _ (out : List ℕ) (to i from : ℕ) (inv : Writing es s out₀ at out to i) (run : UntokenedTo s i from) where
+    pub copy-room : to + length (take (from - i) (drop i s)) ≤ length out
+    copy-room = omega (arith, inv .room, inv .long, expanded-length-run es s i from run, run-length 0x14 0xFF s i from run)
 
-      pub write-room : to + length (stands es (getD s i 0)) ≤ length out
-      write-room = omega (arith, inv .room, inv .long, size)
+    pub copy-behind : length out₀ < 2 ^ 63 → Fits w64 (to + (from - i))
+    copy-behind g = record { fits = omega (arith, copy-room, run-length 0x14 0xFF s i from run, inv .long) }
 
-      pub write-again : (to′ : ℕ) (out′ : List ℕ) → to′ ≡ to + length (stands es (getD s i 0)) → out′ ≡ sets out to (stands es (getD s i 0))
-          → Writing es s out₀ at out′ to′ (i + 1)
-      write-again to′ out′ e f =
-          record {
-            within = omega arith;
-            room = omega (arith, inv .room, size, e);
-            long = ap length f ∙ length-sets out to (stands es (getD s i 0)) ∙ inv .long;
-            same = ap₂ (λ o (n : ℕ). sets o n (expanded es (drop (i + 1) s))) f e ∙ sets-append out to (stands es (getD s i 0)) (expanded es (drop (i + 1) s)) ∙ ap (λ q. sets out to q) (sym split) ∙ inv .same;
-          }
+    module _ (out′ : List ℕ) (f : out′ ≡ sets out to (take (from - i) (drop i s))) where
+      write-behind : Writing es s out₀ at out′ (to + (from - i)) from
+      write-behind =
+          write-part out to i inv (take (from - i) (drop i s)) from (run .inside) (expanded-run es s i from run) (to + (from - i)) out′
+          (omega (arith, run-length 0x14 0xFF s i from run)) f
 
-pub ruleset write-ways = (write-begin, write-done, write-long, write-room, write-again)
+      pub write-end : from ≡ length s → out′ ≡ sets out₀ at (expanded es s)
+      write-end q = write-done out′ (to + (from - i)) from write-behind (omega arith)
+
+      pub write-copied : length out′ ≡ length out₀
+      write-copied = write-behind .long
+
+      module _ (h : from ≡ length s → ⊥) where
+        split : expanded es (drop from s) ≡ stands es (getD s from 0) ++ expanded es (drop (from + 1) s)
+        unfolding expanded
+        split = ap (expanded es) (drop-next s from 0 (omega (arith, run .inside)))
+
+        pub write-room : to + (from - i) + length (stands es (getD s from 0)) ≤ length out′
+        write-room =
+            omega
+            (arith, write-behind .room, write-behind .long, ap length split ∙ length-append (stands es (getD s from 0)) (expanded es (drop (from + 1) s)))
+
+        pub write-again : (to′ : ℕ) (out″ : List ℕ) → to′ ≡ to + (from - i) + length (stands es (getD s from 0))
+            → out″ ≡ sets out′ (to + (from - i)) (stands es (getD s from 0)) → Writing es s out₀ at out″ to′ (from + 1)
+        write-again =
+            write-part out′ (to + (from - i)) from write-behind (stands es (getD s from 0)) (from + 1) (omega (arith, run .inside)) split
+
+pub ruleset write-ways = (write-begin, write-done, write-long, copy-room, copy-behind, write-end, write-copied, write-room, write-again)
 
 -- ---- `expand`
 module _ (es : Entries) (s out : List ℕ) (at : ℕ) where

@@ -15,7 +15,7 @@ use Rattle.octets.proofs.Lists.{part-to-end, part-split, length-part, drop-next
 use Rattle.text.specs.Text.{utf8, text}
 use Rattle.text.specs.Tokens.{Entries, expanded, covered, shownLength, expandedSize}
 use Rattle.text.specs.Leaves.{onward, Steps}
-use Rattle.text.specs.Runs.{within, allWithin, RunTo}
+use Rattle.text.specs.Runs.{within, allWithin, RunTo, PlainTo, UntokenedTo}
 use Rattle.text.proofs.Words.{high-octet, covered-cons}
 use Rattle.text.proofs.Laws.{ascii-text, expanded-append, covered-append, bare-covered, bare-expanded}
 
@@ -72,7 +72,8 @@ module _ (least most : ℕ) where
             all = rw (size, part-split s at (end - at) n, place) (all-append (take (end - at) (drop at s)) (take n (drop end s)) (run .all) w);
           }
 
-      pub run-eight : 8 ≤ length s - end → (r : Bool) → r ≡ allWithin least most (take 8 (take (length s - end) (drop end s))) → r ≡ true → RunTo least most s at (end + 8)
+      pub run-eight : 8 ≤ length s - end → (r : Bool) → r ≡ allWithin least most (take 8 (take (length s - end) (drop end s))) → r ≡ true
+          → RunTo least most s at (end + 8)
       run-eight h r e y = run-more 8 (omega (arith, run .inside)) (ap (λ q. allWithin least most (take 8 q)) (sym (part-to-end s end)) ∙ sym e ∙ y)
 
       pub run-one : end < length s → (r : Bool) → r ≡ within least most (getD s end 0) → r ≡ true → RunTo least most s at (end + 1)
@@ -82,10 +83,14 @@ module _ (least most : ℕ) where
 pub ruleset run-ways = (run-begin, run-eight, run-one)
 
 -- ---- a text at a run: the octets of the run, and what comes behind it
-run-split : (least most : ℕ) (s : List ℕ) (at end : ℕ) → RunTo least most s at end → drop at s ≡ take (end - at) (drop at s) ++ drop end s
-run-split least most s at end run =
-    let place : at + (end - at) ≡ end = omega (arith, run .onward) in
-    sym (take-append-drop (end - at) (drop at s)) ∙ ap (λ q. take (end - at) (drop at s) ++ q) (drop-drop (end - at) at s ∙ ap (λ (n : ℕ). drop n s) place)
+module _ (least most : ℕ) (s : List ℕ) (at end : ℕ) (run : RunTo least most s at end) where
+  run-split : drop at s ≡ take (end - at) (drop at s) ++ drop end s
+  run-split =
+      let place : at + (end - at) ≡ end = omega (arith, run .onward) in
+      sym (take-append-drop (end - at) (drop at s)) ∙ ap (λ q. take (end - at) (drop at s) ++ q) (drop-drop (end - at) at s ∙ ap (λ (n : ℕ). drop n s) place)
+
+  pub run-length : length (take (end - at) (drop at s)) ≡ end - at
+  run-length = length-part s at (end - at) (omega (arith, run .onward, run .inside))
 
 bounds : (least most b : ℕ) → within least most b ≡ true → (least ≤ b) × (b ≤ most)
 unfolding within
@@ -99,7 +104,7 @@ plain-octets t (b ∷ p) r h =
     let w = bounds 0x20 0x7F b (and-left (within 0x20 0x7F b) (allWithin 0x20 0x7F p) h) in
     ascii-text t b (p ++ r) (w .0) (omega arith) ∙ plain-octets t p r (and-right (within 0x20 0x7F b) (allWithin 0x20 0x7F p) h)
 
-plain-run : (t : Bool) (s : List ℕ) (at end : ℕ) → RunTo 0x20 0x7F s at end → text t (drop at s) ≡ text t (drop end s)
+plain-run : (t : Bool) (s : List ℕ) (at end : ℕ) → PlainTo s at end → text t (drop at s) ≡ text t (drop end s)
 plain-run t s at end run = ap (text t) (run-split 0x20 0x7F s at end run) ∙ plain-octets t (take (end - at) (drop at s)) (drop end s) (run .all)
 
 -- octets above those of tokens: they need no table and stand for themselves
@@ -110,7 +115,7 @@ no-tokens (b ∷ p) h =
     let w = bounds 0x14 0xFF b (and-left (within 0x14 0xFF b) (allWithin 0x14 0xFF p) h) in
     covered-cons b p (high-octet b (omega arith)) (no-tokens p (and-right (within 0x14 0xFF b) (allWithin 0x14 0xFF p) h))
 
-module _ (es : Entries) (s : List ℕ) (at end : ℕ) (run : RunTo 0x14 0xFF s at end) where
+module _ (es : Entries) (s : List ℕ) (at end : ℕ) (run : UntokenedTo s at end) where
   bare : covered [] (take (end - at) (drop at s)) ≡ true
   bare = no-tokens (take (end - at) (drop at s)) (run .all)
 
@@ -125,16 +130,18 @@ module _ (es : Entries) (s : List ℕ) (at end : ℕ) (run : RunTo 0x14 0xFF s a
       ∙ expanded-append es (take (end - at) (drop at s)) (drop end s)
       ∙ ap (λ q. q ++ expanded es (drop end s)) (bare-expanded es (take (end - at) (drop at s)) bare)
 
-  pub length-run : length (take (end - at) (drop at s)) ≡ end - at
-  length-run = length-part s at (end - at) (omega (arith, run .onward, run .inside))
+  pub expanded-length-run : length (expanded es (drop at s)) ≡ end - at + length (expanded es (drop end s))
+  expanded-length-run =
+      ap length expanded-run
+      ∙ length-append (take (end - at) (drop at s)) (expanded es (drop end s)) ∙ ap (λ (n : ℕ). n + length (expanded es (drop end s))) (run-length 0x14 0xFF s at end run)
 
   pub shown-run : shownLength es (drop at s) ≡ end - at + shownLength es (drop end s)
   unfolding shownLength
-  shown-run = ap length expanded-run ∙ length-append (take (end - at) (drop at s)) (expanded es (drop end s)) ∙ rw length-run
+  shown-run = expanded-length-run
 
   pub size-run : expandedSize es (drop at s) ≡ end - at + expandedSize es (drop end s)
   unfolding expandedSize
-  size-run = ap length expanded-run ∙ length-append (take (end - at) (drop at s)) (expanded es (drop end s)) ∙ rw length-run
+  size-run = expanded-length-run
 
 -- ---- the loop of `check`
 pub record Holds (t : Bool) (s : List ℕ) (at : ℕ) : Type 0 where
@@ -149,7 +156,7 @@ module _ (t : Bool) (s : List ℕ) where
   unfolding text utf8
   check-done at inv h = sym (inv .same ∙ ap (text t) (drop-of-length-le s h))
 
-  module _ (at from : ℕ) (inv : Holds t s at) (run : RunTo 0x20 0x7F s at from) where
+  module _ (at from : ℕ) (inv : Holds t s at) (run : PlainTo s at from) where
     behind : Holds t s from
     behind = record { within = run .inside; same = inv .same ∙ plain-run t s at from run }
 

@@ -19,3 +19,10 @@ pub record RunTo (least most : ℕ) (s : List ℕ) (at end : ℕ) : Type 0 where
   pub onward : at ≤ end
   pub inside : end ≤ length s
   pub all : allWithin least most (take (end - at) (drop at s)) ≡ true
+
+-- a run of octets that are text by themselves, and one of octets above the last token, which stand for themselves
+abbrev pub PlainTo : List ℕ → ℕ → ℕ → Type 0
+PlainTo = RunTo 0x20 0x7F
+
+abbrev pub UntokenedTo : List ℕ → ℕ → ℕ → Type 0
+UntokenedTo = RunTo 0x14 0xFF

@@ -2,7 +2,7 @@
 ghost use mathlib.Core.Path.{_≡_};
 ghost use Prim.Native.Nat.{_≤_};
 ghost use lib.ListN.{length, take};
-ghost use Rattle.text.specs.Runs.{within, allWithin, RunTo};
+ghost use Rattle.text.specs.Runs.{within, allWithin, RunTo, PlainTo, UntokenedTo};
 
 // An octet between two bounds, both included.
 fn is_within(b: u8, least: u8, most: u8) -> bool
@@ -42,7 +42,7 @@ fn eights_end(s: &[u8], at: usize, least: u8, most: u8) -> usize
 }
 
 // The end of the run that begins at a place: by eights as far as they go, then by single octets.
-pub fn run_end(s: &[u8], at: usize, least: u8, most: u8) -> usize
+fn run_end(s: &[u8], at: usize, least: u8, most: u8) -> usize
     requires { ⌜ at ≤ length (now s) ⌝ }
     ensures { λ r. ⌜ RunTo least most (now (s .entry)) at r ⌝ }
 {
@@ -54,4 +54,22 @@ pub fn run_end(s: &[u8], at: usize, least: u8, most: u8) -> usize
         end += 1;
     }
     end
+}
+
+// The bounds stand in functions of their own, so that the compiler knows them where it makes the tests.
+
+// The end of the run of octets that are text by themselves.
+pub fn plain_end(s: &[u8], at: usize) -> usize
+    requires { ⌜ at ≤ length (now s) ⌝ }
+    ensures { λ r. ⌜ PlainTo (now (s .entry)) at r ⌝ }
+{
+    run_end(s, at, 0x20, 0x7F)
+}
+
+// The end of the run of octets above the last token.
+pub fn untokened_end(s: &[u8], at: usize) -> usize
+    requires { ⌜ at ≤ length (now s) ⌝ }
+    ensures { λ r. ⌜ UntokenedTo (now (s .entry)) at r ⌝ }
+{
+    run_end(s, at, 0x14, 0xFF)
 }

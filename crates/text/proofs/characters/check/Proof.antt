@@ -14,8 +14,8 @@ abbrev μ-loop : tie.MeasureT-loop
 loop-holds : tie.Need-loop-holds Inv-loop μ-loop
 loop-holds c = search (check-ways, needs)
 
-run-end-requires : tie.Need-run-end-requires Inv-loop μ-loop
-run-end-requires c κs = search needs
+plain-end-requires : tie.Need-plain-end-requires Inv-loop μ-loop
+plain-end-requires c κs = search needs
 
 returns : tie.Need-returns Inv-loop μ-loop
 returns c = search (check-ways, needs)
@@ -54,7 +54,7 @@ check-spec =
     Inv-loop
     μ-loop
     loop-holds
-    run-end-requires
+    plain-end-requires
     returns
     sub-sequence
     part-sequence-start

@@ -16,8 +16,8 @@ abbrev μ-loop : tie.MeasureT-loop
 loop-holds : tie.Need-loop-holds Inv-loop μ-loop
 loop-holds c = search (cover-ways, needs)
 
-run-end-requires : tie.Need-run-end-requires Inv-loop μ-loop
-run-end-requires c κs = search needs
+untokened-end-requires : tie.Need-untokened-end-requires Inv-loop μ-loop
+untokened-end-requires c κs = search needs
 
 returns : tie.Need-returns Inv-loop μ-loop
 returns c = search (cover-ways, needs)
@@ -50,7 +50,7 @@ is-covered-spec =
     Inv-loop
     μ-loop
     loop-holds
-    run-end-requires
+    untokened-end-requires
     returns
     shared-slice-read-has-text
     has-text-requires

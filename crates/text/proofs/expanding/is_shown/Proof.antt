@@ -15,8 +15,8 @@ abbrev μ-loop : tie.MeasureT-loop
 loop-holds : tie.Need-loop-holds Inv-loop μ-loop
 loop-holds c = search (show-ways, needs)
 
-run-end-requires : tie.Need-run-end-requires Inv-loop μ-loop
-run-end-requires c κs = search needs
+untokened-end-requires : tie.Need-untokened-end-requires Inv-loop μ-loop
+untokened-end-requires c κs = search needs
 
 sub-run : tie.Need-sub-run Inv-loop μ-loop
 sub-run c = search needs
@@ -55,7 +55,7 @@ is-shown-spec =
     Inv-loop
     μ-loop
     loop-holds
-    run-end-requires
+    untokened-end-requires
     sub-run
     returns
     returns-2
