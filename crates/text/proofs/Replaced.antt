@@ -303,9 +303,6 @@ module _ (es : Entries) (s out₀ : List ℕ) (at : ℕ) where
     unfolding expanded
     write-done h = ap (λ q. sets out to (expanded es q)) (sym (drop-of-length-le s h)) ∙ inv .same
 
-    pub write-long : length out ≡ length out₀
-    write-long = inv .long
-
     -- what comes first of the expansion that is still to be written is laid where it belongs
     write-part : (part : List ℕ) (n : ℕ) → n ≤ length s → expanded es (drop i s) ≡ part ++ expanded es (drop n s)
         → (to′ : ℕ) (out′ : List ℕ) → to′ ≡ to + length part → out′ ≡ sets out to part → Writing es s out₀ at out′ to′ n
@@ -323,9 +320,6 @@ module _ (es : Entries) (s out₀ : List ℕ) (at : ℕ) where
     pub copy-room : to + length (take (from - i) (drop i s)) ≤ length out
     copy-room = omega (arith, inv .room, inv .long, expanded-length-run es s i from run, run-length 0x14 0xFF s i from run)
 
-    pub copy-behind : length out₀ < 2 ^ 63 → Fits w64 (to + (from - i))
-    copy-behind g = record { fits = omega (arith, copy-room, run-length 0x14 0xFF s i from run, inv .long) }
-
     module _ (out′ : List ℕ) (f : out′ ≡ sets out to (take (from - i) (drop i s))) where
       write-behind : Writing es s out₀ at out′ (to + (from - i)) from
       write-behind =
@@ -334,9 +328,6 @@ module _ (es : Entries) (s out₀ : List ℕ) (at : ℕ) where
 
       pub write-end : from ≡ length s → out′ ≡ sets out₀ at (expanded es s)
       write-end q = write-done out′ (to + (from - i)) from write-behind (omega arith)
-
-      pub write-copied : length out′ ≡ length out₀
-      write-copied = write-behind .long
 
       module _ (h : from ≡ length s → ⊥) where
         split : expanded es (drop from s) ≡ stands es (getD s from 0) ++ expanded es (drop (from + 1) s)
@@ -353,7 +344,7 @@ module _ (es : Entries) (s out₀ : List ℕ) (at : ℕ) where
         write-again =
             write-part out′ (to + (from - i)) from write-behind (stands es (getD s from 0)) (from + 1) (omega (arith, run .inside)) split
 
-pub ruleset write-ways = (write-begin, write-done, write-long, copy-room, copy-behind, write-end, write-copied, write-room, write-again)
+pub ruleset write-ways = (write-begin, write-done, copy-room, write-end, write-room, write-again)
 
 -- ---- `expand`
 module _ (es : Entries) (s out : List ℕ) (at : ℕ) where

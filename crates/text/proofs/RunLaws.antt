@@ -1,5 +1,5 @@
 -- Runs of octets: how the code finds where they end, what a text is without one, and the loop of `check`, which passes over them.
-use Prim.Native.Nat.{ℕ, zero, suc, _+_, _-_, _^_, _≤_, _<_}
+use Prim.Native.Nat.{ℕ, zero, suc, _+_, _-_, _≤_, _<_}
 use mathlib.Core.Path.{_≡_, refl, sym, ap, subst, _∙_}
 use mathlib.Core.List.{List, [], _∷_, _++_}
 use mathlib.Core.Bool.{Bool, true, false, _&&_}
@@ -7,8 +7,6 @@ use lib.ListN.{length, getD, take, drop, length-drop, length-append, drop-of-len
 use lib.Seq.{drop-drop}
 use lib.Dec.{leb}
 use native.Mathlib.Omega.{arith}
-use mir.Val.{Fits}
-use mir.Syntax.{w64}
 use borrow.Author.Tests.{leb-true}
 use Rattle.octets.proofs.Tests.{and-left, and-right, and-true}
 use Rattle.octets.proofs.Lists.{part-to-end, part-split, length-part, drop-next}
@@ -57,9 +55,9 @@ module _ (least most : ℕ) where
       (all-append a b (and-right (within least most x) (allWithin least most a) h) g)
 
   module _ (s : List ℕ) (at : ℕ) where
-    pub run-begin : at ≤ length s → RunTo least most s at at
+    pub run-begin : at < length s → RunTo least most s at at
     unfolding allWithin
-    run-begin h = let n : at - at ≡ 0 = omega arith in record { onward = omega arith; inside = h; all = rw n }
+    run-begin h = let n : at - at ≡ 0 = omega arith in record { onward = omega arith; inside = omega arith; all = rw n }
 
     module _ (end : ℕ) (run : RunTo least most s at end) where
       run-more : (n : ℕ) → end + n ≤ length s → allWithin least most (take n (drop end s)) ≡ true → RunTo least most s at (end + n)
@@ -171,9 +169,6 @@ module _ (t : Bool) (s : List ℕ) where
       unfolding onward
       check-stop e = sym (behind .same ∙ here .same ∙ rw e)
 
-      pub check-fits : length s < 2 ^ 63 → Fits w64 (from + n)
-      check-fits g = record { fits = omega (arith, here .within, length-drop from s, run .inside) }
-
       onward-some : (n : ℕ) (q : List ℕ) → (n ≡ 0 → ⊥) → onward t q n ≡ text t (drop n q)
       unfolding onward
       onward-some zero q e = absurd (e refl)
@@ -186,4 +181,4 @@ module _ (t : Bool) (s : List ℕ) where
             same = behind .same ∙ here .same ∙ onward-some n (drop from s) e ∙ ap (text t) (drop-drop n from s);
           }
 
-pub ruleset check-ways = (check-begin, check-done, check-end, check-stop, check-fits, check-again)
+pub ruleset check-ways = (check-begin, check-done, check-end, check-stop, check-again)

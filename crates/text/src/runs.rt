@@ -1,6 +1,6 @@
 // Runs of octets between two bounds, over which a text is passed eight octets at a time.
 ghost use mathlib.Core.Path.{_≡_};
-ghost use Prim.Native.Nat.{_≤_};
+ghost use Prim.Native.Nat.{_≤_, _<_};
 ghost use lib.ListN.{length, take};
 ghost use Rattle.text.specs.Runs.{within, allWithin, RunTo, PlainTo, UntokenedTo};
 
@@ -26,9 +26,9 @@ fn are_eight_within(s: &[u8], least: u8, most: u8) -> bool
         & is_within(s[7], least, most)
 }
 
-// A place up to which a run goes that begins at a place, found eight octets at a time.
+// How far the run goes that begins at a place, by eights alone.
 fn eights_end(s: &[u8], at: usize, least: u8, most: u8) -> usize
-    requires { ⌜ at ≤ length (now s) ⌝ }
+    requires { ⌜ at < length (now s) ⌝ }
     ensures { λ r. ⌜ RunTo least most (now (s .entry)) at r ⌝ }
 {
     let mut end = at;
@@ -43,7 +43,7 @@ fn eights_end(s: &[u8], at: usize, least: u8, most: u8) -> usize
 
 // The end of the run that begins at a place: by eights as far as they go, then by single octets.
 fn run_end(s: &[u8], at: usize, least: u8, most: u8) -> usize
-    requires { ⌜ at ≤ length (now s) ⌝ }
+    requires { ⌜ at < length (now s) ⌝ }
     ensures { λ r. ⌜ RunTo least most (now (s .entry)) at r ⌝ }
 {
     let mut end = eights_end(s, at, least, most);
@@ -56,20 +56,27 @@ fn run_end(s: &[u8], at: usize, least: u8, most: u8) -> usize
     end
 }
 
-// The bounds stand in functions of their own, so that the compiler knows them where it makes the tests.
+// The two functions below give the bounds as constants, which the compiler needs to make one comparison of eight tests. Each asks the first
+// octet by itself: where no run begins, eights would be in vain.
 
 // The end of the run of octets that are text by themselves.
 pub fn plain_end(s: &[u8], at: usize) -> usize
-    requires { ⌜ at ≤ length (now s) ⌝ }
+    requires { ⌜ at < length (now s) ⌝ }
     ensures { λ r. ⌜ PlainTo (now (s .entry)) at r ⌝ }
 {
+    if !is_within(s[at], 0x20, 0x7F) {
+        return at;
+    }
     run_end(s, at, 0x20, 0x7F)
 }
 
 // The end of the run of octets above the last token.
 pub fn untokened_end(s: &[u8], at: usize) -> usize
-    requires { ⌜ at ≤ length (now s) ⌝ }
+    requires { ⌜ at < length (now s) ⌝ }
     ensures { λ r. ⌜ UntokenedTo (now (s .entry)) at r ⌝ }
 {
+    if !is_within(s[at], 0x14, 0xFF) {
+        return at;
+    }
     run_end(s, at, 0x14, 0xFF)
 }
