@@ -6,5 +6,6 @@ pub mod Masks
 pub mod Entries
 pub mod Replaced
 pub mod Laws
+pub mod RunLaws
 pub mod Sixteen
 pub mod Wrong

@@ -15,11 +15,13 @@ use Rattle.text.specs.Text.{token}
 use Rattle.text.specs.Tokens.{Entries, entries, entry, orItself, stands, expanded, present, covers, covered, shownLength, expandedSize}
 use Rattle.text.specs.Calls.{found, foundIn, Inside, expandFits, expandAnswer, expandOut}
 use Rattle.text.specs.Leaves.{replacedBy}
+use Rattle.text.specs.Runs.{UntokenedTo}
 use Rattle.text.specs.declared.Expanded.the-variants.{Done, NoRoom}
 use Rattle.text.specs.declared.Found.{Found}
 use Rattle.text.specs.declared.Found.the-variants.{At, Nothing}
 use Rattle.octets.proofs.Lists.{drop-next, sets-append}
 use Rattle.text.proofs.Entries.{named, inside}
+use Rattle.text.proofs.RunLaws.{run-length, covered-run, expanded-run, expanded-length-run, shown-run, size-run}
 
 -- ---- `has_text`
 module _ (table : List ℕ) (b : ℕ) (t : Bool) (k : t ≡ token b) where
@@ -55,18 +57,25 @@ module _ (es : Entries) (s : List ℕ) where
   unfolding covered
   cover-done at inv h = sym (inv .same ∙ ap (covered es) (drop-of-length-le s h))
 
-  module _ (at : ℕ) (inv : Covering es s at) (h : at < length s) (r : Bool) (e : r ≡ covers es (getD s at 0)) where
-    cover-step : covered es s ≡ r && covered es (drop (at + 1) s)
-    unfolding covered
-    cover-step = inv .same ∙ ap (covered es) (drop-next s at 0 h) ∙ ap (λ q. q && covered es (drop (at + 1) s)) (sym e)
+  module _ (at from : ℕ) (inv : Covering es s at) (run : UntokenedTo s at from) where
+    cover-behind : Covering es s from
+    cover-behind = record { within = run .inside; same = inv .same ∙ covered-run es s at from run }
 
-    pub cover-no : r ≡ false → false ≡ covered es s
-    cover-no q = sym (cover-step ∙ rw q)
+    pub cover-end : from ≡ length s → true ≡ covered es s
+    cover-end q = cover-done from cover-behind (omega arith)
 
-    pub cover-again : r ≡ true → Covering es s (at + 1)
-    cover-again q = record { within = omega arith; same = cover-step ∙ rw q }
+    module _ (h : from ≡ length s → ⊥) (r : Bool) (e : r ≡ covers es (getD s from 0)) where
+      cover-step : covered es s ≡ r && covered es (drop (from + 1) s)
+      unfolding covered
+      cover-step = cover-behind .same ∙ ap (covered es) (drop-next s from 0 (omega (arith, run .inside))) ∙ ap (λ q. q && covered es (drop (from + 1) s)) (sym e)
 
-pub ruleset cover-ways = (cover-begin, cover-done, cover-no, cover-again)
+      pub cover-no : r ≡ false → false ≡ covered es s
+      cover-no q = sym (cover-step ∙ rw q)
+
+      pub cover-again : r ≡ true → Covering es s (from + 1)
+      cover-again q = record { within = omega (arith, run .inside); same = cover-step ∙ rw q }
+
+pub ruleset cover-ways = (cover-begin, cover-done, cover-end, cover-no, cover-again)
 
 -- ---- `replacement`, and what it tells of an octet
 module _ (es : Entries) (b : ℕ) (t : Bool) (k : t ≡ token b) where
@@ -145,17 +154,31 @@ module _ (es : Entries) (s : List ℕ) (limit : ℕ) where
   unfolding shownLength expanded
   show-done left at inv h = sym (inv .same ∙ ap (λ q. leb (shownLength es q) left) (drop-of-length-le s h) ∙ le-leb 0 left (omega arith))
 
-  module _ (left at : ℕ) (inv : Showing es s limit left at) (h : at < length s) (size : ℕ) (e : size ≡ length (stands es (getD s at 0))) where
-    show-step : leb (shownLength es s) limit ≡ leb (size + shownLength es (drop (at + 1) s)) left
-    show-step = inv .same ∙ rw (drop-next s at 0 h, shown-cons es (getD s at 0) (drop (at + 1) s), e)
+  module _ (left at from : ℕ) (inv : Showing es s limit left at) (run : UntokenedTo s at from) where
+    show-run : leb (shownLength es s) limit ≡ leb (from - at + shownLength es (drop from s)) left
+    show-run = inv .same ∙ rw (shown-run es s at from run)
 
-    pub show-stop : left < size → false ≡ leb (shownLength es s) limit
-    show-stop g = sym (show-step ∙ lt-leb (size + shownLength es (drop (at + 1) s)) left (omega arith))
+    pub show-past : left < from - at → false ≡ leb (shownLength es s) limit
+    show-past g = sym (show-run ∙ lt-leb (from - at + shownLength es (drop from s)) left (omega arith))
 
-    pub show-again : size ≤ left → Showing es s limit (left - size) (at + 1)
-    show-again g = record { within = omega arith; same = show-step ∙ leb-left size (shownLength es (drop (at + 1) s)) left g }
+    module _ (g : from - at ≤ left) where
+      show-behind : Showing es s limit (left - (from - at)) from
+      show-behind = record { within = run .inside; same = show-run ∙ leb-left (from - at) (shownLength es (drop from s)) left g }
 
-pub ruleset show-ways = (show-begin, show-done, show-stop, show-again)
+      pub show-end : from ≡ length s → true ≡ leb (shownLength es s) limit
+      show-end q = show-done (left - (from - at)) from show-behind (omega arith)
+
+      module _ (h : from ≡ length s → ⊥) (size : ℕ) (e : size ≡ length (stands es (getD s from 0))) where
+        show-step : leb (shownLength es s) limit ≡ leb (size + shownLength es (drop (from + 1) s)) (left - (from - at))
+        show-step = show-behind .same ∙ rw (drop-next s from 0 (omega (arith, run .inside)), shown-cons es (getD s from 0) (drop (from + 1) s), e)
+
+        pub show-stop : left - (from - at) < size → false ≡ leb (shownLength es s) limit
+        show-stop k = sym (show-step ∙ lt-leb (size + shownLength es (drop (from + 1) s)) (left - (from - at)) (omega arith))
+
+        pub show-again : size ≤ left - (from - at) → Showing es s limit (left - (from - at) - size) (from + 1)
+        show-again k = record { within = omega (arith, run .inside); same = show-step ∙ leb-left size (shownLength es (drop (from + 1) s)) (left - (from - at)) k }
+
+pub ruleset show-ways = (show-begin, show-done, show-past, show-end, show-stop, show-again)
 
 -- ---- the loop of `expanded_size`
 size-cons : (es : Entries) (b : ℕ) (s : List ℕ) → expandedSize es (b ∷ s) ≡ length (stands es b) + expandedSize es s
@@ -178,17 +201,28 @@ module _ (es : Entries) (s : List ℕ) (most : ℕ) where
       let f : total ≡ expandedSize es s = omega (arith, inv .same) in
       sym (min-eq-right (omega (arith, inv .short)) ∙ sym f)
 
-  module _ (total at : ℕ) (inv : Sizing es s most total at) (h : at < length s) (size : ℕ) (e : size ≡ length (stands es (getD s at 0))) where
-    size-step : total + size + expandedSize es (drop (at + 1) s) ≡ expandedSize es s
-    size-step = omega (arith, inv .same, ap (expandedSize es) (drop-next s at 0 h), size-cons es (getD s at 0) (drop (at + 1) s))
+  module _ (total at from : ℕ) (inv : Sizing es s most total at) (run : UntokenedTo s at from) where
+    pub size-past : most - total ≤ from - at → most ≡ min most (expandedSize es s)
+    size-past g = sym (min-eq-left (omega (arith, inv .short, inv .same, size-run es s at from run)))
 
-    pub size-stop : most - total ≤ size → most ≡ min most (expandedSize es s)
-    size-stop g = sym (min-eq-left (omega (arith, inv .short, size-step)))
+    module _ (g : from - at < most - total) where
+      size-behind : Sizing es s most (total + (from - at)) from
+      size-behind = record { within = run .inside; short = omega (arith, inv .short); same = omega (arith, inv .same, size-run es s at from run) }
 
-    pub size-again : size < most - total → Sizing es s most (total + size) (at + 1)
-    size-again g = record { within = omega arith; short = omega (arith, inv .short); same = size-step }
+      pub size-end : from ≡ length s → total + (from - at) ≡ min most (expandedSize es s)
+      size-end q = size-done (total + (from - at)) from size-behind (omega arith)
 
-pub ruleset size-ways = (size-begin, size-done, size-stop, size-again)
+      module _ (h : from ≡ length s → ⊥) (size : ℕ) (e : size ≡ length (stands es (getD s from 0))) where
+        size-step : total + (from - at) + size + expandedSize es (drop (from + 1) s) ≡ expandedSize es s
+        size-step = omega (arith, size-behind .same, ap (expandedSize es) (drop-next s from 0 (omega (arith, run .inside))), size-cons es (getD s from 0) (drop (from + 1) s))
+
+        pub size-stop : most - (total + (from - at)) ≤ size → most ≡ min most (expandedSize es s)
+        size-stop k = sym (min-eq-left (omega (arith, size-behind .short, size-step)))
+
+        pub size-again : size < most - (total + (from - at)) → Sizing es s most (total + (from - at) + size) (from + 1)
+        size-again k = record { within = omega (arith, run .inside); short = omega (arith, size-behind .short); same = size-step }
+
+pub ruleset size-ways = (size-begin, size-done, size-past, size-end, size-stop, size-again)
 
 -- ---- `copy`
 pub record Copying (part out₀ : List ℕ) (at : ℕ) (out : List ℕ) (i : ℕ) : Type 0 where
@@ -269,31 +303,48 @@ module _ (es : Entries) (s out₀ : List ℕ) (at : ℕ) where
     unfolding expanded
     write-done h = ap (λ q. sets out to (expanded es q)) (sym (drop-of-length-le s h)) ∙ inv .same
 
-    pub write-long : length out ≡ length out₀
-    write-long = inv .long
+    -- what comes first of the expansion that is still to be written is laid where it belongs
+    write-part : (part : List ℕ) (n : ℕ) → n ≤ length s → expanded es (drop i s) ≡ part ++ expanded es (drop n s)
+        → (to′ : ℕ) (out′ : List ℕ) → to′ ≡ to + length part → out′ ≡ sets out to part → Writing es s out₀ at out′ to′ n
+    write-part part n h split to′ out′ e f =
+        record {
+          within = h;
+          room = omega (arith, inv .room, ap length split ∙ length-append part (expanded es (drop n s)), e);
+          long = ap length f ∙ length-sets out to part ∙ inv .long;
+          same =
+              ap₂ (λ o (k : ℕ). sets o k (expanded es (drop n s))) f e
+              ∙ sets-append out to part (expanded es (drop n s)) ∙ ap (λ q. sets out to q) (sym split) ∙ inv .same;
+        }
 
-    module _ (h : i < length s) where
-      split : expanded es (drop i s) ≡ stands es (getD s i 0) ++ expanded es (drop (i + 1) s)
-      unfolding expanded
-      split = ap (expanded es) (drop-next s i 0 h)
+  module _ (out : List ℕ) (to i from : ℕ) (inv : Writing es s out₀ at out to i) (run : UntokenedTo s i from) where
+    pub copy-room : to + length (take (from - i) (drop i s)) ≤ length out
+    copy-room = omega (arith, inv .room, inv .long, expanded-length-run es s i from run, run-length 0x14 0xFF s i from run)
 
-      size : length (expanded es (drop i s)) ≡ length (stands es (getD s i 0)) + length (expanded es (drop (i + 1) s))
-      size = ap length split ∙ length-append (stands es (getD s i 0)) (expanded es (drop (i + 1) s))
+    module _ (out′ : List ℕ) (f : out′ ≡ sets out to (take (from - i) (drop i s))) where
+      write-behind : Writing es s out₀ at out′ (to + (from - i)) from
+      write-behind =
+          write-part out to i inv (take (from - i) (drop i s)) from (run .inside) (expanded-run es s i from run) (to + (from - i)) out′
+          (omega (arith, run-length 0x14 0xFF s i from run)) f
 
-      pub write-room : to + length (stands es (getD s i 0)) ≤ length out
-      write-room = omega (arith, inv .room, inv .long, size)
+      pub write-end : from ≡ length s → out′ ≡ sets out₀ at (expanded es s)
+      write-end q = write-done out′ (to + (from - i)) from write-behind (omega arith)
 
-      pub write-again : (to′ : ℕ) (out′ : List ℕ) → to′ ≡ to + length (stands es (getD s i 0)) → out′ ≡ sets out to (stands es (getD s i 0))
-          → Writing es s out₀ at out′ to′ (i + 1)
-      write-again to′ out′ e f =
-          record {
-            within = omega arith;
-            room = omega (arith, inv .room, size, e);
-            long = ap length f ∙ length-sets out to (stands es (getD s i 0)) ∙ inv .long;
-            same = ap₂ (λ o (n : ℕ). sets o n (expanded es (drop (i + 1) s))) f e ∙ sets-append out to (stands es (getD s i 0)) (expanded es (drop (i + 1) s)) ∙ ap (λ q. sets out to q) (sym split) ∙ inv .same;
-          }
+      module _ (h : from ≡ length s → ⊥) where
+        split : expanded es (drop from s) ≡ stands es (getD s from 0) ++ expanded es (drop (from + 1) s)
+        unfolding expanded
+        split = ap (expanded es) (drop-next s from 0 (omega (arith, run .inside)))
 
-pub ruleset write-ways = (write-begin, write-done, write-long, write-room, write-again)
+        pub write-room : to + (from - i) + length (stands es (getD s from 0)) ≤ length out′
+        write-room =
+            omega
+            (arith, write-behind .room, write-behind .long, ap length split ∙ length-append (stands es (getD s from 0)) (expanded es (drop (from + 1) s)))
+
+        pub write-again : (to′ : ℕ) (out″ : List ℕ) → to′ ≡ to + (from - i) + length (stands es (getD s from 0))
+            → out″ ≡ sets out′ (to + (from - i)) (stands es (getD s from 0)) → Writing es s out₀ at out″ to′ (from + 1)
+        write-again =
+            write-part out′ (to + (from - i)) from write-behind (stands es (getD s from 0)) (from + 1) (omega (arith, run .inside)) split
+
+pub ruleset write-ways = (write-begin, write-done, copy-room, write-end, write-room, write-again)
 
 -- ---- `expand`
 module _ (es : Entries) (s out : List ℕ) (at : ℕ) where

@@ -1,23 +1,23 @@
 -- Valid text a character at a time: what the definitions are on each way through src/characters.rt.
 use Prim.Native.Nat.{ℕ, zero, suc, _+_, _-_, _*_, _/_, _%_, _^_, _≤_, _<_}
-use mathlib.Core.Path.{_≡_, refl, sym, ap, subst, _∙_}
+use mathlib.Core.Path.{_≡_, refl, sym, ap, _∙_}
 use mathlib.Core.List.{List, [], _∷_}
 use mathlib.Core.Bool.{Bool, true, false, _&&_, _||_, not, cond, false≢true}
-use lib.ListN.{length, getD, take, drop, length-drop, drop-of-length-le}
-use lib.Seq.{drop-drop, length-take-le}
+use lib.ListN.{length, getD, take, drop, drop-of-length-le}
+use lib.Seq.{length-take-le}
 use lib.Dec.{eqb, leb, ltb}
 use lib.Count.{leadingZeros}
 use native.Mathlib.Nat.{pow-suc}
 use native.Mathlib.Numerals.{add-one}
 use native.Mathlib.Omega.{arith}
 use mir.Val.{Fits}
-use mir.Syntax.{w32, w64}
+use mir.Syntax.{w32}
 use borrow.Author.Tests.{lt-ltb, le-ltb, le-leb, lt-leb, eq-eqb, ne-eqb, eqb-false, eqb-true, leb-true}
 use Rattle.octets.specs.Numbers.{among}
 use Rattle.octets.proofs.Tests.{and-left, and-right, and-false}
 use Rattle.text.specs.Text.{layout, token, character, single, goesOn, utf8, text}
 use Rattle.text.specs.Leaves.{following, several, Lead, onward, Steps}
-use Rattle.octets.proofs.Lists.{part-to-end, drop-next}
+use Rattle.octets.proofs.Lists.{drop-next}
 
 -- ---- layout and token octets
 module _ (b : ℕ) where
@@ -336,41 +336,3 @@ module _ (t : Bool) where
   long-no (a ∷ s) (suc m) r z h l g e y = record { within = omega arith; same = long a m s h l (omega arith) ∙ rw (← all a m s r e, y) }
 
 pub ruleset sequence-ways = (one-yes, one-no, short, long-yes, long-no)
-
--- ---- the loop of `check`
-pub record Holds (t : Bool) (s : List ℕ) (at : ℕ) : Type 0 where
-  pub within : at ≤ length s
-  pub same : text t s ≡ text t (drop at s)
-
-module _ (t : Bool) (s : List ℕ) where
-  pub check-begin : Holds t s 0
-  check-begin = record { within = omega arith; same = refl }
-
-  pub check-done : (at : ℕ) → Holds t s at → length s ≤ at → true ≡ text t s
-  unfolding text utf8
-  check-done at inv h = sym (inv .same ∙ ap (text t) (drop-of-length-le s h))
-
-  module _ (at n : ℕ) (inv : Holds t s at) (h : at < length s) (w : Steps t (take (length s - at) (drop at s)) n) where
-    here : Steps t (drop at s) n
-    here = subst (λ q. Steps t q n) (part-to-end s at) w
-
-    pub check-stop : n ≡ 0 → false ≡ text t s
-    unfolding onward
-    check-stop e = sym (inv .same ∙ here .same ∙ rw e)
-
-    pub check-fits : length s < 2 ^ 63 → Fits w64 (at + n)
-    check-fits g = record { fits = omega (arith, here .within, length-drop at s) }
-
-    onward-some : (n : ℕ) (q : List ℕ) → (n ≡ 0 → ⊥) → onward t q n ≡ text t (drop n q)
-    unfolding onward
-    onward-some zero q e = absurd (e refl)
-    onward-some (suc n) q e = refl
-
-    pub check-again : (n ≡ 0 → ⊥) → Holds t s (at + n)
-    check-again e =
-        record {
-          within = omega (arith, here .within, length-drop at s);
-          same = inv .same ∙ here .same ∙ onward-some n (drop at s) e ∙ ap (text t) (drop-drop n at s);
-        }
-
-pub ruleset check-ways = (check-begin, check-done, check-stop, check-fits, check-again)

@@ -33,7 +33,7 @@ plain-utf8 (b ∷ bs) (suc more) c least h =
     let d = c * 64 + b % 64 in
     and-map (goesOn more c least b) (utf8 false more d least bs) (goesOn more c least b) (utf8 true more d least bs) (λ q. q) (plain-utf8 bs more d least) h
 
-high-octet : (b : ℕ) → 0x13 < b → token b ≡ false
+pub high-octet : (b : ℕ) → 0x13 < b → token b ≡ false
 unfolding token
 high-octet b h = rw (lt-leb b 0x13 h, and-false (leb 1 b))
 
@@ -51,7 +51,7 @@ pub later-octet : (more c least b : ℕ) → goesOn more c least b ≡ true → 
 unfolding goesOn
 later-octet more c least b h = high-octet b (omega (arith, eqb-true (b / 64) 2 (and-left (eqb (b / 64) 2) (not (eqb more 0) || character least (c * 64 + b % 64)) h)))
 
-covered-cons : (b : ℕ) (bs : List ℕ) → token b ≡ false → covered [] bs ≡ true → covered [] (b ∷ bs) ≡ true
+pub covered-cons : (b : ℕ) (bs : List ℕ) → token b ≡ false → covered [] bs ≡ true → covered [] (b ∷ bs) ≡ true
 unfolding covered covers
 covered-cons b bs p q = rw (p, q)
 

@@ -2,3 +2,4 @@ pub mod Text
 pub mod Tokens
 pub mod Calls
 pub mod Leaves
+pub mod Runs

@@ -4,6 +4,7 @@ ghost use Prim.Native.Nat.{_≤_, _<_};
 ghost use lib.ListN.{length};
 ghost use Rattle.text.specs.Text.{layout, token, character, single, text};
 ghost use Rattle.text.specs.Leaves.{following, several, Lead, Steps};
+use crate::runs::plain_end;
 
 // An octet as a number whose sums fit.
 pub fn wide(x: u8) -> u32
@@ -36,7 +37,7 @@ pub fn is_token(b: u8) -> bool
     }
 }
 
-// An octet below 0x80 that may stand by itself. The first test settles nearly every octet.
+// An octet below 0x80 that may stand by itself.
 fn single_ok(b: u8, tokens: bool) -> bool
     ensures { λ r. ⌜ r ≡ single tokens b ⌝ }
 {
@@ -131,17 +132,22 @@ fn sequence(s: &[u8], tokens: bool) -> usize
     0
 }
 
-// Valid text, in which token octets may stand or not. It looks at each octet once.
+// Valid text, in which token octets may stand or not. It passes over runs of octets that stand by themselves, and looks at what stands
+// between them a character at a time.
 pub fn check(s: &[u8], tokens: bool) -> bool
     ensures { λ r. ⌜ r ≡ text tokens (now (s .entry)) ⌝ }
 {
     let mut at: usize = 0;
     while at < s.len() {
-        let n = sequence(&s[at..], tokens);
+        let from = plain_end(s, at);
+        if from == s.len() {
+            return true;
+        }
+        let n = sequence(&s[from..], tokens);
         if n == 0 {
             return false;
         }
-        at += n;
+        at = from + n;
     }
     true
 }

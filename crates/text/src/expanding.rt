@@ -1,5 +1,6 @@
-// Texts with their tokens replaced: judged and measured where they stand, and copied by `expand` alone. An octet that is no token costs one
-// test, and a token a `find`, at most 16 steps in a table that passes `is_table`.
+// Texts with their tokens replaced: judged and measured where they stand, and copied by `expand` alone. Octets above the last token are passed
+// over in runs. Of the others, one that is no token costs a test or two, and a token a `find`, at most 16 steps in a table that passes
+// `is_table`.
 ghost use mathlib.Core.Path.{_≡_};
 ghost use Prim.Native.Nat.{_+_, _≤_, min};
 ghost use lib.Dec.{leb};
@@ -11,6 +12,7 @@ ghost use Rattle.text.specs.Leaves.{replacedBy};
 use crate::Expanded;
 use crate::Found;
 use crate::characters::is_token;
+use crate::runs::untokened_end;
 use crate::tables::find;
 
 // An octet that is no token, or one with an entry.
@@ -33,10 +35,14 @@ pub fn is_covered(table: &[u8], s: &[u8]) -> bool
 {
     let mut at: usize = 0;
     while at < s.len() {
-        if !has_text(table, s[at]) {
+        let from = untokened_end(s, at);
+        if from == s.len() {
+            return true;
+        }
+        if !has_text(table, s[from]) {
             return false;
         }
-        at += 1;
+        at = from + 1;
     }
     true
 }
@@ -69,12 +75,21 @@ pub fn is_shown(table: &[u8], s: &[u8], limit: usize) -> bool
     let mut left = limit;
     let mut at: usize = 0;
     while at < s.len() {
-        let size = width(table, s[at]);
+        let from = untokened_end(s, at);
+        let run = from - at;
+        if run > left {
+            return false;
+        }
+        left -= run;
+        if from == s.len() {
+            return true;
+        }
+        let size = width(table, s[from]);
         if size > left {
             return false;
         }
         left -= size;
-        at += 1;
+        at = from + 1;
     }
     true
 }
@@ -86,12 +101,21 @@ pub fn expanded_size(table: &[u8], s: &[u8], most: usize) -> usize
     let mut total: usize = 0;
     let mut at: usize = 0;
     while at < s.len() {
-        let size = width(table, s[at]);
+        let from = untokened_end(s, at);
+        let run = from - at;
+        if most - total <= run {
+            return most;
+        }
+        total += run;
+        if from == s.len() {
+            return total;
+        }
+        let size = width(table, s[from]);
         if most - total <= size {
             return most;
         }
         total += size;
-        at += 1;
+        at = from + 1;
     }
     total
 }
@@ -127,7 +151,7 @@ fn write_one(table: &[u8], b: u8, out: &mut [u8], at: usize) -> usize
     }
 }
 
-// The expansion of a text, written from a place on.
+// The expansion of a text, written from a place on: runs without tokens as they are, and what stands for each octet between them.
 fn write_all(table: &[u8], s: &[u8], out: &mut [u8], at: usize)
     requires { ⌜ at + length (expanded (entries (now table)) (now s)) ≤ length (now out) ⌝ }
     ensures { λ _. ⌜ now (out .exit) ≡ sets (now (out .entry)) at (expanded (entries (now (table .entry))) (now (s .entry))) ⌝ }
@@ -135,8 +159,14 @@ fn write_all(table: &[u8], s: &[u8], out: &mut [u8], at: usize)
     let mut to = at;
     let mut i: usize = 0;
     while i < s.len() {
-        to = write_one(table, s[i], out, to);
-        i += 1;
+        let from = untokened_end(s, i);
+        copy(&s[i..from], out, to);
+        let behind = to + (from - i);
+        if from == s.len() {
+            return;
+        }
+        to = write_one(table, s[from], out, behind);
+        i = from + 1;
     }
 }
 

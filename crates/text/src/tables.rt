@@ -83,7 +83,7 @@ fn good_entry(rest: &[u8], seen: u32) -> Piece
     }
 }
 
-// Octets that are a token table (rule 11). It looks at each octet once.
+// Octets that are a token table (rule 11), in one pass over them.
 pub fn is_table(s: &[u8]) -> bool
     ensures { λ r. ⌜ r ≡ isTable (now (s .entry)) ⌝ }
 {

@@ -1,6 +1,6 @@
 use Prim.Native.Nat.{_-_}
 use lib.ListN.{length}
-use Rattle.text.proofs.Sequences.{Holds, check-ways}
+use Rattle.text.proofs.RunLaws.{Holds, check-ways}
 use borrow.Author.Needs.{needs}
 use Rattle.text.proofs.characters.check.Statement.{statement}
 use Rattle.text.proofs.characters.check.Tie as tie
@@ -14,6 +14,12 @@ abbrev μ-loop : tie.MeasureT-loop
 loop-holds : tie.Need-loop-holds Inv-loop μ-loop
 loop-holds c = search (check-ways, needs)
 
+plain-end-requires : tie.Need-plain-end-requires Inv-loop μ-loop
+plain-end-requires c κs = search needs
+
+returns : tie.Need-returns Inv-loop μ-loop
+returns c = search (check-ways, needs)
+
 sub-sequence : tie.Need-sub-sequence Inv-loop μ-loop
 sub-sequence c = search needs
 
@@ -26,8 +32,8 @@ part-sequence-end c = search needs
 sequence-requires : tie.Need-sequence-requires Inv-loop μ-loop
 sequence-requires c κs = search needs
 
-returns : tie.Need-returns Inv-loop μ-loop
-returns c = search (check-ways, needs)
+returns-2 : tie.Need-returns-2 Inv-loop μ-loop
+returns-2 c = search (check-ways, needs)
 
 add-at : tie.Need-add-at Inv-loop μ-loop
 add-at c = search (check-ways, needs)
@@ -38,8 +44,8 @@ loop-less c = search needs
 loop-again : tie.Need-loop-again Inv-loop μ-loop
 loop-again c = search (check-ways, needs)
 
-returns-2 : tie.Need-returns-2 Inv-loop μ-loop
-returns-2 c = search (check-ways, needs)
+returns-3 : tie.Need-returns-3 Inv-loop μ-loop
+returns-3 c = search (check-ways, needs)
 
 pub check-spec : {M : Type 1} → statement M
 check-spec =
@@ -48,12 +54,14 @@ check-spec =
     Inv-loop
     μ-loop
     loop-holds
+    plain-end-requires
+    returns
     sub-sequence
     part-sequence-start
     part-sequence-end
     sequence-requires
-    returns
+    returns-2
     add-at
     loop-less
     loop-again
-    returns-2)
+    returns-3)

@@ -16,14 +16,20 @@ abbrev μ-loop : tie.MeasureT-loop
 loop-holds : tie.Need-loop-holds Inv-loop μ-loop
 loop-holds c = search (cover-ways, needs)
 
+untokened-end-requires : tie.Need-untokened-end-requires Inv-loop μ-loop
+untokened-end-requires c κs = search needs
+
+returns : tie.Need-returns Inv-loop μ-loop
+returns c = search (cover-ways, needs)
+
 shared-slice-read-has-text : tie.Need-shared-slice-read-has-text Inv-loop μ-loop
 shared-slice-read-has-text c = search needs
 
 has-text-requires : tie.Need-has-text-requires Inv-loop μ-loop
 has-text-requires c κs = search needs
 
-returns : tie.Need-returns Inv-loop μ-loop
-returns c = search (cover-ways, not-true, needs)
+returns-2 : tie.Need-returns-2 Inv-loop μ-loop
+returns-2 c = search (cover-ways, not-true, needs)
 
 add-at : tie.Need-add-at Inv-loop μ-loop
 add-at c = search needs
@@ -34,8 +40,8 @@ loop-less c = search needs
 loop-again : tie.Need-loop-again Inv-loop μ-loop
 loop-again c = search (cover-ways, not-false, needs)
 
-returns-2 : tie.Need-returns-2 Inv-loop μ-loop
-returns-2 c = search (cover-ways, needs)
+returns-3 : tie.Need-returns-3 Inv-loop μ-loop
+returns-3 c = search (cover-ways, needs)
 
 pub is-covered-spec : {M : Type 1} → statement M
 is-covered-spec =
@@ -44,10 +50,12 @@ is-covered-spec =
     Inv-loop
     μ-loop
     loop-holds
+    untokened-end-requires
+    returns
     shared-slice-read-has-text
     has-text-requires
-    returns
+    returns-2
     add-at
     loop-less
     loop-again
-    returns-2)
+    returns-3)

@@ -15,6 +15,33 @@ abbrev μ-loop : tie.MeasureT-loop
 loop-holds : tie.Need-loop-holds Inv-loop μ-loop
 loop-holds c = search (write-ways, needs)
 
+untokened-end-requires : tie.Need-untokened-end-requires Inv-loop μ-loop
+untokened-end-requires c κs = search needs
+
+sub-copy : tie.Need-sub-copy Inv-loop μ-loop
+sub-copy c = search needs
+
+part-copy-start : tie.Need-part-copy-start Inv-loop μ-loop
+part-copy-start c = search needs
+
+part-copy-end : tie.Need-part-copy-end Inv-loop μ-loop
+part-copy-end c = search needs
+
+copy-requires : tie.Need-copy-requires Inv-loop μ-loop
+copy-requires c κs = search (write-ways, needs)
+
+sub-behind : tie.Need-sub-behind Inv-loop μ-loop
+sub-behind c = search needs
+
+add-behind : tie.Need-add-behind Inv-loop μ-loop
+add-behind c = search (write-ways, needs)
+
+same-length : tie.Need-same-length Inv-loop μ-loop
+same-length c = search (write-ways, needs)
+
+returns : tie.Need-returns Inv-loop μ-loop
+returns c = search (write-ways, needs)
+
 shared-slice-read-write-one : tie.Need-shared-slice-read-write-one Inv-loop μ-loop
 shared-slice-read-write-one c = search needs
 
@@ -30,11 +57,11 @@ loop-less c = search needs
 loop-again : tie.Need-loop-again Inv-loop μ-loop
 loop-again c = search (write-ways, needs)
 
-same-length : tie.Need-same-length Inv-loop μ-loop
-same-length c = search (write-ways, needs)
+same-length-2 : tie.Need-same-length-2 Inv-loop μ-loop
+same-length-2 c = search (write-ways, needs)
 
-returns : tie.Need-returns Inv-loop μ-loop
-returns c = search (write-ways, needs)
+returns-2 : tie.Need-returns-2 Inv-loop μ-loop
+returns-2 c = search (write-ways, needs)
 
 pub write-all-spec : {M : Type 1} → statement M
 write-all-spec =
@@ -43,10 +70,19 @@ write-all-spec =
     Inv-loop
     μ-loop
     loop-holds
+    untokened-end-requires
+    sub-copy
+    part-copy-start
+    part-copy-end
+    copy-requires
+    sub-behind
+    add-behind
+    same-length
+    returns
     shared-slice-read-write-one
     write-one-requires
     add-i
     loop-less
     loop-again
-    same-length
-    returns)
+    same-length-2
+    returns-2)

@@ -1,0 +1,184 @@
+-- Runs of octets: how the code finds where they end, what a text is without one, and the loop of `check`, which passes over them.
+use Prim.Native.Nat.{ℕ, zero, suc, _+_, _-_, _≤_, _<_}
+use mathlib.Core.Path.{_≡_, refl, sym, ap, subst, _∙_}
+use mathlib.Core.List.{List, [], _∷_, _++_}
+use mathlib.Core.Bool.{Bool, true, false, _&&_}
+use lib.ListN.{length, getD, take, drop, length-drop, length-append, drop-of-length-le, take-append-drop}
+use lib.Seq.{drop-drop}
+use lib.Dec.{leb}
+use native.Mathlib.Omega.{arith}
+use borrow.Author.Tests.{leb-true}
+use Rattle.octets.proofs.Tests.{and-left, and-right, and-true}
+use Rattle.octets.proofs.Lists.{part-to-end, part-split, length-part, drop-next}
+use Rattle.text.specs.Text.{utf8, text}
+use Rattle.text.specs.Tokens.{Entries, expanded, covered, shownLength, expandedSize}
+use Rattle.text.specs.Leaves.{onward, Steps}
+use Rattle.text.specs.Runs.{within, allWithin, RunTo, PlainTo, UntokenedTo}
+use Rattle.text.proofs.Words.{high-octet, covered-cons}
+use Rattle.text.proofs.Laws.{ascii-text, expanded-append, covered-append, bare-covered, bare-expanded}
+
+-- ---- what `are_eight_within` answers
+from-right : (a b c d e f g h : Bool) → a && b && c && d && e && f && g && h ≡ a && (b && (c && (d && (e && (f && (g && (h && true)))))))
+from-right false b c d e f g h = refl
+from-right true false c d e f g h = refl
+from-right true true false d e f g h = refl
+from-right true true true false e f g h = refl
+from-right true true true true false f g h = refl
+from-right true true true true true false g h = refl
+from-right true true true true true true false h = refl
+from-right true true true true true true true false = refl
+from-right true true true true true true true true = refl
+
+pub eight-within : (least most : ℕ) (s : List ℕ) → 8 ≤ length s → (a b c d e f g h : Bool)
+    → a ≡ within least most (getD s 0 0) → b ≡ within least most (getD s 1 0) → c ≡ within least most (getD s 2 0) → d ≡ within least most (getD s 3 0)
+    → e ≡ within least most (getD s 4 0) → f ≡ within least most (getD s 5 0) → g ≡ within least most (getD s 6 0) → h ≡ within least most (getD s 7 0)
+    → a && b && c && d && e && f && g && h ≡ allWithin least most (take 8 s)
+unfolding allWithin
+eight-within least most (i ∷ j ∷ k ∷ l ∷ m ∷ n ∷ o ∷ p ∷ s) z a b c d e f g h ea eb ec ed ee ef eg eh =
+    from-right a b c d e f g h ∙ rw (ea, eb, ec, ed, ee, ef, eg, eh)
+eight-within least most [] z a b c d e f g h ea eb ec ed ee ef eg eh = absurd (omega arith)
+eight-within least most (i ∷ []) z a b c d e f g h ea eb ec ed ee ef eg eh = absurd (omega arith)
+eight-within least most (i ∷ j ∷ []) z a b c d e f g h ea eb ec ed ee ef eg eh = absurd (omega arith)
+eight-within least most (i ∷ j ∷ k ∷ []) z a b c d e f g h ea eb ec ed ee ef eg eh = absurd (omega arith)
+eight-within least most (i ∷ j ∷ k ∷ l ∷ []) z a b c d e f g h ea eb ec ed ee ef eg eh = absurd (omega arith)
+eight-within least most (i ∷ j ∷ k ∷ l ∷ m ∷ []) z a b c d e f g h ea eb ec ed ee ef eg eh = absurd (omega arith)
+eight-within least most (i ∷ j ∷ k ∷ l ∷ m ∷ n ∷ []) z a b c d e f g h ea eb ec ed ee ef eg eh = absurd (omega arith)
+eight-within least most (i ∷ j ∷ k ∷ l ∷ m ∷ n ∷ o ∷ []) z a b c d e f g h ea eb ec ed ee ef eg eh = absurd (omega arith)
+
+-- ---- the loops of `eights_end` and `run_end`
+module _ (least most : ℕ) where
+  all-append : (a b : List ℕ) → allWithin least most a ≡ true → allWithin least most b ≡ true → allWithin least most (a ++ b) ≡ true
+  unfolding allWithin
+  all-append [] b h g = g
+  all-append (x ∷ a) b h g =
+      and-true (within least most x) (allWithin least most (a ++ b)) (and-left (within least most x) (allWithin least most a) h)
+      (all-append a b (and-right (within least most x) (allWithin least most a) h) g)
+
+  module _ (s : List ℕ) (at : ℕ) where
+    pub run-begin : at < length s → RunTo least most s at at
+    unfolding allWithin
+    run-begin h = let n : at - at ≡ 0 = omega arith in record { onward = omega arith; inside = omega arith; all = rw n }
+
+    module _ (end : ℕ) (run : RunTo least most s at end) where
+      run-more : (n : ℕ) → end + n ≤ length s → allWithin least most (take n (drop end s)) ≡ true → RunTo least most s at (end + n)
+      run-more n h w =
+          let size : end + n - at ≡ end - at + n = omega (arith, run .onward) in
+          let place : at + (end - at) ≡ end = omega (arith, run .onward) in
+          record {
+            onward = omega (arith, run .onward);
+            inside = h;
+            all = rw (size, part-split s at (end - at) n, place) (all-append (take (end - at) (drop at s)) (take n (drop end s)) (run .all) w);
+          }
+
+      pub run-eight : 8 ≤ length s - end → (r : Bool) → r ≡ allWithin least most (take 8 (take (length s - end) (drop end s))) → r ≡ true
+          → RunTo least most s at (end + 8)
+      run-eight h r e y = run-more 8 (omega (arith, run .inside)) (ap (λ q. allWithin least most (take 8 q)) (sym (part-to-end s end)) ∙ sym e ∙ y)
+
+      pub run-one : end < length s → (r : Bool) → r ≡ within least most (getD s end 0) → r ≡ true → RunTo least most s at (end + 1)
+      unfolding allWithin
+      run-one h r e y = run-more 1 (omega arith) (ap (λ q. allWithin least most (take 1 q)) (drop-next s end 0 h) ∙ rw (← e, y))
+
+pub ruleset run-ways = (run-begin, run-eight, run-one)
+
+-- ---- a text at a run: the octets of the run, and what comes behind it
+module _ (least most : ℕ) (s : List ℕ) (at end : ℕ) (run : RunTo least most s at end) where
+  run-split : drop at s ≡ take (end - at) (drop at s) ++ drop end s
+  run-split =
+      let place : at + (end - at) ≡ end = omega (arith, run .onward) in
+      sym (take-append-drop (end - at) (drop at s)) ∙ ap (λ q. take (end - at) (drop at s) ++ q) (drop-drop (end - at) at s ∙ ap (λ (n : ℕ). drop n s) place)
+
+  pub run-length : length (take (end - at) (drop at s)) ≡ end - at
+  run-length = length-part s at (end - at) (omega (arith, run .onward, run .inside))
+
+bounds : (least most b : ℕ) → within least most b ≡ true → (least ≤ b) × (b ≤ most)
+unfolding within
+bounds least most b h = (leb-true least b (and-left (leb least b) (leb b most) h), leb-true b most (and-right (leb least b) (leb b most) h))
+
+-- octets that are text by themselves: valid text goes on behind them
+plain-octets : (t : Bool) (p r : List ℕ) → allWithin 0x20 0x7F p ≡ true → text t (p ++ r) ≡ text t r
+unfolding allWithin
+plain-octets t [] r h = refl
+plain-octets t (b ∷ p) r h =
+    let w = bounds 0x20 0x7F b (and-left (within 0x20 0x7F b) (allWithin 0x20 0x7F p) h) in
+    ascii-text t b (p ++ r) (w .0) (omega arith) ∙ plain-octets t p r (and-right (within 0x20 0x7F b) (allWithin 0x20 0x7F p) h)
+
+plain-run : (t : Bool) (s : List ℕ) (at end : ℕ) → PlainTo s at end → text t (drop at s) ≡ text t (drop end s)
+plain-run t s at end run = ap (text t) (run-split 0x20 0x7F s at end run) ∙ plain-octets t (take (end - at) (drop at s)) (drop end s) (run .all)
+
+-- octets above those of tokens: they need no table and stand for themselves
+no-tokens : (p : List ℕ) → allWithin 0x14 0xFF p ≡ true → covered [] p ≡ true
+unfolding allWithin covered
+no-tokens [] h = refl
+no-tokens (b ∷ p) h =
+    let w = bounds 0x14 0xFF b (and-left (within 0x14 0xFF b) (allWithin 0x14 0xFF p) h) in
+    covered-cons b p (high-octet b (omega arith)) (no-tokens p (and-right (within 0x14 0xFF b) (allWithin 0x14 0xFF p) h))
+
+module _ (es : Entries) (s : List ℕ) (at end : ℕ) (run : UntokenedTo s at end) where
+  bare : covered [] (take (end - at) (drop at s)) ≡ true
+  bare = no-tokens (take (end - at) (drop at s)) (run .all)
+
+  pub covered-run : covered es (drop at s) ≡ covered es (drop end s)
+  covered-run =
+      ap (covered es) (run-split 0x14 0xFF s at end run)
+      ∙ covered-append es (take (end - at) (drop at s)) (drop end s) ∙ rw (bare-covered es (take (end - at) (drop at s)) bare)
+
+  pub expanded-run : expanded es (drop at s) ≡ take (end - at) (drop at s) ++ expanded es (drop end s)
+  expanded-run =
+      ap (expanded es) (run-split 0x14 0xFF s at end run)
+      ∙ expanded-append es (take (end - at) (drop at s)) (drop end s)
+      ∙ ap (λ q. q ++ expanded es (drop end s)) (bare-expanded es (take (end - at) (drop at s)) bare)
+
+  pub expanded-length-run : length (expanded es (drop at s)) ≡ end - at + length (expanded es (drop end s))
+  expanded-length-run =
+      ap length expanded-run
+      ∙ length-append (take (end - at) (drop at s)) (expanded es (drop end s)) ∙ ap (λ (n : ℕ). n + length (expanded es (drop end s))) (run-length 0x14 0xFF s at end run)
+
+  pub shown-run : shownLength es (drop at s) ≡ end - at + shownLength es (drop end s)
+  unfolding shownLength
+  shown-run = expanded-length-run
+
+  pub size-run : expandedSize es (drop at s) ≡ end - at + expandedSize es (drop end s)
+  unfolding expandedSize
+  size-run = expanded-length-run
+
+-- ---- the loop of `check`
+pub record Holds (t : Bool) (s : List ℕ) (at : ℕ) : Type 0 where
+  pub within : at ≤ length s
+  pub same : text t s ≡ text t (drop at s)
+
+module _ (t : Bool) (s : List ℕ) where
+  pub check-begin : Holds t s 0
+  check-begin = record { within = omega arith; same = refl }
+
+  pub check-done : (at : ℕ) → Holds t s at → length s ≤ at → true ≡ text t s
+  unfolding text utf8
+  check-done at inv h = sym (inv .same ∙ ap (text t) (drop-of-length-le s h))
+
+  module _ (at from : ℕ) (inv : Holds t s at) (run : PlainTo s at from) where
+    behind : Holds t s from
+    behind = record { within = run .inside; same = inv .same ∙ plain-run t s at from run }
+
+    pub check-end : from ≡ length s → true ≡ text t s
+    check-end e = check-done from behind (omega arith)
+
+    module _ (n : ℕ) (w : Steps t (take (length s - from) (drop from s)) n) where
+      here : Steps t (drop from s) n
+      here = subst (λ q. Steps t q n) (part-to-end s from) w
+
+      pub check-stop : n ≡ 0 → false ≡ text t s
+      unfolding onward
+      check-stop e = sym (behind .same ∙ here .same ∙ rw e)
+
+      onward-some : (n : ℕ) (q : List ℕ) → (n ≡ 0 → ⊥) → onward t q n ≡ text t (drop n q)
+      unfolding onward
+      onward-some zero q e = absurd (e refl)
+      onward-some (suc n) q e = refl
+
+      pub check-again : (n ≡ 0 → ⊥) → Holds t s (from + n)
+      check-again e =
+          record {
+            within = omega (arith, here .within, length-drop from s, run .inside);
+            same = behind .same ∙ here .same ∙ onward-some n (drop from s) e ∙ ap (text t) (drop-drop n from s);
+          }
+
+pub ruleset check-ways = (check-begin, check-done, check-end, check-stop, check-again)
