@@ -7,7 +7,7 @@ use native.Mathlib.Omega.{arith}
 use native.Mathlib.Nat.{add-sub-cancel-left}
 use lib.Dec.{eqb}
 use lib.ListN.{length, take, drop, getD, length-append}
-use borrow.Author.Tests.{lt-ltb, le-ltb, eq-eqb, ne-eqb}
+use borrow.Author.Tests.{le-ltb, eq-eqb, ne-eqb}
 use Rattle.octets.specs.Header.{lengthField, framed}
 use Rattle.values.specs.Table.{attribute}
 use Rattle.format.specs.Tree.{Items}
@@ -24,7 +24,7 @@ use Rattle.writer.specs.declared.size.Sized.the-variants.{Over, Size}
 use Rattle.writer.specs.Normal.{itemOctets, normalSize, attributeOctets, laterOctets}
 use Rattle.writer.specs.Steps.{itemsFrom, Holding, sizedFrom, roleOf, bodyAt, BodyAt, Lays, Fitting, Ordered, oneAttribute, elementOctets, openingOctets, Emits}
 use Rattle.writer.proofs.Rising.{rising-seven}
-use Rattle.writer.proofs.Sizes.{high-attribute, opens-no-attribute}
+use Rattle.writer.proofs.Sizes.{high-attribute, opens-attribute, opens-no-attribute}
 use Rattle.writer.proofs.Order.{size-laid}
 use Rattle.writer.proofs.Lays.{lays-none, lays-append, lays-length, fitting-left, fitting-right}
 use Rattle.writer.proofs.Rows.{here-end, here-not, here-is, from-stop, from-single, from-nested, from-ahead, from-within}
@@ -36,18 +36,21 @@ module _ (depth own tag d : ℕ) (e : d ≡ own) where
   unfolding roleOf
   role-gone h = rw (ne-eqb own depth (λ q. h (e ∙ q)))
 
-  module _ (h : d ≡ depth) (o : Bool) (oe : o ≡ opens tag) where
-    pub role-element : o ≡ true → Element tag ≡ roleOf depth own tag
+  module _ (h : d ≡ depth) where
+    pub role-attribute : 0x80 ≤ tag → Attribute ≡ roleOf depth own tag
     unfolding roleOf
-    role-element q = rw (eq-eqb own depth (sym e ∙ h), sym oe ∙ q)
+    role-attribute a =
+        let q : attribute tag ≡ true = high-attribute tag a in
+        rw (eq-eqb own depth (sym e ∙ h), opens-attribute tag q, q)
 
-    pub role-attribute : o ≡ false → 0x80 ≤ tag → Attribute ≡ roleOf depth own tag
-    unfolding roleOf attribute
-    role-attribute q a = rw (eq-eqb own depth (sym e ∙ h), sym oe ∙ q, lt-ltb 0x7F tag (omega arith))
+    module _ (o : Bool) (oe : o ≡ opens tag) where
+      pub role-element : o ≡ true → Element tag ≡ roleOf depth own tag
+      unfolding roleOf
+      role-element q = rw (eq-eqb own depth (sym e ∙ h), sym oe ∙ q)
 
-    pub role-other : o ≡ false → tag < 0x80 → Other tag ≡ roleOf depth own tag
-    unfolding roleOf attribute
-    role-other q a = rw (eq-eqb own depth (sym e ∙ h), sym oe ∙ q, le-ltb 0x7F tag (omega arith))
+      pub role-other : o ≡ false → tag < 0x80 → Other tag ≡ roleOf depth own tag
+      unfolding roleOf attribute
+      role-other q a = rw (eq-eqb own depth (sym e ∙ h), sym oe ∙ q, le-ltb 0x7F tag (omega arith))
 
 -- a record's body as a part of the lent octets
 module _ (p tag i : ℕ) (starts sizes lent : List ℕ) (start size : ℕ) (a : start ≡ getD starts i 0) (b : size ≡ getD sizes i 0) where

@@ -196,7 +196,8 @@ fn emit_opening(
     }
 }
 
-// What record `i` is to the items of an element: none of them, an element that holds items, or any other item, by its tag.
+// What record `i` is to the items of an element: none of them, an attribute, an element that holds items, or any other item, by its tag.
+// An attribute holds no items, so its tag isn't looked up.
 fn role_at(tags: &[u8], depths: &[u8], i: usize, depth: usize) -> Role
     requires { ⌜ (i < length (now tags)) × (i < length (now depths)) ⌝ }
     ensures { λ r. ⌜ r ≡ roleOf depth (getD (now (depths .entry)) i 0) (getD (now (tags .entry)) i 0) ⌝ }
@@ -205,11 +206,11 @@ fn role_at(tags: &[u8], depths: &[u8], i: usize, depth: usize) -> Role
         return Role::Gone;
     }
     let tag = tags[i];
-    if holds_items(tag) {
-        return Role::Element(tag);
-    }
     if tag >= 0x80 {
         return Role::Attribute;
+    }
+    if holds_items(tag) {
+        return Role::Element(tag);
     }
     Role::Other(tag)
 }
