@@ -16,14 +16,16 @@ use Rattle.format.specs.Meaning.{opens, attributesIn, rising}
 use Rattle.format.specs.Writer.{below, past, bodyIn, here, ruled}
 use Rattle.format.specs.Calls.{Lists, row}
 use Rattle.format.proofs.Kept.{ruled-parts}
+use Rattle.writer.specs.declared.emit.Lowest.{Lowest}
 use Rattle.writer.specs.declared.emit.Role.{Role}
 use Rattle.writer.specs.declared.emit.Role.the-variants.{Gone, Element, Attribute, Other}
 use Rattle.writer.specs.declared.emit.Reached.{Reached}
 use Rattle.writer.specs.declared.size.Sized.{Sized}
 use Rattle.writer.specs.declared.size.Sized.the-variants.{Over, Size}
 use Rattle.writer.specs.Normal.{itemOctets, normalSize, attributeOctets, laterOctets}
-use Rattle.writer.specs.Steps.{itemsFrom, Holding, sizedFrom, roleOf, bodyAt, BodyAt, Lays, Fitting, Ordered, oneAttribute, elementOctets, openingOctets, Emits}
-use Rattle.writer.proofs.Rising.{rising-seven}
+use Rattle.writer.specs.Steps.{fourOf, itemsFrom, Holding, sizedFrom, roleOf, bodyAt, BodyAt, Lays, Fitting, Ordered, Stands, FindsLowest, elementOctets, openingOctets, Emits}
+use Rattle.writer.proofs.Rising.{rising-seven, rising-skip}
+use Rattle.writer.proofs.Finding.{found-octets, none-between, found-body}
 use Rattle.writer.proofs.Sizes.{high-attribute, opens-attribute, opens-no-attribute}
 use Rattle.writer.proofs.Order.{size-laid}
 use Rattle.writer.proofs.Lays.{lays-none, lays-append, lays-length, fitting-left, fitting-right}
@@ -65,54 +67,83 @@ module _ (p tag i : ℕ) (starts sizes lent : List ℕ) (start size : ℕ) (a : 
       → Lays (itemOctets p tag (bodyAt i starts sizes lent)) to before after stop
   body-laid to before after stop h = rw same-body at h
 
--- attributes by rising tag, the loop's invariant: those of as many tags as there were turns are written, the others are left
-pub record Risen (p : ℕ) (t : Items) (to : ℕ) (before room : List ℕ) (stop turn : ℕ) : Type 0 where
-  pub most : turn ≤ 7
-  pub done : List ℕ
-  pub lays : Lays done to before room stop
-  pub left : attributeOctets p t ≡ done ++ rising (7 - turn) (0x80 + turn) (attributesIn [] p t)
+-- attributes by rising tag
+module _ (p n : ℕ) (tags depths starts sizes lent : List ℕ) (at depth : ℕ) where
+  abbrev inside : Items
+  inside = itemsFrom (fourOf tags depths starts sizes) n lent depth at .0
 
-pub risen-start : (p : ℕ) (t : Items) (to : ℕ) (room : List ℕ) → Risen p t to room room to 0
-risen-start p t to room = record { most = omega arith; done = []; lays = lays-none to room; left = rising-seven p t }
+  -- the loop's invariant: the attributes before the next one are written, the others are left
+  pub record Risen (to : ℕ) (before room : List ℕ) (stop : ℕ) (a : Lowest) : Type 0 where
+    pub high : 0x80 ≤ a .tag
+    pub stands : Stands n tags depths at depth a
+    pub done : List ℕ
+    pub lays : Lays done to before room stop
+    pub left : attributeOctets p inside ≡ done ++ rising (0x87 - a .tag) (a .tag) (attributesIn [] p inside)
 
-module _ (p : ℕ) (t : Items) (to : ℕ) (before room : List ℕ) (stop turn : ℕ) (inv : Risen p t to before room stop turn) where
-  pub risen-length : length room ≡ length before
-  risen-length = lays-length (inv .done) to before room stop (inv .lays)
+  -- up to the next attribute from a tag on there is none
+  skipped : Ordered p inside → (least : ℕ) (a : Lowest) → 0x80 ≤ least → FindsLowest n tags depths at depth least a
+      → rising (0x87 - least) least (attributesIn [] p inside) ≡ rising (0x87 - a .tag) (a .tag) (attributesIn [] p inside)
+  skipped o least a h f =
+      rising-skip least (a .tag) (attributesIn [] p inside) (f .from) (f .stands .most) (none-between p n tags depths starts sizes lent at depth o a least h f)
 
-  pub risen-end : 7 ≤ turn → Lays (attributeOctets p t) to before room stop
-  unfolding rising
-  risen-end h =
-      let z : 7 - turn ≡ 0 = omega arith in
-      let e : attributeOctets p t ≡ inv .done = inv .left ∙ (ap (λ n. inv .done ++ rising n (0x80 + turn) (attributesIn [] p t)) z ∙ append-nil (inv .done)) in
-      rw e (inv .lays)
+  pub risen-start : Ordered p inside → (to : ℕ) (room : List ℕ) (a : Lowest) → FindsLowest n tags depths at depth 0x80 a → Risen to room room to a
+  risen-start o to room a f = record {
+    high = f .from;
+    stands = f .stands;
+    done = [];
+    lays = lays-none to room;
+    left = rising-seven p inside ∙ skipped o 0x80 a (omega arith) f;
+  }
 
-  module _ (lt : turn < 7) (tag : ℕ) (e : tag ≡ 0x80 + turn) where
-    pub risen-attribute : attribute tag ≡ true
-    risen-attribute = high-attribute tag (omega arith)
+  module _ (to : ℕ) (before room : List ℕ) (stop : ℕ) (a : Lowest) (inv : Risen to before room stop a) where
+    pub risen-length : length room ≡ length before
+    risen-length = lays-length (inv .done) to before room stop (inv .lays)
 
-    rest : List ℕ
-    rest = rising (7 - (turn + 1)) (0x80 + (turn + 1)) (attributesIn [] p t)
+    pub risen-end : 0x87 ≤ a .tag → Lays (attributeOctets p inside) to before room stop
+    unfolding rising
+    risen-end h =
+        let z : 0x87 - a .tag ≡ 0 = omega arith in
+        let e : attributeOctets p inside ≡ inv .done = inv .left ∙ (ap (λ n. inv .done ++ rising n (a .tag) (attributesIn [] p inside)) z ∙ append-nil (inv .done)) in
+        rw e (inv .lays)
 
-    step : attributeOctets p t ≡ inv .done ++ (oneAttribute p t tag ++ rest)
-    unfolding rising oneAttribute rest
-    step =
-        let z : 7 - turn ≡ suc (7 - (turn + 1)) = omega arith in
-        let w : suc (0x80 + turn) ≡ 0x80 + (turn + 1) = omega arith in
-        inv .left ∙ (ap (λ n. inv .done ++ rising n (0x80 + turn) (attributesIn [] p t)) z ∙ rw (w, ← e))
+    pub risen-less : a .tag < 0x87 → (b : Lowest) → FindsLowest n tags depths at depth (a .tag + 1) b → 0x87 - b .tag < 0x87 - a .tag
+    risen-less lt b f = omega (arith, f .from)
 
-    pub risen-fits : Fitting (attributeOctets p t) to (length before) → Fitting (oneAttribute p t tag) stop (length room)
-    risen-fits f =
-        let all : Fitting (inv .done ++ (oneAttribute p t tag ++ rest)) to (length before) = rw step at f in
-        fitting-left (oneAttribute p t tag) rest stop (length room) (fitting-right (inv .done) (oneAttribute p t tag ++ rest) to before room stop all (inv .lays))
+    module _ (o : Ordered p inside) (lt : a .tag < 0x87) where
+      abbrev one : List ℕ
+      one = itemOctets p (a .tag) (bodyAt (a .place) starts sizes lent)
 
-    pub risen-next : (after : List ℕ) (next : ℕ) → Lays (oneAttribute p t tag) stop room after next → Risen p t to before after next (turn + 1)
-    unfolding rest
-    risen-next after next h = record {
-      most = omega arith;
-      done = inv .done ++ oneAttribute p t tag;
-      lays = lays-append (inv .done) (oneAttribute p t tag) to before room stop after next (inv .lays) h;
-      left = step ∙ sym (append-assoc (inv .done) (oneAttribute p t tag) rest);
-    }
+      abbrev rest : List ℕ
+      rest = rising (0x87 - (a .tag + 1)) (a .tag + 1) (attributesIn [] p inside)
+
+      step : attributeOctets p inside ≡ inv .done ++ (one ++ rest)
+      unfolding rising
+      step =
+          let z : 0x87 - a .tag ≡ suc (0x87 - (a .tag + 1)) = omega arith in
+          let w : suc (a .tag) ≡ a .tag + 1 = omega arith in
+          inv .left
+          ∙ (ap (λ n. inv .done ++ rising n (a .tag) (attributesIn [] p inside)) z
+          ∙ rw (w, found-octets p n tags depths starts sizes lent at depth o a (inv .stands) (inv .high) lt))
+
+      pub risen-fits : Holding n (fourOf tags depths starts sizes) lent → Fitting (attributeOctets p inside) to (length before)
+          → BodyAt (a .place) starts sizes lent × Fitting one stop (length room)
+      risen-fits h f =
+          let all : Fitting (inv .done ++ (one ++ rest)) to (length before) = rw step at f in (
+            found-body n tags depths starts sizes lent at depth h a (inv .stands) lt,
+            fitting-left one rest stop (length room) (fitting-right (inv .done) (one ++ rest) to before room stop all (inv .lays)),
+          )
+
+      pub risen-next : (after : List ℕ) (next : ℕ) → Lays one stop room after next → (b : Lowest) → FindsLowest n tags depths at depth (a .tag + 1) b → Risen to before after next b
+      risen-next after next h b f = record {
+        high = let g = f .from in let i = inv .high in omega arith;
+        stands = f .stands;
+        done = inv .done ++ one;
+        lays = lays-append (inv .done) one to before room stop after next (inv .lays) h;
+        left =
+            step
+            ∙ (ap (λ x. inv .done ++ (one ++ x)) (skipped o (a .tag + 1) b (let i = inv .high in omega arith) f)
+            ∙ sym (append-assoc (inv .done) one (rising (0x87 - b .tag) (b .tag) (attributesIn [] p inside))));
+      }
 
 -- an element up to its first child
 module _ (tag : ℕ) (t : Items) (o : Ordered tag t) (to : ℕ) (room : List ℕ) (f : Fitting (elementOctets tag t) to (length room)) where

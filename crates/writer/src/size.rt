@@ -3,7 +3,7 @@
 // Cost: each record is looked at once.
 ghost use mathlib.Core.Path.{_≡_};
 ghost use Prim.Native.Nat.{_+_, _≤_, _<_};
-ghost use lib.ListN.{length, getD};
+ghost use lib.ListN.{length};
 ghost use Rattle.format.specs.Calls.{row};
 ghost use Rattle.writer.specs.Steps.{four, Holding, partOf, partAt, sizedFrom};
 use crate::item::Form;
