@@ -91,8 +91,7 @@ pub record Reached (parent base : ℕ) (part : List ℕ) (run at : ℕ) (T : Ent
   pub there : Waits parent base part run at later
   pub same : late T ws ≡ late T later
 
-pub record Scans (due : Bool) (part : List ℕ) (run parent base : ℕ) (table : List ℕ) (at : ℕ) : Type 0 where
-  pub isDue : due ≡ true
+pub record Scans (part : List ℕ) (run parent base : ℕ) (table : List ℕ) (at : ℕ) : Type 0 where
   pub within : at ≤ length part
   pub reached : (ws : List (ℕ × List ℕ)) → Waits parent base part run 0 ws → Reached parent base part run at (entries table) ws
 
@@ -104,20 +103,28 @@ tag-at part at = sym (getD-drop at part 0 0 ∙ ap (λ (x : ℕ). getD part x 0)
 pub body-at : (part : List ℕ) (at start size : ℕ) → take (at + start + size - (at + start)) (drop (at + start) part) ≡ take size (drop start (drop at part))
 body-at part at start size = rw add-sub-cancel-left (simp drop-drop)
 
+-- the rule is due or isn't
 module _ (due : Bool) (part : List ℕ) (run parent base : ℕ) (table : List ℕ) where
   pub late-undue : due ≡ false → LateSays due part run parent base table Kept
   unfolding LateSays WaitsWhen late checked
   late-undue e = rw e (λ ws h. rw h)
 
-  pub late-start : due ≡ true → Scans due part run parent base table 0
-  late-start e = record { isDue = e; within = omega arith; reached = λ ws h. record { later = ws; there = h; same = refl } }
+  pub late-due : due ≡ true → (r : Check) → LateSays true part run parent base table r → LateSays due part run parent base table r
+  late-due e r h = rw e h
 
-  module _ (at : ℕ) (inv : Scans due part run parent base table at) where
-    concluded : (r : Check) → ((ws : List (ℕ × List ℕ)) → Reached parent base part run at (entries table) ws → late (entries table) ws ≡ checked r) → LateSays due part run parent base table r
+pub ruleset due-ways = (late-undue, late-due)
+
+-- the scan
+module _ (part : List ℕ) (run parent base : ℕ) (table : List ℕ) where
+  pub late-start : Scans part run parent base table 0
+  late-start = record { within = omega arith; reached = λ ws h. record { later = ws; there = h; same = refl } }
+
+  module _ (at : ℕ) (inv : Scans part run parent base table at) where
+    concluded : (r : Check) → ((ws : List (ℕ × List ℕ)) → Reached parent base part run at (entries table) ws → late (entries table) ws ≡ checked r) → LateSays true part run parent base table r
     unfolding LateSays WaitsWhen
-    concluded r f = rw (inv .isDue) (λ ws h. f ws (inv .reached ws h))
+    concluded r f ws h = f ws (inv .reached ws h)
 
-    pub late-end : run ≤ at → LateSays due part run parent base table Kept
+    pub late-end : run ≤ at → LateSays true part run parent base table Kept
     unfolding late checked
     late-end h = concluded Kept (λ ws q. q .same ∙ ap (late (entries table)) (at-stop parent base part run at (q .later) (q .there) h))
 
@@ -125,7 +132,7 @@ module _ (due : Bool) (part : List ℕ) (run parent base : ℕ) (table : List �
       here : r ≡ headerOf (drop at part)
       here = rw (← part-to-end part at) e
 
-      pub late-past : r ≡ Past → LateSays due part run parent base table Kept
+      pub late-past : r ≡ Past → LateSays true part run parent base table Kept
       late-past f = concluded Kept (λ ws q. absurd (omega (arith, in-front parent base part run at (q .later) (q .there) h, header-past (drop at part) r here f)))
 
       module _ (start size : ℕ) (f : r ≡ Found start size) where
@@ -138,7 +145,7 @@ module _ (due : Bool) (part : List ℕ) (run parent base : ℕ) (table : List �
         pub late-head : start ≤ length part - at
         late-head = let g : Framed (drop at part) start size = fr in omega (arith, length-drop at part)
 
-        pub late-short : length part - at - start < size → LateSays due part run parent base table Kept
+        pub late-short : length part - at - start < size → LateSays true part run parent base table Kept
         late-short l = concluded Kept (λ ws q. let n : Next parent base part run at (q .later) start size = nx (q .later) (q .there) in absurd (omega arith))
 
         module _ (l : size ≤ length part - at - start) where
@@ -165,14 +172,13 @@ module _ (due : Bool) (part : List ℕ) (run parent base : ℕ) (table : List �
                 ∙ late-waits (entries table) (known parent (getD (drop at part) 0 0)) (base + at) (take size (drop start (drop at part))) (nx (q .later) (q .there) .later)
                 ∙ ap (λ (x : Bool). first (rule 12 (base + at) x ∷ late (entries table) (nx (q .later) (q .there) .later) ∷ [])) tested
 
-            pub late-found : b ≡ false → LateSays due part run parent base table (Broken (refusal 12 (base + at)))
+            pub late-found : b ≡ false → LateSays true part run parent base table (Broken (refusal 12 (base + at)))
             unfolding first rule checked
             late-found i = concluded (Broken (refusal 12 (base + at))) (λ ws q. stepped ws q ∙ rw i)
 
-            pub late-next : b ≡ true → Scans due part run parent base table (at + start + size)
+            pub late-next : b ≡ true → Scans part run parent base table (at + start + size)
             unfolding first rule
             late-next i = record {
-              isDue = inv .isDue;
               within = late-in;
               reached = λ ws w. let q : Reached parent base part run at (entries table) ws = inv .reached ws w in
                   record {
@@ -182,4 +188,4 @@ module _ (due : Bool) (part : List ℕ) (run parent base : ℕ) (table : List �
                   };
             }
 
-pub ruleset late-ways = (late-undue, late-start, late-end, late-past, late-head, late-short, late-from, late-to, late-in, late-less, late-found, late-next)
+pub ruleset late-ways = (late-start, late-end, late-past, late-head, late-short, late-from, late-to, late-in, late-less, late-found, late-next)

@@ -1,7 +1,7 @@
 // The late rule 12, for the texts of the top's own attributes. Nothing is kept for it: while it waits, these attributes are all that was read
 // of the top, so they are found again from its start on.
 ghost use mathlib.Core.Path.{_≡_};
-ghost use mathlib.Core.Bool.{not, _||_};
+ghost use mathlib.Core.Bool.{true, not, _||_};
 ghost use Prim.Native.Nat.{_+_, _≤_};
 ghost use lib.ListN.{length};
 ghost use Rattle.text.specs.Tokens.{entries, covered};
@@ -39,22 +39,12 @@ fn is_settled(parent: u8, tag: u8, table: &[u8], body: &[u8]) -> bool
     true
 }
 
-// Where the rule is due: the attributes of a part up to `run`, held against a table. The part begins at the place `base`. Headers that
-// don't lie in the part aren't met there, since these attributes were judged before.
-pub fn judge_late(
-    due: bool,
-    part: &[u8],
-    run: usize,
-    parent: u8,
-    base: usize,
-    table: &[u8],
-) -> Check
+// The attributes of a part up to `run`, held against a table. The part begins at the place `base`. Headers that don't lie in the part
+// aren't met there, since these attributes were judged before.
+fn hold_attributes(part: &[u8], run: usize, parent: u8, base: usize, table: &[u8]) -> Check
     requires { ⌜ (base + length (now part) ≤ 32_768) × (run ≤ length (now part)) ⌝ }
-    ensures { λ r. ⌜ LateSays due (now (part .entry)) run parent base (now (table .entry)) r ⌝ }
+    ensures { λ r. ⌜ LateSays true (now (part .entry)) run parent base (now (table .entry)) r ⌝ }
 {
-    if !due {
-        return Check::Kept;
-    }
     let mut at: usize = 0;
     while at < run {
         match read_header(&part[at..]) {
@@ -77,6 +67,24 @@ pub fn judge_late(
                 }
             }
         }
+    }
+    Check::Kept
+}
+
+// The rule where it is due. It seldom is: this stands apart from the scan so that it is small enough to be inlined.
+pub fn judge_late(
+    due: bool,
+    part: &[u8],
+    run: usize,
+    parent: u8,
+    base: usize,
+    table: &[u8],
+) -> Check
+    requires { ⌜ (base + length (now part) ≤ 32_768) × (run ≤ length (now part)) ⌝ }
+    ensures { λ r. ⌜ LateSays due (now (part .entry)) run parent base (now (table .entry)) r ⌝ }
+{
+    if due {
+        return hold_attributes(part, run, parent, base, table);
     }
     Check::Kept
 }

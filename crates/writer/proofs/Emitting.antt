@@ -7,7 +7,7 @@ use native.Mathlib.Omega.{arith}
 use native.Mathlib.Nat.{add-sub-cancel-left}
 use lib.Dec.{eqb}
 use lib.ListN.{length, take, drop, getD, length-append}
-use borrow.Author.Tests.{lt-ltb, le-ltb, eq-eqb, ne-eqb}
+use borrow.Author.Tests.{le-ltb, eq-eqb, ne-eqb}
 use Rattle.octets.specs.Header.{framed}
 use Rattle.values.specs.Table.{attribute}
 use Rattle.format.specs.Tree.{Items}
@@ -16,13 +16,15 @@ use Rattle.format.specs.Meaning.{opens, attributesIn, rising}
 use Rattle.format.specs.Writer.{below, past, bodyIn, here, ruled}
 use Rattle.format.specs.Calls.{Lists, row}
 use Rattle.format.proofs.Kept.{ruled-parts}
+use Rattle.writer.specs.declared.emit.Lowest.{Lowest}
 use Rattle.writer.specs.declared.emit.Role.{Role}
 use Rattle.writer.specs.declared.emit.Role.the-variants.{Gone, Element, Attribute, Other}
 use Rattle.writer.specs.declared.emit.Reached.{Reached}
 use Rattle.writer.specs.Normal.{itemOctets, attributeOctets, laterOctets}
-use Rattle.writer.specs.Steps.{itemsFrom, Holding, roleOf, bodyAt, BodyAt, Lays, Fitting, Ordered, oneAttribute, elementOctets, between, Framable, Emits}
-use Rattle.writer.proofs.Rising.{rising-seven}
-use Rattle.writer.proofs.Sizes.{high-attribute, opens-no-attribute}
+use Rattle.writer.specs.Steps.{fourOf, itemsFrom, Holding, roleOf, bodyAt, BodyAt, Lays, Fitting, Ordered, Stands, FindsLowest, elementOctets, between, Framable, Emits}
+use Rattle.writer.proofs.Rising.{rising-seven, rising-skip}
+use Rattle.writer.proofs.Finding.{found-octets, none-between, found-body}
+use Rattle.writer.proofs.Sizes.{high-attribute, opens-attribute, opens-no-attribute}
 use Rattle.writer.proofs.Lays.{lays-none, lays-append, lays-length, fitting-left, fitting-right}
 use Rattle.writer.proofs.Framing.{first-fits, second-fits, framable, framed-laid}
 use Rattle.writer.proofs.Rows.{here-end, here-not, here-is, from-stop, from-single, from-nested, from-ahead, from-within}
@@ -33,18 +35,21 @@ module _ (depth own tag d : ℕ) (e : d ≡ own) where
   unfolding roleOf
   role-gone h = rw (ne-eqb own depth (λ q. h (e ∙ q)))
 
-  module _ (h : d ≡ depth) (o : Bool) (oe : o ≡ opens tag) where
-    pub role-element : o ≡ true → Element tag ≡ roleOf depth own tag
+  module _ (h : d ≡ depth) where
+    pub role-attribute : 0x80 ≤ tag → Attribute ≡ roleOf depth own tag
     unfolding roleOf
-    role-element q = rw (eq-eqb own depth (sym e ∙ h), sym oe ∙ q)
+    role-attribute a =
+        let q : attribute tag ≡ true = high-attribute tag a in
+        rw (eq-eqb own depth (sym e ∙ h), opens-attribute tag q, q)
 
-    pub role-attribute : o ≡ false → 0x80 ≤ tag → Attribute ≡ roleOf depth own tag
-    unfolding roleOf attribute
-    role-attribute q a = rw (eq-eqb own depth (sym e ∙ h), sym oe ∙ q, lt-ltb 0x7F tag (omega arith))
+    module _ (o : Bool) (oe : o ≡ opens tag) where
+      pub role-element : o ≡ true → Element tag ≡ roleOf depth own tag
+      unfolding roleOf
+      role-element q = rw (eq-eqb own depth (sym e ∙ h), sym oe ∙ q)
 
-    pub role-other : o ≡ false → tag < 0x80 → Other tag ≡ roleOf depth own tag
-    unfolding roleOf attribute
-    role-other q a = rw (eq-eqb own depth (sym e ∙ h), sym oe ∙ q, le-ltb 0x7F tag (omega arith))
+      pub role-other : o ≡ false → tag < 0x80 → Other tag ≡ roleOf depth own tag
+      unfolding roleOf attribute
+      role-other q a = rw (eq-eqb own depth (sym e ∙ h), sym oe ∙ q, le-ltb 0x7F tag (omega arith))
 
 -- a record's body as a part of the lent octets
 module _ (p tag i : ℕ) (starts sizes lent : List ℕ) (start size : ℕ) (a : start ≡ getD starts i 0) (b : size ≡ getD sizes i 0) where
@@ -59,54 +64,83 @@ module _ (p tag i : ℕ) (starts sizes lent : List ℕ) (start size : ℕ) (a : 
       → Lays (itemOctets p tag (bodyAt i starts sizes lent)) to before after stop
   body-laid to before after stop h = rw same-body at h
 
--- attributes by rising tag, the loop's invariant: those of as many tags as there were turns are written, the others are left
-pub record Risen (p : ℕ) (t : Items) (to : ℕ) (before room : List ℕ) (stop turn : ℕ) : Type 0 where
-  pub most : turn ≤ 7
-  pub done : List ℕ
-  pub lays : Lays done to before room stop
-  pub left : attributeOctets p t ≡ done ++ rising (7 - turn) (0x80 + turn) (attributesIn [] p t)
+-- attributes by rising tag
+module _ (p n : ℕ) (tags depths starts sizes lent : List ℕ) (at depth : ℕ) where
+  abbrev inside : Items
+  inside = itemsFrom (fourOf tags depths starts sizes) n lent depth at .0
 
-pub risen-start : (p : ℕ) (t : Items) (to : ℕ) (room : List ℕ) → Risen p t to room room to 0
-risen-start p t to room = record { most = omega arith; done = []; lays = lays-none to room; left = rising-seven p t }
+  -- the loop's invariant: the attributes before the next one are written, the others are left
+  pub record Risen (to : ℕ) (before room : List ℕ) (stop : ℕ) (a : Lowest) : Type 0 where
+    pub high : 0x80 ≤ a .tag
+    pub stands : Stands n tags depths at depth a
+    pub done : List ℕ
+    pub lays : Lays done to before room stop
+    pub left : attributeOctets p inside ≡ done ++ rising (0x87 - a .tag) (a .tag) (attributesIn [] p inside)
 
-module _ (p : ℕ) (t : Items) (to : ℕ) (before room : List ℕ) (stop turn : ℕ) (inv : Risen p t to before room stop turn) where
-  pub risen-length : length room ≡ length before
-  risen-length = lays-length (inv .done) to before room stop (inv .lays)
+  -- up to the next attribute from a tag on there is none
+  skipped : Ordered p inside → (least : ℕ) (a : Lowest) → 0x80 ≤ least → FindsLowest n tags depths at depth least a
+      → rising (0x87 - least) least (attributesIn [] p inside) ≡ rising (0x87 - a .tag) (a .tag) (attributesIn [] p inside)
+  skipped o least a h f =
+      rising-skip least (a .tag) (attributesIn [] p inside) (f .from) (f .stands .most) (none-between p n tags depths starts sizes lent at depth o a least h f)
 
-  pub risen-end : 7 ≤ turn → Lays (attributeOctets p t) to before room stop
-  unfolding rising
-  risen-end h =
-      let z : 7 - turn ≡ 0 = omega arith in
-      let e : attributeOctets p t ≡ inv .done = inv .left ∙ (ap (λ n. inv .done ++ rising n (0x80 + turn) (attributesIn [] p t)) z ∙ append-nil (inv .done)) in
-      rw e (inv .lays)
+  pub risen-start : Ordered p inside → (to : ℕ) (room : List ℕ) (a : Lowest) → FindsLowest n tags depths at depth 0x80 a → Risen to room room to a
+  risen-start o to room a f = record {
+    high = f .from;
+    stands = f .stands;
+    done = [];
+    lays = lays-none to room;
+    left = rising-seven p inside ∙ skipped o 0x80 a (omega arith) f;
+  }
 
-  module _ (lt : turn < 7) (tag : ℕ) (e : tag ≡ 0x80 + turn) where
-    pub risen-attribute : attribute tag ≡ true
-    risen-attribute = high-attribute tag (omega arith)
+  module _ (to : ℕ) (before room : List ℕ) (stop : ℕ) (a : Lowest) (inv : Risen to before room stop a) where
+    pub risen-length : length room ≡ length before
+    risen-length = lays-length (inv .done) to before room stop (inv .lays)
 
-    rest : List ℕ
-    rest = rising (7 - (turn + 1)) (0x80 + (turn + 1)) (attributesIn [] p t)
+    pub risen-end : 0x87 ≤ a .tag → Lays (attributeOctets p inside) to before room stop
+    unfolding rising
+    risen-end h =
+        let z : 0x87 - a .tag ≡ 0 = omega arith in
+        let e : attributeOctets p inside ≡ inv .done = inv .left ∙ (ap (λ n. inv .done ++ rising n (a .tag) (attributesIn [] p inside)) z ∙ append-nil (inv .done)) in
+        rw e (inv .lays)
 
-    step : attributeOctets p t ≡ inv .done ++ (oneAttribute p t tag ++ rest)
-    unfolding rising oneAttribute rest
-    step =
-        let z : 7 - turn ≡ suc (7 - (turn + 1)) = omega arith in
-        let w : suc (0x80 + turn) ≡ 0x80 + (turn + 1) = omega arith in
-        inv .left ∙ (ap (λ n. inv .done ++ rising n (0x80 + turn) (attributesIn [] p t)) z ∙ rw (w, ← e))
+    pub risen-less : a .tag < 0x87 → (b : Lowest) → FindsLowest n tags depths at depth (a .tag + 1) b → 0x87 - b .tag < 0x87 - a .tag
+    risen-less lt b f = omega (arith, f .from)
 
-    pub risen-fits : Fitting (attributeOctets p t) to (length before) → Fitting (oneAttribute p t tag) stop (length room)
-    risen-fits f =
-        let all : Fitting (inv .done ++ (oneAttribute p t tag ++ rest)) to (length before) = rw step at f in
-        fitting-left (oneAttribute p t tag) rest stop (length room) (fitting-right (inv .done) (oneAttribute p t tag ++ rest) to before room stop all (inv .lays))
+    module _ (o : Ordered p inside) (lt : a .tag < 0x87) where
+      abbrev one : List ℕ
+      one = itemOctets p (a .tag) (bodyAt (a .place) starts sizes lent)
 
-    pub risen-next : (after : List ℕ) (next : ℕ) → Lays (oneAttribute p t tag) stop room after next → Risen p t to before after next (turn + 1)
-    unfolding rest
-    risen-next after next h = record {
-      most = omega arith;
-      done = inv .done ++ oneAttribute p t tag;
-      lays = lays-append (inv .done) (oneAttribute p t tag) to before room stop after next (inv .lays) h;
-      left = step ∙ sym (append-assoc (inv .done) (oneAttribute p t tag) rest);
-    }
+      abbrev rest : List ℕ
+      rest = rising (0x87 - (a .tag + 1)) (a .tag + 1) (attributesIn [] p inside)
+
+      step : attributeOctets p inside ≡ inv .done ++ (one ++ rest)
+      unfolding rising
+      step =
+          let z : 0x87 - a .tag ≡ suc (0x87 - (a .tag + 1)) = omega arith in
+          let w : suc (a .tag) ≡ a .tag + 1 = omega arith in
+          inv .left
+          ∙ (ap (λ n. inv .done ++ rising n (a .tag) (attributesIn [] p inside)) z
+          ∙ rw (w, found-octets p n tags depths starts sizes lent at depth o a (inv .stands) (inv .high) lt))
+
+      pub risen-fits : Holding n (fourOf tags depths starts sizes) lent → Fitting (attributeOctets p inside) to (length before)
+          → BodyAt (a .place) starts sizes lent × Fitting one stop (length room)
+      risen-fits h f =
+          let all : Fitting (inv .done ++ (one ++ rest)) to (length before) = rw step at f in (
+            found-body n tags depths starts sizes lent at depth h a (inv .stands) lt,
+            fitting-left one rest stop (length room) (fitting-right (inv .done) (one ++ rest) to before room stop all (inv .lays)),
+          )
+
+      pub risen-next : (after : List ℕ) (next : ℕ) → Lays one stop room after next → (b : Lowest) → FindsLowest n tags depths at depth (a .tag + 1) b → Risen to before after next b
+      risen-next after next h b f = record {
+        high = let g = f .from in let i = inv .high in omega arith;
+        stands = f .stands;
+        done = inv .done ++ one;
+        lays = lays-append (inv .done) one to before room stop after next (inv .lays) h;
+        left =
+            step
+            ∙ (ap (λ x. inv .done ++ (one ++ x)) (skipped o (a .tag + 1) b (let i = inv .high in omega arith) f)
+            ∙ sym (append-assoc (inv .done) one (rising (0x87 - b .tag) (b .tag) (attributesIn [] p inside))));
+      }
 
 -- what a role says of the record
 unfoldable Tells : (depth own tag : ℕ) → Role → Type 0
@@ -262,25 +296,25 @@ module _ (l : Lists) (n : ℕ) (lent : List ℕ) (p depth at to : ℕ) (before r
       pub element-fits : Fitting (later l n lent p depth at) to (length before) → Fitting (elementOctets m (itemsFrom l n lent (depth + 1) (i + 1) .0)) stop (length room)
       element-fits f = own-fits (elementOctets m (itemsFrom l n lent (depth + 1) (i + 1) .0)) (itemsFrom l n lent (depth + 1) (i + 1) .1) element-first f
 
-      abbrev inside : Items
-      inside = itemsFrom l n lent (depth + 1) (i + 1) .0
+      abbrev held : Items
+      held = itemsFrom l n lent (depth + 1) (i + 1) .0
 
       -- its attributes and its other items are written behind two places, then its header
       module _ (f : Fitting (later l n lent p depth at) to (length before)) where
-        framed-fits : Fitting (framed m (attributeOctets m inside ++ laterOctets m inside)) stop (length room)
+        framed-fits : Fitting (framed m (attributeOctets m held ++ laterOctets m held)) stop (length room)
         unfolding elementOctets
         framed-fits = element-fits f
 
-        pub attributes-fit : Fitting (attributeOctets m inside) (stop + 2) (length room)
-        attributes-fit = first-fits m stop (attributeOctets m inside) (laterOctets m inside) room framed-fits
+        pub attributes-fit : Fitting (attributeOctets m held) (stop + 2) (length room)
+        attributes-fit = first-fits m stop (attributeOctets m held) (laterOctets m held) room framed-fits
 
-        module _ (mid : List ℕ) (from : ℕ) (h : Lays (attributeOctets m inside) (stop + 2) room mid from) where
-          pub inner-fits : Fitting (laterOctets m inside) from (length mid)
-          inner-fits = second-fits m stop (attributeOctets m inside) (laterOctets m inside) room framed-fits mid from h
+        module _ (mid : List ℕ) (from : ℕ) (h : Lays (attributeOctets m held) (stop + 2) room mid from) where
+          pub inner-fits : Fitting (laterOctets m held) from (length mid)
+          inner-fits = second-fits m stop (attributeOctets m held) (laterOctets m held) room framed-fits mid from h
 
           module _ (after : List ℕ) (r : Reached) (g : Emits (itemsFrom l n lent (depth + 1) (i + 1)) m from mid after r) where
             pub element-framable : Framable m stop (r .end) after
-            element-framable = framable m stop (attributeOctets m inside) (laterOctets m inside) room framed-fits mid from h after (r .end) (g .lays)
+            element-framable = framable m stop (attributeOctets m held) (laterOctets m held) room framed-fits mid from h after (r .end) (g .lays)
 
             pub element-less : n - r .next < n - i
             element-less = let e = g .next in omega (arith, from-ahead l n lent (depth + 1) (i + 1))
@@ -289,9 +323,9 @@ module _ (l : Lists) (n : ℕ) (lent : List ℕ) (p depth at to : ℕ) (before r
                 → Written l n lent p depth at to before last (r .next) next
             unfolding elementOctets
             element-next last next k =
-                let all : Lays (elementOctets m inside) stop room last next =
-                framed-laid m stop (attributeOctets m inside) (laterOctets m inside) room framed-fits mid from h after (r .end) (g .lays) last next k in
+                let all : Lays (elementOctets m held) stop room last next =
+                framed-laid m stop (attributeOctets m held) (laterOctets m held) room framed-fits mid from h after (r .end) (g .lays) last next k in
                 rw (g .next)
-                (own-next (elementOctets m inside) (itemsFrom l n lent (depth + 1) (i + 1) .1) element-first
-                (ordered-parts inside (itemsFrom l n lent depth (itemsFrom l n lent (depth + 1) (i + 1) .1) .0) (ap (λ y. y .0) nested) .1)
+                (own-next (elementOctets m held) (itemsFrom l n lent (depth + 1) (i + 1) .1) element-first
+                (ordered-parts held (itemsFrom l n lent depth (itemsFrom l n lent (depth + 1) (i + 1) .1) .0) (ap (λ y. y .0) nested) .1)
                 (ap (λ y. y .1) nested) (omega (arith, from-ahead l n lent (depth + 1) (i + 1))) (from-within l n lent (depth + 1) (i + 1) (omega arith)) last next all)

@@ -1,103 +1,142 @@
--- The search for an attribute over the records with which an element's items begin.
+-- The search for the attribute with the lowest tag from one on, over the records with which an element's items begin.
 use mathlib.Core.Path.{_≡_, refl, sym, ap, _∙_, subst}
-use mathlib.Core.Bool.{Bool, true, false, cond}
+use mathlib.Core.Bool.{Bool, true, false, cond, _&&_}
 use mathlib.Core.Option.{none, some, Option·some-injective, Option·none-ne-some}
 use mathlib.Core.List.{List, []}
 use Prim.Native.Nat.{ℕ, _+_, _≤_, _<_}
 use native.Mathlib.Omega.{arith}
-use lib.Dec.{eqb}
+use lib.Dec.{eqb, leb, ltb}
 use lib.ListN.{getD}
-use borrow.Author.Tests.{eqb-true, eq-eqb, ne-eqb, le-ltb}
+use borrow.Author.Tests.{eqb-true, eq-eqb, ne-eqb, lt-ltb, le-ltb, lt-leb, le-leb, ltb-true, ltb-false, leb-true, leb-false}
 use Rattle.octets.specs.Header.{framed}
 use Rattle.values.specs.Table.{known, attribute}
 use Rattle.values.specs.Values.{fits}
 use Rattle.format.specs.Tree.{Items, find}
 use Rattle.format.specs.Tree.Items.{end, item}
 use Rattle.format.specs.Judge.{isValue}
-use Rattle.format.specs.Meaning.{opens, valueIn, attributesIn, maybe}
+use Rattle.format.specs.Meaning.{valueIn, attributesIn, maybe}
 use Rattle.format.specs.Writer.{Spot, past, bodyIn, here, ruled}
 use Rattle.format.specs.Calls.{row}
 use Rattle.format.proofs.Kept.{Kept, keeps-parts, ruled-parts}
 use Rattle.format.proofs.Fine.{known-is}
-use Rattle.writer.specs.declared.emit.Found.{Found}
-use Rattle.writer.specs.declared.emit.Found.the-variants.{At, Nowhere}
+use Rattle.writer.specs.declared.emit.Lowest.{Lowest}
 use Rattle.writer.specs.Normal.{itemOctets}
-use Rattle.writer.specs.Steps.{fourOf, itemsFrom, Holding, bodyFound, Finds, Within, oneAttribute, bodyAt, BodyAt, Ordered, Lays, Fitting}
+use Rattle.writer.specs.Steps.{fourOf, itemsFrom, Holding, lowerOf, Stands, FindsLowest, bodyAt, BodyAt, Ordered}
 use Rattle.writer.proofs.Ways.{value-fits, item-known}
+use Rattle.writer.proofs.Rising.{oneAttribute}
 use Rattle.writer.proofs.Found.{none-behind}
 use Rattle.writer.proofs.Sizes.{opens-attribute, high-attribute}
-use Rattle.writer.proofs.Lays.{lays-none}
 use Rattle.writer.proofs.Rows.{here-end, here-not, here-is, from-stop, from-single, from-item}
 
-module _ (n : ℕ) (tags depths : List ℕ) (at depth tag : ℕ) where
+-- one record more
+module _ (a : Lowest) (least tag i : ℕ) where
+  pub lower-below : tag < least → a ≡ lowerOf a least tag i
+  unfolding lowerOf
+  lower-below h = rw (lt-leb least tag h)
+
+  pub lower-taken : least ≤ tag → tag < a .tag → record { tag = tag; place = i } ≡ lowerOf a least tag i
+  unfolding lowerOf
+  lower-taken h q = rw (le-leb least tag h, lt-ltb tag (a .tag) q)
+
+  pub lower-kept : least ≤ tag → a .tag ≤ tag → a ≡ lowerOf a least tag i
+  unfolding lowerOf
+  lower-kept h q = rw (le-leb least tag h, le-ltb tag (a .tag) q)
+
+module _ (n : ℕ) (tags depths : List ℕ) (at depth least : ℕ) where
   abbrev itemsAt : (starts sizes lent : List ℕ) → ℕ → Items
   itemsAt starts sizes lent i = itemsFrom (fourOf tags depths starts sizes) n lent depth i .0
 
-  -- the loop's invariant: the attribute is found from record i on as from the first, and the items from there keep the rules too
-  pub record Passed (i : ℕ) : Type 0 where
-    pub same : (starts sizes lent : List ℕ) (s : Spot) → ruled s (itemsAt starts sizes lent at) ≡ true → find tag (itemsAt starts sizes lent at) ≡ find tag (itemsAt starts sizes lent i)
+  -- the loop's invariant: attributes below the lowest so far are found from record i on as from the first, and the items from there keep the rules too
+  pub record Passed (a : Lowest) (i : ℕ) : Type 0 where
+    pub from : least ≤ a .tag
+    pub stands : Stands n tags depths at depth a
+    pub same : (t : ℕ) → least ≤ t → t < a .tag → (starts sizes lent : List ℕ) (s : Spot) → ruled s (itemsAt starts sizes lent at) ≡ true
+        → find t (itemsAt starts sizes lent at) ≡ find t (itemsAt starts sizes lent i)
     pub kept : (starts sizes lent : List ℕ) (s : Spot) → ruled s (itemsAt starts sizes lent at) ≡ true → (u : Spot) × (ruled u (itemsAt starts sizes lent i) ≡ true)
 
-  pub pass-start : Passed at
-  pass-start = record { same = λ a b o s h. refl; kept = λ a b o s h. (s, h) }
+  pub pass-start : least ≤ 0x87 → (place : ℕ) → Passed (record { tag = 0x87; place = place }) at
+  pass-start h place = record {
+    from = h;
+    stands = record { most = omega arith; within = λ q. absurd (omega arith); body = λ q. absurd (omega arith) };
+    same = λ t x y a b o s z. refl;
+    kept = λ a b o s z. (s, z);
+  }
 
-  module _ (i : ℕ) (inv : Passed i) where
-    stopped : ((starts sizes : List ℕ) → here (row (fourOf tags depths starts sizes)) n depth i ≡ false) → Finds n tags depths at depth tag Nowhere
-    unfolding find bodyFound
-    stopped e = record {
-      within = tt;
-      body = λ a b o s h. inv .same a b o s h ∙ ap (λ x. find tag (x .0)) (from-stop (fourOf tags depths a b) n o depth i (e a b));
-    }
+  module _ (a : Lowest) (i : ℕ) (inv : Passed a i) where
+    concluded : ((t : ℕ) → least ≤ t → (starts sizes lent : List ℕ) (s : Spot) → ruled s (itemsAt starts sizes lent at) ≡ true → find t (itemsAt starts sizes lent i) ≡ none)
+        → FindsLowest n tags depths at depth least a
+    concluded f = record { from = inv .from; stands = inv .stands; between = λ t x y b c o s z. inv .same t x y b c o s z ∙ f t x b c o s z }
 
-    pub pass-end : n ≤ i → Finds n tags depths at depth tag Nowhere
-    pass-end h = stopped (λ a b. here-end (fourOf tags depths a b) n [] depth i h)
+    stopped : ((starts sizes : List ℕ) → here (row (fourOf tags depths starts sizes)) n depth i ≡ false) → FindsLowest n tags depths at depth least a
+    unfolding find
+    stopped e = concluded (λ t x b c o s z. ap (λ y. find t (y .0)) (from-stop (fourOf tags depths b c) n o depth i (e b c)))
+
+    pub pass-end : n ≤ i → FindsLowest n tags depths at depth least a
+    pass-end h = stopped (λ b c. here-end (fourOf tags depths b c) n [] depth i h)
 
     module _ (lt : i < n) (d : ℕ) (de : d ≡ getD depths i 0) where
-      pub pass-gone : (d ≡ depth → ⊥) → Finds n tags depths at depth tag Nowhere
-      pass-gone h = stopped (λ a b. here-not (fourOf tags depths a b) n [] depth i (ne-eqb (getD depths i 0) depth (λ q. h (de ∙ q))))
+      pub pass-gone : (d ≡ depth → ⊥) → FindsLowest n tags depths at depth least a
+      pass-gone h = stopped (λ b c. here-not (fourOf tags depths b c) n [] depth i (ne-eqb (getD depths i 0) depth (λ q. h (de ∙ q))))
 
-      module _ (eq : d ≡ depth) (q : attribute tag ≡ true) where
+      module _ (eq : d ≡ depth) where
         at-here : (starts sizes : List ℕ) → here (row (fourOf tags depths starts sizes)) n depth i ≡ true
-        at-here a b = here-is (fourOf tags depths a b) n [] depth i lt (eq-eqb (getD depths i 0) depth (sym de ∙ eq))
+        at-here b c = here-is (fourOf tags depths b c) n [] depth i lt (eq-eqb (getD depths i 0) depth (sym de ∙ eq))
 
-        pub pass-found : getD tags i 0 ≡ tag → Finds n tags depths at depth tag (At i)
-        unfolding find bodyFound
-        pass-found z = record {
-          within = lt;
-          body = λ a b o s h.
-              let l = fourOf tags depths a b in
-              let f : opens (row l i .tag) ≡ false = ap opens z ∙ opens-attribute tag q in
-              inv .same a b o s h ∙ (ap (λ x. find tag (x .0)) (from-single l n o depth i (at-here a b) f) ∙ rw (eq-eqb tag (getD tags i 0) (sym z)));
-        }
+        pub pass-other : 0x80 ≤ least → getD tags i 0 < 0x80 → FindsLowest n tags depths at depth least a
+        unfolding attribute
+        pass-other g z =
+            concluded
+            (λ t h b c o s r.
+            let l = fourOf tags depths b c in
+            let x = from-item l n o depth i (at-here b c) in
+            let u = inv .kept b c o s r in
+            ap (find t) (x .2)
+            ∙ none-behind (u .0) t (row l i .tag) (row l i .start) (bodyIn o (row l i)) (x .0) (x .1) (high-attribute t (omega arith)) (le-ltb 0x7F (getD tags i 0) (omega arith)) (rw (x .2) at (u .1)))
 
-        pub pass-other : getD tags i 0 < 0x80 → Finds n tags depths at depth tag Nowhere
-        unfolding bodyFound attribute
-        pass-other z = record {
-          within = tt;
-          body = λ a b o s h.
-              let l = fourOf tags depths a b in
-              let x = from-item l n o depth i (at-here a b) in
-              let u = inv .kept a b o s h in
-              inv .same a b o s h
-              ∙ (ap (find tag) (x .2)
-              ∙ none-behind (u .0) tag (row l i .tag) (row l i .start) (bodyIn o (row l i)) (x .0) (x .1) q (le-ltb 0x7F (getD tags i 0) (omega arith)) (rw (x .2) at (u .1)));
-        }
+        module _ (high : 0x80 ≤ getD tags i 0) where
+          single : (b c o : List ℕ)
+              → itemsAt b c o i
+              ≡ item (row (fourOf tags depths b c) i .tag) (row (fourOf tags depths b c) i .start) (bodyIn o (row (fourOf tags depths b c) i)) end (itemsAt b c o (i + 1))
+          single b c o = ap (λ x. x .0) (from-single (fourOf tags depths b c) n o depth i (at-here b c) (opens-attribute (getD tags i 0) (high-attribute (getD tags i 0) high)))
 
-        pub pass-next : (getD tags i 0 ≡ tag → ⊥) → 0x80 ≤ getD tags i 0 → Passed (i + 1)
-        unfolding find past
-        pass-next ne z = record {
-          same = λ a b o s h. inv .same a b o s h ∙ (ap (find tag) (single a b o) ∙ rw (ne-eqb tag (getD tags i 0) (λ y. ne (sym y))));
-          kept = λ a b o s h.
-              let l = fourOf tags depths a b in
-              let u = inv .kept a b o s h in
-              let w : ruled (u .0) (item (row l i .tag) (row l i .start) (bodyIn o (row l i)) end (itemsAt a b o (i + 1))) ≡ true = rw (single a b o) at (u .1) in
-              (past (u .0) (row l i .tag), ruled-parts (u .0) (row l i .tag) (row l i .start) (bodyIn o (row l i)) end (itemsAt a b o (i + 1)) w .beside);
-        }
-          where
-            single : (a b o : List ℕ)
-                → itemsAt a b o i
-                ≡ item (row (fourOf tags depths a b) i .tag) (row (fourOf tags depths a b) i .start) (bodyIn o (row (fourOf tags depths a b) i)) end (itemsAt a b o (i + 1))
-            single a b o = ap (λ x. x .0) (from-single (fourOf tags depths a b) n o depth i (at-here a b) (opens-attribute (getD tags i 0) (high-attribute (getD tags i 0) z)))
+          other-same : (t : ℕ) → (t ≡ getD tags i 0 → ⊥) → (b c o : List ℕ) → find t (itemsAt b c o i) ≡ find t (itemsAt b c o (i + 1))
+          unfolding find
+          other-same t ne b c o = ap (find t) (single b c o) ∙ rw (ne-eqb t (getD tags i 0) ne)
+
+          kept-on : (b c o : List ℕ) (s : Spot) → ruled s (itemsAt b c o at) ≡ true → (u : Spot) × (ruled u (itemsAt b c o (i + 1)) ≡ true)
+          kept-on b c o s h =
+              let l = fourOf tags depths b c in
+              let u = inv .kept b c o s h in
+              let w : ruled (u .0) (item (row l i .tag) (row l i .start) (bodyIn o (row l i)) end (itemsAt b c o (i + 1))) ≡ true = rw (single b c o) at (u .1) in
+              (past (u .0) (row l i .tag), ruled-parts (u .0) (row l i .tag) (row l i .start) (bodyIn o (row l i)) end (itemsAt b c o (i + 1)) w .beside)
+
+          on : (x : Lowest) → least ≤ x .tag → Stands n tags depths at depth x → x .tag ≤ a .tag → ((t : ℕ) → least ≤ t → t < x .tag → t ≡ getD tags i 0 → ⊥) → Passed x (i + 1)
+          on x f st le ne = record {
+            from = f;
+            stands = st;
+            same = λ t y z b c o s h. inv .same t y (omega arith) b c o s h ∙ other-same t (ne t y z) b c o;
+            kept = kept-on;
+          }
+
+          here-found : least ≤ getD tags i 0 → getD tags i 0 < a .tag → Stands n tags depths at depth (record { tag = getD tags i 0; place = i })
+          unfolding find
+          here-found g h = record {
+            most = let m = inv .stands .most in omega arith;
+            within = λ q. lt;
+            body = λ q b c o s r. inv .same (getD tags i 0) g h b c o s r ∙ (ap (find (getD tags i 0)) (single b c o) ∙ rw (eq-eqb (getD tags i 0) (getD tags i 0) refl));
+          }
+
+          pub pass-next : (x : Lowest) → x ≡ lowerOf a least (getD tags i 0) i → Passed x (i + 1)
+          unfolding lowerOf
+          pass-next x e = rw e (go (leb least (getD tags i 0)) (ltb (getD tags i 0) (a .tag)) refl refl)
+            where
+              go : (b c : Bool) → leb least (getD tags i 0) ≡ b → ltb (getD tags i 0) (a .tag) ≡ c → Passed (cond (b && c) (record { tag = getD tags i 0; place = i }) a) (i + 1)
+              go true true g h =
+                  let p = leb-true least (getD tags i 0) g in
+                  let q = ltb-true (getD tags i 0) (a .tag) h in
+                  on (record { tag = getD tags i 0; place = i }) p (here-found p q) (omega arith) (λ t y z w. omega arith)
+              go true false g h = let q = ltb-false (getD tags i 0) (a .tag) h in on a (inv .from) (inv .stands) (omega arith) (λ t y z w. omega arith)
+              go false c g h = let q = leb-false least (getD tags i 0) g in on a (inv .from) (inv .stands) (omega arith) (λ t y z w. omega arith)
 
 -- an item that is found in items that keep the rules keeps them by kind
 pub found-kept : (t : Items) (s : Spot) (tag : ℕ) (body : List ℕ) → ruled s t ≡ true → find tag t ≡ some body → (u : Spot) × Kept u tag body (known (s .parent) tag)
@@ -112,12 +151,12 @@ found-kept (item tag′ at body′ x y) s tag body h f =
     go true e g ih = rw (eqb-true tag tag′ e, ← Option·some-injective body′ body g) (s, keeps-parts s tag′ body′ (ruled-parts s tag′ at body′ x y h .rules))
 
 module _ (p : ℕ) (t : Items) (tag : ℕ) (a : attribute tag ≡ true) where
-  attribute-none : find tag t ≡ none → oneAttribute p t tag ≡ []
-  unfolding oneAttribute attributesIn valueIn maybe
+  attribute-none : find tag t ≡ none → attributesIn [] p t tag ≡ none
+  unfolding attributesIn valueIn
   attribute-none f = rw (a, f)
 
-  attribute-some : Ordered p t → (body : List ℕ) → find tag t ≡ some body → oneAttribute p t tag ≡ itemOctets p tag body
-  unfolding oneAttribute attributesIn valueIn maybe isValue
+  attribute-some : Ordered p t → (body : List ℕ) → find tag t ≡ some body → oneAttribute tag (attributesIn [] p t tag) ≡ itemOctets p tag body
+  unfolding attributesIn valueIn maybe isValue
   attribute-some o body f =
       let k = found-kept t (o .spot) tag body (o .rules) f in
       let kept : Kept (k .0) tag body (known p tag) = subst (λ q. Kept (k .0) tag body (known q tag)) (o .element) (k .1) in
@@ -125,29 +164,21 @@ module _ (p : ℕ) (t : Items) (tag : ℕ) (a : attribute tag ≡ true) where
       let fit : fits (kind .0) body ≡ true = rw (kind .1) at (kept .value) in
       rw (a, f, kind .1) (sym (item-known p tag body (kind .0) (kind .1) ∙ ap (framed tag) (value-fits (kind .0) body fit)))
 
--- the attribute of a tag, written or not
-module _ (p n : ℕ) (tags depths starts sizes lent : List ℕ) (at depth tag : ℕ) (a : attribute tag ≡ true) (h : Holding n (fourOf tags depths starts sizes) lent)
-    (o : Ordered p (itemsFrom (fourOf tags depths starts sizes) n lent depth at .0)) (r : Found) (f : Finds n tags depths at depth tag r) where
-  found-is : find tag (itemsFrom (fourOf tags depths starts sizes) n lent depth at .0) ≡ bodyFound (fourOf tags depths starts sizes) lent r
-  found-is = f .body starts sizes lent (o .spot) (o .rules)
+-- the attribute that was found, and that there is none before it
+module _ (p n : ℕ) (tags depths starts sizes lent : List ℕ) (at depth : ℕ) (o : Ordered p (itemsFrom (fourOf tags depths starts sizes) n lent depth at .0)) (a : Lowest) where
+  pub found-octets : Stands n tags depths at depth a → 0x80 ≤ a .tag → a .tag < 0x87
+      → oneAttribute (a .tag) (attributesIn [] p (itemsFrom (fourOf tags depths starts sizes) n lent depth at .0) (a .tag)) ≡ itemOctets p (a .tag) (bodyAt (a .place) starts sizes lent)
+  unfolding bodyIn bodyAt
+  found-octets f g h = attribute-some p _ (a .tag) (high-attribute (a .tag) g) o (bodyAt (a .place) starts sizes lent) (f .body h starts sizes lent (o .spot) (o .rules))
 
-  pub unfound-laid : r ≡ Nowhere → (to : ℕ) (room : List ℕ) → Lays (oneAttribute p (itemsFrom (fourOf tags depths starts sizes) n lent depth at .0) tag) to room room to
-  unfolding bodyFound
-  unfound-laid q to room = rw (attribute-none p _ tag a (found-is ∙ ap (bodyFound (fourOf tags depths starts sizes) lent) q)) (lays-none to room)
+  pub none-between : (least : ℕ) → 0x80 ≤ least → FindsLowest n tags depths at depth least a → (t : ℕ) → least ≤ t → t < a .tag
+      → attributesIn [] p (itemsFrom (fourOf tags depths starts sizes) n lent depth at .0) t ≡ none
+  none-between least g f t x y = attribute-none p _ t (high-attribute t (omega arith)) (f .between t x y starts sizes lent (o .spot) (o .rules))
 
-  module _ (i : ℕ) (q : r ≡ At i) where
-    octets-found : oneAttribute p (itemsFrom (fourOf tags depths starts sizes) n lent depth at .0) tag ≡ itemOctets p tag (bodyAt i starts sizes lent)
-    unfolding bodyFound bodyIn bodyAt
-    octets-found = attribute-some p _ tag a o (bodyAt i starts sizes lent) (found-is ∙ ap (bodyFound (fourOf tags depths starts sizes) lent) q)
-
-    pub found-fits : (to room : ℕ) → Fitting (oneAttribute p (itemsFrom (fourOf tags depths starts sizes) n lent depth at .0) tag) to room
-        → BodyAt i starts sizes lent × Fitting (itemOctets p tag (bodyAt i starts sizes lent)) to room
-    found-fits to room g =
-        let lt : i < n = subst (Within n) q (f .within) in
-        let x = h .starts in
-        let y = h .sizes in
-        (record { start = omega arith; size = omega arith; inside = h .bodies i lt }, rw octets-found at g)
-
-    pub found-laid : (to : ℕ) (before after : List ℕ) (stop : ℕ) → Lays (itemOctets p tag (bodyAt i starts sizes lent)) to before after stop
-        → Lays (oneAttribute p (itemsFrom (fourOf tags depths starts sizes) n lent depth at .0) tag) to before after stop
-    found-laid to before after stop g = rw octets-found g
+pub found-body : (n : ℕ) (tags depths starts sizes lent : List ℕ) (at depth : ℕ) → Holding n (fourOf tags depths starts sizes) lent → (a : Lowest) → Stands n tags depths at depth a → a .tag < 0x87
+    → BodyAt (a .place) starts sizes lent
+found-body n tags depths starts sizes lent at depth h a f g =
+    let lt = f .within g in
+    let x = h .starts in
+    let y = h .sizes in
+    record { start = omega arith; size = omega arith; inside = h .bodies (a .place) lt }

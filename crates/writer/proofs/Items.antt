@@ -31,7 +31,7 @@ use Rattle.writer.specs.declared.item.Form.{Form}
 use Rattle.writer.specs.declared.item.Form.the-variants.{Nothing, Value}
 use Rattle.writer.specs.Normal.{framedSize, valueOctets, itemOctets}
 use Rattle.writer.specs.Steps.{writtenOf, Lays, Fitting}
-use Rattle.writer.proofs.Ways.{framed-length, value-fits}
+use Rattle.writer.proofs.Ways.{framed-length, value-fits, item-known}
 use Rattle.writer.proofs.Lays.{lays-none, lays-append, fitting-left, fitting-right}
 
 -- an item is at most five octets longer than its body
@@ -138,25 +138,32 @@ module _ (k : Kind) (body : List ℕ) (to : ℕ) (before after : List ℕ) (answ
 module _ (p tag : ℕ) (body : List ℕ) where
   -- what is written of an item
   unfoldable Tells : Form → Type 0
-  Tells Nothing = itemOctets p tag body ≡ []
-  Tells (Value k n) = (itemOctets p tag body ≡ framed tag (valueOctets k body)) × (n ≡ length (valueOctets k body))
+  Tells Nothing = known p tag ≡ none
+  Tells (Value k n) = (known p tag ≡ some k) × (n ≡ length (valueOctets k body))
 
   tells : (r : Form) → r ≡ writtenOf (known p tag) body → Tells r
-  unfolding Tells writtenOf itemOctets maybe
+  unfolding Tells writtenOf
   tells r e = subst Tells (sym e) (go (known p tag) refl)
     where
       go : (o : Option Kind) → known p tag ≡ o → Tells (writtenOf o body)
-      go none q = rw q
-      go (some k) q = (rw q, refl)
+      go none q = q
+      go (some k) q = (q, refl)
 
   module _ (r : Form) (e : r ≡ writtenOf (known p tag) body) where
-    tells-nothing : r ≡ Nothing → itemOctets p tag body ≡ []
+    pub unwritten-kind : r ≡ Nothing → known p tag ≡ none
     unfolding Tells
-    tells-nothing q = subst Tells q (tells r e)
+    unwritten-kind q = subst Tells q (tells r e)
+
+    tells-nothing : r ≡ Nothing → itemOctets p tag body ≡ []
+    unfolding itemOctets maybe
+    tells-nothing q = rw (unwritten-kind q)
+
+    pub written-kind : (k : Kind) (n : ℕ) → r ≡ Value k n → (known p tag ≡ some k) × (n ≡ length (valueOctets k body))
+    unfolding Tells
+    written-kind k n q = subst Tells q (tells r e)
 
     tells-value : (k : Kind) (n : ℕ) → r ≡ Value k n → (itemOctets p tag body ≡ framed tag (valueOctets k body)) × (n ≡ length (valueOctets k body))
-    unfolding Tells
-    tells-value k n q = subst Tells q (tells r e)
+    tells-value k n q = let t = written-kind k n q in (item-known p tag body k (t .0), t .1)
 
     -- measured
     pub nothing-size : r ≡ Nothing → 0 ≡ length (itemOctets p tag body)

@@ -3,7 +3,7 @@ use mathlib.Core.Path.{_≡_, refl, sym, ap, ap₂, _∙_}
 use mathlib.Core.Bool.{Bool, true, false, cond}
 use mathlib.Core.Option.{Option, none, some}
 use mathlib.Core.List.{List, [], _++_, append-assoc, append-nil}
-use Prim.Native.Nat.{ℕ, zero, suc, _+_, _≤_, _<_}
+use Prim.Native.Nat.{ℕ, zero, suc, _+_, _-_, _≤_, _<_}
 use native.Mathlib.Omega.{arith}
 use lib.Dec.{eqb, leb}
 use lib.ListN.{length, length-append}
@@ -27,11 +27,11 @@ unfolding rising
 rising-same zero start f g h = refl
 rising-same (suc n) start f g h = ap₂ (λ x y. oneAttribute start x ++ y) (h start (omega arith)) (rising-same n (suc start) f g (λ t q. h t (omega arith)))
 
--- a set that has nothing from a tag on
-pub rising-none : (n start : ℕ) (f : ℕ → Option Value) → ((t : ℕ) → start ≤ t → f t ≡ none) → rising n start f ≡ []
+-- a set that has nothing at so many tags from one on
+pub rising-none : (n start : ℕ) (f : ℕ → Option Value) → ((t : ℕ) → start ≤ t → t < start + n → f t ≡ none) → rising n start f ≡ []
 unfolding rising maybe
 rising-none zero start f h = refl
-rising-none (suc n) start f h = rw (h start (omega arith)) (rising-none n (suc start) f (λ t q. h t (omega arith)))
+rising-none (suc n) start f h = rw (h start (omega arith) (omega arith)) (rising-none n (suc start) f (λ t q l. h t (omega arith) (omega arith)))
 
 -- one attribute more
 pub rising-more : (n start tag : ℕ) (f g : ℕ → Option Value) (v : Value) → f tag ≡ some v → g tag ≡ none → ((t : ℕ) → (t ≡ tag → ⊥) → f t ≡ g t) → start ≤ tag → tag < start + n
@@ -58,7 +58,7 @@ rising-more (suc n) start tag f g v p q h a b = go (eqb start tag) refl (λ c d.
         let r : length (oneAttribute start (f start)) ≡ length (oneAttribute start (g start)) = ap (λ x. length (oneAttribute start x)) (h start z) in
         omega arith
 
-pub rising-append : (m n start : ℕ) (f : ℕ → Option Value) → rising (m + n) start f ≡ rising m start f ++ rising n (start + m) f
+rising-append : (m n start : ℕ) (f : ℕ → Option Value) → rising (m + n) start f ≡ rising m start f ++ rising n (start + m) f
 unfolding rising
 rising-append zero n start f = let e : 0 + n ≡ n = omega arith in let g : start + 0 ≡ start = omega arith in rw (e, g)
 rising-append (suc m) n start f =
@@ -88,4 +88,11 @@ pub rising-seven : (p : ℕ) (t : Items) → attributeOctets p t ≡ rising 7 0x
 unfolding attributeOctets
 rising-seven p t =
     rising-append 7 121 0x80 (attributesIn [] p t)
-    ∙ (ap (λ x. rising 7 0x80 (attributesIn [] p t) ++ x) (rising-none 121 0x87 (attributesIn [] p t) (λ a h. past-known p t a h)) ∙ append-nil (rising 7 0x80 (attributesIn [] p t)))
+    ∙ (ap (λ x. rising 7 0x80 (attributesIn [] p t) ++ x) (rising-none 121 0x87 (attributesIn [] p t) (λ a h l. past-known p t a h)) ∙ append-nil (rising 7 0x80 (attributesIn [] p t)))
+
+-- up to an attribute, where there is none before it
+pub rising-skip : (start tag : ℕ) (f : ℕ → Option Value) → start ≤ tag → tag ≤ 0x87 → ((t : ℕ) → start ≤ t → t < tag → f t ≡ none) → rising (0x87 - start) start f ≡ rising (0x87 - tag) tag f
+rising-skip start tag f a b h =
+    let e : 0x87 - start ≡ tag - start + (0x87 - tag) = omega arith in
+    let g : start + (tag - start) ≡ tag = omega arith in
+    rw (e, rising-append (tag - start) (0x87 - tag) start f, g, rising-none (tag - start) start f (λ t x y. h t x (omega arith)))

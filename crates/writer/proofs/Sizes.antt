@@ -5,7 +5,7 @@ use mathlib.Core.Option.{Option, none, some, Option·map}
 use mathlib.Core.List.{List, [], _++_}
 use Prim.Native.Nat.{ℕ, _+_, _≤_}
 use native.Mathlib.Omega.{arith}
-use lib.ListN.{length}
+use lib.ListN.{length, length-append}
 use borrow.Author.Tests.{eq-eqb, ne-eqb, eqb-false, ltb-true, lt-ltb}
 use Rattle.octets.specs.Numbers.{among}
 use Rattle.octets.specs.Header.{framed}
@@ -67,7 +67,7 @@ cdata-same tag at body x y h = rw (ne-eqb 1 tag h)
 
 pub no-attributes : (p : ℕ) → attributeOctets p end ≡ []
 unfolding attributeOctets attributesIn find valueIn
-no-attributes p = rising-none 128 0x80 (attributesIn [] p end) (λ t q. cond-same (attribute t) none)
+no-attributes p = rising-none 128 0x80 (attributesIn [] p end) (λ t q l. cond-same (attribute t) none)
 
 -- the sizes of attributes, of child elements and of the CDATA
 abbrev attrs : ℕ → Items → ℕ
@@ -174,7 +174,7 @@ no-top-attribute t i = go (attribute t) (known 0 t) refl refl (find t i)
 
 pub top-alone : (t : Items) → ruled atTop t ≡ true → Alone t
 unfolding attributeOctets cdataIn find past atTop allowed isTop
-top-alone t h = record { attributes = rising-none 128 0x80 (attributesIn [] 0 t) (λ a q. no-top-attribute a t); cdata = ap (Option·map (expanded [])) (go t h) }
+top-alone t h = record { attributes = rising-none 128 0x80 (attributesIn [] 0 t) (λ a q l. no-top-attribute a t); cdata = ap (Option·map (expanded [])) (go t h) }
   where
     go : (t : Items) → ruled atTop t ≡ true → find 1 t ≡ none
     go end h = refl

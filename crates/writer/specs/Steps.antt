@@ -1,20 +1,19 @@
 -- What the parts of the writer answer, and what the room then holds: measuring and writing the items of an element from a record on.
 use mathlib.Core.Path.{_≡_}
-use mathlib.Core.Bool.{true, cond}
+use mathlib.Core.Bool.{true, cond, _&&_}
 use mathlib.Core.Option.{Option, none, some}
 use mathlib.Core.List.{List, [], _++_}
 use Prim.Native.Nat.{ℕ, suc, _+_, _-_, _≤_, _<_}
-use lib.Dec.{eqb, leb}
+use lib.Dec.{eqb, leb, ltb}
 use lib.ListN.{length, take, drop, getD}
 use lib.Seq.{sets}
 use denote.Ref.{RefT}
 use Rattle.octets.specs.Header.{framed}
 use Rattle.values.specs.declared.Kind.{Kind}
 use Rattle.values.specs.Table.{attribute}
-use Rattle.values.specs.Values.{octetsOf}
 use Rattle.format.specs.declared.Record.{Record}
 use Rattle.format.specs.Tree.{Items, find}
-use Rattle.format.specs.Meaning.{opens, attributesIn, maybe}
+use Rattle.format.specs.Meaning.{opens}
 use Rattle.format.specs.Writer.{Spot, bodyIn, tree, ruled}
 use Rattle.format.specs.Calls.{Lists, row}
 use Rattle.writer.specs.Normal.{valueOctets, itemOctets, normalSize, attributeOctets, laterOctets}
@@ -24,8 +23,7 @@ use Rattle.writer.specs.declared.size.Part.{Part}
 use Rattle.writer.specs.declared.size.Part.the-variants.{Past, Holds, Single}
 use Rattle.writer.specs.declared.size.Sized.{Sized}
 use Rattle.writer.specs.declared.size.Sized.the-variants.{Over, Size}
-use Rattle.writer.specs.declared.emit.Found.{Found}
-use Rattle.writer.specs.declared.emit.Found.the-variants as found
+use Rattle.writer.specs.declared.emit.Lowest.{Lowest}
 use Rattle.writer.specs.declared.emit.Reached.{Reached}
 use Rattle.writer.specs.declared.emit.Role.{Role}
 use Rattle.writer.specs.declared.emit.Role.the-variants.{Gone, Element, Attribute, Other}
@@ -84,11 +82,6 @@ pub record Fitting (octets : List ℕ) (to room : ℕ) : Type 0 where
   pub inRoom : to + length octets ≤ room
   pub inObject : to + length octets ≤ 32_768
 
--- the record that was found by its tag, as `find` tells its body
-unfoldable pub bodyFound : Lists → List ℕ → Found → Option (List ℕ)
-bodyFound l lent found.Nowhere = none
-bodyFound l lent (found.At i) = some (bodyIn lent (row l i))
-
 -- the body of record i among starts and sizes, and that it lies in the lent octets
 unfoldable pub bodyAt : ℕ → (starts sizes lent : List ℕ) → List ℕ
 bodyAt i starts sizes lent = take (getD sizes i 0) (drop (getD starts i 0) lent)
@@ -120,17 +113,20 @@ pub record Emits (t : Items × ℕ) (parent to : ℕ) (before after : List ℕ) 
   pub lays : Lays (laterOctets parent (t .0)) to before after (answer .end)
   pub next : answer .next ≡ t .1
 
--- a record that was found is one of n
-abbrev pub Within : ℕ → Found → Type 0
-Within n found.Nowhere = Unit {0}
-Within n (found.At i) = i < n
+-- the lowest attribute so far, or that of record i where its tag is lower, and none below the tag that was asked for
+unfoldable pub lowerOf : Lowest → (least tag i : ℕ) → Lowest
+lowerOf a least tag i = cond (leb least tag && ltb tag (a .tag)) (record { tag = tag; place = i }) a
 
--- the attribute of a tag is found where the items of the element have it, whatever their bodies are, as long as they keep the rules
-pub record Finds (n : ℕ) (tags depths : List ℕ) (at depth tag : ℕ) (answer : Found) : Type 0 where
-  pub within : Within n answer
-  pub body : (starts sizes lent : List ℕ) (s : Spot) → ruled s (itemsFrom (fourOf tags depths starts sizes) n lent depth at .0) ≡ true
-      → find tag (itemsFrom (fourOf tags depths starts sizes) n lent depth at .0) ≡ bodyFound (fourOf tags depths starts sizes) lent answer
+-- the items of an element have an attribute's tag, below 0x87, at its record, whatever their bodies are, as long as they keep the rules
+pub record Stands (n : ℕ) (tags depths : List ℕ) (at depth : ℕ) (a : Lowest) : Type 0 where
+  pub most : a .tag ≤ 0x87
+  pub within : a .tag < 0x87 → a .place < n
+  pub body : a .tag < 0x87 → (starts sizes lent : List ℕ) (s : Spot) → ruled s (itemsFrom (fourOf tags depths starts sizes) n lent depth at .0) ≡ true
+      → find (a .tag) (itemsFrom (fourOf tags depths starts sizes) n lent depth at .0) ≡ some (bodyIn lent (row (fourOf tags depths starts sizes) (a .place)))
 
--- one attribute of an element
-unfoldable pub oneAttribute : ℕ → Items → ℕ → List ℕ
-oneAttribute parent inside tag = maybe (λ v. framed tag (octetsOf v)) (attributesIn [] parent inside tag)
+-- and none of a tag below it, from the one that was asked for on
+pub record FindsLowest (n : ℕ) (tags depths : List ℕ) (at depth least : ℕ) (a : Lowest) : Type 0 where
+  pub from : least ≤ a .tag
+  pub stands : Stands n tags depths at depth a
+  pub between : (t : ℕ) → least ≤ t → t < a .tag → (starts sizes lent : List ℕ) (s : Spot)
+      → ruled s (itemsFrom (fourOf tags depths starts sizes) n lent depth at .0) ≡ true → find t (itemsFrom (fourOf tags depths starts sizes) n lent depth at .0) ≡ none

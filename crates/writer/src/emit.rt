@@ -1,29 +1,23 @@
 // Records written in normal form, into a room that is known to suffice. Of an element its attributes are written by rising tag, its child elements in the order of
 // their records and its CDATA, all behind two places, and then the header that comes before them (frame.rt).
-// Cost: each record is looked at once, and each attribute once for each of the seven attribute tags. An octet moves once for each element around it whose length
-// takes more than one octet, 16 at most.
+// Cost: each record is looked at once, and the attributes of an element once for each of them and once more, 8 times at most. An octet moves once for each element
+// around it whose length takes more than one octet, 16 at most.
 ghost use mathlib.Core.Path.{_≡_};
-ghost use mathlib.Core.Bool.{true, cond};
-ghost use mathlib.Core.List.{List, []};
-ghost use Prim.Native.Nat.{ℕ, _+_, _≤_, _<_};
+ghost use Prim.Native.Nat.{_+_, _≤_, _<_};
 ghost use lib.ListN.{length, getD};
-ghost use Rattle.values.specs.Table.{attribute};
-ghost use Rattle.format.specs.Tree.{find};
-ghost use Rattle.format.specs.Meaning.{attributesIn};
-ghost use Rattle.format.specs.Writer.{bodyIn};
-ghost use Rattle.format.specs.Calls.{row};
 ghost use Rattle.writer.specs.Normal.{itemOctets, attributeOctets, laterOctets};
-ghost use Rattle.writer.specs.Steps.{four, itemsFrom, Holding, Lays, Ordered, Fitting, Finds, BodyAt, bodyAt, oneAttribute, roleOf, Emits};
+ghost use Rattle.writer.specs.Steps.{four, itemsFrom, Holding, Lays, Ordered, Fitting, lowerOf, FindsLowest, BodyAt, bodyAt, roleOf, Emits};
 use crate::frame::put_frame;
 use crate::item::holds_items;
 use crate::item::put_item;
 use crate::item::wide;
 use crate::item::wide16;
 
-// The record of an attribute.
-pub enum Found {
-    At(usize),
-    Nowhere,
+// An attribute and its record: the one with the lowest tag of those that were asked for. With the tag 0x87 there is none: the table of
+// items knows no attribute from there on.
+pub struct Lowest {
+    pub tag: u8,
+    pub place: usize,
 }
 
 // What a record is to the items of an element: none of them, an element that holds items, an attribute, any other item.
@@ -40,25 +34,49 @@ pub struct Reached {
     pub next: usize,
 }
 
-// The attribute of a tag in an element whose items begin with record `at`: attributes come before all other items.
-fn find_attribute(n: usize, tags: &[u8], depths: &[u8], at: usize, depth: usize, tag: u8) -> Found
-    requires { ⌜ (n ≤ length (now tags)) × (n ≤ length (now depths)) × (attribute tag ≡ true) ⌝ }
-    ensures { λ r. ⌜ Finds n (now (tags .entry)) (now (depths .entry)) at depth tag r ⌝ }
+// The lowest attribute so far, or that of record `i`, if its tag is lower and one of those asked for, from `least` on.
+fn lower(lowest: Lowest, least: u8, tag: u8, i: usize) -> Lowest
+    ensures { λ r. ⌜ r ≡ lowerOf lowest least tag i ⌝ }
 {
+    if tag < least {
+        return lowest;
+    }
+    if tag < lowest.tag {
+        return Lowest { tag, place: i };
+    }
+    lowest
+}
+
+// The attribute with the lowest tag from `least` on in an element whose items begin with record `at`. Attributes come before all other
+// items, so an element without any is done with at its first record.
+fn next_attribute(
+    n: usize,
+    tags: &[u8],
+    depths: &[u8],
+    at: usize,
+    depth: usize,
+    least: u8,
+) -> Lowest
+    requires { ⌜ (n ≤ length (now tags)) × (n ≤ length (now depths)) × (0x80 ≤ least) × (least ≤ 0x87) ⌝ }
+    ensures { λ r. ⌜ FindsLowest n (now (tags .entry)) (now (depths .entry)) at depth least r ⌝ }
+{
+    let mut lowest = Lowest {
+        tag: 0x87,
+        place: at,
+    };
     let mut i = at;
     while i < n {
         if wide(depths[i]) != depth {
-            return Found::Nowhere;
+            return lowest;
         }
-        if tags[i] == tag {
-            return Found::At(i);
+        let tag = tags[i];
+        if tag < 0x80 {
+            return lowest;
         }
-        if tags[i] < 0x80 {
-            return Found::Nowhere;
-        }
+        lowest = lower(lowest, least, tag, i);
         i = i + 1;
     }
-    Found::Nowhere
+    lowest
 }
 
 // The body of record `i` as an item of a tag.
@@ -81,39 +99,6 @@ fn put_body(
     put_item(room, to, parent, tag, &octets[start..end])
 }
 
-// The attribute of a tag, if the element whose items begin with record `at` has it.
-fn emit_attribute(
-    n: usize,
-    tags: &[u8],
-    depths: &[u8],
-    starts: &[u16],
-    sizes: &[u16],
-    octets: &[u8],
-    at: usize,
-    depth: usize,
-    parent: u8,
-    tag: u8,
-    room: &mut [u8],
-    to: usize,
-) -> usize
-    requires { ⌜ Holding n (four tags depths starts sizes) (now octets) × Ordered parent (itemsFrom (four tags depths starts sizes) n (now octets) depth at .0) × (attribute tag ≡ true) ⌝ }
-    requires { ⌜ Fitting (oneAttribute parent (itemsFrom (four tags depths starts sizes) n (now octets) depth at .0) tag) to (length (now room)) ⌝ }
-    ensures { λ r. ⌜ Lays (oneAttribute parent (itemsFrom (four (tags .entry) (depths .entry) (starts .entry) (sizes .entry)) n (now (octets .entry)) depth at .0) tag) to (now (room .entry)) (now (room .exit)) r ⌝ }
-{
-    match find_attribute(n, tags, depths, at, depth, tag) {
-        Found::Nowhere => to,
-        Found::At(i) => put_body(room, to, parent, tag, starts, sizes, octets, i),
-    }
-}
-
-// The tags of attributes in the order in which they are written: rising from 0x80. The table of items knows none above 0x86.
-fn attribute_tag(turn: u8) -> u8
-    requires { ⌜ turn < 7 ⌝ }
-    ensures { λ r. ⌜ r ≡ 0x80 + turn ⌝ }
-{
-    0x80 + turn
-}
-
 // The attributes of an element by rising tag.
 fn emit_attributes(
     n: usize,
@@ -133,24 +118,19 @@ fn emit_attributes(
     ensures { λ r. ⌜ Lays (attributeOctets parent (itemsFrom (four (tags .entry) (depths .entry) (starts .entry) (sizes .entry)) n (now (octets .entry)) depth at .0)) to (now (room .entry)) (now (room .exit)) r ⌝ }
 {
     let mut end = to;
-    let mut turn: u8 = 0;
-    while turn < 7 {
-        let tag = attribute_tag(turn);
-        end = emit_attribute(
-            n,
-            tags,
-            depths,
+    let mut next = next_attribute(n, tags, depths, at, depth, 0x80);
+    while next.tag < 0x87 {
+        end = put_body(
+            room,
+            end,
+            parent,
+            next.tag,
             starts,
             sizes,
             octets,
-            at,
-            depth,
-            parent,
-            tag,
-            room,
-            end,
+            next.place,
         );
-        turn = turn + 1;
+        next = next_attribute(n, tags, depths, at, depth, next.tag + 1);
     }
     end
 }
@@ -164,11 +144,11 @@ fn role_at(tags: &[u8], depths: &[u8], i: usize, depth: usize) -> Role
         return Role::Gone;
     }
     let tag = tags[i];
-    if holds_items(tag) {
-        return Role::Element(tag);
-    }
     if tag >= 0x80 {
         return Role::Attribute;
+    }
+    if holds_items(tag) {
+        return Role::Element(tag);
     }
     Role::Other(tag)
 }

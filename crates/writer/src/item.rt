@@ -37,7 +37,7 @@ pub fn wide16(x: u16) -> usize
     x as usize
 }
 
-fn is_holder(kind: Kind) -> bool
+pub fn is_holder(kind: Kind) -> bool
     ensures { λ r. ⌜ r ≡ isItems (some kind) ⌝ }
 {
     match kind {
@@ -71,7 +71,7 @@ fn value_size(kind: Kind, body: &[u8]) -> usize
 }
 
 // The one place that says whether an item is written: an item that its element doesn't know isn't.
-fn written(parent: u8, tag: u8, body: &[u8]) -> Form
+pub fn written(parent: u8, tag: u8, body: &[u8]) -> Form
     ensures { λ r. ⌜ r ≡ writtenOf (known parent tag) (now (body .entry)) ⌝ }
 {
     match known_kind(parent, tag) {
@@ -111,16 +111,6 @@ fn put_value(room: &mut [u8], to: usize, kind: Kind, body: &[u8]) -> usize
         values::Put::Done(end) => end,
         values::Put::NoRoom => to,
         values::Put::Invalid => to,
-    }
-}
-
-pub fn item_size(parent: u8, tag: u8, body: &[u8]) -> usize
-    requires { ⌜ length (now body) < 65536 ⌝ }
-    ensures { λ r. ⌜ r ≡ length (itemOctets parent tag (now (body .entry))) ⌝ }
-{
-    match written(parent, tag, body) {
-        Form::Nothing => 0,
-        Form::Value { kind: _, size } => framed_size(size),
     }
 }
 

@@ -3,14 +3,15 @@
 // Cost: each record is looked at once.
 ghost use mathlib.Core.Path.{_≡_};
 ghost use Prim.Native.Nat.{_+_, _≤_, _<_};
-ghost use lib.ListN.{length, getD};
+ghost use lib.ListN.{length};
 ghost use Rattle.format.specs.Calls.{row};
 ghost use Rattle.writer.specs.Steps.{four, Holding, partOf, partAt, sizedFrom};
+use crate::item::Form;
 use crate::item::framed_size;
-use crate::item::holds_items;
-use crate::item::item_size;
+use crate::item::is_holder;
 use crate::item::wide;
 use crate::item::wide16;
+use crate::item::written;
 
 // What a record adds to the items of an element: it is none of them; it holds items that are to be measured; so many octets.
 pub enum Part {
@@ -25,14 +26,20 @@ pub enum Sized {
     Size { total: usize, next: usize },
 }
 
+// One lookup tells whether an item is written and whether it holds items: what holds items in one element holds them in all.
 fn part_of(parent: u8, tag: u8, body: &[u8]) -> Part
     requires { ⌜ length (now body) < 65536 ⌝ }
     ensures { λ r. ⌜ r ≡ partOf parent tag (now (body .entry)) ⌝ }
 {
-    if holds_items(tag) {
-        return Part::Holds(tag);
+    match written(parent, tag, body) {
+        Form::Nothing => Part::Single(0),
+        Form::Value { kind, size } => {
+            if is_holder(kind) {
+                return Part::Holds(tag);
+            }
+            Part::Single(framed_size(size))
+        }
     }
-    Part::Single(item_size(parent, tag, body))
 }
 
 fn part_at(

@@ -1,5 +1,4 @@
-use Rattle.writer.proofs.Emitting.{Risen, risen-start, risen-attribute, risen-fits, risen-next, risen-length, risen-end}
-use Rattle.writer.specs.Steps.{fourOf, itemsFrom}
+use Rattle.writer.proofs.Emitting.{Risen, risen-start, risen-fits, risen-less, risen-next, risen-length, risen-end}
 use borrow.Author.Needs.{needs}
 use native.Mathlib.Omega.{arith}
 use Prim.Native.Nat.{_-_}
@@ -7,43 +6,47 @@ use Rattle.writer.proofs.emit.emit_attributes.Statement.{statement}
 use Rattle.writer.proofs.emit.emit_attributes.Tie as tie
 
 abbrev Inv-loop : tie.InvT-loop
-Inv-loop n tags depths starts sizes octets at depth parent room₀ to end₀ turn₀ room end turn =
-    Risen parent (itemsFrom (fourOf tags depths starts sizes) n octets depth at .0) to room₀ room end turn
+Inv-loop n tags depths starts sizes octets at depth parent room₀ to end₀ next₀ room end next =
+    Risen parent n tags depths starts sizes octets at depth to room₀ room end next
 
 abbrev μ-loop : tie.MeasureT-loop
-μ-loop n tags depths starts sizes octets at depth parent room₀ to end₀ turn₀ room end turn = 7 - turn
+μ-loop n tags depths starts sizes octets at depth parent room₀ to end₀ next₀ room end next = 0x87 - next .tag
+
+next-attribute-requires : tie.Need-next-attribute-requires Inv-loop μ-loop
+next-attribute-requires c κs =
+    search needs
 
 loop-holds : tie.Need-loop-holds Inv-loop μ-loop
 loop-holds c =
-    risen-start _ _ _ _
+    risen-start _ _ _ _ _ _ _ _ _ ((c .before .before .before .before .before .before .before .pre) .0 .1) _ _ _ ((c .next-attribute) .ensures)
 
-attribute-tag-requires : tie.Need-attribute-tag-requires Inv-loop μ-loop
-attribute-tag-requires c κs =
-    search needs
+put-body-requires : tie.Need-put-body-requires Inv-loop μ-loop
+put-body-requires c κs =
+    risen-fits _ _ _ _ _ _ _ _ _ _ ((c .before .before .before .before .before .before .before .before .before .before .before .args) .room .now) ((c .before .before .before .loop) .room) _ _ ((c .before .before .before .loop) .inv) ((c .before .before .before .before .before .before .before .before .before .before .before .pre) .0 .1) ((c .before .if1) .taken) ((c .before .before .before .before .before .before .before .before .before .before .before .pre) .0 .0) ((c .before .before .before .before .before .before .before .before .before .before .before .pre) .1)
 
-emit-attribute-requires : tie.Need-emit-attribute-requires Inv-loop μ-loop
-emit-attribute-requires c κs =
-    (((c .before .before .before .before .before .before .before .before .before .before .pre) .0 .0, (c .before .before .before .before .before .before .before .before .before .before .pre) .0 .1, risen-attribute _ _ _ _ _ _ _ ((c .before .before .before .loop) .inv) ((c .before .before .loop-test) .taken) _ ((c .before .attribute-tag) .ensures)), risen-fits _ _ _ ((c .before .before .before .before .before .before .before .before .before .before .args) .room .now) ((c .before .before .before .loop) .room) _ _ ((c .before .before .before .loop) .inv) ((c .before .before .loop-test) .taken) _ ((c .before .attribute-tag) .ensures) ((c .before .before .before .before .before .before .before .before .before .before .pre) .1))
+add-next-attribute : tie.Need-add-next-attribute Inv-loop μ-loop
+add-next-attribute c =
+    omega (arith, (c .before .before .before .before .before .if1) .taken)
 
-add-turn : tie.Need-add-turn Inv-loop μ-loop
-add-turn c =
-    omega (arith, (c .before .before .before .before .before .loop-test))
+next-attribute-requires-2 : tie.Need-next-attribute-requires-2 Inv-loop μ-loop
+next-attribute-requires-2 c κs =
+    ((c .before .before .before .before .before .before .before .before .before .before .before .before .before .before .before .pre) .0 .0 .tags, (c .before .before .before .before .before .before .before .before .before .before .before .before .before .before .before .pre) .0 .0 .depths, omega (arith, (c .before .before .before .before .before .before .before .loop) .inv .high), omega (arith, (c .before .before .before .before .before .if1) .taken))
 
 loop-less : tie.Need-loop-less Inv-loop μ-loop
 loop-less c =
-    omega (arith, (c .before .before .before .before .before .loop-test))
+    risen-less _ _ _ _ _ _ _ _ _ _ _ _ _ _ ((c .before .before .before .before .before .before .before .before .loop) .inv) ((c .before .before .before .before .before .before .if1) .taken) _ ((c .next-attribute2) .ensures)
 
 loop-again : tie.Need-loop-again Inv-loop μ-loop
 loop-again c =
-    risen-next _ _ _ _ _ _ _ ((c .before .before .before .before .before .before .loop) .inv) ((c .before .before .before .before .before .loop-test) .taken) _ ((c .before .before .before .before .attribute-tag) .ensures) _ _ ((c .before .before .emit-attribute) .ensures)
+    risen-next _ _ _ _ _ _ _ _ _ _ _ _ _ _ ((c .before .before .before .before .before .before .before .before .loop) .inv) ((c .before .before .before .before .before .before .before .before .before .before .before .before .before .before .before .before .pre) .0 .1) ((c .before .before .before .before .before .before .if1) .taken) _ _ ((c .before .before .before .before .put-body) .ensures) _ ((c .next-attribute2) .ensures)
 
 same-length : tie.Need-same-length Inv-loop μ-loop
 same-length c =
-    risen-length _ _ _ _ _ _ _ ((c .before .loop) .inv)
+    risen-length _ _ _ _ _ _ _ _ _ _ _ _ _ _ ((c .before .before .loop) .inv)
 
 returns : tie.Need-returns Inv-loop μ-loop
 returns c =
-    risen-end _ _ _ _ _ _ _ ((c .before .loop) .inv) ((c .loop-test) .left)
+    risen-end _ _ _ _ _ _ _ _ _ _ _ _ _ _ ((c .before .before .loop) .inv) ((c .if1) .left)
 
 pub emit-attributes-spec : {M : Type 1} → statement M
 emit-attributes-spec =
@@ -51,10 +54,11 @@ emit-attributes-spec =
     (tie.spec
     Inv-loop
     μ-loop
+    next-attribute-requires
     loop-holds
-    attribute-tag-requires
-    emit-attribute-requires
-    add-turn
+    put-body-requires
+    add-next-attribute
+    next-attribute-requires-2
     loop-less
     loop-again
     same-length

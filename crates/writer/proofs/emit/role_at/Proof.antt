@@ -16,20 +16,20 @@ returns c =
 shared-slice-read-tag : tie.Need-shared-slice-read-tag
 shared-slice-read-tag c = search needs
 
+returns-2 : tie.Need-returns-2
+returns-2 c =
+    role-attribute _ _ _ _ ((c .before .before .before .wide) .ensures) ((c .before .before .if1) .left) ((c .if2) .taken)
+
 holds-items-requires : tie.Need-holds-items-requires
 holds-items-requires c κs = search needs
 
-returns-2 : tie.Need-returns-2
-returns-2 c =
-    role-element _ _ _ _ ((c .before .before .before .before .wide) .ensures) ((c .before .before .before .if1) .left) _ ((c .before .holds-items) .ensures) ((c .if2) .taken)
-
 returns-3 : tie.Need-returns-3
 returns-3 c =
-    role-attribute _ _ _ _ ((c .before .before .before .before .before .wide) .ensures) ((c .before .before .before .before .if1) .left) _ ((c .before .before .holds-items) .ensures) ((c .before .if2) .left) ((c .if3) .taken)
+    role-element _ _ _ _ ((c .before .before .before .before .before .wide) .ensures) ((c .before .before .before .before .if1) .left) _ ((c .before .holds-items) .ensures) ((c .if3) .taken)
 
 returns-4 : tie.Need-returns-4
 returns-4 c =
-    role-other _ _ _ _ ((c .before .before .before .before .before .wide) .ensures) ((c .before .before .before .before .if1) .left) _ ((c .before .before .holds-items) .ensures) ((c .before .if2) .left) ((c .if3) .left)
+    role-other _ _ _ _ ((c .before .before .before .before .before .wide) .ensures) ((c .before .before .before .before .if1) .left) _ ((c .before .holds-items) .ensures) ((c .if3) .left) ((c .before .before .if2) .left)
 
 pub role-at-spec : {M : Type 1} → statement M
 role-at-spec =
@@ -39,7 +39,7 @@ role-at-spec =
     wide-requires
     returns
     shared-slice-read-tag
-    holds-items-requires
     returns-2
+    holds-items-requires
     returns-3
     returns-4)
