@@ -213,45 +213,32 @@ all-tags : every (λ e t k. leb t 0x86) rows ≡ true
 unfolding rows
 all-tags = refl
 
-pub look-beyond : (parent tag : ℕ) → 0x86 < tag → Unknown ≡ knownKind parent tag
-unfolding knownKind known asKnown
-look-beyond parent tag h = sym (ap asKnown (no-kind (λ e t k. leb t 0x86) (cond (attribute tag) parent 0) tag all-tags (λ k. lt-leb tag 0x86 h)))
+pub code-beyond : (parent tag : ℕ) → 0x86 < tag → 0 ≡ codeOf (known parent tag)
+unfolding known codeOf
+code-beyond parent tag h = sym (ap codeOf (no-kind (λ e t k. leb t 0x86) (cond (attribute tag) parent 0) tag all-tags (λ k. lt-leb tag 0x86 h)))
 
-module _ (tag : ℕ) (b : Bool) (a : b ≡ attribute tag) where
-  pub row-parent : b ≡ true → (parent : ℕ) → parent ≡ cond (attribute tag) parent tag
-  row-parent t parent = rw (sym a ∙ t)
+module _ (parent tag : ℕ) (b : Bool) (a : b ≡ attribute tag) where
+  pub code-attribute : b ≡ true → tag ≤ 0x86 → (codes w code : ℕ) → codes ≡ codesOf parent → w ≡ tag → code ≡ codes / 16 ^ (w - 0x7F) % 16 → code ≡ codeOf (known parent tag)
+  unfolding known attribute
+  code-attribute t h codes w code c q d =
+      let is : ltb 0x7F tag ≡ true = sym a ∙ t in
+      let above : 0x7F < tag = ltb-true 0x7F tag is in
+      let place : w - 0x7F ≡ suc (tag - 0x80) = omega (arith, q) in
+      let same : 0x80 + (tag - 0x80) ≡ tag = omega arith in
+      rw is (d ∙ ap₂ (λ n i. n / 16 ^ i % 16) c place ∙ upper-digit parent (tag - 0x80) (omega arith) ∙ ap (λ u. codeOf (kindIn parent u rows)) same)
 
-  pub row-own : b ≡ false → (parent : ℕ) → tag ≡ cond (attribute tag) parent tag
-  row-own t parent = rw (sym a ∙ t)
+  pub code-own : b ≡ false → (codes code : ℕ) → codes ≡ codesOf tag → code ≡ codes / 16 ^ 0 % 16 → code ≡ codeOf (known parent tag)
+  unfolding known attribute
+  code-own t codes code c d =
+      let is : ltb 0x7F tag ≡ false = sym a ∙ t in
+      rw is (d ∙ ap (λ n. n / 16 ^ 0 % 16) c ∙ lowest-digit tag)
 
   pub place-above : b ≡ true → (w : ℕ) → w ≡ tag → 0x7F ≤ w
   unfolding attribute
   place-above t w q = omega (arith, ltb-true 0x7F tag (sym a ∙ t))
 
-  pub place-lowest : b ≡ false → 0 ≡ tag - 0x7F
-  unfolding attribute
-  place-lowest t = omega (arith, ltb-false 0x7F tag (sym a ∙ t))
+pub ruleset code-ways = (code-beyond, code-attribute, code-own, place-above)
 
-pub ruleset place-ways = (row-parent, row-own, place-above, place-lowest)
-
--- the digit of an item in its row
-item-digit : (parent tag : ℕ) → tag ≤ 0x86 → codesOf (cond (attribute tag) parent tag) / 16 ^ (tag - 0x7F) % 16 ≡ codeOf (known parent tag)
-unfolding known attribute
-item-digit parent tag h = go (ltb 0x7F tag) refl
-  where
-    go : (b : Bool) → ltb 0x7F tag ≡ b → codesOf (cond b parent tag) / 16 ^ (tag - 0x7F) % 16 ≡ codeOf (kindIn (cond b parent 0) tag rows)
-    go true e =
-        let above : 0x7F < tag = ltb-true 0x7F tag e in
-        let place : tag - 0x7F ≡ suc (tag - 0x80) = omega arith in
-        let same : 0x80 + (tag - 0x80) ≡ tag = omega arith in
-        ap (λ i. codesOf parent / 16 ^ i % 16) place ∙ upper-digit parent (tag - 0x80) (omega arith) ∙ ap (λ t. codeOf (kindIn parent t rows)) same
-    go false e =
-        let within : tag ≤ 0x7F = ltb-false 0x7F tag e in
-        let place : tag - 0x7F ≡ 0 = omega arith in
-        ap (λ i. codesOf tag / 16 ^ i % 16) place ∙ lowest-digit tag
-
-pub look-row : (parent tag element codes place code : ℕ) (r : KnownKind) → element ≡ cond (attribute tag) parent tag → codes ≡ codesOf element
-    → place ≡ tag - 0x7F → code ≡ codes / 16 ^ place % 16 → r ≡ knownBy code → tag ≤ 0x86 → r ≡ knownKind parent tag
+pub look : (parent tag code : ℕ) (r : KnownKind) → code ≡ codeOf (known parent tag) → r ≡ knownBy code → r ≡ knownKind parent tag
 unfolding knownKind
-look-row parent tag element codes place code r e c p d k h =
-    k ∙ ap knownBy (d ∙ ap₂ (λ n i. n / 16 ^ i % 16) (c ∙ ap codesOf e) p ∙ item-digit parent tag h) ∙ known-code (known parent tag)
+look parent tag code r e k = k ∙ ap knownBy e ∙ known-code (known parent tag)

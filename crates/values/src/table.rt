@@ -1,9 +1,8 @@
 // The table of known items, and the lookup of a pair's kind.
 ghost use mathlib.Core.Path.{_≡_};
-ghost use mathlib.Core.Bool.{cond};
-ghost use Prim.Native.Nat.{_-_, _/_, _%_, _^_, _<_};
-ghost use Rattle.values.specs.Table.{attribute};
-ghost use Rattle.values.specs.Index.{codesOf, knownBy};
+ghost use Prim.Native.Nat.{_/_, _%_, _^_, _<_};
+ghost use Rattle.values.specs.Table.{attribute, known};
+ghost use Rattle.values.specs.Index.{codeOf, codesOf, knownBy};
 ghost use Rattle.values.specs.Calls.{knownKind};
 use crate::Kind;
 use crate::KnownKind;
@@ -82,33 +81,23 @@ pub fn is_attribute(tag: u8) -> bool
     tag > 0x7F
 }
 
-// The kind of an item directly in an element. However large the object is, one row is looked at, and one digit of it.
+// The kind code of an item directly in an element: an attribute's digit in the row of that element, any other item's in its own. However large the object is, one
+// row is looked at, and one digit of it. The row is asked for in two places, so that the compiler keeps `codes_of` apart and what is left goes into the callers,
+// where no kind is then stored and read again.
+fn code_of(parent: u8, tag: u8) -> u32
+    ensures { λ r. ⌜ r ≡ codeOf (known parent tag) ⌝ }
+{
+    if tag > 0x86 {
+        return 0;
+    }
+    if is_attribute(tag) {
+        return code_at(codes_of(parent), wide(tag) - 0x7F);
+    }
+    code_at(codes_of(tag), 0)
+}
+
 pub fn known_kind(parent: u8, tag: u8) -> KnownKind
     ensures { λ r. ⌜ r ≡ knownKind parent tag ⌝ }
 {
-    if tag > 0x86 {
-        return KnownKind::Unknown;
-    }
-    let codes = codes_of(row_of(parent, tag));
-    kind_by(code_at(codes, place_of(tag)))
-}
-
-// The element in whose row an item stands: an attribute in that of its parent, any other in its own.
-fn row_of(parent: u8, tag: u8) -> u8
-    ensures { λ r. ⌜ r ≡ cond (attribute tag) parent tag ⌝ }
-{
-    if is_attribute(tag) {
-        return parent;
-    }
-    tag
-}
-
-// The place of an item in its row: 0 for what is no attribute.
-fn place_of(tag: u8) -> u32
-    ensures { λ r. ⌜ r ≡ tag - 0x7F ⌝ }
-{
-    if is_attribute(tag) {
-        return wide(tag) - 0x7F;
-    }
-    0
+    kind_by(code_of(parent, tag))
 }
