@@ -32,7 +32,7 @@ use Rattle.judge.specs.declared.Sort.{Sort}
 use Rattle.judge.specs.declared.Sort.the-variants.{Skip, Leaf, Table, Element}
 use Rattle.judge.specs.declared.Item.{Item}
 use Rattle.judge.specs.declared.Item.the-variants.{Bad, Good}
-use Rattle.judge.proofs.LateWays.{body-at, tag-at}
+use Rattle.judge.proofs.LateWays.{body-at, tag-at, late-undue, late-due}
 
 -- the tag 4 is the token table's, and no other tag is
 pub tokens-four : (p tag : ℕ) → isTokens (known p tag) ≡ eqb tag 4
@@ -205,12 +205,27 @@ module _ (counts : Counts) (part : List ℕ) (at parent stage base : ℕ) (d : B
   ended : (waiting : List (ℕ × List ℕ)) → WaitsWhen (isTop parent && eqb stage 0) parent base part at waiting → late [] waiting ≡ checked r
   ended waiting w = rw (← no-entries part) (late-when true (isTop parent && eqb stage 0) d part at parent base (take (0 - 0) (drop 0 part)) r de l waiting w)
 
-  pub end-late : (x : Refusal) → r ≡ Broken x → EndSays counts part at parent stage base (NotRead x)
+  ended-late : (x : Refusal) → r ≡ Broken x → EndSays counts part at parent stage base (NotRead x)
   unfolding EndSays unless counted checked
-  end-late x f waiting w = rw (ended waiting w ∙ ap checked f)
+  ended-late x f waiting w = rw (ended waiting w ∙ ap checked f)
 
-  pub end-good : r ≡ Kept → EndSays counts part at parent stage base (Records counts)
+  ended-good : r ≡ Kept → EndSays counts part at parent stage base (Records counts)
   unfolding EndSays unless counted checked count
-  end-good f waiting w = rw (ended waiting w ∙ ap checked f, add-zero)
+  ended-good f waiting w = rw (ended waiting w ∙ ap checked f, add-zero)
 
-pub ruleset end-ways = (end-late, end-good)
+-- where it is due, and where it isn't
+module _ (counts : Counts) (part : List ℕ) (at parent stage base : ℕ) (d : Bool) (de : d ≡ (isTop parent && eqb stage 0)) where
+  abbrev nothing : List ℕ
+  nothing = take (0 - 0) (drop 0 part)
+
+  pub end-undue : d ≡ false → EndSays counts part at parent stage base (Records counts)
+  end-undue e = ended-good counts part at parent stage base d de Kept (late-undue d part at parent base nothing e) refl
+
+  module _ (e : d ≡ true) (r : Check) (l : LateSays true part at parent base nothing r) where
+    pub end-late : (x : Refusal) → r ≡ Broken x → EndSays counts part at parent stage base (NotRead x)
+    end-late = ended-late counts part at parent stage base d de r (late-due d part at parent base nothing e r l)
+
+    pub end-good : r ≡ Kept → EndSays counts part at parent stage base (Records counts)
+    end-good = ended-good counts part at parent stage base d de r (late-due d part at parent base nothing e r l)
+
+pub ruleset end-ways = (end-undue, end-late, end-good)

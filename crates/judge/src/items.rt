@@ -12,6 +12,7 @@ use crate::Check;
 use crate::Item;
 use crate::Progress;
 use crate::Sort;
+use crate::late::hold_attributes;
 use crate::late::judge_late;
 use crate::rules::judge_own;
 use crate::tags::is_due_before;
@@ -91,11 +92,17 @@ fn end_items(
     ensures { λ r. ⌜ EndSays counts (now (part .entry)) at parent stage base r ⌝ }
     ensures { λ r. ⌜ CountsAtMost (counts .records) r ⌝ }
 {
-    let due = is_waiting(parent, stage);
-    match judge_late(due, part, at, parent, base, &part[0..0]) {
-        Check::Broken(refusal) => ReadAnswer::NotRead(refusal),
-        Check::Kept => ReadAnswer::Records(counts),
+    if is_waiting(parent, stage) {
+        match hold_attributes(part, at, parent, base, &part[0..0]) {
+            Check::Broken(refusal) => {
+                return ReadAnswer::NotRead(refusal);
+            }
+            Check::Kept => {
+                return ReadAnswer::Records(counts);
+            }
+        }
     }
+    ReadAnswer::Records(counts)
 }
 
 // The items of a part, which begins at the place `base` of the object and is the body of an element with the tag `parent`, or the object (0).

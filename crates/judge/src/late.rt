@@ -41,7 +41,7 @@ fn is_settled(parent: u8, tag: u8, table: &[u8], body: &[u8]) -> bool
 
 // The attributes of a part up to `run`, held against a table. The part begins at the place `base`. Headers that don't lie in the part
 // aren't met there, since these attributes were judged before.
-fn hold_attributes(part: &[u8], run: usize, parent: u8, base: usize, table: &[u8]) -> Check
+pub fn hold_attributes(part: &[u8], run: usize, parent: u8, base: usize, table: &[u8]) -> Check
     requires { ⌜ (base + length (now part) ≤ 32_768) × (run ≤ length (now part)) ⌝ }
     ensures { λ r. ⌜ LateSays true (now (part .entry)) run parent base (now (table .entry)) r ⌝ }
 {
@@ -71,7 +71,7 @@ fn hold_attributes(part: &[u8], run: usize, parent: u8, base: usize, table: &[u8
     Check::Kept
 }
 
-// The rule where it is due. It seldom is: this stands apart from the scan so that it is small enough to be inlined.
+// The rule where it is due. It seldom is: this stands apart from the scan, which the end of the items asks for too, so that it is small enough to be inlined.
 pub fn judge_late(
     due: bool,
     part: &[u8],
