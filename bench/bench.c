@@ -1,7 +1,8 @@
 /*
  * bench FOLDER: times the library against the second program, in one process, on the objects that make_objects.py
  * wrote to the folder.  Answers are compared before anything is timed.  A time is the least of many
- * short runs in which the two take turns, on the clock of the process.
+ * short runs in which the two take turns, on the clock of the process.  A run goes over all objects of a size,
+ * of which there are the more the smaller they are.
  */
 #define main second_main
 #include "../second/second.c"
@@ -12,14 +13,15 @@
 #include <stdlib.h>
 #include <time.h>
 
-enum { TURNS = 60, RUN_NANOSECONDS = 1000000, PLACES = SPI_MOST_RECORDS, ROOM = SPI_MOST_OCTETS };
+enum { TURNS = 60, RUN_NANOSECONDS = 1000000, PLACES = SPI_MOST_RECORDS, ROOM = SPI_MOST_OCTETS, MOST_OBJECTS = 32 };
 
 struct file {
     size_t size;
     uint8_t octets[ROOM];
 };
 
-static struct file object, other, words;
+static struct file objects[MOST_OBJECTS], others[MOST_OBJECTS], words;
+static size_t object_count;
 static struct {
     uint8_t tags[PLACES], kinds[PLACES], depths[PLACES];
     uint16_t parents[PLACES], starts[PLACES], sizes[PLACES];
@@ -39,20 +41,33 @@ static void stop(const char *why)
 
 /* ---- What is timed; each answers by a number that both programs share ---------------------------- */
 
-static uint64_t library_read(void)
+/* A call on each object of a size, and the sum of its answers. */
+#define ON_EACH(name, one)                                                                                             \
+    static uint64_t name(void)                                                                                         \
+    {                                                                                                                  \
+        uint64_t sum = 0;                                                                                              \
+        for (size_t i = 0; i < object_count; i++)                                                                      \
+            sum += one(&objects[i], &others[i]);                                                                       \
+        return sum;                                                                                                    \
+    }
+
+static uint64_t read_by_library(const struct file *object, const struct file *other)
 {
-    return spi_read(object.octets, object.size, SIX_LISTS);
+    (void)other;
+    return spi_read(object->octets, object->size, SIX_LISTS);
 }
 
-static uint64_t second_read(void)
+static uint64_t read_by_second(const struct file *object, const struct file *other)
 {
-    struct verdict verdict = read_object(&first_tree, object.octets, (uint32_t)object.size);
+    (void)other;
+    struct verdict verdict = read_object(&first_tree, object->octets, (uint32_t)object->size);
     return verdict.number == ACCEPTED ? first_tree.count : UINT64_MAX;
 }
 
-static uint64_t library_normalise(void)
+static uint64_t normalise_by_library(const struct file *object, const struct file *other)
 {
-    return spi_normalise(object.octets, object.size, SIX_LISTS, store, ROOM, room, ROOM);
+    (void)other;
+    return spi_normalise(object->octets, object->size, SIX_LISTS, store, ROOM, room, ROOM);
 }
 
 static uint64_t normalise_into(struct tree *tree, const struct file *file, uint8_t *out)
@@ -64,23 +79,31 @@ static uint64_t normalise_into(struct tree *tree, const struct file *file, uint8
     return size;
 }
 
-static uint64_t second_normalise(void)
+static uint64_t normalise_by_second(const struct file *object, const struct file *other)
 {
-    return normalise_into(&first_tree, &object, first_normal);
+    (void)other;
+    return normalise_into(&first_tree, object, first_normal);
 }
 
-static uint64_t library_same(void)
+static uint64_t same_by_library(const struct file *object, const struct file *other)
 {
-    return spi_same(object.octets, object.size, other.octets, other.size, SIX_LISTS, store, ROOM, room, ROOM,
+    return spi_same(object->octets, object->size, other->octets, other->size, SIX_LISTS, store, ROOM, room, ROOM,
                     other_room, ROOM);
 }
 
-static uint64_t second_same(void)
+static uint64_t same_by_second(const struct file *object, const struct file *other)
 {
-    uint64_t first = normalise_into(&first_tree, &object, first_normal);
-    uint64_t then = normalise_into(&second_tree, &other, second_normal);
+    uint64_t first = normalise_into(&first_tree, object, first_normal);
+    uint64_t then = normalise_into(&second_tree, other, second_normal);
     return first == then && memcmp(first_normal, second_normal, first) == 0;
 }
+
+ON_EACH(library_read, read_by_library)
+ON_EACH(second_read, read_by_second)
+ON_EACH(library_normalise, normalise_by_library)
+ON_EACH(second_normalise, normalise_by_second)
+ON_EACH(library_same, same_by_library)
+ON_EACH(second_same, same_by_second)
 
 static uint64_t library_text(void)
 {
@@ -136,7 +159,7 @@ static void compare(const char *name, size_t octets, call library, call other_pr
         least[1] = its < least[1] ? its : least[1];
     }
     double each = least[0] / (double)octets, ratio = least[0] / least[1];
-    printf("%-22s %6zu %9.3f %9.3f %7.2f", name, octets, each, least[1] / (double)octets, ratio);
+    printf("%-22s %3zu * %5zu %9.3f %9.3f %7.2f", name, object_count, octets / object_count, each, least[1] / (double)octets, ratio);
     greatest_ratio = ratio > greatest_ratio ? ratio : greatest_ratio;
     if (*before != 0) {
         double growth = each / *before;
@@ -149,10 +172,10 @@ static void compare(const char *name, size_t octets, call library, call other_pr
 
 /* ---- Objects and texts -------------------------------------------------------------------------- */
 
-static void load(struct file *file, const char *folder, const char *name, int kilo)
+static void load(struct file *file, const char *folder, const char *name, int kilo, size_t i)
 {
     char path[4096];
-    snprintf(path, sizeof path, "%s/%s-%d.spi", folder, name, kilo);
+    snprintf(path, sizeof path, "%s/%s-%d-%zu.spi", folder, name, kilo, i);
     FILE *stream = fopen(path, "rb");
     if (stream == NULL)
         stop("make_objects.py has not written the objects");
@@ -160,8 +183,18 @@ static void load(struct file *file, const char *folder, const char *name, int ki
     fclose(stream);
 }
 
+static void load_all(const char *folder, const char *name, const char *twin, int kilo)
+{
+    object_count = (size_t)(MOST_OBJECTS / kilo);
+    for (size_t i = 0; i < object_count; i++) {
+        load(&objects[i], folder, name, kilo, i);
+        load(&others[i], folder, twin, kilo, i);
+    }
+}
+
 static void one_text(void)
 {
+    object_count = 1;
     texts = 1;
     text_starts[0] = 0;
     text_sizes[0] = words.size;
@@ -176,17 +209,21 @@ static void repeat_text(const char *sentence, size_t size)
     one_text();
 }
 
-/* The texts that the object shows, as they stand in it. */
+/* The texts that the objects show, as they stand in them. */
 static void object_texts(void)
 {
-    uint64_t answer = library_read();
     texts = 0;
-    words = object;
-    for (size_t i = 0; i < spi_value(answer); i++)
-        if (lists.kinds[i] == SPI_CDATA) {
-            text_starts[texts] = lists.starts[i];
-            text_sizes[texts++] = lists.sizes[i];
-        }
+    words.size = 0;
+    for (size_t k = 0; k < object_count; k++) {
+        uint64_t answer = read_by_library(&objects[k], &others[k]);
+        for (size_t i = 0; i < spi_value(answer); i++)
+            if (lists.kinds[i] == SPI_CDATA) {
+                memcpy(words.octets + words.size, objects[k].octets + lists.starts[i], lists.sizes[i]);
+                text_starts[texts] = words.size;
+                text_sizes[texts++] = lists.sizes[i];
+                words.size += lists.sizes[i];
+            }
+    }
 }
 
 static size_t text_octets(void)
@@ -204,12 +241,16 @@ static void compare_objects(const char *folder, const char *name, const char *tw
                             call other_program, bool both)
 {
     double before = 0;
-    for (size_t i = 0; i < SIZES; i++) {
-        load(&object, folder, name, kilos[i]);
-        load(&other, folder, twin, kilos[i]);
-        compare(label, object.size + (both ? other.size : 0), library, other_program, &before);
-        if (library_normalise() != second_normalise() || memcmp(room, first_normal, second_normalise()) != 0)
-            stop("the normal forms differ");
+    for (size_t k = 0; k < SIZES; k++) {
+        load_all(folder, name, twin, kilos[k]);
+        size_t octets = 0;
+        for (size_t i = 0; i < object_count; i++) {
+            octets += objects[i].size + (both ? others[i].size : 0);
+            uint64_t size = normalise_by_library(&objects[i], &others[i]);
+            if (size != normalise_by_second(&objects[i], &others[i]) || memcmp(room, first_normal, size) != 0)
+                stop("the normal forms differ");
+        }
+        compare(label, octets, library, other_program, &before);
     }
 }
 
@@ -227,13 +268,13 @@ static void compare_texts(const char *folder)
     }
     before = 0;
     for (size_t i = 0; i < SIZES; i++) {
-        load(&object, folder, "day", kilos[i]);
+        load_all(folder, "day", "day", kilos[i]);
         object_texts();
         compare("texts of the day", text_octets(), library_text, second_text, &before);
     }
     before = 0;
     for (size_t i = 0; i < SIZES; i++) {
-        load(&object, folder, "small", kilos[i]);
+        load_all(folder, "small", "small", kilos[i]);
         object_texts();
         compare("texts of small items", text_octets(), library_text, second_text, &before);
     }
@@ -247,8 +288,7 @@ static void repeat_call(const char *folder, const char *name, const char *of, un
         call called;
     } calls[] = {{"library_read", library_read}, {"second_read", second_read}, {"library_normalise", library_normalise},
                  {"second_normalise", second_normalise}, {"library_same", library_same}, {"second_same", second_same}};
-    load(&object, folder, of, 32);
-    load(&other, folder, strcmp(of, "day") == 0 ? "other" : of, 32);
+    load_all(folder, of, strcmp(of, "day") == 0 ? "other" : of, 32);
     for (size_t i = 0; i < sizeof calls / sizeof calls[0]; i++)
         if (strcmp(calls[i].name, name) == 0)
             time_runs(calls[i].called, runs);
@@ -264,8 +304,8 @@ int main(int count, char **arguments)
         stop("the folder of the objects is its one word");
     const char *folder = arguments[1];
     (void)second_main;
-    printf("%-22s %6s %9s %9s %7s %8s\n", "", "octets", "library", "second", "ratio", "growth");
-    printf("%-22s %6s %9s %9s %7s %8s\n", "", "", "ns/octet", "ns/octet", "", "");
+    printf("%-22s %11s %9s %9s %7s %8s\n", "", "octets", "library", "second", "ratio", "growth");
+    printf("%-22s %11s %9s %9s %7s %8s\n", "", "", "ns/octet", "ns/octet", "", "");
     compare_objects(folder, "day", "other", "read day", library_read, second_read, false);
     compare_objects(folder, "small", "small", "read small", library_read, second_read, false);
     compare_objects(folder, "day", "other", "normalise day", library_normalise, second_normalise, false);

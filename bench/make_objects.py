@@ -1,11 +1,13 @@
 #!/usr/bin/env python3
 """Makes the objects of the benchmark:  make_objects.py FOLDER
 
-    day-N.spi     a day's programmes: English and accented text, tokens, times, bearers
-    small-N.spi   many small items: numbers, times and short names
-    other-N.spi   the day again in its longest forms, without tokens: other octets, the same meaning
+    day-N-I.spi     a day's programmes: English and accented text, tokens, times, bearers
+    small-N-I.spi   many small items: numbers, times and short names
+    other-N-I.spi   the day again in its longest forms, without tokens: other octets, the same meaning
 
-N is 1, 4, 16 and 32: the object and its normal form have as many octets as fit N * 1024.
+N is 1, 4, 16 and 32: the object and its normal form have as many octets as fit N * 1024. I counts the objects of a size, 32 / N of
+them, so that a round over those of one size is as many octets as over those of another: a processor that has learnt the branches of one
+small object by heart would make small objects look cheap.
 """
 import random
 import sys
@@ -95,14 +97,14 @@ def whole(rng, schedule, form, tokens):
     return item(0x02, front + octets(rng, schedule, form, tokens), form)
 
 
-def grown(make, limit, form):
+def grown(make, limit, number_of, form):
     """As many programmes as fit the limit: their octets with tokens and without, the latter with lengths of a form."""
-    rng = random.Random(f"{make.__name__} {limit}")
+    rng = random.Random(f"{make.__name__} {limit} {number_of}")
     schedule = element(0x21, number(rng, 0x80, 2), time(rng, 0x81, 0), Node(0x82, text(rng, 20, 40)),
                        element(0x24, time(rng, 0x80, 0), time(rng, 0x81, MINUTES - 1), element(0x25, bearer(0x80))))
     kept = None
     for count in range(4 * limit):
-        seed = f"{limit} {count}"
+        seed = f"{limit} {number_of} {count}"
         forms = whole(random.Random(seed), schedule, 0, True), whole(random.Random(seed), schedule, form, False)
         if max(map(len, forms)) > limit:
             return kept
@@ -114,10 +116,11 @@ def grown(make, limit, form):
 def main():
     folder = Path(sys.argv[1])
     for kilo in (1, 4, 16, 32):
-        day, other = grown(programme, kilo * KILO, 2)
-        (folder / f"day-{kilo}.spi").write_bytes(day)
-        (folder / f"other-{kilo}.spi").write_bytes(other)
-        (folder / f"small-{kilo}.spi").write_bytes(grown(small, kilo * KILO, 0)[0])
+        for i in range(32 // kilo):
+            day, other = grown(programme, kilo * KILO, i, 2)
+            (folder / f"day-{kilo}-{i}.spi").write_bytes(day)
+            (folder / f"other-{kilo}-{i}.spi").write_bytes(other)
+            (folder / f"small-{kilo}-{i}.spi").write_bytes(grown(small, kilo * KILO, i, 0)[0])
 
 
 if __name__ == "__main__":
