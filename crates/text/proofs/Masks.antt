@@ -96,12 +96,16 @@ low-bit a b f h =
     let g : a / 2 ^ 0 % 2 ≡ 1 → b / 2 ^ 0 % 2 ≡ 1 = λ q. eqb-true (b / 2 ^ 0 % 2) 1 (f 0 (eq-eqb (a / 2 ^ 0 % 2) 1 q)) in
     ap (λ (n : ℕ). n % 2) (sym (div-one b)) ∙ g (ap (λ (n : ℕ). n % 2) (div-one a) ∙ h)
 
+-- the lowest bit, and the others
+kept-step : (a b : ℕ) → bitAnd (a / 2) (b / 2) ≡ a / 2 → min (a % 2) (b % 2) ≡ a % 2 → bitAnd a b ≡ a
+kept-step a b p q = and-step a b ∙ ap₂ (λ (x y : ℕ). x * 2 + y) p q ∙ div-add-mod' a 2
+
 pub within-kept : (a b : ℕ) → ((t : ℕ) → bit a t ≡ true → bit b t ≡ true) → bitAnd a b ≡ a
 within-kept a =
     bin-ind (λ (n : ℕ). (b : ℕ) → ((t : ℕ) → bit n t ≡ true → bit b t ≡ true) → bitAnd n b ≡ n) (λ b f. refl)
-    (λ n ih b f. and-step n b
-    ∙ ap₂ (λ (x y : ℕ). x * 2 + y) (ih (b / 2) (λ t h. bit-half b t ∙ f (1 + t) (sym (bit-half n t) ∙ h))) (low-kept (n % 2) (b % 2) (mod-lt n (omega arith)) (low-bit n b f))
-    ∙ div-add-mod' n 2) a
+    (λ n ih b f. kept-step n b (ih (b / 2) (λ t h. bit-half b t ∙ f (1 + t) (sym (bit-half n t) ∙ h)))
+    (low-kept (n % 2) (b % 2) (mod-lt n (omega arith)) (low-bit n b f)))
+    a
 
 -- ---- the tokens among octets as a mask: what a loop over them knows with so many octets left
 or-false : (a : Bool) → a || false ≡ a

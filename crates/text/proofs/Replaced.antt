@@ -2,7 +2,7 @@
 use Prim.Native.Nat.{ℕ, _+_, _-_, _≤_, _<_, _^_, min}
 use mathlib.Core.Path.{_≡_, refl, sym, ap, ap₂, subst, _∙_}
 use mathlib.Core.List.{List, [], _∷_, _++_}
-use mathlib.Core.Bool.{Bool, true, false, _||_, cond, false≢true}
+use mathlib.Core.Bool.{Bool, true, false, _&&_, _||_, cond, false≢true}
 use mathlib.Core.Option.{some}
 use lib.ListN.{length, getD, take, drop, set, length-drop, length-append, length-set, drop-of-length-le}
 use lib.Seq.{sets, length-sets, length-take-le}
@@ -86,9 +86,11 @@ all-covered es (b ∷ s) c t k h =
     (λ q. all-covered es s (and-right (covers es b) (covered es s) c) t k q) h
 
 module _ (es : Entries) (s : List ℕ) (used : ℕ) (m : Marks used s) where
+  no-token : used ≡ 0 → (t : ℕ) → token t && among t s ≡ false
+  no-token e t = sym (m .bits t) ∙ ap (λ (n : ℕ). bit n t) e ∙ bit-none t
+
   pub covered-none : used ≡ 0 → true ≡ covered es s
-  covered-none e =
-      sym (covered-all es s (λ t k h. absurd (false≢true (sym (bit-none t) ∙ ap (λ (n : ℕ). bit n t) (sym e) ∙ m .bits t ∙ and-true (token t) (among t s) k h))))
+  covered-none e = sym (covered-all es s (λ t k h. absurd (false≢true (sym (no-token e t) ∙ and-true (token t) (among t s) k h))))
 
   pub covered-some : (listed : ℕ) → Marks listed (tags es) → eqb (bitAnd used listed) used ≡ covered es s
   covered-some listed w = go (eqb (bitAnd used listed) used) refl (covered es s) refl
