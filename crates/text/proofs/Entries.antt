@@ -16,13 +16,13 @@ use Rattle.octets.specs.Numbers.{among}
 use Rattle.text.specs.Text.{token, text}
 use Rattle.text.specs.Tokens.{Entries, entries, cut, filled, isTable, entry}
 use Rattle.text.specs.Calls.{found, foundIn, Inside}
-use Rattle.text.specs.Leaves.{ahead, maskOf, filledAfter, Good, Rated}
+use Rattle.text.specs.Leaves.{ahead, maskOf, tokenBit, Marks, tags, filledAfter, Good, Rated}
 use Rattle.text.specs.declared.tables.Piece.{Piece}
 use Rattle.text.specs.declared.tables.Piece.the-variants.{Past, Entry}
 use Rattle.text.specs.declared.Found.the-variants.{At, Nothing}
 use Rattle.octets.proofs.Lists.{part-to-end}
 use Rattle.text.proofs.Sequences.{token-facts}
-use Rattle.text.proofs.Masks.{mask-test, mask-more}
+use Rattle.text.proofs.Masks.{mask-test, mask-more, Marking, mark-begin, mark-done, mark-more}
 
 -- the part after a tag octet, a length octet and so many octets of text
 drop-more : (at n : ℕ) (s : List ℕ) → drop n (drop 2 (drop at s)) ≡ drop (at + 2 + n) s
@@ -126,6 +126,33 @@ first-whole (t ∷ m ∷ o) n h e g =
 
 pub ruleset first-ways = (first-short, first-long, first-whole)
 
+-- ---- the entry at a place of a table, as `find` and `tokens_of` meet it
+module _ (table : List ℕ) (at : ℕ) (h : at < length table) (p : Piece) (e : p ≡ ahead (entries (take (length table - at) (drop at table)))) where
+  here : p ≡ ahead (entries (drop at table))
+  here = e ∙ ap (λ q. ahead (entries q)) (part-to-end table at)
+
+  no-more : p ≡ Past → entries (drop at table) ≡ []
+  no-more f = is-ended (drop at table) p here f .names
+
+  module _ (t n : ℕ) (f : p ≡ Entry t n) where
+    piece : Pieced (drop at table) t n
+    piece = is-pieced (drop at table) p here t n f
+
+    room : at + 2 + n ≤ length table
+    room = omega (arith, piece .room, length-drop at table)
+
+    pub next-fits : length table < 2 ^ 63 → Fits w64 (at + 2)
+    next-fits g = record { fits = omega (arith, room) }
+
+    pub next-fits-2 : length table < 2 ^ 63 → Fits w64 (at + 2 + n)
+    next-fits-2 g = record { fits = omega (arith, room) }
+
+    next-names : entries (drop at table) ≡ (t, take n (drop 2 (drop at table))) ∷ entries (drop (at + 2 + n) table)
+    next-names = piece .names ∙ ap (λ q. (t, take n (drop 2 (drop at table))) ∷ entries q) (drop-more at n table)
+
+    text-length : length (take n (drop 2 (drop at table))) ≡ n
+    text-length = length-take-le n (drop 2 (drop at table)) (omega (arith, piece .room, length-drop 2 (drop at table)))
+
 -- ---- the loop of `find`
 pub record Finding (table : List ℕ) (tag at : ℕ) : Type 0 where
   pub within : at ≤ length table
@@ -140,42 +167,58 @@ module _ (table : List ℕ) (tag : ℕ) where
   find-done at inv h = sym (inv .same ∙ ap (λ q. found at (entries q) tag) (drop-of-length-le table h))
 
   module _ (at : ℕ) (inv : Finding table tag at) (h : at < length table) (p : Piece) (e : p ≡ ahead (entries (take (length table - at) (drop at table)))) where
-    here : p ≡ ahead (entries (drop at table))
-    here = e ∙ ap (λ q. ahead (entries q)) (part-to-end table at)
-
     pub find-past : p ≡ Past → Nothing ≡ found 0 (entries table) tag
     unfolding found
-    find-past f = sym (inv .same ∙ ap (λ q. found at q tag) (is-ended (drop at table) p here f .names))
+    find-past f = sym (inv .same ∙ ap (λ q. found at q tag) (no-more table at h p e f))
 
     module _ (t n : ℕ) (f : p ≡ Entry t n) where
-      piece : Pieced (drop at table) t n
-      piece = is-pieced (drop at table) p here t n f
-
-      room : at + 2 + n ≤ length table
-      room = omega (arith, piece .room, length-drop at table)
-
-      pub find-fits : length table < 2 ^ 63 → Fits w64 (at + 2)
-      find-fits g = record { fits = omega (arith, room) }
-
-      pub find-fits-2 : length table < 2 ^ 63 → Fits w64 (at + 2 + n)
-      find-fits-2 g = record { fits = omega (arith, room) }
-
-      text-length : length (take n (drop 2 (drop at table))) ≡ n
-      text-length = length-take-le n (drop 2 (drop at table)) (omega (arith, piece .room, length-drop 2 (drop at table)))
-
       step : found 0 (entries table) tag ≡ cond (eqb tag t) (At (at + 2) n) (found (at + 2 + n) (entries (drop (at + 2 + n) table)) tag)
       unfolding found
       step =
-          inv .same ∙ ap (λ q. found at q tag) (piece .names)
-          ∙ ap₂ (λ l q. cond (eqb tag t) (At (at + 2) l) (found (at + 2 + l) (entries q) tag)) text-length (drop-more at n table)
+          inv .same ∙ ap (λ q. found at q tag) (next-names table at h p e t n f)
+          ∙ ap (λ (l : ℕ). cond (eqb tag t) (At (at + 2) l) (found (at + 2 + l) (entries (drop (at + 2 + n) table)) tag)) (text-length table at h p e t n f)
 
       pub find-yes : t ≡ tag → At (at + 2) n ≡ found 0 (entries table) tag
       find-yes g = sym (step ∙ rw (eq-eqb tag t (sym g)))
 
       pub find-again : (t ≡ tag → ⊥) → Finding table tag (at + 2 + n)
-      find-again g = record { within = room; same = step ∙ rw (ne-eqb tag t (λ q. g (sym q))) }
+      find-again g = record { within = room table at h p e t n f; same = step ∙ rw (ne-eqb tag t (λ q. g (sym q))) }
 
-pub ruleset find-ways = (find-begin, find-done, find-past, find-yes, find-again, find-fits, find-fits-2)
+pub ruleset find-ways = (find-begin, find-done, find-past, find-yes, find-again, next-fits, next-fits-2)
+
+-- ---- the loop of `tokens_of`
+pub record Listing (table : List ℕ) (mask at : ℕ) : Type 0 where
+  pub within : at ≤ length table
+  pub marking : Marking mask (tags (entries (drop at table))) (tags (entries table))
+
+module _ (table : List ℕ) where
+  pub list-begin : Listing table 0 0
+  list-begin = record { within = omega arith; marking = mark-begin (tags (entries table)) }
+
+  module _ (mask at : ℕ) (inv : Listing table mask at) where
+    none-left : entries (drop at table) ≡ [] → Marks mask (tags (entries table))
+    unfolding tags
+    none-left q = mark-done mask (tags (entries table)) (subst (λ es. Marking mask (tags es) (tags (entries table))) q (inv .marking))
+
+    pub list-done : length table ≤ at → Marks mask (tags (entries table))
+    unfolding entries cut
+    list-done h = none-left (ap entries (drop-of-length-le table h))
+
+    module _ (h : at < length table) (p : Piece) (e : p ≡ ahead (entries (take (length table - at) (drop at table)))) where
+      pub list-past : p ≡ Past → Marks mask (tags (entries table))
+      list-past f = none-left (no-more table at h p e f)
+
+      pub list-again : (t n : ℕ) → p ≡ Entry t n → (r : ℕ) → r ≡ tokenBit t → Listing table (bitOr mask r) (at + 2 + n)
+      unfolding tags
+      list-again t n f r k =
+          record {
+            within = room table at h p e t n f;
+            marking =
+                mark-more mask t r (tags (entries (drop (at + 2 + n) table))) (tags (entries table))
+                (subst (λ es. Marking mask (tags es) (tags (entries table))) (next-names table at h p e t n f) (inv .marking)) k;
+          }
+
+pub ruleset list-ways = (list-begin, list-done, list-past, list-again, next-fits, next-fits-2)
 
 -- ---- what `find` tells: the part that it names is the entry's text, and it lies inside the table
 named-long : (table : List ℕ) (tag at t n : ℕ) (o : List ℕ) (es : Entries) → drop at table ≡ t ∷ n ∷ o → n ≤ length o

@@ -1,6 +1,6 @@
 -- Laws for those who call: texts without token octets, texts put together, and what the answers of `find` and `expand` tell.
 use mathlib.Core.Path.{_≡_, refl, sym, ap, subst, _∙_}
-use mathlib.Core.Bool.{Bool, true, false, cond, _&&_, false≢true}
+use mathlib.Core.Bool.{Bool, true, false, cond, false≢true}
 use mathlib.Core.Option.{none, some}
 use mathlib.Core.List.{List, [], _∷_, _++_, append-assoc}
 use Prim.Native.Nat.{ℕ, _+_, _≤_, _<_}
@@ -8,7 +8,7 @@ use native.Mathlib.Omega.{arith}
 use lib.ListN.{length, take, drop, length-append}
 use lib.Seq.{sets}
 use borrow.Author.Tests.{leb-true, leb-false}
-use Rattle.octets.proofs.Tests.{and-left, and-right, and-true}
+use Rattle.octets.proofs.Tests.{and-left, and-right}
 use Rattle.text.specs.Text.{token, utf8, text}
 use Rattle.text.specs.Tokens.{Entries, entries, entry, stands, expanded, present, covers, covered, shownLength, expandedSize}
 use Rattle.text.specs.Calls.{found, foundIn, Inside, expandFits, expandAnswer, expandOut, ExpandClaim}
@@ -39,15 +39,6 @@ pub expandedSize-append : (es : Entries) (a b : List ℕ) → expandedSize es (a
 unfolding expandedSize
 expandedSize-append es a b = ap length (expanded-append es a b) ∙ length-append (expanded es a) (expanded es b)
 
-pub covered-append : (es : Entries) (a b : List ℕ) → covered es (a ++ b) ≡ covered es a && covered es b
-unfolding covered
-covered-append es [] b = refl
-covered-append es (c ∷ a) b = rw (covered-append es a b, and-assoc (covers es c) (covered es a) (covered es b))
-  where
-    and-assoc : (x y z : Bool) → x && (y && z) ≡ (x && y) && z
-    and-assoc true y z = refl
-    and-assoc false y z = refl
-
 -- ---- texts without token octets: `covered []` is the test that there is none, and valid text in which none may stand passes it (Words, plain-text-covered)
 bare-octet : (b : ℕ) → covers [] b ≡ true → token b ≡ false
 unfolding covers present entry
@@ -56,15 +47,6 @@ bare-octet b h = go (token b) refl
     go : (t : Bool) → token b ≡ t → token b ≡ false
     go true e = absurd (false≢true (rw e at h))
     go false e = e
-
-pub bare-covered : (es : Entries) (s : List ℕ) → covered [] s ≡ true → covered es s ≡ true
-unfolding covered covers
-bare-covered es [] h = refl
-bare-covered es (b ∷ s) h =
-    and-true (covers es b) (covered es s) (one (bare-octet b (and-left (covers [] b) (covered [] s) h))) (bare-covered es s (and-right (covers [] b) (covered [] s) h))
-  where
-    one : token b ≡ false → covers es b ≡ true
-    one e = rw e
 
 pub bare-expanded : (es : Entries) (s : List ℕ) → covered [] s ≡ true → expanded es s ≡ s
 unfolding covered expanded stands

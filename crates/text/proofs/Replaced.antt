@@ -2,80 +2,117 @@
 use Prim.Native.Nat.{ℕ, _+_, _-_, _≤_, _<_, _^_, min}
 use mathlib.Core.Path.{_≡_, refl, sym, ap, ap₂, subst, _∙_}
 use mathlib.Core.List.{List, [], _∷_, _++_}
-use mathlib.Core.Bool.{Bool, true, false, _&&_, cond}
+use mathlib.Core.Bool.{Bool, true, false, _&&_, _||_, cond, false≢true}
+use mathlib.Core.Option.{some}
 use lib.ListN.{length, getD, take, drop, set, length-drop, length-append, length-set, drop-of-length-le}
 use lib.Seq.{sets, length-sets, length-take-le}
-use lib.Dec.{leb}
+use lib.Dec.{eqb, leb}
+use lib.Bits.{bitOr, bitAnd}
 use native.Mathlib.Nat.{min-eq-left, min-eq-right, min-le-right}
 use native.Mathlib.Omega.{arith}
 use mir.Val.{Fits}
 use mir.Syntax.{w64}
-use borrow.Author.Tests.{le-leb, lt-leb, leb-true, leb-false}
+use borrow.Author.Tests.{le-leb, lt-leb, leb-true, leb-false, eq-eqb, eqb-true, eqb-false}
+use Rattle.octets.specs.Numbers.{among}
+use Rattle.octets.proofs.Tests.{and-left, and-right, and-true, or-elim, or-left, or-true}
 use Rattle.text.specs.Text.{token}
 use Rattle.text.specs.Tokens.{Entries, entries, entry, orItself, stands, expanded, present, covers, covered, shownLength, expandedSize}
 use Rattle.text.specs.Calls.{found, foundIn, Inside, expandFits, expandAnswer, expandOut}
-use Rattle.text.specs.Leaves.{replacedBy}
+use Rattle.text.specs.Leaves.{bit, tokenBit, Marks, tags, replacedBy}
 use Rattle.text.specs.Runs.{UntokenedTo}
 use Rattle.text.specs.declared.Expanded.the-variants.{Done, NoRoom}
 use Rattle.text.specs.declared.Found.{Found}
 use Rattle.text.specs.declared.Found.the-variants.{At, Nothing}
 use Rattle.octets.proofs.Lists.{drop-next, sets-append}
+use Rattle.text.proofs.Masks.{bit-none, kept-within, within-kept, Marking, mark-begin, mark-done, mark-more}
 use Rattle.text.proofs.Entries.{named, inside}
-use Rattle.text.proofs.RunLaws.{run-length, covered-run, expanded-run, expanded-length-run, shown-run, size-run}
+use Rattle.text.proofs.RunLaws.{run-length, expanded-run, expanded-length-run, shown-run, size-run}
 
--- ---- `has_text`
-module _ (table : List ℕ) (b : ℕ) (t : Bool) (k : t ≡ token b) where
-  pub covers-plain : t ≡ false → true ≡ covers (entries table) b
-  unfolding covers
-  covers-plain n = rw (sym k ∙ n)
-
-  module _ (y : t ≡ true) (f : Found) (e : f ≡ found 0 (entries table) b) where
-    covers-is : covers (entries table) b ≡ present (foundIn table f)
-    unfolding covers
-    covers-is = rw (sym k ∙ y, ← named table b, e)
-
-    pub covers-none : f ≡ Nothing → false ≡ covers (entries table) b
-    unfolding present foundIn
-    covers-none q = sym (covers-is ∙ rw q)
-
-    pub covers-some : (start size : ℕ) → f ≡ At start size → true ≡ covers (entries table) b
-    unfolding present foundIn
-    covers-some start size q = sym (covers-is ∙ rw q)
-
-pub ruleset covers-ways = (covers-plain, covers-none, covers-some)
-
--- ---- the loop of `is_covered`
-pub record Covering (es : Entries) (s : List ℕ) (at : ℕ) : Type 0 where
+-- ---- the loop of `tokens_in`
+pub record Gathering (s : List ℕ) (mask at : ℕ) : Type 0 where
   pub within : at ≤ length s
-  pub same : covered es s ≡ covered es (drop at s)
+  pub marking : Marking mask (drop at s) s
 
-module _ (es : Entries) (s : List ℕ) where
-  pub cover-begin : Covering es s 0
-  cover-begin = record { within = omega arith; same = refl }
+module _ (s : List ℕ) where
+  pub gather-begin : Gathering s 0 0
+  gather-begin = record { within = omega arith; marking = mark-begin s }
 
-  pub cover-done : (at : ℕ) → Covering es s at → length s ≤ at → true ≡ covered es s
-  unfolding covered
-  cover-done at inv h = sym (inv .same ∙ ap (covered es) (drop-of-length-le s h))
+  module _ (mask at : ℕ) (inv : Gathering s mask at) where
+    pub gather-done : length s ≤ at → Marks mask s
+    gather-done h = mark-done mask s (subst (λ q. Marking mask q s) (drop-of-length-le s h) (inv .marking))
 
-  module _ (at from : ℕ) (inv : Covering es s at) (run : UntokenedTo s at from) where
-    cover-behind : Covering es s from
-    cover-behind = record { within = run .inside; same = inv .same ∙ covered-run es s at from run }
+    pub gather-again : at < length s → (r : ℕ) → r ≡ tokenBit (getD s at 0) → Gathering s (bitOr mask r) (at + 1)
+    gather-again h r e =
+        record {
+          within = omega arith;
+          marking = mark-more mask (getD s at 0) r (drop (at + 1) s) s (subst (λ q. Marking mask q s) (drop-next s at 0 h) (inv .marking)) e;
+        }
 
-    pub cover-end : from ≡ length s → true ≡ covered es s
-    cover-end q = cover-done from cover-behind (omega arith)
+pub ruleset gather-ways = (gather-begin, gather-done, gather-again)
 
-    module _ (h : from ≡ length s → ⊥) (r : Bool) (e : r ≡ covers es (getD s from 0)) where
-      cover-step : covered es s ≡ r && covered es (drop (from + 1) s)
-      unfolding covered
-      cover-step = cover-behind .same ∙ ap (covered es) (drop-next s from 0 (omega (arith, run .inside))) ∙ ap (λ q. q && covered es (drop (from + 1) s)) (sym e)
+-- ---- `is_covered`: each token among the octets of a text is among the tags
+tag-present : (es : Entries) (b : ℕ) → present (entry es b) ≡ among b (tags es)
+unfolding present entry among tags
+tag-present [] b = refl
+tag-present (e ∷ es) b = go (tag-present es b) (eqb b (e .0))
+  where
+    go : present (entry es b) ≡ among b (tags es) → (q : Bool) → present (cond q (some (e .1)) (entry es b)) ≡ q || among b (tags es)
+    go ih true = refl
+    go ih false = ih
 
-      pub cover-no : r ≡ false → false ≡ covered es s
-      cover-no q = sym (cover-step ∙ rw q)
+tagged : (es : Entries) (b : ℕ) → token b ≡ true → covers es b ≡ among b (tags es)
+unfolding covers
+tagged es b h = rw h (tag-present es b)
 
-      pub cover-again : r ≡ true → Covering es s (from + 1)
-      cover-again q = record { within = omega (arith, run .inside); same = cover-step ∙ rw q }
+untokened : (es : Entries) (b : ℕ) → token b ≡ false → covers es b ≡ true
+unfolding covers
+untokened es b h = rw h
 
-pub ruleset cover-ways = (cover-begin, cover-done, cover-end, cover-no, cover-again)
+covered-all : (es : Entries) (s : List ℕ) → ((t : ℕ) → token t ≡ true → among t s ≡ true → among t (tags es) ≡ true) → covered es s ≡ true
+unfolding covered among
+covered-all es [] f = refl
+covered-all es (b ∷ s) f = and-true (covers es b) (covered es s) (first (token b) refl) (covered-all es s (λ t k h. f t k (rw h (or-true (eqb t b)))))
+  where
+    first : (k : Bool) → token b ≡ k → covers es b ≡ true
+    first true k = tagged es b k ∙ f b k (or-left (eqb b b) (among b s) (eq-eqb b b refl))
+    first false k = untokened es b k
+
+all-covered : (es : Entries) (s : List ℕ) → covered es s ≡ true → (t : ℕ) → token t ≡ true → among t s ≡ true → among t (tags es) ≡ true
+unfolding covered among
+all-covered es [] c t k h = absurd (false≢true h)
+all-covered es (b ∷ s) c t k h =
+    or-elim (eqb t b) (among t s)
+    (λ q. sym (tagged es t k) ∙ ap (covers es) (eqb-true t b q) ∙ and-left (covers es b) (covered es s) c)
+    (λ q. all-covered es s (and-right (covers es b) (covered es s) c) t k q) h
+
+module _ (es : Entries) (s : List ℕ) (used : ℕ) (m : Marks used s) where
+  no-token : used ≡ 0 → (t : ℕ) → token t && among t s ≡ false
+  no-token e t = sym (m .bits t) ∙ ap (λ (n : ℕ). bit n t) e ∙ bit-none t
+
+  pub covered-none : used ≡ 0 → true ≡ covered es s
+  covered-none e = sym (covered-all es s (λ t k h. absurd (false≢true (sym (no-token e t) ∙ and-true (token t) (among t s) k h))))
+
+  pub covered-some : (listed : ℕ) → Marks listed (tags es) → eqb (bitAnd used listed) used ≡ covered es s
+  covered-some listed w = go (eqb (bitAnd used listed) used) refl (covered es s) refl
+    where
+      go : (a : Bool) → eqb (bitAnd used listed) used ≡ a → (b : Bool) → covered es s ≡ b → a ≡ b
+      go true p true q = refl
+      go false p false q = refl
+      go true p false q =
+          sym
+          (covered-all es s
+          (λ t k h. and-right (token t) (among t (tags es))
+          (sym (w .bits t) ∙ kept-within used listed (eqb-true (bitAnd used listed) used p) t (m .bits t ∙ and-true (token t) (among t s) k h))))
+          ∙ q
+      go false p true q =
+          absurd
+          (eqb-false (bitAnd used listed) used p
+          (within-kept used listed
+          (λ t h. let both = sym (m .bits t) ∙ h in
+          let k = and-left (token t) (among t s) both in
+          w .bits t ∙ and-true (token t) (among t (tags es)) k (all-covered es s q t k (and-right (token t) (among t s) both)))))
+
+pub ruleset covered-ways = (covered-none, covered-some)
 
 -- ---- `replacement`, and what it tells of an octet
 module _ (es : Entries) (b : ℕ) (t : Bool) (k : t ≡ token b) where

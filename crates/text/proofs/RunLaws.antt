@@ -15,7 +15,7 @@ use Rattle.text.specs.Tokens.{Entries, expanded, covered, shownLength, e
 use Rattle.text.specs.Leaves.{onward, Steps}
 use Rattle.text.specs.Runs.{within, allWithin, RunTo, PlainTo, UntokenedTo}
 use Rattle.text.proofs.Words.{high-octet, covered-cons}
-use Rattle.text.proofs.Laws.{ascii-text, expanded-append, covered-append, bare-covered, bare-expanded}
+use Rattle.text.proofs.Laws.{ascii-text, expanded-append, bare-expanded}
 
 -- ---- what `are_eight_within` answers
 from-right : (a b c d e f g h : Bool) → a && b && c && d && e && f && g && h ≡ a && (b && (c && (d && (e && (f && (g && (h && true)))))))
@@ -116,11 +116,6 @@ no-tokens (b ∷ p) h =
 module _ (es : Entries) (s : List ℕ) (at end : ℕ) (run : UntokenedTo s at end) where
   bare : covered [] (take (end - at) (drop at s)) ≡ true
   bare = no-tokens (take (end - at) (drop at s)) (run .all)
-
-  pub covered-run : covered es (drop at s) ≡ covered es (drop end s)
-  covered-run =
-      ap (covered es) (run-split 0x14 0xFF s at end run)
-      ∙ covered-append es (take (end - at) (drop at s)) (drop end s) ∙ rw (bare-covered es (take (end - at) (drop at s)) bare)
 
   pub expanded-run : expanded es (drop at s) ≡ take (end - at) (drop at s) ++ expanded es (drop end s)
   expanded-run =

@@ -6,6 +6,7 @@ use mathlib.Core.Bool.{Bool, true, false, _&&_, _||_, not, cond, false≢true}
 use lib.ListN.{length, getD, take, drop, drop-of-length-le}
 use lib.Seq.{length-take-le}
 use lib.Dec.{eqb, leb, ltb}
+use lib.Bits.{bitAnd}
 use lib.Count.{leadingZeros}
 use native.Mathlib.Nat.{pow-suc}
 use native.Mathlib.Numerals.{add-one}
@@ -16,7 +17,7 @@ use borrow.Author.Tests.{lt-ltb, le-ltb, le-leb, lt-leb, eq-eqb, ne-eqb, eqb-fal
 use Rattle.octets.specs.Numbers.{among}
 use Rattle.octets.proofs.Tests.{and-left, and-right, and-false}
 use Rattle.text.specs.Text.{layout, token, character, single, goesOn, utf8, text}
-use Rattle.text.specs.Leaves.{following, several, Lead, onward, Steps}
+use Rattle.text.specs.Leaves.{following, several, tokenBit, Lead, onward, Steps}
 use Rattle.octets.proofs.Lists.{drop-next}
 
 -- ---- layout and token octets
@@ -199,6 +200,26 @@ unfolding sameTest
 same-test true b e = sym e
 same-test false true e = e
 same-test false false e = refl
+
+-- ---- `token_bit`
+maskTest : ℕ → Bool
+maskTest b = eqb (bitAnd (1 * 2 ^ b % 2 ^ 32) 0xFD9FE) (tokenBit b)
+
+all-masks : allBelow maskTest 0x14 ≡ true
+unfolding allBelow maskTest tokenBit token layout among
+all-masks = refl
+
+pub bit-high : (b : ℕ) → 0x13 < b → 0 ≡ tokenBit b
+unfolding tokenBit
+bit-high b h = rw (← token-no b (λ p q r s t. omega arith))
+
+pub bit-low : (b w : ℕ) → b ≤ 0x13 → w ≡ b → bitAnd (1 * 2 ^ w % 2 ^ 32) 0xFD9FE ≡ tokenBit b
+unfolding maskTest
+bit-low b w h e =
+    ap (λ (n : ℕ). bitAnd (1 * 2 ^ n % 2 ^ 32) 0xFD9FE) e
+    ∙ eqb-true (bitAnd (1 * 2 ^ b % 2 ^ 32) 0xFD9FE) (tokenBit b) (below maskTest 0x14 all-masks b (omega arith))
+
+pub ruleset bit-ways = (bit-high, bit-low)
 
 -- ---- the leading ones of each of the 256 octets
 ones : ℕ → ℕ

@@ -6,6 +6,7 @@ use Prim.Native.Nat.{ℕ, zero, suc, _+_, _*_, _/_, _%_, _^_, _≤_, _<_}
 use lib.Dec.{eqb, ltb}
 use lib.ListN.{length, drop}
 use lib.Bits.{bitOr}
+use Rattle.octets.specs.Numbers.{among}
 use Rattle.text.specs.Text.{token, character, text}
 use Rattle.text.specs.Tokens.{Entries, filled}
 use Rattle.text.specs.Calls.{found}
@@ -52,6 +53,23 @@ ahead (e ∷ es) = Entry (e .0) (length (e .1))
 unfoldable pub maskOf : List ℕ → ℕ
 maskOf [] = 0
 maskOf (t ∷ ts) = bitOr (maskOf ts) (2 ^ t)
+
+-- the bit of a number in a mask
+abbrev pub bit : ℕ → ℕ → Bool
+bit mask t = eqb (mask / 2 ^ t % 2) 1
+
+-- the mask of an octet by itself: a token has its bit, any other octet none
+unfoldable pub tokenBit : ℕ → ℕ
+tokenBit b = cond (token b) (2 ^ b) 0
+
+-- the bits of a mask are the tokens among some octets
+pub record Marks (mask : ℕ) (octets : List ℕ) : Type 0 where
+  pub bits : (k : ℕ) → bit mask k ≡ token k && among k octets
+
+-- the tags of entries
+unfoldable pub tags : Entries → List ℕ
+tags [] = []
+tags (e ∷ es) = e .0 ∷ tags es
 
 -- rule 11 for what is left of a table after entries with the tags seen
 unfoldable pub filledAfter : List ℕ → List ℕ → Bool

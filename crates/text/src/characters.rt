@@ -3,7 +3,7 @@ ghost use mathlib.Core.Path.{_≡_};
 ghost use Prim.Native.Nat.{_≤_, _<_};
 ghost use lib.ListN.{length};
 ghost use Rattle.text.specs.Text.{layout, token, character, single, text};
-ghost use Rattle.text.specs.Leaves.{following, several, Lead, Steps};
+ghost use Rattle.text.specs.Leaves.{following, several, tokenBit, Lead, Steps};
 use crate::runs::plain_end;
 
 // An octet as a number whose sums fit.
@@ -35,6 +35,16 @@ pub fn is_token(b: u8) -> bool
         0x01..=0x08 | 0x0B | 0x0C | 0x0E..=0x13 => true,
         _ => false,
     }
+}
+
+// The mask with the bit of an octet that is a token, and with no bit for any other. The constant has the bits of the octets of `is_token`.
+pub fn token_bit(b: u8) -> u32
+    ensures { λ r. ⌜ r ≡ tokenBit b ⌝ }
+{
+    if b > 0x13 {
+        return 0;
+    }
+    (1u32 << wide(b)) & 0xFD9FE
 }
 
 // An octet below 0x80 that may stand by itself.

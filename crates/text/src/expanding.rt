@@ -1,50 +1,45 @@
-// Texts with their tokens replaced: judged and measured where they stand, and copied by `expand` alone. Octets above the last token are passed
-// over in runs. Of the others, one that is no token costs a test or two, and a token a `find`, at most 16 steps in a table that passes
-// `is_table`.
+// Texts with their tokens replaced: judged and measured where they stand, and copied by `expand` alone. Where what stands for an octet counts,
+// octets above the last token are passed over in runs. Of the others, one that is no token costs a test or two, and a token a `find`, at most
+// 16 steps in a table that passes `is_table`. Whether each token has an entry is asked of all of them at once.
 ghost use mathlib.Core.Path.{_≡_};
 ghost use Prim.Native.Nat.{_+_, _≤_, min};
 ghost use lib.Dec.{leb};
 ghost use lib.ListN.{length};
 ghost use lib.Seq.{sets};
-ghost use Rattle.text.specs.Tokens.{entries, stands, expanded, covers, covered, shownLength, expandedSize};
+ghost use Rattle.text.specs.Tokens.{entries, stands, expanded, covered, shownLength, expandedSize};
 ghost use Rattle.text.specs.Calls.{ExpandClaim};
-ghost use Rattle.text.specs.Leaves.{replacedBy};
+ghost use Rattle.text.specs.Leaves.{Marks, replacedBy};
 use crate::Expanded;
 use crate::Found;
 use crate::characters::is_token;
+use crate::characters::token_bit;
 use crate::runs::untokened_end;
 use crate::tables::find;
+use crate::tables::tokens_of;
 
-// An octet that is no token, or one with an entry.
-fn has_text(table: &[u8], b: u8) -> bool
-    ensures { λ r. ⌜ r ≡ covers (entries (now (table .entry))) b ⌝ }
+// The tokens of a text, a bit each. Nothing is decided between two octets, so that the compiler takes eight at a time.
+fn tokens_in(s: &[u8]) -> u32
+    ensures { λ r. ⌜ Marks r (now (s .entry)) ⌝ }
 {
-    if is_token(b) {
-        match find(table, b) {
-            Found::Nothing => false,
-            Found::At { start: _, size: _ } => true,
-        }
-    } else {
-        true
+    let mut mask: u32 = 0;
+    let mut at: usize = 0;
+    while at < s.len() {
+        mask = mask | token_bit(s[at]);
+        at += 1;
     }
+    mask
 }
 
-// Each token octet of a text has an entry (rule 12).
+// Each token octet of a text has an entry (rule 12). The table is gone through once, however many tokens stand in the text, and not at all where
+// none does.
 pub fn is_covered(table: &[u8], s: &[u8]) -> bool
     ensures { λ r. ⌜ r ≡ covered (entries (now (table .entry))) (now (s .entry)) ⌝ }
 {
-    let mut at: usize = 0;
-    while at < s.len() {
-        let from = untokened_end(s, at);
-        if from == s.len() {
-            return true;
-        }
-        if !has_text(table, s[from]) {
-            return false;
-        }
-        at = from + 1;
+    let used = tokens_in(s);
+    if used == 0 {
+        return true;
     }
-    true
+    used & tokens_of(table) == used
 }
 
 // Where in the table the text lies that stands for an octet. Nothing: the octet stands for itself.

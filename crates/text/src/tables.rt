@@ -3,10 +3,11 @@ ghost use mathlib.Core.Path.{_≡_};
 ghost use Prim.Native.Nat.{_<_};
 ghost use Rattle.text.specs.Tokens.{entries, isTable};
 ghost use Rattle.text.specs.Calls.{found};
-ghost use Rattle.text.specs.Leaves.{ahead, RatedBy};
+ghost use Rattle.text.specs.Leaves.{ahead, tags, Marks, RatedBy};
 use crate::Found;
 use crate::characters::check;
 use crate::characters::is_token;
+use crate::characters::token_bit;
 use crate::characters::wide;
 
 // The entry with which a part of a table begins: its tag, and the size of its text, which lies inside that part.
@@ -58,6 +59,26 @@ pub fn find(table: &[u8], tag: u8) -> Found
         }
     }
     Found::Nothing
+}
+
+// The tokens that have an entry, a bit each.
+pub fn tokens_of(table: &[u8]) -> u32
+    ensures { λ r. ⌜ Marks r (tags (entries (now (table .entry)))) ⌝ }
+{
+    let mut mask: u32 = 0;
+    let mut at: usize = 0;
+    while at < table.len() {
+        match first_entry(&table[at..]) {
+            Piece::Past => {
+                return mask;
+            }
+            Piece::Entry { tag, size } => {
+                mask = mask | token_bit(tag);
+                at = at + 2 + size;
+            }
+        }
+    }
+    mask
 }
 
 // Rule 11 for the first entry of what is left of a table, after entries whose tags are the bits of a mask: the entry, or Past where it breaks

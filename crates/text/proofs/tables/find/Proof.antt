@@ -1,6 +1,6 @@
 use Prim.Native.Nat.{_-_}
 use lib.ListN.{length}
-use Rattle.text.proofs.Entries.{Finding, find-ways, find-fits-2}
+use Rattle.text.proofs.Entries.{Finding, find-ways, next-fits-2}
 use borrow.Author.Needs.{needs}
 use Rattle.text.proofs.tables.find.Statement.{statement}
 use Rattle.text.proofs.tables.find.Tie as tie
@@ -47,7 +47,7 @@ add-at c = search (find-ways, needs)
 add-at-2 : tie.Need-add-at-2 Inv-loop μ-loop
 add-at-2 c =
     let told = c .before .before .before .before in
-    find-fits-2 _ _ _ (told .before .before .before .loop .inv) (told .before .before .loop-test .taken) _ (told .first-entry .ensures) _ _ (c .before .before .t .given .1) (search needs)
+    next-fits-2 (told .before .before .before .before .before .args .table .now) _ (told .before .before .loop-test .taken) _ (told .first-entry .ensures) _ _ (c .before .before .t .given .1) (search needs)
 
 loop-less : tie.Need-loop-less Inv-loop μ-loop
 loop-less c = search needs
