@@ -269,6 +269,10 @@ pub ruleset keeping-ways = (keeping-begin, keeping-no, keeping-done, keeping-aga
 pub part-count : (n : ℕ) (l : List ℕ) → n ≤ length l → n ≡ length (take n l)
 part-count n l h = sym (length-take-le n l h)
 
+-- of memory of a known size
+pub lent-part : (n size : ℕ) (l : List ℕ) → size ≡ length l → n ≤ size → n ≡ length (take n l)
+lent-part n size l e h = part-count n l (omega (arith, e))
+
 module _ (text : List ℕ) (at : ℕ) (before after : List ℕ) (p : Put) (k : Puts text at before after p) where
   pub puts-long : length after ≡ length before
   unfolding putLeaves
@@ -338,18 +342,8 @@ module _ (input : List ℕ) (w : Window) (v : Standing (length input) w) where
       → FieldsWithin (w .to - w .from) room size
   tail-left t a room size e = let b : FieldsWithin (length (take (w .to - w .from) (drop (w .from) input))) room size = rw e at a in rw left-long at b
 
-module _ (left : ℕ) (c : Case) (a : Asked left c) where
-  pub listing-whole : (places size : ℕ) → c ≡ Listing places size → 6 + size ≤ left
-  listing-whole places size e = let b : Asked left (Listing places size) = rw e at a in b .whole
-
-  pub normal-within : (places store room size : ℕ) → c ≡ Normal places store room size → Asked left (Normal places store room size)
-  normal-within places store room size e = rw e at a
-
-  pub written-whole : (count places : ℕ) → c ≡ Written count places → 5 ≤ left
-  written-whole count places e = let b : Asked left (Written count places) = rw e at a in b .whole
-
-  pub same-whole : (first second : ℕ) → c ≡ Same first second → 7 + first + second ≤ left
-  same-whole first second e = let b : Asked left (Same first second) = rw e at a in b .whole
+pub asked-as : {left : ℕ} {c d : Case} → Asked left c → c ≡ d → Asked left d
+asked-as a e = rw e at a
 
 -- a body behind a head of six octets lies within the buffer
 pub body-inside : (buffer : ℕ) (w : Window) → Standing buffer w → (size : ℕ) → 6 + size ≤ w .to - w .from → w .from + 6 + size ≤ buffer
@@ -366,20 +360,14 @@ ample-fewer a m h =
     record { tag = omega (arith, a .tag); kind = omega (arith, a .kind); depth = omega (arith, a .depth); parent = omega (arith, a .parent); start = omega (arith, a .start); size = omega (arith, a .size) }
 
 -- as many places as a case has lent
-pub ample-part : {tags kinds depths parents starts sizes : List ℕ} → Ample 65_535 tags kinds depths parents starts sizes → (n : ℕ) → n ≤ 65_535
+pub ample-part : (n : ℕ) → n ≤ 65_535 → (tags kinds depths parents starts sizes : List ℕ) → 65_535 ≡ length tags → 65_535 ≡ length kinds → 65_535 ≡ length depths
+    → 65_535 ≡ length parents → 65_535 ≡ length starts → 65_535 ≡ length sizes
     → Ample (length (take n tags)) (take n tags) (take n kinds) (take n depths) (take n parents) (take n starts) (take n sizes)
-ample-part {tags} {kinds} {depths} {parents} {starts} {sizes} a n h =
-    record {
-      tag = omega arith;
-      kind = long tags (a .tag) kinds (a .kind);
-      depth = long tags (a .tag) depths (a .depth);
-      parent = long tags (a .tag) parents (a .parent);
-      start = long tags (a .tag) starts (a .start);
-      size = long tags (a .tag) sizes (a .size);
-    }
+ample-part n h tags kinds depths parents starts sizes t k d p s z =
+    record { tag = omega arith; kind = long kinds k; depth = long depths d; parent = long parents p; start = long starts s; size = long sizes z }
   where
-    long : (l : List ℕ) → 65_535 ≤ length l → (k : List ℕ) → 65_535 ≤ length k → length (take n l) ≤ length (take n k)
-    long l f k g = omega (arith, length-take-le n l (omega arith), length-take-le n k (omega arith))
+    long : (l : List ℕ) → 65_535 ≡ length l → length (take n tags) ≤ length (take n l)
+    long l e = omega (arith, lent-part n 65_535 tags t h, lent-part n 65_535 l e h)
 
 -- lists that have the lengths that they had
 pub record Kept (tags₀ kinds₀ depths₀ parents₀ starts₀ sizes₀ tags kinds depths parents starts sizes : List ℕ) : Type 0 where
@@ -399,14 +387,10 @@ kept-again k l =
     record { tag = l .tag ∙ k .tag; kind = l .kind ∙ k .kind; depth = l .depth ∙ k .depth; parent = l .parent ∙ k .parent; start = l .start ∙ k .start; size = l .size ∙ k .size }
 
 -- cases answered so far
-pub record Running (input₀ tags₀ kinds₀ depths₀ parents₀ starts₀ sizes₀ store₀ room₀ other₀ out₀ input tags kinds depths parents starts sizes store room other out : List ℕ) (w : Window) (used : ℕ) : Type 0 where
+pub record Running (input₀ out₀ input out : List ℕ) (w : Window) (used : ℕ) : Type 0 where
   pub standing : Standing (length input) w
   pub inside : used ≤ length out
-  pub lists : Kept tags₀ kinds₀ depths₀ parents₀ starts₀ sizes₀ tags kinds depths parents starts sizes
   pub input-long : length input ≡ length input₀
-  pub store-long : length store ≡ length store₀
-  pub room-long : length room ≡ length room₀
-  pub other-long : length other ≡ length other₀
   pub out-long : length out ≡ length out₀
 
 pub turned : (buffer room : ℕ) (t : Turn) → Turned buffer room t → (w : Window) (used : ℕ) → t ≡ Answered w used → Stepped buffer room w used

@@ -3,7 +3,9 @@ use crate::cases::Tail;
 use crate::cases::field;
 use crate::cases::tail_of;
 use crate::lines::say_octets;
-use crate::marks::mark_octets;
+use crate::memory::marked_room;
+use crate::memory::number_places;
+use crate::memory::octet_places;
 use crate::stream::Turn;
 use crate::stream::Window;
 use crate::stream::fetch;
@@ -122,6 +124,7 @@ fn take_records(
     Taken::Behind(behind)
 }
 
+// The room has its marks.
 fn answer_records(
     count: usize,
     tags: &[u8],
@@ -138,7 +141,6 @@ fn answer_records(
     requires { ⌜ used ≤ length (now out) ⌝ }
     ensures { λ r. ⌜ r ≤ length (now (out .exit)) ⌝ }
 {
-    mark_octets(room);
     let answer = writer::write(
         count,
         tags,
@@ -202,8 +204,7 @@ fn answer_tail(
     }
 }
 
-// The lists are the places of the case, and no more; the window is that behind its letter and numbers.
-pub fn answer_written(
+fn answer_into(
     count: usize,
     input: &mut [u8],
     tags: &mut [u8],
@@ -240,4 +241,41 @@ pub fn answer_written(
             used,
         ),
     }
+}
+
+// The lists are the places of the case, and no more; the window is that behind its letter and numbers.
+pub fn answer_written(
+    count: usize,
+    places: usize,
+    input: &mut [u8],
+    out: &mut [u8],
+    w: Window,
+    used: usize,
+) -> Turn
+    requires { ⌜ Standing (length (now input)) w ⌝ }
+    requires { ⌜ places ≤ 65_535 ⌝ }
+    requires { ⌜ used ≤ length (now out) ⌝ }
+    ensures { λ r. ⌜ Turned (length (now (input .exit))) (length (now (out .exit))) r ⌝ }
+{
+    let mut tags = octet_places();
+    let mut kinds = octet_places();
+    let mut depths = octet_places();
+    let mut parents = number_places();
+    let mut starts = number_places();
+    let mut sizes = number_places();
+    let mut room = marked_room();
+    answer_into(
+        count,
+        input,
+        &mut tags[..places],
+        &mut kinds[..places],
+        &mut depths[..places],
+        &mut parents[..places],
+        &mut starts[..places],
+        &mut sizes[..places],
+        &mut room,
+        out,
+        w,
+        used,
+    )
 }

@@ -3,9 +3,6 @@ use Rattle.answers.proofs.Ways.{written-handed}
 use Rattle.answers.proofs.written.answer_records.Statement.{statement}
 use Rattle.answers.proofs.written.answer_records.Tie as tie
 
-mark-octets-requires : tie.Need-mark-octets-requires
-mark-octets-requires c κs = search needs
-
 write-requires : tie.Need-write-requires
 write-requires c κs = search needs
 
@@ -14,7 +11,7 @@ slice-aggregate-say-octets c = search needs
 
 say-octets-requires : tie.Need-say-octets-requires
 say-octets-requires c κs =
-    (written-handed _ _ _ _ _ _ (c .before .before .before .before .before .write .ensures) (c .before .before .before .before .before .write .kept .1 .1 .1 .1 .1 .1 .1 .1 .0), (c .before .before .before .before .before .before .before .before .before .before .before .before .before .before .before .before .before .before .before .before .pre))
+    (written-handed _ _ _ _ _ _ (c .before .before .before .before .before .write .ensures) (c .before .before .before .before .before .write .kept .1 .1 .1 .1 .1 .1 .1 .1 .0), c .before .before .before .before .before .before .before .before .before .before .before .before .before .before .before .before .pre)
 
 same-length : tie.Need-same-length
 same-length c = search needs
@@ -29,7 +26,6 @@ pub answer-records-spec : {M : Type 1} → statement M
 answer-records-spec =
     tie.close
     (tie.spec
-    mark-octets-requires
     write-requires
     slice-aggregate-say-octets
     say-octets-requires

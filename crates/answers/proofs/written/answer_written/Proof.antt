@@ -1,20 +1,77 @@
 use borrow.Author.Needs.{needs}
-use Rattle.answers.proofs.Ways.{reached}
+use Rattle.answers.proofs.Ways.{lent-part, ample-part}
 use Rattle.answers.proofs.written.answer_written.Statement.{statement}
 use Rattle.answers.proofs.written.answer_written.Tie as tie
 
-take-records-requires : tie.Need-take-records-requires
-take-records-requires c κs = search needs
+octet-places-requires : tie.Need-octet-places-requires
+octet-places-requires c κs = search needs
 
-enum-told : tie.Need-enum-told
-enum-told c = search needs
+octet-places-requires-2 : tie.Need-octet-places-requires-2
+octet-places-requires-2 c κs = search needs
 
-enum-known-behind : tie.Need-enum-known-behind
-enum-known-behind c = search needs
+octet-places-requires-3 : tie.Need-octet-places-requires-3
+octet-places-requires-3 c κs = search needs
 
-answer-tail-requires : tie.Need-answer-tail-requires
-answer-tail-requires c κs =
-    (reached _ _ (c .before .before .before .before .before .before .before .before .before .before .before .before .before .before .before .before .before .before .before .before .before .before .before .before .before .before .take-records .ensures) _ (c .before .before .before .before .before .before .before .before .before .before .behind .given .1), c .before .before .before .before .before .before .before .before .before .before .before .before .before .before .before .before .before .before .before .before .before .before .before .before .before .before .before .before .before .before .before .before .before .before .before .before .before .before .before .before .before .before .before .pre .1 .1)
+number-places-requires : tie.Need-number-places-requires
+number-places-requires c κs = search needs
+
+number-places-requires-2 : tie.Need-number-places-requires-2
+number-places-requires-2 c κs = search needs
+
+number-places-requires-3 : tie.Need-number-places-requires-3
+number-places-requires-3 c κs = search needs
+
+marked-room-requires : tie.Need-marked-room-requires
+marked-room-requires c κs = search needs
+
+array-borrow-prefix-tags : tie.Need-array-borrow-prefix-tags
+array-borrow-prefix-tags c = search needs
+
+slice-aggregate-answer-into : tie.Need-slice-aggregate-answer-into
+slice-aggregate-answer-into c =
+    lent-part _ _ _ (c .before .before .before .before .before .before .before .before .octet-places .ensures) (c .before .before .before .before .before .before .before .before .before .before .before .pre .1 .0)
+
+array-borrow-prefix-kinds : tie.Need-array-borrow-prefix-kinds
+array-borrow-prefix-kinds c = search needs
+
+slice-aggregate-answer-into-2 : tie.Need-slice-aggregate-answer-into-2
+slice-aggregate-answer-into-2 c =
+    lent-part _ _ _ (c .before .before .before .before .before .before .before .before .octet-places2 .ensures) (c .before .before .before .before .before .before .before .before .before .before .before .before .pre .1 .0)
+
+array-borrow-prefix-depths : tie.Need-array-borrow-prefix-depths
+array-borrow-prefix-depths c = search needs
+
+slice-aggregate-answer-into-3 : tie.Need-slice-aggregate-answer-into-3
+slice-aggregate-answer-into-3 c =
+    lent-part _ _ _ (c .before .before .before .before .before .before .before .before .octet-places3 .ensures) (c .before .before .before .before .before .before .before .before .before .before .before .before .before .pre .1 .0)
+
+array-borrow-prefix-parents : tie.Need-array-borrow-prefix-parents
+array-borrow-prefix-parents c = search needs
+
+slice-aggregate-answer-into-4 : tie.Need-slice-aggregate-answer-into-4
+slice-aggregate-answer-into-4 c =
+    lent-part _ _ _ (c .before .before .before .before .before .before .before .before .number-places .ensures) (c .before .before .before .before .before .before .before .before .before .before .before .before .before .before .pre .1 .0)
+
+array-borrow-prefix-starts : tie.Need-array-borrow-prefix-starts
+array-borrow-prefix-starts c = search needs
+
+slice-aggregate-answer-into-5 : tie.Need-slice-aggregate-answer-into-5
+slice-aggregate-answer-into-5 c =
+    lent-part _ _ _ (c .before .before .before .before .before .before .before .before .number-places2 .ensures) (c .before .before .before .before .before .before .before .before .before .before .before .before .before .before .before .pre .1 .0)
+
+array-borrow-prefix-sizes : tie.Need-array-borrow-prefix-sizes
+array-borrow-prefix-sizes c = search needs
+
+slice-aggregate-answer-into-6 : tie.Need-slice-aggregate-answer-into-6
+slice-aggregate-answer-into-6 c =
+    lent-part _ _ _ (c .before .before .before .before .before .before .before .before .number-places3 .ensures) (c .before .before .before .before .before .before .before .before .before .before .before .before .before .before .before .before .pre .1 .0)
+
+slice-aggregate-answer-into-7 : tie.Need-slice-aggregate-answer-into-7
+slice-aggregate-answer-into-7 c = search needs
+
+answer-into-requires : tie.Need-answer-into-requires
+answer-into-requires c κs =
+    (c .before .before .before .before .before .before .before .before .before .before .before .before .before .before .before .before .before .before .pre .0, (ample-part _ (c .before .before .before .before .before .before .before .before .before .before .before .before .before .before .before .before .before .before .pre .1 .0) _ _ _ _ _ _ (c .before .before .before .before .before .before .before .before .before .before .before .before .before .before .before .octet-places .ensures) (c .before .before .before .before .before .before .before .before .before .before .before .before .before .before .octet-places2 .ensures) (c .before .before .before .before .before .before .before .before .before .before .before .before .before .octet-places3 .ensures) (c .before .before .before .before .before .before .before .before .before .before .before .before .number-places .ensures) (c .before .before .before .before .before .before .before .before .before .before .before .number-places2 .ensures) (c .before .before .before .before .before .before .before .before .before .before .number-places3 .ensures), (c .before .before .before .before .before .before .before .before .before .marked-room .ensures, c .before .before .before .before .before .before .before .before .before .before .before .before .before .before .before .before .before .before .pre .1 .1)))
 
 same-length : tie.Need-same-length
 same-length c = search needs
@@ -22,77 +79,34 @@ same-length c = search needs
 same-length-2 : tie.Need-same-length-2
 same-length-2 c = search needs
 
-same-length-3 : tie.Need-same-length-3
-same-length-3 c = search needs
-
-same-length-4 : tie.Need-same-length-4
-same-length-4 c = search needs
-
-same-length-5 : tie.Need-same-length-5
-same-length-5 c = search needs
-
-same-length-6 : tie.Need-same-length-6
-same-length-6 c = search needs
-
-same-length-7 : tie.Need-same-length-7
-same-length-7 c = search needs
-
 returns : tie.Need-returns
 returns c = search needs
-
-same-length-8 : tie.Need-same-length-8
-same-length-8 c = search needs
-
-same-length-9 : tie.Need-same-length-9
-same-length-9 c = search needs
-
-same-length-10 : tie.Need-same-length-10
-same-length-10 c = search needs
-
-same-length-11 : tie.Need-same-length-11
-same-length-11 c = search needs
-
-same-length-12 : tie.Need-same-length-12
-same-length-12 c = search needs
-
-same-length-13 : tie.Need-same-length-13
-same-length-13 c = search needs
-
-same-length-14 : tie.Need-same-length-14
-same-length-14 c = search needs
-
-same-length-15 : tie.Need-same-length-15
-same-length-15 c = search needs
-
-same-length-16 : tie.Need-same-length-16
-same-length-16 c = search needs
-
-returns-2 : tie.Need-returns-2
-returns-2 c = search needs
 
 pub answer-written-spec : {M : Type 1} → statement M
 answer-written-spec =
     tie.close
     (tie.spec
-    take-records-requires
-    enum-told
-    enum-known-behind
-    answer-tail-requires
+    octet-places-requires
+    octet-places-requires-2
+    octet-places-requires-3
+    number-places-requires
+    number-places-requires-2
+    number-places-requires-3
+    marked-room-requires
+    array-borrow-prefix-tags
+    slice-aggregate-answer-into
+    array-borrow-prefix-kinds
+    slice-aggregate-answer-into-2
+    array-borrow-prefix-depths
+    slice-aggregate-answer-into-3
+    array-borrow-prefix-parents
+    slice-aggregate-answer-into-4
+    array-borrow-prefix-starts
+    slice-aggregate-answer-into-5
+    array-borrow-prefix-sizes
+    slice-aggregate-answer-into-6
+    slice-aggregate-answer-into-7
+    answer-into-requires
     same-length
     same-length-2
-    same-length-3
-    same-length-4
-    same-length-5
-    same-length-6
-    same-length-7
-    returns
-    same-length-8
-    same-length-9
-    same-length-10
-    same-length-11
-    same-length-12
-    same-length-13
-    same-length-14
-    same-length-15
-    same-length-16
-    returns-2)
+    returns)
