@@ -1,12 +1,12 @@
 -- The ways through the program's functions: fields of a case, marks, where lines end, and the stream.
 use mathlib.Core.Path.{_≡_, refl, sym, ap, _∙_}
 use mathlib.Core.Bool.{Bool, true, false, cond, _&&_, false≢true}
-use mathlib.Core.List.{List}
+use mathlib.Core.List.{List, _++_}
 use Prim.Native.Nat.{ℕ, _+_, _-_, _^_, _≤_, _<_, min}
 use native.Mathlib.Nat.{min-le-left}
 use native.Mathlib.Omega.{arith}
 use lib.Dec.{eqb, leb}
-use lib.ListN.{length, take, drop, getD, set, length-set, length-drop}
+use lib.ListN.{length, take, drop, getD, set, length-set, length-append, length-drop}
 use lib.Seq.{sets, length-take-le, length-sets, getD-set-same, getD-set-other}
 use borrow.Author.Tests.{le-leb, lt-leb, leb-true, eq-eqb, ne-eqb, eqb-true, eqb-false}
 use mir.Syntax.{w16}
@@ -326,6 +326,22 @@ normal-handed object l l′ store store′ before after (Octets k) c e = go (jud
     go (refused r) q = let z : _≡_ {A = ℕ} 0 1 = cc in absurd (omega arith)
     go (accepted t) q = fitting t (fitsLent lent t) refl q
 
+-- a part of memory that was lent, and is back
+module _ (n size : ℕ) (l part : List ℕ) (e : size ≡ length l) (h : n ≤ size) (k : length part ≡ length (take n l)) where
+  part-long : n ≡ length part
+  part-long = lent-part n size l e h ∙ sym k
+
+  pub lent-back : size ≡ length (part ++ drop n l)
+  lent-back = rw (length-append, length-drop) (omega (arith, e, h, part-long))
+
+  pub lent-within : n ≤ length (part ++ drop n l)
+  lent-within = omega (arith, lent-back, h)
+
+  pub handed-back : (r : WriteAnswer) → Handed (length part) r → Handed (length (take n (part ++ drop n l))) r
+  handed-back r g =
+      let same : length (take n (part ++ drop n l)) ≡ length part = length-take-le n (part ++ drop n l) lent-within ∙ part-long in
+      rw same g
+
 pub handed-part : (room : List ℕ) (r : WriteAnswer) → Handed (length room) r → (n : ℕ) → r ≡ Octets n → n ≡ length (take n room)
 handed-part room r h n e = let inside : n ≤ length room = rw e at h in part-count n room inside
 
@@ -358,16 +374,6 @@ passed-stands buffer w w′ size v h e = record { rising = omega (arith, e .0, e
 pub ample-fewer : {n : ℕ} {tags kinds depths parents starts sizes : List ℕ} → Ample n tags kinds depths parents starts sizes → (m : ℕ) → m ≤ n → Ample m tags kinds depths parents starts sizes
 ample-fewer a m h =
     record { tag = omega (arith, a .tag); kind = omega (arith, a .kind); depth = omega (arith, a .depth); parent = omega (arith, a .parent); start = omega (arith, a .start); size = omega (arith, a .size) }
-
--- as many places as a case has lent
-pub ample-part : (n : ℕ) → n ≤ 65_535 → (tags kinds depths parents starts sizes : List ℕ) → 65_535 ≡ length tags → 65_535 ≡ length kinds → 65_535 ≡ length depths
-    → 65_535 ≡ length parents → 65_535 ≡ length starts → 65_535 ≡ length sizes
-    → Ample (length (take n tags)) (take n tags) (take n kinds) (take n depths) (take n parents) (take n starts) (take n sizes)
-ample-part n h tags kinds depths parents starts sizes t k d p s z =
-    record { tag = omega arith; kind = long kinds k; depth = long depths d; parent = long parents p; start = long starts s; size = long sizes z }
-  where
-    long : (l : List ℕ) → 65_535 ≡ length l → length (take n tags) ≤ length (take n l)
-    long l e = omega (arith, lent-part n 65_535 tags t h, lent-part n 65_535 l e h)
 
 -- lists that have the lengths that they had
 pub record Kept (tags₀ kinds₀ depths₀ parents₀ starts₀ sizes₀ tags kinds depths parents starts sizes : List ℕ) : Type 0 where

@@ -1,5 +1,7 @@
+use mathlib.Core.Path.{sym, _∙_}
+use native.Mathlib.Omega.{arith}
 use borrow.Author.Needs.{needs}
-use Rattle.answers.proofs.Ways.{lent-part, ample-part}
+use Rattle.answers.proofs.Ways.{lent-part, reached}
 use Rattle.answers.proofs.written.answer_written.Statement.{statement}
 use Rattle.answers.proofs.written.answer_written.Tie as tie
 
@@ -21,66 +23,99 @@ number-places-requires-2 c κs = search needs
 number-places-requires-3 : tie.Need-number-places-requires-3
 number-places-requires-3 c κs = search needs
 
-marked-room-requires : tie.Need-marked-room-requires
-marked-room-requires c κs = search needs
+slice-aggregate-take-records : tie.Need-slice-aggregate-take-records
+slice-aggregate-take-records c = search needs
 
-array-borrow-prefix-tags : tie.Need-array-borrow-prefix-tags
-array-borrow-prefix-tags c = search needs
+slice-aggregate-take-records-2 : tie.Need-slice-aggregate-take-records-2
+slice-aggregate-take-records-2 c = search needs
 
-slice-aggregate-answer-into : tie.Need-slice-aggregate-answer-into
-slice-aggregate-answer-into c =
-    lent-part _ _ _ (c .before .before .before .before .before .before .before .before .octet-places .ensures) (c .before .before .before .before .before .before .before .before .before .before .before .pre .1 .0)
+slice-aggregate-take-records-3 : tie.Need-slice-aggregate-take-records-3
+slice-aggregate-take-records-3 c = search needs
 
-array-borrow-prefix-kinds : tie.Need-array-borrow-prefix-kinds
-array-borrow-prefix-kinds c = search needs
+slice-aggregate-take-records-4 : tie.Need-slice-aggregate-take-records-4
+slice-aggregate-take-records-4 c = search needs
 
-slice-aggregate-answer-into-2 : tie.Need-slice-aggregate-answer-into-2
-slice-aggregate-answer-into-2 c =
-    lent-part _ _ _ (c .before .before .before .before .before .before .before .before .octet-places2 .ensures) (c .before .before .before .before .before .before .before .before .before .before .before .before .pre .1 .0)
+slice-aggregate-take-records-5 : tie.Need-slice-aggregate-take-records-5
+slice-aggregate-take-records-5 c = search needs
 
-array-borrow-prefix-depths : tie.Need-array-borrow-prefix-depths
-array-borrow-prefix-depths c = search needs
+slice-aggregate-take-records-6 : tie.Need-slice-aggregate-take-records-6
+slice-aggregate-take-records-6 c = search needs
 
-slice-aggregate-answer-into-3 : tie.Need-slice-aggregate-answer-into-3
-slice-aggregate-answer-into-3 c =
-    lent-part _ _ _ (c .before .before .before .before .before .before .before .before .octet-places3 .ensures) (c .before .before .before .before .before .before .before .before .before .before .before .before .before .pre .1 .0)
+take-records-requires : tie.Need-take-records-requires
+take-records-requires c κs = search needs
 
-array-borrow-prefix-parents : tie.Need-array-borrow-prefix-parents
-array-borrow-prefix-parents c = search needs
+enum-known-taken : tie.Need-enum-known-taken
+enum-known-taken c = search needs
 
-slice-aggregate-answer-into-4 : tie.Need-slice-aggregate-answer-into-4
-slice-aggregate-answer-into-4 c =
-    lent-part _ _ _ (c .before .before .before .before .before .before .before .before .number-places .ensures) (c .before .before .before .before .before .before .before .before .before .before .before .before .before .before .pre .1 .0)
-
-array-borrow-prefix-starts : tie.Need-array-borrow-prefix-starts
-array-borrow-prefix-starts c = search needs
-
-slice-aggregate-answer-into-5 : tie.Need-slice-aggregate-answer-into-5
-slice-aggregate-answer-into-5 c =
-    lent-part _ _ _ (c .before .before .before .before .before .before .before .before .number-places2 .ensures) (c .before .before .before .before .before .before .before .before .before .before .before .before .before .before .before .pre .1 .0)
-
-array-borrow-prefix-sizes : tie.Need-array-borrow-prefix-sizes
-array-borrow-prefix-sizes c = search needs
-
-slice-aggregate-answer-into-6 : tie.Need-slice-aggregate-answer-into-6
-slice-aggregate-answer-into-6 c =
-    lent-part _ _ _ (c .before .before .before .before .before .before .before .before .number-places3 .ensures) (c .before .before .before .before .before .before .before .before .before .before .before .before .before .before .before .before .pre .1 .0)
-
-slice-aggregate-answer-into-7 : tie.Need-slice-aggregate-answer-into-7
-slice-aggregate-answer-into-7 c = search needs
-
-answer-into-requires : tie.Need-answer-into-requires
-answer-into-requires c κs =
-    (c .before .before .before .before .before .before .before .before .before .before .before .before .before .before .before .before .before .before .pre .0, (ample-part _ (c .before .before .before .before .before .before .before .before .before .before .before .before .before .before .before .before .before .before .pre .1 .0) _ _ _ _ _ _ (c .before .before .before .before .before .before .before .before .before .before .before .before .before .before .before .octet-places .ensures) (c .before .before .before .before .before .before .before .before .before .before .before .before .before .before .octet-places2 .ensures) (c .before .before .before .before .before .before .before .before .before .before .before .before .before .octet-places3 .ensures) (c .before .before .before .before .before .before .before .before .before .before .before .before .number-places .ensures) (c .before .before .before .before .before .before .before .before .before .before .before .number-places2 .ensures) (c .before .before .before .before .before .before .before .before .before .before .number-places3 .ensures), (c .before .before .before .before .before .before .before .before .before .marked-room .ensures, c .before .before .before .before .before .before .before .before .before .before .before .before .before .before .before .before .before .before .pre .1 .1)))
+enum-told : tie.Need-enum-told
+enum-told c = search needs
 
 same-length : tie.Need-same-length
 same-length c = search needs
 
+returns : tie.Need-returns
+returns c = search needs
+
+array-share-prefix-tags : tie.Need-array-share-prefix-tags
+array-share-prefix-tags c =
+    omega (arith, c .before .before .before .before .before .before .before .before .before .before .before .before .before .before .before .before .before .before .before .before .before .before .before .before .before .before .before .before .pre .1 .0, c .before .before .before .before .before .before .before .before .before .before .before .before .before .before .before .before .before .before .before .before .before .before .before .before .before .octet-places .ensures, c .before .before .before .before .before .before .before .before .before .before .before .before .take-records .kept .1 .0)
+
+slice-aggregate-answer-tail : tie.Need-slice-aggregate-answer-tail
+slice-aggregate-answer-tail c =
+    lent-part _ _ _ (c .before .before .before .before .before .before .before .before .before .before .before .before .before .before .before .before .before .before .before .before .before .before .before .before .before .before .octet-places .ensures ∙ sym (c .before .before .before .before .before .before .before .before .before .before .before .before .before .take-records .kept .1 .0)) (c .before .before .before .before .before .before .before .before .before .before .before .before .before .before .before .before .before .before .before .before .before .before .before .before .before .before .before .before .before .pre .1 .0)
+
+array-share-prefix-kinds : tie.Need-array-share-prefix-kinds
+array-share-prefix-kinds c =
+    omega (arith, c .before .before .before .before .before .before .before .before .before .before .before .before .before .before .before .before .before .before .before .before .before .before .before .before .before .before .before .before .before .pre .1 .0, c .before .before .before .before .before .before .before .before .before .before .before .before .before .before .before .before .before .before .before .before .before .before .before .before .before .octet-places2 .ensures, c .before .before .before .before .before .before .before .before .before .before .before .before .before .take-records .kept .1 .1 .0)
+
+slice-aggregate-answer-tail-2 : tie.Need-slice-aggregate-answer-tail-2
+slice-aggregate-answer-tail-2 c =
+    lent-part _ _ _ (c .before .before .before .before .before .before .before .before .before .before .before .before .before .before .before .before .before .before .before .before .before .before .before .before .before .before .octet-places2 .ensures ∙ sym (c .before .before .before .before .before .before .before .before .before .before .before .before .before .before .take-records .kept .1 .1 .0)) (c .before .before .before .before .before .before .before .before .before .before .before .before .before .before .before .before .before .before .before .before .before .before .before .before .before .before .before .before .before .before .pre .1 .0)
+
+array-share-prefix-depths : tie.Need-array-share-prefix-depths
+array-share-prefix-depths c =
+    omega (arith, c .before .before .before .before .before .before .before .before .before .before .before .before .before .before .before .before .before .before .before .before .before .before .before .before .before .before .before .before .before .before .pre .1 .0, c .before .before .before .before .before .before .before .before .before .before .before .before .before .before .before .before .before .before .before .before .before .before .before .before .before .octet-places3 .ensures, c .before .before .before .before .before .before .before .before .before .before .before .before .before .before .take-records .kept .1 .1 .1 .0)
+
+slice-aggregate-answer-tail-3 : tie.Need-slice-aggregate-answer-tail-3
+slice-aggregate-answer-tail-3 c =
+    lent-part _ _ _ (c .before .before .before .before .before .before .before .before .before .before .before .before .before .before .before .before .before .before .before .before .before .before .before .before .before .before .octet-places3 .ensures ∙ sym (c .before .before .before .before .before .before .before .before .before .before .before .before .before .before .before .take-records .kept .1 .1 .1 .0)) (c .before .before .before .before .before .before .before .before .before .before .before .before .before .before .before .before .before .before .before .before .before .before .before .before .before .before .before .before .before .before .before .pre .1 .0)
+
+array-share-prefix-parents : tie.Need-array-share-prefix-parents
+array-share-prefix-parents c =
+    omega (arith, c .before .before .before .before .before .before .before .before .before .before .before .before .before .before .before .before .before .before .before .before .before .before .before .before .before .before .before .before .before .before .before .pre .1 .0, c .before .before .before .before .before .before .before .before .before .before .before .before .before .before .before .before .before .before .before .before .before .before .before .before .before .number-places .ensures, c .before .before .before .before .before .before .before .before .before .before .before .before .before .before .before .take-records .kept .1 .1 .1 .1 .0)
+
+slice-aggregate-answer-tail-4 : tie.Need-slice-aggregate-answer-tail-4
+slice-aggregate-answer-tail-4 c =
+    lent-part _ _ _ (c .before .before .before .before .before .before .before .before .before .before .before .before .before .before .before .before .before .before .before .before .before .before .before .before .before .before .number-places .ensures ∙ sym (c .before .before .before .before .before .before .before .before .before .before .before .before .before .before .before .before .take-records .kept .1 .1 .1 .1 .0)) (c .before .before .before .before .before .before .before .before .before .before .before .before .before .before .before .before .before .before .before .before .before .before .before .before .before .before .before .before .before .before .before .before .pre .1 .0)
+
+array-share-prefix-starts : tie.Need-array-share-prefix-starts
+array-share-prefix-starts c =
+    omega (arith, c .before .before .before .before .before .before .before .before .before .before .before .before .before .before .before .before .before .before .before .before .before .before .before .before .before .before .before .before .before .before .before .before .pre .1 .0, c .before .before .before .before .before .before .before .before .before .before .before .before .before .before .before .before .before .before .before .before .before .before .before .before .before .number-places2 .ensures, c .before .before .before .before .before .before .before .before .before .before .before .before .before .before .before .before .take-records .kept .1 .1 .1 .1 .1 .0)
+
+slice-aggregate-answer-tail-5 : tie.Need-slice-aggregate-answer-tail-5
+slice-aggregate-answer-tail-5 c =
+    lent-part _ _ _ (c .before .before .before .before .before .before .before .before .before .before .before .before .before .before .before .before .before .before .before .before .before .before .before .before .before .before .number-places2 .ensures ∙ sym (c .before .before .before .before .before .before .before .before .before .before .before .before .before .before .before .before .before .take-records .kept .1 .1 .1 .1 .1 .0)) (c .before .before .before .before .before .before .before .before .before .before .before .before .before .before .before .before .before .before .before .before .before .before .before .before .before .before .before .before .before .before .before .before .before .pre .1 .0)
+
+array-share-prefix-sizes : tie.Need-array-share-prefix-sizes
+array-share-prefix-sizes c =
+    omega (arith, c .before .before .before .before .before .before .before .before .before .before .before .before .before .before .before .before .before .before .before .before .before .before .before .before .before .before .before .before .before .before .before .before .before .pre .1 .0, c .before .before .before .before .before .before .before .before .before .before .before .before .before .before .before .before .before .before .before .before .before .before .before .before .before .number-places3 .ensures, c .before .before .before .before .before .before .before .before .before .before .before .before .before .before .before .before .before .take-records .kept .1 .1 .1 .1 .1 .1 .0)
+
+slice-aggregate-answer-tail-6 : tie.Need-slice-aggregate-answer-tail-6
+slice-aggregate-answer-tail-6 c =
+    lent-part _ _ _ (c .before .before .before .before .before .before .before .before .before .before .before .before .before .before .before .before .before .before .before .before .before .before .before .before .before .before .number-places3 .ensures ∙ sym (c .before .before .before .before .before .before .before .before .before .before .before .before .before .before .before .before .before .before .take-records .kept .1 .1 .1 .1 .1 .1 .0)) (c .before .before .before .before .before .before .before .before .before .before .before .before .before .before .before .before .before .before .before .before .before .before .before .before .before .before .before .before .before .before .before .before .before .before .pre .1 .0)
+
+answer-tail-requires : tie.Need-answer-tail-requires
+answer-tail-requires c κs =
+    (reached _ _ (c .before .before .before .before .before .before .before .before .before .before .before .before .before .before .before .before .before .before .before .take-records .ensures) _ (c .before .before .before .before .before .before .before .before .before .taken .given .1), c .before .before .before .before .before .before .before .before .before .before .before .before .before .before .before .before .before .before .before .before .before .before .before .before .before .before .before .before .before .before .before .before .before .before .before .pre .1 .1)
+
 same-length-2 : tie.Need-same-length-2
 same-length-2 c = search needs
 
-returns : tie.Need-returns
-returns c = search needs
+same-length-3 : tie.Need-same-length-3
+same-length-3 c = search needs
+
+returns-2 : tie.Need-returns-2
+returns-2 c = search needs
 
 pub answer-written-spec : {M : Type 1} → statement M
 answer-written-spec =
@@ -92,21 +127,30 @@ answer-written-spec =
     number-places-requires
     number-places-requires-2
     number-places-requires-3
-    marked-room-requires
-    array-borrow-prefix-tags
-    slice-aggregate-answer-into
-    array-borrow-prefix-kinds
-    slice-aggregate-answer-into-2
-    array-borrow-prefix-depths
-    slice-aggregate-answer-into-3
-    array-borrow-prefix-parents
-    slice-aggregate-answer-into-4
-    array-borrow-prefix-starts
-    slice-aggregate-answer-into-5
-    array-borrow-prefix-sizes
-    slice-aggregate-answer-into-6
-    slice-aggregate-answer-into-7
-    answer-into-requires
+    slice-aggregate-take-records
+    slice-aggregate-take-records-2
+    slice-aggregate-take-records-3
+    slice-aggregate-take-records-4
+    slice-aggregate-take-records-5
+    slice-aggregate-take-records-6
+    take-records-requires
+    enum-known-taken
+    enum-told
     same-length
+    returns
+    array-share-prefix-tags
+    slice-aggregate-answer-tail
+    array-share-prefix-kinds
+    slice-aggregate-answer-tail-2
+    array-share-prefix-depths
+    slice-aggregate-answer-tail-3
+    array-share-prefix-parents
+    slice-aggregate-answer-tail-4
+    array-share-prefix-starts
+    slice-aggregate-answer-tail-5
+    array-share-prefix-sizes
+    slice-aggregate-answer-tail-6
+    answer-tail-requires
     same-length-2
-    returns)
+    same-length-3
+    returns-2)
