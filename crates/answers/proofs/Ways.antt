@@ -351,9 +351,6 @@ module _ (input : List ℕ) (w : Window) (v : Standing (length input) w) where
   pub left-long : length (take (w .to - w .from) (drop (w .from) input)) ≡ w .to - w .from
   left-long = length-take-le (w .to - w .from) (drop (w .from) input) (rw length-drop (omega (arith, v .inside)))
 
-  pub asked-left : (c : Case) → Asked (length (take (w .to - w .from) (drop (w .from) input))) c → Asked (w .to - w .from) c
-  asked-left c a = rw left-long at a
-
   pub tail-left : (t : Tail) → TailWithin (length (take (w .to - w .from) (drop (w .from) input))) t → (room size : ℕ) → t ≡ Fields room size
       → FieldsWithin (w .to - w .from) room size
   tail-left t a room size e = let b : FieldsWithin (length (take (w .to - w .from) (drop (w .from) input))) room size = rw e at a in rw left-long at b

@@ -5,8 +5,9 @@ use crate::lines::say_record;
 use crate::lines::say_records;
 use crate::lines::say_refusal;
 use crate::marks::are_lists_kept;
-use crate::memory::marked_numbers;
-use crate::memory::marked_octets;
+use crate::marks::mark_lists;
+use crate::memory::number_places;
+use crate::memory::octet_places;
 use crate::stream::Turn;
 use crate::stream::Window;
 use crate::stream::passed;
@@ -87,19 +88,51 @@ fn say_read(
     }
 }
 
+fn list_into(
+    object: &[u8],
+    tags: &mut [u8],
+    kinds: &mut [u8],
+    depths: &mut [u8],
+    parents: &mut [u16],
+    starts: &mut [u16],
+    sizes: &mut [u16],
+    out: &mut [u8],
+    used: usize,
+) -> usize
+    requires { ⌜ used ≤ length (now out) ⌝ }
+    ensures { λ r. ⌜ r ≤ length (now (out .exit)) ⌝ }
+{
+    mark_lists(tags, kinds, depths, parents, starts, sizes);
+    let answer = reader::read(object, tags, kinds, depths, parents, starts, sizes);
+    let n = records_in(answer);
+    let kept = are_lists_kept(tags, kinds, depths, parents, starts, sizes, n);
+    let to = say_read(
+        answer,
+        tags,
+        kinds,
+        depths,
+        parents,
+        starts,
+        sizes,
+        out,
+        used,
+    );
+    say_if_touched(out, to, kept)
+}
+
 // The lists are the places of the case, and no more.
 fn list_object(places: usize, object: &[u8], out: &mut [u8], used: usize) -> usize
     requires { ⌜ places ≤ 65_535 ⌝ }
     requires { ⌜ used ≤ length (now out) ⌝ }
     ensures { λ r. ⌜ r ≤ length (now (out .exit)) ⌝ }
 {
-    let mut tags = marked_octets(places);
-    let mut kinds = marked_octets(places);
-    let mut depths = marked_octets(places);
-    let mut parents = marked_numbers(places);
-    let mut starts = marked_numbers(places);
-    let mut sizes = marked_numbers(places);
-    let answer = reader::read(
+    let mut tags = octet_places();
+    let mut kinds = octet_places();
+    let mut depths = octet_places();
+    let mut parents = number_places();
+    let mut starts = number_places();
+    let mut sizes = number_places();
+    list_into(
         object,
         &mut tags[..places],
         &mut kinds[..places],
@@ -107,28 +140,9 @@ fn list_object(places: usize, object: &[u8], out: &mut [u8], used: usize) -> usi
         &mut parents[..places],
         &mut starts[..places],
         &mut sizes[..places],
-    );
-    let kept = are_lists_kept(
-        &tags[..places],
-        &kinds[..places],
-        &depths[..places],
-        &parents[..places],
-        &starts[..places],
-        &sizes[..places],
-        records_in(answer),
-    );
-    let to = say_read(
-        answer,
-        &tags,
-        &kinds,
-        &depths,
-        &parents,
-        &starts,
-        &sizes,
         out,
         used,
-    );
-    say_if_touched(out, to, kept)
+    )
 }
 
 pub fn answer_listing(

@@ -84,6 +84,22 @@ pub fn are_lists_kept(
     are_numbers_kept(sizes, from)
 }
 
+pub fn mark_lists(
+    tags: &mut [u8],
+    kinds: &mut [u8],
+    depths: &mut [u8],
+    parents: &mut [u16],
+    starts: &mut [u16],
+    sizes: &mut [u16],
+) {
+    mark_octets(tags);
+    mark_octets(kinds);
+    mark_octets(depths);
+    mark_numbers(parents);
+    mark_numbers(starts);
+    mark_numbers(sizes);
+}
+
 // Whether lists and a store are as they were.
 pub fn is_all_kept(
     tags: &[u8],

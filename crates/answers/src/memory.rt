@@ -2,7 +2,6 @@
 use crate::marks::mark_numbers;
 use crate::marks::mark_octets;
 ghost use mathlib.Core.Path.{_≡_};
-ghost use Prim.Native.Nat.{_≤_};
 ghost use lib.ListN.{length};
 
 // As many places as a case can ask for.
@@ -16,7 +15,7 @@ const SAME_PLACES: usize = 16_384;
 
 const SAME_ROOM: usize = 32_768;
 
-// A list for every number of places.
+// Lists for every number of places. Only those that a case asks for are marked, where they are lent: marking all of them would take longer than most cases do.
 pub fn octet_places() -> [u8; PLACES]
     ensures { λ r. ⌜ 65_535 ≡ length r ⌝ }
 {
@@ -27,25 +26,6 @@ pub fn number_places() -> [u16; PLACES]
     ensures { λ r. ⌜ 65_535 ≡ length r ⌝ }
 {
     [0; PLACES]
-}
-
-// The same with marks in the places that a case asks for, and in no others: marking all of them would take longer than most cases do.
-pub fn marked_octets(n: usize) -> [u8; PLACES]
-    requires { ⌜ n ≤ 65_535 ⌝ }
-    ensures { λ r. ⌜ 65_535 ≡ length r ⌝ }
-{
-    let mut s = octet_places();
-    mark_octets(&mut s[..n]);
-    s
-}
-
-pub fn marked_numbers(n: usize) -> [u16; PLACES]
-    requires { ⌜ n ≤ 65_535 ⌝ }
-    ensures { λ r. ⌜ 65_535 ≡ length r ⌝ }
-{
-    let mut s = number_places();
-    mark_numbers(&mut s[..n]);
-    s
 }
 
 // A store or a room, with its marks.

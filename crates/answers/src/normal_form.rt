@@ -1,9 +1,10 @@
 // N: an object's normal form.
 use crate::lines::say_octets;
 use crate::marks::is_all_kept;
-use crate::memory::marked_numbers;
-use crate::memory::marked_octets;
+use crate::marks::mark_lists;
 use crate::memory::marked_room;
+use crate::memory::number_places;
+use crate::memory::octet_places;
 use crate::stream::Turn;
 use crate::stream::Window;
 use crate::stream::passed;
@@ -12,6 +13,39 @@ ghost use lib.ListN.{length};
 ghost use Rattle.answers.specs.declared.cases.Case.the-variants.{Normal};
 ghost use Rattle.answers.specs.Cases.{Asked};
 ghost use Rattle.answers.specs.Stream.{Standing, Turned};
+
+// The store and the room have their marks.
+fn normalise_into(
+    object: &[u8],
+    tags: &mut [u8],
+    kinds: &mut [u8],
+    depths: &mut [u8],
+    parents: &mut [u16],
+    starts: &mut [u16],
+    sizes: &mut [u16],
+    store: &mut [u8],
+    room: &mut [u8],
+    out: &mut [u8],
+    used: usize,
+) -> usize
+    requires { ⌜ used ≤ length (now out) ⌝ }
+    ensures { λ r. ⌜ r ≤ length (now (out .exit)) ⌝ }
+{
+    mark_lists(tags, kinds, depths, parents, starts, sizes);
+    let answer = normal::normalise(
+        object,
+        tags,
+        kinds,
+        depths,
+        parents,
+        starts,
+        sizes,
+        store,
+        room,
+    );
+    let is_rest_kept = is_all_kept(tags, kinds, depths, parents, starts, sizes, store);
+    say_octets(b"normal ", answer, room, is_rest_kept, out, used)
+}
 
 // The lists, the store and the room are as large as the case says, and no larger.
 fn normalise_object(
@@ -28,15 +62,15 @@ fn normalise_object(
     requires { ⌜ used ≤ length (now out) ⌝ }
     ensures { λ r. ⌜ r ≤ length (now (out .exit)) ⌝ }
 {
-    let mut tags = marked_octets(places);
-    let mut kinds = marked_octets(places);
-    let mut depths = marked_octets(places);
-    let mut parents = marked_numbers(places);
-    let mut starts = marked_numbers(places);
-    let mut sizes = marked_numbers(places);
+    let mut tags = octet_places();
+    let mut kinds = octet_places();
+    let mut depths = octet_places();
+    let mut parents = number_places();
+    let mut starts = number_places();
+    let mut sizes = number_places();
     let mut store = marked_room();
     let mut room = marked_room();
-    let answer = normal::normalise(
+    normalise_into(
         object,
         &mut tags[..places],
         &mut kinds[..places],
@@ -46,17 +80,9 @@ fn normalise_object(
         &mut sizes[..places],
         &mut store[..stored],
         &mut room[..lent],
-    );
-    let is_rest_kept = is_all_kept(
-        &tags[..places],
-        &kinds[..places],
-        &depths[..places],
-        &parents[..places],
-        &starts[..places],
-        &sizes[..places],
-        &store[..stored],
-    );
-    say_octets(b"normal ", answer, &room[..lent], is_rest_kept, out, used)
+        out,
+        used,
+    )
 }
 
 pub fn answer_normal(
