@@ -1,12 +1,12 @@
 -- The ways through the program's functions: fields of a case, marks, where lines end, and the stream.
 use mathlib.Core.Path.{_≡_, refl, sym, ap, _∙_}
 use mathlib.Core.Bool.{Bool, true, false, cond, _&&_, false≢true}
-use mathlib.Core.List.{List}
+use mathlib.Core.List.{List, _++_}
 use Prim.Native.Nat.{ℕ, _+_, _-_, _^_, _≤_, _<_, min}
 use native.Mathlib.Nat.{min-le-left}
 use native.Mathlib.Omega.{arith}
 use lib.Dec.{eqb, leb}
-use lib.ListN.{length, take, drop, getD, set, length-set, length-drop}
+use lib.ListN.{length, take, drop, getD, set, length-set, length-append, length-drop}
 use lib.Seq.{sets, length-take-le, length-sets, getD-set-same, getD-set-other}
 use borrow.Author.Tests.{le-leb, lt-leb, leb-true, eq-eqb, ne-eqb, eqb-true, eqb-false}
 use mir.Syntax.{w16}
@@ -269,6 +269,10 @@ pub ruleset keeping-ways = (keeping-begin, keeping-no, keeping-done, keeping-aga
 pub part-count : (n : ℕ) (l : List ℕ) → n ≤ length l → n ≡ length (take n l)
 part-count n l h = sym (length-take-le n l h)
 
+-- of memory of a known size
+pub lent-part : (n size : ℕ) (l : List ℕ) → size ≡ length l → n ≤ size → n ≡ length (take n l)
+lent-part n size l e h = part-count n l (omega (arith, e))
+
 module _ (text : List ℕ) (at : ℕ) (before after : List ℕ) (p : Put) (k : Puts text at before after p) where
   pub puts-long : length after ≡ length before
   unfolding putLeaves
@@ -322,6 +326,22 @@ normal-handed object l l′ store store′ before after (Octets k) c e = go (jud
     go (refused r) q = let z : _≡_ {A = ℕ} 0 1 = cc in absurd (omega arith)
     go (accepted t) q = fitting t (fitsLent lent t) refl q
 
+-- a part of memory that was lent, and is back
+module _ (n size : ℕ) (l part : List ℕ) (e : size ≡ length l) (h : n ≤ size) (k : length part ≡ length (take n l)) where
+  part-long : n ≡ length part
+  part-long = lent-part n size l e h ∙ sym k
+
+  pub lent-back : size ≡ length (part ++ drop n l)
+  lent-back = rw (length-append, length-drop) (omega (arith, e, h, part-long))
+
+  pub lent-within : n ≤ length (part ++ drop n l)
+  lent-within = omega (arith, lent-back, h)
+
+  pub handed-back : (r : WriteAnswer) → Handed (length part) r → Handed (length (take n (part ++ drop n l))) r
+  handed-back r g =
+      let same : length (take n (part ++ drop n l)) ≡ length part = length-take-le n (part ++ drop n l) lent-within ∙ part-long in
+      rw same g
+
 pub handed-part : (room : List ℕ) (r : WriteAnswer) → Handed (length room) r → (n : ℕ) → r ≡ Octets n → n ≡ length (take n room)
 handed-part room r h n e = let inside : n ≤ length room = rw e at h in part-count n room inside
 
@@ -331,25 +351,12 @@ module _ (input : List ℕ) (w : Window) (v : Standing (length input) w) where
   pub left-long : length (take (w .to - w .from) (drop (w .from) input)) ≡ w .to - w .from
   left-long = length-take-le (w .to - w .from) (drop (w .from) input) (rw length-drop (omega (arith, v .inside)))
 
-  pub asked-left : (c : Case) → Asked (length (take (w .to - w .from) (drop (w .from) input))) c → Asked (w .to - w .from) c
-  asked-left c a = rw left-long at a
-
   pub tail-left : (t : Tail) → TailWithin (length (take (w .to - w .from) (drop (w .from) input))) t → (room size : ℕ) → t ≡ Fields room size
       → FieldsWithin (w .to - w .from) room size
   tail-left t a room size e = let b : FieldsWithin (length (take (w .to - w .from) (drop (w .from) input))) room size = rw e at a in rw left-long at b
 
-module _ (left : ℕ) (c : Case) (a : Asked left c) where
-  pub listing-whole : (places size : ℕ) → c ≡ Listing places size → 6 + size ≤ left
-  listing-whole places size e = let b : Asked left (Listing places size) = rw e at a in b .whole
-
-  pub normal-within : (places store room size : ℕ) → c ≡ Normal places store room size → Asked left (Normal places store room size)
-  normal-within places store room size e = rw e at a
-
-  pub written-whole : (count places : ℕ) → c ≡ Written count places → 5 ≤ left
-  written-whole count places e = let b : Asked left (Written count places) = rw e at a in b .whole
-
-  pub same-whole : (first second : ℕ) → c ≡ Same first second → 7 + first + second ≤ left
-  same-whole first second e = let b : Asked left (Same first second) = rw e at a in b .whole
+pub asked-as : {left : ℕ} {c d : Case} → Asked left c → c ≡ d → Asked left d
+asked-as a e = rw e at a
 
 -- a body behind a head of six octets lies within the buffer
 pub body-inside : (buffer : ℕ) (w : Window) → Standing buffer w → (size : ℕ) → 6 + size ≤ w .to - w .from → w .from + 6 + size ≤ buffer
@@ -364,22 +371,6 @@ passed-stands buffer w w′ size v h e = record { rising = omega (arith, e .0, e
 pub ample-fewer : {n : ℕ} {tags kinds depths parents starts sizes : List ℕ} → Ample n tags kinds depths parents starts sizes → (m : ℕ) → m ≤ n → Ample m tags kinds depths parents starts sizes
 ample-fewer a m h =
     record { tag = omega (arith, a .tag); kind = omega (arith, a .kind); depth = omega (arith, a .depth); parent = omega (arith, a .parent); start = omega (arith, a .start); size = omega (arith, a .size) }
-
--- as many places as a case has lent
-pub ample-part : {tags kinds depths parents starts sizes : List ℕ} → Ample 65_535 tags kinds depths parents starts sizes → (n : ℕ) → n ≤ 65_535
-    → Ample (length (take n tags)) (take n tags) (take n kinds) (take n depths) (take n parents) (take n starts) (take n sizes)
-ample-part {tags} {kinds} {depths} {parents} {starts} {sizes} a n h =
-    record {
-      tag = omega arith;
-      kind = long tags (a .tag) kinds (a .kind);
-      depth = long tags (a .tag) depths (a .depth);
-      parent = long tags (a .tag) parents (a .parent);
-      start = long tags (a .tag) starts (a .start);
-      size = long tags (a .tag) sizes (a .size);
-    }
-  where
-    long : (l : List ℕ) → 65_535 ≤ length l → (k : List ℕ) → 65_535 ≤ length k → length (take n l) ≤ length (take n k)
-    long l f k g = omega (arith, length-take-le n l (omega arith), length-take-le n k (omega arith))
 
 -- lists that have the lengths that they had
 pub record Kept (tags₀ kinds₀ depths₀ parents₀ starts₀ sizes₀ tags kinds depths parents starts sizes : List ℕ) : Type 0 where
@@ -399,14 +390,10 @@ kept-again k l =
     record { tag = l .tag ∙ k .tag; kind = l .kind ∙ k .kind; depth = l .depth ∙ k .depth; parent = l .parent ∙ k .parent; start = l .start ∙ k .start; size = l .size ∙ k .size }
 
 -- cases answered so far
-pub record Running (input₀ tags₀ kinds₀ depths₀ parents₀ starts₀ sizes₀ store₀ room₀ other₀ out₀ input tags kinds depths parents starts sizes store room other out : List ℕ) (w : Window) (used : ℕ) : Type 0 where
+pub record Running (input₀ out₀ input out : List ℕ) (w : Window) (used : ℕ) : Type 0 where
   pub standing : Standing (length input) w
   pub inside : used ≤ length out
-  pub lists : Kept tags₀ kinds₀ depths₀ parents₀ starts₀ sizes₀ tags kinds depths parents starts sizes
   pub input-long : length input ≡ length input₀
-  pub store-long : length store ≡ length store₀
-  pub room-long : length room ≡ length room₀
-  pub other-long : length other ≡ length other₀
   pub out-long : length out ≡ length out₀
 
 pub turned : (buffer room : ℕ) (t : Turn) → Turned buffer room t → (w : Window) (used : ℕ) → t ≡ Answered w used → Stepped buffer room w used

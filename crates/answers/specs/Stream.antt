@@ -1,5 +1,4 @@
 -- What the functions that go over the stream keep within.
-use mathlib.Core.Path.{_≡_}
 use mathlib.Core.List.{List}
 use Prim.Native.Nat.{ℕ, _≤_}
 use lib.ListN.{length}
@@ -37,9 +36,3 @@ pub record Ample (n : ℕ) (tags kinds depths parents starts sizes : List ℕ) :
   pub parent : n ≤ length parents
   pub start : n ≤ length starts
   pub size : n ≤ length sizes
-
--- a store and rooms as large as a case can ask for
-pub record Memory (store room other : List ℕ) : Type 0 where
-  pub stored : 65_536 ≡ length store
-  pub roomy : 65_536 ≡ length room
-  pub othered : 32_768 ≡ length other

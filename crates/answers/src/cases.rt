@@ -3,13 +3,10 @@ ghost use mathlib.Core.Path.{_≡_};
 ghost use Prim.Native.Nat.{_≤_};
 ghost use lib.ListN.{length};
 ghost use Rattle.octets.specs.Numbers.{value};
-ghost use Rattle.answers.specs.Cases.{sizeAt, listingOf, normalOf, writtenOf, sameOf, caseOf, Asked, placesOf, tailOf, TailWithin};
+ghost use Rattle.answers.specs.Cases.{sizeAt, listingOf, normalOf, writtenOf, sameOf, caseOf, Asked, tailOf, TailWithin};
 
 // The largest size of an object, of octets and of a room.
 const LARGEST: usize = 65_536;
-
-// The places that are lent to a comparison.
-const SAME_PLACES: usize = 16_384;
 
 // A case. Listing: places to lend, and the size of the object behind the letter and its fields. Normal: the same, with the sizes of the store and of the room to
 // lend. Written: how many records to write, and how many follow. Same: the sizes of both objects, of which each stands behind its size.
@@ -151,28 +148,6 @@ pub fn case_of(part: &[u8]) -> Case
         b'W' => written_of(part),
         b'S' => same_of(part),
         _ => Case::Bad,
-    }
-}
-
-// How many places a case has lent.
-pub fn places_of(case: Case) -> usize
-    ensures { λ r. ⌜ r ≡ placesOf case ⌝ }
-{
-    match case {
-        Case::End => 0,
-        Case::Bad => 0,
-        Case::Listing { places, size: _ } => places,
-        Case::Normal {
-            places,
-            store: _,
-            room: _,
-            size: _,
-        } => places,
-        Case::Written { count: _, places } => places,
-        Case::Same {
-            first: _,
-            second: _,
-        } => SAME_PLACES,
     }
 }
 

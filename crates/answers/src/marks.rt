@@ -19,7 +19,7 @@ pub fn mark_octets(s: &mut [u8])
     }
 }
 
-fn mark_numbers(s: &mut [u16])
+pub fn mark_numbers(s: &mut [u16])
     ensures { λ _. ⌜ Marked (now (s .exit)) 0 ⌝ }
 {
     let mut i: usize = 0;

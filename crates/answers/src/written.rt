@@ -3,12 +3,13 @@ use crate::cases::Tail;
 use crate::cases::field;
 use crate::cases::tail_of;
 use crate::lines::say_octets;
-use crate::marks::mark_octets;
+use crate::memory::marked_room;
+use crate::memory::number_places;
+use crate::memory::octet_places;
 use crate::stream::Turn;
 use crate::stream::Window;
 use crate::stream::fetch;
 use crate::stream::passed;
-ghost use mathlib.Core.Path.{_≡_};
 ghost use Prim.Native.Nat.{_+_, _≤_};
 ghost use lib.ListN.{length};
 ghost use Rattle.answers.specs.Stream.{Standing, Reaches, Turned, Ample};
@@ -84,7 +85,7 @@ fn take_record(
     Taken::Behind(passed(here, RECORD))
 }
 
-// A record for each place.
+// So many records.
 fn take_records(
     input: &mut [u8],
     tags: &mut [u8],
@@ -93,15 +94,16 @@ fn take_records(
     parents: &mut [u16],
     starts: &mut [u16],
     sizes: &mut [u16],
+    n: usize,
     w: Window,
 ) -> Taken
     requires { ⌜ Standing (length (now input)) w ⌝ }
-    requires { ⌜ Ample (length (now tags)) (now tags) (now kinds) (now depths) (now parents) (now starts) (now sizes) ⌝ }
+    requires { ⌜ Ample n (now tags) (now kinds) (now depths) (now parents) (now starts) (now sizes) ⌝ }
     ensures { λ r. ⌜ Reaches (length (now (input .exit))) r ⌝ }
 {
     let mut behind = w;
     let mut i: usize = 0;
-    while i < tags.len() {
+    while i < n {
         let taken = take_record(
             input,
             tags,
@@ -122,6 +124,7 @@ fn take_records(
     Taken::Behind(behind)
 }
 
+// The room is as large as the case says, and no larger.
 fn answer_records(
     count: usize,
     tags: &[u8],
@@ -131,14 +134,15 @@ fn answer_records(
     starts: &[u16],
     sizes: &[u16],
     octets: &[u8],
-    room: &mut [u8],
+    lent: usize,
     out: &mut [u8],
     used: usize,
 ) -> usize
+    requires { ⌜ lent ≤ 65_536 ⌝ }
     requires { ⌜ used ≤ length (now out) ⌝ }
     ensures { λ r. ⌜ r ≤ length (now (out .exit)) ⌝ }
 {
-    mark_octets(room);
+    let mut room = marked_room();
     let answer = writer::write(
         count,
         tags,
@@ -148,9 +152,9 @@ fn answer_records(
         starts,
         sizes,
         octets,
-        room,
+        &mut room[..lent],
     );
-    say_octets(b"written ", answer, room, true, out, used)
+    say_octets(b"written ", answer, &room[..lent], true, out, used)
 }
 
 // The fields and octets behind the records, and the answer.
@@ -163,13 +167,11 @@ fn answer_tail(
     parents: &[u16],
     starts: &[u16],
     sizes: &[u16],
-    room: &mut [u8],
     out: &mut [u8],
     w: Window,
     used: usize,
 ) -> Turn
     requires { ⌜ Standing (length (now input)) w ⌝ }
-    requires { ⌜ 65_536 ≡ length (now room) ⌝ }
     requires { ⌜ used ≤ length (now out) ⌝ }
     ensures { λ r. ⌜ Turned (length (now (input .exit))) (length (now (out .exit))) r ⌝ }
 {
@@ -178,7 +180,7 @@ fn answer_tail(
     let to = here.to;
     match tail_of(&input[from..to]) {
         Tail::Bad => Turn::Bad,
-        Tail::Fields { room: lent, size } => {
+        Tail::Fields { room, size } => {
             let start = from + 6;
             let end = start + size;
             let used = answer_records(
@@ -190,7 +192,7 @@ fn answer_tail(
                 starts,
                 sizes,
                 &input[start..end],
-                &mut room[..lent],
+                room,
                 out,
                 used,
             );
@@ -205,39 +207,48 @@ fn answer_tail(
 // The lists are the places of the case, and no more; the window is that behind its letter and numbers.
 pub fn answer_written(
     count: usize,
+    places: usize,
     input: &mut [u8],
-    tags: &mut [u8],
-    kinds: &mut [u8],
-    depths: &mut [u8],
-    parents: &mut [u16],
-    starts: &mut [u16],
-    sizes: &mut [u16],
-    room: &mut [u8],
     out: &mut [u8],
     w: Window,
     used: usize,
 ) -> Turn
     requires { ⌜ Standing (length (now input)) w ⌝ }
-    requires { ⌜ Ample (length (now tags)) (now tags) (now kinds) (now depths) (now parents) (now starts) (now sizes) ⌝ }
-    requires { ⌜ 65_536 ≡ length (now room) ⌝ }
+    requires { ⌜ places ≤ 65_535 ⌝ }
     requires { ⌜ used ≤ length (now out) ⌝ }
     ensures { λ r. ⌜ Turned (length (now (input .exit))) (length (now (out .exit))) r ⌝ }
 {
-    match take_records(input, tags, kinds, depths, parents, starts, sizes, w) {
-        Taken::Cut => Turn::Bad,
-        Taken::Behind(behind) => answer_tail(
-            count,
-            input,
-            tags,
-            kinds,
-            depths,
-            parents,
-            starts,
-            sizes,
-            room,
-            out,
-            behind,
-            used,
-        ),
-    }
+    let mut tags = octet_places();
+    let mut kinds = octet_places();
+    let mut depths = octet_places();
+    let mut parents = number_places();
+    let mut starts = number_places();
+    let mut sizes = number_places();
+    let taken = take_records(
+        input,
+        &mut tags,
+        &mut kinds,
+        &mut depths,
+        &mut parents,
+        &mut starts,
+        &mut sizes,
+        places,
+        w,
+    );
+    let Taken::Behind(behind) = taken else {
+        return Turn::Bad;
+    };
+    answer_tail(
+        count,
+        input,
+        &tags[..places],
+        &kinds[..places],
+        &depths[..places],
+        &parents[..places],
+        &starts[..places],
+        &sizes[..places],
+        out,
+        behind,
+        used,
+    )
 }

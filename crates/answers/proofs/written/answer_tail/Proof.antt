@@ -1,6 +1,6 @@
 use native.Mathlib.Omega.{arith}
 use borrow.Author.Needs.{needs}
-use Rattle.answers.proofs.Ways.{part-count, tail-left, body-inside, passed-stands}
+use Rattle.answers.proofs.Ways.{tail-left, body-inside, passed-stands}
 use Rattle.answers.proofs.written.answer_tail.Statement.{statement}
 use Rattle.answers.proofs.written.answer_tail.Tie as tie
 
@@ -22,15 +22,15 @@ tail-of-requires c κs = search needs
 enum-told : tie.Need-enum-told
 enum-told c = search needs
 
-enum-known-lent : tie.Need-enum-known-lent
-enum-known-lent c = search needs
+enum-known-room : tie.Need-enum-known-room
+enum-known-room c = search needs
 
 add-start : tie.Need-add-start
 add-start c = search needs
 
 add-end : tie.Need-add-end
 add-end c =
-    omega (arith, (tail-left (c .before .before .before .before .before .before .before .before .fetch .last .0) _ (c .before .before .before .before .before .before .before .before .fetch .ensures) _ (c .before .before .before .tail-of .ensures .1) _ _ (c .before .lent .given .1)) .whole, c .before .before .before .before .before .before .before .before .fetch .ensures .rising, c .before .before .before .before .before .before .before .before .fetch .ensures .inside)
+    omega (arith, (tail-left (c .before .before .before .before .before .before .before .before .fetch .last .0) _ (c .before .before .before .before .before .before .before .before .fetch .ensures) _ (c .before .before .before .tail-of .ensures .1) _ _ (c .before .room .given .1)) .whole, c .before .before .before .before .before .before .before .before .fetch .ensures .rising, c .before .before .before .before .before .before .before .before .fetch .ensures .inside)
 
 sub-answer-records : tie.Need-sub-answer-records
 sub-answer-records c = search needs
@@ -40,26 +40,19 @@ part-answer-records-start c = search needs
 
 part-answer-records-end : tie.Need-part-answer-records-end
 part-answer-records-end c =
-    body-inside _ _ (c .before .before .before .before .before .before .before .before .before .fetch .ensures) _ ((tail-left (c .before .before .before .before .before .before .before .before .before .fetch .last .0) _ (c .before .before .before .before .before .before .before .before .before .fetch .ensures) _ (c .before .before .before .before .tail-of .ensures .1) _ _ (c .before .before .lent .given .1)) .whole)
-
-slice-relend-prefix-answer-records : tie.Need-slice-relend-prefix-answer-records
-slice-relend-prefix-answer-records c =
-    omega (arith, (tail-left (c .before .before .before .before .before .before .before .before .before .before .fetch .last .0) _ (c .before .before .before .before .before .before .before .before .before .before .fetch .ensures) _ (c .before .before .before .before .before .tail-of .ensures .1) _ _ (c .before .before .before .lent .given .1)) .small, c .before .before .before .before .before .before .before .before .before .before .before .before .before .before .before .before .before .before .before .before .before .pre .1 .0)
-
-slice-aggregate-answer-records : tie.Need-slice-aggregate-answer-records
-slice-aggregate-answer-records c =
-    part-count _ (c .before .before .before .before .before .before .before .before .before .before .before .before .before .before .before .before .before .before .before .before .before .before .args .room .now) (omega (arith, (tail-left (c .before .before .before .before .before .before .before .before .before .before .before .fetch .last .0) _ (c .before .before .before .before .before .before .before .before .before .before .before .fetch .ensures) _ (c .before .before .before .before .before .before .tail-of .ensures .1) _ _ (c .before .before .before .before .lent .given .1)) .small, c .before .before .before .before .before .before .before .before .before .before .before .before .before .before .before .before .before .before .before .before .before .before .pre .1 .0))
+    body-inside _ _ (c .before .before .before .before .before .before .before .before .before .fetch .ensures) _ ((tail-left (c .before .before .before .before .before .before .before .before .before .fetch .last .0) _ (c .before .before .before .before .before .before .before .before .before .fetch .ensures) _ (c .before .before .before .before .tail-of .ensures .1) _ _ (c .before .before .room .given .1)) .whole)
 
 answer-records-requires : tie.Need-answer-records-requires
-answer-records-requires c κs = search needs
+answer-records-requires c κs =
+    ((tail-left (c .before .before .before .before .before .before .before .before .before .before .before .fetch .last .0) _ (c .before .before .before .before .before .before .before .before .before .before .before .fetch .ensures) _ (c .before .before .before .before .before .before .tail-of .ensures .1) _ _ (c .before .before .before .before .room .given .1)) .small, c .before .before .before .before .before .before .before .before .before .before .before .before .before .before .before .before .before .before .before .before .before .pre .1)
 
 add-passed : tie.Need-add-passed
 add-passed c =
-    omega (arith, (tail-left (c .before .before .before .before .before .before .before .before .before .before .before .before .before .before .before .before .before .fetch .last .0) _ (c .before .before .before .before .before .before .before .before .before .before .before .before .before .before .before .before .before .fetch .ensures) _ (c .before .before .before .before .before .before .before .before .before .before .before .before .tail-of .ensures .1) _ _ (c .before .before .before .before .before .before .before .before .before .before .lent .given .1)) .whole, c .before .before .before .before .before .before .before .before .before .before .before .before .before .before .before .before .before .fetch .ensures .rising, c .before .before .before .before .before .before .before .before .before .before .before .before .before .before .before .before .before .fetch .ensures .inside)
+    omega (arith, (tail-left (c .before .before .before .before .before .before .before .before .before .before .before .before .before .before .fetch .last .0) _ (c .before .before .before .before .before .before .before .before .before .before .before .before .before .before .fetch .ensures) _ (c .before .before .before .before .before .before .before .before .before .tail-of .ensures .1) _ _ (c .before .before .before .before .before .before .before .room .given .1)) .whole, c .before .before .before .before .before .before .before .before .before .before .before .before .before .before .fetch .ensures .rising, c .before .before .before .before .before .before .before .before .before .before .before .before .before .before .fetch .ensures .inside)
 
 passed-requires : tie.Need-passed-requires
 passed-requires c κs =
-    omega (arith, (tail-left (c .before .before .before .before .before .before .before .before .before .before .before .before .before .before .before .before .before .fetch .last .0) _ (c .before .before .before .before .before .before .before .before .before .before .before .before .before .before .before .before .before .fetch .ensures) _ (c .before .before .before .before .before .before .before .before .before .before .before .before .tail-of .ensures .1) _ _ (c .before .before .before .before .before .before .before .before .before .before .lent .given .1)) .whole, c .before .before .before .before .before .before .before .before .before .before .before .before .before .before .before .before .before .fetch .ensures .rising)
+    omega (arith, (tail-left (c .before .before .before .before .before .before .before .before .before .before .before .before .before .before .fetch .last .0) _ (c .before .before .before .before .before .before .before .before .before .before .before .before .before .before .fetch .ensures) _ (c .before .before .before .before .before .before .before .before .before .tail-of .ensures .1) _ _ (c .before .before .before .before .before .before .before .room .given .1)) .whole, c .before .before .before .before .before .before .before .before .before .before .before .before .before .before .fetch .ensures .rising)
 
 same-length : tie.Need-same-length
 same-length c = search needs
@@ -73,12 +66,9 @@ same-length-2 c = search needs
 same-length-3 : tie.Need-same-length-3
 same-length-3 c = search needs
 
-same-length-4 : tie.Need-same-length-4
-same-length-4 c = search needs
-
 returns-2 : tie.Need-returns-2
 returns-2 c =
-    record { standing = passed-stands _ _ _ _ (c .before .before .before .before .before .before .before .before .before .before .before .before .before .before .before .before .before .before .fetch .ensures) (omega (arith, (tail-left (c .before .before .before .before .before .before .before .before .before .before .before .before .before .before .before .before .before .before .fetch .last .0) _ (c .before .before .before .before .before .before .before .before .before .before .before .before .before .before .before .before .before .before .fetch .ensures) _ (c .before .before .before .before .before .before .before .before .before .before .before .before .before .tail-of .ensures .1) _ _ (c .before .before .before .before .before .before .before .before .before .before .before .lent .given .1)) .whole, c .before .before .before .before .before .before .before .before .before .before .before .before .before .before .before .before .before .before .fetch .ensures .rising)) (c .passed .ensures); inside = c .before .before .before .before .before .answer-records .ensures }
+    record { standing = passed-stands _ _ _ _ (c .before .before .before .before .before .before .before .before .before .before .before .before .before .before .before .fetch .ensures) (omega (arith, (tail-left (c .before .before .before .before .before .before .before .before .before .before .before .before .before .before .before .fetch .last .0) _ (c .before .before .before .before .before .before .before .before .before .before .before .before .before .before .before .fetch .ensures) _ (c .before .before .before .before .before .before .before .before .before .before .tail-of .ensures .1) _ _ (c .before .before .before .before .before .before .before .before .room .given .1)) .whole, c .before .before .before .before .before .before .before .before .before .before .before .before .before .before .before .fetch .ensures .rising)) (c .passed .ensures); inside = c .before .before .before .answer-records .ensures }
 
 pub answer-tail-spec : {M : Type 1} → statement M
 answer-tail-spec =
@@ -90,14 +80,12 @@ answer-tail-spec =
     part-tail-of-end
     tail-of-requires
     enum-told
-    enum-known-lent
+    enum-known-room
     add-start
     add-end
     sub-answer-records
     part-answer-records-start
     part-answer-records-end
-    slice-relend-prefix-answer-records
-    slice-aggregate-answer-records
     answer-records-requires
     add-passed
     passed-requires
@@ -105,5 +93,4 @@ answer-tail-spec =
     returns
     same-length-2
     same-length-3
-    same-length-4
     returns-2)

@@ -1,26 +1,24 @@
 use mathlib.Core.Path.{_∙_}
 use Prim.Native.Nat.{_-_}
 use native.Mathlib.Omega.{arith}
-use lib.ListN.{length}
 use borrow.Author.Needs.{needs}
 use Rattle.answers.proofs.Ways.{Taking, reached, kept-again, ample-kept, ample-fewer}
 use Rattle.answers.proofs.written.take_records.Statement.{statement}
 use Rattle.answers.proofs.written.take_records.Tie as tie
 
 abbrev Inv-loop : tie.InvT-loop
-Inv-loop input₀ tags₀ kinds₀ depths₀ parents₀ starts₀ sizes₀ behind₀ i₀ input tags kinds depths parents starts sizes behind i =
+Inv-loop input₀ tags₀ kinds₀ depths₀ parents₀ starts₀ sizes₀ n behind₀ i₀ input tags kinds depths parents starts sizes behind i =
     Taking input₀ tags₀ kinds₀ depths₀ parents₀ starts₀ sizes₀ input tags kinds depths parents starts sizes behind
 
 abbrev μ-loop : tie.MeasureT-loop
-μ-loop input₀ tags₀ kinds₀ depths₀ parents₀ starts₀ sizes₀ behind₀ i₀ input tags kinds depths parents starts sizes behind i =
-    length tags - i
+μ-loop input₀ tags₀ kinds₀ depths₀ parents₀ starts₀ sizes₀ n behind₀ i₀ input tags kinds depths parents starts sizes behind i = n - i
 
 loop-holds : tie.Need-loop-holds Inv-loop μ-loop
 loop-holds c = search needs
 
 take-record-requires : tie.Need-take-record-requires Inv-loop μ-loop
 take-record-requires c κs =
-    (c .before .before .before .before .before .before .before .before .loop .inv .standing, ample-fewer (ample-kept (c .before .before .before .before .before .before .before .before .before .before .before .before .before .before .before .before .pre .1) (c .before .before .before .before .before .before .before .before .loop .inv .lists)) _ (omega (arith, c .before .before .before .before .before .before .before .loop-test .taken, c .before .before .before .before .before .before .before .before .loop .inv .lists .tag)))
+    (c .before .before .before .before .before .before .before .before .loop .inv .standing, ample-fewer (ample-kept (c .before .before .before .before .before .before .before .before .before .before .before .before .before .before .before .before .pre .1) (c .before .before .before .before .before .before .before .before .loop .inv .lists)) _ (omega (arith, c .before .before .before .before .before .before .before .loop-test .taken)))
 
 enum-known-taken : tie.Need-enum-known-taken Inv-loop μ-loop
 enum-known-taken c = search needs
@@ -54,7 +52,7 @@ returns c = search needs
 
 add-i : tie.Need-add-i Inv-loop μ-loop
 add-i c =
-    omega (arith, c .before .before .before .before .before .before .before .before .before .before .before .before .before .before .before .before .before .before .before .before .before .before .before .before .before .loop-test .taken, c .before .before .before .before .before .before .before .before .before .before .before .before .before .before .before .before .before .before .before .before .before .before .before .before .before .before .loop .inv .lists .tag, c .before .before .before .before .before .before .before .before .before .before .before .before .before .before .before .before .before .before .before .before .before .before .before .before .before .before .before .before .before .before .before .before .before .before .good .1 .0 .0)
+    omega (arith, c .before .before .before .before .before .before .before .before .before .before .before .before .before .before .before .before .before .before .before .before .before .before .before .before .before .loop-test .taken, c .before .before .before .before .before .before .before .before .before .before .before .before .before .before .before .before .before .before .before .before .before .before .before .before .before .before .before .before .before .before .before .before .before .before .fits .n .fits)
 
 loop-less : tie.Need-loop-less Inv-loop μ-loop
 loop-less c = search needs
