@@ -13,7 +13,7 @@
 #include <stdlib.h>
 #include <time.h>
 
-enum { TURNS = 60, RUN_NANOSECONDS = 1000000, PLACES = SPI_MOST_RECORDS, ROOM = SPI_MOST_OCTETS, MOST_OBJECTS = 32 };
+enum { TURNS = 250, RUN_NANOSECONDS = 1000000, PLACES = SPI_MOST_RECORDS, ROOM = SPI_MOST_OCTETS, MOST_OBJECTS = 32 };
 
 struct file {
     size_t size;
