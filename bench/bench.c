@@ -1,8 +1,9 @@
 /*
  * bench FOLDER: times the library against the second program, in one process, on the objects that make_objects.py
  * wrote to the folder.  Answers are compared before anything is timed.  A time is the least of many
- * short runs in which the two take turns, on the clock of the process.  A run goes over all objects of a size,
- * of which there are the more the smaller they are.
+ * short runs on the clock of the process, in which the two programs and all sizes take turns, so that a processor
+ * that changes its pace does so for all of them.  A run goes over all objects of a size, of which there are the
+ * more the smaller they are.
  */
 #define main second_main
 #include "../second/second.c"
@@ -20,14 +21,21 @@ struct file {
     uint8_t octets[ROOM];
 };
 
-static struct file objects[MOST_OBJECTS], others[MOST_OBJECTS], words;
-static size_t object_count;
+/* The objects of a size, and texts of that size. */
+struct set {
+    size_t count, texts, text_starts[PLACES], text_sizes[PLACES];
+    struct file objects[MOST_OBJECTS], others[MOST_OBJECTS], words;
+};
+
+static const int kilos[] = {1, 4, 16, 32};
+enum { SIZES = sizeof kilos / sizeof kilos[0] };
+
+static struct set sets[SIZES], *set;
 static struct {
     uint8_t tags[PLACES], kinds[PLACES], depths[PLACES];
     uint16_t parents[PLACES], starts[PLACES], sizes[PLACES];
 } lists;
 static uint8_t store[ROOM], room[ROOM], other_room[ROOM];
-static size_t texts, text_starts[PLACES], text_sizes[PLACES];
 
 #define SIX_LISTS                                                                                                      \
     lists.tags, PLACES, lists.kinds, PLACES, lists.depths, PLACES, lists.parents, PLACES, lists.starts, PLACES,        \
@@ -46,8 +54,8 @@ static void stop(const char *why)
     static uint64_t name(void)                                                                                         \
     {                                                                                                                  \
         uint64_t sum = 0;                                                                                              \
-        for (size_t i = 0; i < object_count; i++)                                                                      \
-            sum += one(&objects[i], &others[i]);                                                                       \
+        for (size_t i = 0; i < set->count; i++)                                                                        \
+            sum += one(&set->objects[i], &set->others[i]);                                                             \
         return sum;                                                                                                    \
     }
 
@@ -108,8 +116,8 @@ ON_EACH(second_same, same_by_second)
 static uint64_t library_text(void)
 {
     uint64_t good = 0;
-    for (size_t i = 0; i < texts; i++)
-        good += spi_check_text(words.octets + text_starts[i], text_sizes[i], true);
+    for (size_t i = 0; i < set->texts; i++)
+        good += spi_check_text(set->words.octets + set->text_starts[i], set->text_sizes[i], true);
     return good;
 }
 
@@ -117,8 +125,8 @@ static uint64_t second_text(void)
 {
     uint64_t good = 0;
     struct text_facts facts;
-    for (size_t i = 0; i < texts; i++)
-        good += scan_text(words.octets + text_starts[i], text_sizes[i], &no_tokens, &facts);
+    for (size_t i = 0; i < set->texts; i++)
+        good += scan_text(set->words.octets + set->text_starts[i], set->text_sizes[i], &no_tokens, &facts);
     return good;
 }
 
@@ -144,30 +152,45 @@ static double time_runs(call called, unsigned runs)
     return (now() - start) / runs;
 }
 
-/* Octets, ns an octet of both, and their ratio; how the library's cost an octet grew from the object before. */
-static void compare(const char *name, size_t octets, call library, call other_program, double *before)
+/* A row: objects and their octets, ns an octet of both programs, their ratio, and how the library's cost an octet grew
+ * from the size before. */
+static void print_row(const char *name, size_t octets, const double least[2], double before)
 {
-    if (library() != other_program())
-        stop("the two answer differently");
-    double once = time_runs(library, 3);
-    unsigned runs = once < RUN_NANOSECONDS ? (unsigned)(RUN_NANOSECONDS / once) + 1 : 1;
-    double least[2] = {1e18, 1e18};
-    for (int turn = 0; turn < TURNS; turn++) {
-        double mine = time_runs(library, runs);
-        double its = time_runs(other_program, runs);
-        least[0] = mine < least[0] ? mine : least[0];
-        least[1] = its < least[1] ? its : least[1];
-    }
     double each = least[0] / (double)octets, ratio = least[0] / least[1];
-    printf("%-22s %3zu * %5zu %9.3f %9.3f %7.2f", name, object_count, octets / object_count, each, least[1] / (double)octets, ratio);
+    printf("%-22s %3zu * %5zu %9.3f %9.3f %7.2f", name, set->count, octets / set->count, each, least[1] / (double)octets, ratio);
     greatest_ratio = ratio > greatest_ratio ? ratio : greatest_ratio;
-    if (*before != 0) {
-        double growth = each / *before;
-        printf(" %8.2f", growth);
-        greatest_growth = growth > greatest_growth ? growth : greatest_growth;
+    if (before != 0) {
+        printf(" %8.2f", each / before);
+        greatest_growth = each / before > greatest_growth ? each / before : greatest_growth;
     }
     printf("\n");
-    *before = each;
+}
+
+static void compare(const char *name, size_t (*octets)(void), call library, call other_program)
+{
+    unsigned runs[SIZES];
+    double least[SIZES][2];
+    for (size_t k = 0; k < SIZES; k++) {
+        set = &sets[k];
+        if (library() != other_program())
+            stop("the two answer differently");
+        double once = time_runs(library, 3);
+        runs[k] = once < RUN_NANOSECONDS ? (unsigned)(RUN_NANOSECONDS / once) + 1 : 1;
+        least[k][0] = least[k][1] = 1e18;
+    }
+    for (int turn = 0; turn < TURNS; turn++)
+        for (size_t k = 0; k < SIZES; k++) {
+            set = &sets[k];
+            double mine = time_runs(library, runs[k]), its = time_runs(other_program, runs[k]);
+            least[k][0] = mine < least[k][0] ? mine : least[k][0];
+            least[k][1] = its < least[k][1] ? its : least[k][1];
+        }
+    double before = 0;
+    for (size_t k = 0; k < SIZES; k++) {
+        set = &sets[k];
+        print_row(name, octets(), least[k], before);
+        before = least[k][0] / (double)octets();
+    }
 }
 
 /* ---- Objects and texts -------------------------------------------------------------------------- */
@@ -183,101 +206,88 @@ static void load(struct file *file, const char *folder, const char *name, int ki
     fclose(stream);
 }
 
-static void load_all(const char *folder, const char *name, const char *twin, int kilo)
+static void load_all(const char *folder, const char *name, const char *twin)
 {
-    object_count = (size_t)(MOST_OBJECTS / kilo);
-    for (size_t i = 0; i < object_count; i++) {
-        load(&objects[i], folder, name, kilo, i);
-        load(&others[i], folder, twin, kilo, i);
+    for (size_t k = 0; k < SIZES; k++) {
+        sets[k].count = (size_t)(MOST_OBJECTS / kilos[k]);
+        for (size_t i = 0; i < sets[k].count; i++) {
+            load(&sets[k].objects[i], folder, name, kilos[k], i);
+            load(&sets[k].others[i], folder, twin, kilos[k], i);
+        }
     }
 }
 
-static void one_text(void)
+static size_t object_octets(void)
 {
-    object_count = 1;
-    texts = 1;
-    text_starts[0] = 0;
-    text_sizes[0] = words.size;
+    size_t octets = 0;
+    for (size_t i = 0; i < set->count; i++)
+        octets += set->objects[i].size;
+    return octets;
 }
 
-/* A text of a size, one sentence over and over. */
-static void repeat_text(const char *sentence, size_t size)
+static size_t both_octets(void)
 {
-    size_t length = strlen(sentence);
-    for (words.size = 0; words.size + length <= size; words.size += length)
-        memcpy(words.octets + words.size, sentence, length);
-    one_text();
-}
-
-/* The texts that the objects show, as they stand in them. */
-static void object_texts(void)
-{
-    texts = 0;
-    words.size = 0;
-    for (size_t k = 0; k < object_count; k++) {
-        uint64_t answer = read_by_library(&objects[k], &others[k]);
-        for (size_t i = 0; i < spi_value(answer); i++)
-            if (lists.kinds[i] == SPI_CDATA) {
-                memcpy(words.octets + words.size, objects[k].octets + lists.starts[i], lists.sizes[i]);
-                text_starts[texts] = words.size;
-                text_sizes[texts++] = lists.sizes[i];
-                words.size += lists.sizes[i];
-            }
-    }
+    size_t octets = object_octets();
+    for (size_t i = 0; i < set->count; i++)
+        octets += set->others[i].size;
+    return octets;
 }
 
 static size_t text_octets(void)
 {
     size_t octets = 0;
-    for (size_t i = 0; i < texts; i++)
-        octets += text_sizes[i];
+    for (size_t i = 0; i < set->texts; i++)
+        octets += set->text_sizes[i];
     return octets;
 }
 
-static const int kilos[] = {1, 4, 16, 32};
-enum { SIZES = sizeof kilos / sizeof kilos[0] };
-
-static void compare_objects(const char *folder, const char *name, const char *twin, const char *label, call library,
-                            call other_program, bool both)
+/* One text of each size, a sentence over and over. */
+static void repeat_text(const char *sentence)
 {
-    double before = 0;
+    size_t length = strlen(sentence);
     for (size_t k = 0; k < SIZES; k++) {
-        load_all(folder, name, twin, kilos[k]);
-        size_t octets = 0;
-        for (size_t i = 0; i < object_count; i++) {
-            octets += objects[i].size + (both ? others[i].size : 0);
-            uint64_t size = normalise_by_library(&objects[i], &others[i]);
-            if (size != normalise_by_second(&objects[i], &others[i]) || memcmp(room, first_normal, size) != 0)
-                stop("the normal forms differ");
-        }
-        compare(label, octets, library, other_program, &before);
+        struct file *words = &sets[k].words;
+        for (words->size = 0; words->size + length <= (size_t)kilos[k] * 1024; words->size += length)
+            memcpy(words->octets + words->size, sentence, length);
+        sets[k].count = sets[k].texts = 1;
+        sets[k].text_starts[0] = 0;
+        sets[k].text_sizes[0] = words->size;
     }
 }
 
-static void compare_texts(const char *folder)
+static void add_text(const uint8_t *octets, size_t size)
 {
-    double before = 0;
-    for (size_t i = 0; i < SIZES; i++) {
-        repeat_text("The news at one, and then the weather for the coast. ", (size_t)kilos[i] * 1024);
-        compare("text English", text_octets(), library_text, second_text, &before);
+    memcpy(set->words.octets + set->words.size, octets, size);
+    set->text_starts[set->texts] = set->words.size;
+    set->text_sizes[set->texts++] = size;
+    set->words.size += size;
+}
+
+/* The texts that the objects show, as they stand in them. */
+static void object_texts(void)
+{
+    for (size_t k = 0; k < SIZES; k++) {
+        set = &sets[k];
+        set->texts = set->words.size = 0;
+        for (size_t i = 0; i < set->count; i++) {
+            uint64_t answer = read_by_library(&set->objects[i], &set->others[i]);
+            for (size_t r = 0; r < spi_value(answer); r++)
+                if (lists.kinds[r] == SPI_CDATA)
+                    add_text(set->objects[i].octets + lists.starts[r], lists.sizes[r]);
+        }
     }
-    before = 0;
-    for (size_t i = 0; i < SIZES; i++) {
-        repeat_text("Le café de São João à Łódź, avec Jürgen. ", (size_t)kilos[i] * 1024);
-        compare("text accented", text_octets(), library_text, second_text, &before);
-    }
-    before = 0;
-    for (size_t i = 0; i < SIZES; i++) {
-        load_all(folder, "day", "day", kilos[i]);
-        object_texts();
-        compare("texts of the day", text_octets(), library_text, second_text, &before);
-    }
-    before = 0;
-    for (size_t i = 0; i < SIZES; i++) {
-        load_all(folder, "small", "small", kilos[i]);
-        object_texts();
-        compare("texts of small items", text_octets(), library_text, second_text, &before);
-    }
+}
+
+/* Normal forms are held against each other before anything is timed. */
+static void compare_normal_forms(void)
+{
+    for (size_t k = 0; k < SIZES; k++)
+        for (size_t i = 0; i < sets[k].count; i++) {
+            const struct file *object = &sets[k].objects[i], *other = &sets[k].others[i];
+            uint64_t size = normalise_by_library(object, other);
+            if (size != normalise_by_second(object, other) || memcmp(room, first_normal, size) != 0)
+                stop("the normal forms differ");
+        }
 }
 
 /* One call alone on an object of 32 KB, many times, for a profiler to look at: bench FOLDER CALL OBJECT RUNS. */
@@ -288,7 +298,8 @@ static void repeat_call(const char *folder, const char *name, const char *of, un
         call called;
     } calls[] = {{"library_read", library_read}, {"second_read", second_read}, {"library_normalise", library_normalise},
                  {"second_normalise", second_normalise}, {"library_same", library_same}, {"second_same", second_same}};
-    load_all(folder, of, strcmp(of, "day") == 0 ? "other" : of, 32);
+    load_all(folder, of, strcmp(of, "day") == 0 ? "other" : of);
+    set = &sets[SIZES - 1];
     for (size_t i = 0; i < sizeof calls / sizeof calls[0]; i++)
         if (strcmp(calls[i].name, name) == 0)
             time_runs(calls[i].called, runs);
@@ -306,13 +317,24 @@ int main(int count, char **arguments)
     (void)second_main;
     printf("%-22s %11s %9s %9s %7s %8s\n", "", "octets", "library", "second", "ratio", "growth");
     printf("%-22s %11s %9s %9s %7s %8s\n", "", "", "ns/octet", "ns/octet", "", "");
-    compare_objects(folder, "day", "other", "read day", library_read, second_read, false);
-    compare_objects(folder, "small", "small", "read small", library_read, second_read, false);
-    compare_objects(folder, "day", "other", "normalise day", library_normalise, second_normalise, false);
-    compare_objects(folder, "small", "small", "normalise small", library_normalise, second_normalise, false);
-    compare_objects(folder, "day", "other", "same day", library_same, second_same, true);
-    compare_objects(folder, "small", "small", "same small", library_same, second_same, true);
-    compare_texts(folder);
+    load_all(folder, "day", "other");
+    compare_normal_forms();
+    compare("read day", object_octets, library_read, second_read);
+    compare("normalise day", object_octets, library_normalise, second_normalise);
+    compare("same day", both_octets, library_same, second_same);
+    object_texts();
+    compare("texts of the day", text_octets, library_text, second_text);
+    load_all(folder, "small", "small");
+    compare_normal_forms();
+    compare("read small", object_octets, library_read, second_read);
+    compare("normalise small", object_octets, library_normalise, second_normalise);
+    compare("same small", both_octets, library_same, second_same);
+    object_texts();
+    compare("texts of small items", text_octets, library_text, second_text);
+    repeat_text("The news at one, and then the weather for the coast. ");
+    compare("text English", text_octets, library_text, second_text);
+    repeat_text("Le café de São João à Łódź, avec Jürgen. ");
+    compare("text accented", text_octets, library_text, second_text);
     printf("greatest ratio %.2f (goal 1.50), greatest growth %.2f (goal 1.20)\n", greatest_ratio, greatest_growth);
     return 0;
 }
