@@ -290,6 +290,18 @@ static void compare_normal_forms(void)
         }
 }
 
+/* All calls on the objects of a name, and the check of the texts that they show, each under its label. */
+static void compare_calls(const char *folder, const char *name, const char *twin, const char *labels[4])
+{
+    load_all(folder, name, twin);
+    compare_normal_forms();
+    compare(labels[0], object_octets, library_read, second_read);
+    compare(labels[1], object_octets, library_normalise, second_normalise);
+    compare(labels[2], both_octets, library_same, second_same);
+    object_texts();
+    compare(labels[3], text_octets, library_text, second_text);
+}
+
 /* One call alone on an object of 32 KB, many times, for a profiler to look at: bench FOLDER CALL OBJECT RUNS. */
 static void repeat_call(const char *folder, const char *name, const char *of, unsigned runs)
 {
@@ -317,20 +329,9 @@ int main(int count, char **arguments)
     (void)second_main;
     printf("%-22s %11s %9s %9s %7s %8s\n", "", "octets", "library", "second", "ratio", "growth");
     printf("%-22s %11s %9s %9s %7s %8s\n", "", "", "ns/octet", "ns/octet", "", "");
-    load_all(folder, "day", "other");
-    compare_normal_forms();
-    compare("read day", object_octets, library_read, second_read);
-    compare("normalise day", object_octets, library_normalise, second_normalise);
-    compare("same day", both_octets, library_same, second_same);
-    object_texts();
-    compare("texts of the day", text_octets, library_text, second_text);
-    load_all(folder, "small", "small");
-    compare_normal_forms();
-    compare("read small", object_octets, library_read, second_read);
-    compare("normalise small", object_octets, library_normalise, second_normalise);
-    compare("same small", both_octets, library_same, second_same);
-    object_texts();
-    compare("texts of small items", text_octets, library_text, second_text);
+    compare_calls(folder, "day", "other", (const char *[]){"read day", "normalise day", "same day", "texts of the day"});
+    compare_calls(folder, "small", "small",
+                  (const char *[]){"read small", "normalise small", "same small", "texts of small items"});
     repeat_text("The news at one, and then the weather for the coast. ");
     compare("text English", text_octets, library_text, second_text);
     repeat_text("Le café de São João à Łódź, avec Jürgen. ");
