@@ -32,7 +32,7 @@ fn normalise_into(
     ensures { λ r. ⌜ r ≤ length (now (out .exit)) ⌝ }
 {
     mark_lists(tags, kinds, depths, parents, starts, sizes);
-    let answer = normal::normalise(
+    let answer = writer::normalise(
         object,
         tags,
         kinds,

@@ -17,7 +17,7 @@ use Rattle.format.specs.declared.WriteAnswer.{WriteAnswer}
 use Rattle.format.specs.declared.WriteAnswer.the-variants.{Octets, NotWritten}
 use Rattle.format.specs.Answers.{writeOutcome}
 use Rattle.format.specs.Calls.{Lists, lentBy, NormaliseClaim}
-use Rattle.normal.proofs.Normalised.{fit, written}
+use Rattle.writer.proofs.Normalised.{fit, written}
 use Rattle.spi.specs.Common.{common}
 
 -- ---- octets compared

@@ -109,7 +109,7 @@ pub fn normal_form(object: &[u8], lent: &mut [u8]) -> Outcome
     let mut starts = number_places();
     let mut sizes = number_places();
     let mut store = room();
-    let answer = normal::normalise(
+    let answer = writer::normalise(
         object,
         &mut tags,
         &mut kinds,

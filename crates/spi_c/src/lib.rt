@@ -3,7 +3,7 @@ ghost use mathlib.Core.Path.{_≡_};
 ghost use Prim.Native.Nat.{_<_};
 ghost use Rattle.text.specs.Text.{text};
 ghost use Rattle.reader.specs.Lent.{lent};
-ghost use Rattle.writer.specs.Check.{lists};
+ghost use Rattle.records.specs.Check.{lists};
 ghost use Rattle.spi_c.specs.Packed.{packed, packedOutcome, packedSame, packedSpan, Small, SmallSame, SmallSpan};
 ghost use Rattle.spi_c.specs.Claims.{ReadsC, SpansC, WritesC, NormalisesC, SameC};
 use format::Outcome;
@@ -116,7 +116,7 @@ pub extern "C" fn spi_normalise(
 ) -> u64
     ensures { λ r. ⌜ NormalisesC (now (object .entry)) (lent (tags .entry) (kinds .entry) (depths .entry) (parents .entry) (starts .entry) (sizes .entry)) (lent (tags .exit) (kinds .exit) (depths .exit) (parents .exit) (starts .exit) (sizes .exit)) (now (store .entry)) (now (store .exit)) (now (room .entry)) (now (room .exit)) r ⌝ }
 {
-    let answer = normal::normalise(
+    let answer = writer::normalise(
         object,
         tags,
         kinds,
@@ -147,7 +147,7 @@ pub extern "C" fn spi_same(
 ) -> u64
     ensures { λ r. ⌜ SameC (now (a .entry)) (now (b .entry)) (lent (tags .entry) (kinds .entry) (depths .entry) (parents .entry) (starts .entry) (sizes .entry)) (lent (tags .exit) (kinds .exit) (depths .exit) (parents .exit) (starts .exit) (sizes .exit)) (now (store .entry)) (now (store .exit)) (now («room_a» .entry)) (now («room_a» .exit)) (now («room_b» .entry)) (now («room_b» .exit)) r ⌝ }
 {
-    let answer = normal::same(
+    let answer = writer::same(
         a,
         b,
         tags,

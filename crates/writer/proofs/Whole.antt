@@ -27,7 +27,7 @@ use Rattle.format.proofs.Rebuilt.{rebuilt-whole}
 use Rattle.writer.specs.declared.size.Sized.{Sized}
 use Rattle.writer.specs.declared.size.Sized.the-variants.{Over, Size}
 use Rattle.writer.specs.declared.emit.Reached.{Reached}
-use Rattle.writer.specs.Check.{isGiven}
+use Rattle.records.specs.Check.{isGiven}
 use Rattle.writer.specs.Normal.{normalSize, laterOctets}
 use Rattle.writer.specs.Steps.{itemsFrom, Holding, sizedFrom, Lays, Ordered, Fitting, Emits}
 use Rattle.writer.proofs.Sizes.{size-whole}
@@ -105,7 +105,7 @@ module _ (n : ℕ) (l : Lists) (lent : List ℕ) (t : Items) (e : treeGiven n l 
       go true q h = (leb-true n (places l) q, h)
       go false q h = absurd (Option·none-ne-some t h)
 
-  tree-holding : Holding n (fourIn l) lent
+  pub tree-holding : Holding n (fourIn l) lent
   tree-holding =
       let p = placed n l (given-both .0) in
       record { tags = p .tags; depths = p .depths; starts = p .starts; sizes = p .sizes; bodies = rebuilt-bodies (row l) n lent t (given-both .1) }
@@ -119,7 +119,7 @@ module _ (n : ℕ) (l : Lists) (lent : List ℕ) (t : Items) (e : treeGiven n l 
   tree-rules : ruled atTop t ≡ true
   tree-rules = rebuilt-whole (row l) n lent t (given-both .1) .rules
 
-  tree-ordered : Ordered 0 (itemsFrom (fourIn l) n lent 1 0 .0)
+  pub tree-ordered : Ordered 0 (itemsFrom (fourIn l) n lent 1 0 .0)
   unfolding atTop
   tree-ordered = rw tree-items (record { spot = atTop; element = refl; rules = tree-rules })
 
@@ -136,6 +136,22 @@ module _ (n : ℕ) (l : Lists) (lent : List ℕ) (t : Items) (e : treeGiven n l 
       let no : roomy (length room) (encode (means [] t)) ≡ false = lt-leb (length (encode (means [] t))) (min (length room) 32_768) h in
       record { answers = rw (e, no); leaves = rw (e, no) }
 
+  -- all fits, so that all can be written, and the answer is how much
+  module _ (room : List ℕ) (fit : roomy (length room) (encode (means [] t)) ≡ true) where
+    pub tree-fits : Fitting (laterOctets 0 (itemsFrom (fourIn l) n lent 1 0 .0)) 0 (length room)
+    unfolding roomy
+    tree-fits =
+        let k = leb-true (length (encode (means [] t))) (min (length room) 32_768) fit in
+        let a = min-le-left (length room) 32_768 in
+        let b = min-le-right (length room) 32_768 in
+        rw tree-octets (record { inRoom = omega (arith, k, a); inObject = omega (arith, k, b) })
+
+    pub tree-written : (after : List ℕ) (r : Reached) → Emits (itemsFrom (fourIn l) n lent 1 0) 0 0 room after r → WriteClaim n l lent room after (Octets (r .end))
+    unfolding writeAnswer writeOctets
+    tree-written after r g =
+        let laid : Lays (encode (means [] t)) 0 room after (r .end) = rw tree-octets at (g .lays) in
+        record { answers = rw (e, fit) (ap Octets (laid .ends ∙ omega arith)); leaves = rw (e, fit) (laid .leaves) }
+
   module _ (v : Sized) (ve : v ≡ sizedFrom (fourIn l) n lent 0 1 0) where
     over-claim : v ≡ Over → (room : List ℕ) → WriteClaim n l lent room room (NotWritten (refusal 15 0))
     over-claim q room = too-many room (omega (arith, size-over (fourIn l) n lent 0 1 0 v ve q, tree-size, min-le-right (length room) 32_768))
@@ -147,21 +163,11 @@ module _ (n : ℕ) (l : Lists) (lent : List ℕ) (t : Items) (e : treeGiven n l 
       room-claim : length room < total → WriteClaim n l lent room room (NotWritten (refusal 15 0))
       room-claim h = too-many room (omega (arith, length-is, min-le-left (length room) 32_768))
 
-      module _ (h : total ≤ length room) where
-        whole-fits : Fitting (laterOctets 0 (itemsFrom (fourIn l) n lent 1 0 .0)) 0 (length room)
-        whole-fits =
-            let k = size-told (fourIn l) n lent 0 1 0 v ve total next q .2 in
-            rw tree-octets (record { inRoom = omega (arith, length-is); inObject = omega (arith, length-is) })
-
-        -- all is written, and the answer is how much
-        written-claim : (after : List ℕ) (r : Reached) → Emits (itemsFrom (fourIn l) n lent 1 0) 0 0 room after r → WriteClaim n l lent room after (Octets (r .end))
-        unfolding writeAnswer writeOctets roomy
-        written-claim after r g =
-            let k = size-told (fourIn l) n lent 0 1 0 v ve total next q .2 in
-            let fit : roomy (length room) (encode (means [] t)) ≡ true =
-            le-leb (length (encode (means [] t))) (min (length room) 32_768) (le-min (omega (arith, length-is)) (omega (arith, length-is))) in
-            let laid : Lays (encode (means [] t)) 0 room after (r .end) = rw tree-octets at (g .lays) in
-            record { answers = rw (e, fit) (ap Octets (laid .ends ∙ omega arith)); leaves = rw (e, fit) (laid .leaves) }
+      whole-fit : total ≤ length room → roomy (length room) (encode (means [] t)) ≡ true
+      unfolding roomy
+      whole-fit h =
+          let k = size-told (fourIn l) n lent 0 1 0 v ve total next q .2 in
+          le-leb (length (encode (means [] t))) (min (length room) 32_768) (le-min (omega (arith, length-is)) (omega (arith, length-is)))
 
 -- the ways through the code of `write`
 module _ (n : ℕ) (l : Lists) (lent : List ℕ) (b : Bool) (be : b ≡ isGiven (treeGiven n l lent)) where
@@ -197,7 +203,7 @@ module _ (n : ℕ) (l : Lists) (lent : List ℕ) (b : Bool) (be : b ≡ isGiven 
         given-more h a ae = rw ae (room-claim n l lent (given-some .0) (given-some .1) v ve total next f room h)
 
         pub given-fits : total ≤ length room → Fitting (laterOctets 0 (itemsFrom (fourIn l) n lent 1 0 .0)) 0 (length room)
-        given-fits h = whole-fits n l lent (given-some .0) (given-some .1) v ve total next f room h
+        given-fits h = tree-fits n l lent (given-some .0) (given-some .1) room (whole-fit n l lent (given-some .0) (given-some .1) v ve total next f room h)
 
         pub given-written : total ≤ length room → (after : List ℕ) (r : Reached) → Emits (itemsFrom (fourIn l) n lent 1 0) 0 0 room after r → WriteClaim n l lent room after (Octets (r .end))
-        given-written h after r g = written-claim n l lent (given-some .0) (given-some .1) v ve total next f room h after r g
+        given-written h after r g = tree-written n l lent (given-some .0) (given-some .1) room (whole-fit n l lent (given-some .0) (given-some .1) v ve total next f room h) after r g

@@ -1,5 +1,7 @@
-pub mod Rules
-pub mod Check
 pub mod Normal
 pub mod Steps
 pub mod Theorems
+pub mod Measure
+pub mod Sizes
+pub mod Store
+pub mod Load

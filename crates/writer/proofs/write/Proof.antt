@@ -1,5 +1,5 @@
 use Rattle.writer.proofs.Whole.{given-holding, given-ordered, given-over, given-more, given-fits, given-written, not-given}
-use Rattle.writer.specs.Check.{lists}
+use Rattle.records.specs.Check.{lists}
 use native.Mathlib.Omega.{arith}
 use borrow.Author.Needs.{needs}
 use Rattle.writer.proofs.write.Statement.{statement}

@@ -1,4 +1,0 @@
-pub mod Measure
-pub mod Sizes
-pub mod Store
-pub mod Load

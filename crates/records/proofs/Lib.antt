@@ -1,0 +1,8 @@
+pub mod Standing
+pub mod Marks
+pub mod Bodies
+pub mod Places
+pub mod Records
+pub mod Turns
+pub mod Given
+pub mod IllFormed

@@ -1,0 +1,345 @@
+// Whether records are a well-formed tree (document 01, Refusal numbers: 16). One walk in reading order looks at each record once. A text's
+// octets are looked at once, those of a CDATA with a limit once more, up to the limit; no other body is looked at but by its value's fields.
+ghost use mathlib.Core.Path.{_≡_};
+ghost use mathlib.Core.Bool.{false, _&&_};
+ghost use mathlib.Core.List.{[]};
+ghost use mathlib.Core.Option.{some};
+ghost use Prim.Native.Nat.{_+_, _≤_, _<_};
+ghost use lib.Dec.{leb};
+ghost use Rattle.values.specs.Table.{known};
+ghost use Rattle.text.specs.Text.{text};
+ghost use Rattle.text.specs.Tokens.{shownLength};
+ghost use Rattle.format.specs.Judge.{shown};
+ghost use Rattle.format.specs.Calls.{row, places, treeGiven};
+ghost use Rattle.records.specs.Check.{isGiven, lists, HasPlaces, octetsIf, heldAs, placedBy, stateAfter, itemOf, itemAs, firstIn, walked, told};
+use crate::rules::has_bit;
+use crate::rules::is_allowed;
+use crate::rules::is_depth_allowed;
+use crate::rules::is_short;
+use crate::rules::kind_of;
+use crate::rules::latest_of;
+use crate::rules::stage_after;
+use crate::rules::with_bit;
+use format::Record;
+use values::Kind;
+use values::KnownKind;
+use values::fits_kind;
+use values::known_kind;
+
+// The element whose items are looked at: its tag (0 above the top), the number of its record, and the depth of the items in it.
+pub struct Parent {
+    pub tag: u8,
+    pub number: usize,
+    pub depth: usize,
+}
+
+// What the items so far left behind in their element: the stage of its order, and the bits of its attributes.
+pub struct State {
+    pub stage: u8,
+    pub mask: u64,
+}
+
+// What a body holds: octets, or items, which have records of their own; or it breaks a rule.
+pub enum Held {
+    Broken,
+    Octets,
+    Inner,
+}
+
+// What a record is among the items of an element: past the last of them; bad; or an item without or with items inside it, with what it
+// leaves behind.
+pub enum Item {
+    Past,
+    Bad,
+    Single(State),
+    Nested(u8, State),
+}
+
+// Where the items of an element end: the number of the first record past them. Ill: a record is bad.
+pub enum Reached {
+    Ill,
+    Next(usize),
+}
+
+fn octets_if(good: bool) -> Held
+    ensures { λ r. ⌜ r ≡ octetsIf good ⌝ }
+{
+    if good { Held::Octets } else { Held::Broken }
+}
+
+// Rules 10, 12 and 13 where there is no token table: a token octet is a fault of the text.
+fn is_text_kept(parent: u8, tag: u8, body: &[u8]) -> bool
+    ensures { λ r. ⌜ r ≡ (text false (now (body .entry)) && shown parent tag (shownLength [] (now (body .entry)))) ⌝ }
+{
+    if text::check(body, false) {
+        return is_short(parent, tag, &body[0..0], body);
+    }
+    false
+}
+
+fn check_kind(kind: Kind, parent: u8, tag: u8, body: &[u8]) -> Held
+    ensures { λ r. ⌜ r ≡ heldAs parent tag (now (body .entry)) (some kind) ⌝ }
+{
+    match kind {
+        Kind::HoldsItems => Held::Inner,
+        Kind::HoldsTokens => Held::Broken,
+        Kind::HoldsText => octets_if(is_text_kept(parent, tag, body)),
+        Kind::HoldsPlain => Held::Octets,
+        Kind::HoldsTime => octets_if(fits_kind(kind, body)),
+        Kind::HoldsBearer => octets_if(fits_kind(kind, body)),
+        Kind::HoldsNumber(_) => octets_if(fits_kind(kind, body)),
+    }
+}
+
+// Rules 9 to 13; an unknown item and the token table break them.
+fn check_body(parent: u8, tag: u8, body: &[u8]) -> Held
+    ensures { λ r. ⌜ r ≡ heldAs parent tag (now (body .entry)) (known parent tag) ⌝ }
+{
+    match known_kind(parent, tag) {
+        KnownKind::Unknown => Held::Broken,
+        KnownKind::Known(kind) => check_kind(kind, parent, tag, body),
+    }
+}
+
+// Rules 4, 6, 7 and 8.
+fn is_placed(parent: Parent, state: State, tag: u8) -> bool
+    ensures { λ r. ⌜ r ≡ placedBy parent state tag ⌝ }
+{
+    if has_bit(state.mask, tag) {
+        return false;
+    }
+    if state.stage > latest_of(tag) {
+        return false;
+    }
+    if is_depth_allowed(tag, parent.depth) {
+        return is_allowed(parent.tag, tag);
+    }
+    false
+}
+
+fn state_after(parent: Parent, state: State, tag: u8) -> State
+    ensures { λ r. ⌜ r ≡ stateAfter parent state tag ⌝ }
+{
+    let mask = with_bit(state.mask, tag);
+    if parent.tag == 0 {
+        return State { stage: 3, mask };
+    }
+    State {
+        stage: stage_after(tag),
+        mask,
+    }
+}
+
+fn item_of(held: Held, tag: u8, state: State) -> Item
+    ensures { λ r. ⌜ r ≡ itemOf held tag state ⌝ }
+{
+    match held {
+        Held::Broken => Item::Bad,
+        Held::Octets => Item::Single(state),
+        Held::Inner => Item::Nested(tag, state),
+    }
+}
+
+fn deep(x: u8) -> usize
+    ensures { λ r. ⌜ r ≡ x ⌝ }
+{
+    x as usize
+}
+
+fn wide(x: u16) -> usize
+    ensures { λ r. ⌜ (r ≡ x) × (r < 65536) ⌝ }
+{
+    x as usize
+}
+
+// A record among the items of an element. A body's part may overlap others: it need only lie inside the lent octets.
+fn check_record(given: Record, octets: &[u8], parent: Parent, state: State) -> Item
+    ensures { λ r. ⌜ r ≡ itemAs parent state (now (octets .entry)) given ⌝ }
+{
+    let tag = given.tag;
+    if deep(given.depth) != parent.depth {
+        return Item::Past;
+    }
+    if given.kind != kind_of(tag) {
+        return Item::Bad;
+    }
+    let number = wide(given.parent);
+    if number != parent.number {
+        return Item::Bad;
+    }
+    let start = wide(given.start);
+    let end = start + wide(given.size);
+    if end > octets.len() {
+        return Item::Bad;
+    }
+    if is_placed(parent, state, tag) {
+        let held = check_body(parent.tag, tag, &octets[start..end]);
+        return item_of(held, tag, state_after(parent, state, tag));
+    }
+    Item::Bad
+}
+
+// The record of a number.
+fn record_at(
+    tags: &[u8],
+    kinds: &[u8],
+    depths: &[u8],
+    parents: &[u16],
+    starts: &[u16],
+    sizes: &[u16],
+    i: usize,
+) -> Record
+    requires { ⌜ HasPlaces (i + 1) (lists tags kinds depths parents starts sizes) ⌝ }
+    ensures { λ r. ⌜ r ≡ row (lists (tags .entry) (kinds .entry) (depths .entry) (parents .entry) (starts .entry) (sizes .entry)) i ⌝ }
+{
+    Record {
+        tag: tags[i],
+        kind: kinds[i],
+        depth: depths[i],
+        parent: parents[i],
+        start: starts[i],
+        size: sizes[i],
+    }
+}
+
+// The records of the items in one element, from a number on. Each turn looks at one record and goes on behind it, so that all turns
+// together are as many as the records. An element below depth 16 is bad, so that the calls nest at most 17 deep.
+fn check_items(
+    count: usize,
+    tags: &[u8],
+    kinds: &[u8],
+    depths: &[u8],
+    parents: &[u16],
+    starts: &[u16],
+    sizes: &[u16],
+    octets: &[u8],
+    at: usize,
+    parent: Parent,
+) -> Reached
+    requires { ⌜ HasPlaces count (lists tags kinds depths parents starts sizes) × (at ≤ count) × (parent .depth ≤ 17) ⌝ }
+    ensures { λ r. ⌜ r ≡ told (walked (lists (tags .entry) (kinds .entry) (depths .entry) (parents .entry) (starts .entry) (sizes .entry)) count (now (octets .entry)) (firstIn parent) (parent .number) at) ⌝ }
+{
+    let mut i = at;
+    let mut state = State { stage: 0, mask: 0 };
+    while i < count {
+        let given = record_at(tags, kinds, depths, parents, starts, sizes, i);
+        match check_record(given, octets, parent, state) {
+            Item::Past => {
+                return Reached::Next(i);
+            }
+            Item::Bad => {
+                return Reached::Ill;
+            }
+            Item::Single(next) => {
+                i = i + 1;
+                state = next;
+            }
+            Item::Nested(tag, next) => {
+                let inner = Parent {
+                    tag,
+                    number: i,
+                    depth: parent.depth + 1,
+                };
+                match check_items(
+                    count,
+                    tags,
+                    kinds,
+                    depths,
+                    parents,
+                    starts,
+                    sizes,
+                    octets,
+                    i + 1,
+                    inner,
+                ) {
+                    Reached::Ill => {
+                        return Reached::Ill;
+                    }
+                    Reached::Next(end) => {
+                        i = end;
+                        state = next;
+                    }
+                }
+            }
+        }
+    }
+    Reached::Next(i)
+}
+
+// There are no more records than places in the shortest list.
+fn has_places(
+    count: usize,
+    tags: &[u8],
+    kinds: &[u8],
+    depths: &[u8],
+    parents: &[u16],
+    starts: &[u16],
+    sizes: &[u16],
+) -> bool
+    ensures { λ r. ⌜ r ≡ leb count (places (lists (tags .entry) (kinds .entry) (depths .entry) (parents .entry) (starts .entry) (sizes .entry))) ⌝ }
+{
+    if count > tags.len() {
+        return false;
+    }
+    if count > kinds.len() {
+        return false;
+    }
+    if count > depths.len() {
+        return false;
+    }
+    if count > parents.len() {
+        return false;
+    }
+    if count > starts.len() {
+        return false;
+    }
+    if count > sizes.len() {
+        return false;
+    }
+    true
+}
+
+// Records in lists over lent octets are a well-formed tree: the walk from the top comes to the last of them.
+pub fn is_well_formed(
+    count: usize,
+    tags: &[u8],
+    kinds: &[u8],
+    depths: &[u8],
+    parents: &[u16],
+    starts: &[u16],
+    sizes: &[u16],
+    octets: &[u8],
+) -> bool
+    ensures { λ r. ⌜ r ≡ isGiven (treeGiven count (lists (tags .entry) (kinds .entry) (depths .entry) (parents .entry) (starts .entry) (sizes .entry)) (now (octets .entry))) ⌝ }
+{
+    if count == 0 {
+        return false;
+    }
+    if has_places(count, tags, kinds, depths, parents, starts, sizes) {
+        let above = Parent {
+            tag: 0,
+            number: 0,
+            depth: 1,
+        };
+        match check_items(
+            count,
+            tags,
+            kinds,
+            depths,
+            parents,
+            starts,
+            sizes,
+            octets,
+            0,
+            above,
+        ) {
+            Reached::Ill => {
+                return false;
+            }
+            Reached::Next(end) => {
+                return end == count;
+            }
+        }
+    }
+    false
+}
