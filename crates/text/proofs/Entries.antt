@@ -5,7 +5,7 @@ use mathlib.Core.List.{List, [], _∷_}
 use mathlib.Core.Option.{some}
 use mathlib.Core.Bool.{Bool, true, false, _&&_, not, cond}
 use lib.ListN.{length, getD, take, drop, length-drop, drop-of-length-le}
-use lib.Seq.{drop-drop, length-take-le}
+use lib.Seq.{drop-drop, getD-drop, length-take-le}
 use lib.Dec.{eqb, leb}
 use lib.Bits.{bitOr, bitAnd}
 use native.Mathlib.Omega.{arith}
@@ -56,6 +56,7 @@ pub record Ended (s : List ℕ) : Type 0 where
 
 pub record Pieced (s : List ℕ) (tag n : ℕ) : Type 0 where
   pub room : 2 + n ≤ length s
+  pub size : getD s 1 0 ≡ n
   pub names : entries s ≡ (tag, take n (drop 2 s)) ∷ entries (drop n (drop 2 s))
   pub fills : (seen : List ℕ) → filledAfter seen s ≡ token tag && not (among tag seen) && text false (take n (drop 2 s)) && filledAfter (tag ∷ seen) (drop n (drop 2 s))
 
@@ -77,6 +78,7 @@ pieced-entry t n o e =
     let less : length (drop n o) < k = omega (arith, length-drop n o) in
     record {
       room = omega (arith, leb-true n (length o) e);
+      size = refl;
       names = rw (e, cut-same k j (drop n o) less (omega arith));
       fills = λ seen. rw (e, filled-same k j (t ∷ seen) (drop n o) less (omega arith));
     }
@@ -126,19 +128,19 @@ first-whole (t ∷ m ∷ o) n h e g =
 
 pub ruleset first-ways = (first-short, first-long, first-whole)
 
--- ---- the entry at a place of a table, as `find` and `tokens_of` meet it
+-- ---- the entry at a place of a table, as `find`, `tokens_of` and `widths_of` meet it
 module _ (table : List ℕ) (at : ℕ) (h : at < length table) (p : Piece) (e : p ≡ ahead (entries (take (length table - at) (drop at table)))) where
   here : p ≡ ahead (entries (drop at table))
   here = e ∙ ap (λ q. ahead (entries q)) (part-to-end table at)
 
-  no-more : p ≡ Past → entries (drop at table) ≡ []
+  pub no-more : p ≡ Past → entries (drop at table) ≡ []
   no-more f = is-ended (drop at table) p here f .names
 
   module _ (t n : ℕ) (f : p ≡ Entry t n) where
     piece : Pieced (drop at table) t n
     piece = is-pieced (drop at table) p here t n f
 
-    room : at + 2 + n ≤ length table
+    pub room : at + 2 + n ≤ length table
     room = omega (arith, piece .room, length-drop at table)
 
     pub next-fits : length table < 2 ^ 63 → Fits w64 (at + 2)
@@ -147,11 +149,17 @@ module _ (table : List ℕ) (at : ℕ) (h : at < length table) (p : Piece) (e : 
     pub next-fits-2 : length table < 2 ^ 63 → Fits w64 (at + 2 + n)
     next-fits-2 g = record { fits = omega (arith, room) }
 
-    next-names : entries (drop at table) ≡ (t, take n (drop 2 (drop at table))) ∷ entries (drop (at + 2 + n) table)
+    pub next-names : entries (drop at table) ≡ (t, take n (drop 2 (drop at table))) ∷ entries (drop (at + 2 + n) table)
     next-names = piece .names ∙ ap (λ q. (t, take n (drop 2 (drop at table))) ∷ entries q) (drop-more at n table)
 
-    text-length : length (take n (drop 2 (drop at table))) ≡ n
+    pub text-length : length (take n (drop 2 (drop at table))) ≡ n
     text-length = length-take-le n (drop 2 (drop at table)) (omega (arith, piece .room, length-drop 2 (drop at table)))
+
+    pub length-inside : at + 1 < length table
+    length-inside = omega (arith, room)
+
+    pub length-octet : getD table (at + 1) 0 ≡ n
+    length-octet = sym (getD-drop at table 1 0) ∙ piece .size
 
 -- ---- the loop of `find`
 pub record Finding (table : List ℕ) (tag at : ℕ) : Type 0 where

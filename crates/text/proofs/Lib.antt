@@ -4,6 +4,7 @@ pub mod Length
 pub mod Sequences
 pub mod Masks
 pub mod Entries
+pub mod Widths
 pub mod Replaced
 pub mod Laws
 pub mod RunLaws

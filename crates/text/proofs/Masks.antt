@@ -62,8 +62,11 @@ bit-is t [] = bit-none t
 bit-is t (u ∷ ts) = bit-more (maskOf ts) u t ∙ ap (λ b. eqb t u || b) (bit-is t ts)
 
 -- the code's test, (mask >> t) & 1 == 1
+pub bit-test : (mask t : ℕ) → eqb (bitAnd (mask / 2 ^ t) 1) 1 ≡ bit mask t
+bit-test mask t = ap (λ (n : ℕ). eqb n 1) (and-mask (mask / 2 ^ t) 1)
+
 pub mask-test : (t : ℕ) (ts : List ℕ) → eqb (bitAnd (maskOf ts / 2 ^ t) 1) 1 ≡ among t ts
-mask-test t ts = ap (λ (n : ℕ). eqb n 1) (and-mask (maskOf ts / 2 ^ t) 1) ∙ bit-is t ts
+mask-test t ts = bit-test (maskOf ts) t ∙ bit-is t ts
 
 -- the code's store, mask | (1 << t), in a mask of so many bits
 pub mask-more : (bits t : ℕ) (ts : List ℕ) → t < bits → bitOr (maskOf ts) (1 * 2 ^ t % 2 ^ bits) ≡ maskOf (t ∷ ts)
@@ -122,7 +125,7 @@ pub mark-done : (mask : ℕ) (octets : List ℕ) → Marking mask [] octets → 
 unfolding among
 mark-done mask octets inv = record { bits = λ t. sym (ap (λ b. bit mask t || b) (and-false (token t)) ∙ or-false (bit mask t)) ∙ inv .bits t }
 
-mark-one : (m b t : ℕ) → bit (bitOr m (tokenBit b)) t ≡ bit m t || token t && eqb t b
+pub mark-one : (m b t : ℕ) → bit (bitOr m (tokenBit b)) t ≡ bit m t || token t && eqb t b
 unfolding tokenBit
 mark-one m b t = go (token b) refl (eqb t b) refl
   where

@@ -18,7 +18,7 @@ use Rattle.octets.proofs.Tests.{and-left, and-right, and-true, or-elim, or-left
 use Rattle.text.specs.Text.{token}
 use Rattle.text.specs.Tokens.{Entries, entries, entry, orItself, stands, expanded, present, covers, covered, shownLength, expandedSize}
 use Rattle.text.specs.Calls.{found, foundIn, Inside, expandFits, expandAnswer, expandOut}
-use Rattle.text.specs.Leaves.{bit, tokenBit, Marks, tags, replacedBy}
+use Rattle.text.specs.Leaves.{bit, tokenBit, Marks, tags, replacedBy, Widths, widthBy, widthOf}
 use Rattle.text.specs.Runs.{UntokenedTo}
 use Rattle.text.specs.declared.Expanded.the-variants.{Done, NoRoom}
 use Rattle.text.specs.declared.Found.{Found}
@@ -26,6 +26,7 @@ use Rattle.text.specs.declared.Found.the-variants.{At, Nothing}
 use Rattle.octets.proofs.Lists.{drop-next, sets-append}
 use Rattle.text.proofs.Masks.{bit-none, kept-within, within-kept, Marking, mark-begin, mark-done, mark-more}
 use Rattle.text.proofs.Entries.{named, inside}
+use Rattle.text.proofs.Widths.{width-of-is}
 use Rattle.text.proofs.RunLaws.{run-length, expanded-run, expanded-length-run, shown-run, size-run}
 
 -- ---- the loop of `tokens_in`
@@ -147,9 +148,6 @@ module _ (table : List ℕ) (b : ℕ) (f : Found) (e : f ≡ replacedBy (entries
   unfolding orItself foundIn
   stands-self q = stands-is table b ∙ rw (sym e ∙ q)
 
-  pub width-self : f ≡ Nothing → 1 ≡ length (stands (entries table) b)
-  width-self q = rw (stands-self q)
-
   module _ (start size : ℕ) (q : f ≡ At start size) where
     stands-part : stands (entries table) b ≡ take size (drop start table)
     unfolding orItself foundIn
@@ -162,20 +160,10 @@ module _ (table : List ℕ) (b : ℕ) (f : Found) (e : f ≡ replacedBy (entries
     pub part-fits : length table < 2 ^ 63 → Fits w64 (start + size)
     part-fits g = record { fits = omega (arith, part-inside) }
 
-    pub width-part : size ≡ length (stands (entries table) b)
+    width-part : size ≡ length (stands (entries table) b)
     width-part = sym (ap length stands-part ∙ length-take-le size (drop start table) (omega (arith, part-inside, length-drop start table)))
 
-pub ruleset width-ways = (width-self, width-part)
-
--- ---- the loop of `is_shown`: what is left of the limit is for what is left of the text
-shown-cons : (es : Entries) (b : ℕ) (s : List ℕ) → shownLength es (b ∷ s) ≡ length (stands es b) + shownLength es s
-unfolding shownLength expanded
-shown-cons es b s = length-append (stands es b) (expanded es s)
-
-pub record Showing (es : Entries) (s : List ℕ) (limit left at : ℕ) : Type 0 where
-  pub within : at ≤ length s
-  pub same : leb (shownLength es s) limit ≡ leb (shownLength es (drop at s)) left
-
+-- ---- the loop of `fits_from`: `left` of the limit is left for what is left of the text
 leb-left : (n m l : ℕ) → n ≤ l → leb (n + m) l ≡ leb m (l - n)
 leb-left n m l h = go (leb m (l - n)) refl
   where
@@ -183,83 +171,111 @@ leb-left n m l h = go (leb m (l - n)) refl
     go true e = le-leb (n + m) l (omega (arith, leb-true m (l - n) e))
     go false e = lt-leb (n + m) l (omega (arith, leb-false m (l - n) e))
 
+-- the width of a text at a place: that of the octet there, and that of what comes after it
+width-none : (w s : List ℕ) (at : ℕ) → length s ≤ at → widthOf w (drop at s) ≡ 0
+unfolding widthOf
+width-none w s at h = ap (widthOf w) (drop-of-length-le s h)
+
+width-next : (w s : List ℕ) (at : ℕ) → at < length s → (size : ℕ) → size ≡ widthBy w (getD s at 0) → widthOf w (drop at s) ≡ size + widthOf w (drop (at + 1) s)
+unfolding widthOf
+width-next w s at h size e = ap (widthOf w) (drop-next s at 0 h) ∙ rw e
+
+pub record Fitting (w s : List ℕ) (from limit left at : ℕ) : Type 0 where
+  pub same : leb (widthOf w (drop from s)) limit ≡ leb (widthOf w (drop at s)) left
+
+module _ (w s : List ℕ) (from limit : ℕ) where
+  pub fit-begin : Fitting w s from limit limit from
+  fit-begin = record { same = refl }
+
+  module _ (left at : ℕ) (inv : Fitting w s from limit left at) where
+    pub fit-done : length s ≤ at → true ≡ leb (widthOf w (drop from s)) limit
+    fit-done h = sym (inv .same ∙ le-leb (widthOf w (drop at s)) left (omega (arith, width-none w s at h)))
+
+    module _ (h : at < length s) (size : ℕ) (e : size ≡ widthBy w (getD s at 0)) where
+      fit-step : leb (widthOf w (drop from s)) limit ≡ leb (size + widthOf w (drop (at + 1) s)) left
+      fit-step = inv .same ∙ rw (width-next w s at h size e)
+
+      pub fit-stop : left < size → false ≡ leb (widthOf w (drop from s)) limit
+      fit-stop g = sym (fit-step ∙ lt-leb (size + widthOf w (drop (at + 1) s)) left (omega arith))
+
+      pub fit-again : size ≤ left → Fitting w s from limit (left - size) (at + 1)
+      fit-again g = record { same = fit-step ∙ leb-left size (widthOf w (drop (at + 1) s)) left g }
+
+pub ruleset fit-ways = (fit-begin, fit-done, fit-stop, fit-again)
+
+-- ---- `is_shown`
 module _ (es : Entries) (s : List ℕ) (limit : ℕ) where
-  pub show-begin : Showing es s limit limit 0
-  show-begin = record { within = omega arith; same = refl }
-
-  pub show-done : (left at : ℕ) → Showing es s limit left at → length s ≤ at → true ≡ leb (shownLength es s) limit
+  pub shown-none : length s ≡ 0 → true ≡ leb (shownLength es s) limit
   unfolding shownLength expanded
-  show-done left at inv h = sym (inv .same ∙ ap (λ q. leb (shownLength es q) left) (drop-of-length-le s h) ∙ le-leb 0 left (omega arith))
+  shown-none e = let none : length s ≤ 0 = omega arith in sym (ap (λ q. leb (shownLength es q) limit) (drop-of-length-le s none) ∙ le-leb 0 limit (omega arith))
 
-  module _ (left at from : ℕ) (inv : Showing es s limit left at) (run : UntokenedTo s at from) where
-    show-run : leb (shownLength es s) limit ≡ leb (from - at + shownLength es (drop from s)) left
-    show-run = inv .same ∙ rw (shown-run es s at from run)
+  module _ (from : ℕ) (run : UntokenedTo s 0 from) where
+    pub shown-past : limit < from → false ≡ leb (shownLength es s) limit
+    shown-past g = sym (lt-leb (shownLength es s) limit (omega (arith, shown-run es s 0 from run)))
 
-    pub show-past : left < from - at → false ≡ leb (shownLength es s) limit
-    show-past g = sym (show-run ∙ lt-leb (from - at + shownLength es (drop from s)) left (omega arith))
+    module _ (g : from ≤ limit) where
+      shown-behind : leb (shownLength es s) limit ≡ leb (shownLength es (drop from s)) (limit - from)
+      shown-behind = let size : from - 0 ≡ from = omega arith in rw (shown-run es s 0 from run, size) (leb-left from (shownLength es (drop from s)) limit g)
 
-    module _ (g : from - at ≤ left) where
-      show-behind : Showing es s limit (left - (from - at)) from
-      show-behind = record { within = run .inside; same = show-run ∙ leb-left (from - at) (shownLength es (drop from s)) left g }
+      pub shown-end : from ≡ length s → true ≡ leb (shownLength es s) limit
+      unfolding shownLength expanded
+      shown-end e =
+          let none : length s ≤ from = omega arith in
+          sym (shown-behind ∙ ap (λ q. leb (shownLength es q) (limit - from)) (drop-of-length-le s none) ∙ le-leb 0 (limit - from) (omega arith))
 
-      pub show-end : from ≡ length s → true ≡ leb (shownLength es s) limit
-      show-end q = show-done (left - (from - at)) from show-behind (omega arith)
+      pub shown-from : (w : List ℕ) → Widths es w → (r : Bool) → r ≡ leb (widthOf w (drop from s)) (limit - from) → r ≡ leb (shownLength es s) limit
+      unfolding shownLength
+      shown-from w widths r e = e ∙ rw (width-of-is es w widths (drop from s)) (sym shown-behind)
 
-      module _ (h : from ≡ length s → ⊥) (size : ℕ) (e : size ≡ length (stands es (getD s from 0))) where
-        show-step : leb (shownLength es s) limit ≡ leb (size + shownLength es (drop (from + 1) s)) (left - (from - at))
-        show-step = show-behind .same ∙ rw (drop-next s from 0 (omega (arith, run .inside)), shown-cons es (getD s from 0) (drop (from + 1) s), e)
+pub ruleset shown-ways = (shown-none, shown-past, shown-end, shown-from)
 
-        pub show-stop : left - (from - at) < size → false ≡ leb (shownLength es s) limit
-        show-stop k = sym (show-step ∙ lt-leb (size + shownLength es (drop (from + 1) s)) (left - (from - at)) (omega arith))
-
-        pub show-again : size ≤ left - (from - at) → Showing es s limit (left - (from - at) - size) (from + 1)
-        show-again k = record { within = omega (arith, run .inside); same = show-step ∙ leb-left size (shownLength es (drop (from + 1) s)) (left - (from - at)) k }
-
-pub ruleset show-ways = (show-begin, show-done, show-past, show-end, show-stop, show-again)
-
--- ---- the loop of `expanded_size`
-size-cons : (es : Entries) (b : ℕ) (s : List ℕ) → expandedSize es (b ∷ s) ≡ length (stands es b) + expandedSize es s
-unfolding expandedSize expanded
-size-cons es b s = length-append (stands es b) (expanded es s)
-
-pub record Sizing (es : Entries) (s : List ℕ) (most total at : ℕ) : Type 0 where
-  pub within : at ≤ length s
+-- ---- the loop of `size_from`
+pub record Sizing (w s : List ℕ) (from most total at : ℕ) : Type 0 where
   pub short : total ≤ most
-  pub same : total + expandedSize es (drop at s) ≡ expandedSize es s
+  pub same : total + widthOf w (drop at s) ≡ from + widthOf w (drop from s)
 
+module _ (w s : List ℕ) (from most : ℕ) where
+  pub size-begin : from ≤ most → Sizing w s from most from from
+  size-begin h = record { short = h; same = refl }
+
+  module _ (total at : ℕ) (inv : Sizing w s from most total at) where
+    pub size-done : length s ≤ at → total ≡ min most (from + widthOf w (drop from s))
+    size-done h =
+        let all : total ≡ from + widthOf w (drop from s) = omega (arith, inv .same, width-none w s at h) in
+        sym (min-eq-right (omega (arith, inv .short)) ∙ sym all)
+
+    module _ (h : at < length s) (size : ℕ) (e : size ≡ widthBy w (getD s at 0)) where
+      pub size-stop : most - total ≤ size → most ≡ min most (from + widthOf w (drop from s))
+      size-stop g = sym (min-eq-left (omega (arith, inv .short, inv .same, width-next w s at h size e)))
+
+      pub size-again : size < most - total → Sizing w s from most (total + size) (at + 1)
+      size-again g = record { short = omega arith; same = omega (arith, inv .same, width-next w s at h size e) }
+
+pub ruleset size-ways = (size-begin, size-done, size-stop, size-again)
+
+-- ---- `expanded_size`
 module _ (es : Entries) (s : List ℕ) (most : ℕ) where
-  pub size-begin : Sizing es s most 0 0
-  size-begin = record { within = omega arith; short = omega arith; same = omega arith }
-
-  pub size-done : (total at : ℕ) → Sizing es s most total at → length s ≤ at → total ≡ min most (expandedSize es s)
+  pub sized-none : length s ≡ 0 → 0 ≡ min most (expandedSize es s)
   unfolding expandedSize expanded
-  size-done total at inv h =
-      let e : expandedSize es (drop at s) ≡ 0 = ap (expandedSize es) (drop-of-length-le s h) in
-      let f : total ≡ expandedSize es s = omega (arith, inv .same) in
-      sym (min-eq-right (omega (arith, inv .short)) ∙ sym f)
+  sized-none e = let none : length s ≤ 0 = omega arith in sym (ap (λ q. min most (expandedSize es q)) (drop-of-length-le s none) ∙ min-eq-right (omega arith))
 
-  module _ (total at from : ℕ) (inv : Sizing es s most total at) (run : UntokenedTo s at from) where
-    pub size-past : most - total ≤ from - at → most ≡ min most (expandedSize es s)
-    size-past g = sym (min-eq-left (omega (arith, inv .short, inv .same, size-run es s at from run)))
+  module _ (from : ℕ) (run : UntokenedTo s 0 from) where
+    pub sized-past : most ≤ from → most ≡ min most (expandedSize es s)
+    sized-past g = sym (min-eq-left (omega (arith, size-run es s 0 from run)))
 
-    module _ (g : from - at < most - total) where
-      size-behind : Sizing es s most (total + (from - at)) from
-      size-behind = record { within = run .inside; short = omega (arith, inv .short); same = omega (arith, inv .same, size-run es s at from run) }
+    pub sized-end : from < most → from ≡ length s → from ≡ min most (expandedSize es s)
+    unfolding expandedSize expanded
+    sized-end g e =
+        let behind : length s ≤ from = omega arith in
+        let none : expandedSize es (drop from s) ≡ 0 = ap (expandedSize es) (drop-of-length-le s behind) in
+        let all : from ≡ expandedSize es s = omega (arith, size-run es s 0 from run) in
+        sym (min-eq-right (omega arith) ∙ sym all)
 
-      pub size-end : from ≡ length s → total + (from - at) ≡ min most (expandedSize es s)
-      size-end q = size-done (total + (from - at)) from size-behind (omega arith)
+    pub sized-from : (w : List ℕ) → Widths es w → (r : ℕ) → r ≡ min most (from + widthOf w (drop from s)) → r ≡ min most (expandedSize es s)
+    unfolding expandedSize
+    sized-from w widths r e = e ∙ ap (min most) (omega (arith, width-of-is es w widths (drop from s), size-run es s 0 from run))
 
-      module _ (h : from ≡ length s → ⊥) (size : ℕ) (e : size ≡ length (stands es (getD s from 0))) where
-        size-step : total + (from - at) + size + expandedSize es (drop (from + 1) s) ≡ expandedSize es s
-        size-step = omega (arith, size-behind .same, ap (expandedSize es) (drop-next s from 0 (omega (arith, run .inside))), size-cons es (getD s from 0) (drop (from + 1) s))
-
-        pub size-stop : most - (total + (from - at)) ≤ size → most ≡ min most (expandedSize es s)
-        size-stop k = sym (min-eq-left (omega (arith, size-behind .short, size-step)))
-
-        pub size-again : size < most - (total + (from - at)) → Sizing es s most (total + (from - at) + size) (from + 1)
-        size-again k = record { within = omega (arith, run .inside); short = omega (arith, size-behind .short); same = size-step }
-
-pub ruleset size-ways = (size-begin, size-done, size-past, size-end, size-stop, size-again)
+pub ruleset sized-ways = (sized-none, sized-past, sized-end, sized-from)
 
 -- ---- `copy`
 pub record Copying (part out₀ : List ℕ) (at : ℕ) (out : List ℕ) (i : ℕ) : Type 0 where

@@ -1,14 +1,14 @@
 -- What the private functions tell the public ones: text a character at a time, a table an entry at a time.
 use mathlib.Core.Path.{_≡_}
-use mathlib.Core.Bool.{Bool, false, cond, _&&_}
+use mathlib.Core.Bool.{Bool, false, cond, not, _&&_}
 use mathlib.Core.List.{List, [], _∷_}
-use Prim.Native.Nat.{ℕ, zero, suc, _+_, _*_, _/_, _%_, _^_, _≤_, _<_}
+use Prim.Native.Nat.{ℕ, zero, suc, _+_, _*_, _/_, _%_, _^_, _≤_, _<_, min}
 use lib.Dec.{eqb, ltb}
-use lib.ListN.{length, drop}
+use lib.ListN.{length, getD, drop}
 use lib.Bits.{bitOr}
 use Rattle.octets.specs.Numbers.{among}
 use Rattle.text.specs.Text.{token, character, text}
-use Rattle.text.specs.Tokens.{Entries, filled}
+use Rattle.text.specs.Tokens.{Entries, filled, stands}
 use Rattle.text.specs.Calls.{found}
 use Rattle.text.specs.declared.Found.{Found}
 use Rattle.text.specs.declared.Found.the-variants.{Nothing}
@@ -93,3 +93,21 @@ RatedBy mask s p = (seen : List ℕ) → mask ≡ maskOf seen → Rated seen s p
 -- where the text lies that stands for an octet; Nothing: the octet stands for itself
 unfoldable pub replacedBy : Entries → ℕ → Found
 replacedBy es b = cond (token b) (found 0 es b) Nothing
+
+-- where the width of an entry is kept, after entries whose tokens are the bits of a mask: at its tag where that is a token not among them, else at a place
+-- that stands for no octet
+unfoldable pub placeOf : ℕ → ℕ → ℕ
+placeOf seen tag = cond (token tag && not (bit seen tag)) tag 31
+
+-- how many octets stand for each octet up to the first above the tokens
+pub record Widths (es : Entries) (widths : List ℕ) : Type 0 where
+  pub each : (b : ℕ) → b ≤ 0x14 → getD widths b 0 ≡ length (stands es b)
+
+-- the width of an octet by such widths: those above the tokens all have that of the first of them
+unfoldable pub widthBy : List ℕ → ℕ → ℕ
+widthBy widths b = getD widths (min b 0x14) 0
+
+-- the width of a text, octet by octet
+unfoldable pub widthOf : List ℕ → List ℕ → ℕ
+widthOf widths [] = 0
+widthOf widths (b ∷ bs) = widthBy widths b + widthOf widths bs

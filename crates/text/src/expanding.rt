@@ -1,21 +1,24 @@
-// Texts with their tokens replaced: judged and measured where they stand, and copied by `expand` alone. Where what stands for an octet counts,
-// octets above the last token are passed over in runs. Of the others, one that is no token costs a test or two, and a token a `find`, at most
-// 16 steps in a table that passes `is_table`. Whether each token has an entry is asked of all of them at once.
+// Texts with their tokens replaced: judged and measured where they stand, and copied by `expand` alone. The run of octets above the last token
+// with which a text begins is passed over, eight octets at a time. What comes after it is measured octet by octet, by the widths of all tokens,
+// for which the table is gone through once a text. To write an expansion, each run is copied, and a token costs a `find`, at most 16 steps in a
+// table that passes `is_table`. Whether each token has an entry is asked of all of them at once.
 ghost use mathlib.Core.Path.{_≡_};
 ghost use Prim.Native.Nat.{_+_, _≤_, min};
 ghost use lib.Dec.{leb};
-ghost use lib.ListN.{length};
+ghost use lib.ListN.{length, drop};
 ghost use lib.Seq.{sets};
 ghost use Rattle.text.specs.Tokens.{entries, stands, expanded, covered, shownLength, expandedSize};
 ghost use Rattle.text.specs.Calls.{ExpandClaim};
-ghost use Rattle.text.specs.Leaves.{Marks, replacedBy};
+ghost use Rattle.text.specs.Leaves.{Marks, replacedBy, widthBy, widthOf};
 use crate::Expanded;
 use crate::Found;
 use crate::characters::is_token;
 use crate::characters::token_bit;
 use crate::runs::untokened_end;
 use crate::tables::find;
+use crate::tables::size_of;
 use crate::tables::tokens_of;
+use crate::tables::widths_of;
 
 // The tokens of a text, a bit each. Nothing is decided between two octets, so that the compiler takes eight at a time.
 fn tokens_in(s: &[u8]) -> u32
@@ -52,67 +55,87 @@ fn replacement(table: &[u8], b: u8) -> Found
     Found::Nothing
 }
 
-// How many octets stand for an octet.
-fn width(table: &[u8], b: u8) -> usize
-    ensures { λ r. ⌜ r ≡ length (stands (entries (now (table .entry))) b) ⌝ }
+// How many octets stand for an octet, by the widths of a table. Octets above the last token all have the width of 0x14. Where tokens stand
+// follows no rule, and a processor would often guess a branch wrong: here is a choice between two numbers, and one load.
+fn width_by(widths: &[u8; 32], b: u8) -> usize
+    ensures { λ r. ⌜ r ≡ widthBy (now (widths .entry)) b ⌝ }
 {
-    match replacement(table, b) {
-        Found::Nothing => 1,
-        Found::At { start: _, size } => size,
-    }
+    let k = if b < 0x14 { b } else { 0x14 };
+    size_of(widths[size_of(k)])
 }
 
-// What is shown of a text keeps to a limit (rule 13). It counts down from the limit, so that no sum can be too large, and stops where the text
-// passes it.
-pub fn is_shown(table: &[u8], s: &[u8], limit: usize) -> bool
-    ensures { λ r. ⌜ r ≡ leb (shownLength (entries (now (table .entry))) (now (s .entry))) limit ⌝ }
+// The octets from a place on keep to a limit, by the widths of a table. It counts down from the limit, so that no sum can be too large, and stops
+// where the text passes it.
+fn fits_from(widths: &[u8; 32], s: &[u8], from: usize, limit: usize) -> bool
+    ensures { λ r. ⌜ r ≡ leb (widthOf (now (widths .entry)) (drop from (now (s .entry)))) limit ⌝ }
 {
     let mut left = limit;
-    let mut at: usize = 0;
+    let mut at = from;
     while at < s.len() {
-        let from = untokened_end(s, at);
-        let run = from - at;
-        if run > left {
-            return false;
-        }
-        left -= run;
-        if from == s.len() {
-            return true;
-        }
-        let size = width(table, s[from]);
+        let size = width_by(widths, s[at]);
         if size > left {
             return false;
         }
         left -= size;
-        at = from + 1;
+        at += 1;
     }
     true
 }
 
-// How many octets the expansion of a text takes, or `most` where that is less: there it stops.
-pub fn expanded_size(table: &[u8], s: &[u8], most: usize) -> usize
-    ensures { λ r. ⌜ r ≡ min most (expandedSize (entries (now (table .entry))) (now (s .entry))) ⌝ }
+// What is shown of a text keeps to a limit (rule 13). The run with which the text begins stands for itself, and where it is the whole text, the
+// table is not asked.
+pub fn is_shown(table: &[u8], s: &[u8], limit: usize) -> bool
+    ensures { λ r. ⌜ r ≡ leb (shownLength (entries (now (table .entry))) (now (s .entry))) limit ⌝ }
 {
-    let mut total: usize = 0;
-    let mut at: usize = 0;
+    if s.len() == 0 {
+        return true;
+    }
+    let from = untokened_end(s, 0);
+    if from > limit {
+        return false;
+    }
+    if from == s.len() {
+        return true;
+    }
+    let widths = widths_of(table);
+    fits_from(&widths, s, from, limit - from)
+}
+
+// How many octets the expansion of a text takes, by the widths of a table, or `most` where that is less: there it stops. The octets before a place
+// are known to stand for themselves.
+fn size_from(widths: &[u8; 32], s: &[u8], from: usize, most: usize) -> usize
+    requires { ⌜ from ≤ most ⌝ }
+    ensures { λ r. ⌜ r ≡ min most (from + widthOf (now (widths .entry)) (drop from (now (s .entry)))) ⌝ }
+{
+    let mut total = from;
+    let mut at = from;
     while at < s.len() {
-        let from = untokened_end(s, at);
-        let run = from - at;
-        if most - total <= run {
-            return most;
-        }
-        total += run;
-        if from == s.len() {
-            return total;
-        }
-        let size = width(table, s[from]);
+        let size = width_by(widths, s[at]);
         if most - total <= size {
             return most;
         }
         total += size;
-        at = from + 1;
+        at += 1;
     }
     total
+}
+
+// How many octets the expansion of a text takes, or `most` where that is less. Here too the run with which the text begins needs no table.
+pub fn expanded_size(table: &[u8], s: &[u8], most: usize) -> usize
+    ensures { λ r. ⌜ r ≡ min most (expandedSize (entries (now (table .entry))) (now (s .entry))) ⌝ }
+{
+    if s.len() == 0 {
+        return 0;
+    }
+    let from = untokened_end(s, 0);
+    if most <= from {
+        return most;
+    }
+    if from == s.len() {
+        return from;
+    }
+    let widths = widths_of(table);
+    size_from(&widths, s, from, most)
 }
 
 // A part, written from a place on.

@@ -3,7 +3,7 @@ ghost use mathlib.Core.Path.{_≡_};
 ghost use Prim.Native.Nat.{_<_};
 ghost use Rattle.text.specs.Tokens.{entries, isTable};
 ghost use Rattle.text.specs.Calls.{found};
-ghost use Rattle.text.specs.Leaves.{ahead, tags, Marks, RatedBy};
+ghost use Rattle.text.specs.Leaves.{ahead, tags, placeOf, Marks, RatedBy, Widths};
 use crate::Found;
 use crate::characters::check;
 use crate::characters::is_token;
@@ -16,7 +16,8 @@ enum Piece {
     Entry { tag: u8, size: usize },
 }
 
-fn size_of(x: u8) -> usize
+// An octet as a length or a place.
+pub fn size_of(x: u8) -> usize
     ensures { λ r. ⌜ r ≡ x ⌝ }
     ensures { λ r. ⌜ r < 256 ⌝ }
 {
@@ -79,6 +80,43 @@ pub fn tokens_of(table: &[u8]) -> u32
         }
     }
     mask
+}
+
+// Where the width of an entry is kept: at its tag where that is a token that no entry before it has, and else at the last place, which stands for
+// no octet.
+fn place_of(tag: u8, seen: u32) -> usize
+    ensures { λ r. ⌜ r ≡ placeOf seen tag ⌝ }
+{
+    if !is_token(tag) {
+        return 31;
+    }
+    if (seen >> wide(tag)) & 1 == 1 {
+        return 31;
+    }
+    size_of(tag)
+}
+
+// How many octets stand for each octet up to 0x14, by one walk over the table: for a token those of its first entry, and for any other octet
+// itself. The octet behind an entry's tag is the length of its text.
+pub fn widths_of(table: &[u8]) -> [u8; 32]
+    ensures { λ r. ⌜ Widths (entries (now (table .entry))) r ⌝ }
+{
+    let mut widths: [u8; 32] = [1; 32];
+    let mut seen: u32 = 0;
+    let mut at: usize = 0;
+    while at < table.len() {
+        match first_entry(&table[at..]) {
+            Piece::Past => {
+                return widths;
+            }
+            Piece::Entry { tag, size } => {
+                widths[place_of(tag, seen)] = table[at + 1];
+                seen = seen | token_bit(tag);
+                at = at + 2 + size;
+            }
+        }
+    }
+    widths
 }
 
 // Rule 11 for the first entry of what is left of a table, after entries whose tags are the bits of a mask: the entry, or Past where it breaks

@@ -1,0 +1,206 @@
+-- How many octets stand for each octet: what `widths_of` knows on its walk over the table, and a text measured by its answer.
+use Prim.Native.Nat.{ℕ, _+_, _-_, _/_, _^_, _≤_, _<_, min}
+use mathlib.Core.Path.{_≡_, refl, sym, ap, ap₂, subst, _∙_}
+use mathlib.Core.List.{List, [], _∷_}
+use mathlib.Core.Bool.{Bool, true, false, cond, not, _&&_, _||_}
+use lib.ListN.{length, getD, take, drop, set, replicate, length-set, length-append, drop-of-length-le, getD-replicate}
+use lib.Seq.{getD-set-same, getD-set-other}
+use lib.Dec.{eqb, leb}
+use lib.Bits.{bitOr, bitAnd}
+use native.Mathlib.Nat.{min-eq-left, min-eq-right}
+use native.Mathlib.Omega.{arith}
+use borrow.Author.Tests.{eqb-true, eqb-false, ne-eqb, leb-true, leb-false}
+use Rattle.octets.proofs.Tests.{and-false, cond-same}
+use Rattle.text.specs.Text.{token}
+use Rattle.text.specs.Tokens.{Entries, entries, cut, entry, orItself, stands, expanded}
+use Rattle.text.specs.Leaves.{ahead, bit, tokenBit, placeOf, Widths, widthBy, widthOf}
+use Rattle.text.specs.declared.tables.Piece.{Piece}
+use Rattle.text.specs.declared.tables.Piece.the-variants.{Past, Entry}
+use Rattle.text.proofs.Words.{high-octet}
+use Rattle.text.proofs.Sequences.{token-facts}
+use Rattle.text.proofs.Masks.{bit-none, bit-test, mark-one}
+use Rattle.text.proofs.Entries.{no-more, room, next-names, text-length, length-inside, length-octet, next-fits, next-fits-2}
+
+-- ---- `place_of`
+pub place-inside : (seen t place : ℕ) → place ≡ placeOf seen t → place < 32
+unfolding placeOf
+place-inside seen t place p = rw p (go (token t) refl (bit seen t))
+  where
+    go : (k : Bool) → token t ≡ k → (m : Bool) → cond (k && not m) t 31 < 32
+    go true e true = omega arith
+    go true e false = omega (arith, token-facts t e .1)
+    go false e m = omega arith
+
+module _ (seen t : ℕ) (r : Bool) (k : r ≡ token t) where
+  pub place-plain : r ≡ false → 31 ≡ placeOf seen t
+  unfolding placeOf
+  place-plain q = rw (sym k ∙ q)
+
+  module _ (q : r ≡ true) (b : ℕ) (l : b ≡ t) where
+    pub place-bit : b < 32
+    place-bit = omega (arith, token-facts t (sym k ∙ q) .1)
+
+    tested : bit seen t ≡ eqb (bitAnd (seen / 2 ^ b) 1) 1
+    tested = sym (ap (λ (j : ℕ). eqb (bitAnd (seen / 2 ^ j) 1) 1) l ∙ bit-test seen t)
+
+    pub place-seen : bitAnd (seen / 2 ^ b) 1 ≡ 1 → 31 ≡ placeOf seen t
+    unfolding placeOf
+    place-seen g = rw (sym k ∙ q, tested, g)
+
+    pub place-new : (bitAnd (seen / 2 ^ b) 1 ≡ 1 → ⊥) → (n : ℕ) → n ≡ t → n ≡ placeOf seen t
+    unfolding placeOf
+    place-new g n e = e ∙ rw (sym k ∙ q, tested, ne-eqb (bitAnd (seen / 2 ^ b) 1) 1 g)
+
+pub ruleset place-ways = (place-plain, place-seen, place-new)
+
+-- ---- what an octet stands for with one entry more before the others
+plain-stands : (es : Entries) (k : ℕ) → token k ≡ false → stands es k ≡ k ∷ []
+unfolding stands
+plain-stands es k e = rw e
+
+no-entry : (k : ℕ) → stands [] k ≡ k ∷ []
+unfolding stands entry orItself
+no-entry k = cond-same (token k) (k ∷ [])
+
+module _ (t : ℕ) (text : List ℕ) (es : Entries) (k : ℕ) where
+  own-entry : token k ≡ true → eqb k t ≡ true → stands ((t, text) ∷ es) k ≡ text
+  unfolding stands entry orItself
+  own-entry e q = rw (e, q)
+
+  other-entry : eqb k t ≡ false → stands ((t, text) ∷ es) k ≡ stands es k
+  unfolding stands entry
+  other-entry q = rw q
+
+-- ---- the loop of `widths_of`
+-- what is known of an octet with so many entries left: where it is a token of an entry before, its width; else it still has the width 1, and the entries
+-- left tell what it stands for
+unfoldable pub Known : Entries → Entries → ℕ → ℕ → Bool → Type 0
+Known es left k width true = width ≡ length (stands es k)
+Known es left k width false = (width ≡ 1) × (stands es k ≡ stands left k)
+
+pub record Measuring (table widths : List ℕ) (seen at : ℕ) : Type 0 where
+  pub within : at ≤ length table
+  pub long : length widths ≡ 32
+  pub each : (k : ℕ) → k ≤ 0x14 → Known (entries table) (entries (drop at table)) k (getD widths k 0) (bit seen k)
+
+-- the store leaves the width of an octet as it is, but for a token that has its first entry here
+module _ (w : List ℕ) (seen t n k : ℕ) (h : k ≤ 0x14) where
+  stays : token t && not (bit seen t) && eqb k t ≡ false → getD (set w (placeOf seen t) n) k 0 ≡ getD w k 0
+  unfolding placeOf
+  stays e = getD-set-other w (placeOf seen t) k n 0 (go (token t && not (bit seen t)) refl)
+    where
+      go : (b : Bool) → token t && not (bit seen t) ≡ b → k ≡ cond b t 31 → ⊥
+      go true p q = eqb-false k t (rw p at e) q
+      go false p q = omega arith
+
+  stays-other : eqb k t ≡ false → getD (set w (placeOf seen t) n) k 0 ≡ getD w k 0
+  stays-other q = stays (rw q (and-false (token t && not (bit seen t))))
+
+  stays-met : bit seen k ≡ true → getD (set w (placeOf seen t) n) k 0 ≡ getD w k 0
+  stays-met p = go (eqb k t) refl
+    where
+      go : (e : Bool) → eqb k t ≡ e → getD (set w (placeOf seen t) n) k 0 ≡ getD w k 0
+      go true q = stays (let met : bit seen t ≡ true = ap (bit seen) (sym (eqb-true k t q)) ∙ p in rw (met, and-false (token t)))
+      go false q = stays-other q
+
+  stays-plain : token k ≡ false → getD (set w (placeOf seen t) n) k 0 ≡ getD w k 0
+  stays-plain p = go (eqb k t) refl
+    where
+      go : (e : Bool) → eqb k t ≡ e → getD (set w (placeOf seen t) n) k 0 ≡ getD w k 0
+      go true q = stays (let plain : token t ≡ false = ap token (sym (eqb-true k t q)) ∙ p in rw plain)
+      go false q = stays-other q
+
+  own-place : token k ≡ true → bit seen k ≡ false → eqb k t ≡ true → placeOf seen t ≡ k
+  unfolding placeOf
+  own-place s p q = ap (placeOf seen) (sym (eqb-true k t q)) ∙ rw (s, p)
+
+  stored : length w ≡ 32 → token k ≡ true → bit seen k ≡ false → eqb k t ≡ true → getD (set w (placeOf seen t) n) k 0 ≡ n
+  stored l s p q = rw (own-place s p q) (getD-set-same w k n 0 (omega arith))
+
+-- one entry goes from those left to those before
+module _ (es left : Entries) (t : ℕ) (text w : List ℕ) (seen n : ℕ) (size : length text ≡ n) (long : length w ≡ 32) (k : ℕ) (h : k ≤ 0x14) where
+  known-by : (a b e : Bool) → bit seen k ≡ a → token k ≡ b → eqb k t ≡ e → Known es ((t, text) ∷ left) k (getD w k 0) a
+      → Known es left k (getD (set w (placeOf seen t) n) k 0) (a || b && e)
+  unfolding Known
+  known-by true b e p s q g = stays-met w seen t n k h p ∙ g
+  known-by false true true p s q g = stored w seen t n k h long s p q ∙ sym (ap length (g .1 ∙ own-entry t text left k s q) ∙ size)
+  known-by false true false p s q g = (stays-other w seen t n k h q ∙ g .0, g .1 ∙ other-entry t text left k q)
+  known-by false false e p s q g = (stays-plain w seen t n k h s ∙ g .0, g .1 ∙ plain-stands ((t, text) ∷ left) k s ∙ sym (plain-stands left k s))
+
+  known-more : Known es ((t, text) ∷ left) k (getD w k 0) (bit seen k)
+      → Known es left k (getD (set w (placeOf seen t) n) k 0) (bit (bitOr seen (tokenBit t)) k)
+  known-more g = rw (mark-one seen t k) (known-by (bit seen k) (token k) (eqb k t) refl refl refl g)
+
+-- with none left, each octet's width is known
+known-last : (es left : Entries) → left ≡ [] → (k width : ℕ) (met : Bool) → Known es left k width met → width ≡ length (stands es k)
+unfolding Known
+known-last es left e k width true g = g
+known-last es left e k width false g = g .0 ∙ sym (ap length (g .1 ∙ ap (λ q. stands q k) e ∙ no-entry k))
+
+module _ (table : List ℕ) where
+  pub measure-begin : Measuring table (replicate 32 1) 0 0
+  unfolding Known
+  measure-begin =
+      record {
+        within = omega arith;
+        long = refl;
+        each = λ k h. rw (bit-none k) (getD-replicate 32 k 1 0 (omega arith), refl);
+      }
+
+  module _ (widths : List ℕ) (seen at : ℕ) (inv : Measuring table widths seen at) where
+    none-left : entries (drop at table) ≡ [] → Widths (entries table) widths
+    none-left q = record { each = λ k h. known-last (entries table) (entries (drop at table)) q k (getD widths k 0) (bit seen k) (inv .each k h) }
+
+    pub measure-done : length table ≤ at → Widths (entries table) widths
+    unfolding entries cut
+    measure-done h = none-left (ap entries (drop-of-length-le table h))
+
+    module _ (h : at < length table) (p : Piece) (e : p ≡ ahead (entries (take (length table - at) (drop at table)))) where
+      pub measure-past : p ≡ Past → Widths (entries table) widths
+      measure-past f = none-left (no-more table at h p e f)
+
+      pub measure-again : (t n : ℕ) → p ≡ Entry t n → (place : ℕ) → place ≡ placeOf seen t → (r : ℕ) → r ≡ tokenBit t
+          → Measuring table (set widths place (getD table (at + 1) 0)) (bitOr seen r) (at + 2 + n)
+      measure-again t n f place q r z =
+          rw (q, z, length-octet table at h p e t n f)
+          record {
+            within = room table at h p e t n f;
+            long = length-set widths (placeOf seen t) n ∙ inv .long;
+            each = λ k l.
+                known-more (entries table) (entries (drop (at + 2 + n) table)) t (take n (drop 2 (drop at table))) widths seen n (text-length table at h p e t n f) (inv .long) k l
+                (subst (λ es. Known (entries table) es k (getD widths k 0) (bit seen k)) (next-names table at h p e t n f) (inv .each k l));
+          }
+
+pub ruleset measure-ways = (measure-begin, measure-done, measure-past, measure-again, place-inside, length-inside, next-fits, next-fits-2)
+
+-- ---- `width_by`: the choice of two numbers, and the load
+module _ (w : List ℕ) (b k place r : ℕ) (e : place ≡ k) (f : r ≡ getD w place 0) where
+  chosen : k ≡ min b 0x14 → r ≡ widthBy w b
+  unfolding widthBy
+  chosen q = f ∙ ap (λ (n : ℕ). getD w n 0) (e ∙ q)
+
+  pub width-low : b < 0x14 → k ≡ b → r ≡ widthBy w b
+  width-low h q = chosen (q ∙ sym (min-eq-left (omega arith)))
+
+  pub width-high : 0x14 ≤ b → k ≡ 0x14 → r ≡ widthBy w b
+  width-high h q = chosen (q ∙ sym (min-eq-right h))
+
+-- ---- a text by such widths
+module _ (es : Entries) (w : List ℕ) (widths : Widths es w) where
+  high-width : (b : ℕ) → 0x13 < b → length (stands es b) ≡ 1
+  high-width b h = ap length (plain-stands es b (high-octet b h))
+
+  width-is : (b : ℕ) → widthBy w b ≡ length (stands es b)
+  unfolding widthBy
+  width-is b = go (leb b 0x14) refl
+    where
+      go : (l : Bool) → leb b 0x14 ≡ l → getD w (min b 0x14) 0 ≡ length (stands es b)
+      go true e = ap (λ (n : ℕ). getD w n 0) (min-eq-left (leb-true b 0x14 e)) ∙ widths .each b (leb-true b 0x14 e)
+      go false e =
+          let above : 0x14 < b = omega (arith, leb-false b 0x14 e) in
+          ap (λ (n : ℕ). getD w n 0) (min-eq-right (omega arith)) ∙ widths .each 0x14 (omega arith) ∙ high-width 0x14 (omega arith) ∙ sym (high-width b (omega arith))
+
+  pub width-of-is : (s : List ℕ) → widthOf w s ≡ length (expanded es s)
+  unfolding widthOf expanded
+  width-of-is [] = refl
+  width-of-is (b ∷ s) = ap₂ (λ (m n : ℕ). m + n) (width-is b) (width-of-is s) ∙ sym (length-append (stands es b) (expanded es s))
