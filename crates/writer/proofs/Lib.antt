@@ -23,6 +23,5 @@ pub mod Running
 pub mod Relaid
 pub mod Loads
 pub mod Normalised
-pub mod Compared
 pub mod Theorems
 pub mod Miswritten

@@ -29,8 +29,8 @@ use Rattle.format.proofs.Lays.{Inside, inside-places, lay-none}
 use Rattle.format.proofs.Calls.{lay-fields}
 use Rattle.writer.specs.declared.measure.Measured.{Measured}
 use Rattle.writer.specs.declared.measure.Measured.the-variants.{Over, Sizes}
-use Rattle.writer.specs.declared.load.Standing.{Standing}
-use Rattle.writer.specs.declared.load.Standing.the-variants.{Bad, Misfit, Fits}
+use Rattle.writer.specs.declared.Standing.{Standing}
+use Rattle.writer.specs.declared.Standing.the-variants.{Bad, Misfit, Fits}
 use Rattle.writer.specs.Measure.{TableTold, measuredOf, Measures}
 use Rattle.writer.specs.Store.{Storable, Stores}
 use Rattle.writer.specs.Load.{lentTo, sufficient, unfit, loadAnswer, LoadClaim, surveyed}

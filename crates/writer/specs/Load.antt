@@ -8,11 +8,8 @@ use lib.Dec.{leb}
 use lib.ListN.{length}
 use lib.Seq.{sets}
 use denote.Ref.{RefT}
-use Rattle.format.specs.declared.Refusal.{Refusal}
 use Rattle.format.specs.declared.ReadAnswer.{ReadAnswer}
 use Rattle.format.specs.declared.ReadAnswer.the-variants.{Records, NotRead}
-use Rattle.format.specs.declared.SameAnswer.{SameAnswer}
-use Rattle.format.specs.declared.SameAnswer.the-variants.{FirstRefused, SecondRefused}
 use Rattle.format.specs.Answers.{refusal}
 use Rattle.format.specs.Tree.{Items, count}
 use Rattle.format.specs.Judge.{Judged, judge}
@@ -21,8 +18,8 @@ use Rattle.format.specs.Loaded.{storeOf}
 use Rattle.format.specs.Calls.{Lists, places, lay, Lent, storedWithin, fitsLent, handed, loadedRecords}
 use Rattle.writer.specs.declared.measure.Measured.{Measured}
 use Rattle.writer.specs.declared.measure.Measured.the-variants.{Over, Sizes}
-use Rattle.writer.specs.declared.load.Standing.{Standing}
-use Rattle.writer.specs.declared.load.Standing.the-variants.{Bad, Misfit, Fits}
+use Rattle.writer.specs.declared.Standing.{Standing}
+use Rattle.writer.specs.declared.Standing.the-variants.{Bad, Misfit, Fits}
 
 -- what is lent to loading: places, a store, and a room of so many octets to come
 abbrev pub lentTo : Lists → List ℕ → ℕ → Lent
@@ -51,14 +48,3 @@ pub record LoadClaim (object : List ℕ) (room : ℕ) (lists lists′ : Lists) (
 unfoldable pub surveyed : Lent → Judged → Standing
 surveyed lent (refused r) = Bad r
 surveyed lent (accepted t) = cond (leb (count t) (lent .records)) (cond (storedWithin lent t) Fits (Misfit (refusal 15 0))) (Misfit (refusal 14 0))
-
--- which refusal of two objects comes first: where the second is refused by the judgement, and where it is accepted but doesn't fit
-unfoldable pub firstBadOr : Standing → Refusal → SameAnswer
-firstBadOr (Bad q) r = FirstRefused q
-firstBadOr (Misfit q) r = SecondRefused r
-firstBadOr Fits r = SecondRefused r
-
-unfoldable pub firstOr : Standing → Refusal → SameAnswer
-firstOr (Bad q) r = FirstRefused q
-firstOr (Misfit q) r = FirstRefused q
-firstOr Fits r = SecondRefused r

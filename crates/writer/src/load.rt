@@ -5,6 +5,7 @@ ghost use lib.ListN.{length};
 ghost use Rattle.format.specs.Judge.{judge};
 ghost use Rattle.reader.specs.Lent.{lent};
 ghost use Rattle.writer.specs.Load.{sufficient, unfit, LoadClaim, surveyed};
+use crate::Standing;
 use crate::measure::Measured;
 use crate::measure::measure;
 use crate::store::store_all;
@@ -13,13 +14,6 @@ use format::ReadAnswer;
 use format::Refusal;
 use judge::judge;
 use reader::places;
-
-// An object held against what is lent: refused by the judgement; accepted, but without places for it (14) or room (15); or it fits.
-pub enum Standing {
-    Bad(Refusal),
-    Misfit(Refusal),
-    Fits,
-}
 
 fn is_sufficient(needs: Measured, store: usize, room: usize) -> bool
     ensures { λ r. ⌜ r ≡ sufficient needs store room ⌝ }

@@ -1,14 +1,14 @@
 use Rattle.writer.proofs.Normalised.{written-inside}
-use Rattle.writer.proofs.Compared.{compare-refused, compare-never, compare-same, compare-different}
+use Rattle.same.proofs.Compared.{compare-refused, compare-never, compare-same, compare-different}
 use lib.Seq.{length-take-le}
 use mathlib.Core.Path.{sym, _∙_}
 use borrow.Author.Needs.{needs}
-use Rattle.writer.proofs.compare.Statement.{statement}
-use Rattle.writer.proofs.compare.Tie as tie
-use Rattle.writer.proofs.compare.Reads as reads
-use Rattle.writer.proofs.compare.Lts as lts
-use Rattle.writer.proofs.are_same.Reads as are-same-reads
+use Rattle.same.proofs.compare.Statement.{statement}
+use Rattle.same.proofs.compare.Tie as tie
+use Rattle.same.proofs.compare.Reads as reads
+use Rattle.same.proofs.compare.Lts as lts
+use Rattle.same.proofs.are_same.Reads as are-same-reads
 use Rattle.writer.proofs.normalise.Reads as normalise-reads
 
 normalise-requires : tie.Need-normalise-requires
 normalise-requires c κs = search needs

@@ -1,9 +1,9 @@
-use Rattle.writer.proofs.Compared.{pick-ways}
+use Rattle.same.proofs.Compared.{pick-ways}
 use borrow.Author.Needs.{needs}
-use Rattle.writer.proofs.first_or.Statement.{statement}
-use Rattle.writer.proofs.first_or.Tie as tie
-use Rattle.writer.proofs.first_or.Reads as reads
-use Rattle.writer.proofs.first_or.Lts as lts
+use Rattle.same.proofs.first_or.Statement.{statement}
+use Rattle.same.proofs.first_or.Tie as tie
+use Rattle.same.proofs.first_or.Reads as reads
+use Rattle.same.proofs.first_or.Lts as lts
 
 enum-known-first : tie.Need-enum-known-first
 enum-known-first c = search needs

@@ -1,15 +1,15 @@
-use Rattle.writer.proofs.Compared.{same-bad, same-misfit, counted}
+use Rattle.same.proofs.Compared.{same-bad, same-misfit, counted}
 use mathlib.Core.Path.{sym, _∙_}
 use borrow.Author.Needs.{needs}
-use Rattle.writer.proofs.same.Statement.{statement}
-use Rattle.writer.proofs.same.Tie as tie
-use Rattle.writer.proofs.same.Reads as reads
-use Rattle.writer.proofs.same.Lts as lts
-use Rattle.writer.proofs.compare.Reads as compare-reads
-use Rattle.writer.proofs.first_bad_or.Reads as first-bad-or-reads
-use Rattle.writer.proofs.first_or.Reads as first-or-reads
+use Rattle.same.proofs.same.Statement.{statement}
+use Rattle.same.proofs.same.Tie as tie
+use Rattle.same.proofs.same.Reads as reads
+use Rattle.same.proofs.same.Lts as lts
+use Rattle.same.proofs.compare.Reads as compare-reads
+use Rattle.same.proofs.first_bad_or.Reads as first-bad-or-reads
+use Rattle.same.proofs.first_or.Reads as first-or-reads
 use Rattle.reader.proofs.places.Reads as places-reads
-use Rattle.writer.proofs.load.survey.Reads as survey-reads
+use Rattle.writer.proofs.survey.Reads as survey-reads
 
 places-requires : tie.Need-places-requires
 places-requires c κs = search needs
