@@ -5,8 +5,7 @@ ghost use mathlib.Core.Path.{_≡_};
 ghost use Rattle.format.specs.declared.WriteAnswer.the-variants.{NotWritten};
 ghost use Rattle.format.specs.Answers.{refusal};
 ghost use Rattle.format.specs.Calls.{WriteClaim, NormaliseClaim};
-ghost use Rattle.reader.specs.Lent.{lent};
-ghost use Rattle.records.specs.Check.{lists};
+ghost use Rattle.format.specs.Lent.{lent};
 
 mod emit;
 mod frame;
@@ -53,7 +52,7 @@ pub fn write(
     octets: &[u8],
     room: &mut [u8],
 ) -> WriteAnswer
-    ensures { λ r. ⌜ WriteClaim count (lists (tags .entry) (kinds .entry) (depths .entry) (parents .entry) (starts .entry) (sizes .entry)) (now (octets .entry)) (now (room .entry)) (now (room .exit)) r ⌝ }
+    ensures { λ r. ⌜ WriteClaim count (lent (tags .entry) (kinds .entry) (depths .entry) (parents .entry) (starts .entry) (sizes .entry)) (now (octets .entry)) (now (room .entry)) (now (room .exit)) r ⌝ }
 {
     if is_well_formed(count, tags, kinds, depths, parents, starts, sizes, octets) {
         match size_items(count, tags, depths, starts, sizes, octets, 0, 1, 0) {

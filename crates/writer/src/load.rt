@@ -3,7 +3,7 @@
 ghost use mathlib.Core.Path.{_≡_};
 ghost use lib.ListN.{length};
 ghost use Rattle.format.specs.Judge.{judge};
-ghost use Rattle.reader.specs.Lent.{lent};
+ghost use Rattle.format.specs.Lent.{lent};
 ghost use Rattle.writer.specs.Load.{sufficient, unfit, LoadClaim, surveyed};
 use crate::Standing;
 use crate::measure::Measured;
