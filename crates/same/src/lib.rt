@@ -4,7 +4,7 @@ ghost use Rattle.format.specs.Judge.{judge};
 ghost use Rattle.format.specs.Calls.{lentBy, sameOctets, SameClaim};
 ghost use Rattle.format.specs.Lent.{lent};
 ghost use Rattle.writer.specs.declared.Standing.the-variants.{Fits};
-ghost use Rattle.writer.specs.Load.{surveyed};
+ghost use Rattle.writer.specs.Survey.{surveyed};
 ghost use Rattle.same.specs.Order.{firstBadOr, firstOr};
 use format::Refusal;
 use format::SameAnswer;
