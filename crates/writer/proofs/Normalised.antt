@@ -26,7 +26,7 @@ use Rattle.format.specs.Calls.{Lists, places, row, lay, Lent, lentBy, roomy, st
 use Rattle.format.proofs.Lays.{places-lay, tabled-laid}
 use Rattle.format.proofs.Spans.{records-count}
 use Rattle.format.proofs.Calls.{loaded-rebuilt}
-use Rattle.format.proofs.Loading.{loaded-means}
+use Rattle.format.proofs.Loading.{loaded-means, loaded-count}
 use Rattle.writer.specs.declared.Standing.{Standing}
 use Rattle.writer.specs.declared.Standing.the-variants.{Bad, Misfit, Fits}
 use Rattle.writer.specs.declared.emit.Reached.{Reached}
@@ -37,7 +37,6 @@ use Rattle.writer.specs.Lay.{Layable, LaidTree, LaysTree}
 use Rattle.writer.proofs.Rows.{fourIn}
 use Rattle.writer.proofs.Whole.{tree-holding, tree-ordered, tree-fits, tree-written}
 use Rattle.writer.proofs.WholeSizes.{store-less}
-use Rattle.writer.proofs.WholeLaid.{loaded-count}
 
 -- the parts of an object's fit
 pub record Fit (lent : Lent) (t : Items) : Type 0 where
