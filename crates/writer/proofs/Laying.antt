@@ -40,7 +40,7 @@ use Rattle.writer.specs.declared.lay.Piece.{Piece}
 use Rattle.writer.specs.declared.lay.Piece.the-variants.{Nothing, Inside, Value}
 use Rattle.writer.specs.Sizes.{liesAt}
 use Rattle.writer.specs.Store.{BodyStorable, BodyStored}
-use Rattle.writer.specs.Lay.{pieceOf, recordAt, Placeable, ValueLayable, ValueLays, shareAt, ItemLayable, ItemLays, ItemsLayable, ItemsLay}
+use Rattle.writer.specs.Lay.{pieceOf, recordAt, Placeable, ValueLayable, ValueLays, shareAt, ItemLayable, InsideLayable, ItemLays, ItemsLayable, ItemsLay}
 use Rattle.writer.proofs.Places.{Lying, lying, lies-inside, met, to-inside}
 use Rattle.writer.proofs.Pieces.{Splits, splits-share, split-lists, split-store, of-nothing, OfOctets, of-octets, OfItems, of-items}
 
@@ -118,9 +118,9 @@ module _ (table : List ℕ) (kind : Kind) (level : Level) (done : Laid) (body : 
       pub value-lays : ValueLays (entries table) kind tag level done body l l′ store store′ (record { next = done .next + 1; end = to })
       value-lays = record { lists = x ∙ ap (λ n. put (done .next) (recordAt level tag (done .end) n) l) size-is; holds = s .holds; many = refl; ends = s .ends }
 
--- ---- lay_item
+-- ---- lay_inside and lay_item
 
-module _ (T : Entries) (level : Level) (done : Laid) (tag : ℕ) (body : List ℕ) (l : Lists) (store : List ℕ) (can : ItemLayable T level done tag body l store) where
+module _ (T : Entries) (level : Level) (done : Laid) (tag : ℕ) (body : List ℕ) (l : Lists) (store : List ℕ) where
   abbrev n : ℕ
   n = done .next
 
@@ -130,129 +130,133 @@ module _ (T : Entries) (level : Level) (done : Laid) (tag : ℕ) (body : List �
   abbrev parent : ℕ
   parent = level .element
 
-  module _ (g : Piece) (e : g ≡ pieceOf (known parent tag)) where
-    pub item-nothing : g ≡ Nothing → ItemLays T level done tag body l l store store done
-    unfolding ItemLays lay records count
-    item-nothing q offset u a =
-        let s = of-nothing T parent tag offset body u (sym q ∙ e) in
-        record {
-          lists = sym (ap (λ t. lay n (records (level .depth) (level .number) n t) l) (s .loads at));
-          holds = sym (ap (sets store at) (s .stores) ∙ sets-none store at);
-          many = sym (ap (λ t. n + count t) (s .loads at) ∙ add-zero n);
-          ends = sym (ap (λ o. at + length o) (s .stores) ∙ add-zero at);
-        }
+  -- one that holds items
+  module _ (can : InsideLayable T level done tag body l store) where
+    items-of : (offset : ℕ) (u : Items) → OfItems T parent tag offset body u
+    items-of offset u = of-items T parent tag offset body u (can .holds)
 
-    -- a value
-    module _ (kind : Kind) (q : g ≡ Value kind) where
-      octets-of : (offset : ℕ) (u : Items) → OfOctets T parent tag offset body u kind
-      octets-of offset u = of-octets T parent tag offset body u kind (sym q ∙ e)
+    opens : isItems (known parent tag) ≡ true
+    opens = items-of 0 end .holds
 
-      abbrev own : List ℕ
-      own = stored T (some kind) body
+    written-items : (x : Items) → Written (item tag 0 [] x end) tag 0 [] x
+    written-items x = written-item tag 0 [] x (items-of 0 end .noTable)
 
-      written-value : (offset : ℕ) → Written (item tag at own end end) tag at own end
-      written-value offset = written-item tag at own end (octets-of offset end .noTable)
+    -- what the caller's tree asks for
+    asked : (count (loadedIn T parent at (shareAt level tag (can .item .offset) body (can .item .inside))) ≡ 1 + count (loadedIn T tag at (can .item .inside)))
+        × (length (storeIn T parent (shareAt level tag (can .item .offset) body (can .item .inside))) ≡ length (storeIn T tag (can .item .inside)))
+    asked =
+        let w = items-of (can .item .offset) (can .item .inside) in
+        (ap count (w .loads at) ∙ written-items (loadedIn T tag at (can .item .inside)) .many, ap length (w .stores))
 
-      pub item-value-can : ValueLayable T kind level done body l store
-      unfolding isValue count
-      item-value-can =
-          let w = octets-of (can .offset) (can .inside) in
-          let k = can .space in
-          let many : count (loadedIn T parent at (shareAt level tag (can .offset) body (can .inside))) ≡ 1 = ap count (w .loads at) ∙ written-value 0 .many in
-          let size : length (storeIn T parent (shareAt level tag (can .offset) body (can .inside))) ≡ length own = ap length (w .stores) in
+    pub inside-deep : level .depth ≤ 16
+    inside-deep = can .item .deep opens
+
+    pub inside-deeper : Fits w8 (level .depth + 1)
+    inside-deeper = omega (arith, inside-deep)
+
+    pub inside-next : Fits w64 (n + 1)
+    inside-next = omega (arith, can .item .space .few, asked .0)
+
+    pub inside-placeable : Placeable n (level .number) 0 0 l
+    inside-placeable = record {
+      within = within-places n l (omega (arith, can .item .space .holds, asked .0));
+      parent = omega (arith, can .item .space .above, can .item .space .few);
+      first = omega arith;
+      long = omega arith;
+    }
+
+    abbrev inner : Level
+    inner = record { element = tag; number = n; depth = level .depth + 1 }
+
+    abbrev begun : Laid
+    begun = record { next = n + 1; end = at }
+
+    module _ (l′ : Lists) (x : l′ ≡ put n (recordAt level tag 0 0) l) where
+      pub inside-can : ItemsLayable T inner begun body l′ store
+      inside-can =
+          let k = can .item .space in
           record {
-            fit = subst (λ x. isValue x body ≡ true) (w .is) (can .value);
-            space = record { above = k .above; few = omega (arith, k .few); holds = omega (arith, k .holds); low = omega (arith, k .low); room = omega (arith, k .room) };
+            offset = can .item .offset;
+            tree = can .item .inside;
+            accepts = can .item .accepts opens;
+            space = record {
+              above = omega arith;
+              few = omega (arith, k .few, asked .0);
+              holds = omega (arith, k .holds, asked .0, places-after n (recordAt level tag 0 0) l l′ x);
+              low = omega (arith, k .low, asked .1);
+              room = omega (arith, k .room, asked .1);
+            };
           }
 
-      pub item-value : (l′ : Lists) (store′ : List ℕ) (r : Laid) → ValueLays T kind tag level done body l l′ store store′ r → ItemLays T level done tag body l l′ store store′ r
-      unfolding ItemLays lay records count
-      item-value l′ store′ r v offset u a =
-          let w = octets-of offset u in
-          let t = item tag at own end end in
+      pub inside-laid : (l″ : Lists) (store′ : List ℕ) (r : Laid) → ItemsLay T inner begun body l′ l″ store store′ r → ItemLays T level done tag body l l″ store store′ r
+      unfolding ItemLays ItemsLay lay
+      inside-laid l″ store′ r f offset u a =
+          let k = f offset u (a opens) in
+          let w = items-of offset u in
+          let X = loadedIn T tag at u in
+          let more = records (level .depth + 1) n (n + 1) X in
           let laid : records (level .depth) (level .number) n (loadedIn T parent at (shareAt level tag offset body u)) ≡ _ =
-          ap (records (level .depth) (level .number) n) (w .loads at) ∙ written-value offset .laid (level .depth) (level .number) n in
+          ap (records (level .depth) (level .number) n) (w .loads at) ∙ written-items X .laid (level .depth) (level .number) n in
+          let many : count (loadedIn T parent at (shareAt level tag offset body u)) ≡ 1 + count X = ap count (w .loads at) ∙ written-items X .many in
           record {
-            lists = v .lists ∙ sym (ap (λ rs. lay n rs l) laid);
-            holds = v .holds ∙ sym (ap (sets store at) (w .stores));
-            many = v .many ∙ sym (ap (λ x. n + count x) (w .loads at) ∙ ap (λ m. n + m) (written-value offset .many));
-            ends = v .ends ∙ sym (ap (λ o. at + length o) (w .stores));
+            lists = k .lists ∙ ap (lay (n + 1) more) x ∙ ap (λ i. lay i more (put n (recordAt level tag 0 0) l)) (add-one n) ∙ sym (ap (λ rs. lay n rs l) laid);
+            holds = k .holds ∙ sym (ap (sets store at) (w .stores));
+            many = omega (arith, k .many);
+            ends = k .ends ∙ sym (ap (λ o. at + length o) (w .stores));
           }
 
-    -- the items inside it
-    module _ (q : g ≡ Inside) where
-      items-of : (offset : ℕ) (u : Items) → OfItems T parent tag offset body u
-      items-of offset u = of-items T parent tag offset body u (sym q ∙ e)
+  -- any item
+  module _ (can : ItemLayable T level done tag body l store) where
+    module _ (g : Piece) (e : g ≡ pieceOf (known parent tag)) where
+      pub item-nothing : g ≡ Nothing → ItemLays T level done tag body l l store store done
+      unfolding ItemLays lay records count
+      item-nothing q offset u a =
+          let s = of-nothing T parent tag offset body u (sym q ∙ e) in
+          record {
+            lists = sym (ap (λ t. lay n (records (level .depth) (level .number) n t) l) (s .loads at));
+            holds = sym (ap (sets store at) (s .stores) ∙ sets-none store at);
+            many = sym (ap (λ t. n + count t) (s .loads at) ∙ add-zero n);
+            ends = sym (ap (λ o. at + length o) (s .stores) ∙ add-zero at);
+          }
 
-      holds : isItems (known parent tag) ≡ true
-      holds = items-of 0 end .holds
+      -- a value
+      module _ (kind : Kind) (q : g ≡ Value kind) where
+        octets-of : (offset : ℕ) (u : Items) → OfOctets T parent tag offset body u kind
+        octets-of offset u = of-octets T parent tag offset body u kind (sym q ∙ e)
 
-      written-items : (x : Items) → Written (item tag 0 [] x end) tag 0 [] x
-      written-items x = written-item tag 0 [] x (items-of 0 end .noTable)
+        abbrev own : List ℕ
+        own = stored T (some kind) body
 
-      -- what the caller's tree asks for
-      asked : (count (loadedIn T parent at (shareAt level tag (can .offset) body (can .inside))) ≡ 1 + count (loadedIn T tag at (can .inside)))
-          × (length (storeIn T parent (shareAt level tag (can .offset) body (can .inside))) ≡ length (storeIn T tag (can .inside)))
-      asked =
-          let w = items-of (can .offset) (can .inside) in
-          (ap count (w .loads at) ∙ written-items (loadedIn T tag at (can .inside)) .many, ap length (w .stores))
+        written-value : Written (item tag at own end end) tag at own end
+        written-value = written-item tag at own end (octets-of 0 end .noTable)
 
-      pub inside-deep : level .depth ≤ 16
-      inside-deep = can .deep holds
-
-      pub inside-deeper : Fits w8 (level .depth + 1)
-      inside-deeper = omega (arith, inside-deep)
-
-      pub inside-next : Fits w64 (n + 1)
-      inside-next = omega (arith, can .space .few, asked .0)
-
-      pub inside-placeable : Placeable n (level .number) 0 0 l
-      inside-placeable = record {
-        within = within-places n l (omega (arith, can .space .holds, asked .0));
-        parent = omega (arith, can .space .above, can .space .few);
-        first = omega arith;
-        long = omega arith;
-      }
-
-      abbrev inner : Level
-      inner = record { element = tag; number = n; depth = level .depth + 1 }
-
-      abbrev begun : Laid
-      begun = record { next = n + 1; end = at }
-
-      module _ (l′ : Lists) (x : l′ ≡ put n (recordAt level tag 0 0) l) where
-        pub inside-can : ItemsLayable T inner begun body l′ store
-        inside-can =
+        pub item-value-can : ValueLayable T kind level done body l store
+        unfolding isValue count
+        item-value-can =
+            let w = octets-of (can .offset) (can .inside) in
             let k = can .space in
+            let many : count (loadedIn T parent at (shareAt level tag (can .offset) body (can .inside))) ≡ 1 = ap count (w .loads at) ∙ written-value .many in
+            let size : length (storeIn T parent (shareAt level tag (can .offset) body (can .inside))) ≡ length own = ap length (w .stores) in
             record {
-              offset = can .offset;
-              tree = can .inside;
-              accepts = can .accepts holds;
-              space = record {
-                above = omega arith;
-                few = omega (arith, k .few, asked .0);
-                holds = omega (arith, k .holds, asked .0, places-after n (recordAt level tag 0 0) l l′ x);
-                low = omega (arith, k .low, asked .1);
-                room = omega (arith, k .room, asked .1);
-              };
+              fit = subst (λ x. isValue x body ≡ true) (w .is) (can .value);
+              space = record { above = k .above; few = omega (arith, k .few); holds = omega (arith, k .holds); low = omega (arith, k .low); room = omega (arith, k .room) };
             }
 
-        pub item-inside : (l″ : Lists) (store′ : List ℕ) (r : Laid) → ItemsLay T inner begun body l′ l″ store store′ r → ItemLays T level done tag body l l″ store store′ r
-        unfolding ItemLays ItemsLay lay
-        item-inside l″ store′ r f offset u a =
-            let k = f offset u (a holds) in
-            let w = items-of offset u in
-            let X = loadedIn T tag at u in
-            let more = records (level .depth + 1) n (n + 1) X in
+        pub item-value : (l′ : Lists) (store′ : List ℕ) (r : Laid) → ValueLays T kind tag level done body l l′ store store′ r → ItemLays T level done tag body l l′ store store′ r
+        unfolding ItemLays lay records count
+        item-value l′ store′ r v offset u a =
+            let w = octets-of offset u in
             let laid : records (level .depth) (level .number) n (loadedIn T parent at (shareAt level tag offset body u)) ≡ _ =
-            ap (records (level .depth) (level .number) n) (w .loads at) ∙ written-items X .laid (level .depth) (level .number) n in
-            let many : count (loadedIn T parent at (shareAt level tag offset body u)) ≡ 1 + count X = ap count (w .loads at) ∙ written-items X .many in
+            ap (records (level .depth) (level .number) n) (w .loads at) ∙ written-value .laid (level .depth) (level .number) n in
             record {
-              lists = k .lists ∙ ap (lay (n + 1) more) x ∙ ap (λ i. lay i more (put n (recordAt level tag 0 0) l)) (add-one n) ∙ sym (ap (λ rs. lay n rs l) laid);
-              holds = k .holds ∙ sym (ap (sets store at) (w .stores));
-              many = omega (arith, k .many);
-              ends = k .ends ∙ sym (ap (λ o. at + length o) (w .stores));
+              lists = v .lists ∙ sym (ap (λ rs. lay n rs l) laid);
+              holds = v .holds ∙ sym (ap (sets store at) (w .stores));
+              many = v .many ∙ sym (ap (λ x. n + count x) (w .loads at) ∙ ap (λ m. n + m) (written-value .many));
+              ends = v .ends ∙ sym (ap (λ o. at + length o) (w .stores));
             }
+
+      pub item-inside-can : g ≡ Inside → InsideLayable T level done tag body l store
+      item-inside-can q = record { holds = sym q ∙ e; item = can }
 
 -- ---- lay_items
 

@@ -95,6 +95,11 @@ pub record ItemLayable (table : Entries) (level : Level) (done : Laid) (tag : �
       Space level done (count (loadedIn table (level .element) (done .end) (shareAt level tag offset body inside))) (length (storeIn table (level .element) (shareAt level tag offset body inside))) l
       store
 
+-- one that holds items
+pub record InsideLayable (table : Entries) (level : Level) (done : Laid) (tag : ℕ) (body : List ℕ) (l : Lists) (store : List ℕ) : Type 0 where
+  pub holds : Inside ≡ pieceOf (known (level .element) tag)
+  pub item : ItemLayable table level done tag body l store
+
 unfoldable pub ItemLays : (table : Entries) (level : Level) (done : Laid) (tag : ℕ) (body : List ℕ) (l l′ : Lists) (store store′ : List ℕ) (r : Laid) → Type 0
 ItemLays table level done tag body l l′ store store′ r =
     (offset : ℕ) (inside : Items) → Holds level tag offset body inside → Leaves table level done (shareAt level tag offset body inside) l l′ store store′ r

@@ -6,7 +6,7 @@ ghost use Rattle.text.specs.Tokens.{entries};
 ghost use Rattle.values.specs.Table.{known};
 ghost use Rattle.format.specs.Calls.{put};
 ghost use Rattle.format.specs.Lent.{lent};
-ghost use Rattle.writer.specs.Lay.{pieceOf, recordAt, Placeable, ValueLayable, ValueLays, ItemLayable, ItemLays, ItemsLayable, ItemsLay, Layable, LaysTree};
+ghost use Rattle.writer.specs.Lay.{pieceOf, recordAt, Placeable, ValueLayable, ValueLays, ItemLayable, InsideLayable, ItemLays, ItemsLayable, ItemsLay, Layable, LaysTree};
 use crate::store::store_body;
 use crate::table::Lies;
 use crate::table::item_at;
@@ -119,6 +119,62 @@ fn lay_value(
     Laid { next: n + 1, end }
 }
 
+// An item that holds items: its record, whose span is the one of length 0 at the store's start, and all of the items inside it.
+fn lay_inside(
+    tag: u8,
+    body: &[u8],
+    table: &[u8],
+    level: Level,
+    done: Laid,
+    tags: &mut [u8],
+    kinds: &mut [u8],
+    depths: &mut [u8],
+    parents: &mut [u16],
+    starts: &mut [u16],
+    sizes: &mut [u16],
+    store: &mut [u8],
+) -> Laid
+    requires { ⌜ InsideLayable (entries (now table)) level done tag (now body) (lent tags kinds depths parents starts sizes) (now store) ⌝ }
+    ensures { λ r. ⌜ ItemLays (entries (now (table .entry))) level done tag (now (body .entry)) (lent (tags .entry) (kinds .entry) (depths .entry) (parents .entry) (starts .entry) (sizes .entry)) (lent (tags .exit) (kinds .exit) (depths .exit) (parents .exit) (starts .exit) (sizes .exit)) (now (store .entry)) (now (store .exit)) r ⌝ }
+{
+    let n = done.next;
+    put_record(
+        tags,
+        kinds,
+        depths,
+        parents,
+        starts,
+        sizes,
+        n,
+        tag,
+        level,
+        0,
+        0,
+    );
+    let inner = Level {
+        element: tag,
+        number: n,
+        depth: level.depth + 1,
+    };
+    let begun = Laid {
+        next: n + 1,
+        end: done.end,
+    };
+    lay_items(
+        body,
+        table,
+        inner,
+        begun,
+        tags,
+        kinds,
+        depths,
+        parents,
+        starts,
+        sizes,
+        store,
+    )
+}
+
 // One item.
 fn lay_item(
     tag: u8,
@@ -139,6 +195,20 @@ fn lay_item(
 {
     match piece_of(level.element, tag) {
         Piece::Nothing => done,
+        Piece::Inside => lay_inside(
+            tag,
+            body,
+            table,
+            level,
+            done,
+            tags,
+            kinds,
+            depths,
+            parents,
+            starts,
+            sizes,
+            store,
+        ),
         Piece::Value(kind) => lay_value(
             kind,
             tag,
@@ -154,44 +224,6 @@ fn lay_item(
             sizes,
             store,
         ),
-        Piece::Inside => {
-            let n = done.next;
-            put_record(
-                tags,
-                kinds,
-                depths,
-                parents,
-                starts,
-                sizes,
-                n,
-                tag,
-                level,
-                0,
-                0,
-            );
-            let inner = Level {
-                element: tag,
-                number: n,
-                depth: level.depth + 1,
-            };
-            let begun = Laid {
-                next: n + 1,
-                end: done.end,
-            };
-            lay_items(
-                body,
-                table,
-                inner,
-                begun,
-                tags,
-                kinds,
-                depths,
-                parents,
-                starts,
-                sizes,
-                store,
-            )
-        }
     }
 }
 
