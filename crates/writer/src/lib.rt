@@ -24,11 +24,11 @@ use crate::emit::emit_items;
 use crate::lay::lay;
 use crate::size::Sized;
 use crate::size::size_items;
+pub use fitting::survey;
 use format::Refusal;
 use format::WriteAnswer;
 use reader::places;
 use records::is_well_formed;
-pub use fitting::survey;
 
 // An object held against what is lent: refused by the judgement; accepted, but without places for it (14) or room (15); or it fits.
 pub enum Standing {
