@@ -26,3 +26,4 @@ pub mod Rebuilt
 pub mod Written
 pub mod Calls
 pub mod Lays
+pub mod Shown

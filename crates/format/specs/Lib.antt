@@ -6,4 +6,5 @@ pub mod WellFormed
 pub mod Writer
 pub mod Loaded
 pub mod Calls
+pub mod Lent
 pub mod Bench

@@ -1,6 +1,8 @@
 // What the calls of the library share: records, refusals, counts, and the answers as enums. The rules are in specs/, the theorems in proofs/.
 ghost use mathlib.Core.Path.{_≡_};
+ghost use Rattle.format.specs.Tree.{kindOf};
 ghost use Rattle.format.specs.Answers.{readOutcome, writeOutcome, sameOutcome};
+use values::is_attribute;
 
 // One known item: its tag, its kind (0 an element, 1 an attribute, 2 CDATA), its depth, the number of its parent's record, and where its body
 // begins and how many octets it has. (`size`, since `length` in a contract is a list's.)
@@ -11,6 +13,16 @@ pub struct Record {
     pub parent: u16,
     pub start: u16,
     pub size: u16,
+}
+
+// The kind that the record of a tag shows.
+pub fn kind_of(tag: u8) -> u8
+    ensures { λ r. ⌜ r ≡ kindOf tag ⌝ }
+{
+    if is_attribute(tag) {
+        return 1;
+    }
+    if tag == 1 { 2 } else { 0 }
 }
 
 // A refusal: its number in document 01's table, and the offset that goes with it.

@@ -1,38 +1,18 @@
 -- The ways through the small functions of filling.
-use mathlib.Core.Path.{_≡_, sym, _∙_}
-use mathlib.Core.Bool.{Bool, true, false}
+use mathlib.Core.Path.{_≡_}
 use mathlib.Core.Option.{some}
 use Prim.Native.Nat.{ℕ}
-use borrow.Author.Tests.{eq-eqb, ne-eqb}
 use Rattle.values.specs.declared.Kind.{Kind}
 use Rattle.values.specs.declared.Kind.the-variants.{HoldsItems, HoldsTokens, HoldsText, HoldsPlain, HoldsTime, HoldsBearer, HoldsNumber}
 use Rattle.values.specs.declared.NumberKind.{NumberKind}
-use Rattle.values.specs.Table.{known, attribute}
+use Rattle.values.specs.Table.{known}
 use Rattle.values.proofs.Laws.{known-kind, unknown-kind}
-use Rattle.format.specs.Tree.{kindOf}
 use Rattle.format.specs.Judge.{isKnown, isItems, isTokens}
 use Rattle.values.specs.Calls.{knownKind}
 use Rattle.values.specs.declared.KnownKind.{KnownKind}
 use Rattle.values.specs.declared.KnownKind.the-variants.{Unknown, Known}
 use Rattle.reader.specs.declared.filling.Given.the-variants.{Nothing, ItsRecord, ItsItemsToo}
 use Rattle.reader.specs.Filling.{givenBy}
-
--- the kind that a record shows
-module _ (tag : ℕ) (b : Bool) (e : b ≡ attribute tag) where
-  pub kind-attribute : b ≡ true → 1 ≡ kindOf tag
-  unfolding kindOf
-  kind-attribute h = rw (sym e ∙ h)
-
-  module _ (h : b ≡ false) where
-    pub kind-cdata : tag ≡ 1 → 2 ≡ kindOf tag
-    unfolding kindOf
-    kind-cdata q = rw (sym e ∙ h, eq-eqb tag 1 q)
-
-    pub kind-element : (tag ≡ 1 → ⊥) → 0 ≡ kindOf tag
-    unfolding kindOf
-    kind-element q = rw (sym e ∙ h, ne-eqb tag 1 q)
-
-pub ruleset kind-ways = (kind-attribute, kind-cdata, kind-element)
 
 -- what is written of an item, by what the table says
 module _ (parent tag : ℕ) (r : KnownKind) (e : r ≡ knownKind parent tag) where

@@ -16,7 +16,7 @@ use Rattle.values.proofs.Known.{items-no-attribute, items-tag, known-anywhere}
 use Rattle.format.specs.declared.Refusal.{Refusal}
 use Rattle.format.specs.Tree.{Items}
 use Rattle.format.specs.Tree.Items.{end, item}
-use Rattle.format.specs.Judge.{Judged, Context, isKnown, isItems, broken, unless, byKind, joined, followed, late, within, next, read}
+use Rattle.format.specs.Judge.{Judged, Context, isKnown, isItems, isValue, broken, unless, byKind, joined, followed, late, within, next, read}
 use Rattle.format.specs.Judge.Judged.{refused, accepted}
 use Rattle.format.proofs.Rules.{held, fitting, unless-none, unless-accepted, never, same-tree}
 use Rattle.format.proofs.Means.{items-known}
@@ -54,6 +54,7 @@ module _ (tag start : ℕ) (body : List ℕ) (t : Items) where
 pub record Opened (parent depth tag from behind : ℕ) (body rest : List ℕ) (t : Items) : Type 0 where
   pub u : Items
   pub v : Items
+  pub value : isValue (known parent tag) body ≡ true
   pub deep : isItems (known parent tag) ≡ true → depth ≤ 16
   pub inside : isItems (known parent tag) ≡ true → Accepts tag (depth + 1) from body u
   pub after : Accepts parent depth behind rest v
@@ -107,6 +108,7 @@ module _ (c : Context) (base tag : ℕ) (rest : List ℕ) (t : Items) (q : read 
   opened-item = record {
     u = parts .u;
     v = parts .v;
+    value = held c base tag (headerSize s) (bodySize s) (suc (length rest)) (bodyOf s) sound .rules .kind .value;
     deep = not-deep (c .parent) tag (c .depth) (held c base tag (headerSize s) (bodySize s) (suc (length rest)) (bodyOf s) sound .rules .deep);
     inside = within-accepts;
     after = next-accepts;

@@ -39,7 +39,7 @@ was-accepted (refused q) c h = let z : _≡_ {A = ℕ} 0 1 = cc in absurd (omega
 was-accepted (accepted t) c h = let e : c ≡ record { records = count t } = cc in record { tree = t; is = refl; many = ap (λ x. x .records) e }
 
 -- an accepted object has no more octets than rule 1 allows
-small : (o : List ℕ) (t : Items) → judge o ≡ accepted t → length o ≤ 32_768
+pub small : (o : List ℕ) (t : Items) → judge o ≡ accepted t → length o ≤ 32_768
 unfolding judge
 small o t h = leb-true (length o) 32_768 (and-right (leb 1 (length o)) (leb (length o) 32_768) (rule-true 1 0 (leb 1 (length o) && leb (length o) 32_768) (unless-none (rule 1 0 (leb 1 (length o) && leb (length o) 32_768)) (read outermost 0 o) t h)))
 

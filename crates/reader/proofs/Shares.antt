@@ -32,7 +32,7 @@ count-none v = omega arith
 
 module _ (tag start : ℕ) (body : List ℕ) where
   -- an item, and then what comes after it
-  records-item : (depth parent n : ℕ) (u v : Items)
+  pub records-item : (depth parent n : ℕ) (u v : Items)
       → records depth parent n (item tag start body u v) ≡ records depth parent n (item tag start body u end) ++ records depth parent (n + count (item tag start body u end)) v
   unfolding records count
   records-item depth parent n u v = go (eqb tag 4)
@@ -45,7 +45,7 @@ module _ (tag start : ℕ) (body : List ℕ) where
           let e : n + 1 + count u ≡ n + (1 + count u + 0) = omega arith in
           ap₂ (λ (rs : List Record) (k : ℕ). (recordOf depth parent tag start body ∷ rs) ++ records depth parent k v) (sym (append-nil (records (depth + 1) n (n + 1) u))) e
 
-  count-item : (u v : Items) → count (item tag start body u v) ≡ count (item tag start body u end) + count v
+  pub count-item : (u v : Items) → count (item tag start body u v) ≡ count (item tag start body u end) + count v
   unfolding count
   count-item u v = omega arith
 
@@ -103,7 +103,7 @@ module _ (tag start : ℕ) (body : List ℕ) (inside : Items) where
   unfolding count records
   silent-table e = record { many = rw e (omega arith); laid = λ depth parent n. rw e }
 
-  written-item : eqb tag 4 ≡ false → Written (item tag start body inside end) tag start body inside
+  pub written-item : eqb tag 4 ≡ false → Written (item tag start body inside end) tag start body inside
   unfolding count records
   written-item e = record { many = rw e (omega arith); laid = λ depth parent n. rw (e, append-nil) }
 

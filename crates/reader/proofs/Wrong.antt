@@ -19,7 +19,7 @@ use Rattle.format.specs.Tree.Items.{end, item}
 use Rattle.format.specs.Judge.{isKnown, isItems, isTokens, isText, isValue, isTop, allowed, latest, stageAfter, limit, notAbove, shown, ofTop, rule, first, kindRules, itemRules, own, late, lateBefore, lateAfter, broken, within, waits, next, unless, followed, joined, byKind, items, outermost, judge}
 use Rattle.format.specs.Judge.Judged.{accepted}
 use Rattle.format.specs.Calls.{Lists, places, put, lay, readAnswer, readRecords, ReadClaim, ReadAtMostClaim, spanOf, bodyAt}
-use Rattle.reader.specs.Lent.{six}
+use Rattle.format.specs.Lent.{six}
 
 -- an element of four octets, and in it one of two (the listing of document 01)
 abbrev pub object : List ℕ

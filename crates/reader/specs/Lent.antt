@@ -1,16 +1,7 @@
--- Six lent slices of numbers as the one record of lists that the claims of format speak of.
-use mathlib.Core.List.{List}
+-- Places in six lent lists.
 use Prim.Native.Nat.{ℕ, _<_}
 use lib.ListN.{length}
-use denote.Ref.{RefT}
 use Rattle.format.specs.Calls.{Lists}
-
-abbrev pub six : (tags kinds depths parents starts sizes : List ℕ) → Lists
-six tags kinds depths parents starts sizes = record { tags = tags; kinds = kinds; depths = depths; parents = parents; starts = starts; sizes = sizes }
-
--- what six references lend
-abbrev pub lent : (tags kinds depths parents starts sizes : RefT (List ℕ)) → Lists
-lent tags kinds depths parents starts sizes = six (tags .now) (kinds .now) (depths .now) (parents .now) (starts .now) (sizes .now)
 
 -- a number that each list has a place for
 pub record Within (i : ℕ) (l : Lists) : Type 0 where

@@ -4,16 +4,17 @@ ghost use mathlib.Core.Path.{_≡_};
 ghost use Prim.Native.Nat.{_+_, _<_, min};
 ghost use lib.ListN.{length};
 ghost use Rattle.values.specs.Table.{known};
-ghost use Rattle.format.specs.Tree.{kindOf, recordOf};
+ghost use Rattle.format.specs.Tree.{recordOf};
 ghost use Rattle.format.specs.Calls.{places, put};
-ghost use Rattle.reader.specs.Lent.{lent, Within};
+ghost use Rattle.format.specs.Lent.{lent};
+ghost use Rattle.reader.specs.Lent.{Within};
 ghost use Rattle.reader.specs.Filling.{givenBy, Narrow, Fillable, Fills, ItemFillable, ItemFills};
 use format::Record;
+use format::kind_of;
 use octets::Header;
 use octets::read_header;
 use values::Kind;
 use values::KnownKind;
-use values::is_attribute;
 use values::known_kind;
 
 // Where reading stands: the element whose items are read (its tag and the number of its record), the depth of these items, an offset
@@ -83,15 +84,6 @@ fn put_record(
     parents[i] = r.parent;
     starts[i] = r.start;
     sizes[i] = r.size;
-}
-
-fn kind_of(tag: u8) -> u8
-    ensures { λ r. ⌜ r ≡ kindOf tag ⌝ }
-{
-    if is_attribute(tag) {
-        return 1;
-    }
-    if tag == 1 { 2 } else { 0 }
 }
 
 // An accepted object has at most 32,768 octets and half as many records, so that each field has its number whole.

@@ -2,7 +2,7 @@
 ghost use mathlib.Core.Path.{_≡_};
 ghost use Prim.Native.Nat.{_^_, _<_};
 ghost use Rattle.format.specs.Calls.{ReadClaim, ReadAtMostClaim, spanOf, bodyAt};
-ghost use Rattle.reader.specs.Lent.{lent};
+ghost use Rattle.format.specs.Lent.{lent};
 
 mod filling;
 

@@ -6,7 +6,6 @@ use mathlib.Core.Option.{Option, none, some}
 use lib.Dec.{eqb, leb}
 use borrow.Author.Tests.{lt-ltb, le-ltb, ne-eqb}
 use Rattle.values.specs.Table.{attribute}
-use Rattle.format.specs.Tree.{kindOf}
 use Rattle.format.specs.Judge.{isTop, allowed, latest, stageAfter, limit, notAbove, shown}
 use Rattle.records.specs.Rules.{limitAs}
 use Rattle.records.specs.declared.rules.Limit.{Limit}
@@ -53,7 +52,7 @@ module _ (parent tag : ℕ) (t : Bool) (e : t ≡ isTop tag) where
 
 pub ruleset allowed-ways = (allowed-outermost, allowed-zero, allowed-top, allowed-in-top, allowed-table, allowed-other)
 
--- rules 6 and 7, and the kind of a tag
+-- rules 6 and 7
 module _ (tag : ℕ) where
   module _ (h : 0x7F < tag) where
     pub latest-attribute : 0 ≡ latest tag
@@ -63,10 +62,6 @@ module _ (tag : ℕ) where
     pub after-attribute : 0 ≡ stageAfter tag
     unfolding stageAfter attribute
     after-attribute = rw (lt-ltb 0x7F tag h)
-
-    pub kind-attribute : 1 ≡ kindOf tag
-    unfolding kindOf attribute
-    kind-attribute = rw (lt-ltb 0x7F tag h)
 
     pub deep-attribute : (depth : ℕ) → true ≡ (attribute tag || eqb tag 1 || leb depth 16)
     unfolding attribute
@@ -80,14 +75,6 @@ module _ (tag : ℕ) where
     pub after-table : tag ≡ 4 → 1 ≡ stageAfter tag
     unfolding stageAfter attribute
     after-table e = rw e
-
-    pub kind-cdata : tag ≡ 1 → 2 ≡ kindOf tag
-    unfolding kindOf attribute
-    kind-cdata e = rw e
-
-    pub kind-element : (tag ≡ 1 → ⊥) → 0 ≡ kindOf tag
-    unfolding kindOf attribute
-    kind-element e = rw (le-ltb 0x7F tag h, ne-eqb tag 1 e)
 
     pub deep-cdata : (depth : ℕ) → tag ≡ 1 → true ≡ (attribute tag || eqb tag 1 || leb depth 16)
     unfolding attribute
@@ -117,8 +104,6 @@ module _ (tag : ℕ) where
 pub ruleset latest-ways = (latest-attribute, latest-table, latest-language, latest-other)
 
 pub ruleset after-ways = (after-attribute, after-table, after-cdata, after-other)
-
-pub ruleset kind-ways = (kind-attribute, kind-cdata, kind-element)
 
 pub ruleset deep-ways = (deep-attribute, deep-cdata, deep-element)
 

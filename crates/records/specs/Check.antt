@@ -5,7 +5,6 @@ use mathlib.Core.List.{List, []}
 use Prim.Native.Nat.{ℕ, suc, _+_, _-_, _≤_}
 use lib.Dec.{eqb, leb}
 use lib.ListN.{length}
-use denote.Ref.{RefT}
 use Rattle.values.specs.declared.Kind.{Kind}
 use Rattle.values.specs.Table.{known, attribute}
 use Rattle.format.specs.declared.Record.{Record}
@@ -27,10 +26,6 @@ use Rattle.records.specs.declared.check.Reached.the-variants.{Ill, Next}
 unfoldable pub isGiven : Option Items → Bool
 isGiven none = false
 isGiven (some t) = true
-
--- six lent lists as one record
-abbrev pub lists : RefT (List ℕ) → RefT (List ℕ) → RefT (List ℕ) → RefT (List ℕ) → RefT (List ℕ) → RefT (List ℕ) → Lists
-lists a b c d e f = record { tags = a .now; kinds = b .now; depths = c .now; parents = d .now; starts = e .now; sizes = f .now }
 
 -- so many records have a place in each list
 pub record HasPlaces (n : ℕ) (l : Lists) : Type 0 where

@@ -11,16 +11,17 @@ ghost use Rattle.text.specs.Text.{text};
 ghost use Rattle.text.specs.Tokens.{shownLength};
 ghost use Rattle.format.specs.Judge.{shown};
 ghost use Rattle.format.specs.Calls.{row, places, treeGiven};
-ghost use Rattle.records.specs.Check.{isGiven, lists, HasPlaces, octetsIf, heldAs, placedBy, stateAfter, itemOf, itemAs, firstIn, walked, told};
+ghost use Rattle.format.specs.Lent.{lent};
+ghost use Rattle.records.specs.Check.{isGiven, HasPlaces, octetsIf, heldAs, placedBy, stateAfter, itemOf, itemAs, firstIn, walked, told};
 use crate::rules::has_bit;
 use crate::rules::is_allowed;
 use crate::rules::is_depth_allowed;
 use crate::rules::is_short;
-use crate::rules::kind_of;
 use crate::rules::latest_of;
 use crate::rules::stage_after;
 use crate::rules::with_bit;
 use format::Record;
+use format::kind_of;
 use values::Kind;
 use values::KnownKind;
 use values::fits_kind;
@@ -189,8 +190,8 @@ fn record_at(
     sizes: &[u16],
     i: usize,
 ) -> Record
-    requires { ⌜ HasPlaces (i + 1) (lists tags kinds depths parents starts sizes) ⌝ }
-    ensures { λ r. ⌜ r ≡ row (lists (tags .entry) (kinds .entry) (depths .entry) (parents .entry) (starts .entry) (sizes .entry)) i ⌝ }
+    requires { ⌜ HasPlaces (i + 1) (lent tags kinds depths parents starts sizes) ⌝ }
+    ensures { λ r. ⌜ r ≡ row (lent (tags .entry) (kinds .entry) (depths .entry) (parents .entry) (starts .entry) (sizes .entry)) i ⌝ }
 {
     Record {
         tag: tags[i],
@@ -216,8 +217,8 @@ fn check_items(
     at: usize,
     parent: Parent,
 ) -> Reached
-    requires { ⌜ HasPlaces count (lists tags kinds depths parents starts sizes) × (at ≤ count) × (parent .depth ≤ 17) ⌝ }
-    ensures { λ r. ⌜ r ≡ told (walked (lists (tags .entry) (kinds .entry) (depths .entry) (parents .entry) (starts .entry) (sizes .entry)) count (now (octets .entry)) (firstIn parent) (parent .number) at) ⌝ }
+    requires { ⌜ HasPlaces count (lent tags kinds depths parents starts sizes) × (at ≤ count) × (parent .depth ≤ 17) ⌝ }
+    ensures { λ r. ⌜ r ≡ told (walked (lent (tags .entry) (kinds .entry) (depths .entry) (parents .entry) (starts .entry) (sizes .entry)) count (now (octets .entry)) (firstIn parent) (parent .number) at) ⌝ }
 {
     let mut i = at;
     let mut state = State { stage: 0, mask: 0 };
@@ -276,7 +277,7 @@ fn has_places(
     starts: &[u16],
     sizes: &[u16],
 ) -> bool
-    ensures { λ r. ⌜ r ≡ leb count (places (lists (tags .entry) (kinds .entry) (depths .entry) (parents .entry) (starts .entry) (sizes .entry))) ⌝ }
+    ensures { λ r. ⌜ r ≡ leb count (places (lent (tags .entry) (kinds .entry) (depths .entry) (parents .entry) (starts .entry) (sizes .entry))) ⌝ }
 {
     if count > tags.len() {
         return false;
@@ -310,7 +311,7 @@ pub fn is_well_formed(
     sizes: &[u16],
     octets: &[u8],
 ) -> bool
-    ensures { λ r. ⌜ r ≡ isGiven (treeGiven count (lists (tags .entry) (kinds .entry) (depths .entry) (parents .entry) (starts .entry) (sizes .entry)) (now (octets .entry))) ⌝ }
+    ensures { λ r. ⌜ r ≡ isGiven (treeGiven count (lent (tags .entry) (kinds .entry) (depths .entry) (parents .entry) (starts .entry) (sizes .entry)) (now (octets .entry))) ⌝ }
 {
     if count == 0 {
         return false;

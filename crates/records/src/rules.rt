@@ -6,7 +6,6 @@ ghost use Prim.Native.Nat.{_-_};
 ghost use lib.Dec.{eqb, leb};
 ghost use Rattle.values.specs.Table.{attribute};
 ghost use Rattle.text.specs.Tokens.{entries, shownLength};
-ghost use Rattle.format.specs.Tree.{kindOf};
 ghost use Rattle.format.specs.Judge.{isTop, allowed, latest, stageAfter, limit, shown};
 ghost use Rattle.records.specs.Rules.{hasBit, withBit, limitAs};
 use text::is_shown;
@@ -113,19 +112,6 @@ pub fn with_bit(mask: u64, tag: u8) -> u64
         return mask;
     }
     mask | (1u64 << (tag - 0x80))
-}
-
-// The kind that the record of a tag shows.
-pub fn kind_of(tag: u8) -> u8
-    ensures { λ r. ⌜ r ≡ kindOf tag ⌝ }
-{
-    if tag > 0x7F {
-        return 1;
-    }
-    if tag == 1 {
-        return 2;
-    }
-    0
 }
 
 // How long a shown text may be.

@@ -25,7 +25,7 @@ use Rattle.format.specs.Calls.{Lists, places, lay, Lent, lentBy, storedWithin, 
 use Rattle.format.proofs.Lays.{places-lay}
 use Rattle.writer.specs.declared.Standing.{Standing}
 use Rattle.writer.specs.declared.Standing.the-variants.{Bad, Misfit, Fits}
-use Rattle.writer.specs.Load.{surveyed}
+use Rattle.writer.specs.Survey.{surveyed}
 use Rattle.same.specs.Order.{firstBadOr, firstOr}
 use Rattle.writer.proofs.Normalised.{Fit, fit, Written, written, written-octets}
 
@@ -294,9 +294,3 @@ module _ (a b : List ℕ) (l : Lists) (store roomA roomB : List ℕ) (v : survey
 
             pub compare-different : q ≡ false → SameClaim a b l l₂ store store₂ roomA roomA₁ roomB roomB₂ Different
             compare-different y = compared Different (rw y)
-
--- ---- the places, counted once
-
-pub counted : (o : List ℕ) (l : Lists) (n store room : ℕ) → n ≡ places l → (v : Standing) → v ≡ surveyed (record { records = n; store = store; room = room }) (judge o)
-    → v ≡ surveyed (record { records = places l; store = store; room = room }) (judge o)
-counted o l n store room e v h = h ∙ ap (λ x. surveyed (record { records = x; store = store; room = room }) (judge o)) e

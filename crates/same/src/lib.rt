@@ -2,9 +2,9 @@
 ghost use mathlib.Core.Path.{_≡_};
 ghost use Rattle.format.specs.Judge.{judge};
 ghost use Rattle.format.specs.Calls.{lentBy, sameOctets, SameClaim};
-ghost use Rattle.reader.specs.Lent.{lent};
+ghost use Rattle.format.specs.Lent.{lent};
 ghost use Rattle.writer.specs.declared.Standing.the-variants.{Fits};
-ghost use Rattle.writer.specs.Load.{surveyed};
+ghost use Rattle.writer.specs.Survey.{surveyed};
 ghost use Rattle.same.specs.Order.{firstBadOr, firstOr};
 use format::Refusal;
 use format::SameAnswer;

@@ -2,8 +2,7 @@
 ghost use mathlib.Core.Path.{_≡_};
 ghost use Prim.Native.Nat.{_<_};
 ghost use Rattle.text.specs.Text.{text};
-ghost use Rattle.reader.specs.Lent.{lent};
-ghost use Rattle.records.specs.Check.{lists};
+ghost use Rattle.format.specs.Lent.{lent};
 ghost use Rattle.spi_c.specs.Packed.{packed, packedOutcome, packedSame, packedSpan, Small, SmallSame, SmallSpan};
 ghost use Rattle.spi_c.specs.Claims.{ReadsC, SpansC, WritesC, NormalisesC, SameC};
 use format::Outcome;
@@ -85,7 +84,7 @@ pub extern "C" fn spi_write(
     octets: &[u8],
     room: &mut [u8],
 ) -> u64
-    ensures { λ r. ⌜ WritesC count (lists (tags .entry) (kinds .entry) (depths .entry) (parents .entry) (starts .entry) (sizes .entry)) (now (octets .entry)) (now (room .entry)) (now (room .exit)) r ⌝ }
+    ensures { λ r. ⌜ WritesC count (lent (tags .entry) (kinds .entry) (depths .entry) (parents .entry) (starts .entry) (sizes .entry)) (now (octets .entry)) (now (room .entry)) (now (room .exit)) r ⌝ }
 {
     let answer = writer::write(
         count,

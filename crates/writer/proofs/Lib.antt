@@ -17,11 +17,11 @@ pub mod Parts
 pub mod Adding
 pub mod Measuring
 pub mod WholeSizes
-pub mod Flat
 pub mod Storing
-pub mod Running
-pub mod Relaid
-pub mod Loads
+pub mod Surveying
+pub mod Pieces
+pub mod Laying
+pub mod WholeLaid
 pub mod Normalised
 pub mod Theorems
 pub mod Miswritten

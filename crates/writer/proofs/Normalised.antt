@@ -1,4 +1,4 @@
--- The ways through normalise: what was loaded is written, and what is written from it is the object's normal form.
+-- The ways through normalise: what was laid is written, and what is written from it is the object's normal form.
 use mathlib.Core.Path.{_≡_, refl, sym, ap, ap₂, subst, _∙_}
 use mathlib.Core.Bool.{Bool, true, false, _&&_}
 use mathlib.Core.Option.{some}
@@ -13,9 +13,6 @@ use Rattle.octets.specs.Numbers.{Octets}
 use Rattle.octets.proofs.Tests.{and-left, and-right}
 use Rattle.octets.proofs.Lists.{sets-none, part-of-sets}
 use Rattle.format.specs.declared.Refusal.{Refusal}
-use Rattle.format.specs.declared.Counts.{Counts}
-use Rattle.format.specs.declared.ReadAnswer.{ReadAnswer}
-use Rattle.format.specs.declared.ReadAnswer.the-variants.{Records, NotRead}
 use Rattle.format.specs.declared.WriteAnswer.{WriteAnswer}
 use Rattle.format.specs.declared.WriteAnswer.the-variants.{Octets as Handed, NotWritten}
 use Rattle.format.specs.Answers.{refusal}
@@ -27,15 +24,19 @@ use Rattle.format.specs.Loaded.{storeOf, loadedOf}
 use Rattle.format.specs.Writer.{rebuilt}
 use Rattle.format.specs.Calls.{Lists, places, row, lay, Lent, lentBy, roomy, storedWithin, fitsLent, misfit, normalAnswer, handed, loadedRecords, treeGiven, writeAnswer, writeOctets, WriteClaim, NormaliseClaim}
 use Rattle.format.proofs.Lays.{places-lay, tabled-laid}
+use Rattle.format.proofs.Spans.{records-count}
 use Rattle.format.proofs.Calls.{loaded-rebuilt}
-use Rattle.format.proofs.Loading.{loaded-means}
+use Rattle.format.proofs.Loading.{loaded-means, loaded-count}
+use Rattle.writer.specs.declared.Standing.{Standing}
+use Rattle.writer.specs.declared.Standing.the-variants.{Bad, Misfit, Fits}
 use Rattle.writer.specs.declared.emit.Reached.{Reached}
 use Rattle.writer.specs.Normal.{laterOctets}
 use Rattle.writer.specs.Steps.{itemsFrom, Holding, Ordered, Fitting, Emits}
-use Rattle.writer.specs.Load.{lentTo, unfit, loadAnswer, LoadClaim}
+use Rattle.writer.specs.Survey.{surveyed}
+use Rattle.writer.specs.Lay.{Layable, LaidTree, LaysTree}
 use Rattle.writer.proofs.Rows.{fourIn}
 use Rattle.writer.proofs.Whole.{tree-holding, tree-ordered, tree-fits, tree-written}
-use Rattle.writer.proofs.Flat.{loaded-many}
+use Rattle.writer.proofs.WholeSizes.{store-less}
 
 -- the parts of an object's fit
 pub record Fit (lent : Lent) (t : Items) : Type 0 where
@@ -43,6 +44,7 @@ pub record Fit (lent : Lent) (t : Items) : Type 0 where
   pub store : length (storeOf t) ≤ lent .store
   pub roomy : roomy (lent .room) (normalOf t) ≡ true
   pub room : length (normalOf t) ≤ lent .room
+  pub small : length (normalOf t) ≤ 32_768
 
 pub fit : (lent : Lent) (t : Items) → fitsLent lent t ≡ true → Fit lent t
 unfolding fitsLent storedWithin roomy
@@ -51,121 +53,159 @@ fit lent t h =
     let b = leb (length (storeOf t)) (lent .store) in
     let c = leb (length (normalOf t)) (min (lent .room) 32_768) in
     let w = and-right b c (and-right a (b && c) h) in
+    let less = leb-true (length (normalOf t)) (min (lent .room) 32_768) w in
     record {
       records = leb-true (count t) (lent .records) (and-left a (b && c) h);
       store = leb-true (length (storeOf t)) (lent .store) (and-left b c (and-right a (b && c) h));
       roomy = w;
-      room = omega (arith, leb-true (length (normalOf t)) (min (lent .room) 32_768) w);
+      room = omega (arith, less);
+      small = omega (arith, less);
     }
 
-module _ (o : List ℕ) (l l′ : Lists) (store store′ room : List ℕ) where
-  abbrev lent : Lent
-  lent = lentBy l store room
+-- ---- surveyed
 
-  pub normalise-refused : (v : ReadAnswer) → LoadClaim o (length room) l l′ store store′ v → (r : Refusal) → v ≡ NotRead r → NormaliseClaim o l l′ store store′ room room (NotWritten r)
-  unfolding loadAnswer unfit normalAnswer misfit handed
-  normalise-refused v claim r s = go (judge o) refl
+-- the places, counted once
+pub counted : (o : List ℕ) (l : Lists) (n store room : ℕ) → n ≡ places l → (v : Standing) → v ≡ surveyed (record { records = n; store = store; room = room }) (judge o)
+    → v ≡ surveyed (record { records = places l; store = store; room = room }) (judge o)
+counted o l n store room e v h = h ∙ ap (λ x. surveyed (record { records = x; store = store; room = room }) (judge o)) e
+
+-- an object that fits is accepted
+pub record Suits (o : List ℕ) (lent : Lent) : Type 0 where
+  pub tree : Items
+  pub judged : judge o ≡ accepted tree
+  pub fits : fitsLent lent tree ≡ true
+
+module _ (o : List ℕ) (lent : Lent) (v : Standing) (e : v ≡ surveyed lent (judge o)) where
+  pub suits : v ≡ Fits → Suits o lent
+  unfolding surveyed fitsLent
+  suits q = go (judge o) refl
     where
-      c : LoadClaim o (length room) l l′ store store′ (NotRead r)
-      c = subst (λ x. LoadClaim o (length room) l l′ store store′ x) s claim
+      on : (t : Items) → judge o ≡ accepted t → (x : Bool) → leb (count t) (lent .records) ≡ x → (y : Bool) → storedWithin lent t ≡ y → Suits o lent
+      on t j true p true m = record { tree = t; judged = j; fits = rw (p, m) }
+      on t j true p false m = let w : Fits ≡ Misfit (refusal 15 0) = sym q ∙ e ∙ rw (j, p, m) in let z : _≡_ {A = ℕ} 0 1 = cc in absurd (omega arith)
+      on t j false p y m = let w : Fits ≡ Misfit (refusal 14 0) = sym q ∙ e ∙ rw (j, p) in let z : _≡_ {A = ℕ} 0 1 = cc in absurd (omega arith)
 
-      by : (t : Items) → judge o ≡ accepted t → (b : Bool) → fitsLent lent t ≡ b → (k : Bool) → leb (count t) (places l) ≡ k → NormaliseClaim o l l′ store store′ room room (NotWritten r)
-      by t j true f k p = let w : NotRead r ≡ Records (record { records = count t }) = rw (j, f) at (c .answers) in let z : _≡_ {A = ℕ} 0 1 = cc in absurd (omega arith)
-      by t j false f true p =
-          let w : NotRead r ≡ NotRead (refusal 15 0) = rw (j, f, p) at (c .answers) in
-          let e : r ≡ refusal 15 0 = cc in
-          record { answers = rw (j, f, p) (ap NotWritten e); leavesLists = c .leavesLists; leavesStore = c .leavesStore; leavesRoom = rw (j, f) (sym (sets-none room 0)) }
-      by t j false f false p =
-          let w : NotRead r ≡ NotRead (refusal 14 0) = rw (j, f, p) at (c .answers) in
-          let e : r ≡ refusal 14 0 = cc in
-          record { answers = rw (j, f, p) (ap NotWritten e); leavesLists = c .leavesLists; leavesStore = c .leavesStore; leavesRoom = rw (j, f) (sym (sets-none room 0)) }
+      go : (k : Judged) → judge o ≡ k → Suits o lent
+      go (refused x) j = let w : Fits ≡ Bad x = sym q ∙ e ∙ rw j in let z : _≡_ {A = ℕ} 0 1 = cc in absurd (omega arith)
+      go (accepted t) j = on t j (leb (count t) (lent .records)) refl (storedWithin lent t) refl
 
-      go : (j : Judged) → judge o ≡ j → NormaliseClaim o l l′ store store′ room room (NotWritten r)
+-- ---- refused
+
+module _ (o : List ℕ) (l : Lists) (store room : List ℕ) (v : Standing) (e : v ≡ surveyed (lentBy l store room) (judge o)) where
+  -- nothing is touched where the judgement refuses, or where the object doesn't fit
+  untouched-refused : (r : Refusal) → judge o ≡ refused r → NormaliseClaim o l l store store room room (NotWritten r)
+  unfolding normalAnswer handed lay
+  untouched-refused r j = record { answers = rw j; leavesLists = rw j; leavesStore = rw j (sym (sets-none store 0)); leavesRoom = rw j (sym (sets-none room 0)) }
+
+  untouched-misfit : (t : Items) → judge o ≡ accepted t → fitsLent (lentBy l store room) t ≡ false → (r : Refusal) → NotWritten r ≡ misfit (lentBy l store room) t
+      → NormaliseClaim o l l store store room room (NotWritten r)
+  unfolding normalAnswer handed lay
+  untouched-misfit t j f r q = record { answers = rw (j, f) q; leavesLists = rw (j, f); leavesStore = rw (j, f) (sym (sets-none store 0)); leavesRoom = rw (j, f) (sym (sets-none room 0)) }
+
+  pub normalise-bad : (r : Refusal) → v ≡ Bad r → NormaliseClaim o l l store store room room (NotWritten r)
+  unfolding surveyed
+  normalise-bad r q = go (judge o) refl
+    where
+      on : (t : Items) → judge o ≡ accepted t → (x : Bool) → leb (count t) (places l) ≡ x → (y : Bool) → storedWithin (lentBy l store room) t ≡ y
+          → NormaliseClaim o l l store store room room (NotWritten r)
+      on t j true p true m = let w : Bad r ≡ Fits = sym q ∙ e ∙ rw (j, p, m) in let z : _≡_ {A = ℕ} 0 1 = cc in absurd (omega arith)
+      on t j true p false m = let w : Bad r ≡ Misfit (refusal 15 0) = sym q ∙ e ∙ rw (j, p, m) in let z : _≡_ {A = ℕ} 0 1 = cc in absurd (omega arith)
+      on t j false p y m = let w : Bad r ≡ Misfit (refusal 14 0) = sym q ∙ e ∙ rw (j, p) in let z : _≡_ {A = ℕ} 0 1 = cc in absurd (omega arith)
+
+      go : (k : Judged) → judge o ≡ k → NormaliseClaim o l l store store room room (NotWritten r)
       go (refused x) j =
-          let w : NotRead r ≡ NotRead x = rw j at (c .answers) in
-          let e : r ≡ x = cc in
-          record { answers = rw j (ap NotWritten e); leavesLists = c .leavesLists; leavesStore = c .leavesStore; leavesRoom = rw j (sym (sets-none room 0)) }
-      go (accepted t) j = by t j (fitsLent lent t) refl (leb (count t) (places l)) refl
+          let w : Bad r ≡ Bad x = sym q ∙ e ∙ rw j in
+          let y : x ≡ r = cc in
+          untouched-refused r (j ∙ ap refused y)
+      go (accepted t) j = on t j (leb (count t) (places l)) refl (storedWithin (lentBy l store room) t) refl
 
-  -- what loading left
-  record Left (c : Counts) : Type 0 where
-    tree : Items
-    judged : judge o ≡ accepted tree
-    fits : fitsLent lent tree ≡ true
-    many : c .records ≡ count tree
-    lists : l′ ≡ lay 0 (loadedRecords tree) l
-    stores : store′ ≡ sets store 0 (storeOf tree)
+  pub normalise-misfit : (r : Refusal) → v ≡ Misfit r → NormaliseClaim o l l store store room room (NotWritten r)
+  unfolding surveyed fitsLent misfit
+  normalise-misfit r q = go (judge o) refl
+    where
+      on : (t : Items) → judge o ≡ accepted t → (x : Bool) → leb (count t) (places l) ≡ x → (y : Bool) → storedWithin (lentBy l store room) t ≡ y
+          → NormaliseClaim o l l store store room room (NotWritten r)
+      on t j true p true m = let w : Misfit r ≡ Fits = sym q ∙ e ∙ rw (j, p, m) in let z : _≡_ {A = ℕ} 0 1 = cc in absurd (omega arith)
+      on t j true p false m =
+          let w : Misfit r ≡ Misfit (refusal 15 0) = sym q ∙ e ∙ rw (j, p, m) in
+          let y : r ≡ refusal 15 0 = cc in
+          untouched-misfit t j (rw (p, m)) r (rw p (ap NotWritten y))
+      on t j false p y m =
+          let w : Misfit r ≡ Misfit (refusal 14 0) = sym q ∙ e ∙ rw (j, p) in
+          let y : r ≡ refusal 14 0 = cc in
+          untouched-misfit t j (rw p) r (rw p (ap NotWritten y))
 
-  module _ (v : ReadAnswer) (claim : LoadClaim o (length room) l l′ store store′ v) (c : Counts) (w : v ≡ Records c) where
-    k : LoadClaim o (length room) l l′ store store′ (Records c)
-    k = subst (λ x. LoadClaim o (length room) l l′ store store′ x) w claim
+      go : (k : Judged) → judge o ≡ k → NormaliseClaim o l l store store room room (NotWritten r)
+      go (refused x) j = let w : Misfit r ≡ Bad x = sym q ∙ e ∙ rw j in let z : _≡_ {A = ℕ} 0 1 = cc in absurd (omega arith)
+      go (accepted t) j = on t j (leb (count t) (places l)) refl (storedWithin (lentBy l store room) t) refl
 
-    left : Left c
-    unfolding loadAnswer unfit handed
-    left = go (judge o) refl
-      where
-        by : (t : Items) → judge o ≡ accepted t → (b : Bool) → fitsLent lent t ≡ b → (p : Bool) → leb (count t) (places l) ≡ p → Left c
-        by t j true f p q =
-            let w : Records c ≡ Records (record { records = count t }) = rw (j, f) at (k .answers) in
-            let e : c ≡ record { records = count t } = cc in
-            record { tree = t; judged = j; fits = f; many = ap (λ x. x .records) e; lists = rw (j, f) at (k .leavesLists); stores = rw (j, f) at (k .leavesStore) }
-        by t j false f true q = let w : Records c ≡ NotRead (refusal 15 0) = rw (j, f, q) at (k .answers) in let z : _≡_ {A = ℕ} 0 1 = cc in absurd (omega arith)
-        by t j false f false q = let w : Records c ≡ NotRead (refusal 14 0) = rw (j, f, q) at (k .answers) in let z : _≡_ {A = ℕ} 0 1 = cc in absurd (omega arith)
+-- ---- laid and written
 
-        go : (j : Judged) → judge o ≡ j → Left c
-        go (refused x) j = let w : Records c ≡ NotRead x = rw j at (k .answers) in let z : _≡_ {A = ℕ} 0 1 = cc in absurd (omega arith)
-        go (accepted t) j = by t j (fitsLent lent t) refl (leb (count t) (places l)) refl
+module _ (o : List ℕ) (os : Octets o) (l : Lists) (store room : List ℕ) (v : surveyed (lentBy l store room) (judge o) ≡ Fits) where
+  found : Suits o (lentBy l store room)
+  found = suits o (lentBy l store room) (surveyed (lentBy l store room) (judge o)) refl v
 
-    abbrev t : Items
-    t = left .tree
+  abbrev t : Items
+  t = found .tree
+
+  fitting : Fit (lentBy l store room) t
+  fitting = fit (lentBy l store room) t (found .fits)
+
+  pub normal-can : Layable o l store
+  normal-can =
+      let f = fitting in
+      record { tree = t; accepts = found .judged; few = f .records; room = f .store; small = omega (arith, f .small, store-less o t os (found .judged)) }
+
+  module _ (l′ : Lists) (store′ : List ℕ) (n : ℕ) (c : LaysTree o l l′ store store′ n) where
+    laid : LaidTree t l l′ store store′ n
+    unfolding LaysTree
+    laid = c t (found .judged)
 
     abbrev rest : List ℕ
     rest = drop (0 + length (storeOf t)) store
 
     -- the loaded records, over the store, are the loaded tree
-    given : Octets o → treeGiven (c .records) l′ store′ ≡ some (loadedOf t)
+    given : treeGiven n l′ store′ ≡ some (loadedOf t)
     unfolding treeGiven loadedRecords
-    given os =
-        let f = fit lent t (left .fits) in
-        let p : places l′ ≡ places l = ap places (left .lists) ∙ places-lay 0 (loadedRecords t) l in
-        let b : leb (c .records) (places l′) ≡ true = le-leb (c .records) (places l′) (omega (arith, f .records, left .many)) in
-        let s : store′ ≡ storeOf t ++ rest = left .stores ∙ sets-eq (storeOf t) store 0 (omega (arith, f .store)) in
-        let n : count t ≡ length (loadedRecords t) = sym (loaded-many o t os (left .judged)) in
-        let d = tabled-laid (loadedRecords t) l l′ (count t) (left .lists) n (f .records) in
-        let r : rebuilt (row l′) (c .records) store′ ≡ some (loadedOf t) =
-        ap₂ (λ x y. rebuilt (row l′) x y) (left .many) s ∙ loaded-rebuilt o t os (left .judged) (row l′) rest d in
+    given =
+        let f = fitting in
+        let p : places l′ ≡ places l = ap places (laid .lists) ∙ places-lay 0 (loadedRecords t) l in
+        let b : leb n (places l′) ≡ true = le-leb n (places l′) (omega (arith, f .records, laid .many)) in
+        let s : store′ ≡ storeOf t ++ rest = laid .holds ∙ sets-eq (storeOf t) store 0 (omega (arith, f .store)) in
+        let m : count t ≡ length (loadedRecords t) = sym (records-count (loadedOf t) 1 0 0 ∙ loaded-count o t os (found .judged)) in
+        let d = tabled-laid (loadedRecords t) l l′ (count t) (laid .lists) m (f .records) in
+        let r : rebuilt (row l′) n store′ ≡ some (loadedOf t) =
+        ap₂ (λ x y. rebuilt (row l′) x y) (laid .many) s ∙ loaded-rebuilt o t os (found .judged) (row l′) rest d in
         rw b r
 
     -- the normal form of the loaded tree is the object's, so that it fits
-    given-fit : Octets o → roomy (length room) (encode (means [] (loadedOf t))) ≡ true
-    given-fit os = rw (loaded-means o t os (left .judged)) (fit lent t (left .fits) .roomy)
+    given-fit : roomy (length room) (encode (means [] (loadedOf t))) ≡ true
+    given-fit = rw (loaded-means o t os (found .judged)) (fitting .roomy)
 
-    pub load-holding : Octets o → Holding (c .records) (fourIn l′) store′
-    load-holding os = tree-holding (c .records) l′ store′ (loadedOf t) (given os)
+    pub normal-holding : Holding n (fourIn l′) store′
+    normal-holding = tree-holding n l′ store′ (loadedOf t) given
 
-    pub load-ordered : Octets o → Ordered 0 (itemsFrom (fourIn l′) (c .records) store′ 1 0 .0)
-    load-ordered os = tree-ordered (c .records) l′ store′ (loadedOf t) (given os)
+    pub normal-ordered : Ordered 0 (itemsFrom (fourIn l′) n store′ 1 0 .0)
+    normal-ordered = tree-ordered n l′ store′ (loadedOf t) given
 
-    pub load-fits : Octets o → Fitting (laterOctets 0 (itemsFrom (fourIn l′) (c .records) store′ 1 0 .0)) 0 (length room)
-    load-fits os = tree-fits (c .records) l′ store′ (loadedOf t) (given os) room (given-fit os)
+    pub normal-fits : Fitting (laterOctets 0 (itemsFrom (fourIn l′) n store′ 1 0 .0)) 0 (length room)
+    normal-fits = tree-fits n l′ store′ (loadedOf t) given room given-fit
 
-    claimed : Octets o → (room′ : List ℕ) (a : WriteAnswer) → WriteClaim (c .records) l′ store′ room room′ a → NormaliseClaim o l l′ store store′ room room′ a
+    claimed : (room′ : List ℕ) (a : WriteAnswer) → WriteClaim n l′ store′ room room′ a → NormaliseClaim o l l′ store store′ room room′ a
     unfolding writeAnswer writeOctets normalAnswer handed
-    claimed os room′ a w =
-        let f = fit lent t (left .fits) in
-        let m : means [] (loadedOf t) ≡ meaningOf t = loaded-means o t os (left .judged) in
-        let g : treeGiven (c .records) l′ store′ ≡ some (loadedOf t) = given os in
+    claimed room′ a w =
+        let f = fitting in
+        let m : means [] (loadedOf t) ≡ meaningOf t = loaded-means o t os (found .judged) in
+        let g : treeGiven n l′ store′ ≡ some (loadedOf t) = given in
         record {
-          answers = (rw (g, m, f .roomy) at (w .answers)) ∙ rw (left .judged, left .fits);
-          leavesLists = rw (left .judged, left .fits) (left .lists);
-          leavesStore = rw (left .judged, left .fits) (left .stores);
-          leavesRoom = (rw (g, m, f .roomy) at (w .leaves)) ∙ rw (left .judged, left .fits);
+          answers = (rw (g, m, f .roomy) at (w .answers)) ∙ rw (found .judged, found .fits);
+          leavesLists = rw (found .judged, found .fits) (laid .lists);
+          leavesStore = rw (found .judged, found .fits) (laid .holds);
+          leavesRoom = (rw (g, m, f .roomy) at (w .leaves)) ∙ rw (found .judged, found .fits);
         }
 
-    pub normalise-written : Octets o → (room′ : List ℕ) (r : Reached) → Emits (itemsFrom (fourIn l′) (c .records) store′ 1 0) 0 0 room room′ r
-        → NormaliseClaim o l l′ store store′ room room′ (Handed (r .end))
-    normalise-written os room′ r g =
-        claimed os room′ (Handed (r .end)) (tree-written (c .records) l′ store′ (loadedOf t) (given os) room (given-fit os) room′ r g)
+    pub normal-written : (room′ : List ℕ) (r : Reached) → Emits (itemsFrom (fourIn l′) n store′ 1 0) 0 0 room room′ r → NormaliseClaim o l l′ store store′ room room′ (Handed (r .end))
+    normal-written room′ r g = claimed room′ (Handed (r .end)) (tree-written n l′ store′ (loadedOf t) given room given-fit room′ r g)
 
 -- ---- what a normal form that was written left
 

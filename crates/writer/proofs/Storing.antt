@@ -1,47 +1,30 @@
--- The ways through the functions of store.rt that store one record.
-use mathlib.Core.Path.{_≡_, refl, sym, ap, _∙_, subst}
+-- The ways through the functions of store.rt.
+use mathlib.Core.Path.{_≡_, refl, sym, _∙_, subst}
 use mathlib.Core.Bool.{Bool, true, false}
 use mathlib.Core.Option.{some, Option·some-injective}
 use mathlib.Core.List.{List}
-use Prim.Native.Nat.{ℕ, _+_, _-_, _≤_}
-use native.Mathlib.Nat.{add-zero, add-sub-cancel-left}
+use Prim.Native.Nat.{ℕ, _+_, _≤_}
 use native.Mathlib.Omega.{arith}
-use lib.ListN.{length, take, drop, getD, set}
+use lib.ListN.{length}
 use lib.Seq.{sets}
 use borrow.Author.Tests.{le-leb}
-use mir.Syntax.{w16}
-use mir.Val.{Fits}
 use Rattle.text.specs.Tokens.{Entries, entries, expanded}
 use Rattle.text.specs.declared.Expanded.{Expanded}
 use Rattle.text.specs.declared.Expanded.the-variants as ofText
 use Rattle.text.specs.Calls.{ExpandClaim}
 use Rattle.values.specs.declared.Kind.{Kind}
 use Rattle.values.specs.declared.Kind.the-variants.{HoldsItems, HoldsTokens, HoldsText, HoldsPlain, HoldsTime, HoldsBearer, HoldsNumber}
-use Rattle.values.specs.declared.KnownKind.{KnownKind}
-use Rattle.values.specs.declared.KnownKind.the-variants.{Unknown, Known}
 use Rattle.values.specs.declared.Put.{Put}
 use Rattle.values.specs.declared.Put.the-variants.{Done, NoRoom, Invalid}
-use Rattle.values.specs.Table.{known}
 use Rattle.values.specs.Values.{fits, meant, octetsOf}
-use Rattle.values.specs.Calls.{knownKind, normalOctets, putAnswer, putOut, Puts}
-use Rattle.format.specs.Judge.{isItems, isText}
+use Rattle.values.specs.Calls.{normalOctets, putAnswer, putOut, Puts}
+use Rattle.format.specs.Judge.{isText}
 use Rattle.format.specs.Loaded.{stored}
-use Rattle.writer.specs.Store.{storedAs, takenAs, startAs, kindUnder, partIn, taken, takenAt, kindAt, ValueStorable, BodyStorable, BodyStored, RecordStorable, RecordStored}
+use Rattle.writer.specs.Store.{ValueStorable, BodyStorable, BodyStored}
 use Rattle.text.proofs.Laws.{done-end, done-out, none-room}
-use Rattle.values.proofs.Laws.{known-kind, unknown-kind, normal-proper}
+use Rattle.values.proofs.Laws.{normal-proper}
 use Rattle.values.proofs.Laws as laws
 use Rattle.format.proofs.Means.{text-known}
-
--- ---- kinds
-
-module _ (parent tag : ℕ) (r : KnownKind) (e : r ≡ knownKind parent tag) where
-  pub kind-none : r ≡ Unknown → HoldsItems ≡ storedAs (known parent tag)
-  unfolding storedAs
-  kind-none q = rw (unknown-kind parent tag r e q)
-
-  pub kind-some : (k : Kind) → r ≡ Known k → k ≡ storedAs (known parent tag)
-  unfolding storedAs
-  kind-some k q = rw (known-kind parent tag r e k q)
 
 -- ---- a text
 
@@ -105,51 +88,4 @@ module _ (table : List ℕ) (kind : Kind) (body store : List ℕ) (at : ℕ) (s 
   pub body-value-stored : b ≡ false → (store′ : List ℕ) (end : ℕ) → BodyStored (normalOctets kind body) store store′ at end → BodyStored (stored (entries table) (some kind) body) store store′ at end
   body-value-stored q store′ end r = rw (stored-value (entries table) kind body (sym e ∙ q)) r
 
--- ---- a record
-
-module _ (object table tags parents starts sizes store : List ℕ) (i at : ℕ) (s : RecordStorable object table tags parents starts sizes store i at) (parent : ℕ) (above : parent ≡ getD parents i 0) (kind : Kind)
-    (k : kind ≡ storedAs (known (getD tags parent 0) (getD tags i 0))) (b : Bool) (e : b ≡ isItems (some kind)) where
-  kind-is : kindAt tags parents i ≡ kind
-  unfolding kindUnder
-  kind-is = rw (sym above, sym k)
-
-  -- one that holds items
-  pub record-held : b ≡ true → RecordStored object table tags parents starts (set starts i 0) sizes (set sizes i 0) store store i at at
-  unfolding taken takenAs startAs
-  record-held q = let h : isItems (some kind) ≡ true = sym e ∙ q in record { ends = rw (kind-is, h) (sym (add-zero at)); begins = rw (kind-is, h); measures = rw (kind-is, h); holds = rw (kind-is, h) }
-
-  -- any other
-  module _ (q : b ≡ false) (from size : ℕ) (f : from ≡ getD starts i 0) (z : size ≡ getD sizes i 0) where
-    abbrev part : List ℕ
-    part = take (from + size - from) (drop from object)
-
-    part-is : part ≡ partIn object (getD starts i 0) (getD sizes i 0)
-    part-is = ap (λ n. take n (drop from object)) (add-sub-cancel-left from size) ∙ rw (f, z)
-
-    taken-is : takenAt object table tags parents starts sizes i ≡ stored (entries table) (some kind) part
-    unfolding taken takenAs
-    taken-is = let h : isItems (some kind) ≡ false = sym e ∙ q in rw (kind-is, h, part-is)
-
-    pub record-body : BodyStorable table kind part store at
-    record-body = record {
-      fit = subst (λ o. fits kind o ≡ true) (sym part-is) (subst (λ x. fits x (partIn object (getD starts i 0) (getD sizes i 0)) ≡ true) kind-is (s .fit));
-      room = subst (λ o. at + length o ≤ length store) taken-is (s .room);
-    }
-
-    module _ (store′ : List ℕ) (end : ℕ) (r : BodyStored (stored (entries table) (some kind) part) store store′ at end) where
-      end-is : end ≡ at + length (takenAt object table tags parents starts sizes i)
-      end-is = r .ends ∙ ap (λ o. at + length o) (sym taken-is)
-
-      pub record-fits : Fits w16 (end - at)
-      record-fits = record { fits = omega (arith, end-is, s .small) }
-
-      pub record-stored : RecordStored object table tags parents starts (set starts i at) sizes (set sizes i (end - at)) store store′ i at end
-      unfolding startAs
-      record-stored =
-          let h : isItems (some kind) ≡ false = sym e ∙ q in
-          let n : end - at ≡ length (takenAt object table tags parents starts sizes i) = omega (arith, end-is) in
-          record { ends = end-is; begins = rw (kind-is, h); measures = ap (set sizes i) n; holds = r .holds ∙ ap (sets store at) (sym taken-is) }
-
-pub ruleset storing-ways = (kind-none, kind-some, text-done, text-no-room, value-done, value-no-room, value-invalid, body-text, body-value, body-text-stored, body-value-stored)
-
-pub ruleset record-ways = (record-held, record-body)
+pub ruleset storing-ways = (text-done, text-no-room, value-done, value-no-room, value-invalid, body-text, body-value, body-text-stored, body-value-stored)

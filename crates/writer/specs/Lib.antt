@@ -4,4 +4,5 @@ pub mod Theorems
 pub mod Measure
 pub mod Sizes
 pub mod Store
-pub mod Load
+pub mod Survey
+pub mod Lay

@@ -2,29 +2,32 @@
 // checked, then measured, and only what is known to fit the room is written. An object has one normal form with all objects that mean the same: it is loaded as
 // records that are known to be well formed and to fit, so they are written without being looked at before.
 ghost use mathlib.Core.Path.{_≡_};
-ghost use Rattle.format.specs.declared.WriteAnswer.the-variants.{NotWritten};
+ghost use Rattle.format.specs.declared.WriteAnswer.the-variants.{NotWritten, Octets};
 ghost use Rattle.format.specs.Answers.{refusal};
-ghost use Rattle.format.specs.Calls.{WriteClaim, NormaliseClaim};
-ghost use Rattle.reader.specs.Lent.{lent};
-ghost use Rattle.records.specs.Check.{lists};
+ghost use Rattle.format.specs.Judge.{judge};
+ghost use Rattle.format.specs.Calls.{lentBy, WriteClaim, NormaliseClaim};
+ghost use Rattle.format.specs.Lent.{lent};
+ghost use Rattle.writer.specs.declared.Standing.the-variants.{Fits};
+ghost use Rattle.writer.specs.Survey.{surveyed};
 
 mod emit;
+mod fitting;
 mod frame;
 mod item;
-mod load;
+mod lay;
 mod measure;
 mod size;
 mod store;
 mod table;
 
 use crate::emit::emit_items;
-use crate::load::load;
+use crate::lay::lay;
 use crate::size::Sized;
 use crate::size::size_items;
-use format::ReadAnswer;
+pub use fitting::survey;
 use format::Refusal;
 use format::WriteAnswer;
-pub use load::survey;
+use reader::places;
 use records::is_well_formed;
 
 // An object held against what is lent: refused by the judgement; accepted, but without places for it (14) or room (15); or it fits.
@@ -53,7 +56,7 @@ pub fn write(
     octets: &[u8],
     room: &mut [u8],
 ) -> WriteAnswer
-    ensures { λ r. ⌜ WriteClaim count (lists (tags .entry) (kinds .entry) (depths .entry) (parents .entry) (starts .entry) (sizes .entry)) (now (octets .entry)) (now (room .entry)) (now (room .exit)) r ⌝ }
+    ensures { λ r. ⌜ WriteClaim count (lent (tags .entry) (kinds .entry) (depths .entry) (parents .entry) (starts .entry) (sizes .entry)) (now (octets .entry)) (now (room .entry)) (now (room .exit)) r ⌝ }
 {
     if is_well_formed(count, tags, kinds, depths, parents, starts, sizes, octets) {
         match size_items(count, tags, depths, starts, sizes, octets, 0, 1, 0) {
@@ -84,6 +87,26 @@ pub fn write(
     refused(16)
 }
 
+// An object that is known to fit what is lent: its loaded tree into the lists and the store, and its normal form to `room`. Answers how many octets that has.
+fn write_normal(
+    object: &[u8],
+    tags: &mut [u8],
+    kinds: &mut [u8],
+    depths: &mut [u8],
+    parents: &mut [u16],
+    starts: &mut [u16],
+    sizes: &mut [u16],
+    store: &mut [u8],
+    room: &mut [u8],
+) -> usize
+    requires { ⌜ surveyed (lentBy (lent tags kinds depths parents starts sizes) (now store) (now room)) (judge (now object)) ≡ Fits ⌝ }
+    ensures { λ r. ⌜ NormaliseClaim (now (object .entry)) (lent (tags .entry) (kinds .entry) (depths .entry) (parents .entry) (starts .entry) (sizes .entry)) (lent (tags .exit) (kinds .exit) (depths .exit) (parents .exit) (starts .exit) (sizes .exit)) (now (store .entry)) (now (store .exit)) (now (room .entry)) (now (room .exit)) (Octets r) ⌝ }
+{
+    let count = lay(object, tags, kinds, depths, parents, starts, sizes, store);
+    let reached = emit_items(count, tags, depths, starts, sizes, store, 0, 1, 0, room, 0);
+    reached.end
+}
+
 // The normal form of an object, written to `room`. The lists and the store then hold the loaded tree. On a refusal (1 to 13 of the object, 14, 15) all that is
 // lent is as it was.
 pub fn normalise(
@@ -99,33 +122,23 @@ pub fn normalise(
 ) -> WriteAnswer
     ensures { λ r. ⌜ NormaliseClaim (now (object .entry)) (lent (tags .entry) (kinds .entry) (depths .entry) (parents .entry) (starts .entry) (sizes .entry)) (lent (tags .exit) (kinds .exit) (depths .exit) (parents .exit) (starts .exit) (sizes .exit)) (now (store .entry)) (now (store .exit)) (now (room .entry)) (now (room .exit)) r ⌝ }
 {
-    match load(
-        object,
-        room.len(),
-        tags,
-        kinds,
-        depths,
-        parents,
-        starts,
-        sizes,
-        store,
-    ) {
-        ReadAnswer::NotRead(refusal) => WriteAnswer::NotWritten(refusal),
-        ReadAnswer::Records(counts) => {
-            let reached = emit_items(
-                counts.records,
+    let most = places(tags, kinds, depths, parents, starts, sizes);
+    match survey(object, most, store.len(), room.len()) {
+        Standing::Bad(refusal) => WriteAnswer::NotWritten(refusal),
+        Standing::Misfit(refusal) => WriteAnswer::NotWritten(refusal),
+        Standing::Fits => {
+            let n = write_normal(
+                object,
                 tags,
+                kinds,
                 depths,
+                parents,
                 starts,
                 sizes,
                 store,
-                0,
-                1,
-                0,
                 room,
-                0,
             );
-            WriteAnswer::Octets(reached.end)
+            WriteAnswer::Octets(n)
         }
     }
 }

@@ -49,7 +49,7 @@ use Rattle.format.specs.declared.Record.{Record}
 use Rattle.format.specs.Calls.{Lists, places, row}
 use Rattle.format.proofs.Record as T
 use Rattle.format.proofs.Record.Laws as T′
-use Rattle.reader.specs.Lent.{lent}
+use Rattle.format.specs.Lent.{lent}
 use Rattle.reader.proofs.Laid.{within-places}
 use Rattle.entry.specs.Copies.{Copyable, copied}
 use Rattle.entry.proofs.Lending.{Slice, Shared, names, contents, Refs, refs, Machine, machine, Each, shared-twice}

@@ -48,7 +48,7 @@ use Rattle.format.specs.Calls.{Lists, ReadAtMostClaim}
 use Rattle.format.proofs.Record as T
 use Rattle.format.proofs.ReadAnswer as Answer
 use Rattle.format.proofs.ReadAnswer.Laws as Answer′
-use Rattle.reader.specs.Lent.{six, lent}
+use Rattle.format.specs.Lent.{six, lent}
 use Rattle.reader.proofs.Laid.{same-lay}
 use Rattle.reader.proofs.read_at_most as read-at-most
 use Rattle.reader.proofs.read_at_most.Symbol as read-at-most-def

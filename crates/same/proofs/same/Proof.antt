@@ -1,4 +1,5 @@
-use Rattle.same.proofs.Compared.{same-bad, same-misfit, counted}
+use Rattle.writer.proofs.Normalised.{counted}
+use Rattle.same.proofs.Compared.{same-bad, same-misfit}
 use mathlib.Core.Path.{sym, _∙_}
 use borrow.Author.Needs.{needs}
 use Rattle.same.proofs.same.Statement.{statement}

@@ -1,25 +1,27 @@
-use Rattle.writer.proofs.Normalised.{normalise-refused, load-holding, load-ordered, load-fits, normalise-written}
-use native.Mathlib.Omega.{arith}
+use mathlib.Core.Path.{sym, _∙_}
+use Rattle.writer.proofs.Normalised.{counted, normalise-bad, normalise-misfit}
 use borrow.Author.Needs.{needs}
 use Rattle.writer.proofs.normalise.Statement.{statement}
 use Rattle.writer.proofs.normalise.Tie as tie
-use Rattle.writer.proofs.normalise.Reads as reads
-use Rattle.writer.proofs.normalise.Lts as lts
-use Rattle.writer.proofs.emit.emit_items.Reads as emit-items-reads
-use Rattle.writer.proofs.load.load.Reads as load-reads
 
-load-requires : tie.Need-load-requires
-load-requires c κs = search needs
+places-requires : tie.Need-places-requires
+places-requires c κs = search needs
+
+survey-requires : tie.Need-survey-requires
+survey-requires c κs = search needs
 
 enum-known-refusal : tie.Need-enum-known-refusal
 enum-known-refusal c = search needs
 
-enum-known-counts : tie.Need-enum-known-counts
-enum-known-counts c = search needs
+enum-known-refusal-2 : tie.Need-enum-known-refusal-2
+enum-known-refusal-2 c = search needs
 
-emit-items-requires : tie.Need-emit-items-requires
-emit-items-requires c κs =
-    ((load-holding _ _ _ _ _ ((c .before .before .before .before .before .before .before .before .before .before .before .before .before .before .before .before .before .before .before .before .before .before .before .before .before .before .before .before .before .before .before .before .before .before .before .before .before .before .before .before .args) .room .now) _ ((c .before .before .before .before .before .before .before .before .before .before .before .before .before .before .before .before .before .before .before .before .before .before .before .load) .ensures) _ ((c .before .before .before .before .before .before .before .counts) .given .1) (λ i. omega (arith, (c .before .before .before .before .before .before .before .before .before .before .before .before .before .before .before .before .before .before .before .before .before .before .before .before .before .before .before .before .before .before .before .before .before .before .before .before .before .before .before .shared-slice-known) .given i)), load-ordered _ _ _ _ _ ((c .before .before .before .before .before .before .before .before .before .before .before .before .before .before .before .before .before .before .before .before .before .before .before .before .before .before .before .before .before .before .before .before .before .before .before .before .before .before .before .before .args) .room .now) _ ((c .before .before .before .before .before .before .before .before .before .before .before .before .before .before .before .before .before .before .before .before .before .before .before .load) .ensures) _ ((c .before .before .before .before .before .before .before .counts) .given .1) (λ i. omega (arith, (c .before .before .before .before .before .before .before .before .before .before .before .before .before .before .before .before .before .before .before .before .before .before .before .before .before .before .before .before .before .before .before .before .before .before .before .before .before .before .before .shared-slice-known) .given i)), omega arith, omega arith), load-fits _ _ _ _ _ ((c .before .before .before .before .before .before .before .before .before .before .before .before .before .before .before .before .before .before .before .before .before .before .before .before .before .before .before .before .before .before .before .before .before .before .before .before .before .before .before .before .args) .room .now) _ ((c .before .before .before .before .before .before .before .before .before .before .before .before .before .before .before .before .before .before .before .before .before .before .before .load) .ensures) _ ((c .before .before .before .before .before .before .before .counts) .given .1) (λ i. omega (arith, (c .before .before .before .before .before .before .before .before .before .before .before .before .before .before .before .before .before .before .before .before .before .before .before .before .before .before .before .before .before .before .before .before .before .before .before .before .before .before .before .shared-slice-known) .given i)))
+enum-told : tie.Need-enum-told
+enum-told c = search needs
+
+write-normal-requires : tie.Need-write-normal-requires
+write-normal-requires c κs =
+    sym (counted _ _ _ _ _ ((c .before .before .before .before .before .before .before .before .before .before .before .places) .ensures) _ ((c .before .before .before .before .before .before .before .before .before .before .survey) .ensures)) ∙ ((c .before .before .before .before .before .before .before .before .enum-told) .given .1)
 
 same-length : tie.Need-same-length
 same-length c = search needs
@@ -39,12 +41,12 @@ same-length-5 c = search needs
 same-length-6 : tie.Need-same-length-6
 same-length-6 c = search needs
 
-same-length-7 : tie.Need-same-length-7
-same-length-7 c = search needs
-
 returns : tie.Need-returns
 returns c =
-    normalise-refused _ _ _ _ _ _ _ ((c .before .before .before .before .before .before .before .before .before .before .before .before .before .before .before .before .before .load) .ensures) _ ((c .before .refusal) .given .1)
+    normalise-bad _ _ _ _ _ (counted _ _ _ _ _ ((c .before .before .before .before .places) .ensures) _ ((c .before .before .before .survey) .ensures)) _ ((c .before .refusal) .given .1)
+
+same-length-7 : tie.Need-same-length-7
+same-length-7 c = search needs
 
 same-length-8 : tie.Need-same-length-8
 same-length-8 c = search needs
@@ -61,41 +63,76 @@ same-length-11 c = search needs
 same-length-12 : tie.Need-same-length-12
 same-length-12 c = search needs
 
-same-length-13 : tie.Need-same-length-13
-same-length-13 c = search needs
-
-same-length-14 : tie.Need-same-length-14
-same-length-14 c = search needs
-
-same-length-15 : tie.Need-same-length-15
-same-length-15 c = search needs
-
 returns-2 : tie.Need-returns-2
 returns-2 c =
-    normalise-written _ _ _ _ _ _ _ ((c .before .before .before .before .before .before .before .before .before .before .before .before .before .before .before .before .before .before .before .before .before .before .before .before .before .before .load) .ensures) _ ((c .before .before .before .before .before .before .before .before .before .before .counts) .given .1) (λ i. omega (arith, (c .before .before .before .before .before .before .before .before .before .before .before .before .before .before .before .before .before .before .before .before .before .before .before .before .before .before .before .before .before .before .before .before .before .before .before .before .before .before .before .before .before .before .shared-slice-known) .given i)) _ _ ((c .before .before .emit-items) .ensures)
+    normalise-misfit _ _ _ _ _ (counted _ _ _ _ _ ((c .before .before .before .before .places) .ensures) _ ((c .before .before .before .survey) .ensures)) _ ((c .before .refusal2) .given .1)
+
+same-length-13 : tie.Need-same-length-13
+same-length-13 c =
+    (c .before .before .before .before .before .before .before .before .before .before .before .before .before .before .before .tags) .given
+
+same-length-14 : tie.Need-same-length-14
+same-length-14 c =
+    (c .before .before .before .before .before .before .before .before .before .before .before .before .before .kinds) .given
+
+same-length-15 : tie.Need-same-length-15
+same-length-15 c =
+    (c .before .before .before .before .before .before .before .before .before .before .before .depths) .given
+
+same-length-16 : tie.Need-same-length-16
+same-length-16 c =
+    (c .before .before .before .before .before .before .before .before .before .parents) .given
+
+same-length-17 : tie.Need-same-length-17
+same-length-17 c =
+    (c .before .before .before .before .before .before .before .starts) .given
+
+same-length-18 : tie.Need-same-length-18
+same-length-18 c =
+    (c .before .before .before .before .before .sizes) .given
+
+same-length-19 : tie.Need-same-length-19
+same-length-19 c =
+    (c .before .before .before .store) .given
+
+same-length-20 : tie.Need-same-length-20
+same-length-20 c =
+    (c .before .room) .given
+
+returns-3 : tie.Need-returns-3
+returns-3 c =
+    (c .before .before .before .before .before .before .before .before .before .before .before .before .before .before .before .before .write-normal) .ensures
 
 pub normalise-spec : {M : Type 1} → statement M
 normalise-spec =
     tie.close
     (tie.spec
-    load-requires
+    places-requires
+    survey-requires
     enum-known-refusal
-    enum-known-counts
-    emit-items-requires
+    enum-known-refusal-2
+    enum-told
+    write-normal-requires
     same-length
     same-length-2
     same-length-3
     same-length-4
     same-length-5
     same-length-6
-    same-length-7
     returns
+    same-length-7
     same-length-8
     same-length-9
     same-length-10
     same-length-11
     same-length-12
+    returns-2
     same-length-13
     same-length-14
     same-length-15
-    returns-2)
+    same-length-16
+    same-length-17
+    same-length-18
+    same-length-19
+    same-length-20
+    returns-3)

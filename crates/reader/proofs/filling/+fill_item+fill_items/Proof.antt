@@ -2,7 +2,7 @@ use Prim.Native.Nat.{ℕ, _+_, _-_, _<_}
 use native.Mathlib.Omega.{arith}
 use lib.ListN.{length}
 use borrow.Author.Needs.{needs}
-use Rattle.reader.specs.Lent.{six}
+use Rattle.format.specs.Lent.{six}
 use Rattle.reader.proofs.Turns.{narrow, item-nothing, alone-within, alone-fits, item-alone, both-within, both-fits, both-deep, both-deeper, both-can, item-both, item-same}
 use Rattle.reader.proofs.Turns.{Turns, begin, kept, ended, no-header, from-fits, to-fits, offset-fits, to-inside, less, item-can, again}
 use borrow.Fn.Kinds.{In}

@@ -10,7 +10,7 @@ use Rattle.records.proofs.check.is_placed.Reads as is-placed-reads
 use Rattle.records.proofs.check.item_of.Reads as item-of-reads
 use Rattle.records.proofs.check.state_after.Reads as state-after-reads
 use Rattle.records.proofs.check.wide.Reads as wide-reads
-use Rattle.records.proofs.rules.kind_of.Reads as kind-of-reads
+use Rattle.format.proofs.kind_of.Reads as kind-of-reads
 
 -- src/check.rt:162:8
 deep-requires : tie.Need-deep-requires

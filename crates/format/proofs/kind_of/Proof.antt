@@ -1,7 +1,7 @@
-use Rattle.reader.proofs.Leaves.{kind-ways}
+use Rattle.format.proofs.Shown.{kind-ways}
 use borrow.Author.Needs.{needs}
-use Rattle.reader.proofs.filling.kind_of.Statement.{statement}
-use Rattle.reader.proofs.filling.kind_of.Tie as tie
+use Rattle.format.proofs.kind_of.Statement.{statement}
+use Rattle.format.proofs.kind_of.Tie as tie
 
 is-attribute-requires : tie.Need-is-attribute-requires
 is-attribute-requires c κs = search needs

@@ -1,11 +1,11 @@
-use Rattle.writer.proofs.Loads.{survey-ways}
+use Rattle.writer.proofs.Surveying.{survey-ways}
 use borrow.Author.Needs.{needs}
-use Rattle.writer.proofs.load.survey.Statement.{statement}
-use Rattle.writer.proofs.load.survey.Tie as tie
-use Rattle.writer.proofs.load.survey.Reads as reads
-use Rattle.writer.proofs.load.survey.Lts as lts
+use Rattle.writer.proofs.fitting.survey.Statement.{statement}
+use Rattle.writer.proofs.fitting.survey.Tie as tie
+use Rattle.writer.proofs.fitting.survey.Reads as reads
+use Rattle.writer.proofs.fitting.survey.Lts as lts
 use Rattle.judge.proofs.judge.Reads as judge-reads
-use Rattle.writer.proofs.load.is_sufficient.Reads as is-sufficient-reads
+use Rattle.writer.proofs.fitting.is_sufficient.Reads as is-sufficient-reads
 use Rattle.writer.proofs.measure.measure.Reads as measure-reads
 
 judge-requires : tie.Need-judge-requires

@@ -1,9 +1,9 @@
-use Rattle.writer.proofs.Loads.{sufficient-ways}
+use Rattle.writer.proofs.Surveying.{sufficient-ways}
 use borrow.Author.Needs.{needs}
-use Rattle.writer.proofs.load.is_sufficient.Statement.{statement}
-use Rattle.writer.proofs.load.is_sufficient.Tie as tie
-use Rattle.writer.proofs.load.is_sufficient.Reads as reads
-use Rattle.writer.proofs.load.is_sufficient.Lts as lts
+use Rattle.writer.proofs.fitting.is_sufficient.Statement.{statement}
+use Rattle.writer.proofs.fitting.is_sufficient.Tie as tie
+use Rattle.writer.proofs.fitting.is_sufficient.Reads as reads
+use Rattle.writer.proofs.fitting.is_sufficient.Lts as lts
 
 enum-told : tie.Need-enum-told
 enum-told c = search needs

@@ -1,0 +1,309 @@
+// The loaded tree of an object, laid in one walk: the records into the lists, and each text and value into the store, one behind the other in record order. The
+// object is known to be accepted and to fit, so nothing is judged and nothing refused here.
+// Cost: each item is looked at once, and what is stored of it is written once.
+ghost use mathlib.Core.Path.{_≡_};
+ghost use Rattle.text.specs.Tokens.{entries};
+ghost use Rattle.values.specs.Table.{known};
+ghost use Rattle.format.specs.Calls.{put};
+ghost use Rattle.format.specs.Lent.{lent};
+ghost use Rattle.writer.specs.Lay.{pieceOf, recordAt, Placeable, ValueLayable, ValueLays, ItemLayable, InsideLayable, ItemLays, ItemsLayable, ItemsLay, Layable, LaysTree};
+use crate::store::store_body;
+use crate::table::Lies;
+use crate::table::item_at;
+use crate::table::table_of;
+use format::kind_of;
+use values::Kind;
+use values::KnownKind;
+use values::known_kind;
+
+// Where items are laid: the element that they stand in (its tag and the number of its record) and their depth. The object itself counts
+// as an element with the tag 0, whose one item is the top.
+pub struct Level {
+    pub element: u8,
+    pub number: usize,
+    pub depth: u8,
+}
+
+// How far the walk has come: the number that the next record gets, and the place up to which the store is filled.
+pub struct Laid {
+    pub next: usize,
+    pub end: usize,
+}
+
+// What is laid of an item: nothing; its record and all of the items inside it; its record and its value, of a kind.
+enum Piece {
+    Nothing,
+    Inside,
+    Value(Kind),
+}
+
+// An unknown item and the token table have no record.
+fn piece_of(parent: u8, tag: u8) -> Piece
+    ensures { λ r. ⌜ r ≡ pieceOf (known parent tag) ⌝ }
+{
+    match known_kind(parent, tag) {
+        KnownKind::Unknown => Piece::Nothing,
+        KnownKind::Known(kind) => match kind {
+            Kind::HoldsItems => Piece::Inside,
+            Kind::HoldsTokens => Piece::Nothing,
+            Kind::HoldsText => Piece::Value(kind),
+            Kind::HoldsPlain => Piece::Value(kind),
+            Kind::HoldsTime => Piece::Value(kind),
+            Kind::HoldsBearer => Piece::Value(kind),
+            Kind::HoldsNumber(_) => Piece::Value(kind),
+        },
+    }
+}
+
+// The only stores into the lists: the record of a number, for an item whose octets have a span of the store.
+fn put_record(
+    tags: &mut [u8],
+    kinds: &mut [u8],
+    depths: &mut [u8],
+    parents: &mut [u16],
+    starts: &mut [u16],
+    sizes: &mut [u16],
+    i: usize,
+    tag: u8,
+    level: Level,
+    start: usize,
+    size: usize,
+)
+    requires { ⌜ Placeable i (level .number) start size (lent tags kinds depths parents starts sizes) ⌝ }
+    ensures { λ _. ⌜ lent (tags .exit) (kinds .exit) (depths .exit) (parents .exit) (starts .exit) (sizes .exit) ≡ put i (recordAt level tag start size) (lent (tags .entry) (kinds .entry) (depths .entry) (parents .entry) (starts .entry) (sizes .entry)) ⌝ }
+{
+    let kind = kind_of(tag);
+    tags[i] = tag;
+    kinds[i] = kind;
+    depths[i] = level.depth;
+    parents[i] = level.number as u16;
+    starts[i] = start as u16;
+    sizes[i] = size as u16;
+}
+
+// An item that holds no items.
+fn lay_value(
+    kind: Kind,
+    tag: u8,
+    body: &[u8],
+    table: &[u8],
+    level: Level,
+    done: Laid,
+    tags: &mut [u8],
+    kinds: &mut [u8],
+    depths: &mut [u8],
+    parents: &mut [u16],
+    starts: &mut [u16],
+    sizes: &mut [u16],
+    store: &mut [u8],
+) -> Laid
+    requires { ⌜ ValueLayable (entries (now table)) kind level done (now body) (lent tags kinds depths parents starts sizes) (now store) ⌝ }
+    ensures { λ r. ⌜ ValueLays (entries (now (table .entry))) kind tag level done (now (body .entry)) (lent (tags .entry) (kinds .entry) (depths .entry) (parents .entry) (starts .entry) (sizes .entry)) (lent (tags .exit) (kinds .exit) (depths .exit) (parents .exit) (starts .exit) (sizes .exit)) (now (store .entry)) (now (store .exit)) r ⌝ }
+{
+    let n = done.next;
+    let at = done.end;
+    let end = store_body(kind, table, body, store, at);
+    put_record(
+        tags,
+        kinds,
+        depths,
+        parents,
+        starts,
+        sizes,
+        n,
+        tag,
+        level,
+        at,
+        end - at,
+    );
+    Laid { next: n + 1, end }
+}
+
+// An item that holds items: its record, whose span is the one of length 0 at the store's start, and all of the items inside it.
+fn lay_inside(
+    tag: u8,
+    body: &[u8],
+    table: &[u8],
+    level: Level,
+    done: Laid,
+    tags: &mut [u8],
+    kinds: &mut [u8],
+    depths: &mut [u8],
+    parents: &mut [u16],
+    starts: &mut [u16],
+    sizes: &mut [u16],
+    store: &mut [u8],
+) -> Laid
+    requires { ⌜ InsideLayable (entries (now table)) level done tag (now body) (lent tags kinds depths parents starts sizes) (now store) ⌝ }
+    ensures { λ r. ⌜ ItemLays (entries (now (table .entry))) level done tag (now (body .entry)) (lent (tags .entry) (kinds .entry) (depths .entry) (parents .entry) (starts .entry) (sizes .entry)) (lent (tags .exit) (kinds .exit) (depths .exit) (parents .exit) (starts .exit) (sizes .exit)) (now (store .entry)) (now (store .exit)) r ⌝ }
+{
+    let n = done.next;
+    put_record(
+        tags,
+        kinds,
+        depths,
+        parents,
+        starts,
+        sizes,
+        n,
+        tag,
+        level,
+        0,
+        0,
+    );
+    let inner = Level {
+        element: tag,
+        number: n,
+        depth: level.depth + 1,
+    };
+    let begun = Laid {
+        next: n + 1,
+        end: done.end,
+    };
+    lay_items(
+        body,
+        table,
+        inner,
+        begun,
+        tags,
+        kinds,
+        depths,
+        parents,
+        starts,
+        sizes,
+        store,
+    )
+}
+
+// One item.
+fn lay_item(
+    tag: u8,
+    body: &[u8],
+    table: &[u8],
+    level: Level,
+    done: Laid,
+    tags: &mut [u8],
+    kinds: &mut [u8],
+    depths: &mut [u8],
+    parents: &mut [u16],
+    starts: &mut [u16],
+    sizes: &mut [u16],
+    store: &mut [u8],
+) -> Laid
+    requires { ⌜ ItemLayable (entries (now table)) level done tag (now body) (lent tags kinds depths parents starts sizes) (now store) ⌝ }
+    ensures { λ r. ⌜ ItemLays (entries (now (table .entry))) level done tag (now (body .entry)) (lent (tags .entry) (kinds .entry) (depths .entry) (parents .entry) (starts .entry) (sizes .entry)) (lent (tags .exit) (kinds .exit) (depths .exit) (parents .exit) (starts .exit) (sizes .exit)) (now (store .entry)) (now (store .exit)) r ⌝ }
+{
+    match piece_of(level.element, tag) {
+        Piece::Nothing => done,
+        Piece::Inside => lay_inside(
+            tag,
+            body,
+            table,
+            level,
+            done,
+            tags,
+            kinds,
+            depths,
+            parents,
+            starts,
+            sizes,
+            store,
+        ),
+        Piece::Value(kind) => lay_value(
+            kind,
+            tag,
+            body,
+            table,
+            level,
+            done,
+            tags,
+            kinds,
+            depths,
+            parents,
+            starts,
+            sizes,
+            store,
+        ),
+    }
+}
+
+// The items in a part.
+fn lay_items(
+    part: &[u8],
+    table: &[u8],
+    level: Level,
+    before: Laid,
+    tags: &mut [u8],
+    kinds: &mut [u8],
+    depths: &mut [u8],
+    parents: &mut [u16],
+    starts: &mut [u16],
+    sizes: &mut [u16],
+    store: &mut [u8],
+) -> Laid
+    requires { ⌜ ItemsLayable (entries (now table)) level before (now part) (lent tags kinds depths parents starts sizes) (now store) ⌝ }
+    ensures { λ r. ⌜ ItemsLay (entries (now (table .entry))) level before (now (part .entry)) (lent (tags .entry) (kinds .entry) (depths .entry) (parents .entry) (starts .entry) (sizes .entry)) (lent (tags .exit) (kinds .exit) (depths .exit) (parents .exit) (starts .exit) (sizes .exit)) (now (store .entry)) (now (store .exit)) r ⌝ }
+{
+    let mut done = before;
+    let mut at: usize = 0;
+    while at < part.len() {
+        let Lies::Between { from, to } = item_at(part, at) else {
+            return done;
+        };
+        let tag = part[at];
+        let body = &part[from..to];
+        done = lay_item(
+            tag,
+            body,
+            table,
+            level,
+            done,
+            tags,
+            kinds,
+            depths,
+            parents,
+            starts,
+            sizes,
+            store,
+        );
+        at = to;
+    }
+    done
+}
+
+// The loaded tree of an object that is accepted and fits the lists and the store. Answers how many records it has.
+pub fn lay(
+    object: &[u8],
+    tags: &mut [u8],
+    kinds: &mut [u8],
+    depths: &mut [u8],
+    parents: &mut [u16],
+    starts: &mut [u16],
+    sizes: &mut [u16],
+    store: &mut [u8],
+) -> usize
+    requires { ⌜ Layable (now object) (lent tags kinds depths parents starts sizes) (now store) ⌝ }
+    ensures { λ r. ⌜ LaysTree (now (object .entry)) (lent (tags .entry) (kinds .entry) (depths .entry) (parents .entry) (starts .entry) (sizes .entry)) (lent (tags .exit) (kinds .exit) (depths .exit) (parents .exit) (starts .exit) (sizes .exit)) (now (store .entry)) (now (store .exit)) r ⌝ }
+{
+    let table = table_of(object);
+    let top = Level {
+        element: 0,
+        number: 0,
+        depth: 1,
+    };
+    let none = Laid { next: 0, end: 0 };
+    let all = lay_items(
+        object,
+        table,
+        top,
+        none,
+        tags,
+        kinds,
+        depths,
+        parents,
+        starts,
+        sizes,
+        store,
+    );
+    all.next
+}
