@@ -25,3 +25,4 @@ pub mod WholeLaid
 pub mod Normalised
 pub mod Theorems
 pub mod Miswritten
+pub mod Missurveyed
