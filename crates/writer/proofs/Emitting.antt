@@ -26,7 +26,7 @@ use Rattle.writer.proofs.Rising.{rising-seven, rising-skip}
 use Rattle.writer.proofs.Finding.{found-octets, none-between, found-body}
 use Rattle.writer.proofs.Sizes.{high-attribute, opens-attribute, opens-no-attribute}
 use Rattle.writer.proofs.Lays.{lays-none, lays-append, lays-length, fitting-left, fitting-right}
-use Rattle.writer.proofs.Framing.{first-fits, second-fits, framable, framed-laid}
+use Rattle.writer.proofs.Framing.{first-fits, second-fits, framable, frame-laid}
 use Rattle.writer.proofs.Rows.{here-end, here-not, here-is, from-stop, from-single, from-nested, from-ahead, from-within}
 
 -- the roles of a record, by the code's tests
@@ -324,7 +324,7 @@ module _ (l : Lists) (n : ℕ) (lent : List ℕ) (p depth at to : ℕ) (before r
             unfolding elementOctets
             element-next last next k =
                 let all : Lays (elementOctets m held) stop room last next =
-                framed-laid m stop (attributeOctets m held) (laterOctets m held) room framed-fits mid from h after (r .end) (g .lays) last next k in
+                frame-laid m stop (attributeOctets m held) (laterOctets m held) room framed-fits mid from h after (r .end) (g .lays) last next k in
                 rw (g .next)
                 (own-next (elementOctets m held) (itemsFrom l n lent (depth + 1) (i + 1) .1) element-first
                 (ordered-parts held (itemsFrom l n lent depth (itemsFrom l n lent (depth + 1) (i + 1) .1) .0) (ap (λ y. y .0) nested) .1)

@@ -195,7 +195,7 @@ module _ (tag to : ℕ) (a b : List ℕ) (room : List ℕ) (f : Fitting (framed 
           let x = both-fit .inRoom in
           record { behind = omega arith; inside = omega (arith, same-length); fits = rw (body-is, same-length) f }
 
-      pub framed-laid : (last : List ℕ) (stop : ℕ) → Lays (framed tag (between (to + 2) end after)) to after last stop → Lays (framed tag (a ++ b)) to room last stop
-      framed-laid last stop k =
+      pub frame-laid : (last : List ℕ) (stop : ℕ) → Lays (framed tag (between (to + 2) end after)) to after last stop → Lays (framed tag (a ++ b)) to room last stop
+      frame-laid last stop k =
           let w : Lays (framed tag (a ++ b)) to after last stop = rw body-is at k in
           record { leaves = w .leaves ∙ (ap (λ l. sets l to (framed tag (a ++ b))) (both-laid .leaves) ∙ covered room to 2 (a ++ b) (framed tag (a ++ b)) framed-long); ends = w .ends }

@@ -1,5 +1,5 @@
 -- What the parts of measuring answer: where an item lies, what is measured of it, and the sizes of items in the order in which they are read. That these are the
--- sizes of document 01's normal form and of the store is proved (proofs/Whole), so nobody who reads document 01 has to believe them.
+-- sizes of document 01's normal form and of the store is proved (proofs/WholeSizes), so nobody who reads document 01 has to believe them.
 use mathlib.Core.Path.{_≡_}
 use mathlib.Core.Bool.{true, cond, not, _&&_}
 use mathlib.Core.Option.{Option, none, some}
