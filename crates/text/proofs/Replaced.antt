@@ -26,7 +26,7 @@ use Rattle.text.specs.declared.Found.the-variants.{At, Nothing}
 use Rattle.octets.proofs.Lists.{drop-next, sets-append}
 use Rattle.text.proofs.Masks.{bit-none, kept-within, within-kept, Marking, mark-begin, mark-done, mark-more}
 use Rattle.text.proofs.Entries.{named, inside}
-use Rattle.text.proofs.Widths.{width-of-is}
+use Rattle.text.proofs.Widths.{width-none, width-next, width-eight, width-of-is}
 use Rattle.text.proofs.RunLaws.{run-length, expanded-run, expanded-length-run, shown-run, size-run}
 
 -- ---- the loop of `tokens_in`
@@ -163,7 +163,7 @@ module _ (table : List ℕ) (b : ℕ) (f : Found) (e : f ≡ replacedBy (entries
     width-part : size ≡ length (stands (entries table) b)
     width-part = sym (ap length stands-part ∙ length-take-le size (drop start table) (omega (arith, part-inside, length-drop start table)))
 
--- ---- the loop of `fits_from`: `left` of the limit is left for what is left of the text
+-- ---- the loops of `fits_singly` and `fits_from`: `left` of the limit is left for what is left of the text
 leb-left : (n m l : ℕ) → n ≤ l → leb (n + m) l ≡ leb m (l - n)
 leb-left n m l h = go (leb m (l - n)) refl
   where
@@ -171,37 +171,46 @@ leb-left n m l h = go (leb m (l - n)) refl
     go true e = le-leb (n + m) l (omega (arith, leb-true m (l - n) e))
     go false e = lt-leb (n + m) l (omega (arith, leb-false m (l - n) e))
 
--- the width of a text at a place: that of the octet there, and that of what comes after it
-width-none : (w s : List ℕ) (at : ℕ) → length s ≤ at → widthOf w (drop at s) ≡ 0
-unfolding widthOf
-width-none w s at h = ap (widthOf w) (drop-of-length-le s h)
-
-width-next : (w s : List ℕ) (at : ℕ) → at < length s → (size : ℕ) → size ≡ widthBy w (getD s at 0) → widthOf w (drop at s) ≡ size + widthOf w (drop (at + 1) s)
-unfolding widthOf
-width-next w s at h size e = ap (widthOf w) (drop-next s at 0 h) ∙ rw e
-
 pub record Fitting (w s : List ℕ) (from limit left at : ℕ) : Type 0 where
+  pub within : at ≤ length s
   pub same : leb (widthOf w (drop from s)) limit ≡ leb (widthOf w (drop at s)) left
 
 module _ (w s : List ℕ) (from limit : ℕ) where
-  pub fit-begin : Fitting w s from limit limit from
-  fit-begin = record { same = refl }
+  pub fit-begin : from ≤ length s → Fitting w s from limit limit from
+  fit-begin h = record { within = h; same = refl }
 
   module _ (left at : ℕ) (inv : Fitting w s from limit left at) where
     pub fit-done : length s ≤ at → true ≡ leb (widthOf w (drop from s)) limit
     fit-done h = sym (inv .same ∙ le-leb (widthOf w (drop at s)) left (omega (arith, width-none w s at h)))
 
-    module _ (h : at < length s) (size : ℕ) (e : size ≡ widthBy w (getD s at 0)) where
-      fit-step : leb (widthOf w (drop from s)) limit ≡ leb (size + widthOf w (drop (at + 1) s)) left
-      fit-step = inv .same ∙ rw (width-next w s at h size e)
+    pub fit-rest : (r : Bool) → r ≡ leb (widthOf w (drop at s)) left → r ≡ leb (widthOf w (drop from s)) limit
+    fit-rest r e = e ∙ sym (inv .same)
 
+    -- so many octets more, and their width
+    module _ (n size : ℕ) (next : widthOf w (drop at s) ≡ size + widthOf w (drop (at + n) s)) where
+      step-stop : left < size → false ≡ leb (widthOf w (drop from s)) limit
+      step-stop g = sym (inv .same ∙ lt-leb (widthOf w (drop at s)) left (omega (arith, next)))
+
+      step-again : at + n ≤ length s → size ≤ left → Fitting w s from limit (left - size) (at + n)
+      step-again h g = record { within = h; same = inv .same ∙ rw next (leb-left size (widthOf w (drop (at + n) s)) left g) }
+
+    module _ (h : at < length s) (size : ℕ) (e : size ≡ widthBy w (getD s at 0)) where
       pub fit-stop : left < size → false ≡ leb (widthOf w (drop from s)) limit
-      fit-stop g = sym (fit-step ∙ lt-leb (size + widthOf w (drop (at + 1) s)) left (omega arith))
+      fit-stop = step-stop 1 size (width-next w s at h size e)
 
       pub fit-again : size ≤ left → Fitting w s from limit (left - size) (at + 1)
-      fit-again g = record { same = fit-step ∙ leb-left size (widthOf w (drop (at + 1) s)) left g }
+      fit-again = step-again 1 size (width-next w s at h size e) (omega arith)
+
+    module _ (h : 8 ≤ length s - at) (size : ℕ) (e : size ≡ widthOf w (take 8 (take (length s - at) (drop at s)))) where
+      pub fit-eight-stop : left < size → false ≡ leb (widthOf w (drop from s)) limit
+      fit-eight-stop = step-stop 8 size (width-eight w s at size e)
+
+      pub fit-eight-again : size ≤ left → Fitting w s from limit (left - size) (at + 8)
+      fit-eight-again = step-again 8 size (width-eight w s at size e) (omega arith)
 
 pub ruleset fit-ways = (fit-begin, fit-done, fit-stop, fit-again)
+
+pub ruleset fit-eight-ways = (fit-begin, fit-rest, fit-eight-stop, fit-eight-again)
 
 -- ---- `is_shown`
 module _ (es : Entries) (s : List ℕ) (limit : ℕ) where
@@ -229,29 +238,42 @@ module _ (es : Entries) (s : List ℕ) (limit : ℕ) where
 
 pub ruleset shown-ways = (shown-none, shown-past, shown-end, shown-from)
 
--- ---- the loop of `size_from`
-pub record Sizing (w s : List ℕ) (from most total at : ℕ) : Type 0 where
+-- ---- the loops of `size_singly` and `size_from`: what is added up so far, and the width of what is left of the text
+pub record Sizing (w s : List ℕ) (whole most total at : ℕ) : Type 0 where
+  pub within : at ≤ length s
   pub short : total ≤ most
-  pub same : total + widthOf w (drop at s) ≡ from + widthOf w (drop from s)
+  pub same : total + widthOf w (drop at s) ≡ whole
 
-module _ (w s : List ℕ) (from most : ℕ) where
-  pub size-begin : from ≤ most → Sizing w s from most from from
-  size-begin h = record { short = h; same = refl }
+module _ (w s : List ℕ) (most : ℕ) where
+  pub size-begin : (before from : ℕ) → from ≤ length s → before ≤ most → Sizing w s (before + widthOf w (drop from s)) most before from
+  size-begin before from h g = record { within = h; short = g; same = refl }
 
-  module _ (total at : ℕ) (inv : Sizing w s from most total at) where
-    pub size-done : length s ≤ at → total ≡ min most (from + widthOf w (drop from s))
+  module _ (whole total at : ℕ) (inv : Sizing w s whole most total at) where
+    pub size-done : length s ≤ at → total ≡ min most whole
     size-done h =
-        let all : total ≡ from + widthOf w (drop from s) = omega (arith, inv .same, width-none w s at h) in
+        let all : total ≡ whole = omega (arith, inv .same, width-none w s at h) in
         sym (min-eq-right (omega (arith, inv .short)) ∙ sym all)
 
+    pub size-rest : (r : ℕ) → r ≡ min most (total + widthOf w (drop at s)) → r ≡ min most whole
+    size-rest r e = e ∙ ap (min most) (inv .same)
+
     module _ (h : at < length s) (size : ℕ) (e : size ≡ widthBy w (getD s at 0)) where
-      pub size-stop : most - total ≤ size → most ≡ min most (from + widthOf w (drop from s))
+      pub size-stop : most - total ≤ size → most ≡ min most whole
       size-stop g = sym (min-eq-left (omega (arith, inv .short, inv .same, width-next w s at h size e)))
 
-      pub size-again : size < most - total → Sizing w s from most (total + size) (at + 1)
-      size-again g = record { short = omega arith; same = omega (arith, inv .same, width-next w s at h size e) }
+      pub size-again : size < most - total → Sizing w s whole most (total + size) (at + 1)
+      size-again g = record { within = omega arith; short = omega arith; same = omega (arith, inv .same, width-next w s at h size e) }
+
+    module _ (h : 8 ≤ length s - at) (size : ℕ) (e : size ≡ widthOf w (take 8 (take (length s - at) (drop at s)))) where
+      pub size-eight-stop : most - total ≤ size → most ≡ min most whole
+      size-eight-stop g = sym (min-eq-left (omega (arith, inv .short, inv .same, width-eight w s at size e)))
+
+      pub size-eight-again : size < most - total → Sizing w s whole most (total + size) (at + 8)
+      size-eight-again g = record { within = omega arith; short = omega arith; same = omega (arith, inv .same, width-eight w s at size e) }
 
 pub ruleset size-ways = (size-begin, size-done, size-stop, size-again)
+
+pub ruleset size-eight-ways = (size-begin, size-rest, size-eight-stop, size-eight-again)
 
 -- ---- `expanded_size`
 module _ (es : Entries) (s : List ℕ) (most : ℕ) where
