@@ -1,24 +1,24 @@
 -- Texts with their tokens replaced: what the definitions are on each way through src/expanding.rt.
-use Prim.Native.Nat.{ℕ, _+_, _-_, _≤_, _<_, _^_, min}
+use Prim.Native.Nat.{ℕ, _+_, _-_, _/_, _≤_, _<_, _^_, min}
 use mathlib.Core.Path.{_≡_, refl, sym, ap, ap₂, subst, _∙_}
 use mathlib.Core.List.{List, [], _∷_, _++_}
 use mathlib.Core.Bool.{Bool, true, false, _&&_, _||_, cond, false≢true}
 use mathlib.Core.Option.{some}
 use lib.ListN.{length, getD, take, drop, set, length-drop, length-append, length-set, drop-of-length-le}
 use lib.Seq.{sets, length-sets, length-take-le}
-use lib.Dec.{eqb, leb}
+use lib.Dec.{eqb, leb, ltb}
 use lib.Bits.{bitOr, bitAnd}
-use native.Mathlib.Nat.{min-eq-left, min-eq-right, min-le-right}
+use native.Mathlib.Nat.{min-eq-left, min-eq-right}
 use native.Mathlib.Omega.{arith}
 use mir.Val.{Fits}
 use mir.Syntax.{w64}
-use borrow.Author.Tests.{le-leb, lt-leb, leb-true, leb-false, eq-eqb, eqb-true, eqb-false}
-use Rattle.octets.specs.Numbers.{among}
+use borrow.Author.Tests.{le-leb, lt-leb, leb-true, leb-false, lt-ltb, le-ltb, eq-eqb, eqb-true, eqb-false}
+use Rattle.octets.specs.Numbers.{among, Octets}
 use Rattle.octets.proofs.Tests.{and-left, and-right, and-true, or-elim, or-left, or-true}
 use Rattle.text.specs.Text.{token}
 use Rattle.text.specs.Tokens.{Entries, entries, entry, orItself, stands, expanded, present, covers, covered, shownLength, expandedSize}
 use Rattle.text.specs.Calls.{found, foundIn, Inside, expandFits, expandAnswer, expandOut}
-use Rattle.text.specs.Leaves.{bit, tokenBit, Marks, tags, replacedBy, Widths, widthBy, widthOf}
+use Rattle.text.specs.Leaves.{bit, tokenBit, Marks, tags, replacedBy, Widths, widthBy, widthOf, lowIn, SurelyFits}
 use Rattle.text.specs.Runs.{UntokenedTo}
 use Rattle.text.specs.declared.Expanded.the-variants.{Done, NoRoom}
 use Rattle.text.specs.declared.Found.{Found}
@@ -27,6 +27,7 @@ use Rattle.octets.proofs.Lists.{drop-next, sets-append}
 use Rattle.text.proofs.Masks.{bit-none, kept-within, within-kept, Marking, mark-begin, mark-done, mark-more}
 use Rattle.text.proofs.Entries.{named, inside}
 use Rattle.text.proofs.Widths.{width-none, width-next, width-eight, width-of-is}
+use Rattle.text.proofs.Length.{low-bound}
 use Rattle.text.proofs.RunLaws.{run-length, expanded-run, expanded-length-run, shown-run, size-run}
 
 -- ---- the loop of `tokens_in`
@@ -365,18 +366,23 @@ pub ruleset one-ways = (self-room, self-end, self-out, part-inside, part-room, p
 -- ---- the loop of `write_all`
 pub record Writing (es : Entries) (s out₀ : List ℕ) (at : ℕ) (out : List ℕ) (to i : ℕ) : Type 0 where
   pub within : i ≤ length s
-  pub room : to + length (expanded es (drop i s)) ≤ length out₀
+  pub room : at + length (expanded es s) ≤ length out₀
+  pub ends : to + length (expanded es (drop i s)) ≡ at + length (expanded es s)
   pub long : length out ≡ length out₀
   pub same : sets out to (expanded es (drop i s)) ≡ sets out₀ at (expanded es s)
 
 module _ (es : Entries) (s out₀ : List ℕ) (at : ℕ) where
   pub write-begin : at + length (expanded es s) ≤ length out₀ → Writing es s out₀ at out₀ at 0
-  write-begin h = record { within = omega arith; room = h; long = refl; same = refl }
+  write-begin h = record { within = omega arith; room = h; ends = refl; long = refl; same = refl }
 
   module _ (out : List ℕ) (to i : ℕ) (inv : Writing es s out₀ at out to i) where
     pub write-done : length s ≤ i → out ≡ sets out₀ at (expanded es s)
     unfolding expanded
     write-done h = ap (λ q. sets out to (expanded es q)) (sym (drop-of-length-le s h)) ∙ inv .same
+
+    pub write-done-at : length s ≤ i → to ≡ at + length (expanded es s)
+    unfolding expanded
+    write-done-at h = omega (arith, inv .ends, ap (λ q. length (expanded es q)) (drop-of-length-le s h))
 
     -- what comes first of the expansion that is still to be written is laid where it belongs
     write-part : (part : List ℕ) (n : ℕ) → n ≤ length s → expanded es (drop i s) ≡ part ++ expanded es (drop n s)
@@ -384,7 +390,8 @@ module _ (es : Entries) (s out₀ : List ℕ) (at : ℕ) where
     write-part part n h split to′ out′ e f =
         record {
           within = h;
-          room = omega (arith, inv .room, ap length split ∙ length-append part (expanded es (drop n s)), e);
+          room = inv .room;
+          ends = omega (arith, inv .ends, ap length split ∙ length-append part (expanded es (drop n s)), e);
           long = ap length f ∙ length-sets out to part ∙ inv .long;
           same =
               ap₂ (λ o (k : ℕ). sets o k (expanded es (drop n s))) f e
@@ -393,7 +400,7 @@ module _ (es : Entries) (s out₀ : List ℕ) (at : ℕ) where
 
   module _ (out : List ℕ) (to i from : ℕ) (inv : Writing es s out₀ at out to i) (run : UntokenedTo s i from) where
     pub copy-room : to + length (take (from - i) (drop i s)) ≤ length out
-    copy-room = omega (arith, inv .room, inv .long, expanded-length-run es s i from run, run-length 0x14 0xFF s i from run)
+    copy-room = omega (arith, inv .room, inv .ends, inv .long, expanded-length-run es s i from run, run-length 0x14 0xFF s i from run)
 
     module _ (out′ : List ℕ) (f : out′ ≡ sets out to (take (from - i) (drop i s))) where
       write-behind : Writing es s out₀ at out′ (to + (from - i)) from
@@ -404,6 +411,9 @@ module _ (es : Entries) (s out₀ : List ℕ) (at : ℕ) where
       pub write-end : from ≡ length s → out′ ≡ sets out₀ at (expanded es s)
       write-end q = write-done out′ (to + (from - i)) from write-behind (omega arith)
 
+      pub write-end-at : from ≡ length s → to + (from - i) ≡ at + length (expanded es s)
+      write-end-at q = write-done-at out′ (to + (from - i)) from write-behind (omega arith)
+
       module _ (h : from ≡ length s → ⊥) where
         split : expanded es (drop from s) ≡ stands es (getD s from 0) ++ expanded es (drop (from + 1) s)
         unfolding expanded
@@ -412,14 +422,74 @@ module _ (es : Entries) (s out₀ : List ℕ) (at : ℕ) where
         pub write-room : to + (from - i) + length (stands es (getD s from 0)) ≤ length out′
         write-room =
             omega
-            (arith, write-behind .room, write-behind .long, ap length split ∙ length-append (stands es (getD s from 0)) (expanded es (drop (from + 1) s)))
+            (arith, write-behind .room, write-behind .ends, write-behind .long, ap length split ∙ length-append (stands es (getD s from 0)) (expanded es (drop (from + 1) s)))
 
         pub write-again : (to′ : ℕ) (out″ : List ℕ) → to′ ≡ to + (from - i) + length (stands es (getD s from 0))
             → out″ ≡ sets out′ (to + (from - i)) (stands es (getD s from 0)) → Writing es s out₀ at out″ to′ (from + 1)
         write-again =
             write-part out′ (to + (from - i)) from write-behind (stands es (getD s from 0)) (from + 1) (omega (arith, run .inside)) split
 
-pub ruleset write-ways = (write-begin, write-done, copy-room, write-end, write-room, write-again)
+pub ruleset write-ways = (write-begin, write-done, write-done-at, copy-room, write-end, write-end-at, write-room, write-again)
+
+-- ---- the loop of `low_in`
+pub record Counting (s : List ℕ) (n at : ℕ) : Type 0 where
+  pub within : at ≤ length s
+  pub few : n ≤ at
+  pub same : n + lowIn (drop at s) ≡ lowIn s
+
+module _ (s : List ℕ) where
+  pub count-begin : Counting s 0 0
+  count-begin = record { within = omega arith; few = omega arith; same = omega arith }
+
+  module _ (n at : ℕ) (inv : Counting s n at) where
+    pub count-done : length s ≤ at → n ≡ lowIn s
+    unfolding lowIn
+    count-done h = omega (arith, inv .same, ap lowIn (drop-of-length-le s h))
+
+    module _ (h : at < length s) where
+      next-low : lowIn (drop at s) ≡ cond (ltb (getD s at 0) 0x14) 1 0 + lowIn (drop (at + 1) s)
+      unfolding lowIn
+      next-low = ap lowIn (drop-next s at 0 h)
+
+      pub count-low : getD s at 0 < 0x14 → (m : ℕ) → m ≡ n + 1 → Counting s m (at + 1)
+      count-low g m e =
+          let one : lowIn (drop at s) ≡ 1 + lowIn (drop (at + 1) s) = next-low ∙ rw (lt-ltb (getD s at 0) 0x14 g) in
+          record { within = omega arith; few = omega (arith, inv .few); same = omega (arith, inv .same) }
+
+      pub count-high : 0x14 ≤ getD s at 0 → (m : ℕ) → m ≡ n → Counting s m (at + 1)
+      count-high g m e =
+          let none : lowIn (drop at s) ≡ 0 + lowIn (drop (at + 1) s) = next-low ∙ rw (le-ltb (getD s at 0) 0x14 g) in
+          record { within = omega arith; few = omega (arith, inv .few); same = omega (arith, inv .same) }
+
+pub ruleset count-ways = (count-begin, count-done, count-low, count-high)
+
+-- ---- `surely_fits` and `fits`
+module _ (s : List ℕ) (room : ℕ) where
+  pub unsure : SurelyFits s room false
+  unsure = record { always = λ e. absurd (false≢true e) }
+
+  pub sure : length s ≤ room → (n : ℕ) → n ≡ lowIn s → SurelyFits s room (leb n ((room - length s) / 254))
+  sure h n e =
+      record {
+        always = λ y table os. omega (arith, low-bound table s os, leb-true n ((room - length s) / 254) y);
+      }
+
+module _ (table s : List ℕ) (room : ℕ) where
+  pub fits-surely : Octets table → (r : Bool) → SurelyFits s room r → r ≡ true → true ≡ leb (expandedSize (entries table) s) room
+  fits-surely os r w y = sym (le-leb (expandedSize (entries table) s) room (w .always y table os))
+
+  pub fits-measured : (n : ℕ) → n ≡ min (room + 1) (expandedSize (entries table) s) → leb n room ≡ leb (expandedSize (entries table) s) room
+  fits-measured n e = go (leb (expandedSize (entries table) s) room) refl
+    where
+      go : (b : Bool) → leb (expandedSize (entries table) s) room ≡ b → leb n room ≡ b
+      go true q =
+          let short : expandedSize (entries table) s ≤ room = leb-true (expandedSize (entries table) s) room q in
+          le-leb n room (omega (arith, e ∙ min-eq-right (omega arith)))
+      go false q =
+          let long : room < expandedSize (entries table) s = omega (arith, leb-false (expandedSize (entries table) s) room q) in
+          lt-leb n room (omega (arith, e ∙ min-eq-left (omega arith)))
+
+pub ruleset sure-ways = (unsure, sure)
 
 -- ---- `expand`
 module _ (es : Entries) (s out : List ℕ) (at : ℕ) where
@@ -441,42 +511,32 @@ module _ (es : Entries) (s out : List ℕ) (at : ℕ) where
   pub outside-kept : length out < at → out ≡ expandOut es s out at
   outside-kept h = none-kept (omega arith)
 
-  module _ (h : at ≤ length out) (n : ℕ) (e : n ≡ min (length out - at + 1) (expandedSize es s)) where
-    past : length out - at < n → length out < at + length (expanded es s)
+  module _ (h : at ≤ length out) (fit : Bool) (e : fit ≡ leb (expandedSize es s) (length out - at)) where
+    past : fit ≡ false → length out < at + length (expanded es s)
     unfolding expandedSize
-    past g = omega (arith, e, min-le-right (length out - at + 1) (expandedSize es s))
+    past n = omega (arith, leb-false (expandedSize es s) (length out - at) (sym e ∙ n))
 
-    pub long-told : length out - at < n → NoRoom ≡ expandAnswer es s out at
-    long-told g = none-told (past g)
+    pub long-told : fit ≡ false → NoRoom ≡ expandAnswer es s out at
+    long-told n = none-told (past n)
 
-    pub long-kept : length out - at < n → out ≡ expandOut es s out at
-    long-kept g = none-kept (past g)
+    pub long-kept : fit ≡ false → out ≡ expandOut es s out at
+    long-kept n = none-kept (past n)
 
-    module _ (g : n ≤ length out - at) where
-      exact : n ≡ length (expanded es s)
-      unfolding expandedSize
-      exact = go (leb (expandedSize es s) (length out - at + 1)) refl
-        where
-          go : (b : Bool) → leb (expandedSize es s) (length out - at + 1) ≡ b → n ≡ expandedSize es s
-          go true q = e ∙ min-eq-right (leb-true (expandedSize es s) (length out - at + 1) q)
-          go false q =
-              let more : length out - at + 1 ≤ expandedSize es s = omega (arith, leb-false (expandedSize es s) (length out - at + 1) q) in
-              let all : n ≡ length out - at + 1 = e ∙ min-eq-left more in
-              absurd (omega arith)
-
+    module _ (y : fit ≡ true) where
       pub expand-room : at + length (expanded es s) ≤ length out
-      expand-room = omega (arith, exact)
+      unfolding expandedSize
+      expand-room = omega (arith, leb-true (expandedSize es s) (length out - at) (sym e ∙ y))
 
-      fits : expandFits es s out at ≡ true
+      has-room : expandFits es s out at ≡ true
       unfolding expandFits
-      fits = le-leb (at + length (expanded es s)) (length out) expand-room
+      has-room = le-leb (at + length (expanded es s)) (length out) expand-room
 
-      pub all-told : Done (at + n) ≡ expandAnswer es s out at
+      pub all-told : (end : ℕ) → end ≡ at + length (expanded es s) → Done end ≡ expandAnswer es s out at
       unfolding expandAnswer
-      all-told = rw (fits, exact)
+      all-told end f = rw (has-room, f)
 
       pub all-laid : (out′ : List ℕ) → out′ ≡ sets out at (expanded es s) → out′ ≡ expandOut es s out at
       unfolding expandOut
-      all-laid out′ f = rw fits f
+      all-laid out′ f = rw has-room f
 
 pub ruleset expand-ways = (outside-told, outside-kept, long-told, long-kept, expand-room, all-told, all-laid)

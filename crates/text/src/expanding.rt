@@ -1,15 +1,16 @@
 // Texts with their tokens replaced: judged and measured where they stand, and copied by `expand` alone. The run of octets above the last token
-// with which a text begins is passed over, eight octets at a time. What comes after it is measured, eight octets at a time too, by the widths of
-// all tokens, for which the table is gone through once a text. To write an expansion, each run is copied, and a token costs a `find`, at most 16 steps in a
-// table that passes `is_table`. Whether each token has an entry is asked of all of them at once.
+// with which a text begins is passed over, eight octets at a time. What comes after it is measured, by eights too as far as they go, by the widths
+// of all tokens, for which the table is gone through once a text. To write an expansion, each run is copied, and a token costs a `find`, at most 16
+// steps in a table that passes `is_table`. It is measured before that only where it could be too long for its room. Whether each token has an entry
+// is asked of all of them at once.
 ghost use mathlib.Core.Path.{_≡_};
-ghost use Prim.Native.Nat.{_+_, _≤_, _<_, min};
+ghost use Prim.Native.Nat.{_+_, _^_, _≤_, _<_, min};
 ghost use lib.Dec.{leb};
 ghost use lib.ListN.{length, take, drop};
 ghost use lib.Seq.{sets};
 ghost use Rattle.text.specs.Tokens.{entries, stands, expanded, covered, shownLength, expandedSize};
 ghost use Rattle.text.specs.Calls.{ExpandClaim};
-ghost use Rattle.text.specs.Leaves.{Marks, replacedBy, widthBy, widthOf};
+ghost use Rattle.text.specs.Leaves.{Marks, replacedBy, widthBy, widthOf, lowIn, SurelyFits};
 use crate::Expanded;
 use crate::Found;
 use crate::characters::is_token;
@@ -225,9 +226,11 @@ fn write_one(table: &[u8], b: u8, out: &mut [u8], at: usize) -> usize
     }
 }
 
-// The expansion of a text, written from a place on: runs without tokens as they are, and what stands for each octet between them.
-fn write_all(table: &[u8], s: &[u8], out: &mut [u8], at: usize)
+// The expansion of a text, written from a place on, and the place after it: runs without tokens as they are, and what stands for each octet between
+// them.
+fn write_all(table: &[u8], s: &[u8], out: &mut [u8], at: usize) -> usize
     requires { ⌜ at + length (expanded (entries (now table)) (now s)) ≤ length (now out) ⌝ }
+    ensures { λ r. ⌜ r ≡ at + length (expanded (entries (now (table .entry))) (now (s .entry))) ⌝ }
     ensures { λ _. ⌜ now (out .exit) ≡ sets (now (out .entry)) at (expanded (entries (now (table .entry))) (now (s .entry))) ⌝ }
 {
     let mut to = at;
@@ -237,25 +240,62 @@ fn write_all(table: &[u8], s: &[u8], out: &mut [u8], at: usize)
         copy(&s[i..from], out, to);
         let behind = to + (from - i);
         if from == s.len() {
-            return;
+            return behind;
         }
         to = write_one(table, s[from], out, behind);
         i = from + 1;
     }
+    to
 }
 
-// The expansion of a text, written from a place on where it fits. It is measured first, and nothing is written where it doesn't fit.
+// How many octets of a text are not above the last token. A count is all that is kept, so that the compiler makes one comparison of many octets.
+fn low_in(s: &[u8]) -> usize
+    ensures { λ r. ⌜ r ≡ lowIn (now (s .entry)) ⌝ }
+{
+    let mut n: usize = 0;
+    let mut at: usize = 0;
+    while at < s.len() {
+        if s[at] < 0x14 {
+            n += 1;
+        }
+        at += 1;
+    }
+    n
+}
+
+// A text whose expansion has room by any table: an entry has at most 255 octets, so each octet that could be a token adds at most 254. No: it may
+// have room all the same.
+fn surely_fits(s: &[u8], room: usize) -> bool
+    ensures { λ r. ⌜ SurelyFits (now (s .entry)) room r ⌝ }
+{
+    if s.len() > room {
+        return false;
+    }
+    low_in(s) <= (room - s.len()) / 254
+}
+
+// The expansion of a text has room. It is measured only where that isn't sure by its low octets alone. The room is that of a slice, so that one more
+// than it is still a number.
+fn fits(table: &[u8], s: &[u8], room: usize) -> bool
+    requires { ⌜ room < 2 ^ 63 ⌝ }
+    ensures { λ r. ⌜ r ≡ leb (expandedSize (entries (now (table .entry))) (now (s .entry))) room ⌝ }
+{
+    if surely_fits(s, room) {
+        return true;
+    }
+    expanded_size(table, s, room + 1) <= room
+}
+
+// The expansion of a text, written from a place on where it fits. That is known before the first octet is written, and nothing is written where it
+// doesn't fit.
 pub fn expand(table: &[u8], s: &[u8], out: &mut [u8], at: usize) -> Expanded
     ensures { λ r. ⌜ ExpandClaim (entries (now (table .entry))) (now (s .entry)) (now (out .entry)) (now (out .exit)) at r ⌝ }
 {
     if at > out.len() {
         return Expanded::NoRoom;
     }
-    let room = out.len() - at;
-    let size = expanded_size(table, s, room + 1);
-    if size > room {
+    if !fits(table, s, out.len() - at) {
         return Expanded::NoRoom;
     }
-    write_all(table, s, out, at);
-    Expanded::Done(at + size)
+    Expanded::Done(write_all(table, s, out, at))
 }
