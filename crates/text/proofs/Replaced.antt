@@ -1,24 +1,24 @@
 -- Texts with their tokens replaced: what the definitions are on each way through src/expanding.rt.
-use Prim.Native.Nat.{ℕ, _+_, _-_, _≤_, _<_, _^_, min}
+use Prim.Native.Nat.{ℕ, _+_, _-_, _/_, _≤_, _<_, _^_, min}
 use mathlib.Core.Path.{_≡_, refl, sym, ap, ap₂, subst, _∙_}
 use mathlib.Core.List.{List, [], _∷_, _++_}
 use mathlib.Core.Bool.{Bool, true, false, _&&_, _||_, cond, false≢true}
 use mathlib.Core.Option.{some}
 use lib.ListN.{length, getD, take, drop, set, length-drop, length-append, length-set, drop-of-length-le}
 use lib.Seq.{sets, length-sets, length-take-le}
-use lib.Dec.{eqb, leb}
+use lib.Dec.{eqb, leb, ltb}
 use lib.Bits.{bitOr, bitAnd}
-use native.Mathlib.Nat.{min-eq-left, min-eq-right, min-le-right}
+use native.Mathlib.Nat.{min-eq-left, min-eq-right}
 use native.Mathlib.Omega.{arith}
 use mir.Val.{Fits}
 use mir.Syntax.{w64}
-use borrow.Author.Tests.{le-leb, lt-leb, leb-true, leb-false, eq-eqb, eqb-true, eqb-false}
-use Rattle.octets.specs.Numbers.{among}
+use borrow.Author.Tests.{le-leb, lt-leb, leb-true, leb-false, lt-ltb, le-ltb, eq-eqb, eqb-true, eqb-false}
+use Rattle.octets.specs.Numbers.{among, Octets}
 use Rattle.octets.proofs.Tests.{and-left, and-right, and-true, or-elim, or-left, or-true}
 use Rattle.text.specs.Text.{token}
 use Rattle.text.specs.Tokens.{Entries, entries, entry, orItself, stands, expanded, present, covers, covered, shownLength, expandedSize}
 use Rattle.text.specs.Calls.{found, foundIn, Inside, expandFits, expandAnswer, expandOut}
-use Rattle.text.specs.Leaves.{bit, tokenBit, Marks, tags, replacedBy, Widths, widthBy, widthOf}
+use Rattle.text.specs.Leaves.{bit, tokenBit, Marks, tags, replacedBy, Widths, widthBy, widthOf, lowIn, SurelyFits}
 use Rattle.text.specs.Runs.{UntokenedTo}
 use Rattle.text.specs.declared.Expanded.the-variants.{Done, NoRoom}
 use Rattle.text.specs.declared.Found.{Found}
@@ -26,7 +26,8 @@ use Rattle.text.specs.declared.Found.the-variants.{At, Nothing}
 use Rattle.octets.proofs.Lists.{drop-next, sets-append}
 use Rattle.text.proofs.Masks.{bit-none, kept-within, within-kept, Marking, mark-begin, mark-done, mark-more}
 use Rattle.text.proofs.Entries.{named, inside}
-use Rattle.text.proofs.Widths.{width-of-is}
+use Rattle.text.proofs.Widths.{width-none, width-next, width-eight, width-of-is}
+use Rattle.text.proofs.Length.{low-bound}
 use Rattle.text.proofs.RunLaws.{run-length, expanded-run, expanded-length-run, shown-run, size-run}
 
 -- ---- the loop of `tokens_in`
@@ -163,7 +164,7 @@ module _ (table : List ℕ) (b : ℕ) (f : Found) (e : f ≡ replacedBy (entries
     width-part : size ≡ length (stands (entries table) b)
     width-part = sym (ap length stands-part ∙ length-take-le size (drop start table) (omega (arith, part-inside, length-drop start table)))
 
--- ---- the loop of `fits_from`: `left` of the limit is left for what is left of the text
+-- ---- the loops of `fits_singly` and `fits_from`: `left` of the limit is left for what is left of the text
 leb-left : (n m l : ℕ) → n ≤ l → leb (n + m) l ≡ leb m (l - n)
 leb-left n m l h = go (leb m (l - n)) refl
   where
@@ -171,37 +172,46 @@ leb-left n m l h = go (leb m (l - n)) refl
     go true e = le-leb (n + m) l (omega (arith, leb-true m (l - n) e))
     go false e = lt-leb (n + m) l (omega (arith, leb-false m (l - n) e))
 
--- the width of a text at a place: that of the octet there, and that of what comes after it
-width-none : (w s : List ℕ) (at : ℕ) → length s ≤ at → widthOf w (drop at s) ≡ 0
-unfolding widthOf
-width-none w s at h = ap (widthOf w) (drop-of-length-le s h)
-
-width-next : (w s : List ℕ) (at : ℕ) → at < length s → (size : ℕ) → size ≡ widthBy w (getD s at 0) → widthOf w (drop at s) ≡ size + widthOf w (drop (at + 1) s)
-unfolding widthOf
-width-next w s at h size e = ap (widthOf w) (drop-next s at 0 h) ∙ rw e
-
 pub record Fitting (w s : List ℕ) (from limit left at : ℕ) : Type 0 where
+  pub within : at ≤ length s
   pub same : leb (widthOf w (drop from s)) limit ≡ leb (widthOf w (drop at s)) left
 
 module _ (w s : List ℕ) (from limit : ℕ) where
-  pub fit-begin : Fitting w s from limit limit from
-  fit-begin = record { same = refl }
+  pub fit-begin : from ≤ length s → Fitting w s from limit limit from
+  fit-begin h = record { within = h; same = refl }
 
   module _ (left at : ℕ) (inv : Fitting w s from limit left at) where
     pub fit-done : length s ≤ at → true ≡ leb (widthOf w (drop from s)) limit
     fit-done h = sym (inv .same ∙ le-leb (widthOf w (drop at s)) left (omega (arith, width-none w s at h)))
 
-    module _ (h : at < length s) (size : ℕ) (e : size ≡ widthBy w (getD s at 0)) where
-      fit-step : leb (widthOf w (drop from s)) limit ≡ leb (size + widthOf w (drop (at + 1) s)) left
-      fit-step = inv .same ∙ rw (width-next w s at h size e)
+    pub fit-rest : (r : Bool) → r ≡ leb (widthOf w (drop at s)) left → r ≡ leb (widthOf w (drop from s)) limit
+    fit-rest r e = e ∙ sym (inv .same)
 
+    -- so many octets more, and their width
+    module _ (n size : ℕ) (next : widthOf w (drop at s) ≡ size + widthOf w (drop (at + n) s)) where
+      step-stop : left < size → false ≡ leb (widthOf w (drop from s)) limit
+      step-stop g = sym (inv .same ∙ lt-leb (widthOf w (drop at s)) left (omega (arith, next)))
+
+      step-again : at + n ≤ length s → size ≤ left → Fitting w s from limit (left - size) (at + n)
+      step-again h g = record { within = h; same = inv .same ∙ rw next (leb-left size (widthOf w (drop (at + n) s)) left g) }
+
+    module _ (h : at < length s) (size : ℕ) (e : size ≡ widthBy w (getD s at 0)) where
       pub fit-stop : left < size → false ≡ leb (widthOf w (drop from s)) limit
-      fit-stop g = sym (fit-step ∙ lt-leb (size + widthOf w (drop (at + 1) s)) left (omega arith))
+      fit-stop = step-stop 1 size (width-next w s at h size e)
 
       pub fit-again : size ≤ left → Fitting w s from limit (left - size) (at + 1)
-      fit-again g = record { same = fit-step ∙ leb-left size (widthOf w (drop (at + 1) s)) left g }
+      fit-again = step-again 1 size (width-next w s at h size e) (omega arith)
+
+    module _ (h : 8 ≤ length s - at) (size : ℕ) (e : size ≡ widthOf w (take 8 (take (length s - at) (drop at s)))) where
+      pub fit-eight-stop : left < size → false ≡ leb (widthOf w (drop from s)) limit
+      fit-eight-stop = step-stop 8 size (width-eight w s at size e)
+
+      pub fit-eight-again : size ≤ left → Fitting w s from limit (left - size) (at + 8)
+      fit-eight-again = step-again 8 size (width-eight w s at size e) (omega arith)
 
 pub ruleset fit-ways = (fit-begin, fit-done, fit-stop, fit-again)
+
+pub ruleset fit-eight-ways = (fit-begin, fit-rest, fit-eight-stop, fit-eight-again)
 
 -- ---- `is_shown`
 module _ (es : Entries) (s : List ℕ) (limit : ℕ) where
@@ -229,29 +239,42 @@ module _ (es : Entries) (s : List ℕ) (limit : ℕ) where
 
 pub ruleset shown-ways = (shown-none, shown-past, shown-end, shown-from)
 
--- ---- the loop of `size_from`
-pub record Sizing (w s : List ℕ) (from most total at : ℕ) : Type 0 where
+-- ---- the loops of `size_singly` and `size_from`: what is added up so far, and the width of what is left of the text
+pub record Sizing (w s : List ℕ) (whole most total at : ℕ) : Type 0 where
+  pub within : at ≤ length s
   pub short : total ≤ most
-  pub same : total + widthOf w (drop at s) ≡ from + widthOf w (drop from s)
+  pub same : total + widthOf w (drop at s) ≡ whole
 
-module _ (w s : List ℕ) (from most : ℕ) where
-  pub size-begin : from ≤ most → Sizing w s from most from from
-  size-begin h = record { short = h; same = refl }
+module _ (w s : List ℕ) (most : ℕ) where
+  pub size-begin : (before from : ℕ) → from ≤ length s → before ≤ most → Sizing w s (before + widthOf w (drop from s)) most before from
+  size-begin before from h g = record { within = h; short = g; same = refl }
 
-  module _ (total at : ℕ) (inv : Sizing w s from most total at) where
-    pub size-done : length s ≤ at → total ≡ min most (from + widthOf w (drop from s))
+  module _ (whole total at : ℕ) (inv : Sizing w s whole most total at) where
+    pub size-done : length s ≤ at → total ≡ min most whole
     size-done h =
-        let all : total ≡ from + widthOf w (drop from s) = omega (arith, inv .same, width-none w s at h) in
+        let all : total ≡ whole = omega (arith, inv .same, width-none w s at h) in
         sym (min-eq-right (omega (arith, inv .short)) ∙ sym all)
 
+    pub size-rest : (r : ℕ) → r ≡ min most (total + widthOf w (drop at s)) → r ≡ min most whole
+    size-rest r e = e ∙ ap (min most) (inv .same)
+
     module _ (h : at < length s) (size : ℕ) (e : size ≡ widthBy w (getD s at 0)) where
-      pub size-stop : most - total ≤ size → most ≡ min most (from + widthOf w (drop from s))
+      pub size-stop : most - total ≤ size → most ≡ min most whole
       size-stop g = sym (min-eq-left (omega (arith, inv .short, inv .same, width-next w s at h size e)))
 
-      pub size-again : size < most - total → Sizing w s from most (total + size) (at + 1)
-      size-again g = record { short = omega arith; same = omega (arith, inv .same, width-next w s at h size e) }
+      pub size-again : size < most - total → Sizing w s whole most (total + size) (at + 1)
+      size-again g = record { within = omega arith; short = omega arith; same = omega (arith, inv .same, width-next w s at h size e) }
+
+    module _ (h : 8 ≤ length s - at) (size : ℕ) (e : size ≡ widthOf w (take 8 (take (length s - at) (drop at s)))) where
+      pub size-eight-stop : most - total ≤ size → most ≡ min most whole
+      size-eight-stop g = sym (min-eq-left (omega (arith, inv .short, inv .same, width-eight w s at size e)))
+
+      pub size-eight-again : size < most - total → Sizing w s whole most (total + size) (at + 8)
+      size-eight-again g = record { within = omega arith; short = omega arith; same = omega (arith, inv .same, width-eight w s at size e) }
 
 pub ruleset size-ways = (size-begin, size-done, size-stop, size-again)
+
+pub ruleset size-eight-ways = (size-begin, size-rest, size-eight-stop, size-eight-again)
 
 -- ---- `expanded_size`
 module _ (es : Entries) (s : List ℕ) (most : ℕ) where
@@ -343,18 +366,23 @@ pub ruleset one-ways = (self-room, self-end, self-out, part-inside, part-room, p
 -- ---- the loop of `write_all`
 pub record Writing (es : Entries) (s out₀ : List ℕ) (at : ℕ) (out : List ℕ) (to i : ℕ) : Type 0 where
   pub within : i ≤ length s
-  pub room : to + length (expanded es (drop i s)) ≤ length out₀
+  pub room : at + length (expanded es s) ≤ length out₀
+  pub ends : to + length (expanded es (drop i s)) ≡ at + length (expanded es s)
   pub long : length out ≡ length out₀
   pub same : sets out to (expanded es (drop i s)) ≡ sets out₀ at (expanded es s)
 
 module _ (es : Entries) (s out₀ : List ℕ) (at : ℕ) where
   pub write-begin : at + length (expanded es s) ≤ length out₀ → Writing es s out₀ at out₀ at 0
-  write-begin h = record { within = omega arith; room = h; long = refl; same = refl }
+  write-begin h = record { within = omega arith; room = h; ends = refl; long = refl; same = refl }
 
   module _ (out : List ℕ) (to i : ℕ) (inv : Writing es s out₀ at out to i) where
     pub write-done : length s ≤ i → out ≡ sets out₀ at (expanded es s)
     unfolding expanded
     write-done h = ap (λ q. sets out to (expanded es q)) (sym (drop-of-length-le s h)) ∙ inv .same
+
+    pub write-done-at : length s ≤ i → to ≡ at + length (expanded es s)
+    unfolding expanded
+    write-done-at h = omega (arith, inv .ends, ap (λ q. length (expanded es q)) (drop-of-length-le s h))
 
     -- what comes first of the expansion that is still to be written is laid where it belongs
     write-part : (part : List ℕ) (n : ℕ) → n ≤ length s → expanded es (drop i s) ≡ part ++ expanded es (drop n s)
@@ -362,7 +390,8 @@ module _ (es : Entries) (s out₀ : List ℕ) (at : ℕ) where
     write-part part n h split to′ out′ e f =
         record {
           within = h;
-          room = omega (arith, inv .room, ap length split ∙ length-append part (expanded es (drop n s)), e);
+          room = inv .room;
+          ends = omega (arith, inv .ends, ap length split ∙ length-append part (expanded es (drop n s)), e);
           long = ap length f ∙ length-sets out to part ∙ inv .long;
           same =
               ap₂ (λ o (k : ℕ). sets o k (expanded es (drop n s))) f e
@@ -371,7 +400,7 @@ module _ (es : Entries) (s out₀ : List ℕ) (at : ℕ) where
 
   module _ (out : List ℕ) (to i from : ℕ) (inv : Writing es s out₀ at out to i) (run : UntokenedTo s i from) where
     pub copy-room : to + length (take (from - i) (drop i s)) ≤ length out
-    copy-room = omega (arith, inv .room, inv .long, expanded-length-run es s i from run, run-length 0x14 0xFF s i from run)
+    copy-room = omega (arith, inv .room, inv .ends, inv .long, expanded-length-run es s i from run, run-length 0x14 0xFF s i from run)
 
     module _ (out′ : List ℕ) (f : out′ ≡ sets out to (take (from - i) (drop i s))) where
       write-behind : Writing es s out₀ at out′ (to + (from - i)) from
@@ -382,6 +411,9 @@ module _ (es : Entries) (s out₀ : List ℕ) (at : ℕ) where
       pub write-end : from ≡ length s → out′ ≡ sets out₀ at (expanded es s)
       write-end q = write-done out′ (to + (from - i)) from write-behind (omega arith)
 
+      pub write-end-at : from ≡ length s → to + (from - i) ≡ at + length (expanded es s)
+      write-end-at q = write-done-at out′ (to + (from - i)) from write-behind (omega arith)
+
       module _ (h : from ≡ length s → ⊥) where
         split : expanded es (drop from s) ≡ stands es (getD s from 0) ++ expanded es (drop (from + 1) s)
         unfolding expanded
@@ -390,14 +422,74 @@ module _ (es : Entries) (s out₀ : List ℕ) (at : ℕ) where
         pub write-room : to + (from - i) + length (stands es (getD s from 0)) ≤ length out′
         write-room =
             omega
-            (arith, write-behind .room, write-behind .long, ap length split ∙ length-append (stands es (getD s from 0)) (expanded es (drop (from + 1) s)))
+            (arith, write-behind .room, write-behind .ends, write-behind .long, ap length split ∙ length-append (stands es (getD s from 0)) (expanded es (drop (from + 1) s)))
 
         pub write-again : (to′ : ℕ) (out″ : List ℕ) → to′ ≡ to + (from - i) + length (stands es (getD s from 0))
             → out″ ≡ sets out′ (to + (from - i)) (stands es (getD s from 0)) → Writing es s out₀ at out″ to′ (from + 1)
         write-again =
             write-part out′ (to + (from - i)) from write-behind (stands es (getD s from 0)) (from + 1) (omega (arith, run .inside)) split
 
-pub ruleset write-ways = (write-begin, write-done, copy-room, write-end, write-room, write-again)
+pub ruleset write-ways = (write-begin, write-done, write-done-at, copy-room, write-end, write-end-at, write-room, write-again)
+
+-- ---- the loop of `low_in`
+pub record Counting (s : List ℕ) (n at : ℕ) : Type 0 where
+  pub within : at ≤ length s
+  pub few : n ≤ at
+  pub same : n + lowIn (drop at s) ≡ lowIn s
+
+module _ (s : List ℕ) where
+  pub count-begin : Counting s 0 0
+  count-begin = record { within = omega arith; few = omega arith; same = omega arith }
+
+  module _ (n at : ℕ) (inv : Counting s n at) where
+    pub count-done : length s ≤ at → n ≡ lowIn s
+    unfolding lowIn
+    count-done h = omega (arith, inv .same, ap lowIn (drop-of-length-le s h))
+
+    module _ (h : at < length s) where
+      next-low : lowIn (drop at s) ≡ cond (ltb (getD s at 0) 0x14) 1 0 + lowIn (drop (at + 1) s)
+      unfolding lowIn
+      next-low = ap lowIn (drop-next s at 0 h)
+
+      pub count-low : getD s at 0 < 0x14 → (m : ℕ) → m ≡ n + 1 → Counting s m (at + 1)
+      count-low g m e =
+          let one : lowIn (drop at s) ≡ 1 + lowIn (drop (at + 1) s) = next-low ∙ rw (lt-ltb (getD s at 0) 0x14 g) in
+          record { within = omega arith; few = omega (arith, inv .few); same = omega (arith, inv .same) }
+
+      pub count-high : 0x14 ≤ getD s at 0 → (m : ℕ) → m ≡ n → Counting s m (at + 1)
+      count-high g m e =
+          let none : lowIn (drop at s) ≡ 0 + lowIn (drop (at + 1) s) = next-low ∙ rw (le-ltb (getD s at 0) 0x14 g) in
+          record { within = omega arith; few = omega (arith, inv .few); same = omega (arith, inv .same) }
+
+pub ruleset count-ways = (count-begin, count-done, count-low, count-high)
+
+-- ---- `surely_fits` and `fits`
+module _ (s : List ℕ) (room : ℕ) where
+  pub unsure : SurelyFits s room false
+  unsure = record { always = λ e. absurd (false≢true e) }
+
+  pub sure : length s ≤ room → (n : ℕ) → n ≡ lowIn s → SurelyFits s room (leb n ((room - length s) / 254))
+  sure h n e =
+      record {
+        always = λ y table os. omega (arith, low-bound table s os, leb-true n ((room - length s) / 254) y);
+      }
+
+module _ (table s : List ℕ) (room : ℕ) where
+  pub fits-surely : Octets table → (r : Bool) → SurelyFits s room r → r ≡ true → true ≡ leb (expandedSize (entries table) s) room
+  fits-surely os r w y = sym (le-leb (expandedSize (entries table) s) room (w .always y table os))
+
+  pub fits-measured : (n : ℕ) → n ≡ min (room + 1) (expandedSize (entries table) s) → leb n room ≡ leb (expandedSize (entries table) s) room
+  fits-measured n e = go (leb (expandedSize (entries table) s) room) refl
+    where
+      go : (b : Bool) → leb (expandedSize (entries table) s) room ≡ b → leb n room ≡ b
+      go true q =
+          let short : expandedSize (entries table) s ≤ room = leb-true (expandedSize (entries table) s) room q in
+          le-leb n room (omega (arith, e ∙ min-eq-right (omega arith)))
+      go false q =
+          let long : room < expandedSize (entries table) s = omega (arith, leb-false (expandedSize (entries table) s) room q) in
+          lt-leb n room (omega (arith, e ∙ min-eq-left (omega arith)))
+
+pub ruleset sure-ways = (unsure, sure)
 
 -- ---- `expand`
 module _ (es : Entries) (s out : List ℕ) (at : ℕ) where
@@ -419,42 +511,32 @@ module _ (es : Entries) (s out : List ℕ) (at : ℕ) where
   pub outside-kept : length out < at → out ≡ expandOut es s out at
   outside-kept h = none-kept (omega arith)
 
-  module _ (h : at ≤ length out) (n : ℕ) (e : n ≡ min (length out - at + 1) (expandedSize es s)) where
-    past : length out - at < n → length out < at + length (expanded es s)
+  module _ (h : at ≤ length out) (fit : Bool) (e : fit ≡ leb (expandedSize es s) (length out - at)) where
+    past : fit ≡ false → length out < at + length (expanded es s)
     unfolding expandedSize
-    past g = omega (arith, e, min-le-right (length out - at + 1) (expandedSize es s))
+    past n = omega (arith, leb-false (expandedSize es s) (length out - at) (sym e ∙ n))
 
-    pub long-told : length out - at < n → NoRoom ≡ expandAnswer es s out at
-    long-told g = none-told (past g)
+    pub long-told : fit ≡ false → NoRoom ≡ expandAnswer es s out at
+    long-told n = none-told (past n)
 
-    pub long-kept : length out - at < n → out ≡ expandOut es s out at
-    long-kept g = none-kept (past g)
+    pub long-kept : fit ≡ false → out ≡ expandOut es s out at
+    long-kept n = none-kept (past n)
 
-    module _ (g : n ≤ length out - at) where
-      exact : n ≡ length (expanded es s)
-      unfolding expandedSize
-      exact = go (leb (expandedSize es s) (length out - at + 1)) refl
-        where
-          go : (b : Bool) → leb (expandedSize es s) (length out - at + 1) ≡ b → n ≡ expandedSize es s
-          go true q = e ∙ min-eq-right (leb-true (expandedSize es s) (length out - at + 1) q)
-          go false q =
-              let more : length out - at + 1 ≤ expandedSize es s = omega (arith, leb-false (expandedSize es s) (length out - at + 1) q) in
-              let all : n ≡ length out - at + 1 = e ∙ min-eq-left more in
-              absurd (omega arith)
-
+    module _ (y : fit ≡ true) where
       pub expand-room : at + length (expanded es s) ≤ length out
-      expand-room = omega (arith, exact)
+      unfolding expandedSize
+      expand-room = omega (arith, leb-true (expandedSize es s) (length out - at) (sym e ∙ y))
 
-      fits : expandFits es s out at ≡ true
+      has-room : expandFits es s out at ≡ true
       unfolding expandFits
-      fits = le-leb (at + length (expanded es s)) (length out) expand-room
+      has-room = le-leb (at + length (expanded es s)) (length out) expand-room
 
-      pub all-told : Done (at + n) ≡ expandAnswer es s out at
+      pub all-told : (end : ℕ) → end ≡ at + length (expanded es s) → Done end ≡ expandAnswer es s out at
       unfolding expandAnswer
-      all-told = rw (fits, exact)
+      all-told end f = rw (has-room, f)
 
       pub all-laid : (out′ : List ℕ) → out′ ≡ sets out at (expanded es s) → out′ ≡ expandOut es s out at
       unfolding expandOut
-      all-laid out′ f = rw fits f
+      all-laid out′ f = rw has-room f
 
 pub ruleset expand-ways = (outside-told, outside-kept, long-told, long-kept, expand-room, all-told, all-laid)

@@ -1,16 +1,17 @@
 -- How many octets stand for each octet: what `widths_of` knows on its walk over the table, and a text measured by its answer.
 use Prim.Native.Nat.{ℕ, _+_, _-_, _/_, _^_, _≤_, _<_, min}
 use mathlib.Core.Path.{_≡_, refl, sym, ap, ap₂, subst, _∙_}
-use mathlib.Core.List.{List, [], _∷_}
+use mathlib.Core.List.{List, [], _∷_, _++_}
 use mathlib.Core.Bool.{Bool, true, false, cond, not, _&&_, _||_}
-use lib.ListN.{length, getD, take, drop, set, replicate, length-set, length-append, drop-of-length-le, getD-replicate}
-use lib.Seq.{getD-set-same, getD-set-other}
+use lib.ListN.{length, getD, take, drop, set, replicate, length-set, length-append, drop-of-length-le, getD-replicate, take-append-drop}
+use lib.Seq.{drop-drop, getD-set-same, getD-set-other}
 use lib.Dec.{eqb, leb}
 use lib.Bits.{bitOr, bitAnd}
 use native.Mathlib.Nat.{min-eq-left, min-eq-right}
 use native.Mathlib.Omega.{arith}
 use borrow.Author.Tests.{eqb-true, eqb-false, ne-eqb, leb-true, leb-false}
 use Rattle.octets.proofs.Tests.{and-false, cond-same}
+use Rattle.octets.proofs.Lists.{part-to-end, drop-next}
 use Rattle.text.specs.Text.{token}
 use Rattle.text.specs.Tokens.{Entries, entries, cut, entry, orItself, stands, expanded}
 use Rattle.text.specs.Leaves.{ahead, bit, tokenBit, placeOf, Widths, widthBy, widthOf}
@@ -184,6 +185,43 @@ module _ (w : List ℕ) (b k place r : ℕ) (e : place ≡ k) (f : r ≡ getD w 
 
   pub width-high : 0x14 ≤ b → k ≡ 0x14 → r ≡ widthBy w b
   width-high h q = chosen (q ∙ sym (min-eq-right h))
+
+-- ---- `width_of_eight`
+pub eight-widths : (w s : List ℕ) → 8 ≤ length s → (a b c d e f g h : ℕ)
+    → a ≡ widthBy w (getD s 0 0) → b ≡ widthBy w (getD s 1 0) → c ≡ widthBy w (getD s 2 0) → d ≡ widthBy w (getD s 3 0)
+    → e ≡ widthBy w (getD s 4 0) → f ≡ widthBy w (getD s 5 0) → g ≡ widthBy w (getD s 6 0) → h ≡ widthBy w (getD s 7 0)
+    → a + b + c + d + e + f + g + h ≡ widthOf w (take 8 s)
+unfolding widthOf
+eight-widths w (i ∷ j ∷ k ∷ l ∷ m ∷ n ∷ o ∷ p ∷ s) z a b c d e f g h ea eb ec ed ee ef eg eh = omega arith
+eight-widths w [] z a b c d e f g h ea eb ec ed ee ef eg eh = absurd (omega arith)
+eight-widths w (i ∷ []) z a b c d e f g h ea eb ec ed ee ef eg eh = absurd (omega arith)
+eight-widths w (i ∷ j ∷ []) z a b c d e f g h ea eb ec ed ee ef eg eh = absurd (omega arith)
+eight-widths w (i ∷ j ∷ k ∷ []) z a b c d e f g h ea eb ec ed ee ef eg eh = absurd (omega arith)
+eight-widths w (i ∷ j ∷ k ∷ l ∷ []) z a b c d e f g h ea eb ec ed ee ef eg eh = absurd (omega arith)
+eight-widths w (i ∷ j ∷ k ∷ l ∷ m ∷ []) z a b c d e f g h ea eb ec ed ee ef eg eh = absurd (omega arith)
+eight-widths w (i ∷ j ∷ k ∷ l ∷ m ∷ n ∷ []) z a b c d e f g h ea eb ec ed ee ef eg eh = absurd (omega arith)
+eight-widths w (i ∷ j ∷ k ∷ l ∷ m ∷ n ∷ o ∷ []) z a b c d e f g h ea eb ec ed ee ef eg eh = absurd (omega arith)
+
+-- ---- the width of a text at a place: that of the octets there, one or eight, and that of what comes after them
+width-append : (w a b : List ℕ) → widthOf w (a ++ b) ≡ widthOf w a + widthOf w b
+unfolding widthOf
+width-append w [] b = omega arith
+width-append w (x ∷ a) b = omega (arith, width-append w a b)
+
+module _ (w s : List ℕ) (at : ℕ) where
+  pub width-none : length s ≤ at → widthOf w (drop at s) ≡ 0
+  unfolding widthOf
+  width-none h = ap (widthOf w) (drop-of-length-le s h)
+
+  pub width-next : at < length s → (size : ℕ) → size ≡ widthBy w (getD s at 0) → widthOf w (drop at s) ≡ size + widthOf w (drop (at + 1) s)
+  unfolding widthOf
+  width-next h size e = ap (widthOf w) (drop-next s at 0 h) ∙ rw e
+
+  pub width-eight : (size : ℕ) → size ≡ widthOf w (take 8 (take (length s - at) (drop at s))) → widthOf w (drop at s) ≡ size + widthOf w (drop (at + 8) s)
+  width-eight size e =
+      ap (widthOf w) (sym (take-append-drop 8 (drop at s)))
+      ∙ width-append w (take 8 (drop at s)) (drop 8 (drop at s))
+      ∙ ap₂ (λ (m n : ℕ). m + n) (sym (e ∙ ap (λ q. widthOf w (take 8 q)) (part-to-end s at))) (ap (widthOf w) (drop-drop 8 at s))
 
 -- ---- a text by such widths
 module _ (es : Entries) (w : List ℕ) (widths : Widths es w) where

@@ -1,15 +1,16 @@
 // Texts with their tokens replaced: judged and measured where they stand, and copied by `expand` alone. The run of octets above the last token
-// with which a text begins is passed over, eight octets at a time. What comes after it is measured octet by octet, by the widths of all tokens,
-// for which the table is gone through once a text. To write an expansion, each run is copied, and a token costs a `find`, at most 16 steps in a
-// table that passes `is_table`. Whether each token has an entry is asked of all of them at once.
+// with which a text begins is passed over, eight octets at a time. What comes after it is measured, by eights too as far as they go, by the widths
+// of all tokens, for which the table is gone through once a text. To write an expansion, each run is copied, and a token costs a `find`, at most 16
+// steps in a table that passes `is_table`. It is measured before that only where it could be too long for its room. Whether each token has an entry
+// is asked of all of them at once.
 ghost use mathlib.Core.Path.{_≡_};
-ghost use Prim.Native.Nat.{_+_, _≤_, min};
+ghost use Prim.Native.Nat.{_+_, _^_, _≤_, _<_, min};
 ghost use lib.Dec.{leb};
-ghost use lib.ListN.{length, drop};
+ghost use lib.ListN.{length, take, drop};
 ghost use lib.Seq.{sets};
 ghost use Rattle.text.specs.Tokens.{entries, stands, expanded, covered, shownLength, expandedSize};
 ghost use Rattle.text.specs.Calls.{ExpandClaim};
-ghost use Rattle.text.specs.Leaves.{Marks, replacedBy, widthBy, widthOf};
+ghost use Rattle.text.specs.Leaves.{Marks, replacedBy, widthBy, widthOf, lowIn, SurelyFits};
 use crate::Expanded;
 use crate::Found;
 use crate::characters::is_token;
@@ -59,14 +60,31 @@ fn replacement(table: &[u8], b: u8) -> Found
 // follows no rule, and a processor would often guess a branch wrong: here is a choice between two numbers, and one load.
 fn width_by(widths: &[u8; 32], b: u8) -> usize
     ensures { λ r. ⌜ r ≡ widthBy (now (widths .entry)) b ⌝ }
+    ensures { λ r. ⌜ r < 256 ⌝ }
 {
     let k = if b < 0x14 { b } else { 0x14 };
     size_of(widths[size_of(k)])
 }
 
-// The octets from a place on keep to a limit, by the widths of a table. It counts down from the limit, so that no sum can be too large, and stops
-// where the text passes it.
-fn fits_from(widths: &[u8; 32], s: &[u8], from: usize, limit: usize) -> bool
+// The width of the first eight octets. Nothing is decided between them, and one test of their sum serves for all eight.
+fn width_of_eight(widths: &[u8; 32], s: &[u8]) -> usize
+    requires { ⌜ 8 ≤ length (now s) ⌝ }
+    ensures { λ r. ⌜ r ≡ widthOf (now (widths .entry)) (take 8 (now (s .entry))) ⌝ }
+{
+    width_by(widths, s[0])
+        + width_by(widths, s[1])
+        + width_by(widths, s[2])
+        + width_by(widths, s[3])
+        + width_by(widths, s[4])
+        + width_by(widths, s[5])
+        + width_by(widths, s[6])
+        + width_by(widths, s[7])
+}
+
+// The octets from a place on keep to a limit, by the widths of a table and octet by octet. It counts down from the limit, so that no sum can be too
+// large, and stops where the text passes it.
+fn fits_singly(widths: &[u8; 32], s: &[u8], from: usize, limit: usize) -> bool
+    requires { ⌜ from ≤ length (now s) ⌝ }
     ensures { λ r. ⌜ r ≡ leb (widthOf (now (widths .entry)) (drop from (now (s .entry)))) limit ⌝ }
 {
     let mut left = limit;
@@ -80,6 +98,24 @@ fn fits_from(widths: &[u8; 32], s: &[u8], from: usize, limit: usize) -> bool
         at += 1;
     }
     true
+}
+
+// The same by eights as far as they go, and then by single octets.
+fn fits_from(widths: &[u8; 32], s: &[u8], from: usize, limit: usize) -> bool
+    requires { ⌜ from ≤ length (now s) ⌝ }
+    ensures { λ r. ⌜ r ≡ leb (widthOf (now (widths .entry)) (drop from (now (s .entry)))) limit ⌝ }
+{
+    let mut left = limit;
+    let mut at = from;
+    while s.len() - at >= 8 {
+        let size = width_of_eight(widths, &s[at..]);
+        if size > left {
+            return false;
+        }
+        left -= size;
+        at += 8;
+    }
+    fits_singly(widths, s, at, left)
 }
 
 // What is shown of a text keeps to a limit (rule 13). The run with which the text begins stands for itself, and where it is the whole text, the
@@ -101,13 +137,14 @@ pub fn is_shown(table: &[u8], s: &[u8], limit: usize) -> bool
     fits_from(&widths, s, from, limit - from)
 }
 
-// How many octets the expansion of a text takes, by the widths of a table, or `most` where that is less: there it stops. The octets before a place
-// are known to stand for themselves.
-fn size_from(widths: &[u8; 32], s: &[u8], from: usize, most: usize) -> usize
-    requires { ⌜ from ≤ most ⌝ }
-    ensures { λ r. ⌜ r ≡ min most (from + widthOf (now (widths .entry)) (drop from (now (s .entry)))) ⌝ }
+// A width before a place and that of the octets from there on, by the widths of a table and octet by octet, or `most` where that is less: there it
+// stops.
+fn size_singly(widths: &[u8; 32], s: &[u8], from: usize, before: usize, most: usize) -> usize
+    requires { ⌜ from ≤ length (now s) ⌝ }
+    requires { ⌜ before ≤ most ⌝ }
+    ensures { λ r. ⌜ r ≡ min most (before + widthOf (now (widths .entry)) (drop from (now (s .entry)))) ⌝ }
 {
-    let mut total = from;
+    let mut total = before;
     let mut at = from;
     while at < s.len() {
         let size = width_by(widths, s[at]);
@@ -118,6 +155,26 @@ fn size_from(widths: &[u8; 32], s: &[u8], from: usize, most: usize) -> usize
         at += 1;
     }
     total
+}
+
+// How many octets the expansion of a text takes, by the widths of a table, or `most` where that is less: there it stops. The octets before a place
+// are known to stand for themselves. The others are taken by eights as far as they go, and then one by one.
+fn size_from(widths: &[u8; 32], s: &[u8], from: usize, most: usize) -> usize
+    requires { ⌜ from ≤ length (now s) ⌝ }
+    requires { ⌜ from ≤ most ⌝ }
+    ensures { λ r. ⌜ r ≡ min most (from + widthOf (now (widths .entry)) (drop from (now (s .entry)))) ⌝ }
+{
+    let mut total = from;
+    let mut at = from;
+    while s.len() - at >= 8 {
+        let size = width_of_eight(widths, &s[at..]);
+        if most - total <= size {
+            return most;
+        }
+        total += size;
+        at += 8;
+    }
+    size_singly(widths, s, at, total, most)
 }
 
 // How many octets the expansion of a text takes, or `most` where that is less. Here too the run with which the text begins needs no table.
@@ -169,9 +226,11 @@ fn write_one(table: &[u8], b: u8, out: &mut [u8], at: usize) -> usize
     }
 }
 
-// The expansion of a text, written from a place on: runs without tokens as they are, and what stands for each octet between them.
-fn write_all(table: &[u8], s: &[u8], out: &mut [u8], at: usize)
+// The expansion of a text, written from a place on, and the place after it: runs without tokens as they are, and what stands for each octet between
+// them.
+fn write_all(table: &[u8], s: &[u8], out: &mut [u8], at: usize) -> usize
     requires { ⌜ at + length (expanded (entries (now table)) (now s)) ≤ length (now out) ⌝ }
+    ensures { λ r. ⌜ r ≡ at + length (expanded (entries (now (table .entry))) (now (s .entry))) ⌝ }
     ensures { λ _. ⌜ now (out .exit) ≡ sets (now (out .entry)) at (expanded (entries (now (table .entry))) (now (s .entry))) ⌝ }
 {
     let mut to = at;
@@ -181,25 +240,62 @@ fn write_all(table: &[u8], s: &[u8], out: &mut [u8], at: usize)
         copy(&s[i..from], out, to);
         let behind = to + (from - i);
         if from == s.len() {
-            return;
+            return behind;
         }
         to = write_one(table, s[from], out, behind);
         i = from + 1;
     }
+    to
 }
 
-// The expansion of a text, written from a place on where it fits. It is measured first, and nothing is written where it doesn't fit.
+// How many octets of a text are not above the last token. A count is all that is kept, so that the compiler makes one comparison of many octets.
+fn low_in(s: &[u8]) -> usize
+    ensures { λ r. ⌜ r ≡ lowIn (now (s .entry)) ⌝ }
+{
+    let mut n: usize = 0;
+    let mut at: usize = 0;
+    while at < s.len() {
+        if s[at] < 0x14 {
+            n += 1;
+        }
+        at += 1;
+    }
+    n
+}
+
+// A text whose expansion has room by any table: an entry has at most 255 octets, so each octet that could be a token adds at most 254. No: it may
+// have room all the same.
+fn surely_fits(s: &[u8], room: usize) -> bool
+    ensures { λ r. ⌜ SurelyFits (now (s .entry)) room r ⌝ }
+{
+    if s.len() > room {
+        return false;
+    }
+    low_in(s) <= (room - s.len()) / 254
+}
+
+// The expansion of a text has room. It is measured only where that isn't sure by its low octets alone. The room is that of a slice, so that one more
+// than it is still a number.
+fn fits(table: &[u8], s: &[u8], room: usize) -> bool
+    requires { ⌜ room < 2 ^ 63 ⌝ }
+    ensures { λ r. ⌜ r ≡ leb (expandedSize (entries (now (table .entry))) (now (s .entry))) room ⌝ }
+{
+    if surely_fits(s, room) {
+        return true;
+    }
+    expanded_size(table, s, room + 1) <= room
+}
+
+// The expansion of a text, written from a place on where it fits. That is known before the first octet is written, and nothing is written where it
+// doesn't fit.
 pub fn expand(table: &[u8], s: &[u8], out: &mut [u8], at: usize) -> Expanded
     ensures { λ r. ⌜ ExpandClaim (entries (now (table .entry))) (now (s .entry)) (now (out .entry)) (now (out .exit)) at r ⌝ }
 {
     if at > out.len() {
         return Expanded::NoRoom;
     }
-    let room = out.len() - at;
-    let size = expanded_size(table, s, room + 1);
-    if size > room {
+    if !fits(table, s, out.len() - at) {
         return Expanded::NoRoom;
     }
-    write_all(table, s, out, at);
-    Expanded::Done(at + size)
+    Expanded::Done(write_all(table, s, out, at))
 }

@@ -1,6 +1,6 @@
 use Prim.Native.Nat.{_-_}
 use lib.ListN.{length}
-use Rattle.text.proofs.Replaced.{Fitting, fit-ways}
+use Rattle.text.proofs.Replaced.{Fitting, fit-eight-ways}
 use borrow.Author.Needs.{needs}
 use Rattle.text.proofs.expanding.fits_from.Statement.{statement}
 use Rattle.text.proofs.expanding.fits_from.Tie as tie
@@ -12,16 +12,25 @@ abbrev μ-loop : tie.MeasureT-loop
 μ-loop widths s from limit left₀ at₀ left at = length s - at
 
 loop-holds : tie.Need-loop-holds Inv-loop μ-loop
-loop-holds c = search (fit-ways, needs)
+loop-holds c = search (fit-eight-ways, needs)
 
-shared-slice-read-width-by : tie.Need-shared-slice-read-width-by Inv-loop μ-loop
-shared-slice-read-width-by c = search needs
+sub-loop : tie.Need-sub-loop Inv-loop μ-loop
+sub-loop c = search needs
 
-width-by-requires : tie.Need-width-by-requires Inv-loop μ-loop
-width-by-requires c κs = search needs
+sub-width-of-eight : tie.Need-sub-width-of-eight Inv-loop μ-loop
+sub-width-of-eight c = search needs
+
+part-width-of-eight-start : tie.Need-part-width-of-eight-start Inv-loop μ-loop
+part-width-of-eight-start c = search needs
+
+part-width-of-eight-end : tie.Need-part-width-of-eight-end Inv-loop μ-loop
+part-width-of-eight-end c = search needs
+
+width-of-eight-requires : tie.Need-width-of-eight-requires Inv-loop μ-loop
+width-of-eight-requires c κs = search needs
 
 returns : tie.Need-returns Inv-loop μ-loop
-returns c = search (fit-ways, needs)
+returns c = search (fit-eight-ways, needs)
 
 add-at : tie.Need-add-at Inv-loop μ-loop
 add-at c = search needs
@@ -30,10 +39,13 @@ loop-less : tie.Need-loop-less Inv-loop μ-loop
 loop-less c = search needs
 
 loop-again : tie.Need-loop-again Inv-loop μ-loop
-loop-again c = search (fit-ways, needs)
+loop-again c = search (fit-eight-ways, needs)
+
+fits-singly-requires : tie.Need-fits-singly-requires Inv-loop μ-loop
+fits-singly-requires c κs = search needs
 
 returns-2 : tie.Need-returns-2 Inv-loop μ-loop
-returns-2 c = search (fit-ways, needs)
+returns-2 c = search (fit-eight-ways, needs)
 
 pub fits-from-spec : {M : Type 1} → statement M
 fits-from-spec =
@@ -42,10 +54,14 @@ fits-from-spec =
     Inv-loop
     μ-loop
     loop-holds
-    shared-slice-read-width-by
-    width-by-requires
+    sub-loop
+    sub-width-of-eight
+    part-width-of-eight-start
+    part-width-of-eight-end
+    width-of-eight-requires
     returns
     add-at
     loop-less
     loop-again
+    fits-singly-requires
     returns-2)

@@ -4,32 +4,27 @@ use Rattle.text.proofs.Widths.{width-low, width-high}
 use borrow.Author.Needs.{needs}
 use Rattle.text.proofs.expanding.width_by.Statement.{statement}
 use Rattle.text.proofs.expanding.width_by.Tie as tie
-use Rattle.text.proofs.expanding.width_by.Reads as reads
-use Rattle.text.proofs.expanding.width_by.Lts as lts
-use Rattle.text.proofs.tables.size_of.Reads as size-of-reads
 
--- src/expanding.rt:63:20
 size-of-requires : tie.Need-size-of-requires
 size-of-requires c κs = search needs
 
--- src/expanding.rt:63:13
 element-copy-out-size-of : tie.Need-element-copy-out-size-of
 element-copy-out-size-of c = ⊎-elim (λ w. omega (arith, c .size-of .ensures .0)) (λ w. omega (arith, c .size-of .ensures .0)) (c .before .if1 .came)
 
--- src/expanding.rt:63:5
 size-of-requires-2 : tie.Need-size-of-requires-2
 size-of-requires-2 c κs = search needs
 
--- src/expanding.rt:59:1
 returns : tie.Need-returns
 returns c =
     let joined = c .before .before .before in
     let args = joined .before .args in
-    let place = c .before .before .size-of in
-    ⊎-elim
-    (λ w. width-low (args .widths .now) (args .b) _ _ _ (place .ensures .0) (c .size-of2 .ensures .0) (w .0 .taken) (w .1))
-    (λ w. width-high (args .widths .now) (args .b) _ _ _ (place .ensures .0) (c .size-of2 .ensures .0) (w .0 .left) (w .1))
-    (joined .if1 .came)
+    let place = c .before .before .size-of in (
+      ⊎-elim
+          (λ w. width-low (args .widths .now) (args .b) _ _ _ (place .ensures .0) (c .size-of2 .ensures .0) (w .0 .taken) (w .1))
+          (λ w. width-high (args .widths .now) (args .b) _ _ _ (place .ensures .0) (c .size-of2 .ensures .0) (w .0 .left) (w .1))
+          (joined .if1 .came),
+      c .size-of2 .ensures .1,
+    )
 
 pub width-by-spec : {M : Type 1} → statement M
 width-by-spec =
