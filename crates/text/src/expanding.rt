@@ -248,7 +248,7 @@ fn write_all(table: &[u8], s: &[u8], out: &mut [u8], at: usize) -> usize
     to
 }
 
-// How many octets of a text are not above the last token. A count is all that is kept, so that the compiler makes one comparison of many octets.
+// How many octets of a text are not above the last token. Nothing but a count is kept, so that the compiler takes four octets at a time.
 fn low_in(s: &[u8]) -> usize
     ensures { λ r. ⌜ r ≡ lowIn (now (s .entry)) ⌝ }
 {
