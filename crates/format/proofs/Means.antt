@@ -1,6 +1,6 @@
 -- What an item adds to a meaning, by what its tag is.
-use mathlib.Core.Path.{_≡_, refl, ap}
-use mathlib.Core.Bool.{true, false, false≢true}
+use mathlib.Core.Path.{_≡_, refl, sym, ap, _∙_}
+use mathlib.Core.Bool.{Bool, true, false, false≢true}
 use mathlib.Core.Option.{Option, none, some, Option·map}
 use mathlib.Core.List.{List, []}
 use Prim.Native.Nat.{ℕ}
@@ -14,7 +14,8 @@ use Rattle.format.specs.Judge.{isItems, isText}
 use Rattle.format.specs.Meaning.{opens, isChild, attributesIn, cdataIn, leafOctets, means}
 use Rattle.format.specs.Meaning.Meaning.{element, leaf}
 use Rattle.text.proofs.Words.{expanded-empty}
-use Rattle.values.proofs.Known.{ElementTag, items-tag}
+use Rattle.values.proofs.Values.{valueKind}
+use Rattle.values.proofs.Known.{ElementTag, items-tag, known-anywhere, attribute-kind}
 
 pub items-known : (k : Option Kind) → isItems k ≡ true → k ≡ some HoldsItems
 unfolding isItems
@@ -45,6 +46,33 @@ opens-items tag e = rw e
 pub opens-leaf : (tag : ℕ) (k : Kind) → known 0 tag ≡ some k → isItems (some k) ≡ false → opens tag ≡ false
 unfolding opens
 opens-leaf tag k e l = rw (e, l)
+
+pub value-no-items : (k : Kind) → valueKind k ≡ true → isItems (some k) ≡ false
+unfolding isItems
+value-no-items HoldsItems h = absurd (false≢true h)
+value-no-items HoldsTokens h = refl
+value-no-items HoldsText h = refl
+value-no-items HoldsPlain h = refl
+value-no-items HoldsTime h = refl
+value-no-items HoldsBearer h = refl
+value-no-items (HoldsNumber n) h = refl
+
+attribute-no-items : (p tag : ℕ) → attribute tag ≡ true → isItems (known p tag) ≡ false
+unfolding isItems
+attribute-no-items p tag a = go (known p tag) refl
+  where
+    go : (o : Option Kind) → known p tag ≡ o → isItems o ≡ false
+    go none e = refl
+    go (some k) e = value-no-items k (attribute-kind p tag k a e)
+
+-- what holds items, holds them wherever it stands
+pub items-opens : (p tag : ℕ) → isItems (known p tag) ≡ opens tag
+unfolding opens
+items-opens p tag = go (attribute tag) refl
+  where
+    go : (b : Bool) → attribute tag ≡ b → isItems (known p tag) ≡ isItems (known 0 tag)
+    go true a = attribute-no-items p tag a ∙ sym (attribute-no-items 0 tag a)
+    go false a = ap isItems (known-anywhere p tag a)
 
 pub child-element : (tag : ℕ) → ElementTag tag → isChild tag ≡ true
 unfolding isChild

@@ -12,7 +12,7 @@ use Rattle.octets.specs.Numbers.{among}
 use Rattle.octets.specs.Header.{framed}
 use Rattle.text.specs.Tokens.{shownLength}
 use Rattle.values.specs.declared.Kind.{Kind}
-use Rattle.values.specs.declared.Kind.the-variants.{HoldsItems, HoldsTokens, HoldsText, HoldsPlain, HoldsTime, HoldsBearer, HoldsNumber}
+use Rattle.values.specs.declared.Kind.the-variants.{HoldsItems, HoldsText, HoldsPlain}
 use Rattle.values.specs.Table.{known, attribute}
 use Rattle.values.specs.Values.{Value, octetsOf}
 use Rattle.values.specs.Proper.{Proper}
@@ -26,12 +26,12 @@ use Rattle.format.specs.WellFormed.{AttributeOk, CdataOk, PlaceOk, LeafO
 use Rattle.format.specs.WellFormed.LeafOk.{language, plainly}
 use Rattle.octets.proofs.Frames.{headed, framed-longer}
 use Rattle.text.proofs.Words.{expanded-empty}
-use Rattle.values.proofs.Values.{valueKind, proper-value, proper-means}
+use Rattle.values.proofs.Values.{proper-value, proper-means}
 use Rattle.values.proofs.Known.{ElementTag, items-tag, plain-tag, language-tag, known-six, known-anywhere, known-cdata, not-zero}
 use Rattle.format.proofs.Rules.{KindHeld}
 use Rattle.format.proofs.Read.{Reads, Alone, reads-element, reads-leaf, reads-end}
 use Rattle.format.proofs.Place.{Ready, within-ready, next-ready, next-attribute, attribute-tag, shown-other, words-held, items-held, plain-held, attribute-held, cdata-held, element-held}
-use Rattle.format.proofs.Means.{means-attribute, means-cdata, means-element, means-leaf, leaf-text, leaf-plain, cdata-itself}
+use Rattle.format.proofs.Means.{value-no-items, means-attribute, means-cdata, means-element, means-leaf, leaf-text, leaf-plain, cdata-itself}
 
 -- the tree of children and CDATA
 record Body (cd : Option (List ℕ)) (m : Meaning) (t : Items) : Type 0 where
@@ -64,16 +64,6 @@ cdata-no-attribute = refl
 text-no-items : isItems (some HoldsText) ≡ false
 unfolding isItems
 text-no-items = refl
-
-value-no-items : (k : Kind) → valueKind k ≡ true → isItems (some k) ≡ false
-unfolding isItems
-value-no-items HoldsItems h = absurd (false≢true h)
-value-no-items HoldsTokens h = refl
-value-no-items HoldsText h = refl
-value-no-items HoldsPlain h = refl
-value-no-items HoldsTime h = refl
-value-no-items HoldsBearer h = refl
-value-no-items (HoldsNumber n) h = refl
 
 cdata-reads : (c : Context) (parent depth stage at : ℕ) (cd : Option (List ℕ)) → Ready c parent depth stage → eqb parent 0 ≡ false → leb stage 2 ≡ true
     → CdataOk parent cd → length (maybe (framed 1) cd) < 256 ^ 3 → (u : Items) × Reads c at (maybe (framed 1) cd) u × Body cd nothing u

@@ -12,17 +12,15 @@ use borrow.Author.Tests.{lt-ltb, le-ltb, ltb-true, ltb-false, leb-true}
 use Rattle.octets.specs.Numbers.{among}
 use Rattle.octets.proofs.Tests.{and-left, and-false}
 use Rattle.values.specs.declared.Kind.{Kind}
-use Rattle.values.specs.declared.Kind.the-variants.{HoldsItems, HoldsTokens, HoldsText, HoldsPlain, HoldsTime, HoldsBearer, HoldsNumber}
 use Rattle.values.specs.Table.{rows, known, attribute}
-use Rattle.values.proofs.Values.{valueKind}
-use Rattle.values.proofs.Known.{row-holds, known-anywhere, attribute-kind, items-tag}
+use Rattle.values.proofs.Known.{row-holds, items-tag}
 use Rattle.format.specs.declared.Record.{Record}
 use Rattle.format.specs.Tree.{kindOf}
 use Rattle.format.specs.Judge.{isKnown, isItems, isTokens, isText, isValue, shown}
 use Rattle.format.specs.Meaning.{opens}
 use Rattle.format.specs.Writer.{Spot, below, past, placed, bodyKeeps, keeps, bodyIn, good, here, onward}
 use Rattle.format.specs.Calls.{Lists, row}
-use Rattle.format.proofs.Means.{items-known}
+use Rattle.format.proofs.Means.{items-known, items-opens}
 use Rattle.format.proofs.Kept.{good-parts, keeps-parts}
 use Rattle.format.proofs.Fine.{placed-parts}
 use Rattle.format.proofs.Walk.{at-stop, at-bad, at-single, at-nested, walks-between}
@@ -51,33 +49,6 @@ known-few p tag h = go (known p tag) refl h
     go : (o : Option Kind) → known p tag ≡ o → isKnown o ≡ true → tag ≤ 0xBF
     go none e q = absurd (false≢true q)
     go (some k) e q = leb-true tag 0xBF (known-row p tag k e)
-
--- what holds items, holds them wherever it stands
-value-no-items : (k : Kind) → valueKind k ≡ true → isItems (some k) ≡ false
-unfolding isItems
-value-no-items HoldsItems h = absurd (false≢true h)
-value-no-items HoldsTokens h = refl
-value-no-items HoldsText h = refl
-value-no-items HoldsPlain h = refl
-value-no-items HoldsTime h = refl
-value-no-items HoldsBearer h = refl
-value-no-items (HoldsNumber n) h = refl
-
-attribute-no-items : (p tag : ℕ) → attribute tag ≡ true → isItems (known p tag) ≡ false
-unfolding isItems
-attribute-no-items p tag a = go (known p tag) refl
-  where
-    go : (o : Option Kind) → known p tag ≡ o → isItems o ≡ false
-    go none e = refl
-    go (some k) e = value-no-items k (attribute-kind p tag k a e)
-
-pub items-opens : (p tag : ℕ) → isItems (known p tag) ≡ opens tag
-unfolding opens
-items-opens p tag = go (attribute tag) refl
-  where
-    go : (b : Bool) → attribute tag ≡ b → isItems (known p tag) ≡ isItems (known 0 tag)
-    go true a = attribute-no-items p tag a ∙ sym (attribute-no-items 0 tag a)
-    go false a = ap isItems (known-anywhere p tag a)
 
 -- rule 8 by the mask
 pub twice-same : (mask tag : ℕ) (seen : List ℕ) → Marks mask seen → tag ≤ 0xBF → hasBit mask tag ≡ attribute tag && among tag seen

@@ -23,9 +23,9 @@ use Rattle.format.specs.Meaning.{normalOf}
 use Rattle.format.specs.Loaded.{storeOf}
 use Rattle.format.specs.Calls.{Lists, places, lay, Lent, lentBy, storedWithin, fitsLent, misfit, normalAnswer, handed, loadedRecords, NormaliseClaim, sameOctets, refusalOr, secondRefusalOr, sameAnswer, bothFit, ofFirst, ofSecond, SameClaim}
 use Rattle.format.proofs.Lays.{places-lay}
-use Rattle.writer.specs.declared.Standing.{Standing}
-use Rattle.writer.specs.declared.Standing.the-variants.{Bad, Misfit, Fits}
-use Rattle.writer.specs.Survey.{surveyed}
+use Rattle.survey.specs.declared.Standing.{Standing}
+use Rattle.survey.specs.declared.Standing.the-variants.{Bad, Misfit, Fits}
+use Rattle.survey.specs.Survey.{surveyed}
 use Rattle.same.specs.Order.{firstBadOr, firstOr}
 use Rattle.writer.proofs.Normalised.{Fit, fit, Written, written, written-octets}
 

@@ -2,8 +2,8 @@
 use Rattle.format.specs.declared.Refusal.{Refusal}
 use Rattle.format.specs.declared.SameAnswer.{SameAnswer}
 use Rattle.format.specs.declared.SameAnswer.the-variants.{FirstRefused, SecondRefused}
-use Rattle.writer.specs.declared.Standing.{Standing}
-use Rattle.writer.specs.declared.Standing.the-variants.{Bad, Misfit, Fits}
+use Rattle.survey.specs.declared.Standing.{Standing}
+use Rattle.survey.specs.declared.Standing.the-variants.{Bad, Misfit, Fits}
 
 -- which refusal of two objects comes first: where the second is refused by the judgement, and where it is accepted but doesn't fit
 unfoldable pub firstBadOr : Standing → Refusal → SameAnswer

@@ -3,16 +3,16 @@ ghost use mathlib.Core.Path.{_≡_};
 ghost use Rattle.format.specs.Judge.{judge};
 ghost use Rattle.format.specs.Calls.{lentBy, sameOctets, SameClaim};
 ghost use Rattle.format.specs.Lent.{lent};
-ghost use Rattle.writer.specs.declared.Standing.the-variants.{Fits};
-ghost use Rattle.writer.specs.Survey.{surveyed};
+ghost use Rattle.survey.specs.declared.Standing.the-variants.{Fits};
+ghost use Rattle.survey.specs.Survey.{surveyed};
 ghost use Rattle.same.specs.Order.{firstBadOr, firstOr};
 use format::Refusal;
 use format::SameAnswer;
 use format::WriteAnswer;
 use reader::places;
-use writer::Standing;
+use survey::Standing;
+use survey::survey;
 use writer::normalise;
-use writer::survey;
 
 fn are_same(a: &[u8], b: &[u8]) -> bool
     ensures { λ r. ⌜ r ≡ sameOctets (now (a .entry)) (now (b .entry)) ⌝ }

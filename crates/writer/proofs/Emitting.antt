@@ -20,11 +20,11 @@ use Rattle.writer.specs.declared.emit.Lowest.{Lowest}
 use Rattle.writer.specs.declared.emit.Role.{Role}
 use Rattle.writer.specs.declared.emit.Role.the-variants.{Gone, Element, Attribute, Other}
 use Rattle.writer.specs.declared.emit.Reached.{Reached}
-use Rattle.writer.specs.Normal.{itemOctets, attributeOctets, laterOctets}
+use Rattle.survey.specs.Normal.{itemOctets, attributeOctets, laterOctets}
 use Rattle.writer.specs.Steps.{fourOf, itemsFrom, Holding, roleOf, bodyAt, BodyAt, Lays, Fitting, Ordered, Stands, FindsLowest, elementOctets, between, Framable, Emits}
-use Rattle.writer.proofs.Rising.{rising-seven, rising-skip}
+use Rattle.survey.proofs.Rising.{rising-seven, rising-skip}
 use Rattle.writer.proofs.Finding.{found-octets, none-between, found-body}
-use Rattle.writer.proofs.Sizes.{high-attribute, opens-attribute, opens-no-attribute}
+use Rattle.survey.proofs.Sizes.{high-attribute, opens-attribute, opens-no-attribute}
 use Rattle.writer.proofs.Lays.{lays-none, lays-append, lays-length, fitting-left, fitting-right}
 use Rattle.writer.proofs.Framing.{first-fits, second-fits, framable, frame-laid}
 use Rattle.writer.proofs.Rows.{here-end, here-not, here-is, from-stop, from-single, from-nested, from-ahead, from-within}

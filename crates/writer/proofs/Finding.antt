@@ -20,12 +20,12 @@ use Rattle.format.specs.Calls.{row}
 use Rattle.format.proofs.Kept.{Kept, keeps-parts, ruled-parts}
 use Rattle.format.proofs.Fine.{known-is}
 use Rattle.writer.specs.declared.emit.Lowest.{Lowest}
-use Rattle.writer.specs.Normal.{itemOctets}
+use Rattle.survey.specs.Normal.{itemOctets}
 use Rattle.writer.specs.Steps.{fourOf, itemsFrom, Holding, lowerOf, Stands, FindsLowest, bodyAt, BodyAt, Ordered}
-use Rattle.writer.proofs.Ways.{value-fits, item-known}
-use Rattle.writer.proofs.Rising.{oneAttribute}
-use Rattle.writer.proofs.Found.{none-behind}
-use Rattle.writer.proofs.Sizes.{opens-attribute, high-attribute}
+use Rattle.survey.proofs.Ways.{value-fits, item-known}
+use Rattle.survey.proofs.Rising.{oneAttribute}
+use Rattle.survey.proofs.Found.{none-behind}
+use Rattle.survey.proofs.Sizes.{opens-attribute, high-attribute}
 use Rattle.writer.proofs.Rows.{here-end, here-not, here-is, from-stop, from-single, from-item}
 
 -- one record more

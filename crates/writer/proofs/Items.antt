@@ -29,9 +29,9 @@ use Rattle.format.specs.Judge.{isItems}
 use Rattle.format.specs.Meaning.{opens, maybe}
 use Rattle.writer.specs.declared.item.Form.{Form}
 use Rattle.writer.specs.declared.item.Form.the-variants.{Nothing, Value}
-use Rattle.writer.specs.Normal.{framedSize, valueOctets, itemOctets}
+use Rattle.survey.specs.Normal.{framedSize, valueOctets, itemOctets}
 use Rattle.writer.specs.Steps.{writtenOf, Lays, Fitting}
-use Rattle.writer.proofs.Ways.{framed-length, value-fits, item-known}
+use Rattle.survey.proofs.Ways.{framed-length, value-fits, item-known}
 use Rattle.writer.proofs.Lays.{lays-none, lays-append, fitting-left, fitting-right}
 
 -- an item is at most five octets longer than its body
@@ -70,23 +70,6 @@ module _ (p tag : ℕ) (body : List ℕ) (r : KnownKind) (e : r ≡ knownKind p 
   pub written-known : (k : Kind) → r ≡ Known k → (n : ℕ) → n ≡ length (valueOctets k body) → Value k n ≡ writtenOf (known p tag) body
   unfolding writtenOf
   written-known k q n h = rw (known-kind p tag r e k q, h)
-
--- the size of a value
-module _ (k : Kind) (body : List ℕ) (r : NormalSize) (e : r ≡ sizeOfValue k body) where
-  pub value-octets : (n : ℕ) → r ≡ Octets n → n ≡ length (valueOctets k body)
-  unfolding normalOctets
-  value-octets n q = let z = normal-sized k body r e n q in z .size ∙ ap length (sym (value-fits k body (z .fit)))
-
-  pub value-none : r ≡ NoValue → 0 ≡ length (valueOctets k body)
-  unfolding valueOctets
-  value-none q = rw (not-sized k body r e q)
-
-pub framed-fits : (n h : ℕ) → n < 131072 → h ≡ suc (length (lengthField n)) → Fits w64 (h + n)
-framed-fits n h l e = omega (arith, size-five n)
-
-pub framed-is : (n h : ℕ) → h ≡ suc (length (lengthField n)) → h + n ≡ framedSize n
-unfolding framedSize
-framed-is n h e = rw e
 
 -- a header written where it has room
 module _ (tag n to : ℕ) (before after : List ℕ) (answer : Put) (f : (n ≤ 32_768) × Fitting (tag ∷ lengthField n) to (length before))

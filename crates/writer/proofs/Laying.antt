@@ -32,16 +32,16 @@ use Rattle.reader.specs.Filling.{Accepts}
 use Rattle.reader.proofs.Laid.{same-laid, places-after, within-places}
 use Rattle.reader.proofs.Shares.{Written, written-item}
 use Rattle.reader.proofs.Opening.{Opened, opened-end}
-use Rattle.writer.specs.declared.table.Lies.{Lies}
-use Rattle.writer.specs.declared.table.Lies.the-variants.{Outside, Between}
+use Rattle.survey.specs.declared.Lies.{Lies}
+use Rattle.survey.specs.declared.Lies.the-variants.{Outside, Between}
 use Rattle.writer.specs.declared.lay.Level.{Level}
 use Rattle.writer.specs.declared.lay.Laid.{Laid}
 use Rattle.writer.specs.declared.lay.Piece.{Piece}
 use Rattle.writer.specs.declared.lay.Piece.the-variants.{Nothing, Inside, Value}
-use Rattle.writer.specs.Sizes.{liesAt}
+use Rattle.survey.specs.Places.{liesAt}
 use Rattle.writer.specs.Store.{BodyStorable, BodyStored}
 use Rattle.writer.specs.Lay.{pieceOf, recordAt, Placeable, ValueLayable, ValueLays, shareAt, ItemLayable, InsideLayable, ItemLays, ItemsLayable, ItemsLay}
-use Rattle.writer.proofs.Places.{Lying, lying, lies-inside, met, to-inside}
+use Rattle.survey.proofs.Places.{Lying, lying, lies-inside, met, to-inside}
 use Rattle.writer.proofs.Pieces.{Splits, splits-share, split-lists, split-store, of-nothing, OfOctets, of-octets, OfItems, of-items}
 
 -- ---- piece_of

@@ -1,7 +1,3 @@
-pub mod Ways
-pub mod Rising
-pub mod Found
-pub mod Sizes
 pub mod Order
 pub mod Lays
 pub mod Framing
@@ -11,18 +7,10 @@ pub mod Summing
 pub mod Emitting
 pub mod Finding
 pub mod Whole
-pub mod Places
-pub mod Tables
-pub mod Parts
-pub mod Adding
-pub mod Measuring
-pub mod WholeSizes
 pub mod Storing
-pub mod Surveying
 pub mod Pieces
 pub mod Laying
 pub mod WholeLaid
 pub mod Normalised
 pub mod Theorems
 pub mod Miswritten
-pub mod Missurveyed

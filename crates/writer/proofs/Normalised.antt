@@ -27,16 +27,16 @@ use Rattle.format.proofs.Lays.{places-lay, tabled-laid}
 use Rattle.format.proofs.Spans.{records-count}
 use Rattle.format.proofs.Calls.{loaded-rebuilt}
 use Rattle.format.proofs.Loading.{loaded-means, loaded-count}
-use Rattle.writer.specs.declared.Standing.{Standing}
-use Rattle.writer.specs.declared.Standing.the-variants.{Bad, Misfit, Fits}
+use Rattle.survey.specs.declared.Standing.{Standing}
+use Rattle.survey.specs.declared.Standing.the-variants.{Bad, Misfit, Fits}
 use Rattle.writer.specs.declared.emit.Reached.{Reached}
-use Rattle.writer.specs.Normal.{laterOctets}
+use Rattle.survey.specs.Normal.{laterOctets}
 use Rattle.writer.specs.Steps.{itemsFrom, Holding, Ordered, Fitting, Emits}
-use Rattle.writer.specs.Survey.{surveyed}
+use Rattle.survey.specs.Survey.{surveyed}
 use Rattle.writer.specs.Lay.{Layable, LaidTree, LaysTree}
 use Rattle.writer.proofs.Rows.{fourIn}
 use Rattle.writer.proofs.Whole.{tree-holding, tree-ordered, tree-fits, tree-written}
-use Rattle.writer.proofs.WholeSizes.{store-less}
+use Rattle.survey.proofs.WholeSizes.{store-less}
 
 -- the parts of an object's fit
 pub record Fit (lent : Lent) (t : Items) : Type 0 where

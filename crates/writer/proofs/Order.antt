@@ -19,10 +19,10 @@ use Rattle.format.specs.Writer.{Spot, below, past, atTop, ruled}
 use Rattle.format.proofs.Kept.{Ruled, ruled-parts}
 use Rattle.format.proofs.Means.{means-attribute, means-cdata, means-element, means-leaf, opens-items, opens-leaf}
 use native.Mathlib.Omega.{arith}
-use Rattle.writer.specs.Normal.{valueOctets, itemOctets, attributeOctets, laterOctets}
-use Rattle.writer.proofs.Ways.{item-known, Way, way}
-use Rattle.writer.proofs.Ways.Way.{isAttribute, isCdata, isElement, isLeaf}
-use Rattle.writer.proofs.Sizes.{attribute-high, cdata-same, top-alone}
+use Rattle.survey.specs.Normal.{valueOctets, itemOctets, attributeOctets, laterOctets}
+use Rattle.survey.proofs.Ways.{item-known, Way, way}
+use Rattle.survey.proofs.Ways.Way.{isAttribute, isCdata, isElement, isLeaf}
+use Rattle.survey.proofs.Sizes.{attribute-high, cdata-same, top-alone}
 
 abbrev cdata : Items → List ℕ
 cdata t = maybe (framed 1) (cdataIn [] t)

@@ -21,12 +21,12 @@ use Rattle.format.specs.Judge.{isKnown, isItems, isTokens}
 use Rattle.format.specs.Meaning.{opens}
 use Rattle.format.specs.Loaded.{stored, storeIn, loadedIn}
 use Rattle.format.specs.Calls.{Lists, lay}
+use Rattle.format.proofs.Means.{items-opens}
 use Rattle.format.proofs.Spans.{records-count}
 use Rattle.format.proofs.Lays.{lay-append}
 use Rattle.judge.proofs.AllWays.{tokens-four}
 use Rattle.reader.specs.Filling.{share}
 use Rattle.reader.proofs.Shares.{records-item, count-item}
-use Rattle.records.proofs.Turns.{items-opens}
 use Rattle.writer.specs.declared.lay.Piece.the-variants.{Nothing, Inside, Value}
 use Rattle.writer.specs.Lay.{pieceOf}
 

@@ -24,10 +24,10 @@ use Rattle.writer.specs.declared.size.Part.{Part}
 use Rattle.writer.specs.declared.size.Part.the-variants.{Past, Holds, Single}
 use Rattle.writer.specs.declared.size.Sized.{Sized}
 use Rattle.writer.specs.declared.size.Sized.the-variants.{Over, Size}
-use Rattle.writer.specs.Normal.{framedSize, itemOctets, normalSize}
+use Rattle.survey.specs.Normal.{framedSize, itemOctets, normalSize}
 use Rattle.writer.specs.Steps.{itemsFrom, writtenOf, partOf, partAt, sizedOf, sizedFrom}
 use Rattle.writer.proofs.Items.{item-short, framed-short, unwritten-kind, written-kind, nothing-size, value-size}
-use Rattle.records.proofs.Turns.{items-opens}
+use Rattle.format.proofs.Means.{items-opens}
 use Rattle.writer.proofs.Rows.{here-end, here-not, here-is, from-stop, from-single, from-nested, from-ahead, from-within}
 
 -- what a record adds, by what is written of it

@@ -49,8 +49,8 @@ use Rattle.format.proofs.Means.{means-attribute, means-cdata, means-element, me
 use Rattle.format.proofs.Calls.{written-means}
 use Rattle.values.proofs.Known.{items-tag}
 use Rattle.writer.specs.Theorems.{tableless, Delivered}
-use Rattle.writer.proofs.Ways.{Way, way}
-use Rattle.writer.proofs.Ways.Way.{isAttribute, isCdata, isElement, isLeaf}
+use Rattle.survey.proofs.Ways.{Way, way}
+use Rattle.survey.proofs.Ways.Way.{isAttribute, isCdata, isElement, isLeaf}
 use Rattle.writer.proofs.Finding.{found-kept}
 use Rattle.writer.proofs.Whole.{given-both, rebuilt-reached}
 

@@ -28,9 +28,9 @@ use Rattle.writer.specs.declared.size.Sized.{Sized}
 use Rattle.writer.specs.declared.size.Sized.the-variants.{Over, Size}
 use Rattle.writer.specs.declared.emit.Reached.{Reached}
 use Rattle.records.specs.Check.{isGiven}
-use Rattle.writer.specs.Normal.{normalSize, laterOctets}
+use Rattle.survey.specs.Normal.{normalSize, laterOctets}
 use Rattle.writer.specs.Steps.{itemsFrom, Holding, sizedFrom, Lays, Ordered, Fitting, Emits}
-use Rattle.writer.proofs.Sizes.{size-whole}
+use Rattle.survey.proofs.Sizes.{size-whole}
 use Rattle.writer.proofs.Order.{laid-whole}
 use Rattle.writer.proofs.Rows.{fourIn, tree-four}
 use Rattle.writer.proofs.Summing.{size-over, size-told}

@@ -1,5 +1,5 @@
 -- The ways through lay: the walk over an accepted object lays its loaded tree.
-use mathlib.Core.Path.{_≡_, subst}
+use mathlib.Core.Path.{_≡_, ap, _∙_, subst}
 use mathlib.Core.List.{List}
 use Prim.Native.Nat.{ℕ}
 use native.Mathlib.Omega.{arith}
@@ -13,11 +13,12 @@ use Rattle.format.specs.Calls.{Lists, loadedRecords}
 use Rattle.format.proofs.Induction.{few}
 use Rattle.format.proofs.Loading.{loaded-count}
 use Rattle.reader.proofs.Reading.{small}
+use Rattle.survey.specs.Places.{tableBody}
+use Rattle.survey.proofs.Places.{whole}
+use Rattle.survey.proofs.Tables.{table-told}
 use Rattle.writer.specs.declared.lay.Level.{Level}
 use Rattle.writer.specs.declared.lay.Laid.{Laid}
-use Rattle.writer.specs.Measure.{TableTold}
 use Rattle.writer.specs.Lay.{Leaves, ItemsLayable, ItemsLay, Layable, LaysTree}
-use Rattle.writer.proofs.Places.{whole}
 
 -- where the top stands, and that nothing is laid
 abbrev top : Level
@@ -26,9 +27,11 @@ top = record { element = 0; number = 0; depth = 1 }
 abbrev nothing : Laid
 nothing = record { next = 0; end = 0 }
 
-module _ (o table : List ℕ) (l : Lists) (store : List ℕ) (os : Octets o) (told : TableTold o table) (can : Layable o l store) where
+module _ (o table : List ℕ) (l : Lists) (store : List ℕ) (os : Octets o) (found : table ≡ tableBody o) (can : Layable o l store) where
+  told : (t : Items) → judge o ≡ accepted t → entries table ≡ tableOf t
+  told t h = ap entries found ∙ table-told o t h
+
   pub whole-can : ItemsLayable (entries table) top nothing o l store
-  unfolding TableTold
   whole-can =
       let t = can .tree in
       let h = can .accepts in
@@ -48,7 +51,7 @@ module _ (o table : List ℕ) (l : Lists) (store : List ℕ) (os : Octets o) (to
 
   module _ (l′ : Lists) (store′ : List ℕ) (r : Laid) (f : ItemsLay (entries table) top nothing o l l′ store store′ r) where
     leaves : (t : Items) → judge o ≡ accepted t → Leaves (tableOf t) top nothing t l l′ store store′ r
-    unfolding TableTold ItemsLay
+    unfolding ItemsLay
     leaves t h = subst (λ T. Leaves T top nothing t l l′ store store′ r) (told t h) (f 0 t (whole o t h))
 
     pub whole-laid : LaysTree o l l′ store store′ (r .next)

@@ -16,7 +16,7 @@ use Rattle.format.specs.Tree.{Items, find}
 use Rattle.format.specs.Meaning.{opens}
 use Rattle.format.specs.Writer.{Spot, bodyIn, tree, ruled}
 use Rattle.format.specs.Calls.{Lists, row}
-use Rattle.writer.specs.Normal.{valueOctets, itemOctets, normalSize, attributeOctets, laterOctets}
+use Rattle.survey.specs.Normal.{valueOctets, itemOctets, normalSize, attributeOctets, laterOctets}
 use Rattle.writer.specs.declared.item.Form.{Form}
 use Rattle.writer.specs.declared.item.Form.the-variants.{Nothing, Value as Valued}
 use Rattle.writer.specs.declared.size.Part.{Part}

@@ -5,7 +5,7 @@
 ghost use mathlib.Core.Path.{_≡_};
 ghost use Prim.Native.Nat.{_+_, _≤_, _<_};
 ghost use lib.ListN.{length, getD};
-ghost use Rattle.writer.specs.Normal.{itemOctets, attributeOctets, laterOctets};
+ghost use Rattle.survey.specs.Normal.{itemOctets, attributeOctets, laterOctets};
 ghost use Rattle.writer.specs.Steps.{four, itemsFrom, Holding, Lays, Ordered, Fitting, lowerOf, FindsLowest, BodyAt, bodyAt, roleOf, Emits};
 use crate::frame::put_frame;
 use crate::item::holds_items;

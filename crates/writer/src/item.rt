@@ -9,7 +9,7 @@ ghost use Rattle.octets.specs.Header.{lengthField};
 ghost use Rattle.values.specs.Table.{known};
 ghost use Rattle.format.specs.Judge.{isItems};
 ghost use Rattle.format.specs.Meaning.{opens};
-ghost use Rattle.writer.specs.Normal.{framedSize, valueOctets, itemOctets};
+ghost use Rattle.survey.specs.Normal.{framedSize, valueOctets, itemOctets};
 ghost use Rattle.writer.specs.Steps.{writtenOf, Lays, Fitting};
 use values::Kind;
 use values::KnownKind;

@@ -7,35 +7,26 @@ ghost use Rattle.format.specs.Answers.{refusal};
 ghost use Rattle.format.specs.Judge.{judge};
 ghost use Rattle.format.specs.Calls.{lentBy, WriteClaim, NormaliseClaim};
 ghost use Rattle.format.specs.Lent.{lent};
-ghost use Rattle.writer.specs.declared.Standing.the-variants.{Fits};
-ghost use Rattle.writer.specs.Survey.{surveyed};
+ghost use Rattle.survey.specs.declared.Standing.the-variants.{Fits};
+ghost use Rattle.survey.specs.Survey.{surveyed};
 
 mod emit;
-mod fitting;
 mod frame;
 mod item;
 mod lay;
-mod measure;
 mod size;
 mod store;
-mod table;
 
 use crate::emit::emit_items;
 use crate::lay::lay;
 use crate::size::Sized;
 use crate::size::size_items;
-pub use fitting::survey;
 use format::Refusal;
 use format::WriteAnswer;
 use reader::places;
 use records::is_well_formed;
-
-// An object held against what is lent: refused by the judgement; accepted, but without places for it (14) or room (15); or it fits.
-pub enum Standing {
-    Bad(Refusal),
-    Misfit(Refusal),
-    Fits,
-}
+use survey::Standing;
+use survey::survey;
 
 fn refused(number: u8) -> WriteAnswer
     ensures { λ r. ⌜ r ≡ NotWritten (refusal number 0) ⌝ }

@@ -10,7 +10,7 @@ use Rattle.same.proofs.compare.Reads as compare-reads
 use Rattle.same.proofs.first_bad_or.Reads as first-bad-or-reads
 use Rattle.same.proofs.first_or.Reads as first-or-reads
 use Rattle.reader.proofs.places.Reads as places-reads
-use Rattle.writer.proofs.survey.Reads as survey-reads
+use Rattle.survey.proofs.survey.Reads as survey-reads
 
 places-requires : tie.Need-places-requires
 places-requires c κs = search needs

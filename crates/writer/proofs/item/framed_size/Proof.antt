@@ -1,4 +1,4 @@
-use Rattle.writer.proofs.Items.{framed-fits, framed-is}
+use Rattle.survey.proofs.Parts.{framed-fits, framed-is}
 use borrow.Author.Needs.{needs}
 use Rattle.writer.proofs.item.framed_size.Statement.{statement}
 use Rattle.writer.proofs.item.framed_size.Tie as tie

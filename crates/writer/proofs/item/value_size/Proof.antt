@@ -1,4 +1,4 @@
-use Rattle.writer.proofs.Items.{value-octets, value-none}
+use Rattle.survey.proofs.Parts.{value-octets, value-none}
 use borrow.Author.Needs.{needs}
 use Rattle.writer.proofs.item.value_size.Statement.{statement}
 use Rattle.writer.proofs.item.value_size.Tie as tie

@@ -5,7 +5,7 @@ use lib.ListN.{length}
 use borrow.Author.Needs.{needs}
 use Rattle.text.specs.Tokens.{entries}
 use Rattle.format.specs.Lent.{six}
-use Rattle.writer.proofs.Places.{to-inside, ordered, nearer}
+use Rattle.survey.proofs.Places.{to-inside, ordered, nearer}
 use Rattle.writer.proofs.Laying.{inside-deep, inside-deeper, inside-next, inside-placeable, inside-can, inside-laid}
 use Rattle.writer.proofs.Laying.{item-nothing, item-value-can, item-value, item-inside-can}
 use Rattle.writer.proofs.Laying.{Walks, begin, kept, kept-store, ended, no-item, here, item-can, again}
@@ -23,7 +23,7 @@ use Rattle.writer.proofs.lay.+lay_inside+lay_item+lay_items.Lts-lay_ite
 use Rattle.writer.proofs.lay.lay_value.Reads as lay-value-reads
 use Rattle.writer.proofs.lay.piece_of.Reads as piece-of-reads
 use Rattle.writer.proofs.lay.put_record.Reads as put-record-reads
-use Rattle.writer.proofs.table.item_at.Reads as item-at-reads
+use Rattle.survey.proofs.item_at.Reads as item-at-reads
 use Rattle.writer.proofs.lay.+lay_inside+lay_item+lay_items.{statement}
 use Rattle.writer.proofs.lay.+lay_inside+lay_item+lay_items.Tie.{close}
 

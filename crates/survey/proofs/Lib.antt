@@ -1,0 +1,12 @@
+pub mod Ways
+pub mod Rising
+pub mod Found
+pub mod Sizes
+pub mod Places
+pub mod Tables
+pub mod Parts
+pub mod Adding
+pub mod Measuring
+pub mod WholeSizes
+pub mod Surveying
+pub mod Missurveyed

@@ -1,0 +1,151 @@
+-- The ways through the small functions of measuring.
+use mathlib.Core.Path.{_≡_, refl, sym, ap, _∙_}
+use mathlib.Core.Bool.{Bool, true, false, cond}
+use mathlib.Core.Option.{some}
+use mathlib.Core.List.{List}
+use Prim.Native.Nat.{ℕ, suc, _+_, _≤_, _<_, min}
+use native.Mathlib.Omega.{arith}
+use lib.Dec.{leb}
+use lib.ListN.{length}
+use borrow.Author.Tests.{leb-true, leb-false, le-leb, lt-leb}
+use mir.Syntax.{w64}
+use mir.Val.{Fits}
+use Rattle.octets.specs.Header.{lengthField}
+use Rattle.text.specs.Tokens.{Entries, expandedSize}
+use Rattle.values.specs.declared.Kind.{Kind}
+use Rattle.values.specs.declared.Kind.the-variants.{HoldsItems, HoldsTokens, HoldsText, HoldsPlain, HoldsTime, HoldsBearer, HoldsNumber}
+use Rattle.values.specs.declared.NumberKind.{NumberKind}
+use Rattle.values.specs.declared.KnownKind.{KnownKind}
+use Rattle.values.specs.declared.KnownKind.the-variants.{Unknown, Known}
+use Rattle.values.specs.declared.NormalSize.{NormalSize}
+use Rattle.values.specs.declared.NormalSize.the-variants as sized
+use Rattle.values.specs.Table.{known}
+use Rattle.values.specs.Values.{fits, meant, octetsOf}
+use Rattle.values.specs.Calls.{knownKind, normalOctets, normalSize}
+use Rattle.octets.proofs.Answers.{size-five}
+use Rattle.values.proofs.Laws.{known-kind, unknown-kind, normal-sized, not-sized}
+use Rattle.format.specs.Judge.{isKnown, isItems, isTokens}
+use Rattle.survey.specs.Normal.{framedSize, valueOctets}
+use Rattle.survey.proofs.Ways.{value-fits}
+use Rattle.survey.specs.declared.measure.Part.the-variants.{Nothing, Inside, Octets}
+use Rattle.survey.specs.declared.measure.Measured.the-variants.{Over, Sizes}
+use Rattle.survey.specs.Sizes.{taken, partOf, sizesOf, Small}
+
+-- ---- sizes, of a value and of an item, which the writer measures too
+
+module _ (k : Kind) (body : List ℕ) (r : NormalSize) (e : r ≡ normalSize k body) where
+  pub value-octets : (n : ℕ) → r ≡ sized.Octets n → n ≡ length (valueOctets k body)
+  unfolding normalOctets
+  value-octets n q = let z = normal-sized k body r e n q in z .size ∙ ap length (sym (value-fits k body (z .fit)))
+
+  pub value-none : r ≡ sized.NoValue → 0 ≡ length (valueOctets k body)
+  unfolding valueOctets
+  value-none q = rw (not-sized k body r e q)
+
+pub framed-fits : (n h : ℕ) → n < 131072 → h ≡ suc (length (lengthField n)) → Fits w64 (h + n)
+framed-fits n h l e = omega (arith, size-five n)
+
+pub framed-is : (n h : ℕ) → h ≡ suc (length (lengthField n)) → h + n ≡ framedSize n
+unfolding framedSize
+framed-is n h e = rw e
+
+-- ---- value_size
+
+module _ (k : Kind) (o : List ℕ) (r : NormalSize) (e : r ≡ normalSize k o) where
+  pub size-none : r ≡ sized.NoValue → 0 ≡ min 32_769 (length (valueOctets k o))
+  size-none q = omega (arith, value-none k o r e q)
+
+  module _ (n : ℕ) (q : r ≡ sized.Octets n) where
+    pub size-long : 32_769 < n → 32_769 ≡ min 32_769 (length (valueOctets k o))
+    size-long h = omega (arith, value-octets k o r e n q)
+
+    pub size-short : n ≤ 32_769 → n ≡ min 32_769 (length (valueOctets k o))
+    size-short h = omega (arith, value-octets k o r e n q)
+
+-- ---- part_of
+
+module _ (T : Entries) (p tag : ℕ) (o : List ℕ) (r : KnownKind) (e : r ≡ knownKind p tag) where
+  pub part-unknown : r ≡ Unknown → Nothing ≡ partOf T (known p tag) o
+  unfolding partOf isItems isKnown isTokens
+  part-unknown q = rw (unknown-kind p tag r e q)
+
+  module _ (k : Kind) (q : r ≡ Known k) where
+    kind-is : known p tag ≡ some k
+    kind-is = known-kind p tag r e k q
+
+    pub part-items : k ≡ HoldsItems → Inside ≡ partOf T (known p tag) o
+    unfolding partOf isItems isKnown isTokens
+    part-items w = rw (kind-is, w)
+
+    pub part-tokens : k ≡ HoldsTokens → Nothing ≡ partOf T (known p tag) o
+    unfolding partOf isItems isKnown isTokens
+    part-tokens w = rw (kind-is, w)
+
+    module _ (n : ℕ) where
+      pub part-text : k ≡ HoldsText → n ≡ min 32_769 (expandedSize T o) → Octets n ≡ partOf T (known p tag) o
+      unfolding partOf isItems isKnown isTokens taken fits meant octetsOf expandedSize
+      part-text w x = rw (kind-is, w, x)
+
+      -- a value that is no text has the same octets under every table
+      module _ (x : n ≡ min 32_769 (length (valueOctets k o))) where
+        pub part-plain : k ≡ HoldsPlain → Octets n ≡ partOf T (known p tag) o
+        unfolding partOf isItems isKnown isTokens taken valueOctets meant
+        part-plain w = ap Octets (x ∙ ap (λ l. min 32_769 (length (valueOctets l o))) w) ∙ rw (kind-is, w)
+
+        pub part-time : k ≡ HoldsTime → Octets n ≡ partOf T (known p tag) o
+        unfolding partOf isItems isKnown isTokens taken valueOctets meant
+        part-time w = ap Octets (x ∙ ap (λ l. min 32_769 (length (valueOctets l o))) w) ∙ rw (kind-is, w)
+
+        pub part-bearer : k ≡ HoldsBearer → Octets n ≡ partOf T (known p tag) o
+        unfolding partOf isItems isKnown isTokens taken valueOctets meant
+        part-bearer w = ap Octets (x ∙ ap (λ l. min 32_769 (length (valueOctets l o))) w) ∙ rw (kind-is, w)
+
+        pub part-number : (m : NumberKind) → k ≡ HoldsNumber m → Octets n ≡ partOf T (known p tag) o
+        unfolding partOf isItems isKnown isTokens taken valueOctets meant
+        part-number m w = ap Octets (x ∙ ap (λ l. min 32_769 (length (valueOctets l o))) w) ∙ rw (kind-is, w)
+
+-- ---- framed
+
+pub sizes-over : (s n : ℕ) → 32_768 < n → Over ≡ sizesOf s n
+unfolding sizesOf
+sizes-over s n h = rw (lt-leb n 32_768 h)
+
+pub sizes-are : (s n : ℕ) → n ≤ 32_768 → Sizes s n ≡ sizesOf s n
+unfolding sizesOf
+sizes-are s n h = rw (le-leb n 32_768 h)
+
+module _ (s n h : ℕ) (e : h ≡ suc (length (lengthField n))) where
+  pub framed-sum : n ≤ 32_769 → Fits w64 (h + n)
+  framed-sum l = framed-fits n h (omega arith) e
+
+  pub framed-over : 32_768 < h + n → Over ≡ sizesOf s (framedSize n)
+  framed-over l = sizes-over s (framedSize n) (omega (arith, framed-is n h e))
+
+  pub framed-sizes : h + n ≤ 32_768 → Sizes s (h + n) ≡ sizesOf s (framedSize n)
+  framed-sizes l = sizes-are s (h + n) l ∙ ap (sizesOf s) (framed-is n h e)
+
+-- ---- what an answer says
+
+pub over-says : (s n : ℕ) → Over ≡ sizesOf s n → 32_768 < n
+unfolding sizesOf
+over-says s n e = go (leb n 32_768) refl e
+  where
+    go : (b : Bool) → leb n 32_768 ≡ b → Over ≡ cond b (Sizes s n) Over → 32_768 < n
+    go true q p = let z : _≡_ {A = ℕ} 0 1 = cc in absurd (omega arith)
+    go false q p = leb-false n 32_768 q
+
+pub sizes-say : (s n a b : ℕ) → Sizes a b ≡ sizesOf s n → (s ≡ a) × (n ≡ b)
+unfolding sizesOf
+sizes-say s n a b e = go (leb n 32_768) e
+  where
+    go : (c : Bool) → Sizes a b ≡ cond c (Sizes s n) Over → (s ≡ a) × (n ≡ b)
+    go true p = (cc, cc)
+    go false p = let z : _≡_ {A = ℕ} 0 1 = cc in absurd (omega arith)
+
+pub small-sizes : (s n : ℕ) → s ≤ n → Small (sizesOf s n)
+unfolding sizesOf
+small-sizes s n h = go (leb n 32_768) refl
+  where
+    go : (b : Bool) → leb n 32_768 ≡ b → Small (cond b (Sizes s n) Over)
+    go true q = (h, leb-true n 32_768 q)
+    go false q = tt

@@ -1,0 +1,113 @@
+-- The ways through survey: refused by the judgement or accepted, measured, and found to suffice or not.
+use mathlib.Core.Path.{_≡_, refl, sym, ap, _∙_}
+use mathlib.Core.Bool.{Bool, true, false, cond, _&&_}
+use mathlib.Core.List.{List}
+use Prim.Native.Nat.{ℕ, _≤_, _<_, min}
+use native.Mathlib.Omega.{arith}
+use lib.Dec.{leb}
+use lib.ListN.{length}
+use borrow.Author.Tests.{leb-true, leb-false, le-leb, lt-leb}
+use Rattle.octets.proofs.Tests.{and-false}
+use Rattle.format.specs.declared.Refusal.{Refusal}
+use Rattle.format.specs.declared.Counts.{Counts}
+use Rattle.format.specs.declared.ReadAnswer.{ReadAnswer}
+use Rattle.format.specs.declared.ReadAnswer.the-variants.{Records, NotRead}
+use Rattle.format.specs.Answers.{refusal}
+use Rattle.format.specs.Tree.{Items, count}
+use Rattle.format.specs.Judge.{Judged, judge}
+use Rattle.format.specs.Judge.Judged.{refused, accepted}
+use Rattle.format.specs.Meaning.{normalOf}
+use Rattle.format.specs.Loaded.{storeOf}
+use Rattle.format.specs.Calls.{judgeAnswer, Lent, roomy, storedWithin}
+use Rattle.survey.specs.declared.measure.Measured.{Measured}
+use Rattle.survey.specs.declared.measure.Measured.the-variants.{Over, Sizes}
+use Rattle.survey.specs.declared.Standing.the-variants.{Bad, Misfit, Fits}
+use Rattle.survey.specs.Measure.{measuredOf, Measures}
+use Rattle.survey.specs.Survey.{sufficient, surveyed}
+
+-- ---- measured
+
+-- a size that an object may have is held against the room alone
+capped : (n room : ℕ) → n ≤ 32_768 → leb n room ≡ leb n (min room 32_768)
+capped n room h = go (leb n room) refl
+  where
+    go : (b : Bool) → leb n room ≡ b → b ≡ leb n (min room 32_768)
+    go true q = sym (le-leb n (min room 32_768) (omega (arith, leb-true n room q)))
+    go false q = sym (lt-leb n (min room 32_768) (omega (arith, leb-false n room q)))
+
+sufficient-measured : (lent : Lent) (t : Items) → sufficient (measuredOf t) (lent .store) (lent .room) ≡ storedWithin lent t
+unfolding measuredOf storedWithin roomy sufficient
+sufficient-measured lent t = go (leb (length (storeOf t)) (lent .store)) (leb (length (normalOf t)) 32_768) refl refl
+  where
+    go : (a b : Bool) → leb (length (storeOf t)) (lent .store) ≡ a → leb (length (normalOf t)) 32_768 ≡ b
+        → sufficient (cond b (Sizes (length (storeOf t)) (length (normalOf t))) Over) (lent .store) (lent .room) ≡ a && leb (length (normalOf t)) (min (lent .room) 32_768)
+    go a true w q = rw w (ap (λ x. a && x) (capped (length (normalOf t)) (lent .room) (leb-true (length (normalOf t)) 32_768 q)))
+    go a false w q =
+        let over : leb (length (normalOf t)) (min (lent .room) 32_768) ≡ false = lt-leb (length (normalOf t)) (min (lent .room) 32_768) (omega (arith, leb-false (length (normalOf t)) 32_768 q)) in
+        sym (ap (λ x. a && x) over ∙ and-false a)
+
+module _ (o : List ℕ) (m : Measured) (e : Measures o m) (b : Bool) (lent : Lent) (f : b ≡ sufficient m (lent .store) (lent .room)) where
+  measured : (t : Items) → judge o ≡ accepted t → b ≡ storedWithin lent t
+  unfolding Measures
+  measured t h = f ∙ ap (λ x. sufficient x (lent .store) (lent .room)) (e t h) ∙ sufficient-measured lent t
+
+-- ---- survey
+
+module _ (o : List ℕ) (v : ReadAnswer) (e : v ≡ judgeAnswer (judge o)) (lent : Lent) where
+  pub survey-bad : (r : Refusal) → v ≡ NotRead r → Bad r ≡ surveyed lent (judge o)
+  unfolding judgeAnswer surveyed
+  survey-bad r f = go (judge o) refl
+    where
+      go : (j : Judged) → judge o ≡ j → Bad r ≡ surveyed lent (judge o)
+      go (refused x) j = let w : NotRead r ≡ NotRead x = sym f ∙ e ∙ rw j in rw j cc
+      go (accepted t) j = let w : NotRead r ≡ Records (record { records = count t }) = sym f ∙ e ∙ rw j in let z : _≡_ {A = ℕ} 0 1 = cc in absurd (omega arith)
+
+  module _ (c : Counts) (f : v ≡ Records c) where
+    record Judged-so : Type 0 where
+      tree : Items
+      judged : judge o ≡ accepted tree
+      many : c .records ≡ count tree
+
+    so : Judged-so
+    unfolding judgeAnswer
+    so = go (judge o) refl
+      where
+        go : (j : Judged) → judge o ≡ j → Judged-so
+        go (refused x) j = let w : Records c ≡ NotRead x = sym f ∙ e ∙ rw j in let z : _≡_ {A = ℕ} 0 1 = cc in absurd (omega arith)
+        go (accepted t) j =
+            let w : Records c ≡ Records (record { records = count t }) = sym f ∙ e ∙ rw j in
+            let d : c ≡ record { records = count t } = cc in
+            record { tree = t; judged = j; many = ap (λ x. x .records) d }
+
+    pub survey-full : lent .records < c .records → Misfit (refusal 14 0) ≡ surveyed lent (judge o)
+    unfolding surveyed
+    survey-full h = rw (so .judged, lt-leb (count (so .tree)) (lent .records) (omega (arith, so .many)))
+
+    module _ (h : c .records ≤ lent .records) (m : Measured) (g : Measures o m) (b : Bool) (d : b ≡ sufficient m (lent .store) (lent .room)) where
+      pub survey-fits : b ≡ true → Fits ≡ surveyed lent (judge o)
+      unfolding surveyed
+      survey-fits q = rw (so .judged, le-leb (count (so .tree)) (lent .records) (omega (arith, so .many)), sym (measured o m g b lent d (so .tree) (so .judged)), q)
+
+      pub survey-small : b ≡ false → Misfit (refusal 15 0) ≡ surveyed lent (judge o)
+      unfolding surveyed
+      survey-small q = rw (so .judged, le-leb (count (so .tree)) (lent .records) (omega (arith, so .many)), sym (measured o m g b lent d (so .tree) (so .judged)), q)
+
+-- ---- is_sufficient
+
+module _ (m : Measured) (store room : ℕ) where
+  pub sufficient-over : m ≡ Over → false ≡ sufficient m store room
+  unfolding sufficient
+  sufficient-over q = rw q
+
+  module _ (s n : ℕ) (q : m ≡ Sizes s n) where
+    pub sufficient-store : store < s → false ≡ sufficient m store room
+    unfolding sufficient
+    sufficient-store h = rw (q, lt-leb s store h)
+
+    pub sufficient-room : s ≤ store → leb n room ≡ sufficient m store room
+    unfolding sufficient
+    sufficient-room h = rw (q, le-leb s store h)
+
+pub ruleset sufficient-ways = (sufficient-over, sufficient-store, sufficient-room)
+
+pub ruleset survey-ways = (survey-bad, survey-full, survey-fits, survey-small)

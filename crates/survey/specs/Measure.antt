@@ -1,0 +1,21 @@
+-- What is measured in the octets of an object before anything is written. It is told of accepted objects alone.
+use mathlib.Core.Path.{_≡_}
+use mathlib.Core.Bool.{cond}
+use mathlib.Core.List.{List}
+use Prim.Native.Nat.{ℕ}
+use lib.Dec.{leb}
+use lib.ListN.{length}
+use Rattle.format.specs.Tree.{Items}
+use Rattle.format.specs.Judge.{judge}
+use Rattle.format.specs.Judge.Judged.{accepted}
+use Rattle.format.specs.Meaning.{normalOf}
+use Rattle.format.specs.Loaded.{storeOf}
+use Rattle.survey.specs.declared.measure.Measured.{Measured}
+use Rattle.survey.specs.declared.measure.Measured.the-variants.{Over, Sizes}
+
+-- how many octets of a store an object needs, and how many its normal form has; that it has more than an object may have (document 01, Refusal numbers: 15)
+unfoldable pub measuredOf : Items → Measured
+measuredOf t = cond (leb (length (normalOf t)) 32_768) (Sizes (length (storeOf t)) (length (normalOf t))) Over
+
+unfoldable pub Measures : List ℕ → Measured → Type 0
+Measures object r = (t : Items) → judge object ≡ accepted t → r ≡ measuredOf t

@@ -1,0 +1,23 @@
+-- An object held against what is lent to it, before anything is written: whether it is accepted, and whether its records, texts and values and its normal form fit.
+use mathlib.Core.Bool.{Bool, false, cond, _&&_}
+use Prim.Native.Nat.{ℕ}
+use lib.Dec.{leb}
+use Rattle.format.specs.Answers.{refusal}
+use Rattle.format.specs.Tree.{count}
+use Rattle.format.specs.Judge.{Judged}
+use Rattle.format.specs.Judge.Judged.{refused, accepted}
+use Rattle.format.specs.Calls.{Lent, storedWithin}
+use Rattle.survey.specs.declared.measure.Measured.{Measured}
+use Rattle.survey.specs.declared.measure.Measured.the-variants.{Over, Sizes}
+use Rattle.survey.specs.declared.Standing.{Standing}
+use Rattle.survey.specs.declared.Standing.the-variants.{Bad, Misfit, Fits}
+
+-- sizes that lent memory has
+unfoldable pub sufficient : Measured → (store room : ℕ) → Bool
+sufficient Over store room = false
+sufficient (Sizes s n) store room = leb s store && leb n room
+
+-- an object held against what is lent, with nothing loaded: refused by the judgement; accepted, but 14 or 15; or it fits
+unfoldable pub surveyed : Lent → Judged → Standing
+surveyed lent (refused r) = Bad r
+surveyed lent (accepted t) = cond (leb (count t) (lent .records)) (cond (storedWithin lent t) Fits (Misfit (refusal 15 0))) (Misfit (refusal 14 0))

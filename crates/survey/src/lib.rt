@@ -1,0 +1,70 @@
+// An object is surveyed before anything is written: judged, and then measured and held against what is lent. Also where items lie in octets, and the token table of an
+// object, for whoever walks over an object again. No call asks anything of its arguments, and none is lent memory to write to.
+ghost use mathlib.Core.Path.{_≡_};
+ghost use Rattle.format.specs.Judge.{judge};
+ghost use Rattle.survey.specs.Survey.{sufficient, surveyed};
+
+mod measure;
+mod table;
+
+use crate::measure::Measured;
+use crate::measure::measure;
+use format::ReadAnswer;
+use format::Refusal;
+use judge::judge;
+pub use table::item_at;
+pub use table::table_of;
+
+// An object held against what is lent: refused by the judgement; accepted, but without places for it (14) or room (15); or it fits.
+pub enum Standing {
+    Bad(Refusal),
+    Misfit(Refusal),
+    Fits,
+}
+
+// Where the body of an item lies, if it lies in the part.
+pub enum Lies {
+    Outside,
+    Between { from: usize, to: usize },
+}
+
+fn is_sufficient(needs: Measured, store: usize, room: usize) -> bool
+    ensures { λ r. ⌜ r ≡ sufficient needs store room ⌝ }
+{
+    match needs {
+        Measured::Over => false,
+        Measured::Sizes {
+            store: stored,
+            octets,
+        } => {
+            if stored > store {
+                return false;
+            }
+            octets <= room
+        }
+    }
+}
+
+// The numbers are those of what is lent: places for records, octets of the store and of the room.
+pub fn survey(object: &[u8], places: usize, store: usize, room: usize) -> Standing
+    ensures { λ r. ⌜ r ≡ surveyed (record { records = places; store = store; room = room }) (judge (now (object .entry))) ⌝ }
+{
+    match judge(object) {
+        ReadAnswer::NotRead(refusal) => Standing::Bad(refusal),
+        ReadAnswer::Records(counts) => {
+            if counts.records > places {
+                return Standing::Misfit(Refusal {
+                    number: 14,
+                    place: 0,
+                });
+            }
+            if is_sufficient(measure(object), store, room) {
+                return Standing::Fits;
+            }
+            Standing::Misfit(Refusal {
+                number: 15,
+                place: 0,
+            })
+        }
+    }
+}

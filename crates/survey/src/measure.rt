@@ -1,0 +1,139 @@
+// How many octets an object has in normal form, and how many of a store its texts and values take, both from the octets of the object and
+// before anything is written. Nothing is judged again, and what is answered of octets that are no accepted object says nothing.
+// Cost: each item is looked at once, and a text as far as its expansion can fit.
+ghost use mathlib.Core.Path.{_≡_};
+ghost use Prim.Native.Nat.{_≤_, min};
+ghost use lib.ListN.{length};
+ghost use Rattle.text.specs.Tokens.{entries};
+ghost use Rattle.values.specs.Table.{known};
+ghost use Rattle.survey.specs.Normal.{framedSize, valueOctets};
+ghost use Rattle.survey.specs.Measure.{Measures};
+ghost use Rattle.survey.specs.Sizes.{partOf, sizesOf, ItemMeasured, ItemsMeasured};
+use crate::Lies;
+use crate::table::item_at;
+use crate::table::table_of;
+use octets::header_size;
+use text::expanded_size;
+use values::Kind;
+use values::KnownKind;
+use values::NormalSize;
+use values::known_kind;
+use values::normal_size;
+
+// The octets that items take of a store and in normal form. Over: their normal form has more than 32,768, which no object may have.
+pub enum Measured {
+    Over,
+    Sizes { store: usize, octets: usize },
+}
+
+// What is measured of an item: nothing; the items inside it; octets of its own, of which no more than 32,769 are counted.
+enum Part {
+    Nothing,
+    Inside,
+    Octets(usize),
+}
+
+// A value that is no text. One that is none of its kind, which no accepted item has, has no octets.
+fn value_size(kind: Kind, body: &[u8]) -> usize
+    ensures { λ r. ⌜ r ≡ min 32_769 (length (valueOctets kind (now (body .entry)))) ⌝ }
+{
+    let NormalSize::Octets(size) = normal_size(kind, body) else {
+        return 0;
+    };
+    if size > 32_769 {
+        return 32_769;
+    }
+    size
+}
+
+// An unknown item and the token table have no place in normal form.
+fn part_of(parent: u8, tag: u8, body: &[u8], table: &[u8]) -> Part
+    ensures { λ r. ⌜ r ≡ partOf (entries (now (table .entry))) (known parent tag) (now (body .entry)) ⌝ }
+{
+    match known_kind(parent, tag) {
+        KnownKind::Unknown => Part::Nothing,
+        KnownKind::Known(kind) => match kind {
+            Kind::HoldsItems => Part::Inside,
+            Kind::HoldsTokens => Part::Nothing,
+            Kind::HoldsText => Part::Octets(expanded_size(table, body, 32_769)),
+            Kind::HoldsPlain => Part::Octets(value_size(kind, body)),
+            Kind::HoldsTime => Part::Octets(value_size(kind, body)),
+            Kind::HoldsBearer => Part::Octets(value_size(kind, body)),
+            Kind::HoldsNumber(_) => Part::Octets(value_size(kind, body)),
+        },
+    }
+}
+
+// An item whose body has so many octets in normal form.
+fn framed(store: usize, octets: usize) -> Measured
+    requires { ⌜ octets ≤ 32_769 ⌝ }
+    ensures { λ r. ⌜ r ≡ sizesOf store (framedSize octets) ⌝ }
+{
+    let size = header_size(octets) + octets;
+    if size > 32_768 {
+        return Measured::Over;
+    }
+    Measured::Sizes {
+        store,
+        octets: size,
+    }
+}
+
+// One item in an element of a tag. `left` is how many levels of elements may still open: none opens below depth 16 in an accepted object.
+fn measure_item(parent: u8, tag: u8, left: usize, body: &[u8], table: &[u8]) -> Measured
+    ensures { λ r. ⌜ ItemMeasured (entries (now (table .entry))) parent tag left (now (body .entry)) r ⌝ }
+{
+    match part_of(parent, tag, body, table) {
+        Part::Nothing => Measured::Sizes {
+            store: 0,
+            octets: 0,
+        },
+        Part::Octets(size) => framed(size, size),
+        Part::Inside => {
+            if left == 0 {
+                return Measured::Over;
+            }
+            match measure_items(tag, left - 1, body, table) {
+                Measured::Over => Measured::Over,
+                Measured::Sizes { store, octets } => framed(store, octets),
+            }
+        }
+    }
+}
+
+// The items in a part, which is the body of an element of a tag.
+fn measure_items(parent: u8, left: usize, part: &[u8], table: &[u8]) -> Measured
+    ensures { λ r. ⌜ ItemsMeasured (entries (now (table .entry))) parent left (now (part .entry)) r ⌝ }
+{
+    let mut store: usize = 0;
+    let mut octets: usize = 0;
+    let mut at: usize = 0;
+    while at < part.len() {
+        let Lies::Between { from, to } = item_at(part, at) else {
+            return Measured::Over;
+        };
+        let item = measure_item(parent, part[at], left, &part[from..to], table);
+        let Measured::Sizes {
+            store: more,
+            octets: longer,
+        } = item
+        else {
+            return Measured::Over;
+        };
+        store = store + more;
+        octets = octets + longer;
+        if octets > 32_768 {
+            return Measured::Over;
+        }
+        at = to;
+    }
+    Measured::Sizes { store, octets }
+}
+
+// An object that is accepted. The object itself counts as an element with the tag 0, whose one item is the top at depth 1.
+pub fn measure(object: &[u8]) -> Measured
+    ensures { λ r. ⌜ Measures (now (object .entry)) r ⌝ }
+{
+    let table = table_of(object);
+    measure_items(0, 16, object, table)
+}
