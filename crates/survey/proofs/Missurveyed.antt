@@ -1,15 +1,22 @@
--- Answers that `survey` doesn't give.
-use mathlib.Core.Path.{_≡_, ap}
+-- Wrong answers of the calls, each refuted by what its contract says.
+use mathlib.Core.Path.{_≡_, refl, sym, ap, _∙_}
+use mathlib.Core.List.{List, [], _∷_}
 use Prim.Native.Nat.{ℕ, _<_}
 use native.Mathlib.Omega.{arith}
+use lib.ListN.{length, getD}
 use borrow.Author.Tests.{lt-leb}
+use Rattle.octets.specs.Header.{headerSize, bodySize}
 use Rattle.format.specs.declared.Refusal.{Refusal}
 use Rattle.format.specs.Answers.{refusal}
 use Rattle.format.specs.Tree.{Items, count}
 use Rattle.format.specs.Judge.Judged.{refused, accepted}
 use Rattle.format.specs.Calls.{Lent}
 use Rattle.survey.specs.declared.Standing.the-variants.{Bad, Misfit, Fits}
+use Rattle.survey.specs.declared.Lies.the-variants.{Outside, Between}
 use Rattle.survey.specs.Survey.{surveyed}
+use Rattle.survey.specs.Places.{liesIn, liesAt, tableWithin, firstTable, tableBody}
+
+-- ---- survey
 
 -- that an object fits which is refused
 pub fits-refused : (lent : Lent) (r : Refusal) → surveyed lent (refused r) ≡ Fits → ⊥
@@ -23,3 +30,40 @@ store-before-places lent t h e =
     let w : Misfit (refusal 14 0) ≡ Misfit (refusal 15 0) = rw (lt-leb (count t) (lent .records) h) at e in
     let y : refusal 14 0 ≡ refusal 15 0 = cc in
     absurd (omega (arith, ap (λ x. x .number) y))
+
+-- ---- item_at
+
+-- an item that runs past the part, told as lying in it
+pub past-lies : liesAt (0x06 ∷ 0x02 ∷ 0x65 ∷ []) 0 ≡ Between 2 4 → ⊥
+unfolding liesAt liesIn headerSize bodySize
+past-lies h = let w : Outside ≡ Between 2 4 = h in let z : _≡_ {A = ℕ} 0 1 = cc in omega arith
+
+-- places counted from where the item begins, not from where the part does
+pub counted-from-item : liesAt (0x10 ∷ 0x00 ∷ 0x06 ∷ 0x01 ∷ 0x65 ∷ []) 2 ≡ Between 2 3 → ⊥
+unfolding liesAt liesIn headerSize bodySize
+counted-from-item h = let w : Between 4 5 ≡ Between 2 3 = h in let z : _≡_ {A = ℕ} 4 2 = cc in omega arith
+
+-- ---- table_of
+
+-- tops with a table inside another item of theirs alone, and with two tables
+abbrev deeper : List ℕ
+deeper = 0x03 ∷ 0x05 ∷ 0x10 ∷ 0x03 ∷ 0x04 ∷ 0x01 ∷ 0xAA ∷ []
+
+abbrev twice : List ℕ
+twice = 0x03 ∷ 0x06 ∷ 0x04 ∷ 0x01 ∷ 0xAA ∷ 0x04 ∷ 0x01 ∷ 0xBB ∷ []
+
+record Tables : Type 0 where
+  ofDeeper : tableBody deeper ≡ []
+  ofTwice : tableBody twice ≡ 0xAA ∷ []
+
+tables : Tables
+unfolding tableBody firstTable tableWithin headerSize bodySize
+tables = record { ofDeeper = refl; ofTwice = refl }
+
+-- a table that isn't directly in the top
+pub deeper-found : tableBody deeper ≡ 0xAA ∷ [] → ⊥
+deeper-found h = let z : _≡_ {A = ℕ} 1 0 = ap length (sym h ∙ tables .ofDeeper) in omega arith
+
+-- the last of two
+pub last-found : tableBody twice ≡ 0xBB ∷ [] → ⊥
+last-found h = let z : _≡_ {A = ℕ} 0xBB 0xAA = ap (λ o. getD o 0 0) (sym h ∙ tables .ofTwice) in omega arith

@@ -3,13 +3,11 @@ use mathlib.Core.Path.{_≡_, refl, sym, ap, _∙_, subst}
 use mathlib.Core.Bool.{Bool, true, false, cond, false≢true}
 use mathlib.Core.Option.{Option, none, some}
 use mathlib.Core.List.{List, [], _∷_, _++_}
-use Prim.Native.Nat.{ℕ, suc, _+_, _^_, _≤_, _<_}
+use Prim.Native.Nat.{ℕ, _+_, _^_, _≤_, _<_}
 use native.Mathlib.Omega.{arith}
 use lib.Dec.{ltb}
 use lib.ListN.{length, length-append}
 use borrow.Author.Tests.{lt-ltb, le-leb}
-use mir.Syntax.{w64}
-use mir.Val.{Fits}
 use Rattle.octets.specs.Header.{lengthField, framed}
 use Rattle.octets.specs.declared.Put.{Put}
 use Rattle.octets.specs.Calls.{Puts}
@@ -17,14 +15,12 @@ use Rattle.octets.proofs.Answers.{size-five, put-done, put-no-room, put-too-lon
 use Rattle.values.specs.declared.Kind.{Kind}
 use Rattle.values.specs.declared.KnownKind.{KnownKind}
 use Rattle.values.specs.declared.KnownKind.the-variants.{Unknown, Known}
-use Rattle.values.specs.declared.NormalSize.{NormalSize}
-use Rattle.values.specs.declared.NormalSize.the-variants.{Octets, NoValue}
 use Rattle.values.specs.Table.{known}
 use Rattle.values.specs.Values.{fits, meant, octetsOf}
-use Rattle.values.specs.Calls.{knownKind, normalOctets, normalSize as sizeOfValue, putAnswer as valueAnswer, Puts as PutsValue}
+use Rattle.values.specs.Calls.{knownKind, normalOctets, putAnswer as valueAnswer, Puts as PutsValue}
 use Rattle.values.specs.declared.Put.{Put as PutValue}
 use Rattle.values.specs.declared.Put.the-variants.{Done, NoRoom, Invalid}
-use Rattle.values.proofs.Laws.{known-kind, unknown-kind, put-written, put-kept, normal-sized, not-sized, normal-shorter}
+use Rattle.values.proofs.Laws.{known-kind, unknown-kind, put-written, put-kept, normal-shorter}
 use Rattle.format.specs.Judge.{isItems}
 use Rattle.format.specs.Meaning.{opens, maybe}
 use Rattle.writer.specs.declared.item.Form.{Form}

@@ -442,8 +442,7 @@ lay-items-item-at-requires : (t : ℕ) → lay-items-lts.Need-item-at-requires (
   lay-item-below t,
   lay-item.Post,
 ) (lay-items-at t) lay-items.Post lay-items-Inv-loop lay-items-μ-loop
-lay-items-item-at-requires t c κs =
-    (c .before .loop) .inv .inside
+lay-items-item-at-requires t c κs = search needs
 
 lay-items-enum-known-from : (t : ℕ) → lay-items-lts.Need-enum-known-from (
   item-at-reads.Asked,
