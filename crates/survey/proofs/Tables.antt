@@ -54,7 +54,7 @@ enough (suc n) (suc m) s h k = go (isWhole s) refl (λ l. enough n m (afterFirst
 abbrev step : List ℕ → Bool → List ℕ
 step s b = cond b (cond (eqb (getD s 0 0) 4) (firstBody s) (firstTable (afterFirst s))) []
 
-pub table-step : (s : List ℕ) → firstTable s ≡ step s (isWhole s)
+table-step : (s : List ℕ) → firstTable s ≡ step s (isWhole s)
 unfolding firstTable tableWithin
 table-step [] = rw (none-whole [] (omega arith))
 table-step (tag ∷ rest) = go (isWhole s) refl
