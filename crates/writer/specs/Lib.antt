@@ -6,3 +6,4 @@ pub mod Sizes
 pub mod Store
 pub mod Survey
 pub mod Lay
+pub mod Order

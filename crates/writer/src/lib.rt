@@ -10,6 +10,7 @@ ghost use Rattle.format.specs.Lent.{lent};
 ghost use Rattle.writer.specs.declared.Standing.the-variants.{Fits};
 ghost use Rattle.writer.specs.Survey.{surveyed};
 
+mod comparing;
 mod emit;
 mod fitting;
 mod frame;
@@ -24,6 +25,7 @@ use crate::emit::emit_items;
 use crate::lay::lay;
 use crate::size::Sized;
 use crate::size::size_items;
+pub use comparing::same;
 pub use fitting::survey;
 use format::Refusal;
 use format::WriteAnswer;

@@ -1,36 +1,61 @@
 // Whether two objects mean the same: their normal forms are written and compared.
 ghost use mathlib.Core.Path.{_≡_};
+ghost use mathlib.Core.Bool.{cond};
+ghost use Rattle.format.specs.declared.SameAnswer.the-variants.{Same, Different};
 ghost use Rattle.format.specs.Judge.{judge};
 ghost use Rattle.format.specs.Calls.{lentBy, sameOctets, SameClaim};
 ghost use Rattle.format.specs.Lent.{lent};
 ghost use Rattle.writer.specs.declared.Standing.the-variants.{Fits};
+ghost use Rattle.writer.specs.Order.{settledBy};
 ghost use Rattle.writer.specs.Survey.{surveyed};
-ghost use Rattle.same.specs.Order.{firstBadOr, firstOr};
-use format::Refusal;
+use crate::Standing;
+use crate::fitting::survey;
+use crate::write_normal;
 use format::SameAnswer;
-use format::WriteAnswer;
 use reader::places;
-use writer::Standing;
-use writer::normalise;
-use writer::survey;
 
-fn are_same(a: &[u8], b: &[u8]) -> bool
-    ensures { λ r. ⌜ r ≡ sameOctets (now (a .entry)) (now (b .entry)) ⌝ }
+// What is known of two objects before anything is written: the answer, or that both fit what is lent.
+pub enum Settled {
+    Answered(SameAnswer),
+    BothFit,
+}
+
+// Refusals of the judgement come before an object that doesn't fit, of either kind the first object's before the second's.
+fn settle(first: Standing, second: Standing) -> Settled
+    ensures { λ r. ⌜ r ≡ settledBy first second ⌝ }
+{
+    match first {
+        Standing::Bad(refusal) => Settled::Answered(SameAnswer::FirstRefused(refusal)),
+        Standing::Misfit(refusal) => match second {
+            Standing::Bad(other) => Settled::Answered(SameAnswer::SecondRefused(other)),
+            Standing::Misfit(_) => Settled::Answered(SameAnswer::FirstRefused(refusal)),
+            Standing::Fits => Settled::Answered(SameAnswer::FirstRefused(refusal)),
+        },
+        Standing::Fits => match second {
+            Standing::Bad(other) => Settled::Answered(SameAnswer::SecondRefused(other)),
+            Standing::Misfit(other) => Settled::Answered(SameAnswer::SecondRefused(other)),
+            Standing::Fits => Settled::BothFit,
+        },
+    }
+}
+
+fn are_same(a: &[u8], b: &[u8]) -> SameAnswer
+    ensures { λ r. ⌜ r ≡ cond (sameOctets (now (a .entry)) (now (b .entry))) Same Different ⌝ }
 {
     if a.len() != b.len() {
-        return false;
+        return SameAnswer::Different;
     }
     let mut i: usize = 0;
     while i < a.len() {
         if a[i] != b[i] {
-            return false;
+            return SameAnswer::Different;
         }
         i = i + 1;
     }
-    true
+    SameAnswer::Same
 }
 
-// The second object is known to fit, so that the first may be loaded and written; then the second is laid over what was lent to both.
+// Both objects are known to fit, so each is laid and written, the second over what was lent to both, and what was written of them compared.
 fn compare(
     a: &[u8],
     b: &[u8],
@@ -44,10 +69,11 @@ fn compare(
     room_a: &mut [u8],
     room_b: &mut [u8],
 ) -> SameAnswer
+    requires { ⌜ surveyed (lentBy (lent tags kinds depths parents starts sizes) (now store) (now «room_a»)) (judge (now a)) ≡ Fits ⌝ }
     requires { ⌜ surveyed (lentBy (lent tags kinds depths parents starts sizes) (now store) (now «room_b»)) (judge (now b)) ≡ Fits ⌝ }
     ensures { λ r. ⌜ SameClaim (now (a .entry)) (now (b .entry)) (lent (tags .entry) (kinds .entry) (depths .entry) (parents .entry) (starts .entry) (sizes .entry)) (lent (tags .exit) (kinds .exit) (depths .exit) (parents .exit) (starts .exit) (sizes .exit)) (now (store .entry)) (now (store .exit)) (now («room_a» .entry)) (now («room_a» .exit)) (now («room_b» .entry)) (now («room_b» .exit)) r ⌝ }
 {
-    match normalise(
+    let n = write_normal(
         a,
         tags,
         kinds,
@@ -57,52 +83,19 @@ fn compare(
         sizes,
         store,
         room_a,
-    ) {
-        WriteAnswer::NotWritten(refusal) => SameAnswer::FirstRefused(refusal),
-        WriteAnswer::Octets(n) => {
-            match normalise(
-                b,
-                tags,
-                kinds,
-                depths,
-                parents,
-                starts,
-                sizes,
-                store,
-                room_b,
-            ) {
-                WriteAnswer::NotWritten(refusal) => SameAnswer::SecondRefused(refusal),
-                WriteAnswer::Octets(m) => {
-                    if are_same(&room_a[..n], &room_b[..m]) {
-                        return SameAnswer::Same;
-                    }
-                    SameAnswer::Different
-                }
-            }
-        }
-    }
-}
-
-// The second object is refused by the judgement: only a judgement of the first comes before that.
-fn first_bad_or(first: Standing, second: Refusal) -> SameAnswer
-    ensures { λ r. ⌜ r ≡ firstBadOr first second ⌝ }
-{
-    match first {
-        Standing::Bad(refusal) => SameAnswer::FirstRefused(refusal),
-        Standing::Misfit(_) => SameAnswer::SecondRefused(second),
-        Standing::Fits => SameAnswer::SecondRefused(second),
-    }
-}
-
-// The second object is accepted, but doesn't fit: each refusal of the first comes before that.
-fn first_or(first: Standing, second: Refusal) -> SameAnswer
-    ensures { λ r. ⌜ r ≡ firstOr first second ⌝ }
-{
-    match first {
-        Standing::Bad(refusal) => SameAnswer::FirstRefused(refusal),
-        Standing::Misfit(refusal) => SameAnswer::FirstRefused(refusal),
-        Standing::Fits => SameAnswer::SecondRefused(second),
-    }
+    );
+    let m = write_normal(
+        b,
+        tags,
+        kinds,
+        depths,
+        parents,
+        starts,
+        sizes,
+        store,
+        room_b,
+    );
+    are_same(&room_a[..n], &room_b[..m])
 }
 
 // Whether two objects mean the same. Both use the lists and the store, one after the other; each has a room of its own for its normal form. Refused: 1 to 13 of
@@ -123,14 +116,11 @@ pub fn same(
     ensures { λ r. ⌜ SameClaim (now (a .entry)) (now (b .entry)) (lent (tags .entry) (kinds .entry) (depths .entry) (parents .entry) (starts .entry) (sizes .entry)) (lent (tags .exit) (kinds .exit) (depths .exit) (parents .exit) (starts .exit) (sizes .exit)) (now (store .entry)) (now (store .exit)) (now («room_a» .entry)) (now («room_a» .exit)) (now («room_b» .entry)) (now («room_b» .exit)) r ⌝ }
 {
     let most = places(tags, kinds, depths, parents, starts, sizes);
-    match survey(b, most, store.len(), room_b.len()) {
-        Standing::Bad(refusal) => {
-            first_bad_or(survey(a, most, store.len(), room_a.len()), refusal)
-        }
-        Standing::Misfit(refusal) => {
-            first_or(survey(a, most, store.len(), room_a.len()), refusal)
-        }
-        Standing::Fits => compare(
+    let first = survey(a, most, store.len(), room_a.len());
+    let second = survey(b, most, store.len(), room_b.len());
+    match settle(first, second) {
+        Settled::Answered(answer) => answer,
+        Settled::BothFit => compare(
             a,
             b,
             tags,
