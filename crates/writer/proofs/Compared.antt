@@ -159,23 +159,28 @@ module _ (a b : List ℕ) (l : Lists) (store roomA roomB : List ℕ) where
   unfolding ofFirst ofSecond lay
   unchanged h r e = record { answers = e; leavesLists = rw h; leavesStore = rw h; leavesFirst = rw h; leavesSecond = rw h }
 
-  module _ (s : Standing) (f : s ≡ surveyed first (judge a)) (v : Standing) (g : v ≡ surveyed second (judge b)) (k : Settled) (e : k ≡ settledBy s v) where
-    known : k ≡ cond (bothFit first second (judge a) (judge b)) BothFit (Answered (sameAnswer first second (judge a) (judge b)))
-    known = e ∙ rw (f, g) (settles first second (judge a) (judge b))
+  -- both surveyed, with the places counted once
+  module _ (n : ℕ) (p : n ≡ places l) (k : Settled)
+      (e : k ≡ settledBy (surveyed (record { records = n; store = length store; room = length roomA }) (judge a)) (surveyed (record { records = n; store = length store; room = length roomB }) (judge b))) where
+    known : k ≡ settledBy (surveyed first (judge a)) (surveyed second (judge b))
+    known =
+        e ∙ ap (λ x. settledBy (surveyed (record { records = x; store = length store; room = length roomA }) (judge a)) (surveyed (record { records = x; store = length store; room = length roomB }) (judge b))) p
 
     pub same-answered : (r : SameAnswer) → k ≡ Answered r → SameClaim a b l l store store roomA roomA roomB roomB r
     same-answered r h = go (bothFit first second (judge a) (judge b)) refl
       where
         go : (x : Bool) → bothFit first second (judge a) (judge b) ≡ x → SameClaim a b l l store store roomA roomA roomB roomB r
-        go true p = let w : Answered r ≡ BothFit = sym h ∙ known ∙ rw p in let z : _≡_ {A = ℕ} 0 1 = cc in absurd (omega arith)
-        go false p =
-            let w : Answered r ≡ Answered (sameAnswer first second (judge a) (judge b)) = sym h ∙ known ∙ rw p in
-            unchanged p r cc
+        go true q = let w : Answered r ≡ BothFit = sym h ∙ known ∙ settles first second (judge a) (judge b) ∙ rw q in let z : _≡_ {A = ℕ} 0 1 = cc in absurd (omega arith)
+        go false q =
+            let w : Answered r ≡ Answered (sameAnswer first second (judge a) (judge b)) = sym h ∙ known ∙ settles first second (judge a) (judge b) ∙ rw q in
+            unchanged q r cc
 
-    pub same-both : k ≡ BothFit → (surveyed first (judge a) ≡ Fits) × (surveyed second (judge b) ≡ Fits)
-    same-both h =
-        let w = both s v (sym e ∙ h) in
-        (sym f ∙ w .0, sym g ∙ w .1)
+    module _ (h : k ≡ BothFit) where
+      pub same-first : surveyed first (judge a) ≡ Fits
+      same-first = both (surveyed first (judge a)) (surveyed second (judge b)) (sym known ∙ h) .0
+
+      pub same-second : surveyed second (judge b) ≡ Fits
+      same-second = both (surveyed first (judge a)) (surveyed second (judge b)) (sym known ∙ h) .1
 
 -- ---- compared
 
