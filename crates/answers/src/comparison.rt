@@ -50,7 +50,7 @@ fn compare_objects(first: &[u8], second: &[u8], out: &mut [u8], used: usize) -> 
     let mut store = marked_room();
     let mut room = same_room();
     let mut other = same_room();
-    let answer = same::same(
+    let answer = writer::same(
         first,
         second,
         &mut tags,

@@ -1,7 +1,7 @@
 // Reads a stream of cases on standard input and prints an answer to each, as the second program does (second/second.c), so that the two can be compared.
 //
 // A letter is a variant of Case, an arm of `case_of` with the fields that it has, and an arm of `answer` with a function of its own, which makes the memory
-// that the case is lent (memory.rt). What an answer says is proved where it is made, in `reader`, `writer`, `same` and `show`; here every function is safe and ends.
+// that the case is lent (memory.rt). What an answer says is proved where it is made, in `reader`, `writer` and `show`; here every function is safe and ends.
 mod cases;
 mod comparison;
 mod lines;

@@ -24,7 +24,7 @@ fn verdict(a: &[u8], b: &[u8]) -> SameOutcome {
     let mut store = room();
     let mut room_a = room();
     let mut room_b = room();
-    let answer = same::same(
+    let answer = writer::same(
         a,
         b,
         &mut tags,

@@ -146,7 +146,7 @@ pub extern "C" fn spi_same(
 ) -> u64
     ensures { λ r. ⌜ SameC (now (a .entry)) (now (b .entry)) (lent (tags .entry) (kinds .entry) (depths .entry) (parents .entry) (starts .entry) (sizes .entry)) (lent (tags .exit) (kinds .exit) (depths .exit) (parents .exit) (starts .exit) (sizes .exit)) (now (store .entry)) (now (store .exit)) (now («room_a» .entry)) (now («room_a» .exit)) (now («room_b» .entry)) (now («room_b» .exit)) r ⌝ }
 {
-    let answer = same::same(
+    let answer = writer::same(
         a,
         b,
         tags,

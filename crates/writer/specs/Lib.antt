@@ -2,3 +2,4 @@ pub mod Steps
 pub mod Theorems
 pub mod Store
 pub mod Lay
+pub mod Order

@@ -1,12 +1,12 @@
-use Rattle.same.proofs.Compared.{alike-ways}
+use Rattle.writer.proofs.Compared.{alike-ways}
 use borrow.Author.Needs.{needs}
 use Prim.Native.Nat.{_-_}
 use lib.ListN.{length}
-use Rattle.same.proofs.Compared.{Alike}
-use Rattle.same.proofs.are_same.Statement.{statement}
-use Rattle.same.proofs.are_same.Tie as tie
-use Rattle.same.proofs.are_same.Reads as reads
-use Rattle.same.proofs.are_same.Lts as lts
+use Rattle.writer.proofs.Compared.{Alike}
+use Rattle.writer.proofs.comparing.are_same.Statement.{statement}
+use Rattle.writer.proofs.comparing.are_same.Tie as tie
+use Rattle.writer.proofs.comparing.are_same.Reads as reads
+use Rattle.writer.proofs.comparing.are_same.Lts as lts
 
 abbrev Inv-loop : tie.InvT-loop
 Inv-loop a b i₀ i = Alike a b i
