@@ -20,6 +20,7 @@ use Rattle.text.specs.Tokens.{Entries, entry, stands, expanded, present,
 use Rattle.text.specs.Leaves.{tokenBit, Steps}
 use Rattle.text.specs.Runs.{within, allWithin, PlainTo}
 use Rattle.text.specs.Weighing.{bit, tags, Marks, Widths, marked, coveredBy, widthAt, weight, weighedBy}
+use Rattle.text.specs.declared.Weighed.{Weighed}
 use Rattle.text.specs.declared.Weighed.the-variants.{NoText, Text}
 use Rattle.text.proofs.Words.{high-octet}
 use Rattle.text.proofs.Masks.{bit-none, mark-one, kept-within, within-kept}
@@ -258,6 +259,36 @@ weight-is es w known (b ∷ s) =
     one : (l : Bool) → ltb b 0x14 ≡ l → widthAt w b 1 ≡ length (stands es b)
     one true e = rw e (known .each b (omega (arith, ltb-true b 0x14 e)))
     one false e = rw e (sym (high-width es b (omega (arith, ltb-false b 0x14 e))))
+
+-- ---- what the answer of `weigh` tells, by the marks and widths of a table
+module _ (es : Entries) (marks : ℕ) (w : List ℕ) (m : Marks marks (tags es)) (k : Widths 32 es w) (s : List ℕ) (most : ℕ)
+    (r : Weighed) (e : r ≡ weighedBy marks w s most) where
+  pub weighed-none : r ≡ NoText → text true s ≡ false
+  unfolding weighedBy
+  weighed-none q = go (text true s) (sym q ∙ e)
+    where
+      go : (b : Bool) → NoText ≡ cond b (Text (coveredBy marks s) (min most (weight w s))) NoText → b ≡ false
+      go true h = let z : _≡_ {A = ℕ} 0 1 = cc in absurd (omega arith)
+      go false h = refl
+
+  module _ (c : Bool) (n : ℕ) (q : r ≡ Text c n) where
+    pub weighed-text : text true s ≡ true
+    unfolding weighedBy
+    weighed-text = go (text true s) (sym q ∙ e)
+      where
+        go : (b : Bool) → Text c n ≡ cond b (Text (coveredBy marks s) (min most (weight w s))) NoText → b ≡ true
+        go true h = refl
+        go false h = let z : _≡_ {A = ℕ} 0 1 = cc in absurd (omega arith)
+
+    found : Text c n ≡ Text (coveredBy marks s) (min most (weight w s))
+    unfolding weighedBy
+    found = sym q ∙ e ∙ rw weighed-text
+
+    pub weighed-covered : c ≡ covered es s
+    weighed-covered = let h = found in let z : c ≡ coveredBy marks s = cc in z ∙ covered-by-is es marks m s
+
+    pub weighed-width : n ≡ min most (shownLength es s)
+    weighed-width = let h = found in let z : n ≡ min most (weight w s) = cc in z ∙ ap (min most) (weight-is es w k s)
 
 -- ---- only one answer
 pub marks-one : (m k : ℕ) (octets : List ℕ) → Marks m octets → Marks k octets → m ≡ k
