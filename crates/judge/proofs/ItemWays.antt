@@ -1,19 +1,24 @@
 -- The rules of one item, on each way through the code's tests.
 use mathlib.Core.Path.{_≡_, refl, sym, ap, _∙_}
-use mathlib.Core.Bool.{Bool, true, false, _&&_, _||_, false≢true}
+use mathlib.Core.Bool.{Bool, true, false, cond, not, _&&_, _||_, false≢true}
 use mathlib.Core.Logic.{⊎-elim}
 use mathlib.Core.Option.{Option, none, some}
 use mathlib.Core.List.{List, [], _∷_}
-use Prim.Native.Nat.{ℕ, _-_, _≤_, _<_}
+use Prim.Native.Nat.{ℕ, _-_, _≤_, _<_, min}
+use native.Mathlib.Nat.{min-eq-left, min-eq-right}
 use native.Mathlib.Omega.{arith}
 use lib.Dec.{eqb, leb}
 use types.Run.{OneOf}
 use denote.Enum.Declared.{tagOf}
-use borrow.Author.Tests.{le-leb, lt-leb, ne-eqb, eq-eqb}
+use borrow.Author.Tests.{le-leb, lt-leb, leb-true, leb-false, ne-eqb, eq-eqb}
 use Rattle.octets.specs.Numbers.{among}
 use Rattle.octets.proofs.Tests.{or-true}
 use Rattle.text.specs.Text.{text}
 use Rattle.text.specs.Tokens.{entries, isTable, covered, shownLength}
+use Rattle.text.specs.Weighing.{weighedBy}
+use Rattle.text.specs.declared.Weighed.{Weighed}
+use Rattle.text.specs.declared.Weighed.the-variants.{NoText, Text}
+use Rattle.text.proofs.WeighLaws.{weighed-none, weighed-text, weighed-covered, weighed-width}
 use Rattle.values.specs.declared.Kind.{Kind}
 use Rattle.values.proofs.Kind.{the-type}
 use Rattle.values.specs.declared.Kind.the-variants.{HoldsItems, HoldsTokens, HoldsText, HoldsPlain, HoldsTime, HoldsBearer, HoldsNumber}
@@ -26,7 +31,7 @@ use Rattle.format.proofs.Rules.{first-one}
 use Rattle.values.specs.Calls.{asKnown, knownKind}
 use Rattle.values.specs.declared.KnownKind.{KnownKind}
 use Rattle.values.specs.declared.KnownKind.the-variants.{Unknown, Known}
-use Rattle.judge.specs.Says.{ctx, bare, depthOf, asKind, asLimit, limited, checked, sorted, hasBit, Seen, ItemSays}
+use Rattle.judge.specs.Says.{ctx, bare, InForce, depthOf, asKind, asLimit, limited, checked, sorted, hasBit, Seen, ItemSays}
 use Rattle.judge.specs.declared.tags.Limit.{Limit}
 use Rattle.judge.specs.declared.tags.Limit.the-variants.{Unlimited, AtMost}
 use Rattle.judge.specs.declared.Check.{Check}
@@ -45,62 +50,111 @@ kind-known k parent tag e = ap asKind e ∙ same (known parent tag)
     same (some k) = refl
 
 -- rules 12 and 13
-module _ (parent tag : ℕ) (table body : List ℕ) where
-  pub held-later : (t : Bool) → t ≡ (attribute tag && isTop parent) → t ≡ true → true ≡ ((attribute tag && isTop parent) || covered (entries table) body)
-  held-later t e f = rw (sym e ∙ f)
+module _ (parent tag : ℕ) (holds t : Bool) (e : t ≡ (attribute tag && isTop parent)) where
+  pub held-later : t ≡ true → true ≡ ((attribute tag && isTop parent) || holds)
+  held-later f = rw (sym e ∙ f)
 
-  pub held-now : (t u : Bool) → t ≡ (attribute tag && isTop parent) → u ≡ covered (entries table) body → t ≡ false → u ≡ ((attribute tag && isTop parent) || covered (entries table) body)
-  held-now t u e g f = rw (sym e ∙ f) g
+  pub held-now : t ≡ false → holds ≡ ((attribute tag && isTop parent) || holds)
+  held-now f = rw (sym e ∙ f)
 
-  pub short-no-cdata : (tag ≡ 1 → ⊥) → true ≡ shown parent tag (shownLength (entries table) body)
+module _ (parent tag width : ℕ) where
+  pub short-no-cdata : (tag ≡ 1 → ⊥) → true ≡ shown parent tag width
   unfolding shown
   short-no-cdata h = rw (ne-eqb tag 1 h)
 
-  limit-is : (n : ℕ) (o : Option ℕ) → limited o ≡ AtMost n → notAbove (shownLength (entries table) body) o ≡ leb (shownLength (entries table) body) n
+  limit-is : (n : ℕ) (o : Option ℕ) → limited o ≡ AtMost n → notAbove width o ≡ leb width n
   unfolding limited notAbove
   limit-is n none h = let z : _≡_ {A = ℕ} 0 1 = cc in absurd (omega arith)
   limit-is n (some m) h = let e : m ≡ n = cc in rw e
 
-  no-limit : (o : Option ℕ) → limited o ≡ Unlimited → notAbove (shownLength (entries table) body) o ≡ true
+  no-limit : (o : Option ℕ) → limited o ≡ Unlimited → notAbove width o ≡ true
   unfolding limited notAbove
   no-limit none h = refl
   no-limit (some m) h = let z : _≡_ {A = ℕ} 0 1 = cc in absurd (omega arith)
 
   module _ (h : tag ≡ 1) (l : Limit) (e : l ≡ asLimit parent) where
-    pub short-unlimited : l ≡ Unlimited → true ≡ shown parent tag (shownLength (entries table) body)
+    pub short-unlimited : l ≡ Unlimited → true ≡ shown parent tag width
     unfolding shown asLimit
     short-unlimited q = rw h (sym (no-limit (limit parent) (sym e ∙ q)))
 
-    pub short-limited : (n : ℕ) → l ≡ AtMost n → (b : Bool) → b ≡ leb (shownLength (entries table) body) n → b ≡ shown parent tag (shownLength (entries table) body)
+    pub short-limited : (n : ℕ) → l ≡ AtMost n → leb width n ≡ shown parent tag width
     unfolding shown asLimit
-    short-limited n q b g = rw h (g ∙ sym (limit-is n (limit parent) (sym e ∙ q)))
+    short-limited n q = rw h (sym (limit-is n (limit parent) (sym e ∙ q)))
 
 pub ruleset held-ways = (held-later, held-now)
 
 pub ruleset short-ways = (short-no-cdata, short-unlimited, short-limited)
 
+-- a width that is counted up to more than each limit keeps to a limit as the whole does
+Below : ℕ → Option ℕ → Type 0
+Below most none = Unit {0}
+Below most (some m) = m < most
+
+limit-below : (parent : ℕ) → Below 32_769 (limit parent)
+unfolding limit Below
+limit-below parent = go (eqb parent 0x10) (eqb parent 0x11) (eqb parent 0x12) (eqb parent 0x1A) (eqb parent 0x1B)
+  where
+    go : (a b c d e : Bool) → Below 32_769 (cond a (some 8) (cond b (some 16) (cond c (some 128) (cond d (some 180) (cond e (some 1_200) none)))))
+    go true b c d e = omega arith
+    go false true c d e = omega arith
+    go false false true d e = omega arith
+    go false false false true e = omega arith
+    go false false false false true = omega arith
+    go false false false false false = tt
+
+capped-leb : (most n m : ℕ) → m < most → leb (min most n) m ≡ leb n m
+capped-leb most n m h = go (leb n most) refl
+  where
+    go : (b : Bool) → leb n most ≡ b → leb (min most n) m ≡ leb n m
+    go true e = ap (λ (k : ℕ). leb k m) (min-eq-right (leb-true n most e))
+    go false e =
+        let past : most < n = omega (arith, leb-false n most e) in
+        ap (λ (k : ℕ). leb k m) (min-eq-left (omega arith)) ∙ lt-leb most m h ∙ sym (lt-leb n m (omega arith))
+
+capped-above : (most n : ℕ) (o : Option ℕ) → Below most o → notAbove (min most n) o ≡ notAbove n o
+unfolding notAbove Below
+capped-above most n none h = refl
+capped-above most n (some m) h = capped-leb most n m h
+
+capped-shown : (parent tag n : ℕ) → shown parent tag (min 32_769 n) ≡ shown parent tag n
+unfolding shown
+capped-shown parent tag n = ap (λ b. not (eqb tag 1) || b) (capped-above 32_769 n (limit parent) (limit-below parent))
+
 -- rules 10, 12 and 13
-module _ (parent tag place : ℕ) (table body : List ℕ) (b : Bool) (e : b ≡ text true body) where
-  abbrev Text : Option Refusal
-  Text = kindRules (bare parent (entries table)) place tag body (some HoldsText)
+module _ (parent tag place : ℕ) (table body : List ℕ) (marks : ℕ) (widths : List ℕ) (told : InForce table marks widths)
+    (r : Weighed) (e : r ≡ weighedBy marks widths body 32_769) where
+  abbrev Ruled : Option Refusal
+  Ruled = kindRules (bare parent (entries table)) place tag body (some HoldsText)
 
-  pub text-bad : b ≡ false → checked (Broken (refusal 10 place)) ≡ Text
+  pub text-bad : r ≡ NoText → checked (Broken (refusal 10 place)) ≡ Ruled
   unfolding kindRules first rule checked isValue isText isTokens fits
-  text-bad f = rw (sym e ∙ f)
+  text-bad f = rw (weighed-none (entries table) marks widths (told .marking) (told .measuring) body 32_769 r e f)
 
-  module _ (f : b ≡ true) (t : Bool) (g : t ≡ ((attribute tag && isTop parent) || covered (entries table) body)) where
-    pub text-uncovered : t ≡ false → checked (Broken (refusal 12 place)) ≡ Text
+  module _ (holds : Bool) (width : ℕ) (f : r ≡ Text holds width) (t : Bool) (g : t ≡ ((attribute tag && isTop parent) || holds)) where
+    is-text : text true body ≡ true
+    is-text = weighed-text (entries table) marks widths (told .marking) (told .measuring) body 32_769 r e holds width f
+
+    is-held : ((attribute tag && isTop parent) || covered (entries table) body) ≡ t
+    is-held =
+        ap (λ b. (attribute tag && isTop parent) || b) (sym (weighed-covered (entries table) marks widths (told .marking) (told .measuring) body 32_769 r e holds width f)) ∙ sym g
+
+    pub text-uncovered : t ≡ false → checked (Broken (refusal 12 place)) ≡ Ruled
     unfolding kindRules first rule checked isValue isText isTokens fits ofTop
-    text-uncovered h = rw (sym e ∙ f, sym g ∙ h)
+    text-uncovered h = rw (is-text, is-held ∙ h)
 
-    module _ (h : t ≡ true) (u : Bool) (i : u ≡ shown parent tag (shownLength (entries table) body)) where
-      pub text-long : u ≡ false → checked (Broken (refusal 13 place)) ≡ Text
-      unfolding kindRules first rule checked isValue isText isTokens fits ofTop
-      text-long j = rw (sym e ∙ f, sym g ∙ h, sym i ∙ j)
+    module _ (h : t ≡ true) (u : Bool) (i : u ≡ shown parent tag width) where
+      is-shown : shown parent tag (shownLength (entries table) body) ≡ u
+      is-shown =
+          sym (capped-shown parent tag (shownLength (entries table) body))
+          ∙ ap (shown parent tag) (sym (weighed-width (entries table) marks widths (told .marking) (told .measuring) body 32_769 r e holds width f)) ∙ sym i
 
-      pub text-good : u ≡ true → checked Kept ≡ Text
+      pub text-long : u ≡ false → checked (Broken (refusal 13 place)) ≡ Ruled
       unfolding kindRules first rule checked isValue isText isTokens fits ofTop
-      text-good j = rw (sym e ∙ f, sym g ∙ h, sym i ∙ j)
+      text-long j = rw (is-text, is-held ∙ h, is-shown ∙ j)
+
+      pub text-good : u ≡ true → checked Kept ≡ Ruled
+      unfolding kindRules first rule checked isValue isText isTokens fits ofTop
+      text-good j = rw (is-text, is-held ∙ h, is-shown ∙ j)
 
 pub ruleset text-ways = (text-bad, text-uncovered, text-long, text-good)
 
@@ -139,14 +193,14 @@ one-of (k ∷ j ∷ ks) x h = ⊎-elim (λ e. rw (eq-eqb x k e)) (λ q. rw (one-
 never : {C : Type 0} (ks : List ℕ) (x : ℕ) → among x ks ≡ false → OneOf ks x → C
 never ks x e h = absurd (false≢true (sym e ∙ one-of ks x h))
 
-abbrev NoText : List ℕ
-NoText = 0 ∷ 1 ∷ 3 ∷ 4 ∷ 5 ∷ 6 ∷ []
+abbrev Untexted : List ℕ
+Untexted = 0 ∷ 1 ∷ 3 ∷ 4 ∷ 5 ∷ 6 ∷ []
 
-not-text : (k : Kind) → OneOf NoText (tagOf the-type k) → isText (some k) ≡ false
+not-text : (k : Kind) → OneOf Untexted (tagOf the-type k) → isText (some k) ≡ false
 unfolding isText among
 not-text HoldsItems h = refl
 not-text HoldsTokens h = refl
-not-text HoldsText h = never NoText 2 refl h
+not-text HoldsText h = never Untexted 2 refl h
 not-text HoldsPlain h = refl
 not-text HoldsTime h = refl
 not-text HoldsBearer h = refl
@@ -206,7 +260,7 @@ module _ (known : KnownKind) where
     unfolding isText asKind
     text-is f = rw (e, f)
 
-    pub text-isnt : OneOf NoText (tagOf the-type k) → false ≡ isText (asKind known)
+    pub text-isnt : OneOf Untexted (tagOf the-type k) → false ≡ isText (asKind known)
     unfolding asKind
     text-isnt h = rw e (sym (not-text k h))
 

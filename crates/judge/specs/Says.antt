@@ -12,6 +12,7 @@ use Rattle.octets.specs.Numbers.{among}
 use Rattle.octets.specs.Header.{headerSize, bodySize}
 use Rattle.text.specs.Tokens.{Entries, entries}
 use Rattle.text.specs.Leaves.{maskOf}
+use Rattle.text.specs.Weighing.{tags, Marks, Widths}
 use Rattle.values.specs.declared.Kind.{Kind}
 use Rattle.values.specs.declared.Kind.the-variants.{HoldsItems, HoldsTokens, HoldsText, HoldsPlain, HoldsTime, HoldsBearer, HoldsNumber}
 use Rattle.values.specs.Table.{known, attribute}
@@ -42,6 +43,11 @@ ctx parent depth stage seen table waiting = record { parent = parent; depth = de
 -- all of it that rules 9 to 13 look at
 abbrev pub bare : ℕ → Entries → Context
 bare parent table = ctx parent 0 0 [] table []
+
+-- what is kept of a token table beside its octets: its tokens as marks, and the widths of the octets that could be tokens
+pub record InForce (table : List ℕ) (marks : ℕ) (widths : List ℕ) : Type 0 where
+  pub marking : Marks marks (tags (entries table))
+  pub measuring : Widths 32 (entries table) widths
 
 -- the code counts levels down, the definition counts depth up (document 01, Framing): at depth 1 sixteen levels of elements may begin, at depth 17 none
 unfoldable pub depthOf : ℕ → ℕ

@@ -4,7 +4,7 @@ ghost use mathlib.Core.Bool.{_&&_, _||_};
 ghost use mathlib.Core.Option.{some};
 ghost use Prim.Native.Nat.{_+_, _≤_};
 ghost use lib.ListN.{length};
-ghost use Rattle.text.specs.Tokens.{entries, covered, shownLength};
+ghost use Rattle.text.specs.Tokens.{entries};
 ghost use Rattle.values.specs.Table.{attribute};
 ghost use Rattle.values.specs.declared.Kind.the-variants.{HoldsText};
 ghost use Rattle.format.specs.Judge.{isKnown, isTop, shown, kindRules};
@@ -27,52 +27,57 @@ use crate::tags::trails;
 use format::Refusal;
 use octets::Header;
 use octets::read_header;
-use text::check;
-use text::is_covered;
-use text::is_shown;
+use text::Weighed;
 use text::is_table;
+use text::tokens_of;
+use text::weigh;
+use text::widths_of;
 use values::Kind;
 use values::KnownKind;
 use values::fits_kind;
 use values::known_kind;
 
 // Rule 12 where it isn't late: the top's own attributes wait, and in any other text each token octet has an entry.
-fn is_held(parent: u8, tag: u8, table: &[u8], body: &[u8]) -> bool
-    ensures { λ r. ⌜ r ≡ ((attribute tag && isTop parent) || covered (entries (now (table .entry))) (now (body .entry))) ⌝ }
+fn is_held(parent: u8, tag: u8, covered: bool) -> bool
+    ensures { λ r. ⌜ r ≡ ((attribute tag && isTop parent) || covered) ⌝ }
 {
     if is_of_top(parent, tag) {
         return true;
     }
-    is_covered(table, body)
+    covered
 }
 
-// Rule 13.
-fn is_short(parent: u8, tag: u8, table: &[u8], body: &[u8]) -> bool
-    ensures { λ r. ⌜ r ≡ shown parent tag (shownLength (entries (now (table .entry))) (now (body .entry))) ⌝ }
+// Rule 13, for text of which so many octets are shown.
+fn is_short(parent: u8, tag: u8, width: usize) -> bool
+    ensures { λ r. ⌜ r ≡ shown parent tag width ⌝ }
 {
     if tag != 1 {
         return true;
     }
     match limit_of(parent) {
         Limit::Unlimited => true,
-        Limit::AtMost(n) => is_shown(table, body, n),
+        Limit::AtMost(n) => width <= n,
     }
 }
 
-// Rules 10, 12 and 13, for text.
+// Rules 10, 12 and 13, for text, in one look at it. No limit of rule 13 is as large as the most that is counted.
 fn check_text(parent: u8, tag: u8, place: usize, table: &[u8], body: &[u8]) -> Check
     ensures { λ r. ⌜ checked r ≡ kindRules (bare parent (entries (now (table .entry)))) place tag (now (body .entry)) (some HoldsText) ⌝ }
 {
-    if !check(body, true) {
-        return Check::Broken(Refusal { number: 10, place });
+    let marks = tokens_of(table);
+    let widths = widths_of(table);
+    match weigh(marks, &widths, body, 32_769) {
+        Weighed::NoText => Check::Broken(Refusal { number: 10, place }),
+        Weighed::Text { covered, width } => {
+            if !is_held(parent, tag, covered) {
+                return Check::Broken(Refusal { number: 12, place });
+            }
+            if !is_short(parent, tag, width) {
+                return Check::Broken(Refusal { number: 13, place });
+            }
+            Check::Kept
+        }
     }
-    if !is_held(parent, tag, table, body) {
-        return Check::Broken(Refusal { number: 12, place });
-    }
-    if !is_short(parent, tag, table, body) {
-        return Check::Broken(Refusal { number: 13, place });
-    }
-    Check::Kept
 }
 
 // Rules 9 to 13, for a kind.

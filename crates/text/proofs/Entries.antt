@@ -16,7 +16,8 @@ use Rattle.octets.specs.Numbers.{among}
 use Rattle.text.specs.Text.{token, text}
 use Rattle.text.specs.Tokens.{Entries, entries, cut, filled, isTable, entry}
 use Rattle.text.specs.Calls.{found, foundIn, Inside}
-use Rattle.text.specs.Leaves.{ahead, maskOf, tokenBit, Marks, tags, filledAfter, Good, Rated}
+use Rattle.text.specs.Leaves.{ahead, maskOf, tokenBit, filledAfter, Good, Rated}
+use Rattle.text.specs.Weighing.{Marks, tags}
 use Rattle.text.specs.declared.tables.Piece.{Piece}
 use Rattle.text.specs.declared.tables.Piece.the-variants.{Past, Entry}
 use Rattle.text.specs.declared.Found.the-variants.{At, Nothing}

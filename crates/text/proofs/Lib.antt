@@ -8,5 +8,6 @@ pub mod Widths
 pub mod Replaced
 pub mod Laws
 pub mod RunLaws
+pub mod WeighLaws
 pub mod Sixteen
 pub mod Wrong

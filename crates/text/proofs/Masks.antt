@@ -13,7 +13,8 @@ use borrow.Author.Tests.{eqb-true, eqb-false, eq-eqb, ltb-true, ltb-false}
 use Rattle.octets.specs.Numbers.{among}
 use Rattle.octets.proofs.Tests.{and-false, or-true}
 use Rattle.text.specs.Text.{token}
-use Rattle.text.specs.Leaves.{maskOf, bit, tokenBit, Marks}
+use Rattle.text.specs.Leaves.{maskOf, tokenBit}
+use Rattle.text.specs.Weighing.{bit, Marks}
 
 power-below : (u t : ℕ) → t < u → 2 ^ u / 2 ^ t % 2 ≡ 0
 power-below u t h =

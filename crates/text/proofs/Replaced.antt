@@ -18,7 +18,8 @@ use Rattle.octets.proofs.Tests.{and-left, and-right, and-true, or-elim, or-left
 use Rattle.text.specs.Text.{token}
 use Rattle.text.specs.Tokens.{Entries, entries, entry, orItself, stands, expanded, present, covers, covered, shownLength, expandedSize}
 use Rattle.text.specs.Calls.{found, foundIn, Inside, expandFits, expandAnswer, expandOut}
-use Rattle.text.specs.Leaves.{bit, tokenBit, Marks, tags, replacedBy, Widths, widthBy, widthOf, lowIn, SurelyFits}
+use Rattle.text.specs.Leaves.{tokenBit, replacedBy, widthBy, widthOf, lowIn, SurelyFits}
+use Rattle.text.specs.Weighing.{bit, Marks, tags, Widths}
 use Rattle.text.specs.Runs.{UntokenedTo}
 use Rattle.text.specs.declared.Expanded.the-variants.{Done, NoRoom}
 use Rattle.text.specs.declared.Found.{Found}
@@ -53,7 +54,7 @@ module _ (s : List ℕ) where
 pub ruleset gather-ways = (gather-begin, gather-done, gather-again)
 
 -- ---- `is_covered`: each token among the octets of a text is among the tags
-tag-present : (es : Entries) (b : ℕ) → present (entry es b) ≡ among b (tags es)
+pub tag-present : (es : Entries) (b : ℕ) → present (entry es b) ≡ among b (tags es)
 unfolding present entry among tags
 tag-present [] b = refl
 tag-present (e ∷ es) b = go (tag-present es b) (eqb b (e .0))
@@ -233,7 +234,7 @@ module _ (es : Entries) (s : List ℕ) (limit : ℕ) where
           let none : length s ≤ from = omega arith in
           sym (shown-behind ∙ ap (λ q. leb (shownLength es q) (limit - from)) (drop-of-length-le s none) ∙ le-leb 0 (limit - from) (omega arith))
 
-      pub shown-from : (w : List ℕ) → Widths es w → (r : Bool) → r ≡ leb (widthOf w (drop from s)) (limit - from) → r ≡ leb (shownLength es s) limit
+      pub shown-from : (w : List ℕ) → Widths 32 es w → (r : Bool) → r ≡ leb (widthOf w (drop from s)) (limit - from) → r ≡ leb (shownLength es s) limit
       unfolding shownLength
       shown-from w widths r e = e ∙ rw (width-of-is es w widths (drop from s)) (sym shown-behind)
 
@@ -294,7 +295,7 @@ module _ (es : Entries) (s : List ℕ) (most : ℕ) where
         let all : from ≡ expandedSize es s = omega (arith, size-run es s 0 from run) in
         sym (min-eq-right (omega arith) ∙ sym all)
 
-    pub sized-from : (w : List ℕ) → Widths es w → (r : ℕ) → r ≡ min most (from + widthOf w (drop from s)) → r ≡ min most (expandedSize es s)
+    pub sized-from : (w : List ℕ) → Widths 32 es w → (r : ℕ) → r ≡ min most (from + widthOf w (drop from s)) → r ≡ min most (expandedSize es s)
     unfolding expandedSize
     sized-from w widths r e = e ∙ ap (min most) (omega (arith, width-of-is es w widths (drop from s), size-run es s 0 from run))
 

@@ -82,7 +82,7 @@ pub ruleset run-ways = (run-begin, run-eight, run-one)
 
 -- ---- a text at a run: the octets of the run, and what comes behind it
 module _ (least most : ℕ) (s : List ℕ) (at end : ℕ) (run : RunTo least most s at end) where
-  run-split : drop at s ≡ take (end - at) (drop at s) ++ drop end s
+  pub run-split : drop at s ≡ take (end - at) (drop at s) ++ drop end s
   run-split =
       let place : at + (end - at) ≡ end = omega (arith, run .onward) in
       sym (take-append-drop (end - at) (drop at s)) ∙ ap (λ q. take (end - at) (drop at s) ++ q) (drop-drop (end - at) at s ∙ ap (λ (n : ℕ). drop n s) place)
@@ -90,7 +90,7 @@ module _ (least most : ℕ) (s : List ℕ) (at end : ℕ) (run : RunTo least mos
   pub run-length : length (take (end - at) (drop at s)) ≡ end - at
   run-length = length-part s at (end - at) (omega (arith, run .onward, run .inside))
 
-bounds : (least most b : ℕ) → within least most b ≡ true → (least ≤ b) × (b ≤ most)
+pub bounds : (least most b : ℕ) → within least most b ≡ true → (least ≤ b) × (b ≤ most)
 unfolding within
 bounds least most b h = (leb-true least b (and-left (leb least b) (leb b most) h), leb-true b most (and-right (leb least b) (leb b most) h))
 
@@ -150,7 +150,7 @@ module _ (t : Bool) (s : List ℕ) where
   check-done at inv h = sym (inv .same ∙ ap (text t) (drop-of-length-le s h))
 
   module _ (at from : ℕ) (inv : Holds t s at) (run : PlainTo s at from) where
-    behind : Holds t s from
+    pub behind : Holds t s from
     behind = record { within = run .inside; same = inv .same ∙ plain-run t s at from run }
 
     pub check-end : from ≡ length s → true ≡ text t s

@@ -15,9 +15,10 @@ use mir.Val.{Fits}
 use mir.Syntax.{w32}
 use borrow.Author.Tests.{lt-ltb, le-ltb, le-leb, lt-leb, eq-eqb, ne-eqb, eqb-false, eqb-true, leb-true}
 use Rattle.octets.specs.Numbers.{among}
-use Rattle.octets.proofs.Tests.{and-left, and-right, and-false}
+use Rattle.octets.proofs.Tests.{and-left, and-right, and-true, and-false, cond-elim}
 use Rattle.text.specs.Text.{layout, token, character, single, goesOn, utf8, text}
 use Rattle.text.specs.Leaves.{following, several, tokenBit, Lead, onward, Steps}
+use Rattle.text.specs.Runs.{within, allWithin}
 use Rattle.octets.proofs.Lists.{drop-next}
 
 -- ---- layout and token octets
@@ -177,6 +178,26 @@ several-none a rest p q r = rw (ne-eqb (length rest) 1 p, ne-eqb (length rest) 2
 
 pub ruleset several-ways = (several-one, several-two, several-three, several-none)
 
+-- the octets that come after the first of a character all begin with the bits 10
+tail-octet : (b : ℕ) → b / 64 ≡ 2 → within 0x80 0xBF b ≡ true
+unfolding within
+tail-octet b h = and-true (leb 0x80 b) (leb b 0xBF) (le-leb 0x80 b (omega arith)) (le-leb b 0xBF (omega arith))
+
+following-high : (least c : ℕ) (rest : List ℕ) → following least c rest ≡ true → allWithin 0x80 0xBF rest ≡ true
+unfolding following allWithin
+following-high least c [] h = refl
+following-high least c (b ∷ bs) h =
+    let more = following least (c * 64 + b % 64) bs in
+    and-true (within 0x80 0xBF b) (allWithin 0x80 0xBF bs) (tail-octet b (eqb-true (b / 64) 2 (and-left (eqb (b / 64) 2) more h)))
+    (following-high least (c * 64 + b % 64) bs (and-right (eqb (b / 64) 2) more h))
+
+several-high : (a : ℕ) (rest : List ℕ) → several a rest ≡ true → allWithin 0x80 0xBF rest ≡ true
+unfolding several
+several-high a rest =
+    cond-elim (eqb (length rest) 1) _ _ (λ e. following-high 0x80 (a % 32) rest)
+    (λ e. cond-elim (eqb (length rest) 2) _ _ (λ e. following-high 0x800 (a % 16) rest)
+    (λ e. cond-elim (eqb (length rest) 3) _ _ (λ e. following-high 0x10000 (a % 8) rest) (λ e q. absurd (false≢true q))))
+
 -- ---- a test that is computed for each number below a bound
 unfoldable pub allBelow : (ℕ → Bool) → ℕ → Bool
 allBelow P zero = true
@@ -302,19 +323,20 @@ lead-some a (suc n) h l = omega arith
 -- ---- what `sequence` answers
 module _ (t : Bool) where
   pub one-yes : (s : List ℕ) (r : Bool) → 0 < length s → getD s 0 0 < 0x80 → r ≡ single t (getD s 0 0) → r ≡ true → Steps t s 1
-  unfolding onward
+  unfolding onward allWithin
   one-yes [] r z h e y = absurd (omega arith)
-  one-yes (a ∷ s) r z h e y = record { within = omega arith; same = rw (text-low t a s h, ← e, y) }
+  one-yes (a ∷ s) r z h e y = record { within = omega arith; same = rw (text-low t a s h, ← e, y); low = λ g. omega arith; high = refl }
 
   pub one-no : (s : List ℕ) (r : Bool) → 0 < length s → getD s 0 0 < 0x80 → r ≡ single t (getD s 0 0) → r ≡ false → Steps t s 0
-  unfolding onward
+  unfolding onward allWithin
   one-no [] r z h e y = absurd (omega arith)
-  one-no (a ∷ s) r z h e y = record { within = omega arith; same = rw (text-low t a s h, ← e, y) }
+  one-no (a ∷ s) r z h e y = record { within = omega arith; same = rw (text-low t a s h, ← e, y); low = λ g. omega arith; high = refl }
 
   pub short : (s : List ℕ) (n : ℕ) → 0 < length s → 0x80 ≤ getD s 0 0 → Lead (getD s 0 0) n → length s < n → Steps t s 0
-  unfolding onward
+  unfolding onward allWithin
   short [] n z h l g = absurd (omega arith)
-  short (a ∷ s) n z h l g = record { within = omega arith; same = text-high t a n s h l ∙ go (eqb n 2) (eqb n 3) (eqb n 4) refl refl refl }
+  short (a ∷ s) n z h l g =
+      record { within = omega arith; same = text-high t a n s h l ∙ go (eqb n 2) (eqb n 3) (eqb n 4) refl refl refl; low = λ q. omega arith; high = refl }
     where
       go : (p q r : Bool) → eqb n 2 ≡ p → eqb n 3 ≡ q → eqb n 4 ≡ r
           → cond p (utf8 t 1 (a % 32) 0x80 s) (cond q (utf8 t 2 (a % 16) 0x800 s) (cond r (utf8 t 3 (a % 8) 0x10000 s) false)) ≡ false
@@ -344,16 +366,17 @@ module _ (t : Bool) where
 
   pub long-yes : (s : List ℕ) (n : ℕ) (r : Bool) → 0 < length s → 0x80 ≤ getD s 0 0 → Lead (getD s 0 0) n → n ≤ length s
       → r ≡ several (getD s 0 0) (take (n - 1) (drop 1 s)) → r ≡ true → Steps t s n
-  unfolding onward
+  unfolding onward allWithin
   long-yes [] n r z h l g e y = absurd (omega arith)
   long-yes (a ∷ s) zero r z h l g e y = absurd (omega (arith, lead-some a 0 h l))
-  long-yes (a ∷ s) (suc m) r z h l g e y = record { within = g; same = long a m s h l (omega arith) ∙ rw (← all a m s r e, y) }
+  long-yes (a ∷ s) (suc m) r z h l g e y =
+      record { within = g; same = long a m s h l (omega arith) ∙ rw (← all a m s r e, y); low = λ q. omega arith; high = several-high a (take (suc m - 1) s) (sym e ∙ y) }
 
   pub long-no : (s : List ℕ) (n : ℕ) (r : Bool) → 0 < length s → 0x80 ≤ getD s 0 0 → Lead (getD s 0 0) n → n ≤ length s
       → r ≡ several (getD s 0 0) (take (n - 1) (drop 1 s)) → r ≡ false → Steps t s 0
-  unfolding onward
+  unfolding onward allWithin
   long-no [] n r z h l g e y = absurd (omega arith)
   long-no (a ∷ s) zero r z h l g e y = absurd (omega (arith, lead-some a 0 h l))
-  long-no (a ∷ s) (suc m) r z h l g e y = record { within = omega arith; same = long a m s h l (omega arith) ∙ rw (← all a m s r e, y) }
+  long-no (a ∷ s) (suc m) r z h l g e y = record { within = omega arith; same = long a m s h l (omega arith) ∙ rw (← all a m s r e, y); low = λ q. omega arith; high = refl }
 
 pub ruleset sequence-ways = (one-yes, one-no, short, long-yes, long-no)

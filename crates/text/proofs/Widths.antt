@@ -1,4 +1,4 @@
--- How many octets stand for each octet: what `widths_of` knows on its walk over the table, and a text measured by its answer.
+-- How many octets stand for each octet: what `entry_widths` knows on its walk over the table, and a text measured by its answer.
 use Prim.Native.Nat.{ℕ, _+_, _-_, _/_, _^_, _≤_, _<_, min}
 use mathlib.Core.Path.{_≡_, refl, sym, ap, ap₂, subst, _∙_}
 use mathlib.Core.List.{List, [], _∷_, _++_}
@@ -14,7 +14,8 @@ use Rattle.octets.proofs.Tests.{and-false, cond-same}
 use Rattle.octets.proofs.Lists.{part-to-end, drop-next}
 use Rattle.text.specs.Text.{token}
 use Rattle.text.specs.Tokens.{Entries, entries, cut, entry, orItself, stands, expanded}
-use Rattle.text.specs.Leaves.{ahead, bit, tokenBit, placeOf, Widths, widthBy, widthOf}
+use Rattle.text.specs.Leaves.{ahead, tokenBit, placeOf, widthBy, widthOf}
+use Rattle.text.specs.Weighing.{bit, Widths}
 use Rattle.text.specs.declared.tables.Piece.{Piece}
 use Rattle.text.specs.declared.tables.Piece.the-variants.{Past, Entry}
 use Rattle.text.proofs.Words.{high-octet}
@@ -59,6 +60,9 @@ plain-stands : (es : Entries) (k : ℕ) → token k ≡ false → stands es k �
 unfolding stands
 plain-stands es k e = rw e
 
+pub high-width : (es : Entries) (b : ℕ) → 0x13 < b → length (stands es b) ≡ 1
+high-width es b h = ap length (plain-stands es b (high-octet b h))
+
 no-entry : (k : ℕ) → stands [] k ≡ k ∷ []
 unfolding stands entry orItself
 no-entry k = cond-same (token k) (k ∷ [])
@@ -72,7 +76,7 @@ module _ (t : ℕ) (text : List ℕ) (es : Entries) (k : ℕ) where
   unfolding stands entry
   other-entry q = rw q
 
--- ---- the loop of `widths_of`
+-- ---- the loop of `entry_widths`
 -- what is known of an octet with so many entries left: where it is a token of an entry before, its width; else it still has the width 1, and the entries
 -- left tell what it stands for
 unfoldable pub Known : Entries → Entries → ℕ → ℕ → Bool → Type 0
@@ -82,10 +86,10 @@ Known es left k width false = (width ≡ 1) × (stands es k ≡ stands left k)
 pub record Measuring (table widths : List ℕ) (seen at : ℕ) : Type 0 where
   pub within : at ≤ length table
   pub long : length widths ≡ 32
-  pub each : (k : ℕ) → k ≤ 0x14 → Known (entries table) (entries (drop at table)) k (getD widths k 0) (bit seen k)
+  pub each : (k : ℕ) → k < 31 → Known (entries table) (entries (drop at table)) k (getD widths k 0) (bit seen k)
 
 -- the store leaves the width of an octet as it is, but for a token that has its first entry here
-module _ (w : List ℕ) (seen t n k : ℕ) (h : k ≤ 0x14) where
+module _ (w : List ℕ) (seen t n k : ℕ) (h : k < 31) where
   stays : token t && not (bit seen t) && eqb k t ≡ false → getD (set w (placeOf seen t) n) k 0 ≡ getD w k 0
   unfolding placeOf
   stays e = getD-set-other w (placeOf seen t) k n 0 (go (token t && not (bit seen t)) refl)
@@ -119,7 +123,7 @@ module _ (w : List ℕ) (seen t n k : ℕ) (h : k ≤ 0x14) where
   stored l s p q = rw (own-place s p q) (getD-set-same w k n 0 (omega arith))
 
 -- one entry goes from those left to those before
-module _ (es left : Entries) (t : ℕ) (text w : List ℕ) (seen n : ℕ) (size : length text ≡ n) (long : length w ≡ 32) (k : ℕ) (h : k ≤ 0x14) where
+module _ (es left : Entries) (t : ℕ) (text w : List ℕ) (seen n : ℕ) (size : length text ≡ n) (long : length w ≡ 32) (k : ℕ) (h : k < 31) where
   known-by : (a b e : Bool) → bit seen k ≡ a → token k ≡ b → eqb k t ≡ e → Known es ((t, text) ∷ left) k (getD w k 0) a
       → Known es left k (getD (set w (placeOf seen t) n) k 0) (a || b && e)
   unfolding Known
@@ -149,15 +153,15 @@ module _ (table : List ℕ) where
       }
 
   module _ (widths : List ℕ) (seen at : ℕ) (inv : Measuring table widths seen at) where
-    none-left : entries (drop at table) ≡ [] → Widths (entries table) widths
-    none-left q = record { each = λ k h. known-last (entries table) (entries (drop at table)) q k (getD widths k 0) (bit seen k) (inv .each k h) }
+    none-left : entries (drop at table) ≡ [] → Widths 31 (entries table) widths
+    none-left q = record { long = inv .long; each = λ k h. known-last (entries table) (entries (drop at table)) q k (getD widths k 0) (bit seen k) (inv .each k h) }
 
-    pub measure-done : length table ≤ at → Widths (entries table) widths
+    pub measure-done : length table ≤ at → Widths 31 (entries table) widths
     unfolding entries cut
     measure-done h = none-left (ap entries (drop-of-length-le table h))
 
     module _ (h : at < length table) (p : Piece) (e : p ≡ ahead (entries (take (length table - at) (drop at table)))) where
-      pub measure-past : p ≡ Past → Widths (entries table) widths
+      pub measure-past : p ≡ Past → Widths 31 (entries table) widths
       measure-past f = none-left (no-more table at h p e f)
 
       pub measure-again : (t n : ℕ) → p ≡ Entry t n → (place : ℕ) → place ≡ placeOf seen t → (r : ℕ) → r ≡ tokenBit t
@@ -171,6 +175,14 @@ module _ (table : List ℕ) where
                 known-more (entries table) (entries (drop (at + 2 + n) table)) t (take n (drop 2 (drop at table))) widths seen n (text-length table at h p e t n f) (inv .long) k l
                 (subst (λ es. Known (entries table) es k (getD widths k 0) (bit seen k)) (next-names table at h p e t n f) (inv .each k l));
           }
+
+-- ---- `widths_of`: the place that entries without a place were kept at gets the width of its octet
+pub whole-widths : (es : Entries) (w : List ℕ) → Widths 31 es w → Widths 32 es (set w 31 1)
+whole-widths es w known = record { long = length-set w 31 1 ∙ known .long; each = λ b h. go b h (eqb b 31) refl }
+  where
+    go : (b : ℕ) → b < 32 → (e : Bool) → eqb b 31 ≡ e → getD (set w 31 1) b 0 ≡ length (stands es b)
+    go b h true e = rw (eqb-true b 31 e) (getD-set-same w 31 1 0 (omega (arith, known .long)) ∙ sym (high-width es 31 (omega arith)))
+    go b h false e = getD-set-other w 31 b 1 0 (eqb-false b 31 e) ∙ known .each b (omega (arith, eqb-false b 31 e))
 
 pub ruleset measure-ways = (measure-begin, measure-done, measure-past, measure-again, place-inside, length-inside, next-fits, next-fits-2)
 
@@ -224,19 +236,16 @@ module _ (w s : List ℕ) (at : ℕ) where
       ∙ ap₂ (λ (m n : ℕ). m + n) (sym (e ∙ ap (λ q. widthOf w (take 8 q)) (part-to-end s at))) (ap (widthOf w) (drop-drop 8 at s))
 
 -- ---- a text by such widths
-module _ (es : Entries) (w : List ℕ) (widths : Widths es w) where
-  high-width : (b : ℕ) → 0x13 < b → length (stands es b) ≡ 1
-  high-width b h = ap length (plain-stands es b (high-octet b h))
-
+module _ (es : Entries) (w : List ℕ) (widths : Widths 32 es w) where
   width-is : (b : ℕ) → widthBy w b ≡ length (stands es b)
   unfolding widthBy
   width-is b = go (leb b 0x14) refl
     where
       go : (l : Bool) → leb b 0x14 ≡ l → getD w (min b 0x14) 0 ≡ length (stands es b)
-      go true e = ap (λ (n : ℕ). getD w n 0) (min-eq-left (leb-true b 0x14 e)) ∙ widths .each b (leb-true b 0x14 e)
+      go true e = ap (λ (n : ℕ). getD w n 0) (min-eq-left (leb-true b 0x14 e)) ∙ widths .each b (omega (arith, leb-true b 0x14 e))
       go false e =
           let above : 0x14 < b = omega (arith, leb-false b 0x14 e) in
-          ap (λ (n : ℕ). getD w n 0) (min-eq-right (omega arith)) ∙ widths .each 0x14 (omega arith) ∙ high-width 0x14 (omega arith) ∙ sym (high-width b (omega arith))
+          ap (λ (n : ℕ). getD w n 0) (min-eq-right (omega arith)) ∙ widths .each 0x14 (omega arith) ∙ high-width es 0x14 (omega arith) ∙ sym (high-width es b (omega arith))
 
   pub width-of-is : (s : List ℕ) → widthOf w s ≡ length (expanded es s)
   unfolding widthOf expanded

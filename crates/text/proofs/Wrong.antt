@@ -1,16 +1,19 @@
 -- Wrong answers of each public call, each refuted at a closed input by what its contract says.
-use mathlib.Core.Path.{_≡_, sym}
+use mathlib.Core.Path.{_≡_, sym, _∙_}
 use mathlib.Core.Bool.{true, false, false≢true}
 use mathlib.Core.List.{List, [], _∷_}
-use Prim.Native.Nat.{ℕ, min}
+use Prim.Native.Nat.{ℕ, _^_, min}
 use native.Mathlib.Omega.{arith}
 use lib.Dec.{leb}
+use lib.ListN.{getD}
 use Rattle.octets.specs.Numbers.{among}
 use Rattle.text.specs.Text.{layout, token, character, single, goesOn, utf8, text}
 use Rattle.text.specs.Tokens.{entries, cut, filled, isTable, entry, orItself, stands, expanded, present, covers, covered, shownLength, expandedSize}
 use Rattle.text.specs.Calls.{found, expandFits, expandAnswer, expandOut, ExpandClaim}
+use Rattle.text.specs.Weighing.{tags, Marks, Widths, marked, coveredBy, widthAt, weight, weighedBy}
 use Rattle.text.specs.declared.Expanded.the-variants.{Done, NoRoom}
 use Rattle.text.specs.declared.Found.the-variants.{At}
+use Rattle.text.specs.declared.Weighed.the-variants.{Text}
 
 -- one entry: the token 0x01 for the three octets ABC
 abbrev abc : List ℕ
@@ -76,6 +79,41 @@ entry-named h = let z : _≡_ {A = ℕ} 0 2 = cc in omega arith
 pub last-named : At 5 1 ≡ found 0 (entries twice) 0x01 → ⊥
 unfolding found entries cut
 last-named h = let z : _≡_ {A = ℕ} 5 2 = cc in omega arith
+
+-- tokens_of: an entry's token is forgotten; a tag that is no token gets a bit
+pub token-forgotten : Marks 0 (tags (entries abc)) → ⊥
+unfolding token layout among tags entries cut
+token-forgotten h = false≢true (h .bits 0x01)
+
+pub tab-marked : Marks (2 ^ 0x09) (tags (entries (0x09 ∷ 0 ∷ []))) → ⊥
+unfolding token layout among tags entries cut
+tab-marked h = false≢true (sym (h .bits 0x09))
+
+-- widths_of: a token has the width of an octet; of two entries the last counts
+pub width-unexpanded : (w : List ℕ) → getD w 0x01 0 ≡ 1 → Widths 32 (entries abc) w → ⊥
+unfolding stands token layout among entries cut entry orItself
+width-unexpanded w e h = let z : _≡_ {A = ℕ} 1 3 = sym e ∙ h .each 0x01 (omega arith) in omega arith
+
+pub width-of-last : (w : List ℕ) → getD w 0x01 0 ≡ 0 → Widths 32 (entries (0x01 ∷ 1 ∷ 0x41 ∷ 0x01 ∷ 0 ∷ [])) w → ⊥
+unfolding stands token layout among entries cut entry orItself
+width-of-last w e h = let z : _≡_ {A = ℕ} 0 1 = sym e ∙ h .each 0x01 (omega arith) in omega arith
+
+-- weigh: an overlong form is text; a token counts as one octet; a token without a mark passes; the width does not stop at the most that is asked for
+pub weighed-overlong : Text true 2 ≡ weighedBy 0 [] (0xC0 ∷ 0x80 ∷ []) 9 → ⊥
+unfolding weighedBy text utf8 goesOn character
+weighed-overlong h = let z : _≡_ {A = ℕ} 0 1 = cc in omega arith
+
+pub weighed-unexpanded : Text true 2 ≡ weighedBy (2 ^ 0x01) (1 ∷ 3 ∷ []) (0x01 ∷ 0x44 ∷ []) 9 → ⊥
+unfolding weighedBy text utf8 single layout among token coveredBy marked weight widthAt
+weighed-unexpanded h = let z : _≡_ {A = ℕ} 2 4 = cc in omega arith
+
+pub weighed-bare : Text true 1 ≡ weighedBy 0 (1 ∷ 1 ∷ []) (0x01 ∷ []) 9 → ⊥
+unfolding weighedBy text utf8 single layout among token coveredBy marked weight widthAt
+weighed-bare h = let z : true ≡ false = cc in false≢true (sym z)
+
+pub weighed-on : Text true 2 ≡ weighedBy 0 [] (0x41 ∷ 0x42 ∷ []) 1 → ⊥
+unfolding weighedBy text utf8 single layout among token coveredBy marked weight widthAt
+weighed-on h = let z : _≡_ {A = ℕ} 2 1 = cc in omega arith
 
 -- is_covered: a token without an entry passes; a tab wants an entry
 pub bare-passes : true ≡ covered (entries abc) (0x02 ∷ []) → ⊥

@@ -2,14 +2,16 @@
 use mathlib.Core.Path.{_≡_}
 use mathlib.Core.Bool.{Bool, true, false, cond, not, _&&_}
 use mathlib.Core.List.{List, [], _∷_}
-use Prim.Native.Nat.{ℕ, zero, suc, _+_, _*_, _/_, _%_, _^_, _≤_, _<_, min}
+use Prim.Native.Nat.{ℕ, zero, suc, _+_, _-_, _*_, _/_, _%_, _^_, _≤_, _<_, min}
 use lib.Dec.{eqb, ltb}
-use lib.ListN.{length, getD, drop}
+use lib.ListN.{length, getD, take, drop}
 use lib.Bits.{bitOr}
-use Rattle.octets.specs.Numbers.{among, Octets}
+use Rattle.octets.specs.Numbers.{Octets}
 use Rattle.text.specs.Text.{token, character, text}
-use Rattle.text.specs.Tokens.{Entries, entries, filled, stands, expandedSize}
+use Rattle.text.specs.Tokens.{Entries, entries, filled, expandedSize}
 use Rattle.text.specs.Calls.{found}
+use Rattle.text.specs.Runs.{allWithin}
+use Rattle.text.specs.Weighing.{bit}
 use Rattle.text.specs.declared.Found.{Found}
 use Rattle.text.specs.declared.Found.the-variants.{Nothing}
 use Rattle.text.specs.declared.tables.Piece.{Piece}
@@ -40,9 +42,13 @@ unfoldable pub onward : Bool → List ℕ → ℕ → Bool
 onward tokens s zero = false
 onward tokens s (suc n) = text tokens (drop (suc n) s)
 
+-- by the length of the character with which a text begins: the text goes on behind it, an octet below 0x80 is a character by itself, and the octets after the
+-- first of a longer one are all above those
 pub record Steps (tokens : Bool) (s : List ℕ) (n : ℕ) : Type 0 where
   pub within : n ≤ length s
   pub same : text tokens s ≡ onward tokens s n
+  pub low : getD s 0 0 < 0x80 → n ≤ 1
+  pub high : allWithin 0x80 0xBF (take (n - 1) (drop 1 s)) ≡ true
 
 -- the entry with which a table begins
 unfoldable pub ahead : Entries → Piece
@@ -54,22 +60,9 @@ unfoldable pub maskOf : List ℕ → ℕ
 maskOf [] = 0
 maskOf (t ∷ ts) = bitOr (maskOf ts) (2 ^ t)
 
--- the bit of a number in a mask
-abbrev pub bit : ℕ → ℕ → Bool
-bit mask t = eqb (mask / 2 ^ t % 2) 1
-
 -- the mask of an octet by itself: a token has its bit, any other octet none
 unfoldable pub tokenBit : ℕ → ℕ
 tokenBit b = cond (token b) (2 ^ b) 0
-
--- the bits of a mask are the tokens among some octets
-pub record Marks (mask : ℕ) (octets : List ℕ) : Type 0 where
-  pub bits : (k : ℕ) → bit mask k ≡ token k && among k octets
-
--- the tags of entries
-unfoldable pub tags : Entries → List ℕ
-tags [] = []
-tags (e ∷ es) = e .0 ∷ tags es
 
 -- rule 11 for what is left of a table after entries with the tags seen
 unfoldable pub filledAfter : List ℕ → List ℕ → Bool
@@ -98,10 +91,6 @@ replacedBy es b = cond (token b) (found 0 es b) Nothing
 -- that stands for no octet
 unfoldable pub placeOf : ℕ → ℕ → ℕ
 placeOf seen tag = cond (token tag && not (bit seen tag)) tag 31
-
--- how many octets stand for each octet up to the first above the tokens
-pub record Widths (es : Entries) (widths : List ℕ) : Type 0 where
-  pub each : (b : ℕ) → b ≤ 0x14 → getD widths b 0 ≡ length (stands es b)
 
 -- the width of an octet by such widths: those above the tokens all have that of the first of them
 unfoldable pub widthBy : List ℕ → ℕ → ℕ

@@ -1,5 +1,6 @@
 pub mod Text
 pub mod Tokens
 pub mod Calls
-pub mod Leaves
+pub mod Weighing
 pub mod Runs
+pub mod Leaves

@@ -121,7 +121,7 @@ fn leading_ones(first: u8) -> usize
 }
 
 // How many octets the character has with which s begins, and 0 where it begins with none.
-fn sequence(s: &[u8], tokens: bool) -> usize
+pub fn sequence(s: &[u8], tokens: bool) -> usize
     requires { ⌜ 0 < length (now s) ⌝ }
     ensures { λ r. ⌜ Steps tokens (now (s .entry)) r ⌝ }
 {

@@ -4,6 +4,7 @@ mod characters;
 mod expanding;
 mod runs;
 mod tables;
+mod weighing;
 
 pub use characters::check;
 pub use characters::is_token;
@@ -13,11 +14,20 @@ pub use expanding::is_covered;
 pub use expanding::is_shown;
 pub use tables::find;
 pub use tables::is_table;
+pub use tables::tokens_of;
+pub use tables::widths_of;
+pub use weighing::weigh;
 
 // Where the text of an entry begins in its table, and how long it is.
 pub enum Found {
     At { start: usize, size: usize },
     Nothing,
+}
+
+// A text looked at once: no text (rule 10); or text, whether each of its tokens has an entry (rule 12), and how many octets are shown of it (rule 13).
+pub enum Weighed {
+    NoText,
+    Text { covered: bool, width: usize },
 }
 
 // Where the expansion ends in what was lent, or that it does not fit there.

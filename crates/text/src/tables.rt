@@ -3,7 +3,8 @@ ghost use mathlib.Core.Path.{_≡_};
 ghost use Prim.Native.Nat.{_<_};
 ghost use Rattle.text.specs.Tokens.{entries, isTable};
 ghost use Rattle.text.specs.Calls.{found};
-ghost use Rattle.text.specs.Leaves.{ahead, tags, placeOf, Marks, RatedBy, Widths};
+ghost use Rattle.text.specs.Leaves.{ahead, placeOf, RatedBy};
+ghost use Rattle.text.specs.Weighing.{tags, Marks, Widths};
 use crate::Found;
 use crate::characters::check;
 use crate::characters::is_token;
@@ -96,10 +97,10 @@ fn place_of(tag: u8, seen: u32) -> usize
     size_of(tag)
 }
 
-// How many octets stand for each octet up to 0x14, by one walk over the table: for a token those of its first entry, and for any other octet
+// How many octets stand for each octet below 31, by one walk over the table: for a token those of its first entry, and for any other octet
 // itself. The octet behind an entry's tag is the length of its text.
-pub fn widths_of(table: &[u8]) -> [u8; 32]
-    ensures { λ r. ⌜ Widths (entries (now (table .entry))) r ⌝ }
+fn entry_widths(table: &[u8]) -> [u8; 32]
+    ensures { λ r. ⌜ Widths 31 (entries (now (table .entry))) r ⌝ }
 {
     let mut widths: [u8; 32] = [1; 32];
     let mut seen: u32 = 0;
@@ -116,6 +117,15 @@ pub fn widths_of(table: &[u8]) -> [u8; 32]
             }
         }
     }
+    widths
+}
+
+// The same for each octet below 32: the last place, where entries without a place of their own were kept, gets the width of its octet.
+pub fn widths_of(table: &[u8]) -> [u8; 32]
+    ensures { λ r. ⌜ Widths 32 (entries (now (table .entry))) r ⌝ }
+{
+    let mut widths = entry_widths(table);
+    widths[31] = 1;
     widths
 }
 

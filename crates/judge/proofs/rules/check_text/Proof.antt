@@ -4,23 +4,35 @@ use borrow.Author.Needs.{needs}
 use Rattle.judge.proofs.rules.check_text.Statement.{statement}
 use Rattle.judge.proofs.rules.check_text.Tie as tie
 
-check-requires : tie.Need-check-requires
-check-requires c κs = search needs
+tokens-of-requires : tie.Need-tokens-of-requires
+tokens-of-requires c κs = search needs
 
-returns : tie.Need-returns
-returns c = search (text-ways, not-true, needs)
+widths-of-requires : tie.Need-widths-of-requires
+widths-of-requires c κs = search needs
+
+weigh-requires : tie.Need-weigh-requires
+weigh-requires c κs = search needs
+
+enum-told : tie.Need-enum-told
+enum-told c = search needs
+
+enum-known-covered : tie.Need-enum-known-covered
+enum-known-covered c = search needs
 
 is-held-requires : tie.Need-is-held-requires
 is-held-requires c κs = search needs
 
-returns-2 : tie.Need-returns-2
-returns-2 c = search (text-ways, not-true, not-false, needs)
+returns : tie.Need-returns
+returns c = search (text-ways, not-true, needs)
 
 is-short-requires : tie.Need-is-short-requires
 is-short-requires c κs = search needs
 
+returns-2 : tie.Need-returns-2
+returns-2 c = search (text-ways, not-true, not-false, needs)
+
 returns-3 : tie.Need-returns-3
-returns-3 c = search (text-ways, not-true, not-false, needs)
+returns-3 c = search (text-ways, needs)
 
 returns-4 : tie.Need-returns-4
 returns-4 c = search (text-ways, not-false, needs)
@@ -29,10 +41,14 @@ pub check-text-spec : {M : Type 1} → statement M
 check-text-spec =
     tie.close
     (tie.spec
-    check-requires
-    returns
+    tokens-of-requires
+    widths-of-requires
+    weigh-requires
+    enum-told
+    enum-known-covered
     is-held-requires
-    returns-2
+    returns
     is-short-requires
+    returns-2
     returns-3
     returns-4)

@@ -9,11 +9,8 @@ is-of-top-requires c κs = search needs
 returns : tie.Need-returns
 returns c = search (held-ways, needs)
 
-is-covered-requires : tie.Need-is-covered-requires
-is-covered-requires c κs = search needs
-
 returns-2 : tie.Need-returns-2
 returns-2 c = search (held-ways, needs)
 
 pub is-held-spec : {M : Type 1} → statement M
-is-held-spec = tie.close (tie.spec is-of-top-requires returns is-covered-requires returns-2)
+is-held-spec = tie.close (tie.spec is-of-top-requires returns returns-2)

@@ -15,9 +15,6 @@ enum-told c = search needs
 enum-known-n : tie.Need-enum-known-n
 enum-known-n c = search needs
 
-is-shown-requires : tie.Need-is-shown-requires
-is-shown-requires c κs = search needs
-
 returns-2 : tie.Need-returns-2
 returns-2 c = search (short-ways, needs)
 
@@ -26,12 +23,4 @@ returns-3 c = search (short-ways, needs)
 
 pub is-short-spec : {M : Type 1} → statement M
 is-short-spec =
-    tie.close
-    (tie.spec
-    returns
-    limit-of-requires
-    enum-told
-    enum-known-n
-    is-shown-requires
-    returns-2
-    returns-3)
+    tie.close (tie.spec returns limit-of-requires enum-told enum-known-n returns-2 returns-3)
