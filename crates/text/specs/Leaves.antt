@@ -1,17 +1,17 @@
 -- What the private functions tell the public ones: text a character at a time, a table an entry at a time.
 use mathlib.Core.Path.{_≡_}
-use mathlib.Core.Bool.{Bool, true, false, cond, not, _&&_}
+use mathlib.Core.Bool.{Bool, false, cond, not, _&&_}
 use mathlib.Core.List.{List, [], _∷_}
 use Prim.Native.Nat.{ℕ, zero, suc, _+_, _*_, _/_, _%_, _^_, _≤_, _<_, min}
 use lib.Dec.{eqb, ltb}
 use lib.ListN.{length, getD, drop}
 use lib.Bits.{bitOr}
-use Rattle.octets.specs.Numbers.{among, Octets}
+use Rattle.octets.specs.Numbers.{among}
 use Rattle.text.specs.Text.{token, character, text}
-use Rattle.text.specs.Tokens.{Entries, entries, filled, stands, expandedSize}
+use Rattle.text.specs.Tokens.{Entries, filled, stands}
 use Rattle.text.specs.Calls.{found}
-use Rattle.text.specs.declared.Found.{Found}
-use Rattle.text.specs.declared.Found.the-variants.{Nothing}
+use Rattle.text.specs.declared.expanding.Found.{Found}
+use Rattle.text.specs.declared.expanding.Found.the-variants.{Nothing}
 use Rattle.text.specs.declared.tables.Piece.{Piece}
 use Rattle.text.specs.declared.tables.Piece.the-variants.{Past, Entry}
 
@@ -111,12 +111,3 @@ widthBy widths b = getD widths (min b 0x14) 0
 unfoldable pub widthOf : List ℕ → List ℕ → ℕ
 widthOf widths [] = 0
 widthOf widths (b ∷ bs) = widthBy widths b + widthOf widths bs
-
--- how many octets of a text are not above the last token, and could be tokens
-unfoldable pub lowIn : List ℕ → ℕ
-lowIn [] = 0
-lowIn (b ∷ bs) = cond (ltb b 0x14) 1 0 + lowIn bs
-
--- the answer yes tells that the expansion of a text has room by whatever table
-pub record SurelyFits (s : List ℕ) (room : ℕ) (answer : Bool) : Type 0 where
-  pub always : answer ≡ true → (table : List ℕ) → Octets table → expandedSize (entries table) s ≤ room

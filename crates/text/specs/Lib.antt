@@ -3,3 +3,4 @@ pub mod Tokens
 pub mod Calls
 pub mod Leaves
 pub mod Runs
+pub mod Index

@@ -11,14 +11,8 @@ pub use expanding::expand;
 pub use expanding::expanded_size;
 pub use expanding::is_covered;
 pub use expanding::is_shown;
-pub use tables::find;
+pub use tables::index_of;
 pub use tables::is_table;
-
-// Where the text of an entry begins in its table, and how long it is.
-pub enum Found {
-    At { start: usize, size: usize },
-    Nothing,
-}
 
 // Where the expansion ends in what was lent, or that it does not fit there.
 pub enum Expanded {
