@@ -1,4 +1,4 @@
--- Token tables an entry at a time: what the definitions are on each way through src/tables.rt, and what `find` tells.
+-- Token tables an entry at a time: what the definitions are on each way through src/tables.rt, and where the text of an entry lies.
 use Prim.Native.Nat.{ℕ, zero, suc, _+_, _-_, _*_, _/_, _%_, _^_, _≤_, _<_}
 use mathlib.Core.Path.{_≡_, refl, sym, ap, ap₂, subst, _∙_}
 use mathlib.Core.List.{List, [], _∷_}
@@ -11,7 +11,7 @@ use lib.Bits.{bitOr, bitAnd}
 use native.Mathlib.Omega.{arith}
 use mir.Val.{Fits}
 use mir.Syntax.{w64}
-use borrow.Author.Tests.{le-leb, lt-leb, eq-eqb, ne-eqb, leb-true}
+use borrow.Author.Tests.{le-leb, lt-leb, ne-eqb, leb-true}
 use Rattle.octets.specs.Numbers.{among}
 use Rattle.text.specs.Text.{token, text}
 use Rattle.text.specs.Tokens.{Entries, entries, cut, filled, isTable, entry}
@@ -20,7 +20,7 @@ use Rattle.text.specs.Leaves.{ahead, maskOf, tokenBit, filledAfter, Good
 use Rattle.text.specs.Weighing.{Marks, tags}
 use Rattle.text.specs.declared.tables.Piece.{Piece}
 use Rattle.text.specs.declared.tables.Piece.the-variants.{Past, Entry}
-use Rattle.text.specs.declared.Found.the-variants.{At, Nothing}
+use Rattle.text.specs.declared.expanding.Found.the-variants.{At}
 use Rattle.octets.proofs.Lists.{part-to-end}
 use Rattle.text.proofs.Sequences.{token-facts}
 use Rattle.text.proofs.Masks.{mask-test, mask-more, Marking, mark-begin, mark-done, mark-more}
@@ -129,7 +129,7 @@ first-whole (t ∷ m ∷ o) n h e g =
 
 pub ruleset first-ways = (first-short, first-long, first-whole)
 
--- ---- the entry at a place of a table, as `find`, `tokens_of` and `widths_of` meet it
+-- ---- the entry at a place of a table, as `tokens_of`, `widths_of` and `index_of` meet it
 module _ (table : List ℕ) (at : ℕ) (h : at < length table) (p : Piece) (e : p ≡ ahead (entries (take (length table - at) (drop at table)))) where
   here : p ≡ ahead (entries (drop at table))
   here = e ∙ ap (λ q. ahead (entries q)) (part-to-end table at)
@@ -161,39 +161,6 @@ module _ (table : List ℕ) (at : ℕ) (h : at < length table) (p : Piece) (e : 
 
     pub length-octet : getD table (at + 1) 0 ≡ n
     length-octet = sym (getD-drop at table 1 0) ∙ piece .size
-
--- ---- the loop of `find`
-pub record Finding (table : List ℕ) (tag at : ℕ) : Type 0 where
-  pub within : at ≤ length table
-  pub same : found 0 (entries table) tag ≡ found at (entries (drop at table)) tag
-
-module _ (table : List ℕ) (tag : ℕ) where
-  pub find-begin : Finding table tag 0
-  find-begin = record { within = omega arith; same = refl }
-
-  pub find-done : (at : ℕ) → Finding table tag at → length table ≤ at → Nothing ≡ found 0 (entries table) tag
-  unfolding found entries cut
-  find-done at inv h = sym (inv .same ∙ ap (λ q. found at (entries q) tag) (drop-of-length-le table h))
-
-  module _ (at : ℕ) (inv : Finding table tag at) (h : at < length table) (p : Piece) (e : p ≡ ahead (entries (take (length table - at) (drop at table)))) where
-    pub find-past : p ≡ Past → Nothing ≡ found 0 (entries table) tag
-    unfolding found
-    find-past f = sym (inv .same ∙ ap (λ q. found at q tag) (no-more table at h p e f))
-
-    module _ (t n : ℕ) (f : p ≡ Entry t n) where
-      step : found 0 (entries table) tag ≡ cond (eqb tag t) (At (at + 2) n) (found (at + 2 + n) (entries (drop (at + 2 + n) table)) tag)
-      unfolding found
-      step =
-          inv .same ∙ ap (λ q. found at q tag) (next-names table at h p e t n f)
-          ∙ ap (λ (l : ℕ). cond (eqb tag t) (At (at + 2) l) (found (at + 2 + l) (entries (drop (at + 2 + n) table)) tag)) (text-length table at h p e t n f)
-
-      pub find-yes : t ≡ tag → At (at + 2) n ≡ found 0 (entries table) tag
-      find-yes g = sym (step ∙ rw (eq-eqb tag t (sym g)))
-
-      pub find-again : (t ≡ tag → ⊥) → Finding table tag (at + 2 + n)
-      find-again g = record { within = room table at h p e t n f; same = step ∙ rw (ne-eqb tag t (λ q. g (sym q))) }
-
-pub ruleset find-ways = (find-begin, find-done, find-past, find-yes, find-again, next-fits, next-fits-2)
 
 -- ---- the loop of `tokens_of`
 pub record Listing (table : List ℕ) (mask at : ℕ) : Type 0 where
@@ -229,7 +196,7 @@ module _ (table : List ℕ) where
 
 pub ruleset list-ways = (list-begin, list-done, list-past, list-again, next-fits, next-fits-2)
 
--- ---- what `find` tells: the part that it names is the entry's text, and it lies inside the table
+-- ---- what `found` tells: the part that it names is the entry's text, and it lies inside the table
 named-long : (table : List ℕ) (tag at t n : ℕ) (o : List ℕ) (es : Entries) → drop at table ≡ t ∷ n ∷ o → n ≤ length o
     → foundIn table (found (at + 2 + n) es tag) ≡ entry es tag
     → foundIn table (found at ((t, take n o) ∷ es) tag) ≡ entry ((t, take n o) ∷ es) tag

@@ -1,25 +1,21 @@
--- Laws for those who call: texts without token octets, texts put together, and what the answers of `find` and `expand` tell.
-use mathlib.Core.Path.{_≡_, refl, sym, ap, subst, _∙_}
+-- Laws for those who call: texts without token octets, texts put together, and what the answers of `expand` tell.
+use mathlib.Core.Path.{_≡_, refl, sym, ap, _∙_}
 use mathlib.Core.Bool.{Bool, true, false, cond, false≢true}
-use mathlib.Core.Option.{none, some}
 use mathlib.Core.List.{List, [], _∷_, _++_, append-assoc}
 use Prim.Native.Nat.{ℕ, _+_, _≤_, _<_}
 use native.Mathlib.Omega.{arith}
-use lib.ListN.{length, take, drop, length-append}
+use lib.ListN.{length, length-append}
 use lib.Seq.{sets}
 use borrow.Author.Tests.{leb-true, leb-false}
 use Rattle.octets.proofs.Tests.{and-left, and-right}
 use Rattle.text.specs.Text.{token, utf8, text}
-use Rattle.text.specs.Tokens.{Entries, entries, entry, stands, expanded, present, covers, covered, shownLength, expandedSize}
-use Rattle.text.specs.Calls.{found, foundIn, Inside, expandFits, expandAnswer, expandOut, ExpandClaim}
+use Rattle.text.specs.Tokens.{Entries, entry, stands, expanded, present, covers, covered, shownLength, expandedSize}
+use Rattle.text.specs.Calls.{expandFits, expandAnswer, expandOut, ExpandClaim}
 use Rattle.text.specs.declared.Expanded.{Expanded}
 use Rattle.text.specs.declared.Expanded.the-variants.{Done, NoRoom}
-use Rattle.text.specs.declared.Found.{Found}
-use Rattle.text.specs.declared.Found.the-variants.{At, Nothing}
 use Rattle.text.proofs.Words.{expanded-empty, plain-text}
 use Rattle.text.proofs.Expansion.{text-plain}
 use Rattle.text.proofs.Sequences.{text-low, single-high}
-use Rattle.text.proofs.Entries.{named, inside}
 
 -- ---- ASCII from 0x20 on
 pub ascii-text : (t : Bool) (b : ℕ) (s : List ℕ) → 0x20 ≤ b → b < 0x80 → text t (b ∷ s) ≡ text t s
@@ -69,21 +65,6 @@ bare-text s h = go (text true s) (text false s) refl refl
     go true b p q = p ∙ sym (text-plain s p h)
     go false true p q = absurd (false≢true (sym p ∙ plain-text s q))
     go false false p q = p ∙ sym q
-
--- ---- an answer of `find`
-module _ (table : List ℕ) (tag : ℕ) (f : Found) (e : f ≡ found 0 (entries table) tag) where
-  pub found-none : f ≡ Nothing → entry (entries table) tag ≡ none
-  unfolding foundIn
-  found-none q = sym (named table tag) ∙ rw (sym e ∙ q)
-
-  module _ (start size : ℕ) (q : f ≡ At start size) where
-    pub found-some : entry (entries table) tag ≡ some (take size (drop start table))
-    unfolding foundIn
-    found-some = sym (named table tag) ∙ rw (sym e ∙ q)
-
-    pub found-inside : start + size ≤ length table
-    unfolding Inside
-    found-inside = subst (Inside table) (sym e ∙ q) (inside table tag)
 
 -- ---- an answer of `expand`
 module _ (es : Entries) (s before after : List ℕ) (at : ℕ) (answer : Expanded) (claim : ExpandClaim es s before after at answer) where

@@ -1,19 +1,15 @@
--- Text of n octets expands to at most 255 times n (document 01, Values: Tokens), and to at most 254 more than n for each octet that could be a token.
-use mathlib.Core.Path.{_≡_, refl, sym, _∙_}
-use mathlib.Core.Bool.{Bool, true, false, cond, false≢true}
+-- Text of n octets expands to at most 255 times n (document 01, Values: Tokens).
+use mathlib.Core.Bool.{Bool, true, false, cond}
 use mathlib.Core.Option.{some}
 use mathlib.Core.List.{List, [], _∷_}
-use Prim.Native.Nat.{ℕ, zero, suc, _+_, _*_, _≤_}
+use Prim.Native.Nat.{ℕ, zero, suc, _*_, _≤_}
 use native.Mathlib.Omega.{arith}
-use lib.Dec.{eqb, leb, ltb}
+use lib.Dec.{eqb, leb}
 use lib.ListN.{length, take, drop, length-append, length-take}
-use borrow.Author.Tests.{ltb-false}
 use Rattle.octets.specs.Numbers.{Octets}
 use Rattle.text.specs.Text.{token}
 use Rattle.text.specs.Tokens.{Entries, entries, cut, entry, orItself, stands, expanded, expandedSize}
-use Rattle.text.specs.Leaves.{lowIn}
 use Rattle.octets.proofs.Numbers.{octets-drop}
-use Rattle.text.proofs.Words.{high-octet}
 
 -- each entry has at most 255 octets
 abbrev pub Short : Entries → Type 0
@@ -56,22 +52,3 @@ short-entries o os = short-cut (suc (length o)) o os
 pub expansion-bound : (table o : List ℕ) → Octets table → expandedSize (entries table) o ≤ 255 * length o
 unfolding expandedSize
 expansion-bound table o os = expanded-length (entries table) (short-entries table os) o
-
--- an octet that could be a token stands for at most 255 octets, any other for itself
-low-stands : (es : Entries) → Short es → (b : ℕ) → length (stands es b) ≤ 1 + 254 * cond (ltb b 0x14) 1 0
-unfolding stands
-low-stands es h b = go (ltb b 0x14) refl (token b) refl
-  where
-    go : (l : Bool) → ltb b 0x14 ≡ l → (k : Bool) → token b ≡ k → length (cond k (orItself (entry es b) b) (b ∷ [])) ≤ 1 + 254 * cond l 1 0
-    go true e true f = short-entry es h b
-    go l e false f = omega arith
-    go false e true f = absurd (false≢true (sym (high-octet b (omega (arith, ltb-false b 0x14 e))) ∙ f))
-
-expanded-low : (es : Entries) → Short es → (o : List ℕ) → length (expanded es o) ≤ length o + 254 * lowIn o
-unfolding expanded lowIn
-expanded-low es h [] = omega arith
-expanded-low es h (b ∷ bs) = simp length-append (omega (arith, expanded-low es h bs, low-stands es h b))
-
-pub low-bound : (table o : List ℕ) → Octets table → expandedSize (entries table) o ≤ length o + 254 * lowIn o
-unfolding expandedSize
-low-bound table o os = expanded-low (entries table) (short-entries table os) o

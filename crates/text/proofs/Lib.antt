@@ -5,6 +5,7 @@ pub mod Sequences
 pub mod Masks
 pub mod Entries
 pub mod Widths
+pub mod Index
 pub mod Replaced
 pub mod Laws
 pub mod RunLaws

@@ -1,34 +1,34 @@
 -- Texts with their tokens replaced: what the definitions are on each way through src/expanding.rt.
-use Prim.Native.Nat.{ℕ, _+_, _-_, _/_, _≤_, _<_, _^_, min}
+use Prim.Native.Nat.{ℕ, _+_, _-_, _≤_, _<_, _^_, min}
 use mathlib.Core.Path.{_≡_, refl, sym, ap, ap₂, subst, _∙_}
 use mathlib.Core.List.{List, [], _∷_, _++_}
 use mathlib.Core.Bool.{Bool, true, false, _&&_, _||_, cond, false≢true}
 use mathlib.Core.Option.{some}
-use lib.ListN.{length, getD, take, drop, set, length-drop, length-append, length-set, drop-of-length-le}
-use lib.Seq.{sets, length-sets, length-take-le}
-use lib.Dec.{eqb, leb, ltb}
+use lib.ListN.{length, getD, take, drop, set, length-append, length-set, drop-of-length-le}
+use lib.Seq.{sets, length-sets}
+use lib.Dec.{eqb, leb}
 use lib.Bits.{bitOr, bitAnd}
 use native.Mathlib.Nat.{min-eq-left, min-eq-right}
 use native.Mathlib.Omega.{arith}
 use mir.Val.{Fits}
 use mir.Syntax.{w64}
-use borrow.Author.Tests.{le-leb, lt-leb, leb-true, leb-false, lt-ltb, le-ltb, eq-eqb, eqb-true, eqb-false}
-use Rattle.octets.specs.Numbers.{among, Octets}
+use borrow.Author.Tests.{le-leb, lt-leb, leb-true, leb-false, eq-eqb, eqb-true, eqb-false}
+use Rattle.octets.specs.Numbers.{among}
 use Rattle.octets.proofs.Tests.{and-left, and-right, and-true, or-elim, or-left, or-true}
 use Rattle.text.specs.Text.{token}
-use Rattle.text.specs.Tokens.{Entries, entries, entry, orItself, stands, expanded, present, covers, covered, shownLength, expandedSize}
-use Rattle.text.specs.Calls.{found, foundIn, Inside, expandFits, expandAnswer, expandOut}
-use Rattle.text.specs.Leaves.{tokenBit, replacedBy, widthBy, widthOf, lowIn, SurelyFits}
+use Rattle.text.specs.Tokens.{Entries, entry, stands, expanded, present, covers, covered, shownLength, expandedSize}
+use Rattle.text.specs.Calls.{expandFits, expandAnswer, expandOut}
+use Rattle.text.specs.Leaves.{tokenBit, widthBy, widthOf}
 use Rattle.text.specs.Weighing.{bit, Marks, tags, Widths}
+use Rattle.text.specs.Index.{placeBy, entriesBy}
 use Rattle.text.specs.Runs.{UntokenedTo}
 use Rattle.text.specs.declared.Expanded.the-variants.{Done, NoRoom}
-use Rattle.text.specs.declared.Found.{Found}
-use Rattle.text.specs.declared.Found.the-variants.{At, Nothing}
+use Rattle.text.specs.declared.expanding.Found.{Found}
+use Rattle.text.specs.declared.expanding.Found.the-variants.{At, Nothing}
 use Rattle.octets.proofs.Lists.{drop-next, sets-append}
 use Rattle.text.proofs.Masks.{bit-none, kept-within, within-kept, Marking, mark-begin, mark-done, mark-more}
-use Rattle.text.proofs.Entries.{named, inside}
+use Rattle.text.proofs.Index.{self-by, part-by, inside-by, width-by}
 use Rattle.text.proofs.Widths.{width-none, width-next, width-eight, width-of-is}
-use Rattle.text.proofs.Length.{low-bound}
 use Rattle.text.proofs.RunLaws.{run-length, expanded-run, expanded-length-run, shown-run, size-run}
 
 -- ---- the loop of `tokens_in`
@@ -116,54 +116,6 @@ module _ (es : Entries) (s : List ℕ) (used : ℕ) (m : Marks used s) where
           w .bits t ∙ and-true (token t) (among t (tags es)) k (all-covered es s q t k (and-right (token t) (among t s) both)))))
 
 pub ruleset covered-ways = (covered-none, covered-some)
-
--- ---- `replacement`, and what it tells of an octet
-module _ (es : Entries) (b : ℕ) (t : Bool) (k : t ≡ token b) where
-  pub replaced-yes : (f : Found) → t ≡ true → f ≡ found 0 es b → f ≡ replacedBy es b
-  unfolding replacedBy
-  replaced-yes f y e = rw (sym k ∙ y) e
-
-  pub replaced-no : t ≡ false → Nothing ≡ replacedBy es b
-  unfolding replacedBy
-  replaced-no n = rw (sym k ∙ n)
-
-pub ruleset replaced-ways = (replaced-yes, replaced-no)
-
-pub stands-is : (table : List ℕ) (b : ℕ) → stands (entries table) b ≡ orItself (foundIn table (replacedBy (entries table) b)) b
-unfolding stands replacedBy orItself foundIn
-stands-is table b = go (token b)
-  where
-    go : (t : Bool) → cond t (orItself (entry (entries table) b) b) (b ∷ []) ≡ orItself (foundIn table (cond t (found 0 (entries table) b) Nothing)) b
-    go true = rw (named table b)
-    go false = refl
-
-replaced-inside : (table : List ℕ) (b : ℕ) → Inside table (replacedBy (entries table) b)
-unfolding replacedBy Inside
-replaced-inside table b = go (token b)
-  where
-    go : (t : Bool) → Inside table (cond t (found 0 (entries table) b) Nothing)
-    go true = inside table b
-    go false = tt
-
-module _ (table : List ℕ) (b : ℕ) (f : Found) (e : f ≡ replacedBy (entries table) b) where
-  stands-self : f ≡ Nothing → stands (entries table) b ≡ b ∷ []
-  unfolding orItself foundIn
-  stands-self q = stands-is table b ∙ rw (sym e ∙ q)
-
-  module _ (start size : ℕ) (q : f ≡ At start size) where
-    stands-part : stands (entries table) b ≡ take size (drop start table)
-    unfolding orItself foundIn
-    stands-part = stands-is table b ∙ rw (sym e ∙ q)
-
-    pub part-inside : start + size ≤ length table
-    unfolding Inside
-    part-inside = subst (Inside table) (sym e ∙ q) (replaced-inside table b)
-
-    pub part-fits : length table < 2 ^ 63 → Fits w64 (start + size)
-    part-fits g = record { fits = omega (arith, part-inside) }
-
-    width-part : size ≡ length (stands (entries table) b)
-    width-part = sym (ap length stands-part ∙ length-take-le size (drop start table) (omega (arith, part-inside, length-drop start table)))
 
 -- ---- the loops of `fits_singly` and `fits_from`: `left` of the limit is left for what is left of the text
 leb-left : (n m l : ℕ) → n ≤ l → leb (n + m) l ≡ leb m (l - n)
@@ -335,34 +287,34 @@ module _ (part out₀ : List ℕ) (at : ℕ) where
 pub ruleset copy-ways = (copy-begin, copy-done, copy-in, copy-fits, copy-again)
 
 -- ---- `write_one`
-module _ (table : List ℕ) (b : ℕ) (out : List ℕ) (at : ℕ) (h : at + length (stands (entries table) b) ≤ length out)
-    (f : Found) (e : f ≡ replacedBy (entries table) b) where
+module _ (index table : List ℕ) (b : ℕ) (out : List ℕ) (at : ℕ) (h : at + length (stands (entriesBy index table) b) ≤ length out)
+    (f : Found) (e : f ≡ placeBy index table b) where
   pub self-room : f ≡ Nothing → at < length out
-  self-room q = omega (arith, ap length (stands-self table b f e q))
+  self-room q = omega (arith, ap length (self-by index table b f e q))
 
-  pub self-end : f ≡ Nothing → at + 1 ≡ at + length (stands (entries table) b)
-  self-end q = rw (stands-self table b f e q)
+  pub self-end : f ≡ Nothing → at + 1 ≡ at + length (stands (entriesBy index table) b)
+  self-end q = rw (self-by index table b f e q)
 
-  pub self-out : f ≡ Nothing → set out at b ≡ sets out at (stands (entries table) b)
-  self-out q = rw (stands-self table b f e q)
+  pub self-out : f ≡ Nothing → set out at b ≡ sets out at (stands (entriesBy index table) b)
+  self-out q = rw (self-by index table b f e q)
 
   module _ (start size : ℕ) (q : f ≡ At start size) where
-    part-is : take (start + size - start) (drop start table) ≡ stands (entries table) b
-    part-is = let n : start + size - start ≡ size = omega arith in rw n (sym (stands-part table b f e start size q))
+    part-is : take (start + size - start) (drop start table) ≡ stands (entriesBy index table) b
+    part-is = let n : start + size - start ≡ size = omega arith in rw n (sym (part-by index table b f e start size q))
 
     pub part-room : at + length (take (start + size - start) (drop start table)) ≤ length out
     part-room = rw part-is h
 
     pub part-end-fits : length out < 2 ^ 63 → Fits w64 (at + size)
-    part-end-fits g = record { fits = omega (arith, width-part table b f e start size q) }
+    part-end-fits g = record { fits = omega (arith, width-by index table b f e start size q) }
 
-    pub part-end : at + size ≡ at + length (stands (entries table) b)
-    part-end = omega (arith, width-part table b f e start size q)
+    pub part-end : at + size ≡ at + length (stands (entriesBy index table) b)
+    part-end = omega (arith, width-by index table b f e start size q)
 
-    pub part-out : (out′ : List ℕ) → out′ ≡ sets out at (take (start + size - start) (drop start table)) → out′ ≡ sets out at (stands (entries table) b)
+    pub part-out : (out′ : List ℕ) → out′ ≡ sets out at (take (start + size - start) (drop start table)) → out′ ≡ sets out at (stands (entriesBy index table) b)
     part-out out′ g = g ∙ ap (λ q. sets out at q) part-is
 
-pub ruleset one-ways = (self-room, self-end, self-out, part-inside, part-room, part-end, part-out)
+pub ruleset one-ways = (self-room, self-end, self-out, inside-by, part-room, part-end, part-out)
 
 -- ---- the loop of `write_all`
 pub record Writing (es : Entries) (s out₀ : List ℕ) (at : ℕ) (out : List ℕ) (to i : ℕ) : Type 0 where
@@ -432,65 +384,50 @@ module _ (es : Entries) (s out₀ : List ℕ) (at : ℕ) where
 
 pub ruleset write-ways = (write-begin, write-done, write-done-at, copy-room, write-end, write-end-at, write-room, write-again)
 
--- ---- the loop of `low_in`
-pub record Counting (s : List ℕ) (n at : ℕ) : Type 0 where
+-- ---- the loop of `size_by`: what is added up so far, and the expansion of what is left of the text
+pub record Adding (es : Entries) (s : List ℕ) (most total at : ℕ) : Type 0 where
   pub within : at ≤ length s
-  pub few : n ≤ at
-  pub same : n + lowIn (drop at s) ≡ lowIn s
+  pub short : total ≤ most
+  pub same : total + expandedSize es (drop at s) ≡ expandedSize es s
 
-module _ (s : List ℕ) where
-  pub count-begin : Counting s 0 0
-  count-begin = record { within = omega arith; few = omega arith; same = omega arith }
+module _ (es : Entries) (s : List ℕ) (most : ℕ) where
+  pub add-begin : Adding es s most 0 0
+  add-begin = record { within = omega arith; short = omega arith; same = omega arith }
 
-  module _ (n at : ℕ) (inv : Counting s n at) where
-    pub count-done : length s ≤ at → n ≡ lowIn s
-    unfolding lowIn
-    count-done h = omega (arith, inv .same, ap lowIn (drop-of-length-le s h))
+  module _ (total at : ℕ) (inv : Adding es s most total at) where
+    pub add-done : length s ≤ at → total ≡ min most (expandedSize es s)
+    unfolding expandedSize expanded
+    add-done h =
+        let none : expandedSize es (drop at s) ≡ 0 = ap (expandedSize es) (drop-of-length-le s h) in
+        let all : total ≡ expandedSize es s = omega (arith, inv .same) in
+        sym (min-eq-right (omega (arith, inv .short)) ∙ sym all)
 
-    module _ (h : at < length s) where
-      next-low : lowIn (drop at s) ≡ cond (ltb (getD s at 0) 0x14) 1 0 + lowIn (drop (at + 1) s)
-      unfolding lowIn
-      next-low = ap lowIn (drop-next s at 0 h)
+    module _ (h : at < length s) (size : ℕ) (e : size ≡ length (stands es (getD s at 0))) where
+      next-size : expandedSize es (drop at s) ≡ size + expandedSize es (drop (at + 1) s)
+      unfolding expandedSize expanded
+      next-size =
+          ap (λ q. length (expanded es q)) (drop-next s at 0 h)
+          ∙ length-append (stands es (getD s at 0)) (expanded es (drop (at + 1) s)) ∙ rw (← e)
 
-      pub count-low : getD s at 0 < 0x14 → (m : ℕ) → m ≡ n + 1 → Counting s m (at + 1)
-      count-low g m e =
-          let one : lowIn (drop at s) ≡ 1 + lowIn (drop (at + 1) s) = next-low ∙ rw (lt-ltb (getD s at 0) 0x14 g) in
-          record { within = omega arith; few = omega (arith, inv .few); same = omega (arith, inv .same) }
+      pub add-stop : most - total ≤ size → most ≡ min most (expandedSize es s)
+      add-stop g = sym (min-eq-left (omega (arith, inv .short, inv .same, next-size)))
 
-      pub count-high : 0x14 ≤ getD s at 0 → (m : ℕ) → m ≡ n → Counting s m (at + 1)
-      count-high g m e =
-          let none : lowIn (drop at s) ≡ 0 + lowIn (drop (at + 1) s) = next-low ∙ rw (le-ltb (getD s at 0) 0x14 g) in
-          record { within = omega arith; few = omega (arith, inv .few); same = omega (arith, inv .same) }
+      pub add-again : size < most - total → Adding es s most (total + size) (at + 1)
+      add-again g = record { within = omega arith; short = omega arith; same = omega (arith, inv .same, next-size) }
 
-pub ruleset count-ways = (count-begin, count-done, count-low, count-high)
+pub ruleset add-ways = (add-begin, add-done, add-stop, add-again)
 
--- ---- `surely_fits` and `fits`
-module _ (s : List ℕ) (room : ℕ) where
-  pub unsure : SurelyFits s room false
-  unsure = record { always = λ e. absurd (false≢true e) }
-
-  pub sure : length s ≤ room → (n : ℕ) → n ≡ lowIn s → SurelyFits s room (leb n ((room - length s) / 254))
-  sure h n e =
-      record {
-        always = λ y table os. omega (arith, low-bound table s os, leb-true n ((room - length s) / 254) y);
-      }
-
-module _ (table s : List ℕ) (room : ℕ) where
-  pub fits-surely : Octets table → (r : Bool) → SurelyFits s room r → r ≡ true → true ≡ leb (expandedSize (entries table) s) room
-  fits-surely os r w y = sym (le-leb (expandedSize (entries table) s) room (w .always y table os))
-
-  pub fits-measured : (n : ℕ) → n ≡ min (room + 1) (expandedSize (entries table) s) → leb n room ≡ leb (expandedSize (entries table) s) room
-  fits-measured n e = go (leb (expandedSize (entries table) s) room) refl
-    where
-      go : (b : Bool) → leb (expandedSize (entries table) s) room ≡ b → leb n room ≡ b
-      go true q =
-          let short : expandedSize (entries table) s ≤ room = leb-true (expandedSize (entries table) s) room q in
-          le-leb n room (omega (arith, e ∙ min-eq-right (omega arith)))
-      go false q =
-          let long : room < expandedSize (entries table) s = omega (arith, leb-false (expandedSize (entries table) s) room q) in
-          lt-leb n room (omega (arith, e ∙ min-eq-left (omega arith)))
-
-pub ruleset sure-ways = (unsure, sure)
+-- ---- `fits`
+pub fits-measured : (es : Entries) (s : List ℕ) (room n : ℕ) → n ≡ min (room + 1) (expandedSize es s) → leb n room ≡ leb (expandedSize es s) room
+fits-measured es s room n e = go (leb (expandedSize es s) room) refl
+  where
+    go : (b : Bool) → leb (expandedSize es s) room ≡ b → leb n room ≡ b
+    go true q =
+        let short : expandedSize es s ≤ room = leb-true (expandedSize es s) room q in
+        le-leb n room (omega (arith, e ∙ min-eq-right (omega arith)))
+    go false q =
+        let long : room < expandedSize es s = omega (arith, leb-false (expandedSize es s) room q) in
+        lt-leb n room (omega (arith, e ∙ min-eq-left (omega arith)))
 
 -- ---- `expand`
 module _ (es : Entries) (s out : List ℕ) (at : ℕ) where

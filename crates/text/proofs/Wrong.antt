@@ -5,19 +5,24 @@ use mathlib.Core.List.{List, [], _∷_}
 use Prim.Native.Nat.{ℕ, _^_, min}
 use native.Mathlib.Omega.{arith}
 use lib.Dec.{leb}
-use lib.ListN.{getD}
+use lib.ListN.{getD, replicate}
 use Rattle.octets.specs.Numbers.{among}
 use Rattle.text.specs.Text.{layout, token, character, single, goesOn, utf8, text}
 use Rattle.text.specs.Tokens.{entries, cut, filled, isTable, entry, orItself, stands, expanded, present, covers, covered, shownLength, expandedSize}
+use Rattle.text.specs.Leaves.{replacedBy}
+use Rattle.text.specs.Index.{startOf, longest, Indexes, usable, placeAt, placeBy, withPlace, entriesBelow, entriesBy}
 use Rattle.text.specs.Calls.{found, expandFits, expandAnswer, expandOut, ExpandClaim}
 use Rattle.text.specs.Weighing.{tags, Marks, Widths, marked, coveredBy, widthAt, weight, weighedBy}
 use Rattle.text.specs.declared.Expanded.the-variants.{Done, NoRoom}
-use Rattle.text.specs.declared.Found.the-variants.{At}
 use Rattle.text.specs.declared.Weighed.the-variants.{Text}
 
 -- one entry: the token 0x01 for the three octets ABC
 abbrev abc : List ℕ
 abc = 0x01 ∷ 3 ∷ 0x41 ∷ 0x42 ∷ 0x43 ∷ []
+
+-- its index
+abbrev abcIndex : List ℕ
+abcIndex = 3 ∷ 2 ∷ replicate 30 0
 
 -- the token 0x01 twice, for A and for B
 abbrev twice : List ℕ
@@ -71,14 +76,18 @@ pub empty-refused : false ≡ isTable (0x01 ∷ 0 ∷ []) → ⊥
 unfolding isTable filled among text utf8 token layout
 empty-refused h = false≢true h
 
--- find: the place of the entry and not of its text; the last entry with the tag and not the first
-pub entry-named : At 0 3 ≡ found 0 (entries abc) 0x01 → ⊥
-unfolding found entries cut
-entry-named h = let z : _≡_ {A = ℕ} 0 2 = cc in omega arith
+-- index_of: where the entry begins and not its text; the last entry of a token and not the first; the width of an octet for the longest text
+pub entry-named : (index : List ℕ) → getD index 1 0 ≡ 0 → Indexes (entries abc) index → ⊥
+unfolding found entries cut replacedBy startOf token layout among
+entry-named index h w = let z : _≡_ {A = ℕ} 0 2 = sym h ∙ w .each 1 (omega arith) (omega arith) in omega arith
 
-pub last-named : At 5 1 ≡ found 0 (entries twice) 0x01 → ⊥
-unfolding found entries cut
-last-named h = let z : _≡_ {A = ℕ} 5 2 = cc in omega arith
+pub last-named : (index : List ℕ) → getD index 1 0 ≡ 5 → Indexes (entries twice) index → ⊥
+unfolding found entries cut replacedBy startOf token layout among
+last-named index h w = let z : _≡_ {A = ℕ} 5 2 = sym h ∙ w .each 1 (omega arith) (omega arith) in omega arith
+
+pub longest-forgotten : (index : List ℕ) → getD index 0 0 ≡ 1 → Indexes (entries abc) index → ⊥
+unfolding longest entries cut
+longest-forgotten index h w = let z : _≡_ {A = ℕ} 1 3 = sym h ∙ w .widest in omega arith
 
 -- tokens_of: an entry's token is forgotten; a tag that is no token gets a bit
 pub token-forgotten : Marks 0 (tags (entries abc)) → ⊥
@@ -142,15 +151,20 @@ pub size-runs-on : 4 ≡ min 3 (expandedSize (entries abc) (0x01 ∷ 0x44 ∷ []
 unfolding expandedSize expanded stands token layout among entries cut entry orItself
 size-runs-on h = let z : _≡_ {A = ℕ} 4 3 = h in omega arith
 
--- expand: a room of just the size is refused; what fits is written there and no more is told than its size; what doesn't fit is written in part
-pub room-refused : (after : List ℕ) → ExpandClaim (entries abc) (0x01 ∷ []) (0 ∷ 0 ∷ 0 ∷ []) after 0 NoRoom → ⊥
-unfolding expandAnswer expandFits expanded stands token layout among entries cut entry orItself
+-- expand: a room of just the size is refused; what fits is written there and no more is told than its size; what doesn't fit is written in part; by an index
+-- that tells of no entry, one is taken from the table
+pub room-refused : (after : List ℕ) → ExpandClaim (entriesBy abcIndex abc) (0x01 ∷ []) (0 ∷ 0 ∷ 0 ∷ []) after 0 NoRoom → ⊥
+unfolding expandAnswer expandFits expanded stands token layout among entry orItself entriesBy entriesBelow withPlace placeBy placeAt usable
 room-refused after h = let e = h .answers in let z : _≡_ {A = ℕ} 0 1 = cc in omega arith
 
-pub size-told : (after : List ℕ) → ExpandClaim (entries abc) (0x01 ∷ []) (0 ∷ 0 ∷ 0 ∷ 0 ∷ []) after 1 (Done 3) → ⊥
-unfolding expandAnswer expandFits expanded stands token layout among entries cut entry orItself
+pub size-told : (after : List ℕ) → ExpandClaim (entriesBy abcIndex abc) (0x01 ∷ []) (0 ∷ 0 ∷ 0 ∷ 0 ∷ []) after 1 (Done 3) → ⊥
+unfolding expandAnswer expandFits expanded stands token layout among entry orItself entriesBy entriesBelow withPlace placeBy placeAt usable
 size-told after h = let e = h .answers in let z : _≡_ {A = ℕ} 3 4 = cc in omega arith
 
-pub part-written : ExpandClaim (entries abc) (0x01 ∷ []) (0 ∷ 0 ∷ []) (0x41 ∷ 0x42 ∷ []) 0 NoRoom → ⊥
-unfolding expandOut expandFits expanded stands token layout among entries cut entry orItself
+pub part-written : ExpandClaim (entriesBy abcIndex abc) (0x01 ∷ []) (0 ∷ 0 ∷ []) (0x41 ∷ 0x42 ∷ []) 0 NoRoom → ⊥
+unfolding expandOut expandFits expanded stands token layout among entry orItself entriesBy entriesBelow withPlace placeBy placeAt usable
 part-written h = let e = h .leaves in let z : _≡_ {A = ℕ} 0x41 0 = cc in omega arith
+
+pub index-unasked : (after : List ℕ) → ExpandClaim (entriesBy (replicate 32 0) abc) (0x01 ∷ []) (0 ∷ 0 ∷ 0 ∷ []) after 0 (Done 3) → ⊥
+unfolding expandAnswer expandFits expanded stands token layout among entry orItself entriesBy entriesBelow withPlace placeBy placeAt usable
+index-unasked after h = let e = h .answers in let z : _≡_ {A = ℕ} 3 1 = cc in omega arith

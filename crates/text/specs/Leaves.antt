@@ -6,14 +6,13 @@ use Prim.Native.Nat.{ℕ, zero, suc, _+_, _-_, _*_, _/_, _%_, _^_, _≤_, _<_, m
 use lib.Dec.{eqb, ltb}
 use lib.ListN.{length, getD, take, drop}
 use lib.Bits.{bitOr}
-use Rattle.octets.specs.Numbers.{Octets}
 use Rattle.text.specs.Text.{token, character, text}
-use Rattle.text.specs.Tokens.{Entries, entries, filled, expandedSize}
+use Rattle.text.specs.Tokens.{Entries, filled}
 use Rattle.text.specs.Calls.{found}
 use Rattle.text.specs.Runs.{allWithin}
 use Rattle.text.specs.Weighing.{bit}
-use Rattle.text.specs.declared.Found.{Found}
-use Rattle.text.specs.declared.Found.the-variants.{Nothing}
+use Rattle.text.specs.declared.expanding.Found.{Found}
+use Rattle.text.specs.declared.expanding.Found.the-variants.{Nothing}
 use Rattle.text.specs.declared.tables.Piece.{Piece}
 use Rattle.text.specs.declared.tables.Piece.the-variants.{Past, Entry}
 
@@ -100,12 +99,3 @@ widthBy widths b = getD widths (min b 0x14) 0
 unfoldable pub widthOf : List ℕ → List ℕ → ℕ
 widthOf widths [] = 0
 widthOf widths (b ∷ bs) = widthBy widths b + widthOf widths bs
-
--- how many octets of a text are not above the last token, and could be tokens
-unfoldable pub lowIn : List ℕ → ℕ
-lowIn [] = 0
-lowIn (b ∷ bs) = cond (ltb b 0x14) 1 0 + lowIn bs
-
--- the answer yes tells that the expansion of a text has room by whatever table
-pub record SurelyFits (s : List ℕ) (room : ℕ) (answer : Bool) : Type 0 where
-  pub always : answer ≡ true → (table : List ℕ) → Octets table → expandedSize (entries table) s ≤ room

@@ -4,3 +4,4 @@ pub mod Calls
 pub mod Weighing
 pub mod Runs
 pub mod Leaves
+pub mod Index

@@ -1,8 +1,8 @@
 // Texts with their tokens replaced: judged and measured where they stand, and copied by `expand` alone. The run of octets above the last token
 // with which a text begins is passed over, eight octets at a time. What comes after it is measured, by eights too as far as they go, by the widths
-// of all tokens, for which the table is gone through once a text. To write an expansion, each run is copied, and a token costs a `find`, at most 16
-// steps in a table that passes `is_table`. It is measured before that only where it could be too long for its room. Whether each token has an entry
-// is asked of all of them at once.
+// of all tokens, for which the table is gone through once a text. To write an expansion, each run is copied, and the text of a token is found by an
+// index of the table, which is made once for all texts. It is measured before that only where it could be too long for its room. Whether each token has an
+// entry is asked of all of them at once.
 ghost use mathlib.Core.Path.{_≡_};
 ghost use Prim.Native.Nat.{_+_, _^_, _≤_, _<_, min};
 ghost use lib.Dec.{leb};
@@ -10,14 +10,13 @@ ghost use lib.ListN.{length, take, drop};
 ghost use lib.Seq.{sets};
 ghost use Rattle.text.specs.Tokens.{entries, stands, expanded, covered, shownLength, expandedSize};
 ghost use Rattle.text.specs.Calls.{ExpandClaim};
-ghost use Rattle.text.specs.Leaves.{replacedBy, widthBy, widthOf, lowIn, SurelyFits};
+ghost use Rattle.text.specs.Leaves.{widthBy, widthOf};
 ghost use Rattle.text.specs.Weighing.{Marks};
+ghost use Rattle.text.specs.Index.{placeBy, entriesBy, Bounds};
 use crate::Expanded;
-use crate::Found;
 use crate::characters::is_token;
 use crate::characters::token_bit;
 use crate::runs::untokened_end;
-use crate::tables::find;
 use crate::tables::size_of;
 use crate::tables::tokens_of;
 use crate::tables::widths_of;
@@ -45,16 +44,6 @@ pub fn is_covered(table: &[u8], s: &[u8]) -> bool
         return true;
     }
     used & tokens_of(table) == used
-}
-
-// Where in the table the text lies that stands for an octet. Nothing: the octet stands for itself.
-fn replacement(table: &[u8], b: u8) -> Found
-    ensures { λ r. ⌜ r ≡ replacedBy (entries (now (table .entry))) b ⌝ }
-{
-    if is_token(b) {
-        return find(table, b);
-    }
-    Found::Nothing
 }
 
 // How many octets stand for an octet, by the widths of a table. Octets above the last token all have the width of 0x14. Where tokens stand
@@ -208,13 +197,44 @@ fn copy(part: &[u8], out: &mut [u8], at: usize)
     }
 }
 
-// What stands for an octet, written from a place on, and the place after it.
-fn write_one(table: &[u8], b: u8, out: &mut [u8], at: usize) -> usize
-    requires { ⌜ at + length (stands (entries (now table)) b) ≤ length (now out) ⌝ }
-    ensures { λ r. ⌜ r ≡ at + length (stands (entries (now (table .entry))) b) ⌝ }
-    ensures { λ r. ⌜ now (out .exit) ≡ sets (now (out .entry)) at (stands (entries (now (table .entry))) b) ⌝ }
+// Where the text of an entry begins in its table, and how long it is.
+enum Found {
+    At { start: usize, size: usize },
+    Nothing,
+}
+
+// Where in the table the text lies that stands for an octet, by an index. Nothing: the octet stands for itself. Any index and any table may be given: an
+// entry that doesn't lie in the table, or is longer than the longest of the index, counts as none. The octet before a text is its length.
+fn replacement(index: &[usize; 32], table: &[u8], b: u8) -> Found
+    ensures { λ r. ⌜ r ≡ placeBy (now (index .entry)) (now (table .entry)) b ⌝ }
 {
-    match replacement(table, b) {
+    if !is_token(b) {
+        return Found::Nothing;
+    }
+    let start = index[size_of(b)];
+    if start == 0 {
+        return Found::Nothing;
+    }
+    if start > table.len() {
+        return Found::Nothing;
+    }
+    let size = size_of(table[start - 1]);
+    if size > table.len() - start {
+        return Found::Nothing;
+    }
+    if size > index[0] {
+        return Found::Nothing;
+    }
+    Found::At { start, size }
+}
+
+// What stands for an octet, written from a place on, and the place after it.
+fn write_one(index: &[usize; 32], table: &[u8], b: u8, out: &mut [u8], at: usize) -> usize
+    requires { ⌜ at + length (stands (entriesBy (now index) (now table)) b) ≤ length (now out) ⌝ }
+    ensures { λ r. ⌜ r ≡ at + length (stands (entriesBy (now (index .entry)) (now (table .entry))) b) ⌝ }
+    ensures { λ r. ⌜ now (out .exit) ≡ sets (now (out .entry)) at (stands (entriesBy (now (index .entry)) (now (table .entry))) b) ⌝ }
+{
+    match replacement(index, table, b) {
         Found::Nothing => {
             out[at] = b;
             at + 1
@@ -229,10 +249,10 @@ fn write_one(table: &[u8], b: u8, out: &mut [u8], at: usize) -> usize
 
 // The expansion of a text, written from a place on, and the place after it: runs without tokens as they are, and what stands for each octet between
 // them.
-fn write_all(table: &[u8], s: &[u8], out: &mut [u8], at: usize) -> usize
-    requires { ⌜ at + length (expanded (entries (now table)) (now s)) ≤ length (now out) ⌝ }
-    ensures { λ r. ⌜ r ≡ at + length (expanded (entries (now (table .entry))) (now (s .entry))) ⌝ }
-    ensures { λ _. ⌜ now (out .exit) ≡ sets (now (out .entry)) at (expanded (entries (now (table .entry))) (now (s .entry))) ⌝ }
+fn write_all(index: &[usize; 32], table: &[u8], s: &[u8], out: &mut [u8], at: usize) -> usize
+    requires { ⌜ at + length (expanded (entriesBy (now index) (now table)) (now s)) ≤ length (now out) ⌝ }
+    ensures { λ r. ⌜ r ≡ at + length (expanded (entriesBy (now (index .entry)) (now (table .entry))) (now (s .entry))) ⌝ }
+    ensures { λ _. ⌜ now (out .exit) ≡ sets (now (out .entry)) at (expanded (entriesBy (now (index .entry)) (now (table .entry))) (now (s .entry))) ⌝ }
 {
     let mut to = at;
     let mut i: usize = 0;
@@ -243,60 +263,72 @@ fn write_all(table: &[u8], s: &[u8], out: &mut [u8], at: usize) -> usize
         if from == s.len() {
             return behind;
         }
-        to = write_one(table, s[from], out, behind);
+        to = write_one(index, table, s[from], out, behind);
         i = from + 1;
     }
     to
 }
 
-// How many octets of a text are not above the last token. Nothing but a count is kept, so that the compiler takes four octets at a time.
-fn low_in(s: &[u8]) -> usize
-    ensures { λ r. ⌜ r ≡ lowIn (now (s .entry)) ⌝ }
+// How many octets stand for an octet, by an index.
+fn width_at(index: &[usize; 32], table: &[u8], b: u8) -> usize
+    ensures { λ r. ⌜ r ≡ length (stands (entriesBy (now (index .entry)) (now (table .entry))) b) ⌝ }
 {
-    let mut n: usize = 0;
+    match replacement(index, table, b) {
+        Found::Nothing => 1,
+        Found::At { start: _, size } => size,
+    }
+}
+
+// How many octets the expansion of a text takes, by an index and octet by octet, or `most` where that is less: there it stops.
+fn size_by(index: &[usize; 32], table: &[u8], s: &[u8], most: usize) -> usize
+    ensures { λ r. ⌜ r ≡ min most (expandedSize (entriesBy (now (index .entry)) (now (table .entry))) (now (s .entry))) ⌝ }
+{
+    let mut total: usize = 0;
     let mut at: usize = 0;
     while at < s.len() {
-        if s[at] < 0x14 {
-            n += 1;
+        let size = width_at(index, table, s[at]);
+        if most - total <= size {
+            return most;
         }
+        total += size;
         at += 1;
     }
-    n
+    total
 }
 
-// A text whose expansion has room by any table: an entry has at most 255 octets, so each octet that could be a token adds at most 254. No: it may
-// have room all the same.
-fn surely_fits(s: &[u8], room: usize) -> bool
-    ensures { λ r. ⌜ SurelyFits (now (s .entry)) room r ⌝ }
+// So many octets at most stand for any octet by an index.
+fn widest_by(index: &[usize; 32]) -> usize
+    ensures { λ r. ⌜ Bounds (now (index .entry)) r ⌝ }
 {
-    if s.len() > room {
-        return false;
+    let longest = index[0];
+    if longest == 0 {
+        return 1;
     }
-    low_in(s) <= (room - s.len()) / 254
+    longest
 }
 
-// The expansion of a text has room. It is measured only where that isn't sure by its low octets alone. The room is that of a slice, so that one more
-// than it is still a number.
-fn fits(table: &[u8], s: &[u8], room: usize) -> bool
+// The expansion of a text has room. It is measured only where that isn't sure by the length of the text and the longest entry. The room is that of a slice,
+// so that one more than it is still a number.
+fn fits(index: &[usize; 32], table: &[u8], s: &[u8], room: usize) -> bool
     requires { ⌜ room < 2 ^ 63 ⌝ }
-    ensures { λ r. ⌜ r ≡ leb (expandedSize (entries (now (table .entry))) (now (s .entry))) room ⌝ }
+    ensures { λ r. ⌜ r ≡ leb (expandedSize (entriesBy (now (index .entry)) (now (table .entry))) (now (s .entry))) room ⌝ }
 {
-    if surely_fits(s, room) {
+    if s.len() <= room / widest_by(index) {
         return true;
     }
-    expanded_size(table, s, room + 1) <= room
+    size_by(index, table, s, room + 1) <= room
 }
 
 // The expansion of a text, written from a place on where it fits. That is known before the first octet is written, and nothing is written where it
-// doesn't fit.
-pub fn expand(table: &[u8], s: &[u8], out: &mut [u8], at: usize) -> Expanded
-    ensures { λ r. ⌜ ExpandClaim (entries (now (table .entry))) (now (s .entry)) (now (out .entry)) (now (out .exit)) at r ⌝ }
+// doesn't fit. Any index may be given; by the one that `index_of` makes of the table it is the expansion by that table (proofs/Index, indexed-expanded).
+pub fn expand(index: &[usize; 32], table: &[u8], s: &[u8], out: &mut [u8], at: usize) -> Expanded
+    ensures { λ r. ⌜ ExpandClaim (entriesBy (now (index .entry)) (now (table .entry))) (now (s .entry)) (now (out .entry)) (now (out .exit)) at r ⌝ }
 {
     if at > out.len() {
         return Expanded::NoRoom;
     }
-    if !fits(table, s, out.len() - at) {
+    if !fits(index, table, s, out.len() - at) {
         return Expanded::NoRoom;
     }
-    Expanded::Done(write_all(table, s, out, at))
+    Expanded::Done(write_all(index, table, s, out, at))
 }

@@ -12,17 +12,11 @@ pub use expanding::expand;
 pub use expanding::expanded_size;
 pub use expanding::is_covered;
 pub use expanding::is_shown;
-pub use tables::find;
+pub use tables::index_of;
 pub use tables::is_table;
 pub use tables::tokens_of;
 pub use tables::widths_of;
 pub use weighing::weigh;
-
-// Where the text of an entry begins in its table, and how long it is.
-pub enum Found {
-    At { start: usize, size: usize },
-    Nothing,
-}
 
 // A text looked at once: no text (rule 10); or text, whether each of its tokens has an entry (rule 12), and how many octets are shown of it (rule 13).
 pub enum Weighed {

@@ -1,11 +1,10 @@
 // The token table, an entry at a time.
 ghost use mathlib.Core.Path.{_≡_};
-ghost use Prim.Native.Nat.{_<_};
+ghost use Prim.Native.Nat.{_<_, max};
 ghost use Rattle.text.specs.Tokens.{entries, isTable};
-ghost use Rattle.text.specs.Calls.{found};
 ghost use Rattle.text.specs.Leaves.{ahead, placeOf, RatedBy};
 ghost use Rattle.text.specs.Weighing.{tags, Marks, Widths};
-use crate::Found;
+ghost use Rattle.text.specs.Index.{noted, Indexes};
 use crate::characters::check;
 use crate::characters::is_token;
 use crate::characters::token_bit;
@@ -36,31 +35,6 @@ fn first_entry(rest: &[u8]) -> Piece
         return Piece::Past;
     }
     Piece::Entry { tag: rest[0], size }
-}
-
-// The first entry with a tag. It takes a step for each entry up to that one, and a table that passes `is_table` has at most 16
-// (proofs/Sixteen, sixteen).
-pub fn find(table: &[u8], tag: u8) -> Found
-    ensures { λ r. ⌜ r ≡ found 0 (entries (now (table .entry))) tag ⌝ }
-{
-    let mut at: usize = 0;
-    while at < table.len() {
-        match first_entry(&table[at..]) {
-            Piece::Past => {
-                return Found::Nothing;
-            }
-            Piece::Entry { tag: t, size } => {
-                if t == tag {
-                    return Found::At {
-                        start: at + 2,
-                        size,
-                    };
-                }
-                at = at + 2 + size;
-            }
-        }
-    }
-    Found::Nothing
 }
 
 // The tokens that have an entry, a bit each.
@@ -127,6 +101,52 @@ pub fn widths_of(table: &[u8]) -> [u8; 32]
     let mut widths = entry_widths(table);
     widths[31] = 1;
     widths
+}
+
+// An entry goes into an index: where its tag is a token that has no entry there, the token's place gets where the entry's text begins.
+fn note(index: &mut [usize; 32], tag: u8, start: usize)
+    ensures { λ _. ⌜ now (index .exit) ≡ noted (now (index .entry)) tag start ⌝ }
+{
+    if !is_token(tag) {
+        return;
+    }
+    let k = size_of(tag);
+    if index[k] > 0 {
+        return;
+    }
+    index[k] = start;
+}
+
+fn longer(a: usize, b: usize) -> usize
+    ensures { λ r. ⌜ r ≡ max a b ⌝ }
+{
+    if a < b {
+        return b;
+    }
+    a
+}
+
+// A table gone through once, so that `expand` finds an entry without a search. At the place of a token stands where the text of its first entry begins
+// in the table, or 0 where it has no entry: no text begins there. At the place of 0, which is no token, stands how many octets the longest text has.
+pub fn index_of(table: &[u8]) -> [usize; 32]
+    ensures { λ r. ⌜ Indexes (entries (now (table .entry))) r ⌝ }
+{
+    let mut index: [usize; 32] = [0; 32];
+    index[0] = 1;
+    let mut at: usize = 0;
+    while at < table.len() {
+        match first_entry(&table[at..]) {
+            Piece::Past => {
+                return index;
+            }
+            Piece::Entry { tag, size } => {
+                note(&mut index, tag, at + 2);
+                index[0] = longer(index[0], size);
+                at = at + 2 + size;
+            }
+        }
+    }
+    index
 }
 
 // Rule 11 for the first entry of what is left of a table, after entries whose tags are the bits of a mask: the entry, or Past where it breaks

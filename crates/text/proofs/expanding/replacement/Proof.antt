@@ -1,4 +1,5 @@
-use Rattle.text.proofs.Replaced.{replaced-ways}
+use borrow.Author.Tests.{not-true, not-false}
+use Rattle.text.proofs.Index.{by-ways}
 use borrow.Author.Needs.{needs}
 use Rattle.text.proofs.expanding.replacement.Statement.{statement}
 use Rattle.text.proofs.expanding.replacement.Tie as tie
@@ -6,14 +7,64 @@ use Rattle.text.proofs.expanding.replacement.Tie as tie
 is-token-requires : tie.Need-is-token-requires
 is-token-requires c κs = search needs
 
-find-requires : tie.Need-find-requires
-find-requires c κs = search needs
-
 returns : tie.Need-returns
-returns c = search (replaced-ways, needs)
+returns c = search (by-ways, not-true, not-false, needs)
+
+size-of-requires : tie.Need-size-of-requires
+size-of-requires c κs = search needs
+
+mul-start : tie.Need-mul-start
+mul-start c = search needs
+
+element-copy-out-start : tie.Need-element-copy-out-start
+element-copy-out-start c = search (by-ways, not-true, not-false, needs)
 
 returns-2 : tie.Need-returns-2
-returns-2 c = search (replaced-ways, needs)
+returns-2 c = search (by-ways, not-true, not-false, needs)
+
+returns-3 : tie.Need-returns-3
+returns-3 c = search (by-ways, not-true, not-false, needs)
+
+sub-size-of : tie.Need-sub-size-of
+sub-size-of c = search needs
+
+shared-slice-read-size-of : tie.Need-shared-slice-read-size-of
+shared-slice-read-size-of c = search needs
+
+size-of-requires-2 : tie.Need-size-of-requires-2
+size-of-requires-2 c κs = search needs
+
+sub-if4 : tie.Need-sub-if4
+sub-if4 c = search needs
+
+returns-4 : tie.Need-returns-4
+returns-4 c = search (by-ways, not-true, not-false, needs)
+
+element-copy-out-if5 : tie.Need-element-copy-out-if5
+element-copy-out-if5 c = search needs
+
+returns-5 : tie.Need-returns-5
+returns-5 c = search (by-ways, not-true, not-false, needs)
+
+returns-6 : tie.Need-returns-6
+returns-6 c = search (by-ways, not-true, not-false, needs)
 
 pub replacement-spec : {M : Type 1} → statement M
-replacement-spec = tie.close (tie.spec is-token-requires find-requires returns returns-2)
+replacement-spec =
+    tie.close
+    (tie.spec
+    is-token-requires
+    returns
+    size-of-requires
+    mul-start
+    element-copy-out-start
+    returns-2
+    returns-3
+    sub-size-of
+    shared-slice-read-size-of
+    size-of-requires-2
+    sub-if4
+    returns-4
+    element-copy-out-if5
+    returns-5
+    returns-6)

@@ -1,16 +1,16 @@
 use Prim.Native.Nat.{_-_}
 use lib.ListN.{length}
-use Rattle.text.specs.Tokens.{entries}
+use Rattle.text.specs.Index.{entriesBy}
 use Rattle.text.proofs.Replaced.{Writing, write-ways}
 use borrow.Author.Needs.{needs}
 use Rattle.text.proofs.expanding.write_all.Statement.{statement}
 use Rattle.text.proofs.expanding.write_all.Tie as tie
 
 abbrev Inv-loop : tie.InvT-loop
-Inv-loop table s out₀ at to₀ i₀ out to i = Writing (entries table) s out₀ at out to i
+Inv-loop index table s out₀ at to₀ i₀ out to i = Writing (entriesBy index table) s out₀ at out to i
 
 abbrev μ-loop : tie.MeasureT-loop
-μ-loop table s out₀ at to₀ i₀ out to i = length s - i
+μ-loop index table s out₀ at to₀ i₀ out to i = length s - i
 
 loop-holds : tie.Need-loop-holds Inv-loop μ-loop
 loop-holds c = search (write-ways, needs)

@@ -1,4 +1,5 @@
-use Rattle.text.proofs.Replaced.{one-ways, part-fits, part-end-fits}
+use Rattle.text.proofs.Index.{part-fits}
+use Rattle.text.proofs.Replaced.{one-ways, part-end-fits}
 use borrow.Author.Needs.{needs}
 use Rattle.text.proofs.expanding.write_one.Statement.{statement}
 use Rattle.text.proofs.expanding.write_one.Tie as tie
@@ -19,7 +20,7 @@ enum-known-start : tie.Need-enum-known-start
 enum-known-start c = search needs
 
 add-end : tie.Need-add-end
-add-end c = part-fits _ _ _ (c .before .before .before .replacement .ensures) _ _ (c .before .start .given .1) (search needs)
+add-end c = part-fits _ _ _ _ (c .before .before .before .replacement .ensures) _ _ (c .before .start .given .1) (search needs)
 
 sub-copy : tie.Need-sub-copy
 sub-copy c = search needs
@@ -37,7 +38,7 @@ add-result-2 : tie.Need-add-result-2
 add-result-2 c =
     let at-start = c .before .before .before .before .before .before in
     let entry = at-start .before .before .before .before .before in
-    part-end-fits _ _ (entry .args .out .now) _ (entry .pre) _ (at-start .before .before .replacement .ensures) _ _ (at-start .start .given .1) (search needs)
+    part-end-fits _ _ _ (entry .args .out .now) _ (entry .pre) _ (at-start .before .before .replacement .ensures) _ _ (at-start .start .given .1) (search needs)
 
 same-length : tie.Need-same-length
 same-length c = search needs

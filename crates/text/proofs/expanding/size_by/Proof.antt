@@ -1,0 +1,60 @@
+use Prim.Native.Nat.{_-_}
+use lib.ListN.{length}
+use Rattle.text.specs.Index.{entriesBy}
+use Rattle.text.proofs.Replaced.{Adding, add-ways}
+use borrow.Author.Needs.{needs}
+use Rattle.text.proofs.expanding.size_by.Statement.{statement}
+use Rattle.text.proofs.expanding.size_by.Tie as tie
+
+abbrev Inv-loop : tie.InvT-loop
+Inv-loop index table s most total₀ at₀ total at = Adding (entriesBy index table) s most total at
+
+abbrev μ-loop : tie.MeasureT-loop
+μ-loop index table s most total₀ at₀ total at = length s - at
+
+loop-holds : tie.Need-loop-holds Inv-loop μ-loop
+loop-holds c = search (add-ways, needs)
+
+shared-slice-read-width-at : tie.Need-shared-slice-read-width-at Inv-loop μ-loop
+shared-slice-read-width-at c = search needs
+
+width-at-requires : tie.Need-width-at-requires Inv-loop μ-loop
+width-at-requires c κs = search needs
+
+sub-if1 : tie.Need-sub-if1 Inv-loop μ-loop
+sub-if1 c = search needs
+
+returns : tie.Need-returns Inv-loop μ-loop
+returns c = search (add-ways, needs)
+
+add-total : tie.Need-add-total Inv-loop μ-loop
+add-total c = search needs
+
+add-at : tie.Need-add-at Inv-loop μ-loop
+add-at c = search needs
+
+loop-less : tie.Need-loop-less Inv-loop μ-loop
+loop-less c = search needs
+
+loop-again : tie.Need-loop-again Inv-loop μ-loop
+loop-again c = search (add-ways, needs)
+
+returns-2 : tie.Need-returns-2 Inv-loop μ-loop
+returns-2 c = search (add-ways, needs)
+
+pub size-by-spec : {M : Type 1} → statement M
+size-by-spec =
+    tie.close
+    (tie.spec
+    Inv-loop
+    μ-loop
+    loop-holds
+    shared-slice-read-width-at
+    width-at-requires
+    sub-if1
+    returns
+    add-total
+    add-at
+    loop-less
+    loop-again
+    returns-2)
