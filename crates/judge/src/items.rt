@@ -7,7 +7,7 @@ ghost use lib.Dec.{eqb};
 ghost use lib.ListN.{length, take, drop};
 ghost use Rattle.text.specs.Tokens.{entries};
 ghost use Rattle.format.specs.Judge.{isTop, read};
-ghost use Rattle.judge.specs.Says.{ctx, depthOf, tableSort, BehindIs, AllIs, Says, oneMore, counted, EndSays, CountsAtMost};
+ghost use Rattle.judge.specs.Says.{ctx, InForce, depthOf, tableSort, BehindIs, AllIs, Says, oneMore, counted, EndSays, CountsAtMost};
 use crate::Check;
 use crate::Item;
 use crate::Progress;
@@ -19,6 +19,8 @@ use crate::tags::is_due_before;
 use crate::tags::is_waiting;
 use format::Counts;
 use format::ReadAnswer;
+use text::tokens_of;
+use text::widths_of;
 
 // The late rule is judged just after the table.
 fn is_due_after(sort: Sort, parent: u8, stage: u8) -> bool
@@ -41,11 +43,23 @@ fn judge_item(
     left: u8,
     progress: Progress,
     table: &[u8],
+    marks: u32,
+    widths: &[u8; 32],
 ) -> Item
     requires { ⌜ (base + length (now part) ≤ 32_768) × (at < length (now part)) ⌝ }
+    requires { ⌜ InForce (now table) marks (now widths) ⌝ }
     ensures { λ r. ⌜ Says (BehindIs parent left progress (now (table .entry)) base at (now (part .entry))) parent progress (drop at (now (part .entry))) r ⌝ }
 {
-    match judge_own(&part[at..], base + at, parent, left, progress, table) {
+    match judge_own(
+        &part[at..],
+        base + at,
+        parent,
+        left,
+        progress,
+        table,
+        marks,
+        widths,
+    ) {
         Item::Bad(refusal) => Item::Bad(refusal),
         Item::Good(sort, start, size, next) => {
             let from = at + start;
@@ -68,14 +82,17 @@ fn read_item(
     left: u8,
     progress: Progress,
     table: &[u8],
+    marks: u32,
+    widths: &[u8; 32],
 ) -> Item
     requires { ⌜ (base + length (now part) ≤ 32_768) × (at < length (now part)) ⌝ }
+    requires { ⌜ InForce (now table) marks (now widths) ⌝ }
     ensures { λ r. ⌜ Says (AllIs parent left progress (now (table .entry)) base at (now (part .entry))) parent progress (drop at (now (part .entry))) r ⌝ }
 {
     let due = is_due_before(parent, progress.stage, part[at]);
     match judge_late(due, part, at, parent, base, &part[0..0]) {
         Check::Broken(refusal) => Item::Bad(refusal),
-        Check::Kept => judge_item(part, at, base, parent, left, progress, table),
+        Check::Kept => judge_item(part, at, base, parent, left, progress, table, marks, widths),
     }
 }
 
@@ -106,7 +123,8 @@ fn end_items(
 }
 
 // The items of a part, which begins at the place `base` of the object and is the body of an element with the tag `parent`, or the object (0).
-// So many levels of elements may still begin in it. `before` is what was counted before it, `given` the token table in force.
+// So many levels of elements may still begin in it. `before` is what was counted before it, `given` the token table in force, which has these marks
+// and widths. `table`, `marks` and `wide` are those in force so far.
 pub fn read_items<'a>(
     part: &'a [u8],
     base: usize,
@@ -114,8 +132,11 @@ pub fn read_items<'a>(
     left: u8,
     before: Counts,
     given: &'a [u8],
+    marked: u32,
+    widths: &[u8; 32],
 ) -> ReadAnswer
     requires { ⌜ (base + length (now part) ≤ 32_768) × (before .records ≤ base) × (left ≤ 16) ⌝ }
+    requires { ⌜ InForce (now given) marked (now widths) ⌝ }
     ensures { λ r. ⌜ r ≡ counted before (read (ctx parent (depthOf left) 0 [] (entries (now (given .entry))) []) base (now (part .entry))) ⌝ }
     ensures { λ r. ⌜ CountsAtMost (base + length (now (part .entry))) r ⌝ }
 {
@@ -123,8 +144,10 @@ pub fn read_items<'a>(
     let mut progress = Progress { stage: 0, mask: 0 };
     let mut counts = before;
     let mut table: &'a [u8] = given;
+    let mut marks = marked;
+    let mut wide: [u8; 32] = *widths;
     while at < part.len() {
-        match read_item(part, at, base, parent, left, progress, table) {
+        match read_item(part, at, base, parent, left, progress, table, marks, &wide) {
             Item::Bad(refusal) => {
                 return ReadAnswer::NotRead(refusal);
             }
@@ -140,9 +163,22 @@ pub fn read_items<'a>(
                     }
                     Sort::Table => {
                         table = &part[from..at];
+                        marks = tokens_of(table);
+                        wide = widths_of(table);
                     }
                     Sort::Element => {
-                        match read_element(part, from, at, base, tag, left, counts, table) {
+                        match read_element(
+                            part,
+                            from,
+                            at,
+                            base,
+                            tag,
+                            left,
+                            counts,
+                            table,
+                            marks,
+                            &wide,
+                        ) {
                             ReadAnswer::NotRead(refusal) => {
                                 return ReadAnswer::NotRead(refusal);
                             }
@@ -169,12 +205,24 @@ fn read_element<'a>(
     left: u8,
     before: Counts,
     table: &'a [u8],
+    marks: u32,
+    widths: &[u8; 32],
 ) -> ReadAnswer
     requires { ⌜ (from ≤ to) × (to ≤ length (now part)) × (base + length (now part) ≤ 32_768) × (before .records < base + from) × (0 < left) × (left ≤ 16) ⌝ }
+    requires { ⌜ InForce (now table) marks (now widths) ⌝ }
     ensures { λ r. ⌜ r ≡ counted (oneMore before) (read (ctx tag (depthOf (left - 1)) 0 [] (entries (now (table .entry))) []) (base + from) (take (to - from) (drop from (now (part .entry))))) ⌝ }
     ensures { λ r. ⌜ CountsAtMost (base + to) r ⌝ }
 {
     let mut counts = before;
     counts.records = counts.records + 1;
-    read_items(&part[from..to], base + from, tag, left - 1, counts, table)
+    read_items(
+        &part[from..to],
+        base + from,
+        tag,
+        left - 1,
+        counts,
+        table,
+        marks,
+        widths,
+    )
 }

@@ -13,6 +13,8 @@ use format::Counts;
 use format::ReadAnswer;
 use format::Refusal;
 use items::read_items;
+use text::tokens_of;
+use text::widths_of;
 
 // What rules say in their order: that they are kept, or the refusal of the first that is broken.
 enum Check {
@@ -57,5 +59,17 @@ pub fn judge(object: &[u8]) -> ReadAnswer
             place: 0,
         });
     }
-    read_items(object, 0, 0, 16, Counts { records: 0 }, &object[0..0])
+    let none = &object[0..0];
+    let marks = tokens_of(none);
+    let widths = widths_of(none);
+    read_items(
+        object,
+        0,
+        0,
+        16,
+        Counts { records: 0 },
+        none,
+        marks,
+        &widths,
+    )
 }

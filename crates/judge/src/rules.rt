@@ -1,4 +1,5 @@
-// The rules of one item, 2 to 13, by rising number, but for the late 12 (late.rt).
+// The rules of one item, 2 to 13, by rising number, but for the late 12 (late.rt). Beside the token table in force go its marks and widths, so that the
+// table itself is not gone through again for a text.
 ghost use mathlib.Core.Path.{_≡_};
 ghost use mathlib.Core.Bool.{_&&_, _||_};
 ghost use mathlib.Core.Option.{some};
@@ -9,7 +10,7 @@ ghost use Rattle.values.specs.Table.{attribute};
 ghost use Rattle.values.specs.declared.Kind.the-variants.{HoldsText};
 ghost use Rattle.format.specs.Judge.{isKnown, isTop, shown, kindRules};
 ghost use Rattle.values.specs.Calls.{knownKind};
-ghost use Rattle.judge.specs.Says.{asKind, sorted, bare, checked, hasBit, after, ItemSays, Framed, OwnIs, Says};
+ghost use Rattle.judge.specs.Says.{asKind, sorted, bare, InForce, checked, hasBit, after, ItemSays, Framed, OwnIs, Says};
 use crate::Check;
 use crate::Item;
 use crate::Progress;
@@ -29,9 +30,7 @@ use octets::Header;
 use octets::read_header;
 use text::Weighed;
 use text::is_table;
-use text::tokens_of;
 use text::weigh;
-use text::widths_of;
 use values::Kind;
 use values::KnownKind;
 use values::fits_kind;
@@ -61,12 +60,19 @@ fn is_short(parent: u8, tag: u8, width: usize) -> bool
 }
 
 // Rules 10, 12 and 13, for text, in one look at it. No limit of rule 13 is as large as the most that is counted.
-fn check_text(parent: u8, tag: u8, place: usize, table: &[u8], body: &[u8]) -> Check
+fn check_text(
+    parent: u8,
+    tag: u8,
+    place: usize,
+    table: &[u8],
+    marks: u32,
+    widths: &[u8; 32],
+    body: &[u8],
+) -> Check
+    requires { ⌜ InForce (now table) marks (now widths) ⌝ }
     ensures { λ r. ⌜ checked r ≡ kindRules (bare parent (entries (now (table .entry)))) place tag (now (body .entry)) (some HoldsText) ⌝ }
 {
-    let marks = tokens_of(table);
-    let widths = widths_of(table);
-    match weigh(marks, &widths, body, 32_769) {
+    match weigh(marks, widths, body, 32_769) {
         Weighed::NoText => Check::Broken(Refusal { number: 10, place }),
         Weighed::Text { covered, width } => {
             if !is_held(parent, tag, covered) {
@@ -81,14 +87,24 @@ fn check_text(parent: u8, tag: u8, place: usize, table: &[u8], body: &[u8]) -> C
 }
 
 // Rules 9 to 13, for a kind.
-fn check_kind(kind: Kind, parent: u8, tag: u8, place: usize, table: &[u8], body: &[u8]) -> Check
+fn check_kind(
+    kind: Kind,
+    parent: u8,
+    tag: u8,
+    place: usize,
+    table: &[u8],
+    marks: u32,
+    widths: &[u8; 32],
+    body: &[u8],
+) -> Check
+    requires { ⌜ InForce (now table) marks (now widths) ⌝ }
     ensures { λ r. ⌜ checked r ≡ kindRules (bare parent (entries (now (table .entry)))) place tag (now (body .entry)) (some kind) ⌝ }
 {
     if !fits_kind(kind, body) {
         return Check::Broken(Refusal { number: 9, place });
     }
     match kind {
-        Kind::HoldsText => check_text(parent, tag, place, table, body),
+        Kind::HoldsText => check_text(parent, tag, place, table, marks, widths, body),
         Kind::HoldsTokens => {
             if is_table(body) {
                 return Check::Kept;
@@ -106,13 +122,16 @@ fn check_body(
     tag: u8,
     place: usize,
     table: &[u8],
+    marks: u32,
+    widths: &[u8; 32],
     body: &[u8],
 ) -> Check
+    requires { ⌜ InForce (now table) marks (now widths) ⌝ }
     ensures { λ r. ⌜ checked r ≡ kindRules (bare parent (entries (now (table .entry)))) place tag (now (body .entry)) (asKind known) ⌝ }
 {
     match known {
         KnownKind::Unknown => Check::Kept,
-        KnownKind::Known(kind) => check_kind(kind, parent, tag, place, table, body),
+        KnownKind::Known(kind) => check_kind(kind, parent, tag, place, table, marks, widths, body),
     }
 }
 
@@ -135,9 +154,12 @@ fn check_item(
     progress: Progress,
     place: usize,
     table: &[u8],
+    marks: u32,
+    widths: &[u8; 32],
     body: &[u8],
 ) -> Check
     requires { ⌜ known ≡ knownKind parent tag ⌝ }
+    requires { ⌜ InForce (now table) marks (now widths) ⌝ }
     ensures { λ r. ⌜ ItemSays parent tag left progress place (now (table .entry)) (now (body .entry)) r ⌝ }
 {
     if latest_of(tag) < progress.stage {
@@ -149,7 +171,7 @@ fn check_item(
     if is_twice(known, tag, progress.mask) {
         return Check::Broken(Refusal { number: 8, place });
     }
-    check_body(known, parent, tag, place, table, body)
+    check_body(known, parent, tag, place, table, marks, widths, body)
 }
 
 fn sort_of(known: KnownKind) -> Sort
@@ -184,8 +206,11 @@ fn judge_framed(
     left: u8,
     progress: Progress,
     table: &[u8],
+    marks: u32,
+    widths: &[u8; 32],
 ) -> Item
     requires { ⌜ Framed (now rest) start size × (place + length (now rest) ≤ 32_768) ⌝ }
+    requires { ⌜ InForce (now table) marks (now widths) ⌝ }
     ensures { λ r. ⌜ Says (OwnIs parent left progress (now (table .entry)) place (now (rest .entry))) parent progress (now (rest .entry)) r ⌝ }
 {
     if rest.len() - start < size {
@@ -211,6 +236,8 @@ fn judge_framed(
         progress,
         place,
         table,
+        marks,
+        widths,
         &rest[start..to],
     ) {
         Check::Broken(refusal) => Item::Bad(refusal),
@@ -226,8 +253,11 @@ pub fn judge_own(
     left: u8,
     progress: Progress,
     table: &[u8],
+    marks: u32,
+    widths: &[u8; 32],
 ) -> Item
     requires { ⌜ place + length (now rest) ≤ 32_768 ⌝ }
+    requires { ⌜ InForce (now table) marks (now widths) ⌝ }
     ensures { λ r. ⌜ Says (OwnIs parent left progress (now (table .entry)) place (now (rest .entry))) parent progress (now (rest .entry)) r ⌝ }
 {
     match read_header(rest) {
@@ -241,6 +271,8 @@ pub fn judge_own(
             left,
             progress,
             table,
+            marks,
+            widths,
         ),
     }
 }

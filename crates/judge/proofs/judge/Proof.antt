@@ -9,14 +9,20 @@ returns c = search (judge-ways, needs)
 returns-2 : tie.Need-returns-2
 returns-2 c = search (judge-ways, needs)
 
-sub-read-items : tie.Need-sub-read-items
-sub-read-items c = search needs
+sub-none : tie.Need-sub-none
+sub-none c = search needs
 
-part-read-items-start : tie.Need-part-read-items-start
-part-read-items-start c = search needs
+part-none-start : tie.Need-part-none-start
+part-none-start c = search needs
 
-part-read-items-end : tie.Need-part-read-items-end
-part-read-items-end c = search needs
+part-none-end : tie.Need-part-none-end
+part-none-end c = search needs
+
+tokens-of-requires : tie.Need-tokens-of-requires
+tokens-of-requires c κs = search needs
+
+widths-of-requires : tie.Need-widths-of-requires
+widths-of-requires c κs = search needs
 
 read-items-requires : tie.Need-read-items-requires
 read-items-requires c κs = search needs
@@ -30,8 +36,10 @@ judge-spec =
     (tie.spec
     returns
     returns-2
-    sub-read-items
-    part-read-items-start
-    part-read-items-end
+    sub-none
+    part-none-start
+    part-none-end
+    tokens-of-requires
+    widths-of-requires
     read-items-requires
     returns-3)

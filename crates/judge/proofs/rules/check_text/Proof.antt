@@ -4,12 +4,6 @@ use borrow.Author.Needs.{needs}
 use Rattle.judge.proofs.rules.check_text.Statement.{statement}
 use Rattle.judge.proofs.rules.check_text.Tie as tie
 
-tokens-of-requires : tie.Need-tokens-of-requires
-tokens-of-requires c κs = search needs
-
-widths-of-requires : tie.Need-widths-of-requires
-widths-of-requires c κs = search needs
-
 weigh-requires : tie.Need-weigh-requires
 weigh-requires c κs = search needs
 
@@ -41,8 +35,6 @@ pub check-text-spec : {M : Type 1} → statement M
 check-text-spec =
     tie.close
     (tie.spec
-    tokens-of-requires
-    widths-of-requires
     weigh-requires
     enum-told
     enum-known-covered

@@ -26,8 +26,8 @@ add-to c = search needs
 trails-requires : tie.Need-trails-requires
 trails-requires c κs = search needs
 
-add-t22 : tie.Need-add-t22
-add-t22 c = search needs
+add-t24 : tie.Need-add-t24
+add-t24 c = search needs
 
 returns-3 : tie.Need-returns-3
 returns-3 c = search (own-ways, not-false, needs)
@@ -63,8 +63,7 @@ returns-4 : tie.Need-returns-4
 returns-4 c = search (own-ways, not-false, needs)
 
 returns-5 : tie.Need-returns-5
-returns-5 c =
-    own-good _ _ _ _ _ _ _ _ ((c .before .before .before .before .before .before .before .before .before .before .before .before .before .before .before .pre) .0) ((c .before .before .before .before .before .before .before .before .before .before .before .before .if1) .left) _ refl _ ((c .before .before .before .before .before .before .before .before .before .before .is-allowed) .ensures) (not-false _ ((c .before .before .before .before .before .before .before .before .before .if2) .left)) _ ((c .before .before .before .before .before .before .before .before .trails) .ensures) ((c .before .before .before .before .before .before .before .if3) .left) _ ((c .before .before .before .before .check-item) .ensures) ((c .before .before .enum-told) .given .1) _ ((c .before .before .before .before .before .before .known-kind) .ensures) _ ((c .before .sort-of) .ensures) _ ((c .progress-after) .ensures)
+returns-5 c = own-good _ _ _ _ _ _ _ _ ((c .before .before .before .before .before .before .before .before .before .before .before .before .before .before .before .pre) .0 .0) ((c .before .before .before .before .before .before .before .before .before .before .before .before .if1) .left) _ refl _ ((c .before .before .before .before .before .before .before .before .before .before .is-allowed) .ensures) (not-false _ ((c .before .before .before .before .before .before .before .before .before .if2) .left)) _ ((c .before .before .before .before .before .before .before .before .trails) .ensures) ((c .before .before .before .before .before .before .before .if3) .left) _ ((c .before .before .before .before .check-item) .ensures) ((c .before .before .enum-told) .given .1) _ ((c .before .before .before .before .before .before .known-kind) .ensures) _ ((c .before .sort-of) .ensures) _ ((c .progress-after) .ensures)
 
 pub judge-framed-spec : {M : Type 1} → statement M
 judge-framed-spec =
@@ -77,7 +76,7 @@ judge-framed-spec =
     returns-2
     add-to
     trails-requires
-    add-t22
+    add-t24
     returns-3
     known-kind-requires
     sub-check-item
