@@ -1,6 +1,7 @@
 -- Only one answer: each claim gives an equation for the answer and one for each lent thing, and two things that equal a third are equal.
 use mathlib.Core.Path.{sym, _∙_}
-use Rattle.demands.specs.Only.{OneAnswer, OneRead, OneReadAtMost, OneReadRecords, OneWrite, OneNormalise, OneSame, OneOctetsPut, OneExpand, OneValuePut, OneShowPut, OneReadC, OneSpanC, OneWriteC, OneNormaliseC, OneSameC}
+use Rattle.demands.specs.Only.{OneAnswer, OneRead, OneReadAtMost, OneReadRecords, OneWrite, OneNormalise, OneSame, OneOctetsPut, OneIndex, OneExpand, OneValuePut, OneShowPut, OneReadC, OneSpanC, OneWriteC, OneNormaliseC, OneSameC}
+use Rattle.text.proofs.Index.{one-index as index-alone}
 
 pub one-answer : OneAnswer
 one-answer A claimed one other e f = e ∙ sym f
@@ -40,6 +41,9 @@ one-same a b lists oneLists otherLists store oneStore otherStore roomA oneA othe
 
 pub one-octets-put : OneOctetsPut
 one-octets-put exists octets at before one other answer answer′ c d = (one-answer _ _ answer answer′ (c .answers) (d .answers), one-answer _ _ one other (c .leaves) (d .leaves))
+
+pub one-index : OneIndex
+one-index = index-alone
 
 pub one-expand : OneExpand
 one-expand entries text before one other at answer answer′ c d = (one-answer _ _ answer answer′ (c .answers) (d .answers), one-answer _ _ one other (c .leaves) (d .leaves))

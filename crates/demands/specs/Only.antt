@@ -9,6 +9,7 @@ use Rattle.octets.specs.Calls.{Puts as OctetsPuts}
 use Rattle.text.specs.Tokens.{Entries}
 use Rattle.text.specs.declared.Expanded.{Expanded}
 use Rattle.text.specs.Calls.{ExpandClaim}
+use Rattle.text.specs.Index.{Indexes}
 use Rattle.values.specs.declared.Put.{Put as ValuesPut}
 use Rattle.values.specs.Calls.{Puts as ValuesPuts}
 use Rattle.format.specs.declared.Record.{Record}
@@ -72,6 +73,10 @@ OneOctetsPut =
     (exists : Bool) (octets : List ℕ) (at : ℕ) (before one other : List ℕ) (answer answer′ : OctetsPut)
     → OctetsPuts exists octets at before one answer → OctetsPuts exists octets at before other answer′
     → (answer ≡ answer′) × (one ≡ other)
+
+-- index_of
+abbrev pub OneIndex : Type 0
+OneIndex = (entries : Entries) (one other : List ℕ) → Indexes entries one → Indexes entries other → one ≡ other
 
 -- expand
 abbrev pub OneExpand : Type 0

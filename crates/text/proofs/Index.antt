@@ -519,7 +519,8 @@ module _ (table index : List ℕ) (made : Indexes (entries table) index) where
   indexed-expanded (b ∷ s) = ap₂ (λ p q. p ++ q) (stands-own b) (indexed-expanded s)
 
   -- so what `expand` answers by that index is what it says of the table
-  pub indexed-claim : (s out out′ : List ℕ) (at : ℕ) (answer : Expanded) → ExpandClaim (entriesBy index table) s out out′ at answer → ExpandClaim (entries table) s out out′ at answer
+  pub indexed-claim : (s out out′ : List ℕ) (at : ℕ) (answer : Expanded) → ExpandClaim (entriesBy index table) s out out′ at answer
+      → ExpandClaim (entries table) s out out′ at answer
   unfolding expandAnswer expandOut expandFits
   indexed-claim s out out′ at answer c =
       record { answers = c .answers ∙ rw (indexed-expanded s); leaves = c .leaves ∙ rw (indexed-expanded s) }

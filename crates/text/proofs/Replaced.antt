@@ -18,8 +18,8 @@ use Rattle.octets.proofs.Tests.{and-left, and-right, and-true, or-elim, or-left
 use Rattle.text.specs.Text.{token}
 use Rattle.text.specs.Tokens.{Entries, entry, stands, expanded, present, covers, covered, shownLength, expandedSize}
 use Rattle.text.specs.Calls.{expandFits, expandAnswer, expandOut}
-use Rattle.text.specs.Leaves.{tokenBit, widthBy, widthOf}
-use Rattle.text.specs.Weighing.{bit, Marks, tags, Widths}
+use Rattle.text.specs.Leaves.{tokenBit}
+use Rattle.text.specs.Weighing.{bit, Marks, tags, Widths, widthAt, weight}
 use Rattle.text.specs.Index.{placeBy, entriesBy}
 use Rattle.text.specs.Runs.{UntokenedTo}
 use Rattle.text.specs.declared.Expanded.the-variants.{Done, NoRoom}
@@ -28,8 +28,8 @@ use Rattle.text.specs.declared.expanding.Found.the-variants.{At, Nothing
 use Rattle.octets.proofs.Lists.{drop-next, sets-append}
 use Rattle.text.proofs.Masks.{bit-none, kept-within, within-kept, Marking, mark-begin, mark-done, mark-more}
 use Rattle.text.proofs.Index.{self-by, part-by, inside-by, width-by}
-use Rattle.text.proofs.Widths.{width-none, width-next, width-eight, width-of-is}
-use Rattle.text.proofs.RunLaws.{run-length, expanded-run, expanded-length-run, shown-run, size-run}
+use Rattle.text.proofs.Widths.{width-none, width-next, width-eight, weight-is}
+use Rattle.text.proofs.RunLaws.{run-length, expanded-run, expanded-length-run, shown-run, weight-run}
 
 -- ---- the loop of `tokens_in`
 pub record Gathering (s : List ℕ) (mask at : ℕ) : Type 0 where
@@ -127,36 +127,36 @@ leb-left n m l h = go (leb m (l - n)) refl
 
 pub record Fitting (w s : List ℕ) (from limit left at : ℕ) : Type 0 where
   pub within : at ≤ length s
-  pub same : leb (widthOf w (drop from s)) limit ≡ leb (widthOf w (drop at s)) left
+  pub same : leb (weight w (drop from s)) limit ≡ leb (weight w (drop at s)) left
 
 module _ (w s : List ℕ) (from limit : ℕ) where
   pub fit-begin : from ≤ length s → Fitting w s from limit limit from
   fit-begin h = record { within = h; same = refl }
 
   module _ (left at : ℕ) (inv : Fitting w s from limit left at) where
-    pub fit-done : length s ≤ at → true ≡ leb (widthOf w (drop from s)) limit
-    fit-done h = sym (inv .same ∙ le-leb (widthOf w (drop at s)) left (omega (arith, width-none w s at h)))
+    pub fit-done : length s ≤ at → true ≡ leb (weight w (drop from s)) limit
+    fit-done h = sym (inv .same ∙ le-leb (weight w (drop at s)) left (omega (arith, width-none w s at h)))
 
-    pub fit-rest : (r : Bool) → r ≡ leb (widthOf w (drop at s)) left → r ≡ leb (widthOf w (drop from s)) limit
+    pub fit-rest : (r : Bool) → r ≡ leb (weight w (drop at s)) left → r ≡ leb (weight w (drop from s)) limit
     fit-rest r e = e ∙ sym (inv .same)
 
     -- so many octets more, and their width
-    module _ (n size : ℕ) (next : widthOf w (drop at s) ≡ size + widthOf w (drop (at + n) s)) where
-      step-stop : left < size → false ≡ leb (widthOf w (drop from s)) limit
-      step-stop g = sym (inv .same ∙ lt-leb (widthOf w (drop at s)) left (omega (arith, next)))
+    module _ (n size : ℕ) (next : weight w (drop at s) ≡ size + weight w (drop (at + n) s)) where
+      step-stop : left < size → false ≡ leb (weight w (drop from s)) limit
+      step-stop g = sym (inv .same ∙ lt-leb (weight w (drop at s)) left (omega (arith, next)))
 
       step-again : at + n ≤ length s → size ≤ left → Fitting w s from limit (left - size) (at + n)
-      step-again h g = record { within = h; same = inv .same ∙ rw next (leb-left size (widthOf w (drop (at + n) s)) left g) }
+      step-again h g = record { within = h; same = inv .same ∙ rw next (leb-left size (weight w (drop (at + n) s)) left g) }
 
-    module _ (h : at < length s) (size : ℕ) (e : size ≡ widthBy w (getD s at 0)) where
-      pub fit-stop : left < size → false ≡ leb (widthOf w (drop from s)) limit
+    module _ (h : at < length s) (size : ℕ) (e : size ≡ widthAt w (getD s at 0) 1) where
+      pub fit-stop : left < size → false ≡ leb (weight w (drop from s)) limit
       fit-stop = step-stop 1 size (width-next w s at h size e)
 
       pub fit-again : size ≤ left → Fitting w s from limit (left - size) (at + 1)
       fit-again = step-again 1 size (width-next w s at h size e) (omega arith)
 
-    module _ (h : 8 ≤ length s - at) (size : ℕ) (e : size ≡ widthOf w (take 8 (take (length s - at) (drop at s)))) where
-      pub fit-eight-stop : left < size → false ≡ leb (widthOf w (drop from s)) limit
+    module _ (h : 8 ≤ length s - at) (size : ℕ) (e : size ≡ weight w (take 8 (take (length s - at) (drop at s)))) where
+      pub fit-eight-stop : left < size → false ≡ leb (weight w (drop from s)) limit
       fit-eight-stop = step-stop 8 size (width-eight w s at size e)
 
       pub fit-eight-again : size ≤ left → Fitting w s from limit (left - size) (at + 8)
@@ -186,9 +186,9 @@ module _ (es : Entries) (s : List ℕ) (limit : ℕ) where
           let none : length s ≤ from = omega arith in
           sym (shown-behind ∙ ap (λ q. leb (shownLength es q) (limit - from)) (drop-of-length-le s none) ∙ le-leb 0 (limit - from) (omega arith))
 
-      pub shown-from : (w : List ℕ) → Widths 32 es w → (r : Bool) → r ≡ leb (widthOf w (drop from s)) (limit - from) → r ≡ leb (shownLength es s) limit
+      pub shown-from : (w : List ℕ) → Widths 32 es w → (r : Bool) → r ≡ leb (weight w (drop from s)) (limit - from) → r ≡ leb (shownLength es s) limit
       unfolding shownLength
-      shown-from w widths r e = e ∙ rw (width-of-is es w widths (drop from s)) (sym shown-behind)
+      shown-from w widths r e = e ∙ rw (weight-is es w widths (drop from s)) (sym shown-behind)
 
 pub ruleset shown-ways = (shown-none, shown-past, shown-end, shown-from)
 
@@ -196,10 +196,10 @@ pub ruleset shown-ways = (shown-none, shown-past, shown-end, shown-from)
 pub record Sizing (w s : List ℕ) (whole most total at : ℕ) : Type 0 where
   pub within : at ≤ length s
   pub short : total ≤ most
-  pub same : total + widthOf w (drop at s) ≡ whole
+  pub same : total + weight w (drop at s) ≡ whole
 
 module _ (w s : List ℕ) (most : ℕ) where
-  pub size-begin : (before from : ℕ) → from ≤ length s → before ≤ most → Sizing w s (before + widthOf w (drop from s)) most before from
+  pub size-begin : (before from : ℕ) → from ≤ length s → before ≤ most → Sizing w s (before + weight w (drop from s)) most before from
   size-begin before from h g = record { within = h; short = g; same = refl }
 
   module _ (whole total at : ℕ) (inv : Sizing w s whole most total at) where
@@ -208,17 +208,17 @@ module _ (w s : List ℕ) (most : ℕ) where
         let all : total ≡ whole = omega (arith, inv .same, width-none w s at h) in
         sym (min-eq-right (omega (arith, inv .short)) ∙ sym all)
 
-    pub size-rest : (r : ℕ) → r ≡ min most (total + widthOf w (drop at s)) → r ≡ min most whole
+    pub size-rest : (r : ℕ) → r ≡ min most (total + weight w (drop at s)) → r ≡ min most whole
     size-rest r e = e ∙ ap (min most) (inv .same)
 
-    module _ (h : at < length s) (size : ℕ) (e : size ≡ widthBy w (getD s at 0)) where
+    module _ (h : at < length s) (size : ℕ) (e : size ≡ widthAt w (getD s at 0) 1) where
       pub size-stop : most - total ≤ size → most ≡ min most whole
       size-stop g = sym (min-eq-left (omega (arith, inv .short, inv .same, width-next w s at h size e)))
 
       pub size-again : size < most - total → Sizing w s whole most (total + size) (at + 1)
       size-again g = record { within = omega arith; short = omega arith; same = omega (arith, inv .same, width-next w s at h size e) }
 
-    module _ (h : 8 ≤ length s - at) (size : ℕ) (e : size ≡ widthOf w (take 8 (take (length s - at) (drop at s)))) where
+    module _ (h : 8 ≤ length s - at) (size : ℕ) (e : size ≡ weight w (take 8 (take (length s - at) (drop at s)))) where
       pub size-eight-stop : most - total ≤ size → most ≡ min most whole
       size-eight-stop g = sym (min-eq-left (omega (arith, inv .short, inv .same, width-eight w s at size e)))
 
@@ -230,26 +230,25 @@ pub ruleset size-ways = (size-begin, size-done, size-stop, size-again)
 pub ruleset size-eight-ways = (size-begin, size-rest, size-eight-stop, size-eight-again)
 
 -- ---- `expanded_size`
-module _ (es : Entries) (s : List ℕ) (most : ℕ) where
-  pub sized-none : length s ≡ 0 → 0 ≡ min most (expandedSize es s)
-  unfolding expandedSize expanded
-  sized-none e = let none : length s ≤ 0 = omega arith in sym (ap (λ q. min most (expandedSize es q)) (drop-of-length-le s none) ∙ min-eq-right (omega arith))
+module _ (w s : List ℕ) (most : ℕ) where
+  pub sized-none : length s ≡ 0 → 0 ≡ min most (weight w s)
+  unfolding weight
+  sized-none e = let none : length s ≤ 0 = omega arith in sym (ap (λ q. min most (weight w q)) (drop-of-length-le s none) ∙ min-eq-right (omega arith))
 
   module _ (from : ℕ) (run : UntokenedTo s 0 from) where
-    pub sized-past : most ≤ from → most ≡ min most (expandedSize es s)
-    sized-past g = sym (min-eq-left (omega (arith, size-run es s 0 from run)))
+    pub sized-past : most ≤ from → most ≡ min most (weight w s)
+    sized-past g = sym (min-eq-left (omega (arith, weight-run w s 0 from run)))
 
-    pub sized-end : from < most → from ≡ length s → from ≡ min most (expandedSize es s)
-    unfolding expandedSize expanded
+    pub sized-end : from < most → from ≡ length s → from ≡ min most (weight w s)
+    unfolding weight
     sized-end g e =
         let behind : length s ≤ from = omega arith in
-        let none : expandedSize es (drop from s) ≡ 0 = ap (expandedSize es) (drop-of-length-le s behind) in
-        let all : from ≡ expandedSize es s = omega (arith, size-run es s 0 from run) in
+        let none : weight w (drop from s) ≡ 0 = ap (weight w) (drop-of-length-le s behind) in
+        let all : from ≡ weight w s = omega (arith, weight-run w s 0 from run) in
         sym (min-eq-right (omega arith) ∙ sym all)
 
-    pub sized-from : (w : List ℕ) → Widths 32 es w → (r : ℕ) → r ≡ min most (from + widthOf w (drop from s)) → r ≡ min most (expandedSize es s)
-    unfolding expandedSize
-    sized-from w widths r e = e ∙ ap (min most) (omega (arith, width-of-is es w widths (drop from s), size-run es s 0 from run))
+    pub sized-from : (r : ℕ) → r ≡ min most (from + weight w (drop from s)) → r ≡ min most (weight w s)
+    sized-from r e = e ∙ ap (min most) (omega (arith, weight-run w s 0 from run))
 
 pub ruleset sized-ways = (sized-none, sized-past, sized-end, sized-from)
 

@@ -11,9 +11,11 @@ use borrow.Author.Tests.{leb-true}
 use Rattle.octets.proofs.Tests.{and-left, and-right, and-true}
 use Rattle.octets.proofs.Lists.{part-to-end, part-split, length-part, drop-next}
 use Rattle.text.specs.Text.{utf8, text}
-use Rattle.text.specs.Tokens.{Entries, expanded, covered, shownLength, expandedSize}
+use Rattle.text.specs.Tokens.{Entries, expanded, covered, shownLength}
 use Rattle.text.specs.Leaves.{onward, Steps}
 use Rattle.text.specs.Runs.{within, allWithin, RunTo, PlainTo, UntokenedTo}
+use Rattle.text.specs.Weighing.{widthAt, weight}
+use Rattle.text.proofs.Widths.{width-high}
 use Rattle.text.proofs.Words.{high-octet, covered-cons}
 use Rattle.text.proofs.Laws.{ascii-text, expanded-append, bare-expanded}
 
@@ -113,6 +115,22 @@ no-tokens (b ∷ p) h =
     let w = bounds 0x14 0xFF b (and-left (within 0x14 0xFF b) (allWithin 0x14 0xFF p) h) in
     covered-cons b p (high-octet b (omega arith)) (no-tokens p (and-right (within 0x14 0xFF b) (allWithin 0x14 0xFF p) h))
 
+-- each of them has the width 1
+pub run-weight : (w : List ℕ) (least most : ℕ) → 0x14 ≤ least → (p r : List ℕ) → allWithin least most p ≡ true → weight w (p ++ r) ≡ length p + weight w r
+unfolding allWithin weight
+run-weight w least most high [] r h = omega arith
+run-weight w least most high (b ∷ p) r h =
+    omega
+    (arith,
+    width-high w b 1 (omega (arith, bounds least most b (and-left (within least most b) (allWithin least most p) h) .0)),
+    run-weight w least most high p r (and-right (within least most b) (allWithin least most p) h))
+
+pub weight-run : (w s : List ℕ) (at end : ℕ) → UntokenedTo s at end → weight w (drop at s) ≡ end - at + weight w (drop end s)
+weight-run w s at end run =
+    ap (weight w) (run-split 0x14 0xFF s at end run)
+    ∙ run-weight w 0x14 0xFF (omega arith) (take (end - at) (drop at s)) (drop end s) (run .all)
+    ∙ ap (λ (n : ℕ). n + weight w (drop end s)) (run-length 0x14 0xFF s at end run)
+
 module _ (es : Entries) (s : List ℕ) (at end : ℕ) (run : UntokenedTo s at end) where
   bare : covered [] (take (end - at) (drop at s)) ≡ true
   bare = no-tokens (take (end - at) (drop at s)) (run .all)
@@ -131,10 +149,6 @@ module _ (es : Entries) (s : List ℕ) (at end : ℕ) (run : UntokenedTo s at en
   pub shown-run : shownLength es (drop at s) ≡ end - at + shownLength es (drop end s)
   unfolding shownLength
   shown-run = expanded-length-run
-
-  pub size-run : expandedSize es (drop at s) ≡ end - at + expandedSize es (drop end s)
-  unfolding expandedSize
-  size-run = expanded-length-run
 
 -- ---- the loop of `check`
 pub record Holds (t : Bool) (s : List ℕ) (at : ℕ) : Type 0 where

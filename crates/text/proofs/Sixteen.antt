@@ -1,4 +1,4 @@
--- A token table has at most sixteen entries: what looking up a token costs.
+-- A token table has at most sixteen entries: what going through one costs.
 use mathlib.Core.Path.{_≡_, refl, sym, ap, _∙_}
 use mathlib.Core.Bool.{Bool, true, false, cond, not, _&&_, _||_, false≢true}
 use mathlib.Core.List.{List, [], _∷_}

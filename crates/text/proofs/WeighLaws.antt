@@ -24,9 +24,9 @@ use Rattle.text.specs.declared.Weighed.{Weighed}
 use Rattle.text.specs.declared.Weighed.the-variants.{NoText, Text}
 use Rattle.text.proofs.Words.{high-octet}
 use Rattle.text.proofs.Masks.{bit-none, mark-one, kept-within, within-kept}
-use Rattle.text.proofs.Widths.{high-width}
+use Rattle.text.proofs.Widths.{weight-is}
 use Rattle.text.proofs.Replaced.{tag-present}
-use Rattle.text.proofs.RunLaws.{run-split, run-length, bounds, Holds, check-done, check-stop, check-again, behind}
+use Rattle.text.proofs.RunLaws.{run-split, run-length, run-weight, bounds, Holds, check-done, check-stop, check-again, behind}
 
 -- ---- `is_marked`
 own-bit : (b t : ℕ) → bit (tokenBit b) t ≡ token t && eqb t b
@@ -54,37 +54,17 @@ marked-is marks b own e = rw e (go (eqb (bitAnd (tokenBit b) marks) (tokenBit b)
     go false p true k true q = absurd (eqb-false (bitAnd (tokenBit b) marks) (tokenBit b) p (holds (λ z. q)))
     go false p false k m q = absurd (eqb-false (bitAnd (tokenBit b) marks) (tokenBit b) p (holds (λ z. absurd (false≢true (sym k ∙ z)))))
 
--- ---- `width_at`
-module _ (w : List ℕ) (b n : ℕ) where
-  pub width-low : b < 0x14 → (place r : ℕ) → place ≡ b → r ≡ getD w place 0 → r ≡ widthAt w b n
-  unfolding widthAt
-  width-low h place r e f = f ∙ rw (e, lt-ltb b 0x14 h)
-
-  pub width-high : 0x14 ≤ b → n ≡ widthAt w b n
-  unfolding widthAt
-  width-high h = rw (le-ltb b 0x14 h)
-
--- ---- octets above the tokens: each has the width 1 and wants no entry
-module _ (marks : ℕ) (w : List ℕ) (least most : ℕ) (high : 0x14 ≤ least) where
+-- ---- octets above the tokens want no entry
+module _ (marks : ℕ) (least most : ℕ) (high : 0x14 ≤ least) where
   high-marked : (b : ℕ) → within least most b ≡ true → marked marks b ≡ true
   unfolding marked
   high-marked b h = rw (high-octet b (omega (arith, bounds least most b h .0)))
-
-  high-one : (b : ℕ) → within least most b ≡ true → widthAt w b 1 ≡ 1
-  high-one b h = sym (width-high w b 1 (omega (arith, bounds least most b h .0)))
 
   run-covered : (p r : List ℕ) → allWithin least most p ≡ true → coveredBy marks (p ++ r) ≡ coveredBy marks r
   unfolding allWithin coveredBy
   run-covered [] r h = refl
   run-covered (b ∷ p) r h =
       rw (high-marked b (and-left (within least most b) (allWithin least most p) h)) (run-covered p r (and-right (within least most b) (allWithin least most p) h))
-
-  run-weight : (p r : List ℕ) → allWithin least most p ≡ true → weight w (p ++ r) ≡ length p + weight w r
-  unfolding allWithin weight
-  run-weight [] r h = omega arith
-  run-weight (b ∷ p) r h =
-      omega
-      (arith, high-one b (and-left (within least most b) (allWithin least most p) h), run-weight p r (and-right (within least most b) (allWithin least most p) h))
 
 -- ---- the character with which a text begins: its first octet, the others, and what comes behind them
 first-split : (q : List ℕ) (n : ℕ) → 0 < length q → (n ≡ 0 → ⊥) → q ≡ getD q 0 0 ∷ (take (n - 1) (drop 1 q) ++ drop n q)
@@ -97,7 +77,7 @@ module _ (marks : ℕ) (w q : List ℕ) (n : ℕ) (step : Steps true q n) (h : 0
   unfolding coveredBy
   first-covers =
       ap (coveredBy marks) (first-split q n h e)
-      ∙ ap (λ c. marked marks (getD q 0 0) && c) (run-covered marks w 0x80 0xBF (omega arith) (take (n - 1) (drop 1 q)) (drop n q) (step .high))
+      ∙ ap (λ c. marked marks (getD q 0 0) && c) (run-covered marks 0x80 0xBF (omega arith) (take (n - 1) (drop 1 q)) (drop n q) (step .high))
 
   tail-length : length (take (n - 1) (drop 1 q)) ≡ n - 1
   tail-length = length-take-le (n - 1) (drop 1 q) (omega (arith, step .within, length-drop 1 q))
@@ -114,7 +94,7 @@ module _ (marks : ℕ) (w q : List ℕ) (n : ℕ) (step : Steps true q n) (h : 0
   unfolding weight
   first-weighs =
       ap (weight w) (first-split q n h e)
-      ∙ omega (arith, run-weight marks w 0x80 0xBF (omega arith) (take (n - 1) (drop 1 q)) (drop n q) (step .high), tail-length, first-width)
+      ∙ omega (arith, run-weight w 0x80 0xBF (omega arith) (take (n - 1) (drop 1 q)) (drop n q) (step .high), tail-length, first-width)
 
 -- ---- sums that stop
 pub min-again : (most a b : ℕ) → min most (min most a + b) ≡ min most (a + b)
@@ -184,14 +164,14 @@ module _ (marks : ℕ) (w s : List ℕ) (most : ℕ) where
           let part = take (from - at) (drop at s) in
           let split = run-split 0x20 0x7F s at from run in
           let more : width + weight w (drop at s) ≡ width + (from - at) + weight w (drop from s) =
-          omega (arith, ap (weight w) split ∙ run-weight marks w 0x20 0x7F (omega arith) part (drop from s) (run .all), run-length 0x20 0x7F s at from run) in
+          omega (arith, ap (weight w) split ∙ run-weight w 0x20 0x7F (omega arith) part (drop from s) (run .all), run-length 0x20 0x7F s at from run) in
           record {
             within = run .inside;
             same = behind true s at from (in-text at covers width inv) run .same;
             short = g;
             covering =
                 inv .covering
-                ∙ ap (λ c. covers && c) (ap (coveredBy marks) split ∙ run-covered marks w 0x20 0x7F (omega arith) part (drop from s) (run .all));
+                ∙ ap (λ c. covers && c) (ap (coveredBy marks) split ∙ run-covered marks 0x20 0x7F (omega arith) part (drop from s) (run .all));
             weighing =
                 inv .weighing ∙ ap (min most) more ∙ sym (min-again most (width + (from - at)) (weight w (drop from s)))
                 ∙ ap (λ (n : ℕ). min most (n + weight w (drop from s))) (sym e);
@@ -249,16 +229,6 @@ covered-by-is es marks m (b ∷ s) =
     one : (k : Bool) → token b ≡ k → not (token b) || bit marks b ≡ not (token b) || present (entry es b)
     one true k = rw (m .bits b, tag-present es b, k)
     one false k = rw k
-
-pub weight-is : (es : Entries) (w : List ℕ) → Widths 32 es w → (s : List ℕ) → weight w s ≡ shownLength es s
-unfolding weight widthAt shownLength expanded
-weight-is es w known [] = refl
-weight-is es w known (b ∷ s) =
-    ap₂ (λ (m n : ℕ). m + n) (one (ltb b 0x14) refl) (weight-is es w known s) ∙ sym (length-append (stands es b) (expanded es s))
-  where
-    one : (l : Bool) → ltb b 0x14 ≡ l → widthAt w b 1 ≡ length (stands es b)
-    one true e = rw e (known .each b (omega (arith, ltb-true b 0x14 e)))
-    one false e = rw e (sym (high-width es b (omega (arith, ltb-false b 0x14 e))))
 
 -- ---- what the answer of `weigh` tells, by the marks and widths of a table
 module _ (es : Entries) (marks : ℕ) (w : List ℕ) (m : Marks marks (tags es)) (k : Widths 32 es w) (s : List ℕ) (most : ℕ)

@@ -1,21 +1,20 @@
 -- How many octets stand for each octet: what `entry_widths` knows on its walk over the table, and a text measured by its answer.
-use Prim.Native.Nat.{ℕ, _+_, _-_, _/_, _^_, _≤_, _<_, min}
+use Prim.Native.Nat.{ℕ, _+_, _-_, _/_, _^_, _≤_, _<_}
 use mathlib.Core.Path.{_≡_, refl, sym, ap, ap₂, subst, _∙_}
 use mathlib.Core.List.{List, [], _∷_, _++_}
 use mathlib.Core.Bool.{Bool, true, false, cond, not, _&&_, _||_}
 use lib.ListN.{length, getD, take, drop, set, replicate, length-set, length-append, drop-of-length-le, getD-replicate, take-append-drop}
 use lib.Seq.{drop-drop, getD-set-same, getD-set-other}
-use lib.Dec.{eqb, leb}
+use lib.Dec.{eqb, ltb}
 use lib.Bits.{bitOr, bitAnd}
-use native.Mathlib.Nat.{min-eq-left, min-eq-right}
 use native.Mathlib.Omega.{arith}
-use borrow.Author.Tests.{eqb-true, eqb-false, ne-eqb, leb-true, leb-false}
+use borrow.Author.Tests.{eqb-true, eqb-false, ne-eqb, lt-ltb, le-ltb, ltb-true, ltb-false}
 use Rattle.octets.proofs.Tests.{and-false, cond-same}
 use Rattle.octets.proofs.Lists.{part-to-end, drop-next}
 use Rattle.text.specs.Text.{token}
-use Rattle.text.specs.Tokens.{Entries, entries, cut, entry, orItself, stands, expanded}
-use Rattle.text.specs.Leaves.{ahead, tokenBit, placeOf, widthBy, widthOf}
-use Rattle.text.specs.Weighing.{bit, Widths}
+use Rattle.text.specs.Tokens.{Entries, entries, cut, entry, orItself, stands, expanded, shownLength}
+use Rattle.text.specs.Leaves.{ahead, tokenBit, placeOf}
+use Rattle.text.specs.Weighing.{bit, Widths, widthAt, weight}
 use Rattle.text.specs.declared.tables.Piece.{Piece}
 use Rattle.text.specs.declared.tables.Piece.the-variants.{Past, Entry}
 use Rattle.text.proofs.Words.{high-octet}
@@ -186,24 +185,22 @@ whole-widths es w known = record { long = length-set w 31 1 ∙ known .long; eac
 
 pub ruleset measure-ways = (measure-begin, measure-done, measure-past, measure-again, place-inside, length-inside, next-fits, next-fits-2)
 
--- ---- `width_by`: the choice of two numbers, and the load
-module _ (w : List ℕ) (b k place r : ℕ) (e : place ≡ k) (f : r ≡ getD w place 0) where
-  chosen : k ≡ min b 0x14 → r ≡ widthBy w b
-  unfolding widthBy
-  chosen q = f ∙ ap (λ (n : ℕ). getD w n 0) (e ∙ q)
+-- ---- `width_by` and `width_at`
+module _ (w : List ℕ) (b n : ℕ) where
+  pub width-low : b < 0x14 → (place r : ℕ) → place ≡ b → r ≡ getD w place 0 → r ≡ widthAt w b n
+  unfolding widthAt
+  width-low h place r e f = f ∙ rw (e, lt-ltb b 0x14 h)
 
-  pub width-low : b < 0x14 → k ≡ b → r ≡ widthBy w b
-  width-low h q = chosen (q ∙ sym (min-eq-left (omega arith)))
-
-  pub width-high : 0x14 ≤ b → k ≡ 0x14 → r ≡ widthBy w b
-  width-high h q = chosen (q ∙ sym (min-eq-right h))
+  pub width-high : 0x14 ≤ b → n ≡ widthAt w b n
+  unfolding widthAt
+  width-high h = rw (le-ltb b 0x14 h)
 
 -- ---- `width_of_eight`
 pub eight-widths : (w s : List ℕ) → 8 ≤ length s → (a b c d e f g h : ℕ)
-    → a ≡ widthBy w (getD s 0 0) → b ≡ widthBy w (getD s 1 0) → c ≡ widthBy w (getD s 2 0) → d ≡ widthBy w (getD s 3 0)
-    → e ≡ widthBy w (getD s 4 0) → f ≡ widthBy w (getD s 5 0) → g ≡ widthBy w (getD s 6 0) → h ≡ widthBy w (getD s 7 0)
-    → a + b + c + d + e + f + g + h ≡ widthOf w (take 8 s)
-unfolding widthOf
+    → a ≡ widthAt w (getD s 0 0) 1 → b ≡ widthAt w (getD s 1 0) 1 → c ≡ widthAt w (getD s 2 0) 1 → d ≡ widthAt w (getD s 3 0) 1
+    → e ≡ widthAt w (getD s 4 0) 1 → f ≡ widthAt w (getD s 5 0) 1 → g ≡ widthAt w (getD s 6 0) 1 → h ≡ widthAt w (getD s 7 0) 1
+    → a + b + c + d + e + f + g + h ≡ weight w (take 8 s)
+unfolding weight
 eight-widths w (i ∷ j ∷ k ∷ l ∷ m ∷ n ∷ o ∷ p ∷ s) z a b c d e f g h ea eb ec ed ee ef eg eh = omega arith
 eight-widths w [] z a b c d e f g h ea eb ec ed ee ef eg eh = absurd (omega arith)
 eight-widths w (i ∷ []) z a b c d e f g h ea eb ec ed ee ef eg eh = absurd (omega arith)
@@ -215,39 +212,33 @@ eight-widths w (i ∷ j ∷ k ∷ l ∷ m ∷ n ∷ []) z a b c d e f g h ea eb 
 eight-widths w (i ∷ j ∷ k ∷ l ∷ m ∷ n ∷ o ∷ []) z a b c d e f g h ea eb ec ed ee ef eg eh = absurd (omega arith)
 
 -- ---- the width of a text at a place: that of the octets there, one or eight, and that of what comes after them
-width-append : (w a b : List ℕ) → widthOf w (a ++ b) ≡ widthOf w a + widthOf w b
-unfolding widthOf
+width-append : (w a b : List ℕ) → weight w (a ++ b) ≡ weight w a + weight w b
+unfolding weight
 width-append w [] b = omega arith
 width-append w (x ∷ a) b = omega (arith, width-append w a b)
 
 module _ (w s : List ℕ) (at : ℕ) where
-  pub width-none : length s ≤ at → widthOf w (drop at s) ≡ 0
-  unfolding widthOf
-  width-none h = ap (widthOf w) (drop-of-length-le s h)
+  pub width-none : length s ≤ at → weight w (drop at s) ≡ 0
+  unfolding weight
+  width-none h = ap (weight w) (drop-of-length-le s h)
 
-  pub width-next : at < length s → (size : ℕ) → size ≡ widthBy w (getD s at 0) → widthOf w (drop at s) ≡ size + widthOf w (drop (at + 1) s)
-  unfolding widthOf
-  width-next h size e = ap (widthOf w) (drop-next s at 0 h) ∙ rw e
+  pub width-next : at < length s → (size : ℕ) → size ≡ widthAt w (getD s at 0) 1 → weight w (drop at s) ≡ size + weight w (drop (at + 1) s)
+  unfolding weight
+  width-next h size e = ap (weight w) (drop-next s at 0 h) ∙ rw e
 
-  pub width-eight : (size : ℕ) → size ≡ widthOf w (take 8 (take (length s - at) (drop at s))) → widthOf w (drop at s) ≡ size + widthOf w (drop (at + 8) s)
+  pub width-eight : (size : ℕ) → size ≡ weight w (take 8 (take (length s - at) (drop at s))) → weight w (drop at s) ≡ size + weight w (drop (at + 8) s)
   width-eight size e =
-      ap (widthOf w) (sym (take-append-drop 8 (drop at s)))
+      ap (weight w) (sym (take-append-drop 8 (drop at s)))
       ∙ width-append w (take 8 (drop at s)) (drop 8 (drop at s))
-      ∙ ap₂ (λ (m n : ℕ). m + n) (sym (e ∙ ap (λ q. widthOf w (take 8 q)) (part-to-end s at))) (ap (widthOf w) (drop-drop 8 at s))
+      ∙ ap₂ (λ (m n : ℕ). m + n) (sym (e ∙ ap (λ q. weight w (take 8 q)) (part-to-end s at))) (ap (weight w) (drop-drop 8 at s))
 
 -- ---- a text by such widths
-module _ (es : Entries) (w : List ℕ) (widths : Widths 32 es w) where
-  width-is : (b : ℕ) → widthBy w b ≡ length (stands es b)
-  unfolding widthBy
-  width-is b = go (leb b 0x14) refl
-    where
-      go : (l : Bool) → leb b 0x14 ≡ l → getD w (min b 0x14) 0 ≡ length (stands es b)
-      go true e = ap (λ (n : ℕ). getD w n 0) (min-eq-left (leb-true b 0x14 e)) ∙ widths .each b (omega (arith, leb-true b 0x14 e))
-      go false e =
-          let above : 0x14 < b = omega (arith, leb-false b 0x14 e) in
-          ap (λ (n : ℕ). getD w n 0) (min-eq-right (omega arith)) ∙ widths .each 0x14 (omega arith) ∙ high-width es 0x14 (omega arith) ∙ sym (high-width es b (omega arith))
-
-  pub width-of-is : (s : List ℕ) → widthOf w s ≡ length (expanded es s)
-  unfolding widthOf expanded
-  width-of-is [] = refl
-  width-of-is (b ∷ s) = ap₂ (λ (m n : ℕ). m + n) (width-is b) (width-of-is s) ∙ sym (length-append (stands es b) (expanded es s))
+pub weight-is : (es : Entries) (w : List ℕ) → Widths 32 es w → (s : List ℕ) → weight w s ≡ shownLength es s
+unfolding weight widthAt shownLength expanded
+weight-is es w known [] = refl
+weight-is es w known (b ∷ s) =
+    ap₂ (λ (m n : ℕ). m + n) (one (ltb b 0x14) refl) (weight-is es w known s) ∙ sym (length-append (stands es b) (expanded es s))
+  where
+    one : (l : Bool) → ltb b 0x14 ≡ l → widthAt w b 1 ≡ length (stands es b)
+    one true e = rw e (known .each b (omega (arith, ltb-true b 0x14 e)))
+    one false e = rw e (sym (high-width es b (omega (arith, ltb-false b 0x14 e))))

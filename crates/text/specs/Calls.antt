@@ -13,7 +13,7 @@ use Rattle.text.specs.declared.Expanded.the-variants.{Done, NoRoom}
 use Rattle.text.specs.declared.expanding.Found.{Found}
 use Rattle.text.specs.declared.expanding.Found.the-variants.{At, Nothing}
 
--- find: where the text of the first entry with a tag stands in its table (document 01, Values: Tokens), among entries of which the first begins at a place.
+-- where the text of the first entry with a tag stands in its table (document 01, Values: Tokens), among entries of which the first begins at a place.
 -- Each takes a tag octet and a length octet before its text
 unfoldable pub found : ℕ → Entries → ℕ → Found
 found at [] tag = Nothing

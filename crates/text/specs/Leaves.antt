@@ -91,11 +91,3 @@ replacedBy es b = cond (token b) (found 0 es b) Nothing
 unfoldable pub placeOf : ℕ → ℕ → ℕ
 placeOf seen tag = cond (token tag && not (bit seen tag)) tag 31
 
--- the width of an octet by such widths: those above the tokens all have that of the first of them
-unfoldable pub widthBy : List ℕ → ℕ → ℕ
-widthBy widths b = getD widths (min b 0x14) 0
-
--- the width of a text, octet by octet
-unfoldable pub widthOf : List ℕ → List ℕ → ℕ
-widthOf widths [] = 0
-widthOf widths (b ∷ bs) = widthBy widths b + widthOf widths bs

@@ -10,8 +10,7 @@ ghost use lib.ListN.{length, take, drop};
 ghost use lib.Seq.{sets};
 ghost use Rattle.text.specs.Tokens.{entries, stands, expanded, covered, shownLength, expandedSize};
 ghost use Rattle.text.specs.Calls.{ExpandClaim};
-ghost use Rattle.text.specs.Leaves.{widthBy, widthOf};
-ghost use Rattle.text.specs.Weighing.{Marks};
+ghost use Rattle.text.specs.Weighing.{Marks, widthAt, weight};
 ghost use Rattle.text.specs.Index.{placeBy, entriesBy, Bounds};
 use crate::Expanded;
 use crate::characters::is_token;
@@ -46,20 +45,21 @@ pub fn is_covered(table: &[u8], s: &[u8]) -> bool
     used & tokens_of(table) == used
 }
 
-// How many octets stand for an octet, by the widths of a table. Octets above the last token all have the width of 0x14. Where tokens stand
-// follows no rule, and a processor would often guess a branch wrong: here is a choice between two numbers, and one load.
+// How many octets stand for an octet, by the widths of a table. Where tokens stand follows no rule, and a processor would often guess a branch
+// wrong: here are choices between two numbers, and one load, at a place that there is for every octet.
 fn width_by(widths: &[u8; 32], b: u8) -> usize
-    ensures { λ r. ⌜ r ≡ widthBy (now (widths .entry)) b ⌝ }
+    ensures { λ r. ⌜ r ≡ widthAt (now (widths .entry)) b 1 ⌝ }
     ensures { λ r. ⌜ r < 256 ⌝ }
 {
     let k = if b < 0x14 { b } else { 0x14 };
-    size_of(widths[size_of(k)])
+    let width = size_of(widths[size_of(k)]);
+    if b < 0x14 { width } else { 1 }
 }
 
 // The width of the first eight octets. Nothing is decided between them, and one test of their sum serves for all eight.
 fn width_of_eight(widths: &[u8; 32], s: &[u8]) -> usize
     requires { ⌜ 8 ≤ length (now s) ⌝ }
-    ensures { λ r. ⌜ r ≡ widthOf (now (widths .entry)) (take 8 (now (s .entry))) ⌝ }
+    ensures { λ r. ⌜ r ≡ weight (now (widths .entry)) (take 8 (now (s .entry))) ⌝ }
 {
     width_by(widths, s[0])
         + width_by(widths, s[1])
@@ -75,7 +75,7 @@ fn width_of_eight(widths: &[u8; 32], s: &[u8]) -> usize
 // large, and stops where the text passes it.
 fn fits_singly(widths: &[u8; 32], s: &[u8], from: usize, limit: usize) -> bool
     requires { ⌜ from ≤ length (now s) ⌝ }
-    ensures { λ r. ⌜ r ≡ leb (widthOf (now (widths .entry)) (drop from (now (s .entry)))) limit ⌝ }
+    ensures { λ r. ⌜ r ≡ leb (weight (now (widths .entry)) (drop from (now (s .entry)))) limit ⌝ }
 {
     let mut left = limit;
     let mut at = from;
@@ -93,7 +93,7 @@ fn fits_singly(widths: &[u8; 32], s: &[u8], from: usize, limit: usize) -> bool
 // The same by eights as far as they go, and then by single octets.
 fn fits_from(widths: &[u8; 32], s: &[u8], from: usize, limit: usize) -> bool
     requires { ⌜ from ≤ length (now s) ⌝ }
-    ensures { λ r. ⌜ r ≡ leb (widthOf (now (widths .entry)) (drop from (now (s .entry)))) limit ⌝ }
+    ensures { λ r. ⌜ r ≡ leb (weight (now (widths .entry)) (drop from (now (s .entry)))) limit ⌝ }
 {
     let mut left = limit;
     let mut at = from;
@@ -132,7 +132,7 @@ pub fn is_shown(table: &[u8], s: &[u8], limit: usize) -> bool
 fn size_singly(widths: &[u8; 32], s: &[u8], from: usize, before: usize, most: usize) -> usize
     requires { ⌜ from ≤ length (now s) ⌝ }
     requires { ⌜ before ≤ most ⌝ }
-    ensures { λ r. ⌜ r ≡ min most (before + widthOf (now (widths .entry)) (drop from (now (s .entry)))) ⌝ }
+    ensures { λ r. ⌜ r ≡ min most (before + weight (now (widths .entry)) (drop from (now (s .entry)))) ⌝ }
 {
     let mut total = before;
     let mut at = from;
@@ -152,7 +152,7 @@ fn size_singly(widths: &[u8; 32], s: &[u8], from: usize, before: usize, most: us
 fn size_from(widths: &[u8; 32], s: &[u8], from: usize, most: usize) -> usize
     requires { ⌜ from ≤ length (now s) ⌝ }
     requires { ⌜ from ≤ most ⌝ }
-    ensures { λ r. ⌜ r ≡ min most (from + widthOf (now (widths .entry)) (drop from (now (s .entry)))) ⌝ }
+    ensures { λ r. ⌜ r ≡ min most (from + weight (now (widths .entry)) (drop from (now (s .entry)))) ⌝ }
 {
     let mut total = from;
     let mut at = from;
@@ -167,9 +167,10 @@ fn size_from(widths: &[u8; 32], s: &[u8], from: usize, most: usize) -> usize
     size_singly(widths, s, at, total, most)
 }
 
-// How many octets the expansion of a text takes, or `most` where that is less. Here too the run with which the text begins needs no table.
-pub fn expanded_size(table: &[u8], s: &[u8], most: usize) -> usize
-    ensures { λ r. ⌜ r ≡ min most (expandedSize (entries (now (table .entry))) (now (s .entry))) ⌝ }
+// How many octets the expansion of a text takes, by the widths of a table, or `most` where that is less. The run with which the text begins needs
+// no widths.
+pub fn expanded_size(widths: &[u8; 32], s: &[u8], most: usize) -> usize
+    ensures { λ r. ⌜ r ≡ min most (weight (now (widths .entry)) (now (s .entry))) ⌝ }
 {
     if s.len() == 0 {
         return 0;
@@ -181,8 +182,7 @@ pub fn expanded_size(table: &[u8], s: &[u8], most: usize) -> usize
     if from == s.len() {
         return from;
     }
-    let widths = widths_of(table);
-    size_from(&widths, s, from, most)
+    size_from(widths, s, from, most)
 }
 
 // A part, written from a place on.

@@ -128,6 +128,7 @@ fn longer(a: usize, b: usize) -> usize
 
 // A table gone through once, so that `expand` finds an entry without a search. At the place of a token stands where the text of its first entry begins
 // in the table, or 0 where it has no entry: no text begins there. At the place of 0, which is no token, stands how many octets the longest text has.
+// It takes a step for each entry, and a table that passes `is_table` has at most 16 (proofs/Sixteen, sixteen).
 pub fn index_of(table: &[u8]) -> [usize; 32]
     ensures { λ r. ⌜ Indexes (entries (now (table .entry))) r ⌝ }
 {

@@ -12,6 +12,7 @@ use Rattle.text.specs.Tokens.{Entries, entries, expanded}
 use Rattle.text.specs.declared.Expanded.{Expanded}
 use Rattle.text.specs.declared.Expanded.the-variants as ofText
 use Rattle.text.specs.Calls.{ExpandClaim}
+use Rattle.text.specs.Index.{Indexes, entriesBy}
 use Rattle.values.specs.declared.Kind.{Kind}
 use Rattle.values.specs.declared.Kind.the-variants.{HoldsItems, HoldsTokens, HoldsText, HoldsPlain, HoldsTime, HoldsBearer, HoldsNumber}
 use Rattle.values.specs.declared.Put.{Put}
@@ -22,18 +23,23 @@ use Rattle.format.specs.Judge.{isText}
 use Rattle.format.specs.Loaded.{stored}
 use Rattle.writer.specs.Store.{ValueStorable, BodyStorable, BodyStored}
 use Rattle.text.proofs.Laws.{done-end, done-out, none-room}
+use Rattle.text.proofs.Index.{indexed-claim}
 use Rattle.values.proofs.Laws.{normal-proper}
 use Rattle.values.proofs.Laws as laws
 use Rattle.format.proofs.Means.{text-known}
 
 -- ---- a text
 
-module _ (T : Entries) (body store store′ : List ℕ) (at : ℕ) (answer : Expanded) (claim : ExpandClaim T body store store′ at answer) where
-  pub text-done : (end : ℕ) → answer ≡ ofText.Done end → BodyStored (expanded T body) store store′ at end
-  text-done end q = record { ends = done-end T body store store′ at answer claim end q; holds = done-out T body store store′ at answer claim end q }
+module _ (index table body store store′ : List ℕ) (at : ℕ) (answer : Expanded) (by-index : ExpandClaim (entriesBy index table) body store store′ at answer)
+    (made : Indexes (entries table) index) where
+  claim : ExpandClaim (entries table) body store store′ at answer
+  claim = indexed-claim table index made body store store′ at answer by-index
 
-  pub text-no-room : answer ≡ ofText.NoRoom → at + length (expanded T body) ≤ length store → BodyStored (expanded T body) store store′ at at
-  text-no-room q h = absurd (omega (arith, none-room T body store store′ at answer claim q))
+  pub text-done : (end : ℕ) → answer ≡ ofText.Done end → BodyStored (expanded (entries table) body) store store′ at end
+  text-done end q = record { ends = done-end (entries table) body store store′ at answer claim end q; holds = done-out (entries table) body store store′ at answer claim end q }
+
+  pub text-no-room : answer ≡ ofText.NoRoom → at + length (expanded (entries table) body) ≤ length store → BodyStored (expanded (entries table) body) store store′ at at
+  text-no-room q h = absurd (omega (arith, none-room (entries table) body store store′ at answer claim q))
 
 -- ---- a value
 

@@ -1,8 +1,9 @@
 // The loaded tree of an object, laid in one walk: the records into the lists, and each text and value into the store, one behind the other in record order. The
-// object is known to be accepted and to fit, so nothing is judged and nothing refused here.
+// object is known to be accepted and to fit, so nothing is judged and nothing refused here. The token table is gone through once, for its index.
 // Cost: each item is looked at once, and what is stored of it is written once.
 ghost use mathlib.Core.Path.{_≡_};
 ghost use Rattle.text.specs.Tokens.{entries};
+ghost use Rattle.text.specs.Index.{Indexes};
 ghost use Rattle.values.specs.Table.{known};
 ghost use Rattle.format.specs.Calls.{put};
 ghost use Rattle.format.specs.Lent.{lent};
@@ -12,6 +13,7 @@ use format::kind_of;
 use survey::Lies;
 use survey::item_at;
 use survey::table_of;
+use text::index_of;
 use values::Kind;
 use values::KnownKind;
 use values::known_kind;
@@ -86,6 +88,7 @@ fn lay_value(
     kind: Kind,
     tag: u8,
     body: &[u8],
+    index: &[usize; 32],
     table: &[u8],
     level: Level,
     done: Laid,
@@ -98,11 +101,12 @@ fn lay_value(
     store: &mut [u8],
 ) -> Laid
     requires { ⌜ ValueLayable (entries (now table)) kind level done (now body) (lent tags kinds depths parents starts sizes) (now store) ⌝ }
+    requires { ⌜ Indexes (entries (now table)) (now index) ⌝ }
     ensures { λ r. ⌜ ValueLays (entries (now (table .entry))) kind tag level done (now (body .entry)) (lent (tags .entry) (kinds .entry) (depths .entry) (parents .entry) (starts .entry) (sizes .entry)) (lent (tags .exit) (kinds .exit) (depths .exit) (parents .exit) (starts .exit) (sizes .exit)) (now (store .entry)) (now (store .exit)) r ⌝ }
 {
     let n = done.next;
     let at = done.end;
-    let end = store_body(kind, table, body, store, at);
+    let end = store_body(kind, index, table, body, store, at);
     put_record(
         tags,
         kinds,
@@ -123,6 +127,7 @@ fn lay_value(
 fn lay_inside(
     tag: u8,
     body: &[u8],
+    index: &[usize; 32],
     table: &[u8],
     level: Level,
     done: Laid,
@@ -135,6 +140,7 @@ fn lay_inside(
     store: &mut [u8],
 ) -> Laid
     requires { ⌜ InsideLayable (entries (now table)) level done tag (now body) (lent tags kinds depths parents starts sizes) (now store) ⌝ }
+    requires { ⌜ Indexes (entries (now table)) (now index) ⌝ }
     ensures { λ r. ⌜ ItemLays (entries (now (table .entry))) level done tag (now (body .entry)) (lent (tags .entry) (kinds .entry) (depths .entry) (parents .entry) (starts .entry) (sizes .entry)) (lent (tags .exit) (kinds .exit) (depths .exit) (parents .exit) (starts .exit) (sizes .exit)) (now (store .entry)) (now (store .exit)) r ⌝ }
 {
     let n = done.next;
@@ -162,6 +168,7 @@ fn lay_inside(
     };
     lay_items(
         body,
+        index,
         table,
         inner,
         begun,
@@ -179,6 +186,7 @@ fn lay_inside(
 fn lay_item(
     tag: u8,
     body: &[u8],
+    index: &[usize; 32],
     table: &[u8],
     level: Level,
     done: Laid,
@@ -191,6 +199,7 @@ fn lay_item(
     store: &mut [u8],
 ) -> Laid
     requires { ⌜ ItemLayable (entries (now table)) level done tag (now body) (lent tags kinds depths parents starts sizes) (now store) ⌝ }
+    requires { ⌜ Indexes (entries (now table)) (now index) ⌝ }
     ensures { λ r. ⌜ ItemLays (entries (now (table .entry))) level done tag (now (body .entry)) (lent (tags .entry) (kinds .entry) (depths .entry) (parents .entry) (starts .entry) (sizes .entry)) (lent (tags .exit) (kinds .exit) (depths .exit) (parents .exit) (starts .exit) (sizes .exit)) (now (store .entry)) (now (store .exit)) r ⌝ }
 {
     match piece_of(level.element, tag) {
@@ -198,6 +207,7 @@ fn lay_item(
         Piece::Inside => lay_inside(
             tag,
             body,
+            index,
             table,
             level,
             done,
@@ -213,6 +223,7 @@ fn lay_item(
             kind,
             tag,
             body,
+            index,
             table,
             level,
             done,
@@ -230,6 +241,7 @@ fn lay_item(
 // The items in a part.
 fn lay_items(
     part: &[u8],
+    index: &[usize; 32],
     table: &[u8],
     level: Level,
     before: Laid,
@@ -242,6 +254,7 @@ fn lay_items(
     store: &mut [u8],
 ) -> Laid
     requires { ⌜ ItemsLayable (entries (now table)) level before (now part) (lent tags kinds depths parents starts sizes) (now store) ⌝ }
+    requires { ⌜ Indexes (entries (now table)) (now index) ⌝ }
     ensures { λ r. ⌜ ItemsLay (entries (now (table .entry))) level before (now (part .entry)) (lent (tags .entry) (kinds .entry) (depths .entry) (parents .entry) (starts .entry) (sizes .entry)) (lent (tags .exit) (kinds .exit) (depths .exit) (parents .exit) (starts .exit) (sizes .exit)) (now (store .entry)) (now (store .exit)) r ⌝ }
 {
     let mut done = before;
@@ -255,6 +268,7 @@ fn lay_items(
         done = lay_item(
             tag,
             body,
+            index,
             table,
             level,
             done,
@@ -286,6 +300,7 @@ pub fn lay(
     ensures { λ r. ⌜ LaysTree (now (object .entry)) (lent (tags .entry) (kinds .entry) (depths .entry) (parents .entry) (starts .entry) (sizes .entry)) (lent (tags .exit) (kinds .exit) (depths .exit) (parents .exit) (starts .exit) (sizes .exit)) (now (store .entry)) (now (store .exit)) r ⌝ }
 {
     let table = table_of(object);
+    let index = index_of(table);
     let top = Level {
         element: 0,
         number: 0,
@@ -294,6 +309,7 @@ pub fn lay(
     let none = Laid { next: 0, end: 0 };
     let all = lay_items(
         object,
+        &index,
         table,
         top,
         none,

@@ -4,6 +4,7 @@ ghost use mathlib.Core.Option.{some};
 ghost use Prim.Native.Nat.{_+_, _≤_};
 ghost use lib.ListN.{length};
 ghost use Rattle.text.specs.Tokens.{entries, expanded};
+ghost use Rattle.text.specs.Index.{Indexes};
 ghost use Rattle.values.specs.Calls.{normalOctets};
 ghost use Rattle.format.specs.Judge.{isText};
 ghost use Rattle.format.specs.Loaded.{stored};
@@ -28,12 +29,13 @@ fn is_text(kind: Kind) -> bool
     }
 }
 
-// A text's expansion, written from a place on where it fits, and the place after it.
-fn store_text(table: &[u8], body: &[u8], store: &mut [u8], at: usize) -> usize
+// A text's expansion, by the index of the table in force: written from a place on where it fits, and the place after it.
+fn store_text(index: &[usize; 32], table: &[u8], body: &[u8], store: &mut [u8], at: usize) -> usize
     requires { ⌜ at + length (expanded (entries (now table)) (now body)) ≤ length (now store) ⌝ }
+    requires { ⌜ Indexes (entries (now table)) (now index) ⌝ }
     ensures { λ r. ⌜ BodyStored (expanded (entries (now (table .entry))) (now (body .entry))) (now (store .entry)) (now (store .exit)) at r ⌝ }
 {
-    match expand(table, body, store, at) {
+    match expand(index, table, body, store, at) {
         Expanded::Done(end) => end,
         Expanded::NoRoom => at,
     }
@@ -51,12 +53,20 @@ fn store_value(kind: Kind, body: &[u8], store: &mut [u8], at: usize) -> usize
     }
 }
 
-pub fn store_body(kind: Kind, table: &[u8], body: &[u8], store: &mut [u8], at: usize) -> usize
+pub fn store_body(
+    kind: Kind,
+    index: &[usize; 32],
+    table: &[u8],
+    body: &[u8],
+    store: &mut [u8],
+    at: usize,
+) -> usize
     requires { ⌜ BodyStorable (now table) kind (now body) (now store) at ⌝ }
+    requires { ⌜ Indexes (entries (now table)) (now index) ⌝ }
     ensures { λ r. ⌜ BodyStored (stored (entries (now (table .entry))) (some kind) (now (body .entry))) (now (store .entry)) (now (store .exit)) at r ⌝ }
 {
     if is_text(kind) {
-        return store_text(table, body, store, at);
+        return store_text(index, table, body, store, at);
     }
     store_value(kind, body, store, at)
 }

@@ -15,9 +15,6 @@ returns-2 c = search (sized-ways, needs)
 returns-3 : tie.Need-returns-3
 returns-3 c = search (sized-ways, needs)
 
-widths-of-requires : tie.Need-widths-of-requires
-widths-of-requires c κs = search needs
-
 size-from-requires : tie.Need-size-from-requires
 size-from-requires c κs = search needs
 
@@ -27,11 +24,4 @@ returns-4 c = search (sized-ways, needs)
 pub expanded-size-spec : {M : Type 1} → statement M
 expanded-size-spec =
     tie.close
-    (tie.spec
-    returns
-    untokened-end-requires
-    returns-2
-    returns-3
-    widths-of-requires
-    size-from-requires
-    returns-4)
+    (tie.spec returns untokened-end-requires returns-2 returns-3 size-from-requires returns-4)

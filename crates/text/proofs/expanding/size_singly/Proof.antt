@@ -1,13 +1,13 @@
 use Prim.Native.Nat.{_+_, _-_}
 use lib.ListN.{length, drop}
-use Rattle.text.specs.Leaves.{widthOf}
+use Rattle.text.specs.Weighing.{weight}
 use Rattle.text.proofs.Replaced.{Sizing, size-ways}
 use borrow.Author.Needs.{needs}
 use Rattle.text.proofs.expanding.size_singly.Statement.{statement}
 use Rattle.text.proofs.expanding.size_singly.Tie as tie
 
 abbrev Inv-loop : tie.InvT-loop
-Inv-loop widths s from before most total₀ at₀ total at = Sizing widths s (before + widthOf widths (drop from s)) most total at
+Inv-loop widths s from before most total₀ at₀ total at = Sizing widths s (before + weight widths (drop from s)) most total at
 
 abbrev μ-loop : tie.MeasureT-loop
 μ-loop widths s from before most total₀ at₀ total at = length s - at

@@ -1,4 +1,5 @@
 use native.Mathlib.Omega.{arith}
+use mathlib.Core.Path.{_∙_}
 use mathlib.Core.Logic.{⊎-elim}
 use Rattle.text.proofs.Widths.{width-low, width-high}
 use borrow.Author.Needs.{needs}
@@ -16,16 +17,20 @@ size-of-requires-2 c κs = search needs
 
 returns : tie.Need-returns
 returns c =
-    let joined = c .before .before .before in
+    let joined = c .before .before .before .before in
     let args = joined .before .args in
-    let place = c .before .before .size-of in (
+    let place = c .before .before .before .size-of in (
       ⊎-elim
-          (λ w. width-low (args .widths .now) (args .b) _ _ _ (place .ensures .0) (c .size-of2 .ensures .0) (w .0 .taken) (w .1))
-          (λ w. width-high (args .widths .now) (args .b) _ _ _ (place .ensures .0) (c .size-of2 .ensures .0) (w .0 .left) (w .1))
+          (λ w. width-low (args .widths .now) (args .b) 1 (c .if2 .taken) _ _ (place .ensures .0 ∙ w .1) (c .before .size-of2 .ensures .0))
+          (λ w. absurd (omega (arith, c .if2 .taken, w .0 .left)))
           (joined .if1 .came),
-      c .size-of2 .ensures .1,
+      c .before .size-of2 .ensures .1,
     )
+
+returns-2 : tie.Need-returns-2
+returns-2 c = let args = c .before .before .before .before .before .args in (width-high (args .widths .now) (args .b) 1 (c .if2 .left), omega arith)
 
 pub width-by-spec : {M : Type 1} → statement M
 width-by-spec =
-    tie.close (tie.spec size-of-requires element-copy-out-size-of size-of-requires-2 returns)
+    tie.close
+    (tie.spec size-of-requires element-copy-out-size-of size-of-requires-2 returns returns-2)

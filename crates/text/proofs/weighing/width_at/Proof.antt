@@ -1,4 +1,4 @@
-use Rattle.text.proofs.WeighLaws.{width-low, width-high}
+use Rattle.text.proofs.Widths.{width-low, width-high}
 use borrow.Author.Needs.{needs}
 use Rattle.text.proofs.weighing.width_at.Statement.{statement}
 use Rattle.text.proofs.weighing.width_at.Tie as tie

@@ -27,36 +27,36 @@ use Rattle.survey.proofs.item_at.Reads as item-at-reads
 use Rattle.writer.proofs.lay.+lay_inside+lay_item+lay_items.{statement}
 use Rattle.writer.proofs.lay.+lay_inside+lay_item+lay_items.Tie.{close}
 
-abbrev μ-lay-inside : Measures 9 lay-inside-kinds.ps ℕ
-μ-lay-inside κs a = 3 * (17 - a .1 .1 .1 .0 .depth)
+abbrev μ-lay-inside : Measures 10 lay-inside-kinds.ps ℕ
+μ-lay-inside κs a = 3 * (17 - a .1 .1 .1 .1 .0 .depth)
 
-abbrev μ-lay-item : Measures 9 lay-item-kinds.ps ℕ
-μ-lay-item κs a = 3 * (17 - a .1 .1 .1 .0 .depth) + 1
+abbrev μ-lay-item : Measures 10 lay-item-kinds.ps ℕ
+μ-lay-item κs a = 3 * (17 - a .1 .1 .1 .1 .0 .depth) + 1
 
-abbrev μ-lay-items : Measures 9 lay-items-kinds.ps ℕ
-μ-lay-items κs a = 3 * (17 - a .1 .1 .0 .depth) + 2
+abbrev μ-lay-items : Measures 10 lay-items-kinds.ps ℕ
+μ-lay-items κs a = 3 * (17 - a .1 .1 .1 .0 .depth) + 2
 
-abbrev lay-inside-at : ℕ → In 9 lay-inside-kinds.ps
+abbrev lay-inside-at : ℕ → In 10 lay-inside-kinds.ps
 lay-inside-at t =
-    and 9 lay-inside-kinds.ps (is 9 lay-inside-kinds.ps μ-lay-inside t) lay-inside.Pre
+    and 10 lay-inside-kinds.ps (is 10 lay-inside-kinds.ps μ-lay-inside t) lay-inside.Pre
 
-abbrev lay-inside-below : ℕ → In 9 lay-inside-kinds.ps
+abbrev lay-inside-below : ℕ → In 10 lay-inside-kinds.ps
 lay-inside-below t =
-    and 9 lay-inside-kinds.ps (falls 9 lay-inside-kinds.ps _<_ μ-lay-inside t) lay-inside.Pre
+    and 10 lay-inside-kinds.ps (falls 10 lay-inside-kinds.ps _<_ μ-lay-inside t) lay-inside.Pre
 
-abbrev lay-item-at : ℕ → In 9 lay-item-kinds.ps
-lay-item-at t = and 9 lay-item-kinds.ps (is 9 lay-item-kinds.ps μ-lay-item t) lay-item.Pre
+abbrev lay-item-at : ℕ → In 10 lay-item-kinds.ps
+lay-item-at t = and 10 lay-item-kinds.ps (is 10 lay-item-kinds.ps μ-lay-item t) lay-item.Pre
 
-abbrev lay-item-below : ℕ → In 9 lay-item-kinds.ps
+abbrev lay-item-below : ℕ → In 10 lay-item-kinds.ps
 lay-item-below t =
-    and 9 lay-item-kinds.ps (falls 9 lay-item-kinds.ps _<_ μ-lay-item t) lay-item.Pre
+    and 10 lay-item-kinds.ps (falls 10 lay-item-kinds.ps _<_ μ-lay-item t) lay-item.Pre
 
-abbrev lay-items-at : ℕ → In 9 lay-items-kinds.ps
-lay-items-at t = and 9 lay-items-kinds.ps (is 9 lay-items-kinds.ps μ-lay-items t) lay-items.Pre
+abbrev lay-items-at : ℕ → In 10 lay-items-kinds.ps
+lay-items-at t = and 10 lay-items-kinds.ps (is 10 lay-items-kinds.ps μ-lay-items t) lay-items.Pre
 
-abbrev lay-items-below : ℕ → In 9 lay-items-kinds.ps
+abbrev lay-items-below : ℕ → In 10 lay-items-kinds.ps
 lay-items-below t =
-    and 9 lay-items-kinds.ps (falls 9 lay-items-kinds.ps _<_ μ-lay-items t) lay-items.Pre
+    and 10 lay-items-kinds.ps (falls 10 lay-items-kinds.ps _<_ μ-lay-items t) lay-items.Pre
 
 lay-inside-put-record-requires : (t : ℕ) → lay-inside-lts.Need-put-record-requires (
   put-record-reads.Asked,
@@ -65,16 +65,7 @@ lay-inside-put-record-requires : (t : ℕ) → lay-inside-lts.Need-put-record-re
   lay-items.Post,
 ) (lay-inside-at t) lay-inside.Post
 lay-inside-put-record-requires t c κs =
-    inside-placeable _ _ _ _ _ _ _ ((c .before .before .before .before .before .before .before .before .before .before .before .before .before .before .before .pre) .1)
-
-lay-inside-add-t29 : (t : ℕ) → lay-inside-lts.Need-add-t29 (
-  put-record-reads.Asked,
-  put-record-reads.Learnt,
-  lay-items-below t,
-  lay-items.Post,
-) (lay-inside-at t) lay-inside.Post
-lay-inside-add-t29 t c =
-    inside-deeper _ _ _ _ _ _ _ ((c .before .before .before .before .before .before .before .before .before .before .before .before .before .before .before .before .before .before .before .before .before .before .before .before .before .before .before .before .before .pre) .1)
+    inside-placeable _ _ _ _ _ _ _ ((c .before .before .before .before .before .before .before .before .before .before .before .before .before .before .before .pre) .1 .0)
 
 lay-inside-add-t30 : (t : ℕ) → lay-inside-lts.Need-add-t30 (
   put-record-reads.Asked,
@@ -83,7 +74,16 @@ lay-inside-add-t30 : (t : ℕ) → lay-inside-lts.Need-add-t30 (
   lay-items.Post,
 ) (lay-inside-at t) lay-inside.Post
 lay-inside-add-t30 t c =
-    inside-next _ _ _ _ _ _ _ ((c .before .before .before .before .before .before .before .before .before .before .before .before .before .before .before .before .before .before .before .before .before .before .before .before .before .before .before .before .before .pre) .1)
+    inside-deeper _ _ _ _ _ _ _ ((c .before .before .before .before .before .before .before .before .before .before .before .before .before .before .before .before .before .before .before .before .before .before .before .before .before .before .before .before .before .pre) .1 .0)
+
+lay-inside-add-t31 : (t : ℕ) → lay-inside-lts.Need-add-t31 (
+  put-record-reads.Asked,
+  put-record-reads.Learnt,
+  lay-items-below t,
+  lay-items.Post,
+) (lay-inside-at t) lay-inside.Post
+lay-inside-add-t31 t c =
+    inside-next _ _ _ _ _ _ _ ((c .before .before .before .before .before .before .before .before .before .before .before .before .before .before .before .before .before .before .before .before .before .before .before .before .before .before .before .before .before .pre) .1 .0)
 
 lay-inside-lay-items-requires : (t : ℕ) → lay-inside-lts.Need-lay-items-requires (
   put-record-reads.Asked,
@@ -92,7 +92,7 @@ lay-inside-lay-items-requires : (t : ℕ) → lay-inside-lts.Need-lay-items-requ
   lay-items.Post,
 ) (lay-inside-at t) lay-inside.Post
 lay-inside-lay-items-requires t c κs =
-    (omega (arith, (c .before .before .before .before .before .before .before .before .before .before .before .before .before .before .before .before .before .before .before .before .before .before .before .before .before .before .before .before .before .before .before .before .before .before .before .before .pre) .0, inside-deep _ _ _ _ _ _ _ ((c .before .before .before .before .before .before .before .before .before .before .before .before .before .before .before .before .before .before .before .before .before .before .before .before .before .before .before .before .before .before .before .before .before .before .before .before .pre) .1)), inside-can _ _ _ _ _ _ _ ((c .before .before .before .before .before .before .before .before .before .before .before .before .before .before .before .before .before .before .before .before .before .before .before .before .before .before .before .before .before .before .before .before .before .before .before .before .pre) .1) _ ((c .before .before .before .before .before .before .before .before .before .before .before .before .before .before .before .before .before .before .before .before .put-record) .ensures))
+    (omega (arith, (c .before .before .before .before .before .before .before .before .before .before .before .before .before .before .before .before .before .before .before .before .before .before .before .before .before .before .before .before .before .before .before .before .before .before .before .before .pre) .0, inside-deep _ _ _ _ _ _ _ ((c .before .before .before .before .before .before .before .before .before .before .before .before .before .before .before .before .before .before .before .before .before .before .before .before .before .before .before .before .before .before .before .before .before .before .before .before .pre) .1 .0)), (inside-can _ _ _ _ _ _ _ ((c .before .before .before .before .before .before .before .before .before .before .before .before .before .before .before .before .before .before .before .before .before .before .before .before .before .before .before .before .before .before .before .before .before .before .before .before .pre) .1 .0) _ ((c .before .before .before .before .before .before .before .before .before .before .before .before .before .before .before .before .before .before .before .before .put-record) .ensures), (c .before .before .before .before .before .before .before .before .before .before .before .before .before .before .before .before .before .before .before .before .before .before .before .before .before .before .before .before .before .before .before .before .before .before .before .before .pre) .1 .1))
 
 lay-inside-same-length : (t : ℕ) → lay-inside-lts.Need-same-length (
   put-record-reads.Asked,
@@ -164,7 +164,7 @@ lay-inside-returns : (t : ℕ) → lay-inside-lts.Need-returns (
   lay-items.Post,
 ) (lay-inside-at t) lay-inside.Post
 lay-inside-returns t c =
-    inside-laid _ _ _ _ _ _ _ ((c .before .before .before .before .before .before .before .before .before .before .before .before .before .before .before .before .before .before .before .before .before .before .before .before .before .before .before .before .before .before .before .before .before .before .before .before .before .before .before .before .before .before .before .before .before .before .before .before .before .before .before .pre) .1) _ ((c .before .before .before .before .before .before .before .before .before .before .before .before .before .before .before .before .before .before .before .before .before .before .before .before .before .before .before .before .before .before .before .before .before .before .before .put-record) .ensures) _ _ _ ((c .before .before .before .before .before .before .before .before .before .before .before .before .before .before .lay-items) .ensures)
+    inside-laid _ _ _ _ _ _ _ ((c .before .before .before .before .before .before .before .before .before .before .before .before .before .before .before .before .before .before .before .before .before .before .before .before .before .before .before .before .before .before .before .before .before .before .before .before .before .before .before .before .before .before .before .before .before .before .before .before .before .before .before .pre) .1 .0) _ ((c .before .before .before .before .before .before .before .before .before .before .before .before .before .before .before .before .before .before .before .before .before .before .before .before .before .before .before .before .before .before .before .before .before .before .before .put-record) .ensures) _ _ _ ((c .before .before .before .before .before .before .before .before .before .before .before .before .before .before .lay-items) .ensures)
 
 lay-item-piece-of-requires : (t : ℕ) → lay-item-lts.Need-piece-of-requires (
   piece-of-reads.Asked,
@@ -208,7 +208,7 @@ lay-item-lay-inside-requires : (t : ℕ) → lay-item-lts.Need-lay-inside-requir
   lay-value-reads.Learnt,
 ) (lay-item-at t) lay-item.Post
 lay-item-lay-inside-requires t c κs =
-    (omega (arith, (c .before .before .before .before .before .before .before .before .before .before .before .before .before .before .before .before .before .before .before .pre) .0), item-inside-can _ _ _ _ _ _ _ ((c .before .before .before .before .before .before .before .before .before .before .before .before .before .before .before .before .before .before .before .pre) .1) _ ((c .before .before .before .before .before .before .before .before .before .piece-of) .ensures) ((c .before .before .before .before .before .before .before .enum-told2) .given .1))
+    (omega (arith, (c .before .before .before .before .before .before .before .before .before .before .before .before .before .before .before .before .before .before .before .pre) .0), (item-inside-can _ _ _ _ _ _ _ ((c .before .before .before .before .before .before .before .before .before .before .before .before .before .before .before .before .before .before .before .pre) .1 .0) _ ((c .before .before .before .before .before .before .before .before .before .piece-of) .ensures) ((c .before .before .before .before .before .before .before .enum-told2) .given .1), (c .before .before .before .before .before .before .before .before .before .before .before .before .before .before .before .before .before .before .before .pre) .1 .1))
 
 lay-item-enum-known-kind : (t : ℕ) → lay-item-lts.Need-enum-known-kind (
   piece-of-reads.Asked,
@@ -230,7 +230,7 @@ lay-item-lay-value-requires : (t : ℕ) → lay-item-lts.Need-lay-value-requires
   lay-value-reads.Learnt,
 ) (lay-item-at t) lay-item.Post
 lay-item-lay-value-requires t c κs =
-    item-value-can _ _ _ _ _ _ _ ((c .before .before .before .before .before .before .before .before .before .before .before .before .before .before .before .before .before .before .before .before .pre) .1) _ ((c .before .before .before .before .before .before .before .before .before .before .piece-of) .ensures) _ ((c .before .before .before .before .before .before .before .before .kind) .given .1)
+    (item-value-can _ _ _ _ _ _ _ ((c .before .before .before .before .before .before .before .before .before .before .before .before .before .before .before .before .before .before .before .before .pre) .1 .0) _ ((c .before .before .before .before .before .before .before .before .before .before .piece-of) .ensures) _ ((c .before .before .before .before .before .before .before .before .kind) .given .1), (c .before .before .before .before .before .before .before .before .before .before .before .before .before .before .before .before .before .before .before .before .pre) .1 .1)
 
 lay-item-returns : (t : ℕ) → lay-item-lts.Need-returns (
   piece-of-reads.Asked,
@@ -241,7 +241,7 @@ lay-item-returns : (t : ℕ) → lay-item-lts.Need-returns (
   lay-value-reads.Learnt,
 ) (lay-item-at t) lay-item.Post
 lay-item-returns t c =
-    item-nothing _ _ _ _ _ _ _ ((c .before .before .before .before .before .before .before .before .before .before .before .before .pre) .1) _ ((c .before .before .piece-of) .ensures) ((c .enum-told) .given .1)
+    item-nothing _ _ _ _ _ _ _ ((c .before .before .before .before .before .before .before .before .before .before .before .before .pre) .1 .0) _ ((c .before .before .piece-of) .ensures) ((c .enum-told) .given .1)
 
 lay-item-same-length : (t : ℕ) → lay-item-lts.Need-same-length (
   piece-of-reads.Asked,
@@ -417,14 +417,14 @@ lay-item-returns-3 : (t : ℕ) → lay-item-lts.Need-returns-3 (
   lay-value-reads.Learnt,
 ) (lay-item-at t) lay-item.Post
 lay-item-returns-3 t c =
-    item-value _ _ _ _ _ _ _ ((c .before .before .before .before .before .before .before .before .before .before .before .before .before .before .before .before .before .before .before .before .before .before .before .before .before .before .before .before .before .before .before .before .before .before .before .pre) .1) _ ((c .before .before .before .before .before .before .before .before .before .before .before .before .before .before .before .before .before .before .before .before .before .before .before .before .before .piece-of) .ensures) _ ((c .before .before .before .before .before .before .before .before .before .before .before .before .before .before .before .before .before .before .before .before .before .before .before .kind) .given .1) _ _ _ ((c .before .before .before .before .before .before .before .before .before .before .before .before .before .before .lay-value) .ensures)
+    item-value _ _ _ _ _ _ _ ((c .before .before .before .before .before .before .before .before .before .before .before .before .before .before .before .before .before .before .before .before .before .before .before .before .before .before .before .before .before .before .before .before .before .before .before .pre) .1 .0) _ ((c .before .before .before .before .before .before .before .before .before .before .before .before .before .before .before .before .before .before .before .before .before .before .before .before .before .piece-of) .ensures) _ ((c .before .before .before .before .before .before .before .before .before .before .before .before .before .before .before .before .before .before .before .before .before .before .before .kind) .given .1) _ _ _ ((c .before .before .before .before .before .before .before .before .before .before .before .before .before .before .lay-value) .ensures)
 
 abbrev lay-items-Inv-loop : lay-items-lts.InvT-loop
-lay-items-Inv-loop part table level tags₀ kinds₀ depths₀ parents₀ starts₀ sizes₀ store₀ done₀ at₀ tags kinds depths parents starts sizes store done at =
+lay-items-Inv-loop part index table level tags₀ kinds₀ depths₀ parents₀ starts₀ sizes₀ store₀ done₀ at₀ tags kinds depths parents starts sizes store done at =
     Walks (entries table) level done₀ part (six tags₀ kinds₀ depths₀ parents₀ starts₀ sizes₀) store₀ done at (six tags kinds depths parents starts sizes) store
 
 abbrev lay-items-μ-loop : lay-items-lts.MeasureT-loop
-lay-items-μ-loop part table level tags₀ kinds₀ depths₀ parents₀ starts₀ sizes₀ store₀ done₀ at₀ tags kinds depths parents starts sizes store done at =
+lay-items-μ-loop part index table level tags₀ kinds₀ depths₀ parents₀ starts₀ sizes₀ store₀ done₀ at₀ tags kinds depths parents starts sizes store done at =
     length part - at
 
 lay-items-loop-holds : (t : ℕ) → lay-items-lts.Need-loop-holds (
@@ -434,7 +434,7 @@ lay-items-loop-holds : (t : ℕ) → lay-items-lts.Need-loop-holds (
   lay-item.Post,
 ) (lay-items-at t) lay-items.Post lay-items-Inv-loop lay-items-μ-loop
 lay-items-loop-holds t c =
-    begin _ _ _ _ _ _ ((c .before .before .before .before .before .before .before .before .before .pre) .1)
+    begin _ _ _ _ _ _ ((c .before .before .before .before .before .before .before .before .before .pre) .1 .0)
 
 lay-items-item-at-requires : (t : ℕ) → lay-items-lts.Need-item-at-requires (
   item-at-reads.Asked,
@@ -577,7 +577,7 @@ lay-items-lay-item-requires : (t : ℕ) → lay-items-lts.Need-lay-item-requires
   lay-item.Post,
 ) (lay-items-at t) lay-items.Post lay-items-Inv-loop lay-items-μ-loop
 lay-items-lay-item-requires t c κs =
-    (omega (arith, (c .before .before .before .before .before .before .before .before .before .before .before .before .before .before .before .before .before .before .before .before .before .before .before .before .pre) .0), item-can _ _ _ _ _ _ _ _ _ _ ((c .before .before .before .before .before .before .before .before .before .before .before .before .before .before .loop) .inv) ((c .before .before .before .before .before .before .before .before .before .before .before .before .before .loop-test) .taken) _ ((c .before .before .before .before .before .before .before .before .before .before .before .before .item-at) .ensures) _ _ ((c .before .before .before .before .before .before .before .before .before .before .from) .given .1))
+    (omega (arith, (c .before .before .before .before .before .before .before .before .before .before .before .before .before .before .before .before .before .before .before .before .before .before .before .before .pre) .0), (item-can _ _ _ _ _ _ _ _ _ _ ((c .before .before .before .before .before .before .before .before .before .before .before .before .before .before .loop) .inv) ((c .before .before .before .before .before .before .before .before .before .before .before .before .before .loop-test) .taken) _ ((c .before .before .before .before .before .before .before .before .before .before .before .before .item-at) .ensures) _ _ ((c .before .before .before .before .before .before .before .before .before .before .from) .given .1), (c .before .before .before .before .before .before .before .before .before .before .before .before .before .before .before .before .before .before .before .before .before .before .before .before .pre) .1 .1))
 
 lay-items-loop-less : (t : ℕ) → lay-items-lts.Need-loop-less (
   item-at-reads.Asked,
@@ -680,8 +680,8 @@ pub +lay-inside+lay-item+lay-items-spec : {M : Type 1} → statement M
     (lay-inside-at t)
     lay-inside.Post
     (lay-inside-put-record-requires t)
-    (lay-inside-add-t29 t)
     (lay-inside-add-t30 t)
+    (lay-inside-add-t31 t)
     (lay-inside-lay-items-requires t)
     (lay-inside-same-length t)
     (lay-inside-same-length-2 t)

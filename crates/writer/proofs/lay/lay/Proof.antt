@@ -7,9 +7,12 @@ use Rattle.writer.proofs.lay.lay.Tie as tie
 table-of-requires : tie.Need-table-of-requires
 table-of-requires c κs = search needs
 
+index-of-requires : tie.Need-index-of-requires
+index-of-requires c κs = search needs
+
 lay-items-requires : tie.Need-lay-items-requires
 lay-items-requires c κs =
-    whole-can _ _ _ _ (λ i. omega (arith, (c .before .before .before .before .before .before .before .before .before .before .before .before .before .before .before .shared-slice-known) .given i)) ((c .before .before .before .before .before .before .before .table-of) .ensures) (c .before .before .before .before .before .before .before .before .before .before .before .before .before .before .before .before .pre)
+    (whole-can _ _ _ _ (λ i. omega (arith, (c .before .before .before .before .before .before .before .before .before .before .before .before .before .before .before .before .before .shared-slice-known) .given i)) ((c .before .before .before .before .before .before .before .before .before .table-of) .ensures) (c .before .before .before .before .before .before .before .before .before .before .before .before .before .before .before .before .before .before .pre), (c .before .before .before .before .before .before .before .before .index-of) .ensures)
 
 same-length : tie.Need-same-length
 same-length c =
@@ -41,13 +44,14 @@ same-length-7 c =
 
 returns : tie.Need-returns
 returns c =
-    whole-laid _ _ _ _ (λ i. omega (arith, (c .before .before .before .before .before .before .before .before .before .before .before .before .before .before .before .before .before .before .before .before .before .before .before .before .before .before .before .before .before .before .shared-slice-known) .given i)) ((c .before .before .before .before .before .before .before .before .before .before .before .before .before .before .before .before .before .before .before .before .before .before .table-of) .ensures) (c .before .before .before .before .before .before .before .before .before .before .before .before .before .before .before .before .before .before .before .before .before .before .before .before .before .before .before .before .before .before .before .pre) _ _ _ ((c .before .before .before .before .before .before .before .before .before .before .before .before .before .before .lay-items) .ensures)
+    whole-laid _ _ _ _ (λ i. omega (arith, (c .before .before .before .before .before .before .before .before .before .before .before .before .before .before .before .before .before .before .before .before .before .before .before .before .before .before .before .before .before .before .before .before .shared-slice-known) .given i)) ((c .before .before .before .before .before .before .before .before .before .before .before .before .before .before .before .before .before .before .before .before .before .before .before .before .table-of) .ensures) (c .before .before .before .before .before .before .before .before .before .before .before .before .before .before .before .before .before .before .before .before .before .before .before .before .before .before .before .before .before .before .before .before .before .pre) _ _ _ ((c .before .before .before .before .before .before .before .before .before .before .before .before .before .before .lay-items) .ensures)
 
 pub lay-spec : {M : Type 1} → statement M
 lay-spec =
     tie.close
     (tie.spec
     table-of-requires
+    index-of-requires
     lay-items-requires
     same-length
     same-length-2

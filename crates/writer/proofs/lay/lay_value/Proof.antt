@@ -4,19 +4,19 @@ use Rattle.writer.proofs.lay.lay_value.Tie as tie
 
 store-body-requires : tie.Need-store-body-requires
 store-body-requires c κs =
-    value-storable _ _ _ _ _ _ _ (c .before .before .before .before .before .before .before .before .before .before .pre)
+    (value-storable _ _ _ _ _ _ _ (c .before .before .before .before .before .before .before .before .before .before .pre .0), c .before .before .before .before .before .before .before .before .before .before .pre .1)
 
 sub-put-record : tie.Need-sub-put-record
 sub-put-record c =
-    value-behind _ _ _ _ _ _ _ (c .before .before .before .before .before .before .before .before .before .before .before .before .before .before .before .before .before .before .before .pre) _ _ ((c .before .before .before .before .before .before .before .before .store-body) .ensures)
+    value-behind _ _ _ _ _ _ _ (c .before .before .before .before .before .before .before .before .before .before .before .before .before .before .before .before .before .before .before .pre .0) _ _ ((c .before .before .before .before .before .before .before .before .store-body) .ensures)
 
 put-record-requires : tie.Need-put-record-requires
 put-record-requires c κs =
-    value-placeable _ _ _ _ _ _ _ (c .before .before .before .before .before .before .before .before .before .before .before .before .before .before .before .before .before .before .before .pre) _ _ ((c .before .before .before .before .before .before .before .before .store-body) .ensures)
+    value-placeable _ _ _ _ _ _ _ (c .before .before .before .before .before .before .before .before .before .before .before .before .before .before .before .before .before .before .before .pre .0) _ _ ((c .before .before .before .before .before .before .before .before .store-body) .ensures)
 
-add-t32 : tie.Need-add-t32
-add-t32 c =
-    value-next _ _ _ _ _ _ _ (c .before .before .before .before .before .before .before .before .before .before .before .before .before .before .before .before .before .before .before .before .before .before .before .before .before .before .before .before .before .before .before .before .pre)
+add-t33 : tie.Need-add-t33
+add-t33 c =
+    value-next _ _ _ _ _ _ _ (c .before .before .before .before .before .before .before .before .before .before .before .before .before .before .before .before .before .before .before .before .before .before .before .before .before .before .before .before .before .before .before .before .pre .0)
 
 same-length : tie.Need-same-length
 same-length c =
@@ -48,7 +48,7 @@ same-length-7 c =
 
 returns : tie.Need-returns
 returns c =
-    value-lays _ _ _ _ _ _ _ (c .before .before .before .before .before .before .before .before .before .before .before .before .before .before .before .before .before .before .before .before .before .before .before .before .before .before .before .before .before .before .before .before .pre) _ _ ((c .before .before .before .before .before .before .before .before .before .before .before .before .before .before .before .before .before .before .before .before .before .store-body) .ensures) _ _ ((c .before .before .before .before .before .before .before .before .before .before .before .before .put-record) .ensures)
+    value-lays _ _ _ _ _ _ _ (c .before .before .before .before .before .before .before .before .before .before .before .before .before .before .before .before .before .before .before .before .before .before .before .before .before .before .before .before .before .before .before .before .pre .0) _ _ ((c .before .before .before .before .before .before .before .before .before .before .before .before .before .before .before .before .before .before .before .before .before .store-body) .ensures) _ _ ((c .before .before .before .before .before .before .before .before .before .before .before .before .put-record) .ensures)
 
 pub lay-value-spec : {M : Type 1} → statement M
 lay-value-spec =
@@ -57,7 +57,7 @@ lay-value-spec =
     store-body-requires
     sub-put-record
     put-record-requires
-    add-t32
+    add-t33
     same-length
     same-length-2
     same-length-3
