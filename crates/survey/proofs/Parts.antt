@@ -11,7 +11,8 @@ use borrow.Author.Tests.{leb-true, leb-false, le-leb, lt-leb}
 use mir.Syntax.{w64}
 use mir.Val.{Fits}
 use Rattle.octets.specs.Header.{lengthField}
-use Rattle.text.specs.Tokens.{Entries, expandedSize}
+use Rattle.text.specs.Tokens.{Entries}
+use Rattle.text.specs.Weighing.{Widths, weight}
 use Rattle.values.specs.declared.Kind.{Kind}
 use Rattle.values.specs.declared.Kind.the-variants.{HoldsItems, HoldsTokens, HoldsText, HoldsPlain, HoldsTime, HoldsBearer, HoldsNumber}
 use Rattle.values.specs.declared.NumberKind.{NumberKind}
@@ -23,6 +24,7 @@ use Rattle.values.specs.Table.{known}
 use Rattle.values.specs.Values.{fits, meant, octetsOf}
 use Rattle.values.specs.Calls.{knownKind, normalOctets, normalSize}
 use Rattle.octets.proofs.Answers.{size-five}
+use Rattle.text.proofs.Widths.{weight-is}
 use Rattle.values.proofs.Laws.{known-kind, unknown-kind, normal-sized, not-sized}
 use Rattle.format.specs.Judge.{isKnown, isItems, isTokens}
 use Rattle.survey.specs.Normal.{framedSize, valueOctets}
@@ -82,9 +84,9 @@ module _ (T : Entries) (p tag : ℕ) (o : List ℕ) (r : KnownKind) (e : r ≡ k
     part-tokens w = rw (kind-is, w)
 
     module _ (n : ℕ) where
-      pub part-text : k ≡ HoldsText → n ≡ min 32_769 (expandedSize T o) → Octets n ≡ partOf T (known p tag) o
-      unfolding partOf isItems isKnown isTokens taken fits meant octetsOf expandedSize
-      part-text w x = rw (kind-is, w, x)
+      pub part-text : (widths : List ℕ) → Widths 32 T widths → k ≡ HoldsText → n ≡ min 32_769 (weight widths o) → Octets n ≡ partOf T (known p tag) o
+      unfolding partOf isItems isKnown isTokens taken fits meant octetsOf
+      part-text widths h w x = rw (kind-is, w, x, weight-is T widths h o)
 
       -- a value that is no text has the same octets under every table
       module _ (x : n ≡ min 32_769 (length (valueOctets k o))) where

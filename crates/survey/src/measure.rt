@@ -1,10 +1,11 @@
 // How many octets an object has in normal form, and how many of a store its texts and values take, both from the octets of the object and
 // before anything is written. Nothing is judged again, and what is answered of octets that are no accepted object says nothing.
-// Cost: each item is looked at once, and a text as far as its expansion can fit.
+// Cost: each item is looked at once, and a text as far as its expansion can fit; the token table is gone through once.
 ghost use mathlib.Core.Path.{_≡_};
 ghost use Prim.Native.Nat.{_≤_, min};
 ghost use lib.ListN.{length};
 ghost use Rattle.text.specs.Tokens.{entries};
+ghost use Rattle.text.specs.Weighing.{Widths};
 ghost use Rattle.values.specs.Table.{known};
 ghost use Rattle.survey.specs.Normal.{framedSize, valueOctets};
 ghost use Rattle.survey.specs.Measure.{Measures};
@@ -14,6 +15,7 @@ use crate::table::item_at;
 use crate::table::table_of;
 use octets::header_size;
 use text::expanded_size;
+use text::widths_of;
 use values::Kind;
 use values::KnownKind;
 use values::NormalSize;
@@ -47,7 +49,8 @@ fn value_size(kind: Kind, body: &[u8]) -> usize
 }
 
 // An unknown item and the token table have no place in normal form.
-fn part_of(parent: u8, tag: u8, body: &[u8], table: &[u8]) -> Part
+fn part_of(parent: u8, tag: u8, body: &[u8], table: &[u8], widths: &[u8; 32]) -> Part
+    requires { ⌜ Widths 32 (entries (now table)) (now widths) ⌝ }
     ensures { λ r. ⌜ r ≡ partOf (entries (now (table .entry))) (known parent tag) (now (body .entry)) ⌝ }
 {
     match known_kind(parent, tag) {
@@ -55,7 +58,7 @@ fn part_of(parent: u8, tag: u8, body: &[u8], table: &[u8]) -> Part
         KnownKind::Known(kind) => match kind {
             Kind::HoldsItems => Part::Inside,
             Kind::HoldsTokens => Part::Nothing,
-            Kind::HoldsText => Part::Octets(expanded_size(table, body, 32_769)),
+            Kind::HoldsText => Part::Octets(expanded_size(widths, body, 32_769)),
             Kind::HoldsPlain => Part::Octets(value_size(kind, body)),
             Kind::HoldsTime => Part::Octets(value_size(kind, body)),
             Kind::HoldsBearer => Part::Octets(value_size(kind, body)),
@@ -80,10 +83,18 @@ fn framed(store: usize, octets: usize) -> Measured
 }
 
 // One item in an element of a tag. `left` is how many levels of elements may still open: none opens below depth 16 in an accepted object.
-fn measure_item(parent: u8, tag: u8, left: usize, body: &[u8], table: &[u8]) -> Measured
+fn measure_item(
+    parent: u8,
+    tag: u8,
+    left: usize,
+    body: &[u8],
+    table: &[u8],
+    widths: &[u8; 32],
+) -> Measured
+    requires { ⌜ Widths 32 (entries (now table)) (now widths) ⌝ }
     ensures { λ r. ⌜ ItemMeasured (entries (now (table .entry))) parent tag left (now (body .entry)) r ⌝ }
 {
-    match part_of(parent, tag, body, table) {
+    match part_of(parent, tag, body, table, widths) {
         Part::Nothing => Measured::Sizes {
             store: 0,
             octets: 0,
@@ -93,7 +104,7 @@ fn measure_item(parent: u8, tag: u8, left: usize, body: &[u8], table: &[u8]) -> 
             if left == 0 {
                 return Measured::Over;
             }
-            match measure_items(tag, left - 1, body, table) {
+            match measure_items(tag, left - 1, body, table, widths) {
                 Measured::Over => Measured::Over,
                 Measured::Sizes { store, octets } => framed(store, octets),
             }
@@ -102,7 +113,8 @@ fn measure_item(parent: u8, tag: u8, left: usize, body: &[u8], table: &[u8]) -> 
 }
 
 // The items in a part, which is the body of an element of a tag.
-fn measure_items(parent: u8, left: usize, part: &[u8], table: &[u8]) -> Measured
+fn measure_items(parent: u8, left: usize, part: &[u8], table: &[u8], widths: &[u8; 32]) -> Measured
+    requires { ⌜ Widths 32 (entries (now table)) (now widths) ⌝ }
     ensures { λ r. ⌜ ItemsMeasured (entries (now (table .entry))) parent left (now (part .entry)) r ⌝ }
 {
     let mut store: usize = 0;
@@ -112,7 +124,7 @@ fn measure_items(parent: u8, left: usize, part: &[u8], table: &[u8]) -> Measured
         let Lies::Between { from, to } = item_at(part, at) else {
             return Measured::Over;
         };
-        let item = measure_item(parent, part[at], left, &part[from..to], table);
+        let item = measure_item(parent, part[at], left, &part[from..to], table, widths);
         let Measured::Sizes {
             store: more,
             octets: longer,
@@ -135,5 +147,6 @@ pub fn measure(object: &[u8]) -> Measured
     ensures { λ r. ⌜ Measures (now (object .entry)) r ⌝ }
 {
     let table = table_of(object);
-    measure_items(0, 16, object, table)
+    let widths = widths_of(table);
+    measure_items(0, 16, object, table, &widths)
 }

@@ -120,10 +120,11 @@ pub run-weight : (w : List ℕ) (least most : ℕ) → 0x14 ≤ least → (p r :
 unfolding allWithin weight
 run-weight w least most high [] r h = omega arith
 run-weight w least most high (b ∷ p) r h =
-    omega
-    (arith,
-    width-high w b 1 (omega (arith, bounds least most b (and-left (within least most b) (allWithin least most p) h) .0)),
-    run-weight w least most high p r (and-right (within least most b) (allWithin least most p) h))
+    omega (
+      arith,
+      width-high w b 1 (omega (arith, bounds least most b (and-left (within least most b) (allWithin least most p) h) .0)),
+      run-weight w least most high p r (and-right (within least most b) (allWithin least most p) h),
+    )
 
 pub weight-run : (w s : List ℕ) (at end : ℕ) → UntokenedTo s at end → weight w (drop at s) ≡ end - at + weight w (drop end s)
 weight-run w s at end run =

@@ -258,6 +258,7 @@ module _ (es : Entries) (marks : ℕ) (w : List ℕ) (m : Marks marks (tags es))
     weighed-covered = let h = found in let z : c ≡ coveredBy marks s = cc in z ∙ covered-by-is es marks m s
 
     pub weighed-width : n ≡ min most (shownLength es s)
+    unfolding shownLength
     weighed-width = let h = found in let z : n ≡ min most (weight w s) = cc in z ∙ ap (min most) (weight-is es w k s)
 
 -- ---- only one answer

@@ -12,7 +12,7 @@ use borrow.Author.Tests.{eqb-true, eqb-false, ne-eqb, lt-ltb, le-ltb, ltb-true, 
 use Rattle.octets.proofs.Tests.{and-false, cond-same}
 use Rattle.octets.proofs.Lists.{part-to-end, drop-next}
 use Rattle.text.specs.Text.{token}
-use Rattle.text.specs.Tokens.{Entries, entries, cut, entry, orItself, stands, expanded, shownLength}
+use Rattle.text.specs.Tokens.{Entries, entries, cut, entry, orItself, stands, expanded}
 use Rattle.text.specs.Leaves.{ahead, tokenBit, placeOf}
 use Rattle.text.specs.Weighing.{bit, Widths, widthAt, weight}
 use Rattle.text.specs.declared.tables.Piece.{Piece}
@@ -233,8 +233,8 @@ module _ (w s : List ℕ) (at : ℕ) where
       ∙ ap₂ (λ (m n : ℕ). m + n) (sym (e ∙ ap (λ q. weight w (take 8 q)) (part-to-end s at))) (ap (weight w) (drop-drop 8 at s))
 
 -- ---- a text by such widths
-pub weight-is : (es : Entries) (w : List ℕ) → Widths 32 es w → (s : List ℕ) → weight w s ≡ shownLength es s
-unfolding weight widthAt shownLength expanded
+pub weight-is : (es : Entries) (w : List ℕ) → Widths 32 es w → (s : List ℕ) → weight w s ≡ length (expanded es s)
+unfolding weight widthAt expanded
 weight-is es w known [] = refl
 weight-is es w known (b ∷ s) =
     ap₂ (λ (m n : ℕ). m + n) (one (ltb b 0x14) refl) (weight-is es w known s) ∙ sym (length-append (stands es b) (expanded es s))

@@ -90,4 +90,3 @@ replacedBy es b = cond (token b) (found 0 es b) Nothing
 -- that stands for no octet
 unfoldable pub placeOf : ℕ → ℕ → ℕ
 placeOf seen tag = cond (token tag && not (bit seen tag)) tag 31
-
