@@ -132,7 +132,7 @@ measure-item-measure-items-requires : (t : ℕ) → measure-item-lts.Need-measur
   measure-items.Post,
 ) (measure-item-at t) measure-item.Post
 measure-item-measure-items-requires t c κs =
-    (omega (arith, (c .before .before .before .before .before .before .pre) .0, (c .if1) .left), tt)
+    (omega (arith, (c .before .before .before .before .before .before .pre) .0, (c .if1) .left), (c .before .before .before .before .before .before .pre) .1)
 
 measure-item-enum-told-3 : (t : ℕ) → measure-item-lts.Need-enum-told-3 (
   part-of-reads.Asked,
@@ -301,7 +301,7 @@ measure-items-measure-item-requires : (t : ℕ) → measure-items-lts.Need-measu
   measure-item.Post,
 ) (measure-items-at t) measure-items.Post measure-items-Inv-loop measure-items-μ-loop
 measure-items-measure-item-requires t c κs =
-    (omega (arith, (c .before .before .before .before .before .before .before .before .before .before .pre) .0), tt)
+    (omega (arith, (c .before .before .before .before .before .before .before .before .before .before .pre) .0), (c .before .before .before .before .before .before .before .before .before .before .pre) .1)
 
 measure-items-enum-known-item : (t : ℕ) → measure-items-lts.Need-enum-known-item (
   item-at-reads.Asked,

@@ -7,12 +7,15 @@ use Rattle.survey.proofs.measure.measure.Tie as tie
 table-of-requires : tie.Need-table-of-requires
 table-of-requires c κs = search needs
 
+widths-of-requires : tie.Need-widths-of-requires
+widths-of-requires c κs = search needs
+
 measure-items-requires : tie.Need-measure-items-requires
 measure-items-requires c κs = search needs
 
 returns : tie.Need-returns
 returns c =
-    measures _ _ _ (λ i. omega (arith, (c .before .before .shared-slice-known) .given i)) ((c .before .table-of) .ensures) ((c .measure-items) .ensures)
+    measures _ _ _ (λ i. omega (arith, (c .before .before .before .shared-slice-known) .given i)) ((c .before .before .table-of) .ensures) ((c .measure-items) .ensures)
 
 pub measure-spec : {M : Type 1} → statement M
-measure-spec = tie.close (tie.spec table-of-requires measure-items-requires returns)
+measure-spec = tie.close (tie.spec table-of-requires widths-of-requires measure-items-requires returns)
