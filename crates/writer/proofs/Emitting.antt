@@ -21,8 +21,9 @@ use Rattle.writer.specs.declared.emit.Role.{Role}
 use Rattle.writer.specs.declared.emit.Role.the-variants.{Gone, Element, Attribute, Other}
 use Rattle.writer.specs.declared.emit.Reached.{Reached}
 use Rattle.survey.specs.Normal.{itemOctets, attributeOctets, laterOctets}
-use Rattle.writer.specs.Steps.{fourOf, itemsFrom, Holding, roleOf, bodyAt, BodyAt, Lays, Fitting, Ordered, Stands, FindsLowest, elementOctets, between, Framable, Emits}
+use Rattle.writer.specs.Steps.{fourOf, itemsFrom, Holding, roleOf, bodyAt, BodyAt, Lays, Fitting, Ordered, Stands, FindsLowest, elementOctets, between, Framable, Emits, AsLaid}
 use Rattle.survey.proofs.Rising.{rising-seven, rising-skip}
+use Rattle.writer.proofs.Copied.{laid-inside, laid-own, laid-after, laid-found}
 use Rattle.writer.proofs.Finding.{found-octets, none-between, found-body}
 use Rattle.survey.proofs.Sizes.{high-attribute, opens-attribute, opens-no-attribute}
 use Rattle.writer.proofs.Lays.{lays-none, lays-append, lays-length, fitting-left, fitting-right}
@@ -63,6 +64,15 @@ module _ (p tag i : ℕ) (starts sizes lent : List ℕ) (start size : ℕ) (a : 
   pub body-laid : (to : ℕ) (before after : List ℕ) (stop : ℕ) → Lays (itemOctets p tag (take (start + size - start) (drop start lent))) to before after stop
       → Lays (itemOctets p tag (bodyAt i starts sizes lent)) to before after stop
   body-laid to before after stop h = rw same-body at h
+
+  -- the same of one that is written as it stands
+  module _ (stands : itemOctets p tag (bodyAt i starts sizes lent) ≡ framed tag (bodyAt i starts sizes lent)) where
+    pub stored-fits : (to room : ℕ) → Fitting (itemOctets p tag (bodyAt i starts sizes lent)) to room → Fitting (framed tag (take (start + size - start) (drop start lent))) to room
+    stored-fits to room f = rw same-body (rw stands at f)
+
+    pub stored-laid : (to : ℕ) (before after : List ℕ) (stop : ℕ) → Lays (framed tag (take (start + size - start) (drop start lent))) to before after stop
+        → Lays (itemOctets p tag (bodyAt i starts sizes lent)) to before after stop
+    stored-laid to before after stop h = rw stands (rw same-body at h)
 
 -- attributes by rising tag
 module _ (p n : ℕ) (tags depths starts sizes lent : List ℕ) (at depth : ℕ) where
@@ -122,12 +132,21 @@ module _ (p n : ℕ) (tags depths starts sizes lent : List ℕ) (at depth : ℕ)
           ∙ (ap (λ n. inv .done ++ rising n (a .tag) (attributesIn [] p inside)) z
           ∙ rw (w, found-octets p n tags depths starts sizes lent at depth o a (inv .stands) (inv .high) lt))
 
-      pub risen-fits : Holding n (fourOf tags depths starts sizes) lent → Fitting (attributeOctets p inside) to (length before)
-          → BodyAt (a .place) starts sizes lent × Fitting one stop (length room)
-      risen-fits h f =
+      risen-stands : AsLaid p inside → one ≡ framed (a .tag) (bodyAt (a .place) starts sizes lent)
+      unfolding bodyIn bodyAt
+      risen-stands s =
+          let shut : opens (a .tag) ≡ false = opens-attribute (a .tag) (high-attribute (a .tag) (inv .high)) in
+          laid-found p (a .tag) shut inside (bodyAt (a .place) starts sizes lent) s (inv .stands .body lt starts sizes lent (o .spot) (o .rules))
+
+      pub risen-fits : (stored : Bool) → Holding n (fourOf tags depths starts sizes) lent → (stored ≡ true → AsLaid p inside) → Fitting (attributeOctets p inside) to (length before)
+          → BodyAt (a .place) starts sizes lent × ((stored ≡ true → one ≡ framed (a .tag) (bodyAt (a .place) starts sizes lent)) × Fitting one stop (length room))
+      risen-fits stored h s f =
           let all : Fitting (inv .done ++ (one ++ rest)) to (length before) = rw step at f in (
             found-body n tags depths starts sizes lent at depth h a (inv .stands) lt,
-            fitting-left one rest stop (length room) (fitting-right (inv .done) (one ++ rest) to before room stop all (inv .lays)),
+            (
+              (λ q. risen-stands (s q)),
+              fitting-left one rest stop (length room) (fitting-right (inv .done) (one ++ rest) to before room stop all (inv .lays)),
+            ),
           )
 
       pub risen-next : (after : List ℕ) (next : ℕ) → Lays one stop room after next → (b : Lowest) → FindsLowest n tags depths at depth (a .tag + 1) b → Risen to before after next b
@@ -163,20 +182,21 @@ abbrev later : Lists → ℕ → List ℕ → (p depth i : ℕ) → List ℕ
 later l n lent p depth i = laterOctets p (itemsFrom l n lent depth i .0)
 
 -- the loop's invariant: the items before record i are written, those from it on are left and keep the rules
-pub record Written (l : Lists) (n : ℕ) (lent : List ℕ) (p depth at to : ℕ) (before room : List ℕ) (i stop : ℕ) : Type 0 where
+pub record Written (stored : Bool) (l : Lists) (n : ℕ) (lent : List ℕ) (p depth at to : ℕ) (before room : List ℕ) (i stop : ℕ) : Type 0 where
   pub low : at ≤ i
   pub high : i ≤ n
   pub ordered : Ordered p (itemsFrom l n lent depth i .0)
+  pub stands : stored ≡ true → AsLaid p (itemsFrom l n lent depth i .0)
   pub done : List ℕ
   pub lays : Lays done to before room stop
   pub left : later l n lent p depth at ≡ done ++ later l n lent p depth i
   pub same : itemsFrom l n lent depth at .1 ≡ itemsFrom l n lent depth i .1
 
-pub written-start : (l : Lists) (n : ℕ) (lent : List ℕ) (p depth at to : ℕ) (room : List ℕ) → Ordered p (itemsFrom l n lent depth at .0) → at ≤ n
-    → Written l n lent p depth at to room room at to
-written-start l n lent p depth at to room o h = record { low = omega arith; high = h; ordered = o; done = []; lays = lays-none to room; left = refl; same = refl }
+pub written-start : (stored : Bool) (l : Lists) (n : ℕ) (lent : List ℕ) (p depth at to : ℕ) (room : List ℕ) → Ordered p (itemsFrom l n lent depth at .0) → at ≤ n
+    → (stored ≡ true → AsLaid p (itemsFrom l n lent depth at .0)) → Written stored l n lent p depth at to room room at to
+written-start stored l n lent p depth at to room o h s = record { low = omega arith; high = h; ordered = o; stands = s; done = []; lays = lays-none to room; left = refl; same = refl }
 
-module _ (l : Lists) (n : ℕ) (lent : List ℕ) (p depth at to : ℕ) (before room : List ℕ) (i stop : ℕ) (inv : Written l n lent p depth at to before room i stop) where
+module _ (stored : Bool) (l : Lists) (n : ℕ) (lent : List ℕ) (p depth at to : ℕ) (before room : List ℕ) (i stop : ℕ) (inv : Written stored l n lent p depth at to before room i stop) where
   pub written-length : length room ≡ length before
   written-length = lays-length (inv .done) to before room stop (inv .lays)
 
@@ -200,14 +220,15 @@ module _ (l : Lists) (n : ℕ) (lent : List ℕ) (p depth at to : ℕ) (before r
         let all : Fitting (inv .done ++ (own ++ later l n lent p depth j)) to (length before) = rw whole at f in
         fitting-left own (later l n lent p depth j) stop (length room) (fitting-right (inv .done) (own ++ later l n lent p depth j) to before room stop all (inv .lays))
 
-    own-next : Ordered p (itemsFrom l n lent depth j .0) → itemsFrom l n lent depth i .1 ≡ itemsFrom l n lent depth j .1 → i ≤ j → j ≤ n → (after : List ℕ) (next : ℕ) → Lays own stop room after next
-        → Written l n lent p depth at to before after j next
-    own-next o e a b after next h =
+    own-next : Ordered p (itemsFrom l n lent depth j .0) → (stored ≡ true → AsLaid p (itemsFrom l n lent depth j .0)) → itemsFrom l n lent depth i .1 ≡ itemsFrom l n lent depth j .1 → i ≤ j → j ≤ n → (after : List ℕ) (next : ℕ) → Lays own stop room after next
+        → Written stored l n lent p depth at to before after j next
+    own-next o s e a b after next h =
         let c = inv .low in
         record {
           low = omega arith;
           high = b;
           ordered = o;
+          stands = s;
           done = inv .done ++ own;
           lays = lays-append (inv .done) own to before room stop after next (inv .lays) h;
           left = whole ∙ sym (append-assoc (inv .done) own (later l n lent p depth j));
@@ -229,6 +250,14 @@ module _ (l : Lists) (n : ℕ) (lent : List ℕ) (p depth at to : ℕ) (before r
         let u = ruled-parts (o .spot) (row l i .tag) (row l i .start) (bodyIn lent (row l i)) y z r in
         (record { spot = below (o .spot) (row l i .tag); element = refl; rules = u .within }, record { spot = past (o .spot) (row l i .tag); element = o .element; rules = u .beside })
 
+    -- and they are to be written as they stand where these are
+    parts-stand : (y z : Items) → itemsFrom l n lent depth i .0 ≡ item (row l i .tag) (row l i .start) (bodyIn lent (row l i)) y z → stored ≡ true
+        → AsLaid p (item (row l i .tag) (row l i .start) (bodyIn lent (row l i)) y z)
+    parts-stand y z e s = rw e at (inv .stands s)
+
+    after-stand : (y z : Items) → itemsFrom l n lent depth i .0 ≡ item (row l i .tag) (row l i .start) (bodyIn lent (row l i)) y z → stored ≡ true → AsLaid p z
+    after-stand y z e s = laid-after p (row l i .tag) (row l i .start) (bodyIn lent (row l i)) y z (parts-stand y z e s)
+
     -- one that holds no items
     module _ (d : eqb (row l i .depth) depth ≡ true) (o : opens (row l i .tag) ≡ false) where
       single : itemsFrom l n lent depth i
@@ -236,11 +265,12 @@ module _ (l : Lists) (n : ℕ) (lent : List ℕ) (p depth at to : ℕ) (before r
       single = from-single l n lent depth i (here-is l n lent depth i lt d) o
 
       single-next : (own : List ℕ) → later l n lent p depth i ≡ own ++ later l n lent p depth (i + 1) → (after : List ℕ) (next : ℕ) → Lays own stop room after next
-          → Written l n lent p depth at to before after (i + 1) next
+          → Written stored l n lent p depth at to before after (i + 1) next
       single-next own first after next h =
-          own-next own (i + 1) first (ordered-parts end (itemsFrom l n lent depth (i + 1) .0) (ap (λ y. y .0) single) .1) (ap (λ y. y .1) single) (omega arith) (omega arith) after next h
+          own-next own (i + 1) first (ordered-parts end (itemsFrom l n lent depth (i + 1) .0) (ap (λ y. y .0) single) .1)
+          (after-stand end (itemsFrom l n lent depth (i + 1) .0) (ap (λ y. y .0) single)) (ap (λ y. y .1) single) (omega arith) (omega arith) after next h
 
-    pub attribute-next : x ≡ Attribute → Written l n lent p depth at to before room (i + 1) stop
+    pub attribute-next : x ≡ Attribute → Written stored l n lent p depth at to before room (i + 1) stop
     unfolding Tells laterOctets
     attribute-next q =
         let t : (eqb (row l i .depth) depth ≡ true) × (opens (row l i .tag) ≡ false) × (attribute (row l i .tag) ≡ true) =
@@ -256,15 +286,24 @@ module _ (l : Lists) (n : ℕ) (lent : List ℕ) (p depth at to : ℕ) (before r
       unfolding laterOctets bodyIn bodyAt
       other-first = let t = other-says in ap (λ y. laterOctets p (y .0)) (single (t .0) (t .1)) ∙ rw (t .1, t .2, t .3)
 
+      other-stands : stored ≡ true → itemOctets p m (bodyAt i (l .starts) (l .sizes) lent) ≡ framed m (bodyAt i (l .starts) (l .sizes) lent)
+      unfolding bodyIn bodyAt
+      other-stands s =
+          let t = other-says in
+          let rest = itemsFrom l n lent depth (i + 1) .0 in
+          rw (t .3) (laid-own p (row l i .tag) (row l i .start) (bodyIn lent (row l i)) end rest (parts-stand end rest (ap (λ y. y .0) (single (t .0) (t .1))) s) (t .1))
+
       pub other-fits : Holding n l lent → Fitting (later l n lent p depth at) to (length before)
-          → BodyAt i (l .starts) (l .sizes) lent × Fitting (itemOctets p m (bodyAt i (l .starts) (l .sizes) lent)) stop (length room)
+          → BodyAt i (l .starts) (l .sizes) lent
+          × ((stored ≡ true → itemOctets p m (bodyAt i (l .starts) (l .sizes) lent) ≡ framed m (bodyAt i (l .starts) (l .sizes) lent))
+          × Fitting (itemOctets p m (bodyAt i (l .starts) (l .sizes) lent)) stop (length room))
       other-fits h f =
           let a = h .starts in
           let b = h .sizes in
-          (record { start = omega arith; size = omega arith; inside = h .bodies i lt }, own-fits (itemOctets p m (bodyAt i (l .starts) (l .sizes) lent)) (i + 1) other-first f)
+          (record { start = omega arith; size = omega arith; inside = h .bodies i lt }, (other-stands, own-fits (itemOctets p m (bodyAt i (l .starts) (l .sizes) lent)) (i + 1) other-first f))
 
       pub other-next : (after : List ℕ) (next : ℕ) → Lays (itemOctets p m (bodyAt i (l .starts) (l .sizes) lent)) stop room after next
-          → Written l n lent p depth at to before after (i + 1) next
+          → Written stored l n lent p depth at to before after (i + 1) next
       other-next after next h =
           let t = other-says in
           single-next (t .0) (t .1) (itemOctets p m (bodyAt i (l .starts) (l .sizes) lent)) other-first after next h
@@ -288,6 +327,12 @@ module _ (l : Lists) (n : ℕ) (lent : List ℕ) (p depth at to : ℕ) (before r
       element-ordered =
           rw (element-says .2)
           (ordered-parts (itemsFrom l n lent (depth + 1) (i + 1) .0) (itemsFrom l n lent depth (itemsFrom l n lent (depth + 1) (i + 1) .1) .0) (ap (λ y. y .0) nested) .0)
+
+      pub element-stands : stored ≡ true → AsLaid m (itemsFrom l n lent (depth + 1) (i + 1) .0)
+      element-stands s =
+          let y = itemsFrom l n lent (depth + 1) (i + 1) .0 in
+          let z = itemsFrom l n lent depth (itemsFrom l n lent (depth + 1) (i + 1) .1) .0 in
+          rw (element-says .2) (laid-inside p (row l i .tag) (row l i .start) (bodyIn lent (row l i)) y z (parts-stand y z (ap (λ x. x .0) nested) s))
 
       element-first : later l n lent p depth i ≡ elementOctets m (itemsFrom l n lent (depth + 1) (i + 1) .0) ++ later l n lent p depth (itemsFrom l n lent (depth + 1) (i + 1) .1)
       unfolding laterOctets elementOctets
@@ -320,7 +365,7 @@ module _ (l : Lists) (n : ℕ) (lent : List ℕ) (p depth at to : ℕ) (before r
             element-less = let e = g .next in omega (arith, from-ahead l n lent (depth + 1) (i + 1))
 
             pub element-next : (last : List ℕ) (next : ℕ) → Lays (framed m (between (stop + 2) (r .end) after)) stop after last next
-                → Written l n lent p depth at to before last (r .next) next
+                → Written stored l n lent p depth at to before last (r .next) next
             unfolding elementOctets
             element-next last next k =
                 let all : Lays (elementOctets m held) stop room last next =
@@ -328,4 +373,5 @@ module _ (l : Lists) (n : ℕ) (lent : List ℕ) (p depth at to : ℕ) (before r
                 rw (g .next)
                 (own-next (elementOctets m held) (itemsFrom l n lent (depth + 1) (i + 1) .1) element-first
                 (ordered-parts held (itemsFrom l n lent depth (itemsFrom l n lent (depth + 1) (i + 1) .1) .0) (ap (λ y. y .0) nested) .1)
+                (after-stand held (itemsFrom l n lent depth (itemsFrom l n lent (depth + 1) (i + 1) .1) .0) (ap (λ y. y .0) nested))
                 (ap (λ y. y .1) nested) (omega (arith, from-ahead l n lent (depth + 1) (i + 1))) (from-within l n lent (depth + 1) (i + 1) (omega arith)) last next all)

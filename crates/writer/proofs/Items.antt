@@ -13,6 +13,7 @@ use Rattle.octets.specs.declared.Put.{Put}
 use Rattle.octets.specs.Calls.{Puts}
 use Rattle.octets.proofs.Answers.{size-five, put-done, put-no-room, put-too-long}
 use Rattle.values.specs.declared.Kind.{Kind}
+use Rattle.values.specs.declared.Kind.the-variants.{HoldsPlain}
 use Rattle.values.specs.declared.KnownKind.{KnownKind}
 use Rattle.values.specs.declared.KnownKind.the-variants.{Unknown, Known}
 use Rattle.values.specs.Table.{known}
@@ -190,3 +191,27 @@ module _ (p tag : ℕ) (body : List ℕ) where
       go : (o : Option Kind) → length (maybe (λ k. framed tag (valueOctets k body)) o) ≤ length body + 5
       go none = omega arith
       go (some k) = omega (arith, framed-length tag (valueOctets k body), framed-short (length (valueOctets k body)), value-short k body)
+
+-- an item whose body is written as it stands
+module _ (tag to : ℕ) (body room : List ℕ) (f : Fitting (framed tag body) to (length room)) where
+  stored-fits : Fitting ((tag ∷ lengthField (length body)) ++ body) to (length room)
+  unfolding framed
+  stored-fits = f
+
+  pub stored-header : (length body ≤ 32_768) × Fitting (tag ∷ lengthField (length body)) to (length room)
+  stored-header =
+      let x = stored-fits .inObject in
+      let l = length-append (tag ∷ lengthField (length body)) body in
+      (omega arith, fitting-left (tag ∷ lengthField (length body)) body to (length room) stored-fits)
+
+  plain-octets : valueOctets HoldsPlain body ≡ body
+  unfolding valueOctets fits meant octetsOf
+  plain-octets = refl
+
+  module _ (mid : List ℕ) (at : ℕ) (h : Lays (tag ∷ lengthField (length body)) to room mid at) where
+    pub stored-body : Fitting (valueOctets HoldsPlain body) at (length mid)
+    stored-body = rw plain-octets (fitting-right (tag ∷ lengthField (length body)) body to room mid at stored-fits h)
+
+    pub stored-laid : (after : List ℕ) (end : ℕ) → Lays (valueOctets HoldsPlain body) at mid after end → Lays (framed tag body) to room after end
+    unfolding framed
+    stored-laid after end g = lays-append (tag ∷ lengthField (length body)) body to room mid at after end h (rw plain-octets at g)

@@ -4,6 +4,7 @@ pub mod Framing
 pub mod Items
 pub mod Rows
 pub mod Summing
+pub mod Copied
 pub mod Emitting
 pub mod Finding
 pub mod Whole

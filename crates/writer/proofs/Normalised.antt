@@ -31,11 +31,12 @@ use Rattle.survey.specs.declared.Standing.{Standing}
 use Rattle.survey.specs.declared.Standing.the-variants.{Bad, Misfit, Fits}
 use Rattle.writer.specs.declared.emit.Reached.{Reached}
 use Rattle.survey.specs.Normal.{laterOctets}
-use Rattle.writer.specs.Steps.{itemsFrom, Holding, Ordered, Fitting, Emits}
+use Rattle.writer.specs.Steps.{itemsFrom, Holding, Ordered, Fitting, Emits, AsLaid}
 use Rattle.survey.specs.Survey.{surveyed}
 use Rattle.writer.specs.Lay.{Layable, LaidTree, LaysTree}
 use Rattle.writer.proofs.Rows.{fourIn}
-use Rattle.writer.proofs.Whole.{tree-holding, tree-ordered, tree-fits, tree-written}
+use Rattle.writer.proofs.Copied.{accepted-laid}
+use Rattle.writer.proofs.Whole.{tree-holding, tree-items, tree-ordered, tree-fits, tree-written}
 use Rattle.survey.proofs.WholeSizes.{store-less}
 
 -- the parts of an object's fit
@@ -187,6 +188,9 @@ module _ (o : List ℕ) (os : Octets o) (l : Lists) (store room : List ℕ) (v :
 
     pub normal-ordered : Ordered 0 (itemsFrom (fourIn l′) n store′ 1 0 .0)
     normal-ordered = tree-ordered n l′ store′ (loadedOf t) given
+
+    pub normal-stands : AsLaid 0 (itemsFrom (fourIn l′) n store′ 1 0 .0)
+    normal-stands = rw (tree-items n l′ store′ (loadedOf t) given) (accepted-laid o t os (found .judged))
 
     pub normal-fits : Fitting (laterOctets 0 (itemsFrom (fourIn l′) n store′ 1 0 .0)) 0 (length room)
     normal-fits = tree-fits n l′ store′ (loadedOf t) given room given-fit

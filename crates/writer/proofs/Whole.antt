@@ -110,7 +110,7 @@ module _ (n : ℕ) (l : Lists) (lent : List ℕ) (t : Items) (e : treeGiven n l 
       let p = placed n l (given-both .0) in
       record { tags = p .tags; depths = p .depths; starts = p .starts; sizes = p .sizes; bodies = rebuilt-bodies (row l) n lent t (given-both .1) }
 
-  tree-items : itemsFrom (fourIn l) n lent 1 0 .0 ≡ t
+  pub tree-items : itemsFrom (fourIn l) n lent 1 0 .0 ≡ t
   unfolding itemsFrom
   tree-items =
       ap (λ x. x .0) (tree-four l n lent (suc (n - 0)) 1 0)

@@ -1,6 +1,6 @@
 -- What the parts of the writer answer, and what the room then holds: measuring and writing the items of an element from a record on.
 use mathlib.Core.Path.{_≡_}
-use mathlib.Core.Bool.{true, cond, _&&_}
+use mathlib.Core.Bool.{true, false, cond, _&&_}
 use mathlib.Core.Option.{Option, none, some}
 use mathlib.Core.List.{List, [], _++_}
 use Prim.Native.Nat.{ℕ, suc, _+_, _-_, _≤_, _<_}
@@ -13,6 +13,7 @@ use Rattle.values.specs.declared.Kind.{Kind}
 use Rattle.values.specs.Table.{attribute}
 use Rattle.format.specs.declared.Record.{Record}
 use Rattle.format.specs.Tree.{Items, find}
+use Rattle.format.specs.Tree.Items.{end, item}
 use Rattle.format.specs.Meaning.{opens}
 use Rattle.format.specs.Writer.{Spot, bodyIn, tree, ruled}
 use Rattle.format.specs.Calls.{Lists, row}
@@ -91,13 +92,18 @@ pub record BodyAt (i : ℕ) (starts sizes lent : List ℕ) : Type 0 where
   pub size : i < length sizes
   pub inside : getD starts i 0 + getD sizes i 0 ≤ length lent
 
+-- items whose bodies are their normal octets already: of each that holds no items its body is written as it stands
+unfoldable pub AsLaid : ℕ → Items → Type 0
+AsLaid parent end = Unit {0}
+AsLaid parent (item tag at body inside after) = AsLaid tag inside × (opens tag ≡ false → itemOctets parent tag body ≡ framed tag body) × AsLaid parent after
+
 -- an element that holds items: its attributes, then its other items
 unfoldable pub elementOctets : ℕ → Items → List ℕ
 elementOctets tag inside = framed tag (attributeOctets tag inside ++ laterOctets tag inside)
 
 -- what a room holds from a place up to another
-unfoldable pub between : (from end : ℕ) → List ℕ → List ℕ
-between from end room = take (end - from) (drop from room)
+unfoldable pub between : (from to : ℕ) → List ℕ → List ℕ
+between from to room = take (to - from) (drop from room)
 
 -- a body lies behind the two places of a short header, and the room has places for it with the header that it takes
 pub record Framable (tag to end : ℕ) (room : List ℕ) : Type 0 where

@@ -2,14 +2,18 @@
 // their records and its CDATA, all behind two places, and then the header that comes before them (frame.rt).
 // Cost: each record is looked at once, and the attributes of an element once for each of them and once more, 8 times at most. An octet moves once for each element
 // around it whose length takes more than one octet, 16 at most.
+// Bodies that are `stored`, laid as normal octets before, are copied as they stand; of others the normal octets are made.
 ghost use mathlib.Core.Path.{_≡_};
+ghost use mathlib.Core.Bool.{true};
 ghost use Prim.Native.Nat.{_+_, _≤_, _<_};
 ghost use lib.ListN.{length, getD};
+ghost use Rattle.octets.specs.Header.{framed};
 ghost use Rattle.survey.specs.Normal.{itemOctets, attributeOctets, laterOctets};
-ghost use Rattle.writer.specs.Steps.{four, itemsFrom, Holding, Lays, Ordered, Fitting, lowerOf, FindsLowest, BodyAt, bodyAt, roleOf, Emits};
+ghost use Rattle.writer.specs.Steps.{four, itemsFrom, Holding, Lays, Ordered, Fitting, lowerOf, FindsLowest, BodyAt, bodyAt, roleOf, Emits, AsLaid};
 use crate::frame::put_frame;
 use crate::item::holds_items;
 use crate::item::put_item;
+use crate::item::put_stored;
 use crate::item::wide;
 use crate::item::wide16;
 
@@ -89,14 +93,20 @@ fn put_body(
     sizes: &[u16],
     octets: &[u8],
     i: usize,
+    stored: bool,
 ) -> usize
     requires { ⌜ BodyAt i (now starts) (now sizes) (now octets) ⌝ }
+    requires { ⌜ (stored ≡ true → itemOctets parent tag (bodyAt i (now starts) (now sizes) (now octets)) ≡ framed tag (bodyAt i (now starts) (now sizes) (now octets))) ⌝ }
     requires { ⌜ Fitting (itemOctets parent tag (bodyAt i (now starts) (now sizes) (now octets))) to (length (now room)) ⌝ }
     ensures { λ r. ⌜ Lays (itemOctets parent tag (bodyAt i (now (starts .entry)) (now (sizes .entry)) (now (octets .entry)))) to (now (room .entry)) (now (room .exit)) r ⌝ }
 {
     let start = wide16(starts[i]);
     let end = start + wide16(sizes[i]);
-    put_item(room, to, parent, tag, &octets[start..end])
+    let body = &octets[start..end];
+    if stored {
+        return put_stored(room, to, tag, body);
+    }
+    put_item(room, to, parent, tag, body)
 }
 
 // The attributes of an element by rising tag.
@@ -112,8 +122,10 @@ fn emit_attributes(
     parent: u8,
     room: &mut [u8],
     to: usize,
+    stored: bool,
 ) -> usize
     requires { ⌜ Holding n (four tags depths starts sizes) (now octets) × Ordered parent (itemsFrom (four tags depths starts sizes) n (now octets) depth at .0) ⌝ }
+    requires { ⌜ (stored ≡ true → AsLaid parent (itemsFrom (four tags depths starts sizes) n (now octets) depth at .0)) ⌝ }
     requires { ⌜ Fitting (attributeOctets parent (itemsFrom (four tags depths starts sizes) n (now octets) depth at .0)) to (length (now room)) ⌝ }
     ensures { λ r. ⌜ Lays (attributeOctets parent (itemsFrom (four (tags .entry) (depths .entry) (starts .entry) (sizes .entry)) n (now (octets .entry)) depth at .0)) to (now (room .entry)) (now (room .exit)) r ⌝ }
 {
@@ -129,6 +141,7 @@ fn emit_attributes(
             sizes,
             octets,
             next.place,
+            stored,
         );
         next = next_attribute(n, tags, depths, at, depth, next.tag + 1);
     }
@@ -166,8 +179,10 @@ pub fn emit_items(
     parent: u8,
     room: &mut [u8],
     to: usize,
+    stored: bool,
 ) -> Reached
     requires { ⌜ Holding n (four tags depths starts sizes) (now octets) × Ordered parent (itemsFrom (four tags depths starts sizes) n (now octets) depth at .0) × (at ≤ n) × (depth ≤ at + 1) ⌝ }
+    requires { ⌜ (stored ≡ true → AsLaid parent (itemsFrom (four tags depths starts sizes) n (now octets) depth at .0)) ⌝ }
     requires { ⌜ Fitting (laterOctets parent (itemsFrom (four tags depths starts sizes) n (now octets) depth at .0)) to (length (now room)) ⌝ }
     ensures { λ r. ⌜ Emits (itemsFrom (four (tags .entry) (depths .entry) (starts .entry) (sizes .entry)) n (now (octets .entry)) depth at) parent to (now (room .entry)) (now (room .exit)) r ⌝ }
 {
@@ -182,7 +197,7 @@ pub fn emit_items(
                 i = i + 1;
             }
             Role::Other(tag) => {
-                end = put_body(room, end, parent, tag, starts, sizes, octets, i);
+                end = put_body(room, end, parent, tag, starts, sizes, octets, i, stored);
                 i = i + 1;
             }
             Role::Element(tag) => {
@@ -198,6 +213,7 @@ pub fn emit_items(
                     tag,
                     room,
                     end + 2,
+                    stored,
                 );
                 let inner = emit_items(
                     n,
@@ -211,6 +227,7 @@ pub fn emit_items(
                     tag,
                     room,
                     from,
+                    stored,
                 );
                 end = put_frame(room, end, tag, inner.end);
                 i = inner.next;

@@ -5,7 +5,7 @@ ghost use mathlib.Core.Option.{some};
 ghost use mathlib.Core.List.{_∷_};
 ghost use Prim.Native.Nat.{_+_, _≤_, _<_};
 ghost use lib.ListN.{length};
-ghost use Rattle.octets.specs.Header.{lengthField};
+ghost use Rattle.octets.specs.Header.{lengthField, framed};
 ghost use Rattle.values.specs.Table.{known};
 ghost use Rattle.format.specs.Judge.{isItems};
 ghost use Rattle.format.specs.Meaning.{opens};
@@ -125,4 +125,13 @@ pub fn put_item(room: &mut [u8], to: usize, parent: u8, tag: u8, body: &[u8]) ->
             put_value(room, at, kind, body)
         }
     }
+}
+
+// An item whose body is written as it stands.
+pub fn put_stored(room: &mut [u8], to: usize, tag: u8, body: &[u8]) -> usize
+    requires { ⌜ Fitting (framed tag (now body)) to (length (now room)) ⌝ }
+    ensures { λ r. ⌜ Lays (framed tag (now (body .entry))) to (now (room .entry)) (now (room .exit)) r ⌝ }
+{
+    let at = put_header(room, to, tag, body.len());
+    put_value(room, at, Kind::HoldsPlain, body)
 }

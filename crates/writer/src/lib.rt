@@ -72,6 +72,7 @@ pub fn write(
                     0,
                     room,
                     0,
+                    false,
                 );
                 return WriteAnswer::Octets(reached.end);
             }
@@ -96,7 +97,20 @@ fn write_normal(
     ensures { λ r. ⌜ NormaliseClaim (now (object .entry)) (lent (tags .entry) (kinds .entry) (depths .entry) (parents .entry) (starts .entry) (sizes .entry)) (lent (tags .exit) (kinds .exit) (depths .exit) (parents .exit) (starts .exit) (sizes .exit)) (now (store .entry)) (now (store .exit)) (now (room .entry)) (now (room .exit)) (Octets r) ⌝ }
 {
     let count = lay(object, tags, kinds, depths, parents, starts, sizes, store);
-    let reached = emit_items(count, tags, depths, starts, sizes, store, 0, 1, 0, room, 0);
+    let reached = emit_items(
+        count,
+        tags,
+        depths,
+        starts,
+        sizes,
+        store,
+        0,
+        1,
+        0,
+        room,
+        0,
+        true,
+    );
     reached.end
 }
 

@@ -1,4 +1,5 @@
 use Rattle.writer.proofs.Whole.{given-holding, given-ordered, given-over, given-more, given-fits, given-written, not-given}
+use mathlib.Core.Bool.{false≢true}
 use Rattle.format.specs.Lent.{lent}
 use native.Mathlib.Omega.{arith}
 use borrow.Author.Needs.{needs}
@@ -34,7 +35,7 @@ returns-2 c =
 
 emit-items-requires : tie.Need-emit-items-requires
 emit-items-requires c κs =
-    ((given-holding _ (lent ((c .before .before .before .before .before .before .before .before .before .before .before .before .before .before .before .before .args) .tags) ((c .before .before .before .before .before .before .before .before .before .before .before .before .before .before .before .before .args) .kinds) ((c .before .before .before .before .before .before .before .before .before .before .before .before .before .before .before .before .args) .depths) ((c .before .before .before .before .before .before .before .before .before .before .before .before .before .before .before .before .args) .parents) ((c .before .before .before .before .before .before .before .before .before .before .before .before .before .before .before .before .args) .starts) ((c .before .before .before .before .before .before .before .before .before .before .before .before .before .before .before .before .args) .sizes)) _ _ ((c .before .before .before .before .before .before .before .is-well-formed) .ensures) ((c .before .before .before .before .before .before .if1) .taken), given-ordered _ (lent ((c .before .before .before .before .before .before .before .before .before .before .before .before .before .before .before .before .args) .tags) ((c .before .before .before .before .before .before .before .before .before .before .before .before .before .before .before .before .args) .kinds) ((c .before .before .before .before .before .before .before .before .before .before .before .before .before .before .before .before .args) .depths) ((c .before .before .before .before .before .before .before .before .before .before .before .before .before .before .before .before .args) .parents) ((c .before .before .before .before .before .before .before .before .before .before .before .before .before .before .before .before .args) .starts) ((c .before .before .before .before .before .before .before .before .before .before .before .before .before .before .before .before .args) .sizes)) _ _ ((c .before .before .before .before .before .before .before .is-well-formed) .ensures) ((c .before .before .before .before .before .before .if1) .taken), omega arith, omega arith), given-fits _ (lent ((c .before .before .before .before .before .before .before .before .before .before .before .before .before .before .before .before .args) .tags) ((c .before .before .before .before .before .before .before .before .before .before .before .before .before .before .before .before .args) .kinds) ((c .before .before .before .before .before .before .before .before .before .before .before .before .before .before .before .before .args) .depths) ((c .before .before .before .before .before .before .before .before .before .before .before .before .before .before .before .before .args) .parents) ((c .before .before .before .before .before .before .before .before .before .before .before .before .before .before .before .before .args) .starts) ((c .before .before .before .before .before .before .before .before .before .before .before .before .before .before .before .before .args) .sizes)) _ _ ((c .before .before .before .before .before .before .before .is-well-formed) .ensures) ((c .before .before .before .before .before .before .if1) .taken) _ ((c .before .before .before .before .before .size-items) .ensures) _ _ ((c .before .before .before .total) .given .1) ((c .before .before .before .before .before .before .before .before .before .before .before .before .before .before .before .before .args) .room .now) ((c .before .if2) .left))
+    ((given-holding _ (lent ((c .before .before .before .before .before .before .before .before .before .before .before .before .before .before .before .before .args) .tags) ((c .before .before .before .before .before .before .before .before .before .before .before .before .before .before .before .before .args) .kinds) ((c .before .before .before .before .before .before .before .before .before .before .before .before .before .before .before .before .args) .depths) ((c .before .before .before .before .before .before .before .before .before .before .before .before .before .before .before .before .args) .parents) ((c .before .before .before .before .before .before .before .before .before .before .before .before .before .before .before .before .args) .starts) ((c .before .before .before .before .before .before .before .before .before .before .before .before .before .before .before .before .args) .sizes)) _ _ ((c .before .before .before .before .before .before .before .is-well-formed) .ensures) ((c .before .before .before .before .before .before .if1) .taken), given-ordered _ (lent ((c .before .before .before .before .before .before .before .before .before .before .before .before .before .before .before .before .args) .tags) ((c .before .before .before .before .before .before .before .before .before .before .before .before .before .before .before .before .args) .kinds) ((c .before .before .before .before .before .before .before .before .before .before .before .before .before .before .before .before .args) .depths) ((c .before .before .before .before .before .before .before .before .before .before .before .before .before .before .before .before .args) .parents) ((c .before .before .before .before .before .before .before .before .before .before .before .before .before .before .before .before .args) .starts) ((c .before .before .before .before .before .before .before .before .before .before .before .before .before .before .before .before .args) .sizes)) _ _ ((c .before .before .before .before .before .before .before .is-well-formed) .ensures) ((c .before .before .before .before .before .before .if1) .taken), omega arith, omega arith), ((λ q. absurd (false≢true q)), given-fits _ (lent ((c .before .before .before .before .before .before .before .before .before .before .before .before .before .before .before .before .args) .tags) ((c .before .before .before .before .before .before .before .before .before .before .before .before .before .before .before .before .args) .kinds) ((c .before .before .before .before .before .before .before .before .before .before .before .before .before .before .before .before .args) .depths) ((c .before .before .before .before .before .before .before .before .before .before .before .before .before .before .before .before .args) .parents) ((c .before .before .before .before .before .before .before .before .before .before .before .before .before .before .before .before .args) .starts) ((c .before .before .before .before .before .before .before .before .before .before .before .before .before .before .before .before .args) .sizes)) _ _ ((c .before .before .before .before .before .before .before .is-well-formed) .ensures) ((c .before .before .before .before .before .before .if1) .taken) _ ((c .before .before .before .before .before .size-items) .ensures) _ _ ((c .before .before .before .total) .given .1) ((c .before .before .before .before .before .before .before .before .before .before .before .before .before .before .before .before .args) .room .now) ((c .before .if2) .left)))
 
 same-length : tie.Need-same-length
 same-length c = search needs

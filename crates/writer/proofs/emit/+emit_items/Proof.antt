@@ -1,4 +1,4 @@
-use Rattle.writer.proofs.Emitting.{Written, written-start, written-length, written-gone, written-end, attribute-next, other-fits, other-next, element-ordered, attributes-fit, inner-fits, element-framable, element-less, element-next}
+use Rattle.writer.proofs.Emitting.{Written, written-start, written-length, written-gone, written-end, attribute-next, other-fits, other-next, element-ordered, element-stands, attributes-fit, inner-fits, element-framable, element-less, element-next}
 use Rattle.writer.proofs.Summing.{falls-within, deeper}
 use Rattle.writer.specs.Steps.{fourOf}
 use borrow.Author.Needs.{needs}
@@ -29,11 +29,11 @@ emit-items-below t =
     and 6 emit-items-kinds.ps (falls 6 emit-items-kinds.ps _<_ μ-emit-items t) emit-items.Pre
 
 abbrev emit-items-Inv-loop : emit-items-lts.InvT-loop
-emit-items-Inv-loop n tags depths starts sizes octets at depth parent room₀ to i₀ end₀ room i end =
-    Written (fourOf tags depths starts sizes) n octets parent depth at to room₀ room i end
+emit-items-Inv-loop n tags depths starts sizes octets at depth parent room₀ to stored i₀ end₀ room i end =
+    Written stored (fourOf tags depths starts sizes) n octets parent depth at to room₀ room i end
 
 abbrev emit-items-μ-loop : emit-items-lts.MeasureT-loop
-emit-items-μ-loop n tags depths starts sizes octets at depth parent room₀ to i₀ end₀ room i end = n - i
+emit-items-μ-loop n tags depths starts sizes octets at depth parent room₀ to stored i₀ end₀ room i end = n - i
 
 emit-items-loop-holds : (t : ℕ) → emit-items-lts.Need-loop-holds (
   role-at-reads.Asked,
@@ -48,7 +48,7 @@ emit-items-loop-holds : (t : ℕ) → emit-items-lts.Need-loop-holds (
   put-frame-reads.Learnt,
 ) (emit-items-at t) emit-items.Post emit-items-Inv-loop emit-items-μ-loop
 emit-items-loop-holds t c =
-    written-start _ _ _ _ _ _ _ _ ((c .before .before .before .before .before .before .pre) .1 .0 .1) ((c .before .before .before .before .before .before .pre) .1 .0 .2)
+    written-start _ _ _ _ _ _ _ _ _ ((c .before .before .before .before .before .before .pre) .1 .0 .1) ((c .before .before .before .before .before .before .pre) .1 .0 .2) ((c .before .before .before .before .before .before .pre) .1 .1 .0)
 
 emit-items-role-at-requires : (t : ℕ) → emit-items-lts.Need-role-at-requires (
   role-at-reads.Asked,
@@ -93,7 +93,7 @@ emit-items-same-length : (t : ℕ) → emit-items-lts.Need-same-length (
   put-frame-reads.Learnt,
 ) (emit-items-at t) emit-items.Post emit-items-Inv-loop emit-items-μ-loop
 emit-items-same-length t c =
-    written-length _ _ _ _ _ _ _ _ _ _ _ ((c .before .before .before .before .loop) .inv)
+    written-length _ _ _ _ _ _ _ _ _ _ _ _ ((c .before .before .before .before .loop) .inv)
 
 emit-items-returns : (t : ℕ) → emit-items-lts.Need-returns (
   role-at-reads.Asked,
@@ -108,7 +108,7 @@ emit-items-returns : (t : ℕ) → emit-items-lts.Need-returns (
   put-frame-reads.Learnt,
 ) (emit-items-at t) emit-items.Post emit-items-Inv-loop emit-items-μ-loop
 emit-items-returns t c =
-    written-gone _ _ _ _ _ _ _ _ _ _ _ ((c .before .before .before .before .loop) .inv) ((c .before .before .before .loop-test) .taken) _ ((c .before .before .role-at) .ensures) ((c .enum-told) .given .1)
+    written-gone _ _ _ _ _ _ _ _ _ _ _ _ ((c .before .before .before .before .loop) .inv) ((c .before .before .before .loop-test) .taken) _ ((c .before .before .role-at) .ensures) ((c .enum-told) .given .1)
 
 emit-items-enum-told-2 : (t : ℕ) → emit-items-lts.Need-enum-told-2 (
   role-at-reads.Asked,
@@ -168,7 +168,7 @@ emit-items-loop-again : (t : ℕ) → emit-items-lts.Need-loop-again (
   put-frame-reads.Learnt,
 ) (emit-items-at t) emit-items.Post emit-items-Inv-loop emit-items-μ-loop
 emit-items-loop-again t c =
-    attribute-next _ _ _ _ _ _ _ _ _ _ _ ((c .before .before .before .before .loop) .inv) ((c .before .before .before .loop-test) .taken) _ ((c .before .before .role-at) .ensures) ((c .enum-told2) .given .1)
+    attribute-next _ _ _ _ _ _ _ _ _ _ _ _ ((c .before .before .before .before .loop) .inv) ((c .before .before .before .loop-test) .taken) _ ((c .before .before .role-at) .ensures) ((c .enum-told2) .given .1)
 
 emit-items-enum-known-tag : (t : ℕ) → emit-items-lts.Need-enum-known-tag (
   role-at-reads.Asked,
@@ -198,7 +198,7 @@ emit-items-put-body-requires : (t : ℕ) → emit-items-lts.Need-put-body-requir
   put-frame-reads.Learnt,
 ) (emit-items-at t) emit-items.Post emit-items-Inv-loop emit-items-μ-loop
 emit-items-put-body-requires t c κs =
-    other-fits _ _ _ _ _ _ _ ((c .before .before .before .before .before .before .before .before .before .before .before .before .before .args) .room .now) ((c .before .before .before .before .before .before .loop) .room) _ _ ((c .before .before .before .before .before .before .loop) .inv) ((c .before .before .before .before .before .loop-test) .taken) _ ((c .before .before .before .before .role-at) .ensures) _ ((c .before .before .tag) .given .1) ((c .before .before .before .before .before .before .before .before .before .before .before .before .before .pre) .1 .0 .0) ((c .before .before .before .before .before .before .before .before .before .before .before .before .before .pre) .1 .1)
+    other-fits _ _ _ _ _ _ _ _ ((c .before .before .before .before .before .before .before .before .before .before .before .before .before .args) .room .now) ((c .before .before .before .before .before .before .loop) .room) _ _ ((c .before .before .before .before .before .before .loop) .inv) ((c .before .before .before .before .before .loop-test) .taken) _ ((c .before .before .before .before .role-at) .ensures) _ ((c .before .before .tag) .given .1) ((c .before .before .before .before .before .before .before .before .before .before .before .before .before .pre) .1 .0 .0) ((c .before .before .before .before .before .before .before .before .before .before .before .before .before .pre) .1 .1 .1)
 
 emit-items-add-i-2 : (t : ℕ) → emit-items-lts.Need-add-i-2 (
   role-at-reads.Asked,
@@ -243,7 +243,7 @@ emit-items-loop-again-2 : (t : ℕ) → emit-items-lts.Need-loop-again-2 (
   put-frame-reads.Learnt,
 ) (emit-items-at t) emit-items.Post emit-items-Inv-loop emit-items-μ-loop
 emit-items-loop-again-2 t c =
-    other-next _ _ _ _ _ _ _ _ _ _ _ ((c .before .before .before .before .before .before .before .before .before .loop) .inv) ((c .before .before .before .before .before .before .before .before .loop-test) .taken) _ ((c .before .before .before .before .before .before .before .role-at) .ensures) _ ((c .before .before .before .before .before .tag) .given .1) _ _ ((c .before .before .put-body) .ensures)
+    other-next _ _ _ _ _ _ _ _ _ _ _ _ ((c .before .before .before .before .before .before .before .before .before .loop) .inv) ((c .before .before .before .before .before .before .before .before .loop-test) .taken) _ ((c .before .before .before .before .before .before .before .role-at) .ensures) _ ((c .before .before .before .before .before .tag) .given .1) _ _ ((c .before .before .put-body) .ensures)
 
 emit-items-enum-known-tag-2 : (t : ℕ) → emit-items-lts.Need-enum-known-tag-2 (
   role-at-reads.Asked,
@@ -303,7 +303,7 @@ emit-items-add-emit-attributes-3 : (t : ℕ) → emit-items-lts.Need-add-emit-at
   put-frame-reads.Learnt,
 ) (emit-items-at t) emit-items.Post emit-items-Inv-loop emit-items-μ-loop
 emit-items-add-emit-attributes-3 t c =
-    let f = attributes-fit _ _ _ _ _ _ _ ((c .before .before .before .before .before .before .before .before .before .before .before .before .before .args) .room .now) ((c .before .before .before .before .before .before .loop) .room) _ _ ((c .before .before .before .before .before .before .loop) .inv) ((c .before .before .before .before .before .loop-test) .taken) _ ((c .before .before .before .before .role-at) .ensures) _ ((c .before .before .tag2) .given .1) ((c .before .before .before .before .before .before .before .before .before .before .before .before .before .pre) .1 .1) in let y = f .inObject in record { fits = omega (arith, y) }
+    let f = attributes-fit _ _ _ _ _ _ _ _ ((c .before .before .before .before .before .before .before .before .before .before .before .before .before .args) .room .now) ((c .before .before .before .before .before .before .loop) .room) _ _ ((c .before .before .before .before .before .before .loop) .inv) ((c .before .before .before .before .before .loop-test) .taken) _ ((c .before .before .before .before .role-at) .ensures) _ ((c .before .before .tag2) .given .1) ((c .before .before .before .before .before .before .before .before .before .before .before .before .before .pre) .1 .1 .1) in let y = f .inObject in record { fits = omega (arith, y) }
 
 emit-items-emit-attributes-requires : (t : ℕ) → emit-items-lts.Need-emit-attributes-requires (
   role-at-reads.Asked,
@@ -318,7 +318,7 @@ emit-items-emit-attributes-requires : (t : ℕ) → emit-items-lts.Need-emit-att
   put-frame-reads.Learnt,
 ) (emit-items-at t) emit-items.Post emit-items-Inv-loop emit-items-μ-loop
 emit-items-emit-attributes-requires t c κs =
-    (((c .before .before .before .before .before .before .before .before .before .before .before .before .before .pre) .1 .0 .0, element-ordered _ _ _ _ _ _ _ ((c .before .before .before .before .before .before .before .before .before .before .before .before .before .args) .room .now) ((c .before .before .before .before .before .before .loop) .room) _ _ ((c .before .before .before .before .before .before .loop) .inv) ((c .before .before .before .before .before .loop-test) .taken) _ ((c .before .before .before .before .role-at) .ensures) _ ((c .before .before .tag2) .given .1)), attributes-fit _ _ _ _ _ _ _ ((c .before .before .before .before .before .before .before .before .before .before .before .before .before .args) .room .now) ((c .before .before .before .before .before .before .loop) .room) _ _ ((c .before .before .before .before .before .before .loop) .inv) ((c .before .before .before .before .before .loop-test) .taken) _ ((c .before .before .before .before .role-at) .ensures) _ ((c .before .before .tag2) .given .1) ((c .before .before .before .before .before .before .before .before .before .before .before .before .before .pre) .1 .1))
+    (((c .before .before .before .before .before .before .before .before .before .before .before .before .before .pre) .1 .0 .0, element-ordered _ _ _ _ _ _ _ _ ((c .before .before .before .before .before .before .before .before .before .before .before .before .before .args) .room .now) ((c .before .before .before .before .before .before .loop) .room) _ _ ((c .before .before .before .before .before .before .loop) .inv) ((c .before .before .before .before .before .loop-test) .taken) _ ((c .before .before .before .before .role-at) .ensures) _ ((c .before .before .tag2) .given .1)), (element-stands _ _ _ _ _ _ _ _ ((c .before .before .before .before .before .before .before .before .before .before .before .before .before .args) .room .now) ((c .before .before .before .before .before .before .loop) .room) _ _ ((c .before .before .before .before .before .before .loop) .inv) ((c .before .before .before .before .before .loop-test) .taken) _ ((c .before .before .before .before .role-at) .ensures) _ ((c .before .before .tag2) .given .1), attributes-fit _ _ _ _ _ _ _ _ ((c .before .before .before .before .before .before .before .before .before .before .before .before .before .args) .room .now) ((c .before .before .before .before .before .before .loop) .room) _ _ ((c .before .before .before .before .before .before .loop) .inv) ((c .before .before .before .before .before .loop-test) .taken) _ ((c .before .before .before .before .role-at) .ensures) _ ((c .before .before .tag2) .given .1) ((c .before .before .before .before .before .before .before .before .before .before .before .before .before .pre) .1 .1 .1)))
 
 emit-items-add-emit-items : (t : ℕ) → emit-items-lts.Need-add-emit-items (
   role-at-reads.Asked,
@@ -363,7 +363,7 @@ emit-items-emit-items-requires : (t : ℕ) → emit-items-lts.Need-emit-items-re
   put-frame-reads.Learnt,
 ) (emit-items-at t) emit-items.Post emit-items-Inv-loop emit-items-μ-loop
 emit-items-emit-items-requires t c κs =
-    let inv = (c .before .before .before .before .before .before .before .before .before .before .loop) .inv in (falls-within _ _ _ t ((c .before .before .before .before .before .before .before .before .before .before .before .before .before .before .before .before .before .pre) .0) (inv .low) ((c .before .before .before .before .before .before .before .before .before .loop-test) .taken), (((c .before .before .before .before .before .before .before .before .before .before .before .before .before .before .before .before .before .pre) .1 .0 .0, element-ordered _ _ _ _ _ _ _ ((c .before .before .before .before .before .before .before .before .before .before .before .before .before .before .before .before .before .args) .room .now) ((c .before .before .before .before .before .before .before .before .before .before .loop) .room) _ _ ((c .before .before .before .before .before .before .before .before .before .before .loop) .inv) ((c .before .before .before .before .before .before .before .before .before .loop-test) .taken) _ ((c .before .before .before .before .before .before .before .before .role-at) .ensures) _ ((c .before .before .before .before .before .before .tag2) .given .1), omega (arith, (c .before .before .before .before .before .before .before .before .before .loop-test)), deeper _ _ _ ((c .before .before .before .before .before .before .before .before .before .before .before .before .before .before .before .before .before .pre) .1 .0 .3) (inv .low)), inner-fits _ _ _ _ _ _ _ ((c .before .before .before .before .before .before .before .before .before .before .before .before .before .before .before .before .before .args) .room .now) ((c .before .before .before .before .before .before .before .before .before .before .loop) .room) _ _ ((c .before .before .before .before .before .before .before .before .before .before .loop) .inv) ((c .before .before .before .before .before .before .before .before .before .loop-test) .taken) _ ((c .before .before .before .before .before .before .before .before .role-at) .ensures) _ ((c .before .before .before .before .before .before .tag2) .given .1) ((c .before .before .before .before .before .before .before .before .before .before .before .before .before .before .before .before .before .pre) .1 .1) _ _ ((c .before .before .before .emit-attributes) .ensures)))
+    let inv = (c .before .before .before .before .before .before .before .before .before .before .loop) .inv in (falls-within _ _ _ t ((c .before .before .before .before .before .before .before .before .before .before .before .before .before .before .before .before .before .pre) .0) (inv .low) ((c .before .before .before .before .before .before .before .before .before .loop-test) .taken), (((c .before .before .before .before .before .before .before .before .before .before .before .before .before .before .before .before .before .pre) .1 .0 .0, element-ordered _ _ _ _ _ _ _ _ ((c .before .before .before .before .before .before .before .before .before .before .before .before .before .before .before .before .before .args) .room .now) ((c .before .before .before .before .before .before .before .before .before .before .loop) .room) _ _ ((c .before .before .before .before .before .before .before .before .before .before .loop) .inv) ((c .before .before .before .before .before .before .before .before .before .loop-test) .taken) _ ((c .before .before .before .before .before .before .before .before .role-at) .ensures) _ ((c .before .before .before .before .before .before .tag2) .given .1), omega (arith, (c .before .before .before .before .before .before .before .before .before .loop-test)), deeper _ _ _ ((c .before .before .before .before .before .before .before .before .before .before .before .before .before .before .before .before .before .pre) .1 .0 .3) (inv .low)), (element-stands _ _ _ _ _ _ _ _ ((c .before .before .before .before .before .before .before .before .before .before .before .before .before .before .before .before .before .args) .room .now) ((c .before .before .before .before .before .before .before .before .before .before .loop) .room) _ _ ((c .before .before .before .before .before .before .before .before .before .before .loop) .inv) ((c .before .before .before .before .before .before .before .before .before .loop-test) .taken) _ ((c .before .before .before .before .before .before .before .before .role-at) .ensures) _ ((c .before .before .before .before .before .before .tag2) .given .1), inner-fits _ _ _ _ _ _ _ _ ((c .before .before .before .before .before .before .before .before .before .before .before .before .before .before .before .before .before .args) .room .now) ((c .before .before .before .before .before .before .before .before .before .before .loop) .room) _ _ ((c .before .before .before .before .before .before .before .before .before .before .loop) .inv) ((c .before .before .before .before .before .before .before .before .before .loop-test) .taken) _ ((c .before .before .before .before .before .before .before .before .role-at) .ensures) _ ((c .before .before .before .before .before .before .tag2) .given .1) ((c .before .before .before .before .before .before .before .before .before .before .before .before .before .before .before .before .before .pre) .1 .1 .1) _ _ ((c .before .before .before .emit-attributes) .ensures))))
 
 emit-items-put-frame-requires : (t : ℕ) → emit-items-lts.Need-put-frame-requires (
   role-at-reads.Asked,
@@ -378,7 +378,7 @@ emit-items-put-frame-requires : (t : ℕ) → emit-items-lts.Need-put-frame-requ
   put-frame-reads.Learnt,
 ) (emit-items-at t) emit-items.Post emit-items-Inv-loop emit-items-μ-loop
 emit-items-put-frame-requires t c κs =
-    element-framable _ _ _ _ _ _ _ ((c .before .before .before .before .before .before .before .before .before .before .before .before .before .before .before .before .before .before .before .before .before .args) .room .now) ((c .before .before .before .before .before .before .before .before .before .before .before .before .before .before .loop) .room) _ _ ((c .before .before .before .before .before .before .before .before .before .before .before .before .before .before .loop) .inv) ((c .before .before .before .before .before .before .before .before .before .before .before .before .before .loop-test) .taken) _ ((c .before .before .before .before .before .before .before .before .before .before .before .before .role-at) .ensures) _ ((c .before .before .before .before .before .before .before .before .before .before .tag2) .given .1) ((c .before .before .before .before .before .before .before .before .before .before .before .before .before .before .before .before .before .before .before .before .before .pre) .1 .1) _ _ ((c .before .before .before .before .before .before .before .emit-attributes) .ensures) _ _ ((c .before .before .before .emit-items) .ensures)
+    element-framable _ _ _ _ _ _ _ _ ((c .before .before .before .before .before .before .before .before .before .before .before .before .before .before .before .before .before .before .before .before .before .args) .room .now) ((c .before .before .before .before .before .before .before .before .before .before .before .before .before .before .loop) .room) _ _ ((c .before .before .before .before .before .before .before .before .before .before .before .before .before .before .loop) .inv) ((c .before .before .before .before .before .before .before .before .before .before .before .before .before .loop-test) .taken) _ ((c .before .before .before .before .before .before .before .before .before .before .before .before .role-at) .ensures) _ ((c .before .before .before .before .before .before .before .before .before .before .tag2) .given .1) ((c .before .before .before .before .before .before .before .before .before .before .before .before .before .before .before .before .before .before .before .before .before .pre) .1 .1 .1) _ _ ((c .before .before .before .before .before .before .before .emit-attributes) .ensures) _ _ ((c .before .before .before .emit-items) .ensures)
 
 emit-items-loop-less-3 : (t : ℕ) → emit-items-lts.Need-loop-less-3 (
   role-at-reads.Asked,
@@ -393,7 +393,7 @@ emit-items-loop-less-3 : (t : ℕ) → emit-items-lts.Need-loop-less-3 (
   put-frame-reads.Learnt,
 ) (emit-items-at t) emit-items.Post emit-items-Inv-loop emit-items-μ-loop
 emit-items-loop-less-3 t c =
-    element-less _ _ _ _ _ _ _ ((c .before .before .before .before .before .before .before .before .before .before .before .before .before .before .before .before .before .before .before .before .before .before .before .before .args) .room .now) ((c .before .before .before .before .before .before .before .before .before .before .before .before .before .before .before .before .before .loop) .room) _ _ ((c .before .before .before .before .before .before .before .before .before .before .before .before .before .before .before .before .before .loop) .inv) ((c .before .before .before .before .before .before .before .before .before .before .before .before .before .before .before .before .loop-test) .taken) _ ((c .before .before .before .before .before .before .before .before .before .before .before .before .before .before .before .role-at) .ensures) _ ((c .before .before .before .before .before .before .before .before .before .before .before .before .before .tag2) .given .1) ((c .before .before .before .before .before .before .before .before .before .before .before .before .before .before .before .before .before .before .before .before .before .before .before .before .pre) .1 .1) _ _ ((c .before .before .before .before .before .before .before .before .before .before .emit-attributes) .ensures) _ _ ((c .before .before .before .before .before .before .emit-items) .ensures)
+    element-less _ _ _ _ _ _ _ _ ((c .before .before .before .before .before .before .before .before .before .before .before .before .before .before .before .before .before .before .before .before .before .before .before .before .args) .room .now) ((c .before .before .before .before .before .before .before .before .before .before .before .before .before .before .before .before .before .loop) .room) _ _ ((c .before .before .before .before .before .before .before .before .before .before .before .before .before .before .before .before .before .loop) .inv) ((c .before .before .before .before .before .before .before .before .before .before .before .before .before .before .before .before .loop-test) .taken) _ ((c .before .before .before .before .before .before .before .before .before .before .before .before .before .before .before .role-at) .ensures) _ ((c .before .before .before .before .before .before .before .before .before .before .before .before .before .tag2) .given .1) ((c .before .before .before .before .before .before .before .before .before .before .before .before .before .before .before .before .before .before .before .before .before .before .before .before .pre) .1 .1 .1) _ _ ((c .before .before .before .before .before .before .before .before .before .before .emit-attributes) .ensures) _ _ ((c .before .before .before .before .before .before .emit-items) .ensures)
 
 emit-items-loop-again-3 : (t : ℕ) → emit-items-lts.Need-loop-again-3 (
   role-at-reads.Asked,
@@ -408,7 +408,7 @@ emit-items-loop-again-3 : (t : ℕ) → emit-items-lts.Need-loop-again-3 (
   put-frame-reads.Learnt,
 ) (emit-items-at t) emit-items.Post emit-items-Inv-loop emit-items-μ-loop
 emit-items-loop-again-3 t c =
-    element-next _ _ _ _ _ _ _ ((c .before .before .before .before .before .before .before .before .before .before .before .before .before .before .before .before .before .before .before .before .before .before .before .before .args) .room .now) ((c .before .before .before .before .before .before .before .before .before .before .before .before .before .before .before .before .before .loop) .room) _ _ ((c .before .before .before .before .before .before .before .before .before .before .before .before .before .before .before .before .before .loop) .inv) ((c .before .before .before .before .before .before .before .before .before .before .before .before .before .before .before .before .loop-test) .taken) _ ((c .before .before .before .before .before .before .before .before .before .before .before .before .before .before .before .role-at) .ensures) _ ((c .before .before .before .before .before .before .before .before .before .before .before .before .before .tag2) .given .1) ((c .before .before .before .before .before .before .before .before .before .before .before .before .before .before .before .before .before .before .before .before .before .before .before .before .pre) .1 .1) _ _ ((c .before .before .before .before .before .before .before .before .before .before .emit-attributes) .ensures) _ _ ((c .before .before .before .before .before .before .emit-items) .ensures) _ _ ((c .before .before .put-frame) .ensures)
+    element-next _ _ _ _ _ _ _ _ ((c .before .before .before .before .before .before .before .before .before .before .before .before .before .before .before .before .before .before .before .before .before .before .before .before .args) .room .now) ((c .before .before .before .before .before .before .before .before .before .before .before .before .before .before .before .before .before .loop) .room) _ _ ((c .before .before .before .before .before .before .before .before .before .before .before .before .before .before .before .before .before .loop) .inv) ((c .before .before .before .before .before .before .before .before .before .before .before .before .before .before .before .before .loop-test) .taken) _ ((c .before .before .before .before .before .before .before .before .before .before .before .before .before .before .before .role-at) .ensures) _ ((c .before .before .before .before .before .before .before .before .before .before .before .before .before .tag2) .given .1) ((c .before .before .before .before .before .before .before .before .before .before .before .before .before .before .before .before .before .before .before .before .before .before .before .before .pre) .1 .1 .1) _ _ ((c .before .before .before .before .before .before .before .before .before .before .emit-attributes) .ensures) _ _ ((c .before .before .before .before .before .before .emit-items) .ensures) _ _ ((c .before .before .put-frame) .ensures)
 
 emit-items-same-length-2 : (t : ℕ) → emit-items-lts.Need-same-length-2 (
   role-at-reads.Asked,
@@ -423,7 +423,7 @@ emit-items-same-length-2 : (t : ℕ) → emit-items-lts.Need-same-length-2 (
   put-frame-reads.Learnt,
 ) (emit-items-at t) emit-items.Post emit-items-Inv-loop emit-items-μ-loop
 emit-items-same-length-2 t c =
-    written-length _ _ _ _ _ _ _ _ _ _ _ ((c .before .loop) .inv)
+    written-length _ _ _ _ _ _ _ _ _ _ _ _ ((c .before .loop) .inv)
 
 emit-items-returns-2 : (t : ℕ) → emit-items-lts.Need-returns-2 (
   role-at-reads.Asked,
@@ -438,7 +438,7 @@ emit-items-returns-2 : (t : ℕ) → emit-items-lts.Need-returns-2 (
   put-frame-reads.Learnt,
 ) (emit-items-at t) emit-items.Post emit-items-Inv-loop emit-items-μ-loop
 emit-items-returns-2 t c =
-    written-end _ _ _ _ _ _ _ _ _ _ _ ((c .before .loop) .inv) ((c .loop-test) .left)
+    written-end _ _ _ _ _ _ _ _ _ _ _ _ ((c .before .loop) .inv) ((c .loop-test) .left)
 
 pub +emit-items-spec : {M : Type 1} → statement M
 +emit-items-spec = close μ-emit-items λ t. emit-items-lts.spec (

@@ -6,11 +6,11 @@ use Rattle.writer.proofs.emit.emit_attributes.Statement.{statement}
 use Rattle.writer.proofs.emit.emit_attributes.Tie as tie
 
 abbrev Inv-loop : tie.InvT-loop
-Inv-loop n tags depths starts sizes octets at depth parent room₀ to end₀ next₀ room end next =
+Inv-loop n tags depths starts sizes octets at depth parent room₀ to stored end₀ next₀ room end next =
     Risen parent n tags depths starts sizes octets at depth to room₀ room end next
 
 abbrev μ-loop : tie.MeasureT-loop
-μ-loop n tags depths starts sizes octets at depth parent room₀ to end₀ next₀ room end next = 0x87 - next .tag
+μ-loop n tags depths starts sizes octets at depth parent room₀ to stored end₀ next₀ room end next = 0x87 - next .tag
 
 next-attribute-requires : tie.Need-next-attribute-requires Inv-loop μ-loop
 next-attribute-requires c κs =
@@ -22,7 +22,7 @@ loop-holds c =
 
 put-body-requires : tie.Need-put-body-requires Inv-loop μ-loop
 put-body-requires c κs =
-    risen-fits _ _ _ _ _ _ _ _ _ _ ((c .before .before .before .before .before .before .before .before .before .before .before .args) .room .now) ((c .before .before .before .loop) .room) _ _ ((c .before .before .before .loop) .inv) ((c .before .before .before .before .before .before .before .before .before .before .before .pre) .0 .1) ((c .before .if1) .taken) ((c .before .before .before .before .before .before .before .before .before .before .before .pre) .0 .0) ((c .before .before .before .before .before .before .before .before .before .before .before .pre) .1)
+    risen-fits _ _ _ _ _ _ _ _ _ _ ((c .before .before .before .before .before .before .before .before .before .before .before .args) .room .now) ((c .before .before .before .loop) .room) _ _ ((c .before .before .before .loop) .inv) ((c .before .before .before .before .before .before .before .before .before .before .before .pre) .0 .1) ((c .before .if1) .taken) _ ((c .before .before .before .before .before .before .before .before .before .before .before .pre) .0 .0) ((c .before .before .before .before .before .before .before .before .before .before .before .pre) .1 .0) ((c .before .before .before .before .before .before .before .before .before .before .before .pre) .1 .1)
 
 add-next-attribute : tie.Need-add-next-attribute Inv-loop μ-loop
 add-next-attribute c =

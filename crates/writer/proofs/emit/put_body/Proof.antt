@@ -1,4 +1,4 @@
-use Rattle.writer.proofs.Emitting.{body-fits, body-laid}
+use Rattle.writer.proofs.Emitting.{body-fits, body-laid, stored-fits, stored-laid}
 use lib.ListN.{length}
 use borrow.Author.Needs.{needs}
 use Rattle.writer.proofs.emit.put_body.Statement.{statement}
@@ -25,25 +25,36 @@ wide16-requires-2 c κs = search needs
 add-end : tie.Need-add-end
 add-end c = search needs
 
-sub-put-item : tie.Need-sub-put-item
-sub-put-item c = search needs
+sub-body : tie.Need-sub-body
+sub-body c = search needs
 
-part-put-item-start : tie.Need-part-put-item-start
-part-put-item-start c = search needs
+part-body-start : tie.Need-part-body-start
+part-body-start c = search needs
 
-part-put-item-end : tie.Need-part-put-item-end
-part-put-item-end c = search needs
+part-body-end : tie.Need-part-body-end
+part-body-end c = search needs
 
-put-item-requires : tie.Need-put-item-requires
-put-item-requires c κs =
-    body-fits _ _ _ _ _ _ _ _ ((c .before .before .before .before .wide16) .ensures .0) ((c .before .before .wide162) .ensures .0) _ (length ((c .before .before .before .before .before .before .before .before .before .before .args) .room .now)) ((c .before .before .before .before .before .before .before .before .before .before .pre) .1)
+put-stored-requires : tie.Need-put-stored-requires
+put-stored-requires c κs =
+    stored-fits _ _ _ _ _ _ _ _ ((c .before .before .before .before .before .wide16) .ensures .0) ((c .before .before .before .wide162) .ensures .0) ((c .before .before .before .before .before .before .before .before .before .before .before .pre) .1 .0 ((c .before .if1) .taken)) _ (length ((c .before .before .before .before .before .before .before .before .before .before .before .args) .room .now)) ((c .before .before .before .before .before .before .before .before .before .before .before .pre) .1 .1)
 
 same-length : tie.Need-same-length
 same-length c = search needs
 
 returns : tie.Need-returns
 returns c =
-    body-laid _ _ _ _ _ _ _ _ ((c .before .before .before .before .before .before .before .wide16) .ensures .0) ((c .before .before .before .before .before .wide162) .ensures .0) _ _ _ _ ((c .before .before .put-item) .ensures)
+    stored-laid _ _ _ _ _ _ _ _ ((c .before .before .before .before .before .before .before .before .wide16) .ensures .0) ((c .before .before .before .before .before .before .wide162) .ensures .0) ((c .before .before .before .before .before .before .before .before .before .before .before .before .before .before .pre) .1 .0 ((c .before .before .before .before .if1) .taken)) _ _ _ _ ((c .before .before .put-stored) .ensures)
+
+put-item-requires : tie.Need-put-item-requires
+put-item-requires c κs =
+    body-fits _ _ _ _ _ _ _ _ ((c .before .before .before .before .before .wide16) .ensures .0) ((c .before .before .before .wide162) .ensures .0) _ (length ((c .before .before .before .before .before .before .before .before .before .before .before .args) .room .now)) ((c .before .before .before .before .before .before .before .before .before .before .before .pre) .1 .1)
+
+same-length-2 : tie.Need-same-length-2
+same-length-2 c = search needs
+
+returns-2 : tie.Need-returns-2
+returns-2 c =
+    body-laid _ _ _ _ _ _ _ _ ((c .before .before .before .before .before .before .before .before .wide16) .ensures .0) ((c .before .before .before .before .before .before .wide162) .ensures .0) _ _ _ _ ((c .before .before .put-item) .ensures)
 
 pub put-body-spec : {M : Type 1} → statement M
 put-body-spec =
@@ -56,9 +67,12 @@ put-body-spec =
     shared-slice-read-wide16-2
     wide16-requires-2
     add-end
-    sub-put-item
-    part-put-item-start
-    part-put-item-end
-    put-item-requires
+    sub-body
+    part-body-start
+    part-body-end
+    put-stored-requires
     same-length
-    returns)
+    returns
+    put-item-requires
+    same-length-2
+    returns-2)

@@ -1,0 +1,117 @@
+-- Items that are written as they stand: what is known of the parts of such items, and that those of a loaded tree are such.
+use mathlib.Core.Path.{_≡_, refl, sym, ap, _∙_}
+use mathlib.Core.Bool.{Bool, true, false, cond, false≢true}
+use mathlib.Core.Option.{none, some, Option·some-injective, Option·none-ne-some}
+use mathlib.Core.List.{List, []}
+use Prim.Native.Nat.{ℕ, _+_}
+use lib.Dec.{eqb}
+use lib.ListN.{length}
+use borrow.Author.Tests.{eqb-true}
+use Rattle.octets.specs.Numbers.{Octets}
+use Rattle.octets.specs.Header.{framed}
+use Rattle.text.specs.Tokens.{Entries}
+use Rattle.text.proofs.Expansion.{Sound}
+use Rattle.values.specs.declared.Kind.{Kind}
+use Rattle.values.specs.declared.Kind.the-variants.{HoldsItems, HoldsTokens, HoldsText, HoldsPlain, HoldsTime, HoldsBearer, HoldsNumber}
+use Rattle.values.specs.Table.{known}
+use Rattle.values.specs.Values.{meant, octetsOf}
+use Rattle.values.specs.Proper.{Proper}
+use Rattle.values.proofs.Values.{valueKind, proper-means, proper-fits, fits-proper}
+use Rattle.format.specs.Tree.{Items, find}
+use Rattle.format.specs.Tree.Items.{end, item}
+use Rattle.format.specs.Judge.{isItems, isTokens, isValue, judge}
+use Rattle.format.specs.Judge.Judged.{accepted}
+use Rattle.format.specs.Meaning.{opens, tableOf}
+use Rattle.format.specs.Loaded.{stored, storeIn, loadedIn, loadedOf}
+use Rattle.format.specs.Writer.{Spot, below, past, atTop}
+use Rattle.format.proofs.Means.{items-opens}
+use Rattle.format.proofs.Told.{Told, ItemTold, KindTold, accepted-told, accepted-sound}
+use Rattle.format.proofs.Fine.{told-text, known-is}
+use Rattle.judge.proofs.AllWays.{tokens-four}
+use Rattle.survey.specs.Normal.{valueOctets, itemOctets}
+use Rattle.survey.proofs.Ways.{value-fits, item-known}
+use Rattle.writer.specs.Steps.{AsLaid}
+
+-- an item and the items after it
+module _ (p tag at : ℕ) (body : List ℕ) (inside after : Items) (h : AsLaid p (item tag at body inside after)) where
+  pub laid-inside : AsLaid tag inside
+  unfolding AsLaid
+  laid-inside = h .0
+
+  pub laid-own : opens tag ≡ false → itemOctets p tag body ≡ framed tag body
+  unfolding AsLaid
+  laid-own o = h .1 o
+
+  pub laid-after : AsLaid p after
+  unfolding AsLaid
+  laid-after = h .2
+
+-- an item that is found among them
+pub laid-found : (p tag : ℕ) → opens tag ≡ false → (t : Items) (body : List ℕ) → AsLaid p t → find tag t ≡ some body → itemOctets p tag body ≡ framed tag body
+unfolding find
+laid-found p tag o end body h f = absurd (Option·none-ne-some body f)
+laid-found p tag o (item tag′ at body′ x y) body h f = go (eqb tag tag′) refl f (laid-found p tag o y body (laid-after p tag′ at body′ x y h))
+  where
+    go : (b : Bool) → eqb tag tag′ ≡ b → cond b (some body′) (find tag y) ≡ some body → (find tag y ≡ some body → itemOctets p tag body ≡ framed tag body)
+        → itemOctets p tag body ≡ framed tag body
+    go false e g ih = ih g
+    go true e g ih =
+        let same = eqb-true tag tag′ e in
+        rw (same, ← Option·some-injective body′ body g) (laid-own p tag′ at body′ x y h (ap opens (sym same) ∙ o))
+
+-- what is neither an element that holds items nor the token table has a value
+value-kind : (p tag : ℕ) (k : Kind) → known p tag ≡ some k → eqb tag 4 ≡ false → opens tag ≡ false → valueKind k ≡ true
+unfolding isItems isTokens
+value-kind p tag HoldsItems e f o = absurd (false≢true (sym o ∙ (sym (items-opens p tag) ∙ rw e)))
+value-kind p tag HoldsTokens e f o = absurd (false≢true (sym f ∙ (sym (tokens-four p tag) ∙ rw e)))
+value-kind p tag HoldsText e f o = refl
+value-kind p tag HoldsPlain e f o = refl
+value-kind p tag HoldsTime e f o = refl
+value-kind p tag HoldsBearer e f o = refl
+value-kind p tag (HoldsNumber n) e f o = refl
+
+-- the octets of a value that is meant are its normal octets
+proper-octets : (T : Entries) (k : Kind) (body : List ℕ) → Proper k (meant T k body) → valueOctets k (stored T (some k) body) ≡ stored T (some k) body
+unfolding stored
+proper-octets T k body h = value-fits k (octetsOf (meant T k body)) (proper-fits h) ∙ ap octetsOf (proper-means h)
+
+module _ (T : Entries) (sound : Sound T) (s : Spot) (tag : ℕ) (body : List ℕ) where
+  told-value : (k : Kind) → Octets body → KindTold T (s .parent) tag body (some k) → valueKind k ≡ true → Proper k (meant T k body)
+  unfolding isValue
+  told-value k os h v = fits-proper T k body os v (h .value) (λ q. told-text T (s .parent) tag body sound (rw q at h))
+
+  -- so what a told item takes of the store is written as it stands
+  stored-own : (x : Items) → ItemTold T s tag body x → eqb tag 4 ≡ false → opens tag ≡ false
+      → itemOctets (s .parent) tag (stored T (known (s .parent) tag) body) ≡ framed tag (stored T (known (s .parent) tag) body)
+  stored-own x i f o =
+      let k = known-is (known (s .parent) tag) (i .kind .isOne) in
+      let h : KindTold T (s .parent) tag body (some (k .0)) = rw (k .1) at (i .kind) in
+      let v = told-value (k .0) (i .octets) h (value-kind (s .parent) tag (k .0) (k .1) f o) in
+      rw (k .1) (item-known (s .parent) tag (stored T (some (k .0)) body) (k .0) (k .1) ∙ ap (framed tag) (proper-octets T (k .0) body v))
+
+  abbrev Loaded : Spot → Items → Type 0
+  Loaded u t = (at : ℕ) → AsLaid (u .parent) (loadedIn T (u .parent) at t)
+
+  loaded-item : (from : ℕ) (x u : Items) → ItemTold T s tag body x → Loaded (below s tag) x → Loaded (past s tag) u → Loaded s (item tag from body x u)
+  unfolding loadedIn AsLaid below past
+  loaded-item from x u i inside after at = go (eqb tag 4) refl (opens tag) refl
+    where
+      own : List ℕ
+      own = stored T (known (s .parent) tag) body
+
+      go : (b : Bool) → eqb tag 4 ≡ b → (c : Bool) → opens tag ≡ c
+          → AsLaid (s .parent) (cond b (loadedIn T (s .parent) at u) (cond c (item tag 0 [] (loadedIn T tag at x) (loadedIn T (s .parent) (at + length (storeIn T tag x)) u)) (item tag at own end (loadedIn T (s .parent) (at + length own) u))))
+      go true e c o = after at
+      go false e true o = (inside at, (λ n. absurd (false≢true (sym n ∙ o))), after (at + length (storeIn T tag x)))
+      go false e false o = (tt, (λ n. stored-own x i e o), after (at + length own))
+
+loaded-laid : (T : Entries) → Sound T → (t : Items) (s : Spot) → Told T s t → (at : ℕ) → AsLaid (s .parent) (loadedIn T (s .parent) at t)
+unfolding loadedIn AsLaid
+loaded-laid T sound end s h at = tt
+loaded-laid T sound (item tag from body x u) s h at =
+    loaded-item T sound s tag body from x u (h .0) (loaded-laid T sound x (below s tag) (h .1)) (loaded-laid T sound u (past s tag) (h .2)) at
+
+-- the loaded tree of an accepted object
+pub accepted-laid : (o : List ℕ) (t : Items) → Octets o → judge o ≡ accepted t → AsLaid 0 (loadedOf t)
+unfolding atTop
+accepted-laid o t os h = loaded-laid (tableOf t) (accepted-sound o t os h) t atTop (accepted-told o t os h) 0
