@@ -20,34 +20,34 @@ use Rattle.survey.proofs.table.item_at.Reads as item-at-reads
 use Rattle.survey.proofs.measure.+measure_item+measure_items.{statement}
 use Rattle.survey.proofs.measure.+measure_item+measure_items.Tie.{close}
 
-abbrev μ-measure-item : Measures 2 measure-item-kinds.ps ℕ
+abbrev μ-measure-item : Measures 3 measure-item-kinds.ps ℕ
 μ-measure-item κs a = a .1 .1 .0 + a .1 .1 .0
 
-abbrev μ-measure-items : Measures 2 measure-items-kinds.ps ℕ
+abbrev μ-measure-items : Measures 3 measure-items-kinds.ps ℕ
 μ-measure-items κs a = a .1 .0 + a .1 .0 + 1
 
-abbrev measure-item-at : ℕ → In 2 measure-item-kinds.ps
+abbrev measure-item-at : ℕ → In 3 measure-item-kinds.ps
 measure-item-at t =
-    and 2 measure-item-kinds.ps (is 2 measure-item-kinds.ps μ-measure-item t) measure-item.Pre
+    and 3 measure-item-kinds.ps (is 3 measure-item-kinds.ps μ-measure-item t) measure-item.Pre
 
-abbrev measure-item-below : ℕ → In 2 measure-item-kinds.ps
+abbrev measure-item-below : ℕ → In 3 measure-item-kinds.ps
 measure-item-below t =
     and
-    2
+    3
     measure-item-kinds.ps
-    (falls 2 measure-item-kinds.ps _<_ μ-measure-item t)
+    (falls 3 measure-item-kinds.ps _<_ μ-measure-item t)
     measure-item.Pre
 
-abbrev measure-items-at : ℕ → In 2 measure-items-kinds.ps
+abbrev measure-items-at : ℕ → In 3 measure-items-kinds.ps
 measure-items-at t =
-    and 2 measure-items-kinds.ps (is 2 measure-items-kinds.ps μ-measure-items t) measure-items.Pre
+    and 3 measure-items-kinds.ps (is 3 measure-items-kinds.ps μ-measure-items t) measure-items.Pre
 
-abbrev measure-items-below : ℕ → In 2 measure-items-kinds.ps
+abbrev measure-items-below : ℕ → In 3 measure-items-kinds.ps
 measure-items-below t =
     and
-    2
+    3
     measure-items-kinds.ps
-    (falls 2 measure-items-kinds.ps _<_ μ-measure-items t)
+    (falls 3 measure-items-kinds.ps _<_ μ-measure-items t)
     measure-items.Pre
 
 measure-item-part-of-requires : (t : ℕ) → measure-item-lts.Need-part-of-requires (
@@ -210,10 +210,10 @@ measure-item-returns-5 t c =
     item-inside _ _ _ _ _ _ ((c .before .before .before .before .before .before .before .before .part-of) .ensures) ((c .before .before .before .before .before .before .enum-told2) .given .1) ((c .before .before .before .before .before .if1) .left) _ ((c .before .before .before .before .measure-items) .ensures) _ _ ((c .before .before .store) .given .1) _ ((c .framed2) .ensures)
 
 abbrev measure-items-Inv-loop : measure-items-lts.InvT-loop
-measure-items-Inv-loop parent left part table store₀ octets₀ at₀ store octets at = Sums (entries table) parent left part store octets at
+measure-items-Inv-loop parent left part table widths store₀ octets₀ at₀ store octets at = Sums (entries table) parent left part store octets at
 
 abbrev measure-items-μ-loop : measure-items-lts.MeasureT-loop
-measure-items-μ-loop parent left part table store₀ octets₀ at₀ store octets at = length part - at
+measure-items-μ-loop parent left part table widths store₀ octets₀ at₀ store octets at = length part - at
 
 measure-items-loop-holds : (t : ℕ) → measure-items-lts.Need-loop-holds (
   item-at-reads.Asked,

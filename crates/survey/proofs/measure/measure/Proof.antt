@@ -15,7 +15,7 @@ measure-items-requires c κs = search needs
 
 returns : tie.Need-returns
 returns c =
-    measures _ _ _ (λ i. omega (arith, (c .before .before .before .shared-slice-known) .given i)) ((c .before .before .table-of) .ensures) ((c .measure-items) .ensures)
+    measures _ _ _ (λ i. omega (arith, (c .before .before .before .before .shared-slice-known) .given i)) ((c .before .before .before .table-of) .ensures) ((c .measure-items) .ensures)
 
 pub measure-spec : {M : Type 1} → statement M
 measure-spec = tie.close (tie.spec table-of-requires widths-of-requires measure-items-requires returns)

@@ -62,7 +62,7 @@ returns-3 c =
 
 returns-4 : tie.Need-returns-4
 returns-4 c =
-    part-text _ _ _ _ _ ((c .before .before .before .before .before .before .known-kind) .ensures) _ ((c .before .before .before .before .kind) .given .1) _ _ ? ((c .before .enum-told4) .given .1) ((c .expanded-size) .ensures)
+    part-text _ _ _ _ _ ((c .before .before .before .before .before .before .known-kind) .ensures) _ ((c .before .before .before .before .kind) .given .1) _ _ ((c .before .before .before .before .before .before .before .before .before .pre)) ((c .before .enum-told4) .given .1) ((c .expanded-size) .ensures)
 
 returns-5 : tie.Need-returns-5
 returns-5 c =
