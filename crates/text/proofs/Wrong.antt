@@ -8,7 +8,7 @@ use lib.Dec.{leb}
 use lib.ListN.{getD, replicate}
 use Rattle.octets.specs.Numbers.{among}
 use Rattle.text.specs.Text.{layout, token, character, single, goesOn, utf8, text}
-use Rattle.text.specs.Tokens.{entries, cut, filled, isTable, entry, orItself, stands, expanded, present, covers, covered, shownLength, expandedSize}
+use Rattle.text.specs.Tokens.{entries, cut, filled, isTable, entry, orItself, stands, expanded, present, covers, covered, shownLength}
 use Rattle.text.specs.Leaves.{replacedBy}
 use Rattle.text.specs.Index.{startOf, longest, Indexes, usable, placeAt, placeBy, withPlace, entriesBelow, entriesBy}
 use Rattle.text.specs.Calls.{found, expandFits, expandAnswer, expandOut, ExpandClaim}
@@ -143,12 +143,12 @@ unfolding shownLength expanded stands token layout among entries cut entry orIts
 limit-refused h = false≢true h
 
 -- expanded_size: the token counts as one octet; it does not stop at the most that is asked for
-pub size-unexpanded : 2 ≡ min 9 (expandedSize (entries abc) (0x01 ∷ 0x44 ∷ [])) → ⊥
-unfolding expandedSize expanded stands token layout among entries cut entry orItself
+pub size-unexpanded : 2 ≡ min 9 (weight (1 ∷ 3 ∷ []) (0x01 ∷ 0x44 ∷ [])) → ⊥
+unfolding weight widthAt
 size-unexpanded h = let z : _≡_ {A = ℕ} 2 4 = h in omega arith
 
-pub size-runs-on : 4 ≡ min 3 (expandedSize (entries abc) (0x01 ∷ 0x44 ∷ [])) → ⊥
-unfolding expandedSize expanded stands token layout among entries cut entry orItself
+pub size-runs-on : 4 ≡ min 3 (weight (1 ∷ 3 ∷ []) (0x01 ∷ 0x44 ∷ [])) → ⊥
+unfolding weight widthAt
 size-runs-on h = let z : _≡_ {A = ℕ} 4 3 = h in omega arith
 
 -- expand: a room of just the size is refused; what fits is written there and no more is told than its size; what doesn't fit is written in part; by an index

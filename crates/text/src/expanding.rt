@@ -1,8 +1,7 @@
-// Texts with their tokens replaced: judged and measured where they stand, and copied by `expand` alone. The run of octets above the last token
-// with which a text begins is passed over, eight octets at a time. What comes after it is measured, by eights too as far as they go, by the widths
-// of all tokens, for which the table is gone through once a text. To write an expansion, each run is copied, and the text of a token is found by an
-// index of the table, which is made once for all texts. It is measured before that only where it could be too long for its room. Whether each token has an
-// entry is asked of all of them at once.
+// Texts with their tokens replaced: measured where they stand, and copied by `expand` alone. The run of octets above the last token with which a text
+// begins is passed over, eight octets at a time. What comes after it is measured, by eights too as far as they go, by the widths of all tokens. To write
+// an expansion, each run is copied, and the text of a token is found by an index of the table. Widths and index are made once for all texts of a table.
+// An expansion is measured before it is written only where it could be too long for its room. Whether each token has an entry is asked of all of them at once.
 ghost use mathlib.Core.Path.{_≡_};
 ghost use Prim.Native.Nat.{_+_, _^_, _≤_, _<_, min};
 ghost use lib.Dec.{leb};
@@ -270,7 +269,7 @@ fn write_all(index: &[usize; 32], table: &[u8], s: &[u8], out: &mut [u8], at: us
 }
 
 // How many octets stand for an octet, by an index.
-fn width_at(index: &[usize; 32], table: &[u8], b: u8) -> usize
+fn indexed_width(index: &[usize; 32], table: &[u8], b: u8) -> usize
     ensures { λ r. ⌜ r ≡ length (stands (entriesBy (now (index .entry)) (now (table .entry))) b) ⌝ }
 {
     match replacement(index, table, b) {
@@ -286,7 +285,7 @@ fn size_by(index: &[usize; 32], table: &[u8], s: &[u8], most: usize) -> usize
     let mut total: usize = 0;
     let mut at: usize = 0;
     while at < s.len() {
-        let size = width_at(index, table, s[at]);
+        let size = indexed_width(index, table, s[at]);
         if most - total <= size {
             return most;
         }

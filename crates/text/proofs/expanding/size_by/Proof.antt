@@ -15,11 +15,11 @@ abbrev μ-loop : tie.MeasureT-loop
 loop-holds : tie.Need-loop-holds Inv-loop μ-loop
 loop-holds c = search (add-ways, needs)
 
-shared-slice-read-width-at : tie.Need-shared-slice-read-width-at Inv-loop μ-loop
-shared-slice-read-width-at c = search needs
+shared-slice-read-indexed-width : tie.Need-shared-slice-read-indexed-width Inv-loop μ-loop
+shared-slice-read-indexed-width c = search needs
 
-width-at-requires : tie.Need-width-at-requires Inv-loop μ-loop
-width-at-requires c κs = search needs
+indexed-width-requires : tie.Need-indexed-width-requires Inv-loop μ-loop
+indexed-width-requires c κs = search needs
 
 sub-if1 : tie.Need-sub-if1 Inv-loop μ-loop
 sub-if1 c = search needs
@@ -49,8 +49,8 @@ size-by-spec =
     Inv-loop
     μ-loop
     loop-holds
-    shared-slice-read-width-at
-    width-at-requires
+    shared-slice-read-indexed-width
+    indexed-width-requires
     sub-if1
     returns
     add-total
