@@ -1,5 +1,5 @@
-// An item that holds no items: whether it is written, how many octets it then has, and its octets. Measuring and writing both ask
-// `written`, so they can't differ in what they leave out.
+// An item that holds no items: whether it is written, how many octets it then has, and its octets. Measuring records and writing
+// them both ask `written`, so they can't differ in what they leave out.
 ghost use mathlib.Core.Path.{_≡_};
 ghost use mathlib.Core.Option.{some};
 ghost use mathlib.Core.List.{_∷_};
@@ -127,7 +127,7 @@ pub fn put_item(room: &mut [u8], to: usize, parent: u8, tag: u8, body: &[u8]) ->
     }
 }
 
-// An item whose body is written as it stands.
+// An item that is known to be written, and its body to be its normal octets: nothing is asked of it, the body is copied as it stands.
 pub fn put_stored(room: &mut [u8], to: usize, tag: u8, body: &[u8]) -> usize
     requires { ⌜ Fitting (framed tag (now body)) to (length (now room)) ⌝ }
     ensures { λ r. ⌜ Lays (framed tag (now (body .entry))) to (now (room .entry)) (now (room .exit)) r ⌝ }
