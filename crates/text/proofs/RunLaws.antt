@@ -1,6 +1,6 @@
 -- Runs of octets: how the code finds where they end, what a text is without one, and the loop of `check`, which passes over them.
 use Prim.Native.Nat.{ℕ, zero, suc, _+_, _-_, _≤_, _<_}
-use mathlib.Core.Path.{_≡_, refl, sym, ap, subst, _∙_}
+use mathlib.Core.Path.{_≡_, refl, sym, ap, ap₂, subst, _∙_}
 use mathlib.Core.List.{List, [], _∷_, _++_}
 use mathlib.Core.Bool.{Bool, true, false, _&&_}
 use lib.ListN.{length, getD, take, drop, length-drop, length-append, drop-of-length-le, take-append-drop}
@@ -18,6 +18,10 @@ use Rattle.text.specs.Weighing.{widthAt, weight}
 use Rattle.text.proofs.Widths.{width-high}
 use Rattle.text.proofs.Words.{high-octet, covered-cons}
 use Rattle.text.proofs.Laws.{ascii-text, expanded-append, bare-expanded}
+
+pub and-assoc : (a b c : Bool) → a && (b && c) ≡ a && b && c
+and-assoc true b c = refl
+and-assoc false b c = refl
 
 -- ---- what `are_eight_within` answers
 from-right : (a b c d e f g h : Bool) → a && b && c && d && e && f && g && h ≡ a && (b && (c && (d && (e && (f && (g && (h && true)))))))
@@ -47,7 +51,7 @@ eight-within least most (i ∷ j ∷ k ∷ l ∷ m ∷ []) z a b c d e f g h ea 
 eight-within least most (i ∷ j ∷ k ∷ l ∷ m ∷ n ∷ []) z a b c d e f g h ea eb ec ed ee ef eg eh = absurd (omega arith)
 eight-within least most (i ∷ j ∷ k ∷ l ∷ m ∷ n ∷ o ∷ []) z a b c d e f g h ea eb ec ed ee ef eg eh = absurd (omega arith)
 
--- ---- the loops of `eights_end` and `run_end`
+-- ---- the loops of `eights_end`, `sixteens_end` and `run_end`
 module _ (least most : ℕ) where
   all-append : (a b : List ℕ) → allWithin least most a ≡ true → allWithin least most b ≡ true → allWithin least most (a ++ b) ≡ true
   unfolding allWithin
@@ -76,11 +80,34 @@ module _ (least most : ℕ) where
           → RunTo least most s at (end + 8)
       run-eight h r e y = run-more 8 (omega (arith, run .inside)) (ap (λ q. allWithin least most (take 8 q)) (sym (part-to-end s end)) ∙ sym e ∙ y)
 
+      pub run-sixteen : 16 ≤ length s - end → (r : Bool) → r ≡ allWithin least most (take 16 (take (length s - end) (drop end s))) → r ≡ true
+          → RunTo least most s at (end + 16)
+      run-sixteen h r e y = run-more 16 (omega (arith, run .inside)) (ap (λ q. allWithin least most (take 16 q)) (sym (part-to-end s end)) ∙ sym e ∙ y)
+
+      pub run-join : (to : ℕ) → RunTo least most s end to → RunTo least most s at to
+      run-join to more =
+          let all : end + (to - end) ≡ to = omega (arith, more .onward) in
+          subst (λ (n : ℕ). RunTo least most s at n) all (run-more (to - end) (omega (arith, more .onward, more .inside)) (more .all))
+
       pub run-one : end < length s → (r : Bool) → r ≡ within least most (getD s end 0) → r ≡ true → RunTo least most s at (end + 1)
       unfolding allWithin
       run-one h r e y = run-more 1 (omega arith) (ap (λ q. allWithin least most (take 1 q)) (drop-next s end 0 h) ∙ rw (← e, y))
 
 pub ruleset run-ways = (run-begin, run-eight, run-one)
+
+pub ruleset sixteen-ways = (run-begin, run-sixteen)
+
+-- ---- what `are_sixteen_plain` answers
+all-both : (least most : ℕ) (a b : List ℕ) → allWithin least most (a ++ b) ≡ allWithin least most a && allWithin least most b
+unfolding allWithin
+all-both least most [] b = refl
+all-both least most (x ∷ a) b = rw (all-both least most a b) (and-assoc (within least most x) (allWithin least most a) (allWithin least most b))
+
+pub two-eights : (s : List ℕ) (a b : Bool) → a ≡ allWithin 0x20 0x7F (take 8 s) → b ≡ allWithin 0x20 0x7F (take 8 (take (length s - 8) (drop 8 s)))
+    → a && b ≡ allWithin 0x20 0x7F (take 16 s)
+two-eights s a b p q =
+    ap₂ _&&_ p (q ∙ ap (λ r. allWithin 0x20 0x7F (take 8 r)) (part-to-end s 8))
+    ∙ sym (ap (allWithin 0x20 0x7F) (part-split s 0 8 8) ∙ all-both 0x20 0x7F (take 8 s) (take 8 (drop 8 s)))
 
 -- ---- a text at a run: the octets of the run, and what comes behind it
 module _ (least most : ℕ) (s : List ℕ) (at end : ℕ) (run : RunTo least most s at end) where

@@ -26,7 +26,7 @@ use Rattle.text.proofs.Words.{high-octet}
 use Rattle.text.proofs.Masks.{bit-none, mark-one, kept-within, within-kept}
 use Rattle.text.proofs.Widths.{weight-is}
 use Rattle.text.proofs.Replaced.{tag-present}
-use Rattle.text.proofs.RunLaws.{run-split, run-length, run-weight, bounds, Holds, check-done, check-stop, check-again, behind}
+use Rattle.text.proofs.RunLaws.{and-assoc, run-split, run-length, run-weight, bounds, Holds, check-done, check-stop, check-again, behind}
 
 -- ---- `is_marked`
 own-bit : (b t : ℕ) → bit (tokenBit b) t ≡ token t && eqb t b
@@ -135,10 +135,6 @@ pub record Weighing (marks : ℕ) (w s : List ℕ) (most at : ℕ) (covers : Boo
 and-one : (a : Bool) → a && true ≡ a
 and-one true = refl
 and-one false = refl
-
-and-assoc : (a b c : Bool) → a && (b && c) ≡ (a && b) && c
-and-assoc true b c = refl
-and-assoc false b c = refl
 
 module _ (marks : ℕ) (w s : List ℕ) (most : ℕ) where
   pub weigh-begin : Weighing marks w s most 0 true 0

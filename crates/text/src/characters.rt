@@ -4,7 +4,7 @@ ghost use Prim.Native.Nat.{_≤_, _<_};
 ghost use lib.ListN.{length};
 ghost use Rattle.text.specs.Text.{layout, token, character, single, text};
 ghost use Rattle.text.specs.Leaves.{following, several, tokenBit, Lead, Steps};
-use crate::runs::plain_end;
+use crate::runs::long_plain_end;
 
 // An octet as a number whose sums fit.
 pub fn wide(x: u8) -> u32
@@ -149,7 +149,7 @@ pub fn check(s: &[u8], tokens: bool) -> bool
 {
     let mut at: usize = 0;
     while at < s.len() {
-        let from = plain_end(s, at);
+        let from = long_plain_end(s, at);
         if from == s.len() {
             return true;
         }

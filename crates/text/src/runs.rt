@@ -1,4 +1,4 @@
-// Runs of octets between two bounds, over which a text is passed eight octets at a time.
+// Runs of octets between two bounds, over which a text is passed eight or sixteen octets at a time.
 ghost use mathlib.Core.Path.{_≡_};
 ghost use Prim.Native.Nat.{_≤_, _<_};
 ghost use lib.ListN.{length, take};
@@ -56,8 +56,8 @@ fn run_end(s: &[u8], at: usize, least: u8, most: u8) -> usize
     end
 }
 
-// The two functions below give the bounds as constants, which the compiler needs to make one comparison of eight tests. Each asks the first
-// octet by itself: where no run begins, eights would be in vain.
+// The functions below give the bounds as constants, which the compiler needs to make one comparison of eight tests or sixteen. `plain_end` and
+// `untokened_end` ask the first octet by itself: where no run begins, eights would be in vain.
 
 // The end of the run of octets that are text by themselves.
 pub fn plain_end(s: &[u8], at: usize) -> usize
@@ -68,6 +68,41 @@ pub fn plain_end(s: &[u8], at: usize) -> usize
         return at;
     }
     run_end(s, at, 0x20, 0x7F)
+}
+
+// Sixteen octets that are text by themselves: by their constant bounds the compiler makes one comparison of both eights.
+fn are_sixteen_plain(s: &[u8]) -> bool
+    requires { ⌜ 16 ≤ length (now s) ⌝ }
+    ensures { λ r. ⌜ r ≡ allWithin 0x20 0x7F (take 16 (now (s .entry))) ⌝ }
+{
+    are_eight_within(s, 0x20, 0x7F) & are_eight_within(&s[8..], 0x20, 0x7F)
+}
+
+// How far the run of such octets goes that begins at a place, by sixteens alone.
+fn sixteens_end(s: &[u8], at: usize) -> usize
+    requires { ⌜ at < length (now s) ⌝ }
+    ensures { λ r. ⌜ PlainTo (now (s .entry)) at r ⌝ }
+{
+    let mut end = at;
+    while s.len() - end >= 16 {
+        if !are_sixteen_plain(&s[end..]) {
+            return end;
+        }
+        end += 16;
+    }
+    end
+}
+
+// As `plain_end`, for a text in which such runs are long. In texts with tokens and accents they end too soon for sixteens to pay.
+pub fn long_plain_end(s: &[u8], at: usize) -> usize
+    requires { ⌜ at < length (now s) ⌝ }
+    ensures { λ r. ⌜ PlainTo (now (s .entry)) at r ⌝ }
+{
+    let from = sixteens_end(s, at);
+    if from == s.len() {
+        return from;
+    }
+    plain_end(s, from)
 }
 
 // The end of the run of octets above the last token.
