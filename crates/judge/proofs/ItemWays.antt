@@ -159,29 +159,37 @@ module _ (parent tag place : ℕ) (table body : List ℕ) (marks : ℕ) (widths 
 pub ruleset text-ways = (text-bad, text-uncovered, text-long, text-good)
 
 -- rules 9 to 13, for a kind
-module _ (parent tag place : ℕ) (table body : List ℕ) (k : Kind) (b : Bool) (e : b ≡ fits k body) where
+module _ (parent tag place : ℕ) (table body : List ℕ) (k : Kind) where
   abbrev Kinds : Option Kind → Option Refusal
   Kinds = kindRules (bare parent (entries table)) place tag body
 
-  pub kind-misfit : b ≡ false → checked (Broken (refusal 9 place)) ≡ Kinds (some k)
-  unfolding kindRules first rule checked isValue
-  kind-misfit f = rw (sym e ∙ f)
+  pub kind-items : k ≡ HoldsItems → checked Kept ≡ Kinds (some k)
+  unfolding kindRules first rule checked isValue isText isTokens fits
+  kind-items q = rw q
 
-  module _ (f : b ≡ true) where
-    pub kind-text : k ≡ HoldsText → (r : Check) → checked r ≡ Kinds (some HoldsText) → checked r ≡ Kinds (some k)
-    kind-text q r h = rw q h
+  pub kind-plain : k ≡ HoldsPlain → checked Kept ≡ Kinds (some k)
+  unfolding kindRules first rule checked isValue isText isTokens fits
+  kind-plain q = rw q
 
-    pub kind-table : k ≡ HoldsTokens → (t : Bool) → t ≡ isTable body → t ≡ true → checked Kept ≡ Kinds (some k)
-    unfolding kindRules first rule checked isValue isText isTokens fits
-    kind-table q t g h = rw (q, sym g ∙ h)
+  pub kind-text : k ≡ HoldsText → (r : Check) → checked r ≡ Kinds (some HoldsText) → checked r ≡ Kinds (some k)
+  kind-text q r h = rw q h
 
-    pub kind-no-table : k ≡ HoldsTokens → (t : Bool) → t ≡ isTable body → t ≡ false → checked (Broken (refusal 11 place)) ≡ Kinds (some k)
-    unfolding kindRules first rule checked isValue isText isTokens fits
-    kind-no-table q t g h = rw (q, sym g ∙ h)
+  pub kind-table : k ≡ HoldsTokens → (t : Bool) → t ≡ isTable body → t ≡ true → checked Kept ≡ Kinds (some k)
+  unfolding kindRules first rule checked isValue isText isTokens fits
+  kind-table q t g h = rw (q, sym g ∙ h)
 
-    other-kind : isText (some k) ≡ false → isTokens (some k) ≡ false → checked Kept ≡ Kinds (some k)
+  pub kind-no-table : k ≡ HoldsTokens → (t : Bool) → t ≡ isTable body → t ≡ false → checked (Broken (refusal 11 place)) ≡ Kinds (some k)
+  unfolding kindRules first rule checked isValue isText isTokens fits
+  kind-no-table q t g h = rw (q, sym g ∙ h)
+
+  module _ (b : Bool) (e : b ≡ fits k body) where
+    pub kind-misfit : b ≡ false → checked (Broken (refusal 9 place)) ≡ Kinds (some k)
     unfolding kindRules first rule checked isValue
-    other-kind x y = rw (sym e ∙ f, x, y)
+    kind-misfit f = rw (sym e ∙ f)
+
+    value-kind : b ≡ true → isText (some k) ≡ false → isTokens (some k) ≡ false → checked Kept ≡ Kinds (some k)
+    unfolding kindRules first rule checked isValue
+    value-kind f x y = rw (sym e ∙ f, x, y)
 
 -- the arm `_` of a match on an enum knows which variants are left: their numbers, in the order in which the enum declares them
 one-of : (ks : List ℕ) (x : ℕ) → OneOf ks x → among x ks ≡ true
@@ -206,15 +214,15 @@ not-text HoldsTime h = refl
 not-text HoldsBearer h = refl
 not-text (HoldsNumber n) h = refl
 
-abbrev NoWords : List ℕ
-NoWords = 0 ∷ 3 ∷ 4 ∷ 5 ∷ 6 ∷ []
+abbrev Formed : List ℕ
+Formed = 4 ∷ 5 ∷ 6 ∷ []
 
-no-words : (k : Kind) → OneOf NoWords (tagOf the-type k) → (isText (some k) ≡ false) × (isTokens (some k) ≡ false)
+no-words : (k : Kind) → OneOf Formed (tagOf the-type k) → (isText (some k) ≡ false) × (isTokens (some k) ≡ false)
 unfolding isText isTokens among
-no-words HoldsItems h = (refl, refl)
-no-words HoldsTokens h = never NoWords 1 refl h
-no-words HoldsText h = never NoWords 2 refl h
-no-words HoldsPlain h = (refl, refl)
+no-words HoldsItems h = never Formed 0 refl h
+no-words HoldsTokens h = never Formed 1 refl h
+no-words HoldsText h = never Formed 2 refl h
+no-words HoldsPlain h = never Formed 3 refl h
 no-words HoldsTime h = (refl, refl)
 no-words HoldsBearer h = (refl, refl)
 no-words (HoldsNumber n) h = (refl, refl)
@@ -232,11 +240,11 @@ leaf-sort HoldsTime h = refl
 leaf-sort HoldsBearer h = refl
 leaf-sort (HoldsNumber n) h = refl
 
-pub kind-other : (parent tag place : ℕ) (table body : List ℕ) (k : Kind) (b : Bool) → b ≡ fits k body → b ≡ true → OneOf NoWords (tagOf the-type k)
+pub kind-formed : (parent tag place : ℕ) (table body : List ℕ) (k : Kind) (b : Bool) → b ≡ fits k body → b ≡ true → OneOf Formed (tagOf the-type k)
     → checked Kept ≡ kindRules (bare parent (entries table)) place tag body (some k)
-kind-other parent tag place table body k b e f h = other-kind parent tag place table body k b e f (no-words k h .0) (no-words k h .1)
+kind-formed parent tag place table body k b e f h = value-kind parent tag place table body k b e f (no-words k h .0) (no-words k h .1)
 
-pub ruleset kind-ways = (kind-misfit, kind-text, kind-table, kind-no-table, kind-other)
+pub ruleset kind-ways = (kind-items, kind-plain, kind-text, kind-table, kind-no-table, kind-misfit, kind-formed)
 
 module _ (known : KnownKind) where
   pub sort-unknown : known ≡ Unknown → Skip ≡ sorted (asKind known)

@@ -86,7 +86,7 @@ fn check_text(
     }
 }
 
-// Rules 9 to 13, for a kind.
+// Rules 9 to 13, for a kind. Items, tokens, text and plain octets are always values of their kind, so rule 9 is asked of the others alone.
 fn check_kind(
     kind: Kind,
     parent: u8,
@@ -100,18 +100,22 @@ fn check_kind(
     requires { ⌜ InForce (now table) marks (now widths) ⌝ }
     ensures { λ r. ⌜ checked r ≡ kindRules (bare parent (entries (now (table .entry)))) place tag (now (body .entry)) (some kind) ⌝ }
 {
-    if !fits_kind(kind, body) {
-        return Check::Broken(Refusal { number: 9, place });
-    }
     match kind {
-        Kind::HoldsText => check_text(parent, tag, place, table, marks, widths, body),
+        Kind::HoldsItems => Check::Kept,
         Kind::HoldsTokens => {
             if is_table(body) {
                 return Check::Kept;
             }
             Check::Broken(Refusal { number: 11, place })
         }
-        _ => Check::Kept,
+        Kind::HoldsText => check_text(parent, tag, place, table, marks, widths, body),
+        Kind::HoldsPlain => Check::Kept,
+        _ => {
+            if fits_kind(kind, body) {
+                return Check::Kept;
+            }
+            Check::Broken(Refusal { number: 9, place })
+        }
     }
 }
 
