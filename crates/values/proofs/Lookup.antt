@@ -1,17 +1,18 @@
--- The table in code against the rows of the definition: the arms, the digits, and the lookup.
+-- The table in code against the rows of the definition: the rows made of its pairs, the arms, the digits, and the lookup.
 use mathlib.Core.Path.{_≡_, refl, sym, ap, ap₂, _∙_}
 use mathlib.Core.Bool.{Bool, true, false, cond, _&&_, _||_, false≢true}
-use mathlib.Core.Logic.{inl, inr}
 use mathlib.Core.Option.{Option, none, some}
 use mathlib.Core.List.{List, [], _∷_}
 use Prim.Native.Nat.{ℕ, zero, suc, zero-le, _+_, _-_, _*_, _/_, _%_, _^_, _≤_, _<_}
 use native.Mathlib.Nat.{div-div-eq-div-mul, pow-succ'}
+use native.Mathlib.Numerals.{add-one}
 use native.Mathlib.Omega.{arith}
-use types.Run.{OneOf}
-use lib.Bits.{bitAnd, and-mask}
+use lib.Bits.{bitAnd, bitOr, and-mask, mask-lt}
 use lib.Dec.{eqb, leb, ltb}
-use lib.ListN.{getD, List·getD-eq-default}
+use lib.ListN.{length, getD, List·getD-eq-default}
 use lib.Pow.{pow-add}
+use mir.Syntax.{w32}
+use mir.Val.{Fits}
 use borrow.Author.Tests.{ltb-true, ltb-false, eqb-true, eqb-false, ne-eqb, lt-leb, lt-ltb}
 use Rattle.octets.proofs.Tests.{and-left, and-right}
 use Rattle.values.specs.declared.Kind.{Kind}
@@ -20,7 +21,7 @@ use Rattle.values.specs.declared.NumberKind.the-variants.{Duration, Shor
 use Rattle.values.specs.declared.KnownKind.{KnownKind}
 use Rattle.values.specs.declared.KnownKind.the-variants.{Unknown}
 use Rattle.values.specs.Table.{rows, kindIn, known, attribute}
-use Rattle.values.specs.Index.{codeOf, answers, knownBy, attributeCodes, codesOf}
+use Rattle.values.specs.Index.{codeOf, answers, knownBy, attributeCodes, codesOf, packedRow, packedRows, digitOf, withDigits, rowOf}
 use Rattle.values.specs.Calls.{asKnown, knownKind}
 use Rattle.values.proofs.Known.{every, row-holds}
 
@@ -73,70 +74,85 @@ code-last code n1 n2 n3 n4 n5 n6 n7 n8 n9 n10 = go (eqb code 0) refl
     go true e = code-is code 0 (eqb-true code 0 e)
     go false e = sym (List·getD-eq-default answers Unknown {n = code} (past (eqb-false code 0 e)))
 
--- the arms of `codes_of`, in its order: a row, and the elements that have it
-unfoldable pub arms : List (ℕ × List ℕ)
+-- the place of a pair's digit
+pub place-small : (n : ℕ) → 4 * bitAnd n 7 < 32
+place-small n = omega (arith, mask-lt n 3)
+
+pub place-fits : (n : ℕ) → Fits w32 (4 * bitAnd n 7)
+place-fits n = record { fits = omega (arith, mask-lt n 3) }
+
+-- the digits joined so far, with those to come, are the row
+pub record Joining (pairs : List ℕ) (from to codes i : ℕ) : Type 0 where
+  pub same : withDigits pairs codes i (to - i) ≡ rowOf pairs from to
+
+pub join-begin : (pairs : List ℕ) (from to : ℕ) → Joining pairs from to (bitAnd (getD pairs from 0) 15) (from + 1)
+unfolding rowOf
+join-begin pairs from to = record { same = refl }
+
+module _ (pairs : List ℕ) (from to codes i : ℕ) (inv : Joining pairs from to codes i) where
+  pub join-on : i < to → (d : ℕ) → d ≡ digitOf (getD pairs i 0) → Joining pairs from to (bitOr codes d) (i + 1)
+  unfolding withDigits
+  join-on h d e =
+      let more : to - i ≡ suc (to - suc i) = omega arith in
+      record { same = ap₂ (λ n j. withDigits pairs (bitOr codes n) j (to - j)) e (add-one i) ∙ sym (ap (withDigits pairs codes i) more) ∙ inv .same }
+
+  pub join-done : to ≤ i → codes ≡ rowOf pairs from to
+  unfolding withDigits
+  join-done h =
+      let none-left : 0 ≡ to - i = omega arith in
+      ap (withDigits pairs codes i) none-left ∙ inv .same
+
+pub ruleset join-ways = (join-begin, join-on, join-done)
+
+-- the arms of `row_in`, in its order: an element, and from which number up to which its entries stand
+unfoldable pub arms : List (ℕ × ℕ × ℕ)
 arms =
-    (0x3, 0x01 ∷ 0x06 ∷ []) ∷ (0x1, 0x02 ∷ 0x13 ∷ 0x19 ∷ 0x33 ∷ 0x36 ∷ []) ∷ (0x335A1, 0x03 ∷ []) ∷ (0x2, 0x04 ∷ [])
-    ∷ (0x31, 0x10 ∷ 0x12 ∷ 0x16 ∷ 0x1A ∷ []) ∷ (0x31, 0x11 ∷ 0x1B ∷ []) ∷ (0x941, 0x14 ∷ []) ∷ (0xA831, 0x17 ∷ []) ∷ (0x533331, 0x18 ∷ [])
-    ∷ (0x3099A831, 0x1C ∷ 0x2E ∷ []) ∷ (0x35A1, 0x20 ∷ []) ∷ (0x35A1, 0x21 ∷ []) ∷ (0xA9A831, 0x23 ∷ []) ∷ (0x551, 0x24 ∷ 0x38 ∷ [])
-    ∷ (0x61, 0x25 ∷ []) ∷ (0x41, 0x26 ∷ []) ∷ (0xA1, 0x28 ∷ []) ∷ (0x3061, 0x29 ∷ 0x2D ∷ []) ∷ (0xAA93331, 0x2B ∷ []) ∷ (0x75751, 0x2C ∷ [])
-    ∷ (0x77771, 0x2F ∷ []) ∷ (0x331, 0x31 ∷ []) ∷ (0x331, 0x32 ∷ []) ∷ (0x4, 0x34 ∷ []) ∷ (0x4, 0x35 ∷ []) ∷ (0x7551, 0x37 ∷ []) ∷ []
+    (0x01, 0, 1) ∷ (0x02, 1, 2) ∷ (0x03, 2, 7) ∷ (0x04, 7, 8) ∷ (0x06, 8, 9) ∷ (0x10, 9, 11) ∷ (0x11, 11, 13) ∷ (0x12, 13, 15) ∷ (0x13, 15, 16)
+    ∷ (0x14, 16, 19) ∷ (0x16, 19, 21) ∷ (0x17, 21, 25) ∷ (0x18, 25, 31) ∷ (0x19, 31, 32) ∷ (0x1A, 32, 34) ∷ (0x1B, 34, 36) ∷ (0x1C, 36, 43)
+    ∷ (0x20, 43, 47) ∷ (0x21, 47, 51) ∷ (0x23, 51, 57) ∷ (0x24, 57, 60) ∷ (0x25, 60, 62) ∷ (0x26, 62, 64) ∷ (0x28, 64, 66) ∷ (0x29, 66, 69)
+    ∷ (0x2B, 69, 76) ∷ (0x2C, 76, 81) ∷ (0x2D, 81, 84) ∷ (0x2E, 84, 91) ∷ (0x2F, 91, 96) ∷ (0x31, 96, 99) ∷ (0x32, 99, 102) ∷ (0x33, 102, 103)
+    ∷ (0x34, 103, 104) ∷ (0x35, 104, 105) ∷ (0x36, 105, 106) ∷ (0x37, 106, 110) ∷ (0x38, 110, 113) ∷ []
 
--- each element of each arm has the arm's row
-all : (ℕ → Bool) → List ℕ → Bool
-all P [] = true
-all P (n ∷ ns) = P n && all P ns
+abbrev pub noArm : ℕ × ℕ × ℕ
+noArm = (0, 0, 0)
 
-rowsRight : List (ℕ × List ℕ) → Bool
+abbrev pub rowBy : List ℕ → ℕ × ℕ × ℕ → ℕ
+rowBy pairs a = rowOf pairs (a .1) (a .2)
+
+-- the pairs of each arm give its element's row
+rowsRight : List (ℕ × ℕ × ℕ) → Bool
 rowsRight [] = true
-rowsRight (a ∷ l) = all (λ n. eqb (a .0) (codesOf n)) (a .1) && rowsRight l
+rowsRight (a ∷ l) = eqb (rowBy packedRows a) (codesOf (a .0)) && rowsRight l
 
 arms-right : rowsRight arms ≡ true
-unfolding all rowsRight arms codesOf attributeCodes codeOf kindIn rows
+unfolding rowsRight arms rowOf withDigits digitOf packedRows packedRow codesOf attributeCodes codeOf kindIn rows
 arms-right = refl
 
-among : (P : ℕ → Bool) (x : ℕ) (ns : List ℕ) → all P ns ≡ true → OneOf ns x → P x ≡ true
-unfolding all
-among P x [] q h = absurd h
-among P x (n ∷ []) q h = ap P h ∙ and-left (P n) true q
-among P x (n ∷ m ∷ ns) q (inl h) = ap P h ∙ and-left (P n) (all P (m ∷ ns)) q
-among P x (n ∷ m ∷ ns) q (inr h) = among P x (m ∷ ns) (and-right (P n) (all P (m ∷ ns)) q) h
-
-arm-of : (l : List (ℕ × List ℕ)) → rowsRight l ≡ true → (i x : ℕ) → OneOf (getD l i (0, []) .1) x → getD l i (0, []) .0 ≡ codesOf x
+arm-of : (l : List (ℕ × ℕ × ℕ)) → rowsRight l ≡ true → (i x : ℕ) → i < length l → x ≡ getD l i noArm .0 → rowBy packedRows (getD l i noArm) ≡ codesOf x
 unfolding rowsRight
-arm-of [] q i x h = absurd h
-arm-of (a ∷ l) q zero x h =
-    eqb-true (a .0) (codesOf x) (among (λ n. eqb (a .0) (codesOf n)) x (a .1) (and-left (all (λ n. eqb (a .0) (codesOf n)) (a .1)) (rowsRight l) q) h)
-arm-of (a ∷ l) q (suc i) x h = arm-of l (and-right (all (λ n. eqb (a .0) (codesOf n)) (a .1)) (rowsRight l) q) i x h
+arm-of [] q i x l h = absurd (omega arith)
+arm-of (a ∷ l) q zero x k h =
+    eqb-true (rowBy packedRows a) (codesOf (a .0)) (and-left (eqb (rowBy packedRows a) (codesOf (a .0))) (rowsRight l) q) ∙ ap codesOf (sym h)
+arm-of (a ∷ l) q (suc i) x k h = arm-of l (and-right (eqb (rowBy packedRows a) (codesOf (a .0))) (rowsRight l) q) i x (omega arith) h
 
-pub arm-is : (i x : ℕ) → OneOf (getD arms i (0, []) .1) x → getD arms i (0, []) .0 ≡ codesOf x
-arm-is = arm-of arms arms-right
+pub arm-is : (i : ℕ) → i < length arms → (pairs : List ℕ) → pairs ≡ packedRows → (x : ℕ) → x ≡ getD arms i noArm .0 → (r : ℕ) → r ≡ rowBy pairs (getD arms i noArm) → r ≡ codesOf x
+arm-is i k pairs p x h r e = e ∙ ap (λ l. rowBy l (getD arms i noArm)) p ∙ arm-of arms arms-right i x k h
 
 -- what is in no arm has no code
-abbrev pub NoneOf : Type 0 → List (ℕ × List ℕ) → ℕ → Type 0
+abbrev pub NoneOf : Type 0 → List (ℕ × ℕ × ℕ) → ℕ → Type 0
 NoneOf N [] x = N
-NoneOf N (a ∷ l) x = NoneOf (N × (OneOf (a .1) x → ⊥)) l x
+NoneOf N (a ∷ l) x = NoneOf (N × (x ≡ a .0 → ⊥)) l x
 
-member : ℕ → List ℕ → Bool
-member x [] = false
-member x (n ∷ ns) = eqb x n || member x ns
-
-inArms : ℕ → List (ℕ × List ℕ) → Bool
+inArms : ℕ → List (ℕ × ℕ × ℕ) → Bool
 inArms x [] = false
-inArms x (a ∷ l) = member x (a .1) || inArms x l
+inArms x (a ∷ l) = eqb x (a .0) || inArms x l
 
-no-member : (x : ℕ) (ns : List ℕ) → (OneOf ns x → ⊥) → member x ns ≡ false
-unfolding member
-no-member x [] h = refl
-no-member x (n ∷ []) h = rw (ne-eqb x n h)
-no-member x (n ∷ m ∷ ns) h = rw (ne-eqb x n (λ e. h (inl e))) (no-member x (m ∷ ns) (λ o. h (inr o)))
-
-in-no-arm : (N : Type 0) (l : List (ℕ × List ℕ)) (x : ℕ) → NoneOf N l x → N × (inArms x l ≡ false)
+in-no-arm : (N : Type 0) (l : List (ℕ × ℕ × ℕ)) (x : ℕ) → NoneOf N l x → N × (inArms x l ≡ false)
 unfolding inArms
 in-no-arm N [] x h = (h, refl)
 in-no-arm N (a ∷ l) x h =
-    let r = in-no-arm (N × (OneOf (a .1) x → ⊥)) l x h in
-    (r .0 .0, rw (no-member x (a .1) (r .0 .1)) (r .1))
+    let r = in-no-arm (N × (x ≡ a .0 → ⊥)) l x h in
+    (r .0 .0, rw (ne-eqb x (a .0) (r .0 .1)) (r .1))
 
 -- what fails a test that each row passes has no row
 no-kind : (P : ℕ → ℕ → Kind → Bool) (e tag : ℕ) → every P rows ≡ true → ((k : Kind) → P e tag k ≡ false) → kindIn e tag rows ≡ none
@@ -150,12 +166,12 @@ inArm : ℕ → ℕ → Kind → Bool
 inArm e t k = inArms (cond (attribute t) e t) arms
 
 rows-in-arms : every inArm rows ≡ true
-unfolding inArm inArms member arms rows attribute
+unfolding inArm inArms arms rows attribute
 rows-in-arms = refl
 
 module _ (element : ℕ) (out : inArms element arms ≡ false) where
   no-own : kindIn 0 element rows ≡ none
-  unfolding inArm inArms member arms
+  unfolding inArm inArms arms
   no-own = no-kind inArm 0 element rows-in-arms (λ k. go (attribute element))
     where
       go : (b : Bool) → inArms (cond b 0 element) arms ≡ false
