@@ -390,9 +390,6 @@ pub part-most : (part : List ℕ) (base from to : ℕ) (v : ReadAnswer) → from
 part-most part base from to (Records n) h g b = omega (arith, length-take (to - from) (drop from part), length-drop from part)
 part-most part base from to (NotRead r) h g b = tt
 
-pub part-bound : (part : List ℕ) (base from to : ℕ) → from ≤ to → to ≤ length part → base + length part ≤ 32_768 → base + from + length (take (to - from) (drop from part)) ≤ 32_768
-part-bound part base from to h g b = omega (arith, length-take (to - from) (drop from part), length-drop from part)
-
 -- the object
 pub judge-empty : (o : List ℕ) → length o ≡ 0 → NotRead (refusal 1 0) ≡ judgeAnswer (judge o)
 unfolding judge unless rule judgeAnswer

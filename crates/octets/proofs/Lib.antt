@@ -5,5 +5,5 @@ pub mod Reading
 pub mod Writing
 pub mod Answers
 pub mod Frames
-pub mod Examples
+pub mod Anchors
 pub mod Wrong

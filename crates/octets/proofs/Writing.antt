@@ -30,21 +30,13 @@ pub record Ended (room at size end : ℕ) : Type 0 where
   pub inside : at + size ≤ room
 
 module _ (room at size : ℕ) where
-  outside : room < at + size → End.Outside ≡ endOf room at size
+  pub end-outside : room < at + size → End.Outside ≡ endOf room at size
   unfolding endOf
-  outside h = rw (lt-leb (at + size) room h)
+  end-outside h = rw (lt-leb (at + size) room h)
 
-  pub end-none : room < at → End.Outside ≡ endOf room at size
-  end-none h = outside (omega arith)
-
-  module _ (h : at ≤ room) where
-    pub end-past : room - at < size → End.Outside ≡ endOf room at size
-    end-past g = outside (omega arith)
-
-    module _ (g : size ≤ room - at) where
-      pub end-within : End.Within (at + size) ≡ endOf room at size
-      unfolding endOf
-      end-within = rw (le-leb (at + size) room (omega arith))
+  pub end-within : at + size ≤ room → End.Within (at + size) ≡ endOf room at size
+  unfolding endOf
+  end-within h = rw (le-leb (at + size) room h)
 
   -- what each answer says
   pub told-within : (e : End) → e ≡ endOf room at size → (end : ℕ) → e ≡ End.Within end → Ended room at size end
@@ -62,8 +54,6 @@ module _ (room at size : ℕ) where
       go : (b : Bool) → leb (at + size) room ≡ b → End.Outside ≡ cond b (End.Within (at + size)) End.Outside → room < at + size
       go true f p = let z : _≡_ {A = ℕ} 0 1 = cc in absurd (omega arith)
       go false f p = leb-false (at + size) room f
-
-pub ruleset end-ways = (end-none, end-past, end-within)
 
 -- ---- what is put
 module _ (exists : Bool) (octets : List ℕ) (at : ℕ) (before : List ℕ) where

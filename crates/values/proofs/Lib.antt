@@ -8,5 +8,5 @@ pub mod Laws
 pub mod ValueForm
 pub mod Known
 pub mod Lookup
-pub mod Examples
+pub mod Anchors
 pub mod Wrong

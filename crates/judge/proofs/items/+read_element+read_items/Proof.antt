@@ -1,8 +1,8 @@
 -- The cycle of an element and its items. Levels fall from an element to its items; what is left of the part falls from item to item.
 use native.Mathlib.Omega.{arith}
-use lib.ListN.{length}
+use lib.ListN.{length, length-take, length-drop}
 use borrow.Author.Needs.{needs}
-use Rattle.judge.proofs.Turn.{Holds, at-start, end-in, end-all, end-most, is-bad, one-fits, item-in, item-from, item-to, item-less, item-few, past-skip, past-leaf, past-table, element-levels, element-bad, past-element, part-most, part-bound}
+use Rattle.judge.proofs.Turn.{Holds, at-start, end-in, end-all, end-most, is-bad, one-fits, item-in, item-from, item-to, item-less, item-few, past-skip, past-leaf, past-table, element-levels, element-bad, past-element, part-most}
 use Rattle.judge.specs.Says.{InForce}
 use Prim.Native.Nat.{ℕ, _+_, _-_, _<_}
 use borrow.Fn.Kinds.{In}
@@ -93,7 +93,7 @@ read-element-read-items-requires : (t : ℕ) → read-element-lts.Need-read-item
   read-items.Post,
 ) (read-element-at t) read-element.Post
 read-element-read-items-requires t c κs =
-    (omega (arith, (c .before .before .before .before .pre) .0, (c .before .before .before .before .pre) .1 .0), ((part-bound _ _ _ _ ((c .before .before .before .before .pre) .1 .0 .0) ((c .before .before .before .before .pre) .1 .0 .1) ((c .before .before .before .before .pre) .1 .0 .2), omega (arith, (c .before .before .before .before .pre) .1 .0), omega (arith, (c .before .before .before .before .pre) .1 .0)), c .before .before .before .before .pre .1 .1))
+    (omega (arith, (c .before .before .before .before .pre) .0, (c .before .before .before .before .pre) .1 .0), ((simp (length-take, length-drop) (omega (arith, (c .before .before .before .before .pre) .1 .0)), omega (arith, (c .before .before .before .before .pre) .1 .0), omega (arith, (c .before .before .before .before .pre) .1 .0)), c .before .before .before .before .pre .1 .1))
 
 read-element-returns : (t : ℕ) → read-element-lts.Need-returns (
   read-items-below t,

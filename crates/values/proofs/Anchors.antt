@@ -1,4 +1,5 @@
--- Times and bearers, computed: minus 0, local time over the first and the last day, the widths of a service id.
+-- Times and bearers, computed: minus 0, local time over the first and the last day, the widths of a service id. Modules are checked by their names, so a wrong
+-- definition falls here first.
 use mathlib.Core.Path.{_≡_, refl}
 use mathlib.Core.Bool.{true, false}
 use mathlib.Core.List.{[], _∷_}

@@ -1,4 +1,4 @@
--- The seams of the three length forms (document 01, Run: bodies of 253 and 254), computed.
+-- The seams of the three length forms (document 01, Run: bodies of 253 and 254), computed. Modules are checked by their names, so a wrong definition falls here first.
 use mathlib.Core.Path.{_≡_, refl}
 use mathlib.Core.List.{[], _∷_}
 use Rattle.octets.specs.Numbers.{value, digits}
