@@ -11,16 +11,17 @@ use Rattle.values.specs.Table.{rows, kindIn, known, attribute}
 use Rattle.values.specs.Times.{bits, longFlag, offsetFlag, offsetOctet, timeOf, inRange, isTime, sign, timeOctets}
 use Rattle.values.specs.Bearers.{ensembleFlag, longSidFlag, ensembleOf, bearerOf, isBearer, ensembleBit, ensembleOctets, bearerOctets}
 use Rattle.values.specs.Values.{width, fits, meant, octetsOf}
+use Rattle.values.specs.Calls.{takenTime}
 use Rattle.format.specs.Tree.{find, kindOf, count, records}
 use Rattle.format.specs.Tree.Items.{end, item}
 use Rattle.format.specs.Judge.{isKnown, isItems, isTokens, isText, isValue, isTop, allowed, latest, stageAfter, limit, notAbove, shown, ofTop, rule, first, kindRules, itemRules, own, late, lateBefore, lateAfter, broken, within, waits, next, unless, followed, joined, byKind, items, outermost, judge}
 use Rattle.format.specs.Meaning.{opens, isChild, valueIn, attributesIn, cdataIn, leafOctets, means, tableIn, tableOf, maybe, rising, encode}
 use Rattle.format.specs.Writer.{below, past, atTop, placed, bodyKeeps, keeps, bodyIn, good, here, onward, walk, tree, toEnd, rebuilt}
-use Rattle.format.specs.Bench.{reported, outcome, cases, listed, slips, twoTops, topWithCdata}
+use Rattle.format.specs.Bench.{reported, reportedTime, outcome, cases, listed, slips, twoTops, topWithCdata}
 
 -- P1 to P14: what the definitions say of each case is what document 01 says
 pub bench : map (λ c. outcome (c .0) (c .1)) cases ≡ map (λ c. c .2) cases
-unfolding among value digits headerSize bodySize lengthField framed layout token character single goesOn utf8 text cut entries filled isTable entry orItself stands expanded present covers covered shownLength rows kindIn known attribute bits longFlag offsetFlag offsetOctet timeOf inRange isTime sign timeOctets ensembleFlag longSidFlag ensembleOf bearerOf isBearer ensembleBit ensembleOctets bearerOctets width fits meant octetsOf find kindOf count records isKnown isItems isTokens isText isValue isTop allowed latest stageAfter limit notAbove shown ofTop rule first kindRules itemRules own late lateBefore lateAfter broken within waits next unless followed joined byKind items outermost judge opens isChild valueIn attributesIn cdataIn leafOctets means tableIn tableOf maybe rising encode reported outcome cases
+unfolding among value digits headerSize bodySize lengthField framed layout token character single goesOn utf8 text cut entries filled isTable entry orItself stands expanded present covers covered shownLength rows kindIn known attribute bits longFlag offsetFlag offsetOctet timeOf inRange isTime sign timeOctets ensembleFlag longSidFlag ensembleOf bearerOf isBearer ensembleBit ensembleOctets bearerOctets width fits meant octetsOf takenTime find kindOf count records isKnown isItems isTokens isText isValue isTop allowed latest stageAfter limit notAbove shown ofTop rule first kindRules itemRules own late lateBefore lateAfter broken within waits next unless followed joined byKind items outermost judge opens isChild valueIn attributesIn cdataIn leafOctets means tableIn tableOf maybe rising encode reported reportedTime outcome cases
 bench = refl
 
 -- the listing of 03 04 06 02 65 6E: an element at depth 1 with a body of 4 octets at 2, and one inside it of 2 octets at 4

@@ -3,7 +3,10 @@ use mathlib.Core.Bool.{Bool, true, false}
 use mathlib.Core.List.{List, [], _∷_}
 use Prim.Native.Nat.{ℕ, zero, suc}
 use Rattle.values.specs.declared.Time.{Time}
-use Rattle.values.specs.Times.{timeOf, timeOctets}
+use Rattle.values.specs.declared.TakenTime.{TakenTime}
+use Rattle.values.specs.declared.TakenTime.the-variants.{Good, Bad}
+use Rattle.values.specs.Times.{timeOctets}
+use Rattle.values.specs.Calls.{takenTime}
 use Rattle.format.specs.declared.Record.{Record}
 use Rattle.format.specs.declared.Refusal.{Refusal}
 use Rattle.format.specs.Answers.{refusal}
@@ -12,20 +15,25 @@ use Rattle.format.specs.Judge.{Judged, judge}
 use Rattle.format.specs.Judge.Judged.{refused, accepted}
 use Rattle.format.specs.Meaning.{normalOf}
 
--- a refusal; or a count of records and the normal form; or a time and its normal octets
+-- of an object a refusal, or a count of records and the normal form; of octets that are taken as a time the time and its normal octets, or that they are none
 pub data Outcome : Type 0 where
   refuses : Refusal → Outcome
   normally : ℕ → List ℕ → Outcome
   timed : Time → List ℕ → Outcome
+  noTime : Outcome
 
 unfoldable pub reported : Judged → Outcome
 reported (refused r) = refuses r
 reported (accepted t) = normally (count t) (normalOf t)
 
--- what the definitions say of an object (true) or of the octets of a time (false)
+unfoldable pub reportedTime : TakenTime → Outcome
+reportedTime (Good t) = timed t (timeOctets t)
+reportedTime Bad = noTime
+
+-- what the definitions say of an object (true), or of octets taken as a time (false): both say whether it is accepted
 unfoldable pub outcome : Bool → List ℕ → Outcome
 outcome true o = reported (judge o)
-outcome false o = timed (timeOf o) (timeOctets (timeOf o))
+outcome false o = reportedTime (takenTime o)
 
 unfoldable pub cases : List (Bool × List ℕ × Outcome)
 cases =
