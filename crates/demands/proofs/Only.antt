@@ -1,7 +1,8 @@
 -- Only one answer: each claim gives an equation for the answer and one for each lent thing, and two things that equal a third are equal.
 use mathlib.Core.Path.{sym, _∙_}
-use Rattle.demands.specs.Only.{OneAnswer, OneRead, OneReadAtMost, OneReadRecords, OneWrite, OneNormalise, OneSame, OneOctetsPut, OneIndex, OneExpand, OneValuePut, OneShowPut, OneReadC, OneSpanC, OneWriteC, OneNormaliseC, OneSameC}
+use Rattle.demands.specs.Only.{OneAnswer, OneRead, OneReadAtMost, OneReadRecords, OneWrite, OneNormalise, OneSame, OneOctetsPut, OneMarks, OneWidths, OneIndex, OneExpand, OneValuePut, OneShowPut, OneReadC, OneSpanC, OneWriteC, OneNormaliseC, OneSameC}
 use Rattle.text.proofs.Index.{one-index as index-alone}
+use Rattle.text.proofs.WeighLaws.{marks-one, widths-one}
 
 pub one-answer : OneAnswer
 one-answer A claimed one other e f = e ∙ sym f
@@ -41,6 +42,12 @@ one-same a b lists oneLists otherLists store oneStore otherStore roomA oneA othe
 
 pub one-octets-put : OneOctetsPut
 one-octets-put exists octets at before one other answer answer′ c d = (one-answer _ _ answer answer′ (c .answers) (d .answers), one-answer _ _ one other (c .leaves) (d .leaves))
+
+pub one-marks : OneMarks
+one-marks octets one other c d = marks-one one other octets c d
+
+pub one-widths : OneWidths
+one-widths = widths-one
 
 pub one-index : OneIndex
 one-index = index-alone

@@ -1,5 +1,5 @@
 -- Only one answer: two answers that meet a call's claim, with what is lent as they leave it, are the same (document 01, What the auditor will try). Each public
--- call's `ensures` is its claim, so nothing is left open in what a call answers and leaves.
+-- call's `ensures` is its claim and nothing else, and each public call is named over one of these statements, so nothing is left open in what a call answers and leaves.
 use mathlib.Core.Path.{_≡_}
 use mathlib.Core.Bool.{Bool}
 use mathlib.Core.List.{List}
@@ -10,6 +10,7 @@ use Rattle.text.specs.Tokens.{Entries}
 use Rattle.text.specs.declared.Expanded.{Expanded}
 use Rattle.text.specs.Calls.{ExpandClaim}
 use Rattle.text.specs.Index.{Indexes}
+use Rattle.text.specs.Weighing.{Marks, Widths}
 use Rattle.values.specs.declared.Put.{Put as ValuesPut}
 use Rattle.values.specs.Calls.{Puts as ValuesPuts}
 use Rattle.format.specs.declared.Record.{Record}
@@ -21,7 +22,11 @@ use Rattle.show.specs.declared.Put.{Put as ShowPut}
 use Rattle.show.specs.Calls.{Puts as ShowPuts}
 use Rattle.spi_c.specs.Claims.{ReadsC, SpansC, WritesC, NormalisesC, SameC}
 
--- every call whose claim is an equation for its answer: judge, span, body, and all calls of octets, text, values and format that are lent nothing to write
+-- every call whose claim is one equation for its answer; none of them is lent anything to write.
+-- octets: read_header, header_size, read_number. text: check, is_token, is_table, is_covered, is_shown, weigh, expanded_size. values: is_attribute, known_kind,
+-- Time::take, valid, canonical, local, size, Bearer::take, valid, size, fits_kind, normal_size. format: kind_of, and outcome of ReadAnswer, WriteAnswer, SameAnswer.
+-- judge: judge. reader: places, span, body. records: is_well_formed. survey: survey, item_at, table_of. spi_c: spi_check_text.
+-- For body and table_of, which hand back a part of the caller's octets, the equation is for what the part holds
 abbrev pub OneAnswer : Type 1
 OneAnswer = (A : Type 0) (claimed one other : A) → one ≡ claimed → other ≡ claimed → one ≡ other
 
@@ -74,6 +79,14 @@ OneOctetsPut =
     → OctetsPuts exists octets at before one answer → OctetsPuts exists octets at before other answer′
     → (answer ≡ answer′) × (one ≡ other)
 
+-- tokens_of: one mask says of each octet whether it is a token that is a tag of the table
+abbrev pub OneMarks : Type 0
+OneMarks = (octets : List ℕ) (one other : ℕ) → Marks one octets → Marks other octets → one ≡ other
+
+-- widths_of
+abbrev pub OneWidths : Type 0
+OneWidths = (entries : Entries) (one other : List ℕ) → Widths 32 entries one → Widths 32 entries other → one ≡ other
+
 -- index_of
 abbrev pub OneIndex : Type 0
 OneIndex = (entries : Entries) (one other : List ℕ) → Indexes entries one → Indexes entries other → one ≡ other
@@ -99,7 +112,7 @@ OneShowPut =
     → ShowPuts text at before one answer → ShowPuts text at before other answer′
     → (answer ≡ answer′) × (one ≡ other)
 
--- the calls for C: the one number that each answers, and what is lent as above
+-- spi_read, spi_span, spi_write, spi_normalise, spi_same: the one number that each answers, and what is lent as above
 abbrev pub OneReadC : Type 0
 OneReadC =
     (object : List ℕ) (before one other : Lists) (answer answer′ : ℕ) → ReadsC object before one answer → ReadsC object before other answer′
