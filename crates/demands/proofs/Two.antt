@@ -1,29 +1,31 @@
 -- Demand 2: from the claims, with the grammar's agreement with the judgement.
 use mathlib.Core.Path.{_≡_, refl, sym, ap, _∙_, subst}
 use mathlib.Core.List.{List, [], _++_}
-use Prim.Native.Nat.{ℕ, _≤_, min}
-use native.Mathlib.Nat.{min-le-right, le-min}
+use Prim.Native.Nat.{ℕ, _+_, _≤_, _<_, min}
+use native.Mathlib.Nat.{zero-add, min-le-right, le-min}
 use native.Mathlib.Omega.{arith}
-use lib.ListN.{length, take, drop}
+use lib.ListN.{length, take, drop, getD}
 use borrow.Author.Tests.{le-leb}
 use Rattle.octets.proofs.Numbers.{octets-take}
 use Rattle.format.specs.declared.Refusal.{Refusal}
 use Rattle.format.specs.declared.Counts.{Counts}
 use Rattle.format.specs.declared.ReadAnswer.the-variants.{Records, NotRead}
 use Rattle.format.specs.declared.WriteAnswer.the-variants.{Octets as Written}
-use Rattle.format.specs.Tree.{Items, count, recordsOf}
+use Rattle.format.specs.Tree.{Items, count, recordsOf, bodiesOf}
 use Rattle.format.specs.Judge.{Judged, judge}
 use Rattle.format.specs.Judge.Judged.{refused, accepted}
 use Rattle.format.specs.Meaning.{means, tableOf, encode}
-use Rattle.format.specs.Calls.{Lists, row, places, lay, judgeAnswer, readRecords, WriteClaim}
-use Rattle.format.proofs.Lays.{row-lay-behind, tabled-laid}
-use Rattle.format.proofs.Spans.{located, records-count}
+use Rattle.format.specs.Writer.{tabled}
+use Rattle.format.specs.Calls.{Lists, row, places, lay, judgeAnswer, readRecords, spanOf, bodyAt, WriteClaim}
+use Rattle.format.proofs.Lays.{places-lay, inside, row-lay-behind, tabled-laid, getD-tabled}
+use Rattle.format.proofs.Spans.{Part, part-span, Located, located, records-count, Bodied, bodied-length, bodied-at, records-bodied}
 use Rattle.format.proofs.Regrown.{shaped, regrows-all, regrown-means}
 use Rattle.grammar.specs.Grammar.{Accepts}
 use Rattle.grammar.proofs.Agree.{sound, complete, one-tree as agree-one-tree}
+use Rattle.reader.proofs.Parts.{inside as span-is}
 use Rattle.writer.proofs.Theorems.{delivered}
 use Rattle.demands.specs.One.{ReadOrder}
-use Rattle.demands.specs.Two.{AcceptedExactly, ReadExactly, JudgedExactly, OneTree, HandedOut, TreeHandedOut, SliceHandedOut, WrittenReadsBack}
+use Rattle.demands.specs.Two.{AcceptedExactly, ReadExactly, JudgedExactly, OneTree, BodiesFound, HandedOut, TreeHandedOut, SliceHandedOut, WrittenReadsBack}
 use Rattle.demands.proofs.Laws.{never, of-object, tree-given, located-lies, has-meaning}
 use Rattle.demands.proofs.One.{read-in-order, read-records-in-order, write-in-order}
 
@@ -65,17 +67,47 @@ pub records-read : (m : ℕ) (t : Items) → count t ≤ m → readRecords m (ac
 unfolding readRecords
 records-read m t l = rw (le-leb (count t) m l)
 
+-- each number finds its record's span, and the body of its item
+module _ (object : List ℕ) (t : Items) (lies : Located object t) (lists : Lists) (n : ℕ) (many : n ≡ count t) (room : n ≤ places lists)
+    (stand : tabled (row lists) n 0 ≡ recordsOf t) where
+  bodied : Bodied object (recordsOf t) (bodiesOf t)
+  bodied = records-bodied object t lies 1 0 0
+
+  record-lies : (i : ℕ) → i < n → Part object (row lists i .start) (getD (bodiesOf t) i []) × (row lists i .size ≡ length (getD (bodiesOf t) i []))
+  record-lies i h =
+      let is = sym (ap (λ rs. getD rs i (row lists i)) stand) ∙ getD-tabled (row lists) n 0 i (row lists i) h ∙ ap (row lists) (zero-add i) in
+      let listed : i < length (recordsOf t) = omega (arith, records-count t 1 0 0) in
+      subst (λ r. Part object (r .start) (getD (bodiesOf t) i []) × (r .size ≡ length (getD (bodiesOf t) i []))) is (bodied-at bodied i (row lists i) listed)
+
+  span-found : (i : ℕ) → i < n → spanOf object (lists .starts) (lists .sizes) i ≡ record { start = row lists i .start; size = row lists i .size }
+  span-found i h =
+      let p = record-lies i h in
+      let w = inside i lists (omega arith) in
+      let fits : row lists i .start + row lists i .size ≤ length object = omega (arith, p .1, part-span object (row lists i .start) (getD (bodiesOf t) i []) (p .0) .0) in
+      sym (span-is object (lists .starts) (lists .sizes) i (w .starts) (w .sizes) (row lists i .start) (row lists i .size) refl refl fits)
+
+  body-found : (i : ℕ) → i < n → bodyAt object (spanOf object (lists .starts) (lists .sizes) i) ≡ getD (bodiesOf t) i []
+  unfolding bodyAt
+  body-found i h =
+      let p = record-lies i h in
+      ap (bodyAt object) (span-found i h) ∙ ap (λ k. take k (drop (row lists i .start) object)) (p .1) ∙ part-span object (row lists i .start) (getD (bodiesOf t) i []) (p .0) .1
+
+  bodies-found : BodiesFound object t lists n
+  bodies-found = record { many = sym (bodied-length bodied) ∙ records-count t 1 0 0 ∙ sym many; span = span-found; body = body-found }
+
 -- what stands in lists over which the records of an accepted object are laid
 handed-out : (object : List ℕ) (t : Items) → judge object ≡ accepted t → (before after : Lists) (n : ℕ) → n ≡ count t → n ≤ places before → after ≡ lay 0 (recordsOf t) before
     → HandedOut object t before after n
 handed-out object t h before after n many room laid =
     let long : n ≡ length (recordsOf t) = many ∙ sym (records-count t 1 0 0) in
     let stand = tabled-laid (recordsOf t) before after n laid long room in
+    let kept : n ≤ places after = omega (arith, ap places laid ∙ places-lay 0 (recordsOf t) before) in
     record {
       many = many;
       stand = stand;
       behind = λ i l. ap (λ x. row x i) laid ∙ row-lay-behind 0 (recordsOf t) before i (omega arith);
       lies = located-lies object t (located object t h);
+      found = bodies-found object t (located object t h) after n many kept stand;
       regrown = ap (λ x. means (tableOf t) (x .0)) (regrows-all (row after) n object t (shaped object t h) (located object t h) (sym stand) many) ∙ regrown-means t;
     }
 

@@ -6,8 +6,8 @@
 use mathlib.Core.Path.{_≡_}
 use mathlib.Core.Logic.{_↔_}
 use mathlib.Core.List.{List, [], _++_}
-use Prim.Native.Nat.{ℕ, suc, _≤_}
-use lib.ListN.{length, take, drop}
+use Prim.Native.Nat.{ℕ, suc, _≤_, _<_}
+use lib.ListN.{length, take, drop, getD}
 use Rattle.octets.specs.Numbers.{Octets}
 use Rattle.format.specs.declared.Record.{Record}
 use Rattle.format.specs.declared.Refusal.{Refusal}
@@ -15,11 +15,11 @@ use Rattle.format.specs.declared.ReadAnswer.{ReadAnswer}
 use Rattle.format.specs.declared.ReadAnswer.the-variants.{Records, NotRead}
 use Rattle.format.specs.declared.WriteAnswer.{WriteAnswer}
 use Rattle.format.specs.declared.WriteAnswer.the-variants.{Octets as Written}
-use Rattle.format.specs.Tree.{Items, count, recordsOf}
+use Rattle.format.specs.Tree.{Items, count, recordsOf, bodiesOf}
 use Rattle.format.specs.Judge.{judge}
 use Rattle.format.specs.Meaning.{means, tableOf, meaningOf, encode}
 use Rattle.format.specs.Writer.{tree, tabled}
-use Rattle.format.specs.Calls.{Lists, row, places, judgeAnswer, ReadClaim, ReadRecordsClaim, WriteClaim}
+use Rattle.format.specs.Calls.{Lists, row, places, judgeAnswer, spanOf, bodyAt, ReadClaim, ReadRecordsClaim, WriteClaim}
 use Rattle.grammar.specs.Grammar.{Accepts}
 use Rattle.demands.specs.One.{LiesIn, GivenTree}
 
@@ -49,14 +49,22 @@ JudgedExactly =
 abbrev pub OneTree : Type 0
 OneTree = (object : List ℕ) (t u : Items) → Accepts object t → Accepts object u → t ≡ u
 
+-- `span` and `body`, asked for a record's number in lists that hold the n records of a tree: the span is the record's start and size, and the body is the body of the tree's item of that number.
+-- The lists may be longer than n, and of different lengths
+pub record BodiesFound (object : List ℕ) (t : Items) (lists : Lists) (n : ℕ) : Type 0 where
+  pub many : length (bodiesOf t) ≡ n
+  pub span : (i : ℕ) → i < n → spanOf object (lists .starts) (lists .sizes) i ≡ record { start = row lists i .start; size = row lists i .size }
+  pub body : (i : ℕ) → i < n → bodyAt object (spanOf object (lists .starts) (lists .sizes) i) ≡ getD (bodiesOf t) i []
+
 -- n records of a tree stand in lists that held something before: as many as the tree has known items but the token table; the first n of the lists are these, in
--- reading order; behind them the lists are as before; each body is that very part of the object; and the tree that the records alone say, over the object, means
--- what the object means (only the token table has no record)
+-- reading order; behind them the lists are as before; each body is that very part of the object, and is found by its record's number; and the tree that the records
+-- alone say, over the object, means what the object means (only the token table has no record)
 pub record HandedOut (object : List ℕ) (t : Items) (before after : Lists) (n : ℕ) : Type 0 where
   pub many : n ≡ count t
   pub stand : tabled (row after) n 0 ≡ recordsOf t
   pub behind : (i : ℕ) → n ≤ i → row after i ≡ row before i
   pub lies : LiesIn object t
+  pub found : BodiesFound object t after n
   pub regrown : means (tableOf t) (tree (suc n) (row after) n object 1 0 .0) ≡ meaningOf t
 
 abbrev pub TreeHandedOut : Type 0

@@ -2,13 +2,14 @@
 use mathlib.Core.Path.{_≡_, refl, sym, ap, _∙_, subst}
 use mathlib.Core.Bool.{Bool, true, false, cond}
 use mathlib.Core.List.{List, [], _∷_, _++_, append-assoc, append-nil}
-use Prim.Native.Nat.{ℕ, suc, _+_, _≤_}
+use Prim.Native.Nat.{ℕ, zero, suc, _+_, _≤_, _<_}
 use native.Mathlib.Omega.{arith}
 use lib.Dec.{eqb}
-use lib.ListN.{length, take, drop, length-append, take-append-drop, length-drop}
+use lib.ListN.{length, take, drop, getD, length-append, take-append-drop, length-drop}
 use lib.Seq.{take-append-seam, drop-append-seam, length-take-le}
 use Rattle.octets.specs.Header.{headerSize, bodySize}
-use Rattle.format.specs.Tree.{Items, records, recordOf, count}
+use Rattle.format.specs.declared.Record.{Record}
+use Rattle.format.specs.Tree.{Items, records, recordOf, count, bodiesOf}
 use Rattle.format.specs.Tree.Items.{end, item}
 use Rattle.format.specs.Judge.{Context, judge}
 use Rattle.format.specs.Judge.Judged.{accepted}
@@ -83,3 +84,37 @@ records-count (item tag at body inside after) depth parent n = go (records-count
         ≡ cond b 0 (1 + count inside) + count after
     go p q true = q n ∙ omega arith
     go p q false = simp length-append (omega (arith, p, q (n + 1 + count inside)))
+
+-- ---- the body of each record's item
+
+-- records, and for each of them a body that lies where the record says
+pub data Bodied (o : List ℕ) : List Record → List (List ℕ) → Type 0 where
+  none : Bodied o [] []
+  more : {r : Record} {b : List ℕ} {rs : List Record} {bs : List (List ℕ)} → Part o (r .start) b → r .size ≡ length b → Bodied o rs bs → Bodied o (r ∷ rs) (b ∷ bs)
+
+bodied-append : {o : List ℕ} {rs ss : List Record} {bs cs : List (List ℕ)} → Bodied o rs bs → Bodied o ss cs → Bodied o (rs ++ ss) (bs ++ cs)
+bodied-append none q = q
+bodied-append (more p e h) q = more p e (bodied-append h q)
+
+pub bodied-length : {o : List ℕ} {rs : List Record} {bs : List (List ℕ)} → Bodied o rs bs → length rs ≡ length bs
+bodied-length none = refl
+bodied-length (more p e h) = ap suc (bodied-length h)
+
+-- the record of a number and the body of that number
+pub bodied-at : {o : List ℕ} {rs : List Record} {bs : List (List ℕ)} → Bodied o rs bs → (i : ℕ) (d : Record) → i < length rs
+    → Part o (getD rs i d .start) (getD bs i []) × (getD rs i d .size ≡ length (getD bs i []))
+bodied-at none i d l = absurd (omega arith)
+bodied-at (more p e h) zero d l = (p, e)
+bodied-at (more p e h) (suc i) d l = bodied-at h i d (omega arith)
+
+pub records-bodied : (o : List ℕ) (t : Items) → Located o t → (depth parent n : ℕ) → Bodied o (records depth parent n t) (bodiesOf t)
+unfolding records bodiesOf
+records-bodied o end l depth parent n = none
+records-bodied o (item tag at body inside after) l depth parent n =
+    go (records-bodied o inside (l .1) (depth + 1) n (n + 1)) (records-bodied o after (l .2) depth parent) (eqb tag 4)
+  where
+    go : Bodied o (records (depth + 1) n (n + 1) inside) (bodiesOf inside) → ((m : ℕ) → Bodied o (records depth parent m after) (bodiesOf after)) → (b : Bool)
+        → Bodied o (cond b [] (recordOf depth parent tag at body ∷ records (depth + 1) n (n + 1) inside) ++ records depth parent (cond b n (n + 1 + count inside)) after)
+        (cond b [] (body ∷ bodiesOf inside) ++ bodiesOf after)
+    go p q true = q n
+    go p q false = more (l .0) refl (bodied-append p (q (n + 1 + count inside)))

@@ -41,3 +41,8 @@ records depth parent n (item tag at body inside after) =
 -- the records of an object's tree: the top has depth 1 and number 0 and is its own parent
 abbrev pub recordsOf : Items → List Record
 recordsOf t = records 1 0 0 t
+
+-- the bodies of the items that have a record, in reading order: as many as there are records, each where its record stands
+unfoldable pub bodiesOf : Items → List (List ℕ)
+bodiesOf end = []
+bodiesOf (item tag at body inside after) = cond (eqb tag 4) [] (body ∷ bodiesOf inside) ++ bodiesOf after
