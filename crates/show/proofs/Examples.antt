@@ -70,6 +70,10 @@ body-words : refusalWords 3 ≡ ascii "a body is longer than what holds it"
 unfolding refusalWords reasons ascii
 body-words = refl
 
+room-words : refusalWords 15 ≡ ascii "a room or store is too small, or the output has more than 32768 octets"
+unfolding refusalWords reasons ascii
+room-words = refl
+
 tree-words : refusalWords 16 ≡ ascii "the records are not a well-formed tree"
 unfolding refusalWords reasons ascii
 tree-words = refl

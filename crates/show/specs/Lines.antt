@@ -63,7 +63,7 @@ reasons =
     ∷ "a token has no entry in the table"
     ∷ "a text is too long to be shown"
     ∷ "there are more records than places"
-    ∷ "the output is larger than the room for it"
+    ∷ "a room or store is too small, or the output has more than 32768 octets"
     ∷ "the records are not a well-formed tree"
     ∷ []
 

@@ -336,7 +336,11 @@ pub fn put_refusal_words(out: &mut [u8], at: usize, number: u8) -> Put
         12 => put_bytes(out, at, b"a token has no entry in the table"),
         13 => put_bytes(out, at, b"a text is too long to be shown"),
         14 => put_bytes(out, at, b"there are more records than places"),
-        15 => put_bytes(out, at, b"the output is larger than the room for it"),
+        15 => put_bytes(
+            out,
+            at,
+            b"a room or store is too small, or the output has more than 32768 octets",
+        ),
         16 => put_bytes(out, at, b"the records are not a well-formed tree"),
         _ => put_bytes(out, at, b"no such refusal"),
     }
