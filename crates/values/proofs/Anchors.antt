@@ -3,7 +3,7 @@
 use mathlib.Core.Path.{_≡_, refl}
 use mathlib.Core.Bool.{true, false}
 use mathlib.Core.List.{[], _∷_}
-use lib.IntN.{subℕ}
+use lib.IntN.{pos, subℕ}
 use Rattle.octets.specs.Numbers.{value, digits}
 use Rattle.values.specs.declared.Ensemble.the-variants.{Absent, Present}
 use Rattle.values.specs.Times.{bits, longFlag, offsetFlag, offsetOctet, timeOf, inRange, isTime, localMinutes, localOf}
@@ -24,9 +24,18 @@ pub day-before : localOf (record { day = 0; hour = 0; minute = 10; second = 5; m
 unfolding localMinutes localOf
 day-before = refl
 
-pub day-after : localOf (record { day = 99_999; hour = 23; minute = 30; second = 0; minus = false; halves = 3 }) ≡ record { day = subℕ 100_001 1; hour = 1; minute = 0; second = 0 }
+pub day-after : localOf (record { day = 99_999; hour = 23; minute = 30; second = 0; minus = false; halves = 3 }) ≡ record { day = pos 100_000; hour = 1; minute = 0; second = 0 }
 unfolding localMinutes localOf
 day-after = refl
+
+-- and beyond what the octets of a time can say: 50 hours before the start of day 0 is 22:00 on day -3, and 50 hours after it 02:00 on day 2
+pub days-before : localOf (record { day = 0; hour = 0; minute = 0; second = 0; minus = true; halves = 100 }) ≡ record { day = subℕ 0 3; hour = 22; minute = 0; second = 0 }
+unfolding localMinutes localOf
+days-before = refl
+
+pub days-after : localOf (record { day = 0; hour = 0; minute = 0; second = 0; minus = false; halves = 100 }) ≡ record { day = pos 2; hour = 2; minute = 0; second = 0 }
+unfolding localMinutes localOf
+days-after = refl
 
 -- a 16-bit service id and the 32-bit one of the same number are written apart
 pub widths : (bearerOctets (record { ensemble = Absent; long = false; sid = 0xC123; scids = 5 }) ≡ 0x05 ∷ 0xC1 ∷ 0x23 ∷ [])

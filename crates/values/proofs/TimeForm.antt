@@ -2,7 +2,7 @@
 use mathlib.Core.Path.{_≡_, refl, sym, ap, ap₂, subst, _∙_}
 use mathlib.Core.Bool.{Bool, true, false, cond, not, _&&_}
 use mathlib.Core.List.{List, [], _∷_, _++_, append-assoc}
-use Prim.Native.Nat.{ℕ, suc, _+_, _-_, _*_, _/_, _%_, _^_, _≤_, _<_}
+use Prim.Native.Nat.{ℕ, zero, suc, zero-le, _+_, _-_, _*_, _/_, _%_, _^_, _≤_, _<_}
 use native.Mathlib.Nat.{one-mul, zero-mul, mod-lt, div-one}
 use native.Mathlib.Omega.{arith}
 use lib.Bits.{bitAnd, bitOr, and-mask, mask-lt, or-shifted}
@@ -15,7 +15,7 @@ use lib.Signed.{mag}
 use mir.Facts.{toZ-ofZ, toZ-pos}
 use mir.Syntax.{w64}
 use mir.Val.{SFits, toZ, ofZ}
-use borrow.Author.Tests.{le-leb, lt-leb, eq-eqb, ne-eqb}
+use borrow.Author.Tests.{le-leb, lt-leb, le-ltb, eq-eqb, ne-eqb}
 use Rattle.octets.specs.Numbers.{value, digits}
 use Rattle.octets.proofs.Numbers.{length-digits}
 use Rattle.octets.proofs.Tests.{and-false}
@@ -195,43 +195,44 @@ pub ruleset take-ways = (taken-short, taken-size, taken-good, taken-bad)
 
 -- local time
 module _ (t : Time) (d h m v : ℕ) (p : d ≡ t .day) (q : h ≡ t .hour) (r : m ≡ t .minute) (w : v ≡ t .halves) where
-  utc-is : ((d + 1) * 24 + h) * 60 + m ≡ ((t .day + 1) * 24 + t .hour) * 60 + t .minute
+  utc-is : (d * 24 + h) * 60 + m ≡ (t .day * 24 + t .hour) * 60 + t .minute
   utc-is = omega (arith, p, q, r)
 
-  pub minutes-zero : t .minus ≡ true → ((d + 1) * 24 + h) * 60 + m < 30 * v → 0 ≡ localMinutes t
-  unfolding localMinutes
-  minutes-zero y g = rw y (omega (arith, utc-is, w))
-
-  pub minutes-minus : t .minus ≡ true → ((d + 1) * 24 + h) * 60 + m - 30 * v ≡ localMinutes t
+  pub minutes-minus : t .minus ≡ true → (d * 24 + h) * 60 + m + (1440 - 30) * v ≡ localMinutes t
   unfolding localMinutes
   minutes-minus y = rw y (omega (arith, utc-is, w))
 
-  pub minutes-plus : t .minus ≡ false → ((d + 1) * 24 + h) * 60 + m + 30 * v ≡ localMinutes t
+  pub minutes-plus : t .minus ≡ false → (d * 24 + h) * 60 + m + (1440 + 30) * v ≡ localMinutes t
   unfolding localMinutes
   minutes-plus y = rw y (omega (arith, utc-is, w))
 
-pub ruleset minutes-ways = (minutes-zero, minutes-minus, minutes-plus)
+pub ruleset minutes-ways = (minutes-minus, minutes-plus)
 
 -- the signed day
-day-small : (n : ℕ) → n < 2 ^ 63 → mag (subℕ n 1) < 2 ^ 63
-day-small n h = go (ltb n 1)
+difference : (n v : ℕ) → pos n -ℤ pos v ≡ subℕ n v
+difference n zero = rw (le-ltb n 0 zero-le) (ap pos (omega arith))
+difference n (suc v) = refl
+
+day-small : (n v : ℕ) → n < 2 ^ 63 → v < 2 ^ 63 → mag (subℕ n v) < 2 ^ 63
+day-small n v h k = go (ltb n v)
   where
-    go : (b : Bool) → mag (cond b (negsuc (1 - suc n)) (pos (n - 1))) < 2 ^ 63
+    go : (b : Bool) → mag (cond b (negsuc (v - suc n)) (pos (n - v))) < 2 ^ 63
     go true = omega arith
     go false = omega arith
 
-day-is : (n : ℕ) → n < 2 ^ 63 → toZ w64 n -ℤ pos 1 ≡ subℕ n 1
-day-is n h = ap (λ z. z -ℤ pos 1) (toZ-pos w64 h)
+day-is : (n v : ℕ) → n < 2 ^ 63 → v < 2 ^ 63 → toZ w64 n -ℤ toZ w64 v ≡ subℕ n v
+day-is n v h k = ap₂ (λ x y. x -ℤ y) (toZ-pos w64 h) (toZ-pos w64 k) ∙ difference n v
 
-pub day-fits : (n : ℕ) → n < 2 ^ 52 → SFits w64 (toZ w64 (n / 1440) -ℤ pos 1)
-day-fits n h = subst (SFits w64) (sym (day-is (n / 1440) (omega arith))) (record { sfits = day-small (n / 1440) (omega arith) })
+pub day-fits : (n v : ℕ) → n < 2 ^ 52 → v < 2 ^ 32 → SFits w64 (toZ w64 (n / 1440) -ℤ toZ w64 v)
+day-fits n v h k =
+    subst (SFits w64) (sym (day-is (n / 1440) v (omega arith) (omega arith))) (record { sfits = day-small (n / 1440) v (omega arith) (omega arith) })
 
-pub local-is : (t : Time) (n : ℕ) → n ≡ localMinutes t → n < 2 ^ 52
-    → _≡_ {A = Local} (record { day = toZ w64 (ofZ w64 (toZ w64 (n / 1440) -ℤ pos 1)); hour = n / 60 % 24; minute = n % 60; second = t .second }) (localOf t)
+pub local-is : (t : Time) (n v : ℕ) → n ≡ localMinutes t → n < 2 ^ 52 → v ≡ t .halves → v < 2 ^ 32
+    → _≡_ {A = Local} (record { day = toZ w64 (ofZ w64 (toZ w64 (n / 1440) -ℤ toZ w64 v)); hour = n / 60 % 24; minute = n % 60; second = t .second }) (localOf t)
 unfolding localOf
-local-is t n e h =
-    let d : toZ w64 (ofZ w64 (toZ w64 (n / 1440) -ℤ pos 1)) ≡ subℕ (localMinutes t / 1440) 1 =
-    toZ-ofZ (day-fits n h) ∙ day-is (n / 1440) (omega arith) ∙ ap (λ m. subℕ (m / 1440) 1) e in
+local-is t n v e h f k =
+    let d : toZ w64 (ofZ w64 (toZ w64 (n / 1440) -ℤ toZ w64 v)) ≡ subℕ (localMinutes t / 1440) (t .halves) =
+    toZ-ofZ (day-fits n v h k) ∙ day-is (n / 1440) v (omega arith) (omega arith) ∙ ap₂ (λ m x. subℕ (m / 1440) x) e f in
     λ i. record { day = d i; hour = e i / 60 % 24; minute = e i % 60; second = t .second }
 
 -- the normal octets: their size

@@ -1,16 +1,17 @@
--- The normal octets of a time are a time and mean it, and the octets of a time mean one that is in range.
-use mathlib.Core.Path.{_≡_, refl, sym, _∙_}
+-- The normal octets of a time are a time and mean it, and the octets of a time mean one that is in range. Local time of one in range.
+use mathlib.Core.Path.{_≡_, refl, sym, ap, _∙_}
 use mathlib.Core.Bool.{Bool, true, false, cond, not, _&&_, false≢true}
 use mathlib.Core.List.{List, append-assoc}
-use Prim.Native.Nat.{ℕ, _+_, _*_, _/_, _%_, _^_, _≤_, _<_}
+use Prim.Native.Nat.{ℕ, suc, _+_, _-_, _*_, _/_, _%_, _^_, _≤_, _<_}
 use native.Mathlib.Omega.{arith}
-use lib.Dec.{eqb, leb}
+use lib.Dec.{eqb, leb, ltb}
+use lib.IntN.{pos, negsuc, subℕ}
 use lib.ListN.{length, getD}
 use lib.Seq.{take-at}
-use borrow.Author.Tests.{leb-true, eqb-true, eq-eqb, ne-eqb}
+use borrow.Author.Tests.{leb-true, ltb-true, ltb-false, eqb-true, eq-eqb, ne-eqb}
 use Rattle.octets.specs.Numbers.{digits}
 use Rattle.values.specs.declared.Time.{Time}
-use Rattle.values.specs.Times.{bits, longFlag, offsetFlag, offsetOctet, timeOf, inRange, isTime, sign, timeOctets}
+use Rattle.values.specs.Times.{bits, longFlag, offsetFlag, offsetOctet, timeOf, inRange, isTime, sign, timeOctets, localMinutes, localOf}
 use Rattle.values.specs.Proper.{TimeOk}
 use Rattle.octets.proofs.Tests.{and-left, and-right, and-false}
 use Rattle.octets.proofs.Numbers.{length-digits, value-digits}
@@ -151,3 +152,42 @@ time-ok o h = record {
   range = and-right (eqb (length o) (4 + 2 * longFlag o + offsetFlag o)) (inRange (timeOf o)) h;
   minus = λ e. rw (eq-eqb (offsetOctet o % 32) 0 e) (and-false (eqb (offsetOctet o / 32 % 2) 1));
 }
+
+-- ---- local time of a time in range, whose offset is less than a day
+
+-- two differences of numbers are the same where adding crosswise gives the same
+same-difference : (a b c d : ℕ) → a + d ≡ c + b → subℕ a b ≡ subℕ c d
+same-difference a b c d e = go (ltb a b) (ltb c d) refl refl
+  where
+    go : (p q : Bool) → ltb a b ≡ p → ltb c d ≡ q → cond p (negsuc (b - suc a)) (pos (a - b)) ≡ cond q (negsuc (d - suc c)) (pos (c - d))
+    go true true h g = let l = ltb-true a b h in let m = ltb-true c d g in ap negsuc (omega arith)
+    go true false h g = let l = ltb-true a b h in let m = ltb-false c d g in absurd (omega arith)
+    go false true h g = let l = ltb-false a b h in let m = ltb-true c d g in absurd (omega arith)
+    go false false h g = let l = ltb-false a b h in let m = ltb-false c d g in ap pos (omega arith)
+
+-- its minutes, counted from one day before day 0
+abbrev pub minutesInRange : Time → ℕ
+minutesInRange t =
+    let utc = ((t .day + 1) * 24 + t .hour) * 60 + t .minute in
+    cond (t .minus) (utc - 30 * t .halves) (utc + 30 * t .halves)
+
+module _ (t : Time) (legal : inRange t ≡ true) where
+  minutes-shift : minutesInRange t + 1440 * t .halves ≡ localMinutes t + 1440
+  unfolding localMinutes
+  minutes-shift = let b = bounds t legal in go (t .minus) (b .halves)
+    where
+      go : (s : Bool) → t .halves ≤ 31
+          → cond s (((t .day + 1) * 24 + t .hour) * 60 + t .minute - 30 * t .halves) (((t .day + 1) * 24 + t .hour) * 60 + t .minute + 30 * t .halves) + 1440 * t .halves
+          ≡ (t .day * 24 + t .hour) * 60 + t .minute + cond s (1440 - 30) (1440 + 30) * t .halves + 1440
+      go true l = omega arith
+      go false l = omega arith
+
+  pub local-in-range : localOf t ≡ record { day = subℕ (minutesInRange t / 1440) 1; hour = minutesInRange t / 60 % 24; minute = minutesInRange t % 60; second = t .second }
+  unfolding localOf
+  local-in-range =
+      let m : ℕ = localMinutes t in
+      let n : ℕ = minutesInRange t in
+      let day = same-difference (m / 1440) (t .halves) (n / 1440) 1 (omega (arith, minutes-shift)) in
+      let hour : m / 60 % 24 ≡ n / 60 % 24 = omega (arith, minutes-shift) in
+      let minute : m % 60 ≡ n % 60 = omega (arith, minutes-shift) in
+      λ i. record { day = day i; hour = hour i; minute = minute i; second = t .second }

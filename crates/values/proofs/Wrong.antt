@@ -4,7 +4,7 @@ use mathlib.Core.Bool.{Bool, true, false, false≢true, true≢false}
 use mathlib.Core.List.{List, [], _∷_}
 use Prim.Native.Nat.{ℕ}
 use native.Mathlib.Omega.{arith}
-use lib.IntN.{pos}
+use lib.IntN.{pos, negsuc}
 use lib.ListN.{length, getD}
 use Rattle.octets.specs.Numbers.{value, digits}
 use Rattle.values.specs.declared.Kind.the-variants.{HoldsText, HoldsPlain, HoldsTime, HoldsBearer, HoldsNumber}
@@ -108,6 +108,11 @@ local-sign-dropped h = omega arith
 pub local-day-held : localOf (record { day = 0; hour = 0; minute = 10; second = 0; minus = true; halves = 1 }) .day ≡ pos 0 → ⊥
 unfolding localOf localMinutes
 local-day-held h = let z : _≡_ {A = ℕ} 0 1 = cc in omega arith
+
+-- the same where the offset takes off more than a day: the day held at -1
+pub local-day-cut : localOf (record { day = 0; hour = 0; minute = 0; second = 0; minus = true; halves = 100 }) .day ≡ negsuc 0 → ⊥
+unfolding localOf localMinutes
+local-day-cut h = let z : _≡_ {A = ℕ} 2 0 = cc in omega arith
 
 -- `Time::size`: seconds left out; an octet for offset 0
 pub seconds-not-counted : length (timeOctets (at 50_000 15)) ≡ 4 → ⊥

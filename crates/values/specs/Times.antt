@@ -62,13 +62,14 @@ timeOctets t =
     ++ cond (eqb (t .second) 0) [] ((t .second * 4) ∷ 0 ∷ [])
     ++ cond (eqb (t .halves) 0) [] ((cond (t .minus) 32 0 + t .halves) ∷ [])
 
--- minutes of local time, UTC plus the offset, counted from one day before day 0
+-- minutes of local time, UTC plus the offset, counted from as many days before day 0 as the offset has half hours. A day is longer than half an hour, so each half
+-- hour that is taken off comes with a day of 1,440 minutes, and nothing is cut off at 0, whatever the fields hold
 unfoldable pub localMinutes : Time → ℕ
 localMinutes t =
-    let utc = ((t .day + 1) * 24 + t .hour) * 60 + t .minute in
-    cond (t .minus) (utc - 30 * t .halves) (utc + 30 * t .halves)
+    let utc = (t .day * 24 + t .hour) * 60 + t .minute in
+    utc + cond (t .minus) (1440 - 30) (1440 + 30) * t .halves
 
--- local time in day, hour, minute and second; its day may be -1 or 100,000
+-- local time in day, hour, minute and second: the days that were added are taken off the day again. That of a time in range may be -1 or 100,000
 unfoldable pub localOf : Time → Local
 localOf t =
-    record { day = subℕ (localMinutes t / 1440) 1; hour = localMinutes t / 60 % 24; minute = localMinutes t % 60; second = t .second }
+    record { day = subℕ (localMinutes t / 1440) (t .halves); hour = localMinutes t / 60 % 24; minute = localMinutes t % 60; second = t .second }

@@ -89,12 +89,12 @@ impl Time {
         }
     }
 
-    // UTC plus the offset. Whatever the fields hold, the minutes fit 64 bits and the day is at least -1.
+    // UTC plus the offset, whatever the fields hold: the days that the minutes are counted from before day 0 come off again.
     pub fn local(self) -> Local
         ensures { λ r. ⌜ r ≡ localOf self ⌝ }
     {
         let minutes = self.local_minutes();
-        let day = (minutes / 1440) as i64 - 1;
+        let day = (minutes / 1440) as i64 - long(self.halves) as i64;
         Local {
             day,
             hour: minutes / 60 % 24,
@@ -103,20 +103,17 @@ impl Time {
         }
     }
 
-    // Minutes of local time from the day before day 0; an offset of more than there are stops at 0.
+    // Minutes of local time from as many days before day 0 as there are half hours: never below 0, and they fit 64 bits.
     fn local_minutes(self) -> u64
         ensures { λ r. ⌜ r ≡ localMinutes self ⌝ }
         ensures { λ r. ⌜ r < 2 ^ 52 ⌝ }
     {
-        let utc = ((long(self.day) + 1) * 24 + long(self.hour)) * 60 + long(self.minute);
-        let by = 30 * long(self.halves);
+        let utc = (long(self.day) * 24 + long(self.hour)) * 60 + long(self.minute);
+        let halves = long(self.halves);
         if self.minus {
-            if utc < by {
-                return 0;
-            }
-            return utc - by;
+            return utc + (1440 - 30) * halves;
         }
-        utc + by
+        utc + (1440 + 30) * halves
     }
 
     // How many octets the normal form has.
