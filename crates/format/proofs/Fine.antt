@@ -232,12 +232,12 @@ pub fine : (T : Entries) → Sound T → (t : Items) (s : Spot) → Told T s t �
 fine T ok end s h = fine-end T s
 fine T ok (item tag at body x u) s h = fine-item T s tag at body x u ok (h .0) (fine T ok x (below s tag) (h .1)) (fine T ok u (past s tag) (h .2))
 
--- after the top there is nothing
-past-top : (tag tag′ : ℕ) → Placed (past atTop tag) tag′ → ⊥
-unfolding past atTop latest
-past-top tag tag′ p = go (attribute tag′ || eqb tag′ 4) (eqb tag′ 6) (leb-true 3 (latest tag′) (p .order))
+-- after CDATA, as after the top, nothing comes: no item's latest stage is 3
+pub three-last : (s : Spot) (tag : ℕ) → s .stage ≡ 3 → Placed s tag → ⊥
+unfolding latest
+three-last s tag e p = go (attribute tag || eqb tag 4) (eqb tag 6) (leb-true (s .stage) (latest tag) (p .order))
   where
-    go : (a b : Bool) → 3 ≤ cond a 0 (cond b 1 2) → ⊥
+    go : (a b : Bool) → s .stage ≤ cond a 0 (cond b 1 2) → ⊥
     go true b h = omega arith
     go false true h = omega arith
     go false false h = omega arith
@@ -252,10 +252,10 @@ object-ok m tag f kids cdata e w = subst (λ x. ObjectOk x) (sym e) (subst (λ x
 
 -- the meaning of a whole tree that is told is well-formed
 pub told-ok : (T : Entries) → Sound T → (t : Items) → (t ≡ end → ⊥) → Told T atTop t → ObjectOk (means T t)
-unfolding atTop
+unfolding atTop past
 told-ok T ok end n h = absurd (n refl)
 told-ok T ok (item tag at body x end) n h =
     let e = top-known tag (placed-parts atTop tag (h .0 .place) .allow) in
     object-ok (means T (item tag at body x end)) tag (attributesIn T tag x) (means T x) (cdataIn T x)
     (means-element T tag at body x end e ∙ ap (element tag (attributesIn T tag x) (means T x) (cdataIn T x)) (means-end T)) (fine T ok (item tag at body x end) atTop h .children)
-told-ok T ok (item tag at body x (item tag′ at′ body′ x′ u)) n h = absurd (past-top tag tag′ (placed-parts (past atTop tag) tag′ (h .2 .0 .place)))
+told-ok T ok (item tag at body x (item tag′ at′ body′ x′ u)) n h = absurd (three-last (past atTop tag) tag′ refl (placed-parts (past atTop tag) tag′ (h .2 .0 .place)))

@@ -10,11 +10,14 @@ pub mod Round
 pub mod Force
 pub mod Told
 pub mod Fine
+pub mod Order
+pub mod Sums
 pub mod Normal
 pub mod Refusals
 pub mod Bench
 pub mod Examples
 pub mod Loading
+pub mod Takes
 pub mod Kept
 pub mod Walk
 pub mod Trees

@@ -1,0 +1,224 @@
+-- What an accepted object takes is said by its meaning alone: how many records it has, how long its store is, how long its normal form. Each is a sum over its
+-- items, in which an attribute counts the same wherever it stands, and the token table nothing.
+use mathlib.Core.Path.{_≡_, refl, sym, ap, _∙_, subst, fun-ext}
+use mathlib.Core.Bool.{Bool, true, false, cond, _||_, false≢true}
+use mathlib.Core.Option.{Option, none, some}
+use mathlib.Core.List.{List, []}
+use Prim.Native.Nat.{ℕ, suc, _+_}
+use native.Mathlib.Omega.{arith}
+use lib.Dec.{eqb}
+use lib.ListN.{length, length-append}
+use borrow.Author.Tests.{eq-eqb, ne-eqb, eqb-true, ltb-true}
+use Rattle.octets.specs.Numbers.{among, Octets}
+use Rattle.text.specs.Tokens.{Entries}
+use Rattle.values.specs.declared.Kind.{Kind}
+use Rattle.values.specs.declared.Kind.the-variants.{HoldsItems, HoldsTokens, HoldsText, HoldsPlain, HoldsTime, HoldsBearer, HoldsNumber}
+use Rattle.values.specs.Table.{known, attribute}
+use Rattle.values.specs.Values.{Value, meant, octetsOf}
+use Rattle.octets.proofs.Tests.{or-elim, cond-same}
+use Rattle.values.proofs.Known.{ElementTag, items-tag, plain-tag, language-tag, known-anywhere, known-cdata, known-one, known-six, element-kind}
+use Rattle.format.specs.Tree.{Items, find, count}
+use Rattle.format.specs.Tree.Items.{end, item}
+use Rattle.format.specs.Judge.{isItems, outermost, judge}
+use Rattle.format.specs.Judge.Judged.{accepted}
+use Rattle.format.specs.Meaning.{Meaning, opens, valueIn, attributesIn, cdataIn, leafOctets, means, tableOf, meaningOf}
+use Rattle.format.specs.Meaning.Meaning.{nothing, element, leaf}
+use Rattle.format.specs.Writer.{Spot, below, past, atTop, isEnd}
+use Rattle.format.specs.Loaded.{stored, storeIn, storeOf}
+use Rattle.format.proofs.Means.{opens-items, opens-leaf, child-element, means-attribute, means-cdata, means-table, means-element, means-leaf, leaf-text, leaf-plain}
+use Rattle.format.proofs.Force.{attribute-four, attribute-one, swap-eqb, top-known}
+use Rattle.format.proofs.Told.{Told, ItemTold, top, accepted-told}
+use Rattle.format.proofs.Fine.{known-is}
+use Rattle.format.proofs.Loading.{attribute-shut}
+use Rattle.format.proofs.Order.{told-order, seen-none, three-end, cdata-three}
+use Rattle.format.proofs.Sums.{sum, sum-none, sum-more}
+
+-- a way to measure: an element that holds items by what these take, any other item by its octets in the store
+pub record Measure : Type 0 where
+  pub holder : ℕ → ℕ
+  pub single : List ℕ → ℕ
+
+unfoldable pub ifAny : {A : Type 0} → (A → ℕ) → Option A → ℕ
+ifAny f none = 0
+ifAny f (some a) = f a
+
+-- what the attributes of an element take
+unfoldable pub ofSet : Measure → (ℕ → Option Value) → ℕ
+ofSet c f = sum 128 0x80 (λ tag. ifAny (λ v. c .single (octetsOf v)) (f tag))
+
+unfoldable pub ofMeaning : Measure → Meaning → ℕ
+ofMeaning c nothing = 0
+ofMeaning c (element tag attributes children cdata after) = c .holder (ofSet c attributes + (ofMeaning c children + ifAny (c .single) cdata)) + ofMeaning c after
+ofMeaning c (leaf tag octets after) = c .single octets + ofMeaning c after
+
+-- what the items in an element take
+unfoldable pub takes : Measure → Entries → ℕ → Items → ℕ
+takes c T parent end = 0
+takes c T parent (item tag at body inside after) =
+    cond (eqb tag 4) 0 (cond (opens tag) (c .holder (takes c T tag inside)) (c .single (stored T (known parent tag) body))) + takes c T parent after
+
+-- an item that is no attribute leaves the attributes of its element as they are, and one that is not CDATA its CDATA
+other-set : (T : Entries) (p tag at : ℕ) (body : List ℕ) (x u : Items) → attribute tag ≡ false → attributesIn T p (item tag at body x u) ≡ attributesIn T p u
+unfolding attributesIn find
+other-set T p tag at body x u n = fun-ext (λ a. go a (attribute a) refl)
+  where
+    go : (a : ℕ) (b : Bool) → attribute a ≡ b → cond b (valueIn T (cond (eqb a tag) (some body) (find a u)) (known p a)) none ≡ cond b (valueIn T (find a u) (known p a)) none
+    go a false q = refl
+    go a true q = rw (ne-eqb a tag (λ e. false≢true (sym n ∙ (ap attribute (sym e) ∙ q))))
+
+other-cdata : (T : Entries) (tag at : ℕ) (body : List ℕ) (x u : Items) → eqb tag 1 ≡ false → cdataIn T (item tag at body x u) ≡ cdataIn T u
+unfolding cdataIn find
+other-cdata T tag at body x u o = rw (swap-eqb tag 1 o)
+
+module _ (c : Measure) (T : Entries) where
+  -- the sum for the items in an element, by what they mean
+  abbrev meansTake : ℕ → Items → ℕ
+  meansTake p t = ofSet c (attributesIn T p t) + (ofMeaning c (means T t) + ifAny (c .single) (cdataIn T t))
+
+  abbrev Taken : ℕ → Items → Type 0
+  Taken p t = takes c T p t ≡ meansTake p t
+
+  takes-single : (p tag at : ℕ) (body : List ℕ) (x u : Items) (k : Kind) → eqb tag 4 ≡ false → opens tag ≡ false → known p tag ≡ some k
+      → takes c T p (item tag at body x u) ≡ c .single (octetsOf (meant T k body)) + takes c T p u
+  unfolding takes stored
+  takes-single p tag at body x u k f o e = rw (f, o, e)
+
+  taken-attribute : (s : Spot) (tag at : ℕ) (body : List ℕ) (x u : Items) (k : Kind) → ItemTold T s tag body x → attribute tag ≡ true → known (s .parent) tag ≡ some k → Told T (past s tag) u
+      → Taken (s .parent) u → Taken (s .parent) (item tag at body x u)
+  unfolding ofSet ifAny attributesIn find valueIn past among attribute
+  taken-attribute s tag at body x u k i a e h ih =
+      let p = s .parent in
+      let one = takes-single p tag at body x u k (attribute-four tag a) (attribute-shut tag a) e in
+      let gone : find tag u ≡ none = seen-none u (past s tag) tag a (rw (eq-eqb tag tag refl)) (told-order T u (past s tag) h) in
+      let now : attributesIn T p (item tag at body x u) tag ≡ some (meant T k body) = rw (a, eq-eqb tag tag refl, e) in
+      let later : attributesIn T p u tag ≡ none = rw (a, gone) in
+      let more =
+      sum-more 128 0x80 tag (c .single (octetsOf (meant T k body))) (λ b. ifAny (λ v. c .single (octetsOf v)) (attributesIn T p (item tag at body x u) b))
+      (λ b. ifAny (λ v. c .single (octetsOf v)) (attributesIn T p u b)) (rw (now, later) (omega arith)) (λ b d. rw (ne-eqb b tag d)) (omega (arith, ltb-true 0x7F tag a)) (omega (arith, i .octet)) in
+      let m : means T (item tag at body x u) ≡ means T u = means-attribute T tag at body x u a in
+      let l : cdataIn T (item tag at body x u) ≡ cdataIn T u = other-cdata T tag at body x u (attribute-one tag a) in
+      rw (m, l) (omega arith)
+
+  taken-end : (p : ℕ) → Taken p end
+  unfolding takes ofMeaning ofSet ifAny means cdataIn find attributesIn valueIn
+  taken-end p =
+      let none-set = sum-none 128 0x80 (λ b. ifAny (λ v. c .single (octetsOf v)) (attributesIn T p end b)) (λ b. ap (ifAny (λ v. c .single (octetsOf v))) (cond-same (attribute b) none)) in
+      omega arith
+
+  taken-cdata : (s : Spot) (at : ℕ) (body : List ℕ) (x u : Items) → Told T (past s 1) u → Taken (s .parent) (item 1 at body x u)
+  unfolding takes ofMeaning ifAny means cdataIn find meant octetsOf attribute isItems
+  taken-cdata s at body x u h =
+      let p = s .parent in
+      let one = takes-single p 1 at body x end HoldsText refl (opens-leaf 1 HoldsText known-one refl) (known-cdata p) in
+      let a : attributesIn T p (item 1 at body x end) ≡ attributesIn T p end = other-set T p 1 at body x end refl in
+      let m : means T (item 1 at body x end) ≡ means T end = means-cdata T at body x end in
+      let rest = taken-end p in
+      subst (λ v. Taken p (item 1 at body x v)) (three-end u (past s 1) (cdata-three s) (told-order T u (past s 1) h)) (rw (a, m) (omega arith))
+
+  taken-table : (p at : ℕ) (body : List ℕ) (x u : Items) → Taken p u → Taken p (item 4 at body x u)
+  unfolding takes attribute
+  taken-table p at body x u ih =
+      let a : attributesIn T p (item 4 at body x u) ≡ attributesIn T p u = other-set T p 4 at body x u refl in
+      let m : means T (item 4 at body x u) ≡ means T u = means-table T at body x u in
+      let l : cdataIn T (item 4 at body x u) ≡ cdataIn T u = other-cdata T 4 at body x u refl in
+      rw (a, m, l) (omega arith)
+
+  taken-element : (p tag at : ℕ) (body : List ℕ) (x u : Items) → known 0 tag ≡ some HoldsItems → Taken tag x → Taken p u → Taken p (item tag at body x u)
+  unfolding takes ofMeaning
+  taken-element p tag at body x u e inside later =
+      let g = items-tag tag e in
+      let a : attributesIn T p (item tag at body x u) ≡ attributesIn T p u = other-set T p tag at body x u (g .notAttribute) in
+      let l : cdataIn T (item tag at body x u) ≡ cdataIn T u = other-cdata T tag at body x u (g .notCdata) in
+      rw (a, l, means-element T tag at body x u e, g .notTable, opens-items tag e, inside) (omega arith)
+
+  taken-leaf : (p tag at : ℕ) (body : List ℕ) (x u : Items) (k : Kind) → ElementTag tag → known 0 tag ≡ some k → isItems (some k) ≡ false → leafOctets T tag body ≡ octetsOf (meant T k body)
+      → Taken p u → Taken p (item tag at body x u)
+  unfolding ofMeaning
+  taken-leaf p tag at body x u k g e l o later =
+      let one = takes-single p tag at body x u k (g .notTable) (opens-leaf tag k e l) (known-anywhere p tag (g .notAttribute) ∙ e) in
+      let a : attributesIn T p (item tag at body x u) ≡ attributesIn T p u = other-set T p tag at body x u (g .notAttribute) in
+      let d : cdataIn T (item tag at body x u) ≡ cdataIn T u = other-cdata T tag at body x u (g .notCdata) in
+      rw (a, d, means-leaf T tag at body x u k g e l, o) (omega arith)
+
+  -- an item that is no attribute, by its kind
+  taken-known : (s : Spot) (tag at : ℕ) (body : List ℕ) (x u : Items) (k : Kind) → known 0 tag ≡ some k → Told T (past s tag) u → Taken tag x → Taken (s .parent) u
+      → Taken (s .parent) (item tag at body x u)
+  unfolding isItems meant octetsOf
+  taken-known s tag at body x u HoldsItems e h inside later = taken-element (s .parent) tag at body x u e inside later
+  taken-known s tag at body x u HoldsPlain e h inside later = taken-leaf (s .parent) tag at body x u HoldsPlain (plain-tag tag e) e refl (leaf-plain T tag body e) later
+  taken-known s tag at body x u HoldsTokens e h inside later =
+      subst (λ n. Taken (s .parent) (item n at body x u)) (sym (eqb-true tag 4 (element-kind tag HoldsTokens e))) (taken-table (s .parent) at body x u later)
+  taken-known s tag at body x u HoldsText e h inside later =
+      or-elim (eqb tag 1) (eqb tag 6)
+      (λ q. subst (λ n. Told T (past s n) u → Taken (s .parent) (item n at body x u)) (sym (eqb-true tag 1 q)) (λ g. taken-cdata s at body x u g) h)
+      (λ q. subst (λ n. Taken (s .parent) (item n at body x u)) (sym (eqb-true tag 6 q)) (taken-leaf (s .parent) 6 at body x u HoldsText language-tag known-six refl (leaf-text T 6 body known-six) later))
+      (element-kind tag HoldsText e)
+  taken-known s tag at body x u HoldsTime e h inside later = absurd (false≢true (element-kind tag HoldsTime e))
+  taken-known s tag at body x u HoldsBearer e h inside later = absurd (false≢true (element-kind tag HoldsBearer e))
+  taken-known s tag at body x u (HoldsNumber n) e h inside later = absurd (false≢true (element-kind tag (HoldsNumber n) e))
+
+  taken-item : (s : Spot) (tag at : ℕ) (body : List ℕ) (x u : Items) → ItemTold T s tag body x → Told T (past s tag) u → Taken tag x → Taken (s .parent) u → Taken (s .parent) (item tag at body x u)
+  taken-item s tag at body x u i h inside later = go (attribute tag) refl (known-is (known (s .parent) tag) (i .kind .isOne))
+    where
+      go : (a : Bool) → attribute tag ≡ a → (k : Kind) × (known (s .parent) tag ≡ some k) → Taken (s .parent) (item tag at body x u)
+      go true a k = taken-attribute s tag at body x u (k .0) i a (k .1) h later
+      go false a k = taken-known s tag at body x u (k .0) (sym (known-anywhere (s .parent) tag a) ∙ k .1) h inside later
+
+  taken-told : (t : Items) (s : Spot) → Told T s t → Taken (s .parent) t
+  unfolding below past
+  taken-told end s h = taken-end (s .parent)
+  taken-told (item tag at body x u) s h = taken-item s tag at body x u (h .0) (h .2) (taken-told x (below s tag) (h .1)) (taken-told u (past s tag) (h .2))
+
+-- a whole object is one element, so its attributes and CDATA are inside it
+takes-top : (c : Measure) (T : Entries) (tag at : ℕ) (body : List ℕ) (x : Items) → known 0 tag ≡ some HoldsItems → Taken c T tag x → takes c T 0 (item tag at body x end) ≡ ofMeaning c (means T (item tag at body x end))
+unfolding takes ofMeaning means
+takes-top c T tag at body x e inside = rw (items-tag tag e .notTable, opens-items tag e, inside, child-element tag (items-tag tag e))
+
+-- how many records
+abbrev pub inRecords : Measure
+inRecords = record { holder = suc; single = λ o. 1 }
+
+-- how long a store
+abbrev pub inStore : Measure
+inStore = record { holder = λ n. n; single = length }
+
+counted : (T : Entries) (t : Items) (s : Spot) → Told T s t → count t ≡ takes inRecords T (s .parent) t
+unfolding count takes below past isEnd
+counted T end s h = refl
+counted T (item tag at body x u) s h = go (eqb tag 4) (opens tag) x (h .0 .holder) (counted T x (below s tag) (h .1)) (counted T u (past s tag) (h .2))
+  where
+    go : (b o : Bool) (y : Items) → o || isEnd y ≡ true → count y ≡ takes inRecords T tag y → count u ≡ takes inRecords T (s .parent) u
+        → cond b 0 (1 + count y) + count u ≡ cond b 0 (cond o (suc (takes inRecords T tag y)) 1) + takes inRecords T (s .parent) u
+    go true o y q inside later = omega arith
+    go false true y q inside later = omega arith
+    go false false end q inside later = omega arith
+    go false false (item tag′ at′ body′ x′ u′) q inside later = absurd (false≢true q)
+
+stored-length : (T : Entries) (p : ℕ) (t : Items) → length (storeIn T p t) ≡ takes inStore T p t
+unfolding storeIn takes
+stored-length T p end = refl
+stored-length T p (item tag at body x u) = rw length-append (go (eqb tag 4) (opens tag) (stored-length T tag x) (stored-length T p u))
+  where
+    go : (b o : Bool) → length (storeIn T tag x) ≡ takes inStore T tag x → length (storeIn T p u) ≡ takes inStore T p u
+        → length (cond b [] (cond o (storeIn T tag x) (stored T (known p tag) body))) + length (storeIn T p u)
+        ≡ cond b 0 (cond o (takes inStore T tag x) (length (stored T (known p tag) body))) + takes inStore T p u
+    go true o inside later = omega arith
+    go false true inside later = omega arith
+    go false false inside later = omega arith
+
+-- of an accepted object
+module _ (o : List ℕ) (t : Items) (os : Octets o) (h : judge o ≡ accepted t) where
+  pub takes-means : (c : Measure) → takes c (tableOf t) 0 t ≡ ofMeaning c (meaningOf t)
+  unfolding below atTop outermost
+  takes-means c =
+      let w = top o t os h in
+      let told : Told (tableOf t) atTop (item (w .tag) (w .from) (w .body) (w .inside) end) = subst (Told (tableOf t) atTop) (w .is) (accepted-told o t os h) in
+      subst (λ x. takes c (tableOf t) 0 x ≡ ofMeaning c (means (tableOf t) x)) (sym (w .is))
+      (takes-top c (tableOf t) (w .tag) (w .from) (w .body) (w .inside) (top-known (w .tag) (w .held .allow)) (taken-told c (tableOf t) (w .inside) (below atTop (w .tag)) (told .1)))
+
+  pub records-means : count t ≡ ofMeaning inRecords (meaningOf t)
+  unfolding atTop
+  records-means = counted (tableOf t) t atTop (accepted-told o t os h) ∙ takes-means inRecords
+
+  pub store-means : length (storeOf t) ≡ ofMeaning inStore (meaningOf t)
+  store-means = stored-length (tableOf t) 0 t ∙ takes-means inStore
