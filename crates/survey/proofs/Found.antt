@@ -1,13 +1,12 @@
--- Where an attribute can be found in an element: a tag that was seen is not found again, and none is found behind the first item that is no attribute.
+-- Where an attribute can be found in an element: none is found behind the first item that is no attribute.
 use mathlib.Core.Path.{_≡_, refl, sym, ap, _∙_}
-use mathlib.Core.Bool.{Bool, true, false, cond, not, _&&_, _||_, false≢true}
+use mathlib.Core.Bool.{Bool, true, false, cond, false≢true}
 use mathlib.Core.Option.{none, some}
 use mathlib.Core.List.{List}
 use Prim.Native.Nat.{ℕ, _≤_}
 use native.Mathlib.Omega.{arith}
 use lib.Dec.{eqb}
-use borrow.Author.Tests.{leb-true, eqb-true, ne-eqb}
-use Rattle.octets.specs.Numbers.{among}
+use borrow.Author.Tests.{leb-true, ne-eqb}
 use Rattle.values.specs.Table.{attribute}
 use Rattle.format.specs.Tree.{Items, find}
 use Rattle.format.specs.Tree.Items.{end, item}
@@ -18,17 +17,6 @@ use Rattle.format.proofs.Fine.{Placed, placed-parts, stage-past}
 
 placed-item : (s : Spot) (tag at : ℕ) (body : List ℕ) (x y : Items) → ruled s (item tag at body x y) ≡ true → Placed s tag
 placed-item s tag at body x y h = placed-parts s tag (keeps-parts s tag body (ruled-parts s tag at body x y h .rules) .place)
-
-pub seen-none : (t : Items) (s : Spot) (a : ℕ) → attribute a ≡ true → among a (s .seen) ≡ true → ruled s t ≡ true → find a t ≡ none
-unfolding find past among
-seen-none end s a q m h = refl
-seen-none (item tag at body x y) s a q m h = go (eqb a tag) refl (λ k. seen-none y (past s tag) a q k (ruled-parts s tag at body x y h .beside))
-  where
-    go : (b : Bool) → eqb a tag ≡ b → (eqb a tag || among a (s .seen) ≡ true → find a y ≡ none) → cond b (some body) (find a y) ≡ none
-    go true e ih =
-        let w : not (attribute a && among a (s .seen)) ≡ true = rw (eqb-true a tag e) (placed-item s tag at body x y h .once) in
-        absurd (false≢true (rw (q, m) at w))
-    go false e ih = ih (rw (e, m))
 
 stage-on : (tag : ℕ) → attribute tag ≡ false → 1 ≤ stageAfter tag
 unfolding stageAfter

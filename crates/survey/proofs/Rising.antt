@@ -5,9 +5,9 @@ use mathlib.Core.Option.{Option, none, some}
 use mathlib.Core.List.{List, [], _++_, append-assoc, append-nil}
 use Prim.Native.Nat.{ℕ, zero, suc, _+_, _-_, _≤_, _<_}
 use native.Mathlib.Omega.{arith}
-use lib.Dec.{eqb, leb}
+use lib.Dec.{leb}
 use lib.ListN.{length, length-append}
-use borrow.Author.Tests.{leb-true, eqb-true, eqb-false}
+use borrow.Author.Tests.{leb-true}
 use Rattle.octets.specs.Header.{framed}
 use Rattle.values.specs.declared.Kind.{Kind}
 use Rattle.values.specs.Table.{rows, known, attribute}
@@ -15,6 +15,7 @@ use Rattle.values.specs.Values.{Value, octetsOf}
 use Rattle.values.proofs.Known.{row-holds}
 use Rattle.format.specs.Tree.{Items, find}
 use Rattle.format.specs.Meaning.{valueIn, attributesIn, maybe, rising}
+use Rattle.format.proofs.Sums.{sum, sum-more}
 use Rattle.survey.specs.Normal.{attributeOctets}
 
 -- the octets of one attribute of a set
@@ -33,30 +34,20 @@ unfolding rising maybe
 rising-none zero start f h = refl
 rising-none (suc n) start f h = rw (h start (omega arith) (omega arith)) (rising-none n (suc start) f (λ t q l. h t (omega arith) (omega arith)))
 
+-- how long they are: a sum over the tags
+pub rising-length : (n start : ℕ) (f : ℕ → Option Value) → length (rising n start f) ≡ sum n start (λ t. length (oneAttribute t (f t)))
+unfolding rising sum
+rising-length zero start f = refl
+rising-length (suc n) start f = length-append (oneAttribute start (f start)) (rising n (suc start) f) ∙ ap (λ x. length (oneAttribute start (f start)) + x) (rising-length n (suc start) f)
+
 -- one attribute more
 pub rising-more : (n start tag : ℕ) (f g : ℕ → Option Value) (v : Value) → f tag ≡ some v → g tag ≡ none → ((t : ℕ) → (t ≡ tag → ⊥) → f t ≡ g t) → start ≤ tag → tag < start + n
     → length (rising n start f) ≡ length (framed tag (octetsOf v)) + length (rising n start g)
-unfolding rising maybe
-rising-more zero start tag f g v p q h a b = absurd (omega arith)
-rising-more (suc n) start tag f g v p q h a b = go (eqb start tag) refl (λ c d. rising-more n (suc start) tag f g v p q h c d)
-  where
-    go : (e : Bool) → eqb start tag ≡ e → (suc start ≤ tag → tag < suc start + n → length (rising n (suc start) f) ≡ length (framed tag (octetsOf v)) + length (rising n (suc start) g))
-        → length (oneAttribute start (f start) ++ rising n (suc start) f) ≡ length (framed tag (octetsOf v)) + length (oneAttribute start (g start) ++ rising n (suc start) g)
-    go true e ih =
-        let z : start ≡ tag = eqb-true start tag e in
-        let same : rising n (suc start) f ≡ rising n (suc start) g = rising-same n (suc start) f g (λ t w. h t (λ y. omega arith)) in
-        let x : f start ≡ some v = ap f z ∙ p in
-        let y : g start ≡ none = ap g z ∙ q in
-        let ll = length-append (framed start (octetsOf v)) (rising n (suc start) g) in
-        let tt2 : length (framed start (octetsOf v)) ≡ length (framed tag (octetsOf v)) = ap (λ m. length (framed m (octetsOf v))) z in
-        rw (x, y, same) (omega arith)
-    go false e ih =
-        let z = eqb-false start tag e in
-        let i = ih (omega arith) (omega arith) in
-        let u = length-append (oneAttribute start (f start)) (rising n (suc start) f) in
-        let w = length-append (oneAttribute start (g start)) (rising n (suc start) g) in
-        let r : length (oneAttribute start (f start)) ≡ length (oneAttribute start (g start)) = ap (λ x. length (oneAttribute start x)) (h start z) in
-        omega arith
+unfolding maybe
+rising-more n start tag f g v p q h a b =
+    rising-length n start f
+    ∙ sum-more n start tag (length (framed tag (octetsOf v))) (λ t. length (oneAttribute t (f t))) (λ t. length (oneAttribute t (g t))) (rw (p, q) (omega arith)) (λ t d. ap (λ x. length (oneAttribute t x)) (h t d)) a b
+    ∙ ap (λ x. length (framed tag (octetsOf v)) + x) (sym (rising-length n start g))
 
 rising-append : (m n start : ℕ) (f : ℕ → Option Value) → rising (m + n) start f ≡ rising m start f ++ rising n (start + m) f
 unfolding rising

@@ -24,10 +24,11 @@ use Rattle.format.specs.Writer.{Spot, below, past, atTop, ruled}
 use Rattle.format.proofs.Kept.{keeps-parts, Ruled, ruled-parts}
 use Rattle.format.proofs.Fine.{placed-parts}
 use Rattle.format.proofs.Means.{items-known, means-attribute, means-cdata, means-element, means-leaf, opens-items, opens-leaf}
+use Rattle.format.proofs.Order.{ruled-order, seen-none, three-end}
 use Rattle.survey.specs.Normal.{valueOctets, normalSize, attributeOctets}
 use Rattle.survey.proofs.Rising.{rising-same, rising-none, rising-more, known-few}
-use Rattle.survey.proofs.Found.{not-attribute, seen-none}
-use Rattle.survey.proofs.Ways.{framed-length, value-fits, item-known, Way, way, three-end}
+use Rattle.survey.proofs.Found.{not-attribute}
+use Rattle.survey.proofs.Ways.{framed-length, value-fits, item-known, Way, way}
 use Rattle.survey.proofs.Ways.Way.{isAttribute, isCdata, isElement, isLeaf}
 
 -- what holds items is no attribute, and no attribute holds items
@@ -94,7 +95,7 @@ sum-attribute s tag at body x y k a e f r ih =
     let p = s .parent in
     let high = attribute-high tag a in
     let one = single-size p tag at body x y k (opens-attribute tag a) e in
-    let gone : find tag y ≡ none = seen-none y (past s tag) tag a (rw (eq-eqb tag tag refl)) r in
+    let gone : find tag y ≡ none = seen-none y (past s tag) tag a (rw (eq-eqb tag tag refl)) (ruled-order y (past s tag) r) in
     let now : attributesIn [] p (item tag at body x y) tag ≡ some (meant [] k body) = rw (a, eq-eqb tag tag refl, e) in
     let later : attributesIn [] p y tag ≡ none = rw (a, gone) in
     let more =
@@ -180,7 +181,7 @@ top-alone t h = record { attributes = rising-none 128 0x80 (attributesIn [] 0 t)
     go end h = refl
     go (item tag at body x y) h =
         let u = ruled-parts atTop tag at body x y h in
-        let w : end ≡ y = three-end y (past atTop tag) refl (u .beside) in
+        let w : end ≡ y = three-end y (past atTop tag) refl (ruled-order y (past atTop tag) (u .beside)) in
         let o = placed-parts atTop tag (keeps-parts atTop tag body (u .rules) .place) in
         rw (ne-eqb 1 tag (λ z. false≢true (subst (λ m. allowed 0 m ≡ true) (sym z) (o .allow))), sym w)
 

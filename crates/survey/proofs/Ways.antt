@@ -1,30 +1,29 @@
 -- The four ways of an item in a tree that keeps the writer's rules: an attribute, CDATA with nothing behind it, an element that holds items, any other element.
 -- What each adds to the normal form.
 use mathlib.Core.Path.{_≡_, refl, sym, ap, _∙_}
-use mathlib.Core.Bool.{Bool, true, false, cond, _||_, false≢true}
+use mathlib.Core.Bool.{Bool, true, false, false≢true}
 use mathlib.Core.Option.{some}
 use mathlib.Core.List.{List, []}
-use Prim.Native.Nat.{ℕ, _≤_}
-use native.Mathlib.Omega.{arith}
+use Prim.Native.Nat.{ℕ}
 use lib.Dec.{eqb}
 use lib.ListN.{length}
-use borrow.Author.Tests.{leb-true, eqb-true}
+use borrow.Author.Tests.{eqb-true}
 use Rattle.octets.specs.Header.{framed}
 use Rattle.values.specs.declared.Kind.{Kind}
 use Rattle.values.specs.declared.Kind.the-variants.{HoldsItems, HoldsTokens, HoldsText, HoldsPlain, HoldsTime, HoldsBearer, HoldsNumber}
 use Rattle.values.specs.Table.{known, attribute}
 use Rattle.values.specs.Values.{fits, meant, octetsOf}
-use Rattle.octets.proofs.Tests.{cond-same}
 use Rattle.octets.proofs.Answers.{framed-length as header-and-body}
 use Rattle.values.proofs.Known.{ElementTag, element-kind, known-anywhere}
 use Rattle.format.specs.Tree.{Items}
-use Rattle.format.specs.Tree.Items.{end, item}
-use Rattle.format.specs.Judge.{isItems, isTokens, isValue, stageAfter, latest}
+use Rattle.format.specs.Tree.Items.{end}
+use Rattle.format.specs.Judge.{isItems, isTokens, isValue}
 use Rattle.format.specs.Meaning.{leafOctets, maybe}
-use Rattle.format.specs.Writer.{Spot, past, ruled}
-use Rattle.format.proofs.Kept.{Kept, keeps-parts, keeps-tag, Ruled, ruled-parts}
-use Rattle.format.proofs.Fine.{placed-parts, known-is}
+use Rattle.format.specs.Writer.{Spot, past}
+use Rattle.format.proofs.Kept.{Kept, keeps-parts, keeps-tag, Ruled}
+use Rattle.format.proofs.Fine.{known-is}
 use Rattle.format.proofs.Means.{leaf-text, leaf-plain}
+use Rattle.format.proofs.Order.{ruled-order, three-end, cdata-three}
 use Rattle.survey.specs.Normal.{framedSize, valueOctets, itemOctets}
 
 pub framed-length : (tag : ℕ) (body : List ℕ) → length (framed tag body) ≡ framedSize (length body)
@@ -46,23 +45,6 @@ pub data Way (p tag : ℕ) (body : List ℕ) (after : Items) : Type 0 where
   isCdata : 1 ≡ tag → end ≡ after → Way p tag body after
   isElement : known 0 tag ≡ some HoldsItems → Way p tag body after
   isLeaf : (k : Kind) → ElementTag tag → known 0 tag ≡ some k → isItems (some k) ≡ false → leafOctets [] tag body ≡ valueOctets k body → Way p tag body after
-
--- after CDATA, as after the top, nothing comes: no item's latest stage is 3
-pub three-end : (t : Items) (s : Spot) → s .stage ≡ 3 → ruled s t ≡ true → end ≡ t
-unfolding latest
-three-end end s e h = refl
-three-end (item tag at body x y) s e h =
-    let k = keeps-parts s tag body (ruled-parts s tag at body x y h .rules) in
-    absurd (go (attribute tag || eqb tag 4) (eqb tag 6) (leb-true (s .stage) (latest tag) (placed-parts s tag (k .place) .order)))
-  where
-    go : (a b : Bool) → s .stage ≤ cond a 0 (cond b 1 2) → ⊥
-    go true b l = omega arith
-    go false true l = omega arith
-    go false false l = omega arith
-
-cdata-three : (s : Spot) → past s 1 .stage ≡ 3
-unfolding past stageAfter attribute
-cdata-three s = cond-same (eqb (s .parent) 0) 3
 
 way-kind : (s : Spot) (tag : ℕ) (body : List ℕ) (after : Items) (k : Kind) → attribute tag ≡ false → eqb tag 1 ≡ false → known 0 tag ≡ some k → Kept s tag body (some k)
     → eqb tag 4 ≡ false → Way (s .parent) tag body after
@@ -91,7 +73,7 @@ way s tag body inside after u = go (attribute tag) (eqb tag 1) refl refl
     go true o p q = isAttribute (kind .0) p (kind .1) (rw (kind .1) at (kept .value))
     go false true p q =
         let z : 1 ≡ tag = sym (eqb-true tag 1 q) in
-        isCdata z (three-end after (past s tag) (ap (λ m. past s m .stage) (sym z) ∙ cdata-three s) (u .beside))
+        isCdata z (three-end after (past s tag) (ap (λ m. past s m .stage) (sym z) ∙ cdata-three s) (ruled-order after (past s tag) (u .beside)))
     go false false p q =
         let e : known 0 tag ≡ some (kind .0) = sym (known-anywhere (s .parent) tag p) ∙ kind .1 in
         way-kind s tag body after (kind .0) p q e (rw (kind .1) at kept) (keeps-tag s tag body (u .rules))

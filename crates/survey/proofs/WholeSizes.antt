@@ -1,40 +1,36 @@
 -- The sizes of the items of an accepted object are those of its normal form and of its store.
-use mathlib.Core.Path.{_≡_, refl, sym, ap, ap₂, _∙_}
-use mathlib.Core.Bool.{Bool, true, false, cond, false≢true}
+use mathlib.Core.Path.{_≡_, refl, sym, ap, ap₂, _∙_, fun-ext}
+use mathlib.Core.Bool.{Bool, true, false, cond}
 use mathlib.Core.Option.{Option, none, some}
-use mathlib.Core.List.{List, []}
+use mathlib.Core.List.{List, [], _++_}
 use Prim.Native.Nat.{ℕ, _+_, _≤_}
 use native.Mathlib.Omega.{arith}
 use lib.Dec.{eqb}
 use lib.ListN.{length, length-append}
 use Rattle.octets.specs.Numbers.{Octets}
+use Rattle.octets.specs.Header.{framed}
 use Rattle.text.specs.Tokens.{Entries, entries}
-use Rattle.text.proofs.Expansion.{Sound}
 use Rattle.values.specs.declared.Kind.{Kind}
-use Rattle.values.specs.declared.Kind.the-variants.{HoldsItems, HoldsTokens, HoldsText, HoldsPlain, HoldsTime, HoldsBearer, HoldsNumber}
 use Rattle.values.specs.Table.{known}
-use Rattle.values.specs.Values.{meant, octetsOf}
-use Rattle.values.specs.Proper.{Proper}
-use Rattle.values.proofs.Values.{valueKind, proper-means, proper-fits, fits-proper}
+use Rattle.values.specs.Values.{Value, octetsOf}
 use Rattle.format.specs.Tree.{Items}
 use Rattle.format.specs.Tree.Items.{end, item}
-use Rattle.format.specs.Judge.{isItems, isTokens, isValue, judge}
+use Rattle.format.specs.Judge.{isValue, judge}
 use Rattle.format.specs.Judge.Judged.{accepted}
-use Rattle.format.specs.Meaning.{opens, tableOf, normalOf, encode}
+use Rattle.format.specs.Meaning.{Meaning, opens, tableOf, meaningOf, normalOf, maybe, rising, encode}
+use Rattle.format.specs.Meaning.Meaning.{nothing, element, leaf}
 use Rattle.format.specs.Writer.{Spot, below, past, atTop}
-use Rattle.format.specs.Loaded.{stored, storeIn, loadedIn, storeOf, loadedOf}
-use Rattle.format.proofs.Told.{Told, ItemTold, KindTold, accepted-told, accepted-sound}
-use Rattle.format.proofs.Fine.{told-text, known-is}
-use Rattle.format.proofs.Means.{items-opens}
-use Rattle.format.proofs.Loading.{loaded-means, loaded-ruled}
-use Rattle.judge.proofs.AllWays.{tokens-four}
-use Rattle.survey.specs.Normal.{framedSize, itemOctets, normalSize}
-use Rattle.survey.proofs.Ways.{framed-length, value-fits, item-known}
-use Rattle.survey.proofs.Sizes.{size-whole}
+use Rattle.format.specs.Loaded.{stored, storeIn, storeOf}
+use Rattle.format.proofs.Told.{Told, accepted-told}
+use Rattle.format.proofs.Sums.{sum}
+use Rattle.format.proofs.Takes.{Measure, ifAny, ofSet, ofMeaning, takes, takes-means}
+use Rattle.survey.specs.Normal.{framedSize}
 use Rattle.survey.specs.declared.measure.Measured.{Measured}
 use Rattle.survey.specs.Places.{tableBody}
 use Rattle.survey.specs.Measure.{measuredOf, Measures}
 use Rattle.survey.specs.Sizes.{taken, roomIn, sizeIn, sizesOf, sizesIn, ItemsMeasured}
+use Rattle.survey.proofs.Rising.{rising-length}
+use Rattle.survey.proofs.Ways.{framed-length}
 use Rattle.survey.proofs.Places.{whole}
 use Rattle.survey.proofs.Tables.{table-told}
 
@@ -65,61 +61,45 @@ room-told T (item tag at body x u) s h = room-item T (s .parent) tag at body x u
 
 -- ---- the normal form
 
--- an item that is no token table and holds no items has a value
-value-kind : (k : Kind) → isItems (some k) ≡ false → isTokens (some k) ≡ false → valueKind k ≡ true
-unfolding isItems isTokens
-value-kind HoldsItems i n = absurd (false≢true (sym i))
-value-kind HoldsTokens i n = absurd (false≢true (sym n))
-value-kind HoldsText i n = refl
-value-kind HoldsPlain i n = refl
-value-kind HoldsTime i n = refl
-value-kind HoldsBearer i n = refl
-value-kind (HoldsNumber m) i n = refl
+-- a normal form is as long as its items, each with its header
+abbrev inForm : Measure
+inForm = record { holder = framedSize; single = λ o. framedSize (length o) }
 
--- its stored octets are its normal octets already
-stored-size : (T : Entries) (p tag : ℕ) (body : List ℕ) (k : Kind) → known p tag ≡ some k → Proper k (meant T k body)
-    → length (itemOctets p tag (stored T (known p tag) body)) ≡ framedSize (length (stored T (known p tag) body))
-unfolding stored
-stored-size T p tag body k e h =
-    let own = octetsOf (meant T k body) in
-    rw e (ap length (item-known p tag own k e) ∙ framed-length tag _ ∙ ap (λ o. framedSize (length o)) (value-fits k own (proper-fits h) ∙ ap octetsOf (proper-means h)))
+maybe-length : {A : Type 0} (tag : ℕ) (f : A → List ℕ) (o : Option A) → length (maybe (λ a. framed tag (f a)) o) ≡ ifAny (λ a. framedSize (length (f a))) o
+unfolding maybe ifAny
+maybe-length tag f none = refl
+maybe-length tag f (some a) = framed-length tag (f a)
 
-single-size : (T : Entries) (s : Spot) (tag : ℕ) (body : List ℕ) (x : Items) → Sound T → ItemTold T s tag body x → eqb tag 4 ≡ false → opens tag ≡ false
-    → length (itemOctets (s .parent) tag (stored T (known (s .parent) tag) body)) ≡ framedSize (length (taken T (known (s .parent) tag) body))
-unfolding isValue
-single-size T s tag body x ok i f o =
-    let p = s .parent in
-    let k = known-is (known p tag) (i .kind .isOne) in
-    let h : KindTold T p tag body (some (k .0)) = rw (k .1) at (i .kind) in
-    let v : valueKind (k .0) ≡ true = value-kind (k .0) (sym (ap isItems (k .1)) ∙ items-opens p tag ∙ o) (sym (ap isTokens (k .1)) ∙ tokens-four p tag ∙ f) in
-    let proper = fits-proper T (k .0) body (i .octets) v (h .value) (λ q. told-text T p tag body ok (rw q at h)) in
-    stored-size T p tag body (k .0) (k .1) proper ∙ ap (λ y. framedSize (length y)) (sym (all-taken T (known p tag) body (i .kind .value)))
+rising-sum : (f : ℕ → Option Value) → length (rising 128 0x80 f) ≡ ofSet inForm f
+unfolding ofSet
+rising-sum f = rising-length 128 0x80 f ∙ ap (sum 128 0x80) (fun-ext (λ tag. maybe-length tag octetsOf (f tag)))
 
-abbrev Sized : Entries → Spot → Items → Type 0
-Sized T s t = (at : ℕ) → sizeIn T (s .parent) t ≡ normalSize (s .parent) (loadedIn T (s .parent) at t)
+encode-length : (m : Meaning) → length (encode m) ≡ ofMeaning inForm m
+unfolding encode ofMeaning
+encode-length nothing = refl
+encode-length (element tag f kids cdata after) =
+    let body = rising 128 0x80 f ++ (encode kids ++ maybe (framed 1) cdata) in
+    let long : length body ≡ ofSet inForm f + (ofMeaning inForm kids + ifAny (inForm .single) cdata) =
+    rw (length-append, length-append, rising-sum f, encode-length kids, maybe-length 1 (λ o. o) cdata) in
+    rw (length-append, framed-length, long, encode-length after)
+encode-length (leaf tag o after) = rw (length-append, framed-length, encode-length after)
 
-size-item : (T : Entries) (s : Spot) (tag from : ℕ) (body : List ℕ) (x u : Items) → Sound T → ItemTold T s tag body x → Sized T (below s tag) x → Sized T (past s tag) u
-    → Sized T s (item tag from body x u)
-unfolding sizeIn normalSize loadedIn below past
-size-item T s tag from body x u ok i inside later at = go (eqb tag 4) refl (opens tag) refl
+size-item : (T : Entries) (p tag at : ℕ) (body : List ℕ) (x u : Items) → isValue (known p tag) body ≡ true → sizeIn T tag x ≡ takes inForm T tag x → sizeIn T p u ≡ takes inForm T p u
+    → sizeIn T p (item tag at body x u) ≡ takes inForm T p (item tag at body x u)
+unfolding sizeIn takes
+size-item T p tag at body x u v inside later = rw (inside, later, all-taken T (known p tag) body v) (go (eqb tag 4) (opens tag))
   where
-    p : ℕ
-    p = s .parent
+    go : (b c : Bool)
+        → cond b 0 (framedSize (cond c (takes inForm T tag x) (length (stored T (known p tag) body)))) + takes inForm T p u
+        ≡ cond b 0 (cond c (framedSize (takes inForm T tag x)) (framedSize (length (stored T (known p tag) body)))) + takes inForm T p u
+    go true c = refl
+    go false true = refl
+    go false false = refl
 
-    own : List ℕ
-    own = stored T (known p tag) body
-
-    go : (b : Bool) → eqb tag 4 ≡ b → (c : Bool) → opens tag ≡ c
-        → cond b 0 (framedSize (cond c (sizeIn T tag x) (length (taken T (known p tag) body)))) + sizeIn T p u
-        ≡ normalSize p (cond b (loadedIn T p at u) (cond c (item tag 0 [] (loadedIn T tag at x) (loadedIn T p (at + length (storeIn T tag x)) u)) (item tag at own end (loadedIn T p (at + length own) u))))
-    go true e c o = omega (arith, later at)
-    go false e true o = rw o (ap₂ (λ a b. framedSize a + b) (inside at) (later (at + length (storeIn T tag x))))
-    go false e false o = rw o (ap₂ (λ a b. a + b) (sym (single-size T s tag body x ok i e o)) (later (at + length own)))
-
-size-told : (T : Entries) → Sound T → (t : Items) (s : Spot) → Told T s t → Sized T s t
-unfolding sizeIn normalSize loadedIn
-size-told T ok end s h at = refl
-size-told T ok (item tag from body x u) s h at = size-item T s tag from body x u ok (h .0) (size-told T ok x (below s tag) (h .1)) (size-told T ok u (past s tag) (h .2)) at
+size-told : (T : Entries) (t : Items) (s : Spot) → Told T s t → sizeIn T (s .parent) t ≡ takes inForm T (s .parent) t
+unfolding sizeIn takes below past
+size-told T end s h = refl
+size-told T (item tag at body x u) s h = size-item T (s .parent) tag at body x u (h .0 .kind .value) (size-told T x (below s tag) (h .1)) (size-told T u (past s tag) (h .2))
 
 -- ---- the store is no larger than the normal form
 
@@ -144,9 +124,7 @@ module _ (o : List ℕ) (t : Items) (os : Octets o) (h : judge o ≡ accepted t)
 
   pub size-normal : sizeIn (tableOf t) 0 t ≡ length (normalOf t)
   unfolding atTop
-  size-normal =
-      size-told (tableOf t) (accepted-sound o t os h) t atTop (accepted-told o t os h) 0
-      ∙ size-whole (loadedOf t) (loaded-ruled o t os h) ∙ ap (λ m. length (encode m)) (loaded-means o t os h)
+  size-normal = size-told (tableOf t) t atTop (accepted-told o t os h) ∙ takes-means o t os h inForm ∙ sym (encode-length (meaningOf t))
 
   -- each text and value of the store stands in the normal form too, behind a header
   pub store-less : length (storeOf t) ≤ length (normalOf t)
