@@ -18,6 +18,8 @@ pub mod Bench
 pub mod Examples
 pub mod Loading
 pub mod Takes
+pub mod OctetLists
+pub mod NormalOctets
 pub mod Kept
 pub mod Walk
 pub mod Trees
