@@ -1,43 +1,46 @@
 -- Demand 3: from the claims, with the theorems on meaning and normal form.
-use mathlib.Core.Path.{_≡_, refl, sym, ap, ap₂, _∙_}
+use mathlib.Core.Path.{_≡_, refl, sym, ap, ap₂, _∙_, subst}
 use mathlib.Core.Bool.{Bool, true, false, cond}
 use mathlib.Core.Logic.{_↔_}
 use mathlib.Core.Option.{some, Option·some-injective}
 use mathlib.Core.List.{List}
-use Prim.Native.Nat.{ℕ, _≤_}
+use Prim.Native.Nat.{ℕ}
 use native.Mathlib.Omega.{arith}
 use lib.ListN.{length, take, drop}
 use lib.Seq.{sets}
 use Rattle.octets.specs.Numbers.{Octets}
-use Rattle.octets.proofs.Numbers.{octets-take}
 use Rattle.octets.proofs.Lists.{part-of-sets, drop-sets}
 use Rattle.format.specs.declared.WriteAnswer.the-variants.{Octets as Written}
 use Rattle.format.specs.declared.SameAnswer.{SameAnswer}
 use Rattle.format.specs.declared.SameAnswer.the-variants.{Same, Different}
-use Rattle.format.specs.Tree.{Items}
+use Rattle.format.specs.Tree.{Items, count}
 use Rattle.format.specs.Judge.{Judged, judge}
 use Rattle.format.specs.Judge.Judged.{refused, accepted}
 use Rattle.format.specs.Meaning.{meaningOf, meaning, encode, normalOf}
+use Rattle.format.specs.Loaded.{storeOf}
 use Rattle.format.specs.Calls.{Lists, Lent, lentBy, handed, sameOctets, sameAnswer, NormaliseClaim}
 use Rattle.format.proofs.Normal.{normal-means, same-normal}
+use Rattle.format.proofs.NormalOctets.{normal-octets}
+use Rattle.format.proofs.Takes.{ofMeaning, inRecords, inStore, records-means, store-means}
 use Rattle.format.proofs.Calls.{same-exactly as same-meaning}
 use Rattle.grammar.proofs.Agree.{complete}
-use Rattle.demands.specs.Three.{SameNormalForms, NormalAccepted, NormalAgain, NormalAgainGiven, BothSuffice, Comparison, SameExactly}
+use Rattle.demands.specs.One.{Suffices}
+use Rattle.demands.specs.Three.{SameNormalForms, NormalAccepted, NormalTakesNoMore, NormalAgain, NormalAgainIfAny, BothSuffice, Comparison, SameExactly}
 use Rattle.demands.proofs.Laws.{never, suffices-fits, has-meaning, accepted-means}
 use Rattle.demands.proofs.One.{Compared, compare, both-compared, normalise-in-order}
 use Rattle.demands.proofs.One.Compared.{badFirst, badSecond, lackingFirst, lackingSecond, bothGood}
 
 -- what a call of normalise that gives octets leaves in its room
-pub record Normalised (object room room′ : List ℕ) (n : ℕ) : Type 0 where
+pub record Normalised (object : List ℕ) (lent : Lent) (room room′ : List ℕ) (n : ℕ) : Type 0 where
   pub tree : Items
   pub is : judge object ≡ accepted tree
   pub octets : take n room′ ≡ normalOf tree
   pub many : n ≡ length (normalOf tree)
-  pub small : length (normalOf tree) ≤ 32_768
+  pub suffices : Suffices lent tree
   pub behind : drop n room′ ≡ drop n room
 
 pub normalised : (object : List ℕ) (lists lists′ : Lists) (store store′ room room′ : List ℕ) (n : ℕ) → NormaliseClaim object lists lists′ store store′ room room′ (Written n)
-    → Normalised object room room′ n
+    → Normalised object (lentBy lists store room) room room′ n
 unfolding handed
 normalised object lists lists′ store store′ room room′ n c =
     let f = normalise-in-order object lists lists′ store store′ room room′ (Written n) c .octets n .0 refl in
@@ -48,7 +51,7 @@ normalised object lists lists′ store store′ room room′ n c =
       is = f .1;
       octets = ap₂ take (f .2) laid ∙ part-of-sets room 0 (normalOf t) (omega (arith, f .3 .room));
       many = f .2;
-      small = f .3 .object;
+      suffices = f .3;
       behind = ap (drop n) laid ∙ drop-sets n room 0 (normalOf t) (omega (arith, f .2));
     }
 
@@ -58,47 +61,65 @@ same-normal-forms a b os ps listsA listsA′ storeA storeA′ roomA roomA′ n c
     let g = normalised b listsB listsB′ storeB storeB′ roomB roomB′ m d in
     let p = accepted-means a (f .tree) (f .is) in
     let q = accepted-means b (g .tree) (g .is) in
-    let one = same-normal a b os ps (meaningOf (f .tree)) (meaningOf (g .tree)) p q (f .small) in (
+    let one = same-normal a b os ps (meaningOf (f .tree)) (meaningOf (g .tree)) p q (f .suffices .object) in (
       (λ e. p ∙ ap some (one .0 (sym (f .octets) ∙ e ∙ g .octets)) ∙ sym q),
       (λ e. f .octets ∙ one .1 (Option·some-injective (meaningOf (f .tree)) (meaningOf (g .tree)) (sym p ∙ e ∙ q)) ∙ sym (g .octets)),
     )
 
 -- the octets of a normal form mean what the object means
-form-means : (object : List ℕ) → Octets object → (room room′ : List ℕ) (n : ℕ) (f : Normalised object room room′ n) → meaning (take n room′) ≡ some (meaningOf (f .tree))
-form-means object os room room′ n f = ap meaning (f .octets) ∙ normal-means object os (meaningOf (f .tree)) (accepted-means object (f .tree) (f .is)) (f .small)
+form-means : (object : List ℕ) → Octets object → (lent : Lent) (room room′ : List ℕ) (n : ℕ) (f : Normalised object lent room room′ n) → meaning (take n room′) ≡ some (meaningOf (f .tree))
+form-means object os lent room room′ n f = ap meaning (f .octets) ∙ normal-means object os (meaningOf (f .tree)) (accepted-means object (f .tree) (f .is)) (f .suffices .object)
 
 pub normal-accepted : NormalAccepted
-normal-accepted object os lists lists′ store store′ room room′ n out c =
+normal-accepted object os lists lists′ store store′ room room′ n c =
     let f = normalised object lists lists′ store store′ room room′ n c in
-    let e = form-means object os room room′ n f in
+    let e = form-means object os (lentBy lists store room) room room′ n f in
     let m = has-meaning (take n room′) (meaningOf (f .tree)) e in
     record {
       again = m .0;
-      accepts = complete (take n room′) (m .0) (octets-take n room′ out) (m .1);
+      accepts = complete (take n room′) (m .0) (subst Octets (sym (f .octets)) (normal-octets object (f .tree) os (f .is) (f .suffices .object))) (m .1);
       means-same = e ∙ sym (accepted-means object (f .tree) (f .is));
       behind = f .behind;
     }
 
+-- a meaning says how many records and how long a store, and a normal form has that of its source
+pub normal-takes-no-more : NormalTakesNoMore
+normal-takes-no-more object os t h l =
+    let form = normalOf t in
+    let m = has-meaning form (meaningOf t) (normal-means object os (meaningOf t) (accepted-means object t h) l) in
+    let out = normal-octets object t os h l in
+    let many : count (m .0) ≡ count t = records-means form (m .0) out (m .1) ∙ ap (ofMeaning inRecords) (m .2) ∙ sym (records-means object t os h) in
+    let long : length (storeOf (m .0)) ≡ length (storeOf t) = store-means form (m .0) out (m .1) ∙ ap (ofMeaning inStore) (m .2) ∙ sym (store-means object t os h) in
+    record { again = m .0; accepts = m .1; records = omega arith; store = omega arith; octets = ap encode (m .2) }
+
 -- the tree of a normal form has that normal form
-form-again : (object : List ℕ) → Octets object → (room room′ : List ℕ) (n : ℕ) → Normalised object room room′ n → (u : Items) → judge (take n room′) ≡ accepted u → normalOf u ≡ take n room′
-form-again object os room room′ n f u h =
-    let e = form-means object os room room′ n f in
+form-again : (object : List ℕ) → Octets object → (lent : Lent) (room room′ : List ℕ) (n : ℕ) → Normalised object lent room room′ n → (u : Items) → judge (take n room′) ≡ accepted u
+    → normalOf u ≡ take n room′
+form-again object os lent room room′ n f u h =
+    let e = form-means object os lent room room′ n f in
     ap encode (Option·some-injective (meaningOf u) (meaningOf (f .tree)) (sym (accepted-means (take n room′) u h) ∙ e)) ∙ sym (f .octets)
 
-pub normal-again : NormalAgain
-normal-again object os lists lists′ store store′ room room′ n c again again′ store₂ store₂′ room₂ room₂′ m d =
+pub normal-again-if-any : NormalAgainIfAny
+normal-again-if-any object os lists lists′ store store′ room room′ n c again again′ store₂ store₂′ room₂ room₂′ m d =
     let f = normalised object lists lists′ store store′ room room′ n c in
     let g = normalised (take n room′) again again′ store₂ store₂′ room₂ room₂′ m d in
-    let same : normalOf (g .tree) ≡ take n room′ = form-again object os room room′ n f (g .tree) (g .is) in
+    let same : normalOf (g .tree) ≡ take n room′ = form-again object os (lentBy lists store room) room room′ n f (g .tree) (g .is) in
     (g .many ∙ ap length (same ∙ f .octets) ∙ sym (f .many), g .octets ∙ same)
 
-pub normal-again-given : NormalAgainGiven
-normal-again-given object os lists lists′ store store′ room room′ n c again again′ store₂ store₂′ room₂ room₂′ answer d s =
+pub normal-again : NormalAgain
+normal-again object os lists lists′ store store′ room room′ n c again again′ store₂ store₂′ room₂ room₂′ answer d places-more store-more room-enough =
     let f = normalised object lists lists′ store store′ room room′ n c in
-    let m = has-meaning (take n room′) (meaningOf (f .tree)) (form-means object os room room′ n f) in
-    let u = m .0 in
-    let long : n ≡ length (normalOf u) = f .many ∙ ap length (sym (form-again object os room room′ n f u (m .1) ∙ f .octets)) in
-    normalise-in-order (take n room′) again again′ store₂ store₂′ room₂ room₂′ answer d .octets n .1 (u, m .1, long, s u (m .1))
+    let u = normal-takes-no-more object os (f .tree) (f .is) (f .suffices .object) in
+    let long : n ≡ length (normalOf (u .again)) = f .many ∙ ap length (sym (u .octets)) in
+    let enough : Suffices (lentBy again store₂ room₂) (u .again) = record {
+      records = omega (arith, u .records, f .suffices .records);
+      store = omega (arith, u .store, f .suffices .store);
+      room = omega arith;
+      object = omega (arith, f .many, f .suffices .object);
+    } in
+    let written : answer ≡ Written n = normalise-in-order (take n room′) again again′ store₂ store₂′ room₂ room₂′ answer d .octets n .1 (u .again, ap judge (f .octets) ∙ u .accepts, long, enough) in
+    let given = subst (NormaliseClaim (take n room′) again again′ store₂ store₂′ room₂ room₂′) written d in
+    (written, normal-again-if-any object os lists lists′ store store′ room room′ n c again again′ store₂ store₂′ room₂ room₂′ n given .1)
 
 -- ---- comparing
 module _ (a b : List ℕ) (first second : Lent) (answer : SameAnswer) (e : answer ≡ sameAnswer first second (judge a) (judge b)) where

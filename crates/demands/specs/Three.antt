@@ -1,5 +1,5 @@
 -- Demand 3. Normal forms of two accepted objects are the same octets exactly when the objects mean the same, meaning being defined without the writer. A normal
--- form is accepted, means what its source meant, and normalises to itself.
+-- form is accepted, means what its source meant, takes no more memory than its source, and normalises to itself.
 --
 -- `meaning` (format/specs/Meaning) is defined by `judge`, `means` and the values alone; the normal form `encode` stands below it in that file, and the records for
 -- the writer in another. The premise `Octets` is as in Two. That normalise answers with octets says that the object is accepted and fits what is lent
@@ -7,18 +7,19 @@
 use mathlib.Core.Path.{_≡_}
 use mathlib.Core.Logic.{_↔_}
 use mathlib.Core.List.{List}
-use Prim.Native.Nat.{ℕ}
-use lib.ListN.{take, drop}
+use Prim.Native.Nat.{ℕ, _≤_}
+use lib.ListN.{length, take, drop}
 use Rattle.octets.specs.Numbers.{Octets}
 use Rattle.format.specs.declared.WriteAnswer.{WriteAnswer}
 use Rattle.format.specs.declared.WriteAnswer.the-variants.{Octets as Written}
 use Rattle.format.specs.declared.SameAnswer.{SameAnswer}
 use Rattle.format.specs.declared.SameAnswer.the-variants.{Same, Different}
-use Rattle.format.specs.Tree.{Items}
+use Rattle.format.specs.Tree.{Items, count}
 use Rattle.format.specs.Judge.{judge}
 use Rattle.format.specs.Judge.Judged.{accepted}
-use Rattle.format.specs.Meaning.{meaning}
-use Rattle.format.specs.Calls.{Lists, Lent, lentBy, NormaliseClaim, SameClaim}
+use Rattle.format.specs.Meaning.{meaning, normalOf}
+use Rattle.format.specs.Loaded.{storeOf}
+use Rattle.format.specs.Calls.{Lists, places, Lent, lentBy, NormaliseClaim, SameClaim}
 use Rattle.grammar.specs.Grammar.{Accepts}
 use Rattle.demands.specs.One.{Suffices}
 
@@ -39,25 +40,38 @@ pub record NormalForm (object room room′ : List ℕ) (n : ℕ) : Type 0 where
 
 abbrev pub NormalAccepted : Type 0
 NormalAccepted =
-    (object : List ℕ) → Octets object → (lists lists′ : Lists) (store store′ room room′ : List ℕ) (n : ℕ) → Octets room′
+    (object : List ℕ) → Octets object → (lists lists′ : Lists) (store store′ room room′ : List ℕ) (n : ℕ)
     → NormaliseClaim object lists lists′ store store′ room room′ (Written n) → NormalForm object room room′ n
 
--- a normal form normalises to itself: whatever is lent to the second call, its octets are the same wherever it gives any
+-- the normal form of an accepted object with a tree, taken as an object: it is accepted, takes no more places and no more of a store than its source, and is its
+-- own normal form
+pub record NoMore (t : Items) : Type 0 where
+  pub again : Items
+  pub accepts : judge (normalOf t) ≡ accepted again
+  pub records : count again ≤ count t
+  pub store : length (storeOf again) ≤ length (storeOf t)
+  pub octets : normalOf again ≡ normalOf t
+
+abbrev pub NormalTakesNoMore : Type 0
+NormalTakesNoMore = (object : List ℕ) → Octets object → (t : Items) → judge object ≡ accepted t → length (normalOf t) ≤ 32_768 → NoMore t
+
+-- so a normal form normalises to itself: a second call that is lent at least as many places and as large a store as the first, and a room for these octets, gives
+-- them again
 abbrev pub NormalAgain : Type 0
 NormalAgain =
     (object : List ℕ) → Octets object
     → (lists lists′ : Lists) (store store′ room room′ : List ℕ) (n : ℕ) → NormaliseClaim object lists lists′ store store′ room room′ (Written n)
-    → (again again′ : Lists) (store₂ store₂′ room₂ room₂′ : List ℕ) (m : ℕ) → NormaliseClaim (take n room′) again again′ store₂ store₂′ room₂ room₂′ (Written m)
-    → (m ≡ n) × (take m room₂′ ≡ take n room′)
+    → (again again′ : Lists) (store₂ store₂′ room₂ room₂′ : List ℕ) (answer : WriteAnswer) → NormaliseClaim (take n room′) again again′ store₂ store₂′ room₂ room₂′ answer
+    → places lists ≤ places again → length store ≤ length store₂ → n ≤ length room₂
+    → (answer ≡ Written n) × (take n room₂′ ≡ take n room′)
 
--- and it gives them where what is lent suffices for the normal form
-abbrev pub NormalAgainGiven : Type 0
-NormalAgainGiven =
+-- and whatever is lent to the second call, its octets are the same wherever it gives any
+abbrev pub NormalAgainIfAny : Type 0
+NormalAgainIfAny =
     (object : List ℕ) → Octets object
     → (lists lists′ : Lists) (store store′ room room′ : List ℕ) (n : ℕ) → NormaliseClaim object lists lists′ store store′ room room′ (Written n)
-    → (again again′ : Lists) (store₂ store₂′ room₂ room₂′ : List ℕ) (answer : WriteAnswer) → NormaliseClaim (take n room′) again again′ store₂ store₂′ room₂ room₂′ answer
-    → ((u : Items) → judge (take n room′) ≡ accepted u → Suffices (lentBy again store₂ room₂) u)
-    → answer ≡ Written n
+    → (again again′ : Lists) (store₂ store₂′ room₂ room₂′ : List ℕ) (m : ℕ) → NormaliseClaim (take n room′) again again′ store₂ store₂′ room₂ room₂′ (Written m)
+    → (m ≡ n) × (take m room₂′ ≡ take n room′)
 
 -- two accepted objects for which what is lent suffices
 pub record BothSuffice (a b : List ℕ) (first second : Lent) : Type 0 where
