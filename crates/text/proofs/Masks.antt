@@ -45,7 +45,7 @@ or-one (suc zero) h = refl
 or-one (suc (suc x)) h = absurd (omega arith)
 
 -- the bit of one number more
-bit-more : (m u t : ℕ) → bit (bitOr m (2 ^ u)) t ≡ eqb t u || bit m t
+pub bit-more : (m u t : ℕ) → bit (bitOr m (2 ^ u)) t ≡ eqb t u || bit m t
 bit-more m u t = ap (λ (n : ℕ). eqb n 1) (bit-or m (2 ^ u) t) ∙ go (eqb t u) refl
   where
     go : (b : Bool) → eqb t u ≡ b → eqb (bitOr (m / 2 ^ t % 2) (2 ^ u / 2 ^ t % 2)) 1 ≡ b || bit m t

@@ -1,0 +1,3 @@
+pub mod TagTests
+pub mod Masks
+pub mod Wrong

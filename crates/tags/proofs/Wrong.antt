@@ -1,0 +1,81 @@
+-- Wrong answers, refuted by computing the definitions: for each public call two, of the kind that slips make.
+use mathlib.Core.Path.{_≡_}
+use mathlib.Core.Bool.{true, false, false≢true, true≢false}
+use Prim.Native.Nat.{ℕ}
+use native.Mathlib.Omega.{arith}
+use Rattle.values.specs.Table.{attribute}
+use Rattle.format.specs.Judge.{isTop, allowed, latest, stageAfter, limit}
+use Rattle.tags.specs.Rules.{withinDepth, limited, asLimit, hasBit, withBit}
+use Rattle.tags.specs.declared.Limit.the-variants.{Unlimited, AtMost}
+
+-- `is_top`: epg alone; the token table taken for a top
+pub epg-alone : isTop 3 ≡ false → ⊥
+unfolding isTop
+epg-alone h = true≢false h
+
+pub table-a-top : isTop 4 ≡ true → ⊥
+unfolding isTop
+table-a-top h = false≢true h
+
+-- `is_allowed`: a token table in an inner element; a top within a top
+pub table-within : allowed 0x28 4 ≡ true → ⊥
+unfolding allowed isTop
+table-within h = false≢true h
+
+pub top-within-top : allowed 3 3 ≡ true → ⊥
+unfolding allowed isTop
+top-within-top h = false≢true h
+
+-- `latest_of`: a token table after the language; an attribute after an element
+pub table-after-language : latest 4 ≡ 1 → ⊥
+unfolding latest attribute
+table-after-language h = omega arith
+
+pub attribute-after-element : latest 0x80 ≡ 2 → ⊥
+unfolding latest attribute
+attribute-after-element h = omega arith
+
+-- `stage_after`: the language leaves room for a table behind it; CDATA is as any element
+pub language-as-table : stageAfter 6 ≡ 1 → ⊥
+unfolding stageAfter attribute
+language-as-table h = omega arith
+
+pub cdata-as-element : stageAfter 1 ≡ 2 → ⊥
+unfolding stageAfter attribute
+cdata-as-element h = omega arith
+
+-- `is_within_depth`: an element at depth 17; the CDATA of an element at depth 16 refused
+pub element-at-seventeen : withinDepth 0x28 17 ≡ true → ⊥
+unfolding attribute
+element-at-seventeen h = false≢true h
+
+pub cdata-at-seventeen : withinDepth 1 17 ≡ false → ⊥
+unfolding attribute
+cdata-at-seventeen h = true≢false h
+
+-- `limit_of`: the limit of mediumName for shortName; no limit for longDescription
+pub medium-for-short : asLimit 0x10 ≡ AtMost 16 → ⊥
+unfolding asLimit limited limit
+medium-for-short h = let z : _≡_ {A = ℕ} 8 16 = cc in omega arith
+
+pub no-limit-of-long : asLimit 0x1B ≡ Unlimited → ⊥
+unfolding asLimit limited limit
+no-limit-of-long h = let z : _≡_ {A = ℕ} 0 1 = cc in omega arith
+
+-- `has_bit`: the bit of one tag taken for the next one's; a tag without a bit that has one
+pub bit-of-next : hasBit 1 0x81 ≡ true → ⊥
+unfolding hasBit
+bit-of-next h = false≢true h
+
+pub bit-past-mask : hasBit 1 0xC0 ≡ true → ⊥
+unfolding hasBit
+bit-past-mask h = false≢true h
+
+-- `with_bit`: bits before it lost; a bit that was set taken away
+pub others-lost : withBit 1 0x81 ≡ 2 → ⊥
+unfolding withBit
+others-lost h = omega arith
+
+pub bit-toggled : withBit 1 0x80 ≡ 0 → ⊥
+unfolding withBit
+bit-toggled h = omega arith

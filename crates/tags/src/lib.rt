@@ -1,0 +1,19 @@
+// The rules of where an item may stand, by its tag, the tag of its element and what came before it (document 01, Framing and Refusal numbers:
+// 4, 6, 7, 8 and 13). An object's items and records that are lent are held to the same ones, so each is said here, once.
+mod rules;
+mod seen;
+
+pub use rules::is_allowed;
+pub use rules::is_top;
+pub use rules::is_within_depth;
+pub use rules::latest_of;
+pub use rules::limit_of;
+pub use rules::stage_after;
+pub use seen::has_bit;
+pub use seen::with_bit;
+
+// How many octets a shown text may have, where that is limited.
+pub enum Limit {
+    Unlimited,
+    AtMost(usize),
+}
