@@ -4,13 +4,13 @@ use mathlib.Core.Bool.{Bool, true, false, cond, not, _&&_, _||_, false≢true}
 use mathlib.Core.Logic.{⊎-elim}
 use mathlib.Core.Option.{Option, none, some}
 use mathlib.Core.List.{List, [], _∷_}
-use Prim.Native.Nat.{ℕ, _-_, _≤_, _<_, min}
+use Prim.Native.Nat.{ℕ, _≤_, _<_, min}
 use native.Mathlib.Nat.{min-eq-left, min-eq-right}
 use native.Mathlib.Omega.{arith}
 use lib.Dec.{eqb, leb}
 use types.Run.{OneOf}
 use denote.Enum.Declared.{tagOf}
-use borrow.Author.Tests.{le-leb, lt-leb, leb-true, leb-false, ne-eqb, eq-eqb}
+use borrow.Author.Tests.{le-leb, lt-leb, leb-true, leb-false, eq-eqb}
 use Rattle.octets.specs.Numbers.{among}
 use Rattle.octets.proofs.Tests.{or-true}
 use Rattle.text.specs.Text.{text}
@@ -31,14 +31,13 @@ use Rattle.format.proofs.Rules.{first-one}
 use Rattle.values.specs.Calls.{asKnown, knownKind}
 use Rattle.values.specs.declared.KnownKind.{KnownKind}
 use Rattle.values.specs.declared.KnownKind.the-variants.{Unknown, Known}
-use Rattle.judge.specs.Says.{ctx, bare, InForce, depthOf, asKind, asLimit, limited, checked, sorted, hasBit, Seen, ItemSays}
-use Rattle.judge.specs.declared.tags.Limit.{Limit}
-use Rattle.judge.specs.declared.tags.Limit.the-variants.{Unlimited, AtMost}
+use Rattle.tags.specs.Rules.{withinDepth, hasBit, Seen}
+use Rattle.tags.proofs.Masks.{twice-is}
+use Rattle.judge.specs.Says.{ctx, bare, InForce, depthOf, asKind, checked, sorted, ItemSays}
 use Rattle.judge.specs.declared.Check.{Check}
 use Rattle.judge.specs.declared.Check.the-variants.{Kept, Broken}
 use Rattle.judge.specs.declared.Progress.{Progress}
 use Rattle.judge.specs.declared.Sort.the-variants.{Skip, Leaf, Table, Element}
-use Rattle.judge.proofs.Masks.{twice-is}
 
 -- what the lookup answers, in the definition's words
 pub kind-known : (k : KnownKind) (parent tag : ℕ) → k ≡ knownKind parent tag → asKind k ≡ known parent tag
@@ -49,7 +48,7 @@ kind-known k parent tag e = ap asKind e ∙ same (known parent tag)
     same none = refl
     same (some k) = refl
 
--- rules 12 and 13
+-- rule 12
 module _ (parent tag : ℕ) (holds t : Bool) (e : t ≡ (attribute tag && isTop parent)) where
   pub held-later : t ≡ true → true ≡ ((attribute tag && isTop parent) || holds)
   held-later f = rw (sym e ∙ f)
@@ -57,33 +56,7 @@ module _ (parent tag : ℕ) (holds t : Bool) (e : t ≡ (attribute tag && isTop 
   pub held-now : t ≡ false → holds ≡ ((attribute tag && isTop parent) || holds)
   held-now f = rw (sym e ∙ f)
 
-module _ (parent tag width : ℕ) where
-  pub short-no-cdata : (tag ≡ 1 → ⊥) → true ≡ shown parent tag width
-  unfolding shown
-  short-no-cdata h = rw (ne-eqb tag 1 h)
-
-  limit-is : (n : ℕ) (o : Option ℕ) → limited o ≡ AtMost n → notAbove width o ≡ leb width n
-  unfolding limited notAbove
-  limit-is n none h = let z : _≡_ {A = ℕ} 0 1 = cc in absurd (omega arith)
-  limit-is n (some m) h = let e : m ≡ n = cc in rw e
-
-  no-limit : (o : Option ℕ) → limited o ≡ Unlimited → notAbove width o ≡ true
-  unfolding limited notAbove
-  no-limit none h = refl
-  no-limit (some m) h = let z : _≡_ {A = ℕ} 0 1 = cc in absurd (omega arith)
-
-  module _ (h : tag ≡ 1) (l : Limit) (e : l ≡ asLimit parent) where
-    pub short-unlimited : l ≡ Unlimited → true ≡ shown parent tag width
-    unfolding shown asLimit
-    short-unlimited q = rw h (sym (no-limit (limit parent) (sym e ∙ q)))
-
-    pub short-limited : (n : ℕ) → l ≡ AtMost n → leb width n ≡ shown parent tag width
-    unfolding shown asLimit
-    short-limited n q = rw h (sym (limit-is n (limit parent) (sym e ∙ q)))
-
 pub ruleset held-ways = (held-later, held-now)
-
-pub ruleset short-ways = (short-no-cdata, short-unlimited, short-limited)
 
 -- a width that is counted up to more than each limit keeps to a limit as the whole does
 Below : ℕ → Option ℕ → Type 0
@@ -309,7 +282,7 @@ module _ (parent tag left : ℕ) (progress : Progress) (place : ℕ) (table body
   unfolding ItemSays itemRules first rule checked
   item-late h seen waiting s = rw (lt-leb (progress .stage) (latest tag) (rw e at h))
 
-  module _ (h : progress .stage ≤ l) (d : Bool) (f : d ≡ (attribute tag || eqb tag 1 || leb (depthOf left) 16)) where
+  module _ (h : progress .stage ≤ l) (d : Bool) (f : d ≡ withinDepth tag (depthOf left)) where
     pub item-deep : d ≡ false → ItemSays parent tag left progress place table body (Broken (refusal 7 place))
     unfolding ItemSays itemRules first rule checked
     item-deep g seen waiting s = rw (le-leb (progress .stage) (latest tag) (rw e at h), sym f ∙ g)

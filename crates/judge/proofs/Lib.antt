@@ -1,5 +1,4 @@
 pub mod TagTests
-pub mod Masks
 pub mod ItemWays
 pub mod OwnWays
 pub mod LateWays

@@ -23,13 +23,14 @@ use Rattle.values.specs.Calls.{knownKind}
 use Rattle.octets.specs.declared.Header.{Header}
 use Rattle.octets.specs.declared.Header.the-variants.{Past, Found}
 use Rattle.values.specs.declared.KnownKind.{KnownKind}
-use Rattle.judge.specs.Says.{ctx, depthOf, asKind, checked, sorted, withBit, Framed, ItemSays, ownOf, OwnIs, after, Says}
+use Rattle.tags.specs.Rules.{withBit}
+use Rattle.tags.proofs.Masks.{marked}
+use Rattle.judge.specs.Says.{ctx, depthOf, asKind, checked, sorted, Framed, ItemSays, ownOf, OwnIs, after, Says}
 use Rattle.judge.specs.declared.Check.{Check}
 use Rattle.judge.specs.declared.Check.the-variants.{Kept, Broken}
 use Rattle.judge.specs.declared.Progress.{Progress}
 use Rattle.judge.specs.declared.Sort.{Sort}
 use Rattle.judge.specs.declared.Item.the-variants.{Bad, Good}
-use Rattle.judge.proofs.Masks.{marked}
 use Rattle.judge.proofs.ItemWays.{kind-known}
 
 pub progress-is : (tag : ℕ) (progress : Progress) (stage mask : ℕ) → stage ≡ stageAfter tag → mask ≡ withBit (progress .mask) tag → record { stage = stage; mask = mask } ≡ after tag progress

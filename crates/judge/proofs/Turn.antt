@@ -31,14 +31,15 @@ use Rattle.format.specs.Judge.Judged.{refused, accepted}
 use Rattle.format.proofs.Fuel.{read-end, read-item, judge-read}
 use Rattle.format.proofs.Rules.{Held, held}
 use Rattle.format.proofs.Means.{items-known}
-use Rattle.judge.specs.Says.{ctx, depthOf, sorted, tableSort, Seen, Framed, Waits, WaitsWhen, brokenOf, AllIs, Passed, Says, oneMore, counted, EndSays, CountsAtMost}
+use Rattle.tags.specs.Rules.{Seen}
+use Rattle.tags.proofs.Masks.{none-marked}
+use Rattle.judge.specs.Says.{ctx, depthOf, sorted, tableSort, Framed, Waits, WaitsWhen, brokenOf, AllIs, Passed, Says, oneMore, counted, EndSays, CountsAtMost}
 use Rattle.judge.specs.Says.Waits.{done, more}
 use Rattle.judge.specs.declared.Progress.{Progress}
 use Rattle.judge.specs.declared.Sort.{Sort}
 use Rattle.judge.specs.declared.Sort.the-variants.{Skip, Leaf, Table, Element}
 use Rattle.judge.specs.declared.Item.{Item}
 use Rattle.judge.specs.declared.Item.the-variants.{Bad, Good}
-use Rattle.judge.proofs.Masks.{none-marked}
 use Rattle.judge.proofs.OwnWays.{start-two}
 use Rattle.judge.proofs.LateWays.{waits-from, tag-at, body-at}
 use Rattle.judge.proofs.AllWays.{sort-four, no-entries}

@@ -1,31 +1,29 @@
 -- What the code's values say, in the words of the crate format: contracts of the crate's own functions. The one public call is claimed by format's definitions
 -- alone (specs/Judge, specs/Calls). Rules are those of document 01, Refusal numbers.
 use mathlib.Core.Path.{_≡_}
-use mathlib.Core.Bool.{Bool, true, false, cond, _&&_}
+use mathlib.Core.Bool.{Bool, true, false, _&&_}
 use mathlib.Core.Option.{Option, none, some}
 use mathlib.Core.List.{List, [], _∷_, _++_}
-use Prim.Native.Nat.{ℕ, _+_, _-_, _/_, _^_, _≤_}
-use lib.Dec.{eqb, leb}
+use Prim.Native.Nat.{ℕ, _+_, _-_, _≤_}
+use lib.Dec.{eqb}
 use lib.ListN.{length, take, drop, getD}
-use lib.Bits.{bitOr, bitAnd}
-use Rattle.octets.specs.Numbers.{among}
 use Rattle.octets.specs.Header.{headerSize, bodySize}
 use Rattle.text.specs.Tokens.{Entries, entries}
-use Rattle.text.specs.Leaves.{maskOf}
 use Rattle.text.specs.Weighing.{tags, Marks, Widths}
 use Rattle.values.specs.declared.Kind.{Kind}
 use Rattle.values.specs.declared.Kind.the-variants.{HoldsItems, HoldsTokens, HoldsText, HoldsPlain, HoldsTime, HoldsBearer, HoldsNumber}
-use Rattle.values.specs.Table.{known, attribute}
+use Rattle.values.specs.Table.{known}
 use Rattle.format.specs.declared.Refusal.{Refusal}
 use Rattle.format.specs.declared.Counts.{Counts}
 use Rattle.format.specs.declared.ReadAnswer.{ReadAnswer}
 use Rattle.format.specs.declared.ReadAnswer.the-variants.{Records, NotRead}
 use Rattle.format.specs.Tree.{count}
 use Rattle.format.specs.Tree.Items.{end}
-use Rattle.format.specs.Judge.{Judged, Context, isTop, isKnown, limit, first, itemRules, own, broken, late, lateAfter, waits, stageAfter, unless}
+use Rattle.format.specs.Judge.{Judged, Context, isTop, first, itemRules, own, broken, late, lateAfter, waits, stageAfter, unless}
 use Rattle.format.specs.Judge.Judged.{refused, accepted}
 use Rattle.values.specs.declared.KnownKind.{KnownKind}
 use Rattle.values.specs.declared.KnownKind.the-variants.{Unknown, Known}
+use Rattle.tags.specs.Rules.{withBit, Seen}
 use Rattle.judge.specs.declared.Check.{Check}
 use Rattle.judge.specs.declared.Check.the-variants.{Kept, Broken}
 use Rattle.judge.specs.declared.Progress.{Progress}
@@ -33,8 +31,6 @@ use Rattle.judge.specs.declared.Sort.{Sort}
 use Rattle.judge.specs.declared.Sort.the-variants.{Skip, Leaf, Table, Element}
 use Rattle.judge.specs.declared.Item.{Item}
 use Rattle.judge.specs.declared.Item.the-variants.{Bad, Good}
-use Rattle.judge.specs.declared.tags.Limit.{Limit}
-use Rattle.judge.specs.declared.tags.Limit.the-variants.{Unlimited, AtMost}
 
 -- a place in an object, by what the code keeps of it and, in `seen` and `waiting`, what it doesn't keep
 abbrev pub ctx : (parent depth stage : ℕ) (seen : List ℕ) (table : Entries) (waiting : List (ℕ × List ℕ)) → Context
@@ -58,14 +54,6 @@ unfoldable pub asKind : KnownKind → Option Kind
 asKind Unknown = none
 asKind (Known k) = some k
 
--- the limits of rule 13 in the code's words
-unfoldable pub limited : Option ℕ → Limit
-limited none = Unlimited
-limited (some n) = AtMost n
-
-unfoldable pub asLimit : ℕ → Limit
-asLimit parent = limited (limit parent)
-
 -- the first broken rule that a check found
 unfoldable pub checked : Check → Option Refusal
 checked Kept = none
@@ -81,19 +69,6 @@ sorted (some HoldsPlain) = Leaf
 sorted (some HoldsTime) = Leaf
 sorted (some HoldsBearer) = Leaf
 sorted (some (HoldsNumber n)) = Leaf
-
--- the bit of a tag from 0x80 to 0xBF in a mask; no other tag has one
-unfoldable pub hasBit : ℕ → ℕ → Bool
-hasBit mask tag = leb 0x80 tag && leb tag 0xBF && eqb (bitAnd (mask / 2 ^ (tag - 0x80)) 1) 1
-
-unfoldable pub withBit : ℕ → ℕ → ℕ
-withBit mask tag = cond (leb 0x80 tag && leb tag 0xBF) (bitOr mask (2 ^ (tag - 0x80))) mask
-
--- for rule 8: a mask of bits tells which known attributes of an element are among the tags seen
-pub record Seen (parent mask : ℕ) (seen : List ℕ) : Type 0 where
-  pub bits : List ℕ
-  pub isMask : mask ≡ maskOf bits
-  pub tells : (tag : ℕ) → attribute tag ≡ true → isKnown (known parent tag) ≡ true → among tag seen ≡ among (tag - 0x80) bits
 
 -- where an item's body begins in a part, how large it is, and that its header lies in the part
 pub record Framed (s : List ℕ) (start size : ℕ) : Type 0 where

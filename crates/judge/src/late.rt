@@ -1,21 +1,47 @@
 // The late rule 12, for the texts of the top's own attributes. Nothing is kept for it: while it waits, these attributes are all that was read
 // of the top, so they are found again from its start on.
 ghost use mathlib.Core.Path.{_≡_};
-ghost use mathlib.Core.Bool.{true, not, _||_};
+ghost use mathlib.Core.Bool.{true, not, _&&_, _||_};
 ghost use Prim.Native.Nat.{_+_, _≤_};
+ghost use lib.Dec.{eqb};
 ghost use lib.ListN.{length};
 ghost use Rattle.text.specs.Tokens.{entries, covered};
-ghost use Rattle.values.specs.Table.{known};
-ghost use Rattle.format.specs.Judge.{isText};
+ghost use Rattle.values.specs.Table.{known, attribute};
+ghost use Rattle.format.specs.Judge.{isTop, isText};
 ghost use Rattle.judge.specs.Says.{asKind, LateSays};
 use crate::Check;
 use format::Refusal;
 use octets::Header;
 use octets::read_header;
+use tags::is_top;
 use text::is_covered;
 use values::Kind;
 use values::KnownKind;
+use values::is_attribute;
 use values::known_kind;
+
+// The rule waits while attributes of the top are read.
+pub fn is_waiting(parent: u8, stage: u8) -> bool
+    ensures { λ r. ⌜ r ≡ (isTop parent && eqb stage 0) ⌝ }
+{
+    if is_top(parent) {
+        return stage == 0;
+    }
+    false
+}
+
+// It is judged before an item that is neither an attribute nor the table.
+pub fn is_due_before(parent: u8, stage: u8, tag: u8) -> bool
+    ensures { λ r. ⌜ r ≡ (not (attribute tag || eqb tag 4) && (isTop parent && eqb stage 0)) ⌝ }
+{
+    if is_attribute(tag) {
+        return false;
+    }
+    if tag == 4 {
+        return false;
+    }
+    is_waiting(parent, stage)
+}
 
 fn is_text(known: KnownKind) -> bool
     ensures { λ r. ⌜ r ≡ isText (asKind known) ⌝ }

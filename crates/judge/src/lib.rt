@@ -6,8 +6,6 @@ ghost use Rattle.format.specs.Calls.{judgeAnswer};
 mod items;
 mod late;
 mod rules;
-mod seen;
-mod tags;
 
 use format::Counts;
 use format::ReadAnswer;

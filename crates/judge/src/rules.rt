@@ -4,37 +4,69 @@ ghost use mathlib.Core.Path.{_≡_};
 ghost use mathlib.Core.Bool.{_&&_, _||_};
 ghost use mathlib.Core.Option.{some};
 ghost use Prim.Native.Nat.{_+_, _≤_};
+ghost use lib.Dec.{eqb, ltb};
 ghost use lib.ListN.{length};
 ghost use Rattle.text.specs.Tokens.{entries};
 ghost use Rattle.values.specs.Table.{attribute};
 ghost use Rattle.values.specs.declared.Kind.the-variants.{HoldsText};
 ghost use Rattle.format.specs.Judge.{isKnown, isTop, shown, kindRules};
 ghost use Rattle.values.specs.Calls.{knownKind};
-ghost use Rattle.judge.specs.Says.{asKind, sorted, bare, InForce, checked, hasBit, after, ItemSays, Framed, OwnIs, Says};
+ghost use Rattle.tags.specs.Rules.{withinDepth, hasBit};
+ghost use Rattle.judge.specs.Says.{depthOf, asKind, sorted, bare, InForce, checked, after, ItemSays, Framed, OwnIs, Says};
 use crate::Check;
 use crate::Item;
 use crate::Progress;
 use crate::Sort;
-use crate::seen::has_bit;
-use crate::seen::with_bit;
-use crate::tags::Limit;
-use crate::tags::is_allowed;
-use crate::tags::is_of_top;
-use crate::tags::is_within_depth;
-use crate::tags::latest_of;
-use crate::tags::limit_of;
-use crate::tags::stage_after;
-use crate::tags::trails;
 use format::Refusal;
 use octets::Header;
 use octets::read_header;
+use tags::Limit;
+use tags::has_bit;
+use tags::is_allowed;
+use tags::is_top;
+use tags::is_within_depth;
+use tags::latest_of;
+use tags::limit_of;
+use tags::stage_after;
+use tags::with_bit;
 use text::Weighed;
 use text::is_table;
 use text::weigh;
 use values::Kind;
 use values::KnownKind;
 use values::fits_kind;
+use values::is_attribute;
 use values::known_kind;
+
+// Rule 5: octets after the top.
+fn trails(parent: u8, whole: usize, room: usize) -> bool
+    ensures { λ r. ⌜ r ≡ (eqb parent 0 && ltb whole room) ⌝ }
+{
+    if parent == 0 {
+        return whole < room;
+    }
+    false
+}
+
+// Rule 7 where so many levels of elements are left: sixteen at depth 1, none at depth 17. More are never left, and would bound nothing.
+fn has_level(tag: u8, left: u8) -> bool
+    ensures { λ r. ⌜ r ≡ withinDepth tag (depthOf left) ⌝ }
+{
+    if left > 17 {
+        return true;
+    }
+    is_within_depth(tag, 17 - left)
+}
+
+// One of the top's own attributes.
+fn is_of_top(parent: u8, tag: u8) -> bool
+    ensures { λ r. ⌜ r ≡ attribute tag && isTop parent ⌝ }
+{
+    if is_attribute(tag) {
+        return is_top(parent);
+    }
+    false
+}
 
 // Rule 12 where it isn't late: the top's own attributes wait, and in any other text each token octet has an entry.
 fn is_held(parent: u8, tag: u8, covered: bool) -> bool
@@ -169,7 +201,7 @@ fn check_item(
     if latest_of(tag) < progress.stage {
         return Check::Broken(Refusal { number: 6, place });
     }
-    if !is_within_depth(tag, left) {
+    if !has_level(tag, left) {
         return Check::Broken(Refusal { number: 7, place });
     }
     if is_twice(known, tag, progress.mask) {

@@ -10,8 +10,8 @@ latest-of-requires c κs = search needs
 returns : tie.Need-returns
 returns c = search (item-ways, needs)
 
-is-within-depth-requires : tie.Need-is-within-depth-requires
-is-within-depth-requires c κs = search needs
+has-level-requires : tie.Need-has-level-requires
+has-level-requires c κs = search needs
 
 returns-2 : tie.Need-returns-2
 returns-2 c = search (item-ways, not-true, needs)
@@ -34,7 +34,7 @@ check-item-spec =
     (tie.spec
     latest-of-requires
     returns
-    is-within-depth-requires
+    has-level-requires
     returns-2
     is-twice-requires
     returns-3

@@ -1,4 +1,4 @@
-use Rattle.judge.proofs.ItemWays.{short-ways}
+use Rattle.tags.proofs.TagTests.{short-ways}
 use borrow.Author.Needs.{needs}
 use Rattle.judge.proofs.rules.is_short.Statement.{statement}
 use Rattle.judge.proofs.rules.is_short.Tie as tie

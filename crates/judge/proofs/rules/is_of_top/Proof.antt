@@ -1,7 +1,7 @@
 use Rattle.judge.proofs.TagTests.{of-top-ways}
 use borrow.Author.Needs.{needs}
-use Rattle.judge.proofs.tags.is_of_top.Statement.{statement}
-use Rattle.judge.proofs.tags.is_of_top.Tie as tie
+use Rattle.judge.proofs.rules.is_of_top.Statement.{statement}
+use Rattle.judge.proofs.rules.is_of_top.Tie as tie
 
 is-attribute-requires : tie.Need-is-attribute-requires
 is-attribute-requires c κs = search needs

@@ -1,7 +1,7 @@
 use Rattle.judge.proofs.TagTests.{before-ways}
 use borrow.Author.Needs.{needs}
-use Rattle.judge.proofs.tags.is_due_before.Statement.{statement}
-use Rattle.judge.proofs.tags.is_due_before.Tie as tie
+use Rattle.judge.proofs.late.is_due_before.Statement.{statement}
+use Rattle.judge.proofs.late.is_due_before.Tie as tie
 
 is-attribute-requires : tie.Need-is-attribute-requires
 is-attribute-requires c κs = search needs

@@ -1,7 +1,7 @@
 use Rattle.judge.proofs.TagTests.{waiting-ways}
 use borrow.Author.Needs.{needs}
-use Rattle.judge.proofs.tags.is_waiting.Statement.{statement}
-use Rattle.judge.proofs.tags.is_waiting.Tie as tie
+use Rattle.judge.proofs.late.is_waiting.Statement.{statement}
+use Rattle.judge.proofs.late.is_waiting.Tie as tie
 
 is-top-requires : tie.Need-is-top-requires
 is-top-requires c κs = search needs

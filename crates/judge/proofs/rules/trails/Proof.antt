@@ -1,7 +1,7 @@
 use Rattle.judge.proofs.TagTests.{trails-ways}
 use borrow.Author.Needs.{needs}
-use Rattle.judge.proofs.tags.trails.Statement.{statement}
-use Rattle.judge.proofs.tags.trails.Tie as tie
+use Rattle.judge.proofs.rules.trails.Statement.{statement}
+use Rattle.judge.proofs.rules.trails.Tie as tie
 
 returns : tie.Need-returns
 returns c = search (trails-ways, needs)
