@@ -1,5 +1,3 @@
-pub mod Standing
-pub mod Marks
 pub mod Bodies
 pub mod Places
 pub mod Records

@@ -1,13 +1,12 @@
 -- The place of a record among the items of an element and what it leaves behind, one law for each way through the code.
 use Prim.Native.Nat.{ℕ, _≤_, _<_}
 use mathlib.Core.Path.{_≡_, refl, sym, subst, _∙_}
-use mathlib.Core.Bool.{Bool, true, false, _&&_, _||_}
-use lib.Dec.{eqb, leb}
+use mathlib.Core.Bool.{Bool, true, false, _&&_}
+use lib.Dec.{leb}
 use borrow.Author.Tests.{lt-leb, le-leb, eq-eqb, ne-eqb}
 use Rattle.octets.proofs.Tests.{and-false}
-use Rattle.values.specs.Table.{attribute}
 use Rattle.format.specs.Judge.{allowed, latest, stageAfter}
-use Rattle.records.specs.Rules.{hasBit, withBit}
+use Rattle.tags.specs.Rules.{withinDepth, hasBit, withBit}
 use Rattle.records.specs.Check.{placedBy, stateAfter, itemOf}
 use Rattle.records.specs.declared.check.Parent.{Parent}
 use Rattle.records.specs.declared.check.State.{State}
@@ -31,15 +30,15 @@ first-only false = refl
 module _ (p : Parent) (s : State) (tag : ℕ) (h : Bool) (e : h ≡ hasBit (s .mask) tag) where
   pub placed-again : h ≡ true → false ≡ placedBy p s tag
   unfolding placedBy
-  placed-again f = rw (sym e ∙ f) (sym (and-false (allowed (p .tag) tag && leb (s .stage) (latest tag) && (attribute tag || eqb tag 1 || leb (p .depth) 16))))
+  placed-again f = rw (sym e ∙ f) (sym (and-false (allowed (p .tag) tag && leb (s .stage) (latest tag) && withinDepth tag (p .depth))))
 
   module _ (f : h ≡ false) (l : ℕ) (m : l ≡ latest tag) where
     pub placed-late : l < s .stage → false ≡ placedBy p s tag
     unfolding placedBy
     placed-late g =
-        rw (sym e ∙ f, lt-leb (s .stage) (latest tag) (subst (λ (n : ℕ). n < s .stage) m g)) (second-false (allowed (p .tag) tag) (attribute tag || eqb tag 1 || leb (p .depth) 16))
+        rw (sym e ∙ f, lt-leb (s .stage) (latest tag) (subst (λ (n : ℕ). n < s .stage) m g)) (second-false (allowed (p .tag) tag) (withinDepth tag (p .depth)))
 
-    module _ (g : s .stage ≤ l) (d : Bool) (n : d ≡ (attribute tag || eqb tag 1 || leb (p .depth) 16)) where
+    module _ (g : s .stage ≤ l) (d : Bool) (n : d ≡ withinDepth tag (p .depth)) where
       in-order : leb (s .stage) (latest tag) ≡ true
       in-order = le-leb (s .stage) (latest tag) (subst (λ (n : ℕ). s .stage ≤ n) m g)
 

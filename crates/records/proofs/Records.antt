@@ -20,14 +20,14 @@ use Rattle.records.specs.declared.check.Held.{Held}
 use Rattle.records.specs.declared.check.Item.{Item}
 use Rattle.records.specs.declared.check.Item.the-variants.{Past, Bad}
 
-module _ (p : Parent) (s : State) (lent : List ℕ) (r : Record) (d : ℕ) (de : d ≡ r .depth) where
-  pub record-past : (d ≡ p .depth → ⊥) → Past ≡ itemAs p s lent r
+module _ (p : Parent) (s : State) (lent : List ℕ) (r : Record) where
+  pub record-past : (r .depth ≡ p .depth → ⊥) → Past ≡ itemAs p s lent r
   unfolding itemAs
-  record-past h = rw (ne-eqb (r .depth) (p .depth) (λ q. h (de ∙ q)))
+  record-past h = rw (ne-eqb (r .depth) (p .depth) h)
 
-  module _ (dd : d ≡ p .depth) (k : ℕ) (ke : k ≡ kindOf (r .tag)) where
+  module _ (dd : r .depth ≡ p .depth) (k : ℕ) (ke : k ≡ kindOf (r .tag)) where
     at-depth : eqb (r .depth) (p .depth) ≡ true
-    at-depth = eq-eqb (r .depth) (p .depth) (sym de ∙ dd)
+    at-depth = eq-eqb (r .depth) (p .depth) dd
 
     pub bad-kind : (r .kind ≡ k → ⊥) → Bad ≡ itemAs p s lent r
     unfolding itemAs tied

@@ -3,17 +3,16 @@ use Prim.Native.Nat.{ℕ, suc, _+_, _-_, _≤_, _<_}
 use mathlib.Core.Path.{_≡_, refl, sym, ap, subst, _∙_}
 use mathlib.Core.List.{List, [], _∷_}
 use mathlib.Core.Option.{Option, none, some}
-use mathlib.Core.Bool.{Bool, true, false, cond, not, _&&_, _||_, false≢true}
+use mathlib.Core.Bool.{Bool, true, false, cond, not, _&&_, _||_}
 use lib.Dec.{eqb, leb, ltb}
 use lib.ListN.{length}
 use native.Mathlib.Numerals.{add-one}
 use native.Mathlib.Omega.{arith}
-use borrow.Author.Tests.{lt-ltb, le-ltb, ltb-true, ltb-false, leb-true}
-use Rattle.octets.specs.Numbers.{among}
+use borrow.Author.Tests.{lt-ltb, le-ltb, leb-true}
 use Rattle.octets.proofs.Tests.{and-left, and-false}
 use Rattle.values.specs.declared.Kind.{Kind}
-use Rattle.values.specs.Table.{rows, known, attribute}
-use Rattle.values.proofs.Known.{row-holds, items-tag}
+use Rattle.values.specs.Table.{known}
+use Rattle.values.proofs.Known.{items-tag}
 use Rattle.format.specs.declared.Record.{Record}
 use Rattle.format.specs.Tree.{kindOf}
 use Rattle.format.specs.Judge.{isKnown, isItems, isTokens, isText, isValue, shown}
@@ -26,7 +25,8 @@ use Rattle.format.proofs.Fine.{placed-parts}
 use Rattle.format.proofs.Walk.{at-stop, at-bad, at-single, at-nested, walks-between}
 use Rattle.text.specs.Text.{text}
 use Rattle.text.specs.Tokens.{shownLength}
-use Rattle.records.specs.Rules.{hasBit}
+use Rattle.tags.specs.Rules.{Seen}
+use Rattle.tags.proofs.Masks.{marked, none-marked}
 use Rattle.records.specs.Check.{heldAs, placedBy, stateAfter, itemOf, tied, itemAs, firstIn, walked, told}
 use Rattle.records.specs.declared.check.Parent.{Parent}
 use Rattle.records.specs.declared.check.State.{State}
@@ -35,29 +35,6 @@ use Rattle.records.specs.declared.check.Item.{Item}
 use Rattle.records.specs.declared.check.Item.the-variants.{Past, Bad, Single, Nested}
 use Rattle.records.specs.declared.check.Reached.{Reached}
 use Rattle.records.specs.declared.check.Reached.the-variants.{Ill, Next}
-use Rattle.records.proofs.Marks.{Marks, marks-test, no-marks, more-marks, bit-low}
-
--- a known item's tag has a bit, or is below those that have one
-known-row : (p tag : ℕ) (k : Kind) → known p tag ≡ some k → leb tag 0xBF ≡ true
-unfolding known rows
-known-row p tag k h = row-holds (λ e t l. leb t 0xBF) (cond (attribute tag) p 0) tag k rows refl h
-
-pub known-few : (p tag : ℕ) → isKnown (known p tag) ≡ true → tag ≤ 0xBF
-unfolding isKnown
-known-few p tag h = go (known p tag) refl h
-  where
-    go : (o : Option Kind) → known p tag ≡ o → isKnown o ≡ true → tag ≤ 0xBF
-    go none e q = absurd (false≢true q)
-    go (some k) e q = leb-true tag 0xBF (known-row p tag k e)
-
--- rule 8 by the mask
-pub twice-same : (mask tag : ℕ) (seen : List ℕ) → Marks mask seen → tag ≤ 0xBF → hasBit mask tag ≡ attribute tag && among tag seen
-unfolding attribute
-twice-same mask tag seen m h = go (ltb 0x7F tag) refl
-  where
-    go : (b : Bool) → ltb 0x7F tag ≡ b → hasBit mask tag ≡ b && among tag seen
-    go true e = marks-test mask tag seen m (ltb-true 0x7F tag e) h
-    go false e = let q = ltb-false 0x7F tag e in sym (bit-low mask tag (omega arith))
 
 kept-known : (p tag : ℕ) (body : List ℕ) (k : Option Kind) → bodyKeeps p tag body k ≡ true → isKnown k ≡ true
 unfolding bodyKeeps
@@ -71,7 +48,7 @@ abbrev pub spotOf : Parent → State → List ℕ → Spot
 spotOf p s seen = record { parent = p .tag; depth = p .depth; stage = s .stage; seen = seen }
 
 -- what a record tells, where the mask has the tags before it
-module _ (p : Parent) (s : State) (lent : List ℕ) (r : Record) (seen : List ℕ) (m : Marks (s .mask) seen) where
+module _ (p : Parent) (s : State) (lent : List ℕ) (r : Record) (seen : List ℕ) (m : Seen (p .tag) (s .mask) seen) where
   firm : Bool
   firm = eqb (r .kind) (kindOf (r .tag)) && eqb (r .parent) (p .number) && leb (r .start + r .size) (length lent)
 
@@ -79,11 +56,11 @@ module _ (p : Parent) (s : State) (lent : List ℕ) (r : Record) (seen : List �
   kept = bodyKeeps (p .tag) (r .tag) (bodyIn lent r) (known (p .tag) (r .tag))
 
   good-same : good (spotOf p s seen) (p .number) lent r ≡ firm && (placedBy p s (r .tag) && kept)
-  unfolding good keeps placed placedBy firm kept
+  unfolding good keeps placed placedBy firm kept Seen
   good-same = ap (λ x. firm && x) (go kept refl)
     where
       go : (b : Bool) → kept ≡ b → keeps (spotOf p s seen) (r .tag) (bodyIn lent r) ≡ placedBy p s (r .tag) && b
-      go true e = rw (e, twice-same (s .mask) (r .tag) seen m (known-few (p .tag) (r .tag) (kept-known (p .tag) (r .tag) (bodyIn lent r) (known (p .tag) (r .tag)) e)))
+      go true e = rw (e, m (r .tag) (kept-known (p .tag) (r .tag) (bodyIn lent r) (known (p .tag) (r .tag)) e))
       go false e = rw (e, and-false (placed (spotOf p s seen) (r .tag)), and-false (placedBy p s (r .tag)))
 
   Says : Item → Type 0
@@ -130,11 +107,11 @@ pub record Holds (l : Lists) (n : ℕ) (lent : List ℕ) (at : ℕ) (p : Parent)
   pub low : at ≤ i
   pub high : i ≤ n
   pub seen : List ℕ
-  pub marks : Marks (s .mask) seen
+  pub sees : Seen (p .tag) (s .mask) seen
   pub same : walked l n lent (firstIn p) (p .number) at ≡ walked l n lent (spotOf p s seen) (p .number) i
 
 pub at-first : (l : Lists) (n : ℕ) (lent : List ℕ) (at : ℕ) (p : Parent) → at ≤ n → Holds l n lent at p at (record { stage = 0; mask = 0 })
-at-first l n lent at p h = record { low = omega arith; high = h; seen = []; marks = no-marks; same = refl }
+at-first l n lent at p h = record { low = omega arith; high = h; seen = []; sees = none-marked (p .tag); same = refl }
 
 here-no : (l : Lists) (n d i : ℕ) → eqb (row l i .depth) d ≡ false → here (row l) n d i ≡ false
 unfolding here
@@ -170,8 +147,8 @@ module _ (l : Lists) (n : ℕ) (lent : List ℕ) (at : ℕ) (p : Parent) (i : �
   turns-end h = stops (here-none l n (p .depth) i h)
 
   module _ (lt : i < n) (r : Record) (re : r ≡ row l i) (x : Item) (xe : x ≡ itemAs p s lent r) where
-    told-so : (y : Item) → x ≡ y → Says p s lent (row l i) (inv .seen) (inv .marks) y
-    told-so y f = subst (Says p s lent (row l i) (inv .seen) (inv .marks)) (ap (itemAs p s lent) (sym re) ∙ (sym xe ∙ f)) (says p s lent (row l i) (inv .seen) (inv .marks))
+    told-so : (y : Item) → x ≡ y → Says p s lent (row l i) (inv .seen) (inv .sees) y
+    told-so y f = subst (Says p s lent (row l i) (inv .seen) (inv .sees)) (ap (itemAs p s lent) (sym re) ∙ (sym xe ∙ f)) (says p s lent (row l i) (inv .seen) (inv .sees))
 
     pub turn-past : x ≡ Past → Next i ≡ told (walked l n lent (firstIn p) (p .number) at)
     unfolding Says
@@ -195,7 +172,7 @@ module _ (l : Lists) (n : ℕ) (lent : List ℕ) (at : ℕ) (p : Parent) (i : �
           low = omega arith;
           high = omega arith;
           seen = tag ∷ inv .seen;
-          marks = rw (t .3) (more-marks (s .mask) tag (inv .seen) (inv .marks));
+          sees = rw (t .3) (marked (p .tag) (s .mask) tag (inv .seen) (inv .sees));
           same = rw (t .3, add-one i) e;
         }
 
@@ -235,6 +212,6 @@ module _ (l : Lists) (n : ℕ) (lent : List ℕ) (at : ℕ) (p : Parent) (i : �
               low = omega arith;
               high = b .1;
               seen = tag ∷ inv .seen;
-              marks = rw (t .3, t .4) (more-marks (s .mask) (row l i .tag) (inv .seen) (inv .marks));
+              sees = rw (t .3, t .4) (marked (p .tag) (s .mask) (row l i .tag) (inv .seen) (inv .sees));
               same = nested ∙ ap (λ o. onward o (beside l n lent p u (tag ∷ inv .seen))) inner-some;
             }

@@ -1,18 +1,18 @@
 -- What the check of records answers (document 01, Refusal numbers: well-formed in 16).
-use mathlib.Core.Bool.{Bool, true, false, cond, not, _&&_, _||_}
+use mathlib.Core.Bool.{Bool, true, false, cond, not, _&&_}
 use mathlib.Core.Option.{Option, none, some}
 use mathlib.Core.List.{List, []}
 use Prim.Native.Nat.{ℕ, suc, _+_, _-_, _≤_}
 use lib.Dec.{eqb, leb}
 use lib.ListN.{length}
 use Rattle.values.specs.declared.Kind.{Kind}
-use Rattle.values.specs.Table.{known, attribute}
+use Rattle.values.specs.Table.{known}
 use Rattle.format.specs.declared.Record.{Record}
 use Rattle.format.specs.Tree.{Items, kindOf}
 use Rattle.format.specs.Judge.{isItems, allowed, latest, stageAfter}
 use Rattle.format.specs.Writer.{Spot, bodyKeeps, bodyIn, walk}
 use Rattle.format.specs.Calls.{Lists, row}
-use Rattle.records.specs.Rules.{hasBit, withBit}
+use Rattle.tags.specs.Rules.{withinDepth, hasBit, withBit}
 use Rattle.records.specs.declared.check.Parent.{Parent}
 use Rattle.records.specs.declared.check.State.{State}
 use Rattle.records.specs.declared.check.Held.{Held}
@@ -45,7 +45,7 @@ heldAs parent tag body k = cond (bodyKeeps parent tag body k) (cond (isItems k) 
 
 -- rules 4, 6, 7 and 8, where the tags before an item are bits
 unfoldable pub placedBy : Parent → State → ℕ → Bool
-placedBy p s tag = allowed (p .tag) tag && leb (s .stage) (latest tag) && (attribute tag || eqb tag 1 || leb (p .depth) 16) && not (hasBit (s .mask) tag)
+placedBy p s tag = allowed (p .tag) tag && leb (s .stage) (latest tag) && withinDepth tag (p .depth) && not (hasBit (s .mask) tag)
 
 -- what an item leaves behind: after the top nothing may come
 unfoldable pub stateAfter : Parent → State → ℕ → State

@@ -8,20 +8,22 @@ ghost use Prim.Native.Nat.{_+_, _≤_, _<_};
 ghost use lib.Dec.{leb};
 ghost use Rattle.values.specs.Table.{known};
 ghost use Rattle.text.specs.Text.{text};
-ghost use Rattle.text.specs.Tokens.{shownLength};
+ghost use Rattle.text.specs.Tokens.{entries, shownLength};
 ghost use Rattle.format.specs.Judge.{shown};
 ghost use Rattle.format.specs.Calls.{row, places, treeGiven};
 ghost use Rattle.format.specs.Lent.{lent};
 ghost use Rattle.records.specs.Check.{isGiven, HasPlaces, octetsIf, heldAs, placedBy, stateAfter, itemOf, itemAs, firstIn, walked, told};
-use crate::rules::has_bit;
-use crate::rules::is_allowed;
-use crate::rules::is_depth_allowed;
-use crate::rules::is_short;
-use crate::rules::latest_of;
-use crate::rules::stage_after;
-use crate::rules::with_bit;
 use format::Record;
 use format::kind_of;
+use tags::Limit;
+use tags::has_bit;
+use tags::is_allowed;
+use tags::is_within_depth;
+use tags::latest_of;
+use tags::limit_of;
+use tags::stage_after;
+use tags::with_bit;
+use text::is_shown;
 use values::Kind;
 use values::KnownKind;
 use values::fits_kind;
@@ -31,7 +33,7 @@ use values::known_kind;
 pub struct Parent {
     pub tag: u8,
     pub number: usize,
-    pub depth: usize,
+    pub depth: u8,
 }
 
 // What the items so far left behind in their element: the stage of its order, and the bits of its attributes.
@@ -66,6 +68,19 @@ fn octets_if(good: bool) -> Held
     ensures { λ r. ⌜ r ≡ octetsIf good ⌝ }
 {
     if good { Held::Octets } else { Held::Broken }
+}
+
+// Rule 13: CDATA is no longer than may be shown, once its tokens are replaced by their entries in a table. Other text has no limit.
+fn is_short(parent: u8, tag: u8, table: &[u8], body: &[u8]) -> bool
+    ensures { λ r. ⌜ r ≡ shown parent tag (shownLength (entries (now (table .entry))) (now (body .entry))) ⌝ }
+{
+    if tag != 1 {
+        return true;
+    }
+    match limit_of(parent) {
+        Limit::AtMost(most) => is_shown(table, body, most),
+        Limit::Unlimited => true,
+    }
 }
 
 // Rules 10, 12 and 13 where there is no token table: a token octet is a fault of the text.
@@ -112,7 +127,7 @@ fn is_placed(parent: Parent, state: State, tag: u8) -> bool
     if state.stage > latest_of(tag) {
         return false;
     }
-    if is_depth_allowed(tag, parent.depth) {
+    if is_within_depth(tag, parent.depth) {
         return is_allowed(parent.tag, tag);
     }
     false
@@ -141,12 +156,6 @@ fn item_of(held: Held, tag: u8, state: State) -> Item
     }
 }
 
-fn deep(x: u8) -> usize
-    ensures { λ r. ⌜ r ≡ x ⌝ }
-{
-    x as usize
-}
-
 fn wide(x: u16) -> usize
     ensures { λ r. ⌜ (r ≡ x) × (r < 65536) ⌝ }
 {
@@ -158,7 +167,7 @@ fn check_record(given: Record, octets: &[u8], parent: Parent, state: State) -> I
     ensures { λ r. ⌜ r ≡ itemAs parent state (now (octets .entry)) given ⌝ }
 {
     let tag = given.tag;
-    if deep(given.depth) != parent.depth {
+    if given.depth != parent.depth {
         return Item::Past;
     }
     if given.kind != kind_of(tag) {
@@ -236,10 +245,11 @@ fn check_items(
                 state = next;
             }
             Item::Nested(tag, next) => {
+                let depth = parent.depth + 1;
                 let inner = Parent {
                     tag,
                     number: i,
-                    depth: parent.depth + 1,
+                    depth,
                 };
                 match check_items(
                     count,

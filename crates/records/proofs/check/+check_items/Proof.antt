@@ -31,7 +31,6 @@ abbrev check-items-μ-loop : check-items-lts.MeasureT-loop
 check-items-μ-loop count tags kinds depths parents starts sizes octets at parent i₀ state₀ i state =
     count - i
 
--- src/check.rt:225:5
 check-items-loop-holds : (t : ℕ) → check-items-lts.Need-loop-holds (
   record-at-reads.Asked,
   record-at-reads.Learnt,
@@ -43,7 +42,6 @@ check-items-loop-holds : (t : ℕ) → check-items-lts.Need-loop-holds (
 check-items-loop-holds t c =
     at-first _ _ _ _ _ ((c .before .before .before .before .before .before .before .pre) .1 .1)
 
--- src/check.rt:226:13
 check-items-record-at-requires : (t : ℕ) → check-items-lts.Need-record-at-requires (
   record-at-reads.Asked,
   record-at-reads.Learnt,
@@ -54,7 +52,6 @@ check-items-record-at-requires : (t : ℕ) → check-items-lts.Need-record-at-re
 ) (check-items-at t) check-items.Post check-items-Inv-loop check-items-μ-loop
 check-items-record-at-requires t c κs = search needs
 
--- src/check.rt:227:15
 check-items-check-record-requires : (t : ℕ) → check-items-lts.Need-check-record-requires (
   record-at-reads.Asked,
   record-at-reads.Learnt,
@@ -65,7 +62,6 @@ check-items-check-record-requires : (t : ℕ) → check-items-lts.Need-check-rec
 ) (check-items-at t) check-items.Post check-items-Inv-loop check-items-μ-loop
 check-items-check-record-requires t c κs = search needs
 
--- src/check.rt:229:17
 check-items-enum-told : (t : ℕ) → check-items-lts.Need-enum-told (
   record-at-reads.Asked,
   record-at-reads.Learnt,
@@ -76,7 +72,6 @@ check-items-enum-told : (t : ℕ) → check-items-lts.Need-enum-told (
 ) (check-items-at t) check-items.Post check-items-Inv-loop check-items-μ-loop
 check-items-enum-told t c = search needs
 
--- src/check.rt:229:17
 check-items-returns : (t : ℕ) → check-items-lts.Need-returns (
   record-at-reads.Asked,
   record-at-reads.Learnt,
@@ -88,7 +83,6 @@ check-items-returns : (t : ℕ) → check-items-lts.Need-returns (
 check-items-returns t c =
     turn-past _ _ _ _ _ _ _ ((c .before .before .before .before .before .loop) .inv) ((c .before .before .before .before .loop-test) .taken) _ ((c .before .before .before .record-at) .ensures) _ ((c .before .before .check-record) .ensures) ((c .enum-told) .given .1)
 
--- src/check.rt:232:17
 check-items-enum-told-2 : (t : ℕ) → check-items-lts.Need-enum-told-2 (
   record-at-reads.Asked,
   record-at-reads.Learnt,
@@ -99,7 +93,6 @@ check-items-enum-told-2 : (t : ℕ) → check-items-lts.Need-enum-told-2 (
 ) (check-items-at t) check-items.Post check-items-Inv-loop check-items-μ-loop
 check-items-enum-told-2 t c = search needs
 
--- src/check.rt:232:17
 check-items-returns-2 : (t : ℕ) → check-items-lts.Need-returns-2 (
   record-at-reads.Asked,
   record-at-reads.Learnt,
@@ -111,7 +104,6 @@ check-items-returns-2 : (t : ℕ) → check-items-lts.Need-returns-2 (
 check-items-returns-2 t c =
     turn-bad _ _ _ _ _ _ _ ((c .before .before .before .before .before .loop) .inv) ((c .before .before .before .before .loop-test) .taken) _ ((c .before .before .before .record-at) .ensures) _ ((c .before .before .check-record) .ensures) ((c .enum-told2) .given .1)
 
--- src/check.rt:234:26
 check-items-enum-known-next : (t : ℕ) → check-items-lts.Need-enum-known-next (
   record-at-reads.Asked,
   record-at-reads.Learnt,
@@ -122,7 +114,6 @@ check-items-enum-known-next : (t : ℕ) → check-items-lts.Need-enum-known-next
 ) (check-items-at t) check-items.Post check-items-Inv-loop check-items-μ-loop
 check-items-enum-known-next t c = search needs
 
--- src/check.rt:235:21
 check-items-add-i : (t : ℕ) → check-items-lts.Need-add-i (
   record-at-reads.Asked,
   record-at-reads.Learnt,
@@ -133,7 +124,6 @@ check-items-add-i : (t : ℕ) → check-items-lts.Need-add-i (
 ) (check-items-at t) check-items.Post check-items-Inv-loop check-items-μ-loop
 check-items-add-i t c = search needs
 
--- src/check.rt:225:5
 check-items-loop-less : (t : ℕ) → check-items-lts.Need-loop-less (
   record-at-reads.Asked,
   record-at-reads.Learnt,
@@ -144,7 +134,6 @@ check-items-loop-less : (t : ℕ) → check-items-lts.Need-loop-less (
 ) (check-items-at t) check-items.Post check-items-Inv-loop check-items-μ-loop
 check-items-loop-less t c = search needs
 
--- src/check.rt:225:5
 check-items-loop-again : (t : ℕ) → check-items-lts.Need-loop-again (
   record-at-reads.Asked,
   record-at-reads.Learnt,
@@ -156,7 +145,6 @@ check-items-loop-again : (t : ℕ) → check-items-lts.Need-loop-again (
 check-items-loop-again t c =
     turn-single _ _ _ _ _ _ _ ((c .before .before .before .before .before .before .loop) .inv) ((c .before .before .before .before .before .loop-test) .taken) _ ((c .before .before .before .before .record-at) .ensures) _ ((c .before .before .before .check-record) .ensures) _ ((c .before .next) .given .1)
 
--- src/check.rt:238:26
 check-items-enum-known-tag : (t : ℕ) → check-items-lts.Need-enum-known-tag (
   record-at-reads.Asked,
   record-at-reads.Learnt,
@@ -167,7 +155,17 @@ check-items-enum-known-tag : (t : ℕ) → check-items-lts.Need-enum-known-tag (
 ) (check-items-at t) check-items.Post check-items-Inv-loop check-items-μ-loop
 check-items-enum-known-tag t c = search needs
 
--- src/check.rt:242:28
+check-items-add-depth : (t : ℕ) → check-items-lts.Need-add-depth (
+  record-at-reads.Asked,
+  record-at-reads.Learnt,
+  check-record-reads.Asked,
+  check-record-reads.Learnt,
+  check-items-below t,
+  check-items.Post,
+) (check-items-at t) check-items.Post check-items-Inv-loop check-items-μ-loop
+check-items-add-depth t c =
+    let deep = nested-shallow _ _ _ _ _ _ _ ((c .before .before .before .before .before .before .before .loop) .inv) ((c .before .before .before .before .before .before .loop-test) .taken) _ ((c .before .before .before .before .before .record-at) .ensures) _ ((c .before .before .before .before .check-record) .ensures) _ _ ((c .before .before .tag) .given .1) in omega arith
+
 check-items-add-check-items : (t : ℕ) → check-items-lts.Need-add-check-items (
   record-at-reads.Asked,
   record-at-reads.Learnt,
@@ -176,21 +174,8 @@ check-items-add-check-items : (t : ℕ) → check-items-lts.Need-add-check-items
   check-items-below t,
   check-items.Post,
 ) (check-items-at t) check-items.Post check-items-Inv-loop check-items-μ-loop
-check-items-add-check-items t c =
-    let deep = nested-shallow _ _ _ _ _ _ _ ((c .before .before .before .before .before .before .before .loop) .inv) ((c .before .before .before .before .before .before .loop-test) .taken) _ ((c .before .before .before .before .before .record-at) .ensures) _ ((c .before .before .before .before .check-record) .ensures) _ _ ((c .before .before .tag) .given .1) in omega arith
+check-items-add-check-items t c = search needs
 
--- src/check.rt:253:21
-check-items-add-check-items-2 : (t : ℕ) → check-items-lts.Need-add-check-items-2 (
-  record-at-reads.Asked,
-  record-at-reads.Learnt,
-  check-record-reads.Asked,
-  check-record-reads.Learnt,
-  check-items-below t,
-  check-items.Post,
-) (check-items-at t) check-items.Post check-items-Inv-loop check-items-μ-loop
-check-items-add-check-items-2 t c = search needs
-
--- src/check.rt:244:23
 check-items-check-items-requires : (t : ℕ) → check-items-lts.Need-check-items-requires (
   record-at-reads.Asked,
   record-at-reads.Learnt,
@@ -202,7 +187,6 @@ check-items-check-items-requires : (t : ℕ) → check-items-lts.Need-check-item
 check-items-check-items-requires t c κs =
     let deep = nested-shallow _ _ _ _ _ _ _ ((c .before .before .before .before .before .before .before .loop) .inv) ((c .before .before .before .before .before .before .loop-test) .taken) _ ((c .before .before .before .before .before .record-at) .ensures) _ ((c .before .before .before .before .check-record) .ensures) _ _ ((c .before .before .tag) .given .1) in let inv = (c .before .before .before .before .before .before .before .loop) .inv in let low = inv .low in let start = (c .before .before .before .before .before .before .before .before .before .before .before .before .before .before .before .pre) .0 in let less = (c .before .before .before .before .before .before .loop-test) .taken in (omega arith, ((c .before .before .before .before .before .before .before .before .before .before .before .before .before .before .before .pre) .1 .0, omega arith, omega arith))
 
--- src/check.rt:257:25
 check-items-enum-told-3 : (t : ℕ) → check-items-lts.Need-enum-told-3 (
   record-at-reads.Asked,
   record-at-reads.Learnt,
@@ -213,7 +197,6 @@ check-items-enum-told-3 : (t : ℕ) → check-items-lts.Need-enum-told-3 (
 ) (check-items-at t) check-items.Post check-items-Inv-loop check-items-μ-loop
 check-items-enum-told-3 t c = search needs
 
--- src/check.rt:257:25
 check-items-returns-3 : (t : ℕ) → check-items-lts.Need-returns-3 (
   record-at-reads.Asked,
   record-at-reads.Learnt,
@@ -225,7 +208,6 @@ check-items-returns-3 : (t : ℕ) → check-items-lts.Need-returns-3 (
 check-items-returns-3 t c =
     turn-ill _ _ _ _ _ _ _ ((c .before .before .before .before .before .before .before .before .before .before .loop) .inv) ((c .before .before .before .before .before .before .before .before .before .loop-test) .taken) _ ((c .before .before .before .before .before .before .before .before .record-at) .ensures) _ ((c .before .before .before .before .before .before .before .check-record) .ensures) _ _ ((c .before .before .before .before .before .tag) .given .1) _ ((c .before .before .check-items) .ensures) ((c .enum-told3) .given .1)
 
--- src/check.rt:259:35
 check-items-enum-known-end : (t : ℕ) → check-items-lts.Need-enum-known-end (
   record-at-reads.Asked,
   record-at-reads.Learnt,
@@ -236,7 +218,6 @@ check-items-enum-known-end : (t : ℕ) → check-items-lts.Need-enum-known-end (
 ) (check-items-at t) check-items.Post check-items-Inv-loop check-items-μ-loop
 check-items-enum-known-end t c = search needs
 
--- src/check.rt:225:5
 check-items-loop-less-2 : (t : ℕ) → check-items-lts.Need-loop-less-2 (
   record-at-reads.Asked,
   record-at-reads.Learnt,
@@ -248,7 +229,6 @@ check-items-loop-less-2 : (t : ℕ) → check-items-lts.Need-loop-less-2 (
 check-items-loop-less-2 t c =
     nested-less _ _ _ _ _ _ _ ((c .before .before .before .before .before .before .before .before .before .before .before .loop) .inv) ((c .before .before .before .before .before .before .before .before .before .before .loop-test) .taken) _ ((c .before .before .before .before .before .before .before .before .before .record-at) .ensures) _ ((c .before .before .before .before .before .before .before .before .check-record) .ensures) _ _ ((c .before .before .before .before .before .before .tag) .given .1) _ ((c .before .before .before .check-items) .ensures) _ ((c .before .end) .given .1)
 
--- src/check.rt:225:5
 check-items-loop-again-2 : (t : ℕ) → check-items-lts.Need-loop-again-2 (
   record-at-reads.Asked,
   record-at-reads.Learnt,
@@ -260,7 +240,6 @@ check-items-loop-again-2 : (t : ℕ) → check-items-lts.Need-loop-again-2 (
 check-items-loop-again-2 t c =
     turn-nested _ _ _ _ _ _ _ ((c .before .before .before .before .before .before .before .before .before .before .before .loop) .inv) ((c .before .before .before .before .before .before .before .before .before .before .loop-test) .taken) _ ((c .before .before .before .before .before .before .before .before .before .record-at) .ensures) _ ((c .before .before .before .before .before .before .before .before .check-record) .ensures) _ _ ((c .before .before .before .before .before .before .tag) .given .1) _ ((c .before .before .before .check-items) .ensures) _ ((c .before .end) .given .1)
 
--- src/check.rt:208:1
 check-items-returns-4 : (t : ℕ) → check-items-lts.Need-returns-4 (
   record-at-reads.Asked,
   record-at-reads.Learnt,
@@ -297,8 +276,8 @@ pub +check-items-spec : {M : Type 1} → statement M
     (check-items-loop-less t)
     (check-items-loop-again t)
     (check-items-enum-known-tag t)
+    (check-items-add-depth t)
     (check-items-add-check-items t)
-    (check-items-add-check-items-2 t)
     (check-items-check-items-requires t)
     (check-items-enum-told-3 t)
     (check-items-returns-3 t)

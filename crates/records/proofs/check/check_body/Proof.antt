@@ -2,32 +2,22 @@ use Rattle.records.proofs.Bodies.{body-ways}
 use borrow.Author.Needs.{needs}
 use Rattle.records.proofs.check.check_body.Statement.{statement}
 use Rattle.records.proofs.check.check_body.Tie as tie
-use Rattle.records.proofs.check.check_body.Reads as reads
-use Rattle.records.proofs.check.check_body.Lts as lts
-use Rattle.values.proofs.known_kind.Reads as known-kind-reads
-use Rattle.records.proofs.check.check_kind.Reads as check-kind-reads
 
--- src/check.rt:99:11
 known-kind-requires : tie.Need-known-kind-requires
 known-kind-requires c κs = search needs
 
--- src/check.rt:100:31
 enum-told : tie.Need-enum-told
 enum-told c = search needs
 
--- src/check.rt:101:26
 enum-known-kind : tie.Need-enum-known-kind
 enum-known-kind c = search needs
 
--- src/check.rt:101:35
 check-kind-requires : tie.Need-check-kind-requires
 check-kind-requires c κs = search needs
 
--- src/check.rt:96:1
 returns : tie.Need-returns
 returns c = search (body-ways, needs)
 
--- src/check.rt:96:1
 returns-2 : tie.Need-returns-2
 returns-2 c = search (body-ways, needs)
 

@@ -2,97 +2,70 @@ use Rattle.records.proofs.Bodies.{kind-ways}
 use borrow.Author.Needs.{needs}
 use Rattle.records.proofs.check.check_kind.Statement.{statement}
 use Rattle.records.proofs.check.check_kind.Tie as tie
-use Rattle.records.proofs.check.check_kind.Reads as reads
-use Rattle.records.proofs.check.check_kind.Lts as lts
-use Rattle.values.proofs.fits_kind.Reads as fits-kind-reads
-use Rattle.records.proofs.check.is_text_kept.Reads as is-text-kept-reads
-use Rattle.records.proofs.check.octets_if.Reads as octets-if-reads
 
--- src/check.rt:85:29
 enum-told : tie.Need-enum-told
 enum-told c = search needs
 
--- src/check.rt:86:30
 enum-told-2 : tie.Need-enum-told-2
 enum-told-2 c = search needs
 
--- src/check.rt:87:38
 enum-told-3 : tie.Need-enum-told-3
 enum-told-3 c = search needs
 
--- src/check.rt:87:38
 is-text-kept-requires : tie.Need-is-text-kept-requires
 is-text-kept-requires c κs = search needs
 
--- src/check.rt:87:28
 octets-if-requires : tie.Need-octets-if-requires
 octets-if-requires c κs = search needs
 
--- src/check.rt:88:29
 enum-told-4 : tie.Need-enum-told-4
 enum-told-4 c = search needs
 
--- src/check.rt:89:38
 enum-told-5 : tie.Need-enum-told-5
 enum-told-5 c = search needs
 
--- src/check.rt:89:38
 fits-kind-requires : tie.Need-fits-kind-requires
 fits-kind-requires c κs = search needs
 
--- src/check.rt:89:28
 octets-if-requires-2 : tie.Need-octets-if-requires-2
 octets-if-requires-2 c κs = search needs
 
--- src/check.rt:90:40
 enum-told-6 : tie.Need-enum-told-6
 enum-told-6 c = search needs
 
--- src/check.rt:90:40
 fits-kind-requires-2 : tie.Need-fits-kind-requires-2
 fits-kind-requires-2 c κs = search needs
 
--- src/check.rt:90:30
 octets-if-requires-3 : tie.Need-octets-if-requires-3
 octets-if-requires-3 c κs = search needs
 
--- src/check.rt:91:43
 enum-told-7 : tie.Need-enum-told-7
 enum-told-7 c = search needs
 
--- src/check.rt:91:43
 fits-kind-requires-3 : tie.Need-fits-kind-requires-3
 fits-kind-requires-3 c κs = search needs
 
--- src/check.rt:91:33
 octets-if-requires-4 : tie.Need-octets-if-requires-4
 octets-if-requires-4 c κs = search needs
 
--- src/check.rt:81:1
 returns : tie.Need-returns
 returns c = search (kind-ways, needs)
 
--- src/check.rt:81:1
 returns-2 : tie.Need-returns-2
 returns-2 c = search (kind-ways, needs)
 
--- src/check.rt:81:1
 returns-3 : tie.Need-returns-3
 returns-3 c = search (kind-ways, needs)
 
--- src/check.rt:81:1
 returns-4 : tie.Need-returns-4
 returns-4 c = search (kind-ways, needs)
 
--- src/check.rt:81:1
 returns-5 : tie.Need-returns-5
 returns-5 c = search (kind-ways, needs)
 
--- src/check.rt:81:1
 returns-6 : tie.Need-returns-6
 returns-6 c = search (kind-ways, needs)
 
--- src/check.rt:81:1
 returns-7 : tie.Need-returns-7
 returns-7 c = search (kind-ways, needs)
 

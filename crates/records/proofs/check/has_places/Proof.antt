@@ -2,34 +2,25 @@ use Rattle.records.proofs.Records.{place-ways}
 use borrow.Author.Needs.{needs}
 use Rattle.records.proofs.check.has_places.Statement.{statement}
 use Rattle.records.proofs.check.has_places.Tie as tie
-use Rattle.records.proofs.check.has_places.Reads as reads
-use Rattle.records.proofs.check.has_places.Lts as lts
 
--- src/check.rt:283:9
 returns : tie.Need-returns
 returns c = search (place-ways, needs)
 
--- src/check.rt:286:9
 returns-2 : tie.Need-returns-2
 returns-2 c = search (place-ways, needs)
 
--- src/check.rt:289:9
 returns-3 : tie.Need-returns-3
 returns-3 c = search (place-ways, needs)
 
--- src/check.rt:292:9
 returns-4 : tie.Need-returns-4
 returns-4 c = search (place-ways, needs)
 
--- src/check.rt:295:9
 returns-5 : tie.Need-returns-5
 returns-5 c = search (place-ways, needs)
 
--- src/check.rt:298:9
 returns-6 : tie.Need-returns-6
 returns-6 c = search (place-ways, needs)
 
--- src/check.rt:271:1
 returns-7 : tie.Need-returns-7
 returns-7 c = search (place-ways, needs)
 

@@ -2,30 +2,22 @@ use Rattle.records.proofs.Places.{item-ways}
 use borrow.Author.Needs.{needs}
 use Rattle.records.proofs.check.item_of.Statement.{statement}
 use Rattle.records.proofs.check.item_of.Tie as tie
-use Rattle.records.proofs.check.item_of.Reads as reads
-use Rattle.records.proofs.check.item_of.Lts as lts
 
--- src/check.rt:139:25
 enum-told : tie.Need-enum-told
 enum-told c = search needs
 
--- src/check.rt:140:25
 enum-told-2 : tie.Need-enum-told-2
 enum-told-2 c = search needs
 
--- src/check.rt:141:24
 enum-told-3 : tie.Need-enum-told-3
 enum-told-3 c = search needs
 
--- src/check.rt:135:1
 returns : tie.Need-returns
 returns c = search (item-ways, needs)
 
--- src/check.rt:135:1
 returns-2 : tie.Need-returns-2
 returns-2 c = search (item-ways, needs)
 
--- src/check.rt:135:1
 returns-3 : tie.Need-returns-3
 returns-3 c = search (item-ways, needs)
 
