@@ -1,4 +1,5 @@
 pub mod Ways
+pub mod WrittenAs
 pub mod Rising
 pub mod Found
 pub mod Sizes

@@ -6,6 +6,10 @@ use native.Mathlib.Omega.{arith}
 use lib.ListN.{length, getD}
 use borrow.Author.Tests.{lt-leb}
 use Rattle.octets.specs.Header.{headerSize, bodySize}
+use Rattle.values.specs.declared.Kind.the-variants.{HoldsItems, HoldsTokens}
+use Rattle.values.specs.declared.KnownKind.the-variants.{Unknown, Known}
+use Rattle.values.specs.Table.{rows, kindIn, known, attribute}
+use Rattle.values.specs.Calls.{asKnown}
 use Rattle.format.specs.declared.Refusal.{Refusal}
 use Rattle.format.specs.Answers.{refusal}
 use Rattle.format.specs.Tree.{Items, count}
@@ -13,6 +17,7 @@ use Rattle.format.specs.Judge.Judged.{refused, accepted}
 use Rattle.format.specs.Calls.{Lent}
 use Rattle.survey.specs.declared.Standing.the-variants.{Bad, Misfit, Fits}
 use Rattle.survey.specs.declared.Lies.the-variants.{Outside, Between}
+use Rattle.survey.specs.Normal.{writtenAs}
 use Rattle.survey.specs.Survey.{surveyed}
 use Rattle.survey.specs.Places.{liesIn, liesAt, tableWithin, firstTable, tableBody}
 
@@ -67,3 +72,15 @@ deeper-found h = let z : _≡_ {A = ℕ} 1 0 = ap length (sym h ∙ tables .ofDe
 -- the last of two
 pub last-found : tableBody twice ≡ 0xBB ∷ [] → ⊥
 last-found h = let z : _≡_ {A = ℕ} 0xBB 0xAA = ap (λ o. getD o 0 0) (sym h ∙ tables .ofTwice) in omega arith
+
+-- ---- written_as
+
+-- the token table
+pub table-written : asKnown (writtenAs 0x03 0x04) ≡ Known HoldsTokens → ⊥
+unfolding asKnown writtenAs
+table-written h = let w : Unknown ≡ Known HoldsTokens = h in let z : _≡_ {A = ℕ} 0 1 = cc in omega arith
+
+-- elements that hold items left out, where only values are looked for
+pub element-left-out : asKnown (writtenAs 0x03 0x28) ≡ Unknown → ⊥
+unfolding asKnown writtenAs known rows kindIn attribute
+element-left-out h = let w : Known HoldsItems ≡ Unknown = h in let z : _≡_ {A = ℕ} 0 1 = cc in omega arith

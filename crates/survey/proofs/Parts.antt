@@ -1,6 +1,7 @@
 -- The ways through the small functions of measuring.
 use mathlib.Core.Path.{_≡_, refl, sym, ap, _∙_}
 use mathlib.Core.Bool.{Bool, true, false, cond}
+use mathlib.Core.Logic.{⊎-elim}
 use mathlib.Core.Option.{some}
 use mathlib.Core.List.{List}
 use Prim.Native.Nat.{ℕ, suc, _+_, _≤_, _<_, min}
@@ -22,13 +23,14 @@ use Rattle.values.specs.declared.NormalSize.{NormalSize}
 use Rattle.values.specs.declared.NormalSize.the-variants as sized
 use Rattle.values.specs.Table.{known}
 use Rattle.values.specs.Values.{fits, meant, octetsOf}
-use Rattle.values.specs.Calls.{knownKind, normalOctets, normalSize}
+use Rattle.values.specs.Calls.{asKnown, normalOctets, normalSize}
 use Rattle.octets.proofs.Answers.{size-five}
 use Rattle.text.proofs.Widths.{weight-is}
-use Rattle.values.proofs.Laws.{known-kind, unknown-kind, normal-sized, not-sized}
+use Rattle.values.proofs.Laws.{normal-sized, not-sized}
 use Rattle.format.specs.Judge.{isKnown, isItems, isTokens}
-use Rattle.survey.specs.Normal.{framedSize, valueOctets}
+use Rattle.survey.specs.Normal.{framedSize, valueOctets, writtenAs}
 use Rattle.survey.proofs.Ways.{value-fits}
+use Rattle.survey.proofs.WrittenAs.{written-kind, unwritten-kind}
 use Rattle.survey.specs.declared.measure.Part.the-variants.{Nothing, Inside, Octets}
 use Rattle.survey.specs.declared.measure.Measured.the-variants.{Over, Sizes}
 use Rattle.survey.specs.Sizes.{taken, partOf, sizesOf, Small}
@@ -66,14 +68,14 @@ module _ (k : Kind) (o : List ℕ) (r : NormalSize) (e : r ≡ normalSize k o) w
 
 -- ---- part_of
 
-module _ (T : Entries) (p tag : ℕ) (o : List ℕ) (r : KnownKind) (e : r ≡ knownKind p tag) where
+module _ (T : Entries) (p tag : ℕ) (o : List ℕ) (r : KnownKind) (e : r ≡ asKnown (writtenAs p tag)) where
   pub part-unknown : r ≡ Unknown → Nothing ≡ partOf T (known p tag) o
   unfolding partOf isItems isKnown isTokens
-  part-unknown q = rw (unknown-kind p tag r e q)
+  part-unknown q = ⊎-elim (λ n. rw n) (λ t. rw t) (unwritten-kind p tag r e q)
 
   module _ (k : Kind) (q : r ≡ Known k) where
     kind-is : known p tag ≡ some k
-    kind-is = known-kind p tag r e k q
+    kind-is = written-kind p tag r e k q .1
 
     pub part-items : k ≡ HoldsItems → Inside ≡ partOf T (known p tag) o
     unfolding partOf isItems isKnown isTokens

@@ -5,6 +5,7 @@ use mathlib.Core.Option.{Option, none, some, Option·map}
 use mathlib.Core.List.{List, [], _++_}
 use Prim.Native.Nat.{ℕ, _+_, _≤_}
 use native.Mathlib.Omega.{arith}
+use lib.Dec.{eqb}
 use lib.ListN.{length, length-append}
 use borrow.Author.Tests.{eq-eqb, ne-eqb, eqb-false, ltb-true, lt-ltb}
 use Rattle.octets.specs.Numbers.{among}
@@ -83,10 +84,10 @@ last t = length (maybe (framed 1) (cdataIn [] t))
 abbrev Summed : ℕ → Items → Type 0
 Summed p t = normalSize p t ≡ attrs p t + (kids t + last t)
 
-single-size : (p tag at : ℕ) (body : List ℕ) (x y : Items) (k : Kind) → opens tag ≡ false → known p tag ≡ some k
+single-size : (p tag at : ℕ) (body : List ℕ) (x y : Items) (k : Kind) → opens tag ≡ false → eqb tag 4 ≡ false → known p tag ≡ some k
     → normalSize p (item tag at body x y) ≡ length (framed tag (valueOctets k body)) + normalSize p y
 unfolding normalSize
-single-size p tag at body x y k o e = rw (o, item-known p tag body k e)
+single-size p tag at body x y k o f e = rw (o, item-known p tag body k f e)
 
 sum-attribute : (s : Spot) (tag at : ℕ) (body : List ℕ) (x y : Items) (k : Kind) → attribute tag ≡ true → known (s .parent) tag ≡ some k → fits k body ≡ true
     → ruled (past s tag) y ≡ true → Summed (s .parent) y → Summed (s .parent) (item tag at body x y)
@@ -94,7 +95,7 @@ unfolding attributesIn attributeOctets find valueIn past among
 sum-attribute s tag at body x y k a e f r ih =
     let p = s .parent in
     let high = attribute-high tag a in
-    let one = single-size p tag at body x y k (opens-attribute tag a) e in
+    let one = single-size p tag at body x y k (opens-attribute tag a) (ne-eqb tag 4 (λ z. omega arith)) e in
     let gone : find tag y ≡ none = seen-none y (past s tag) tag a (rw (eq-eqb tag tag refl)) (ruled-order y (past s tag) r) in
     let now : attributesIn [] p (item tag at body x y) tag ≡ some (meant [] k body) = rw (a, eq-eqb tag tag refl, e) in
     let later : attributesIn [] p y tag ≡ none = rw (a, gone) in
@@ -109,7 +110,7 @@ sum-attribute s tag at body x y k a e f r ih =
 sum-cdata : (p at : ℕ) (body : List ℕ) (x : Items) → Summed p (item 1 at body x end)
 unfolding normalSize find cdataIn maybe means encode valueOctets fits meant octetsOf attribute isItems
 sum-cdata p at body x =
-    let one = single-size p 1 at body x end HoldsText (opens-leaf 1 HoldsText known-one refl) (known-cdata p) in
+    let one = single-size p 1 at body x end HoldsText (opens-leaf 1 HoldsText known-one refl) refl (known-cdata p) in
     let a : attrs p (item 1 at body x end) ≡ 0 = ap length (attributes-same p 1 at body x end refl ∙ no-attributes p) in
     let m : kids (item 1 at body x end) ≡ 0 = ap (λ z. length (encode z)) (means-cdata [] at body x end) in
     omega arith
@@ -144,7 +145,7 @@ sized-item tag at body x y fx fy s h = go (way s tag body x y u)
     go (isElement e) = sum-element (s .parent) tag at body x y e (fx (below s tag) (u .within)) (fy (past s tag) (u .beside))
     go (isLeaf k g e l o) =
         let p = s .parent in
-        let one = single-size p tag at body x y k (opens-leaf tag k e l) (known-anywhere p tag (g .notAttribute) ∙ e) in
+        let one = single-size p tag at body x y k (opens-leaf tag k e l) (g .notTable) (known-anywhere p tag (g .notAttribute) ∙ e) in
         let m : kids (item tag at body x y) ≡ length (framed tag (valueOctets k body)) + kids y =
         ap (λ z. length (encode z)) (means-leaf [] tag at body x y k g e l)
         ∙ (ap (λ v. length (framed tag v ++ encode (means [] y))) o ∙ length-append (framed tag (valueOctets k body)) (encode (means [] y))) in

@@ -24,7 +24,7 @@ use Rattle.format.proofs.Kept.{Kept, keeps-parts, keeps-tag, Ruled}
 use Rattle.format.proofs.Fine.{known-is}
 use Rattle.format.proofs.Means.{leaf-text, leaf-plain}
 use Rattle.format.proofs.Order.{ruled-order, three-end, cdata-three}
-use Rattle.survey.specs.Normal.{framedSize, valueOctets, itemOctets}
+use Rattle.survey.specs.Normal.{framedSize, valueOctets, writtenAs, itemOctets}
 
 pub framed-length : (tag : ℕ) (body : List ℕ) → length (framed tag body) ≡ framedSize (length body)
 unfolding framedSize
@@ -35,9 +35,10 @@ pub value-fits : (k : Kind) (body : List ℕ) → fits k body ≡ true → value
 unfolding valueOctets
 value-fits k body h = rw h
 
-pub item-known : (p tag : ℕ) (body : List ℕ) (k : Kind) → known p tag ≡ some k → itemOctets p tag body ≡ framed tag (valueOctets k body)
-unfolding itemOctets maybe
-item-known p tag body k e = rw e
+-- a known item but the token table is written as a value of its kind
+pub item-known : (p tag : ℕ) (body : List ℕ) (k : Kind) → eqb tag 4 ≡ false → known p tag ≡ some k → itemOctets p tag body ≡ framed tag (valueOctets k body)
+unfolding itemOctets writtenAs maybe
+item-known p tag body k f e = rw (f, e)
 
 -- the ways of an item in an element of a tag
 pub data Way (p tag : ℕ) (body : List ℕ) (after : Items) : Type 0 where

@@ -1,8 +1,10 @@
 -- Sizes and octets of the normal form, record by record: what the writer measures and what it writes. That they are those of document 01's normal form is
 -- proved (proofs/Sizes, and of the octets writer/proofs/Order), so nobody who reads document 01 has to believe them.
 use mathlib.Core.Bool.{cond}
+use mathlib.Core.Option.{Option, none}
 use mathlib.Core.List.{List, [], _++_}
 use Prim.Native.Nat.{ℕ, suc, _+_}
+use lib.Dec.{eqb}
 use lib.ListN.{length}
 use Rattle.octets.specs.Header.{lengthField, framed}
 use Rattle.values.specs.declared.Kind.{Kind}
@@ -20,9 +22,14 @@ framedSize n = suc (length (lengthField n)) + n
 unfoldable pub valueOctets : Kind → List ℕ → List ℕ
 valueOctets k body = cond (fits k body) (octetsOf (meant [] k body)) []
 
--- an item that holds no items, in an element of a tag; nothing where it isn't known there
+-- the kind of value as which an item in an element of a tag is written: none where it isn't written, as the token table and what isn't known there (document 01,
+-- Records and meaning)
+unfoldable pub writtenAs : (parent tag : ℕ) → Option Kind
+writtenAs parent tag = cond (eqb tag 4) none (known parent tag)
+
+-- an item that holds no items; nothing where it isn't written
 unfoldable pub itemOctets : (parent tag : ℕ) → List ℕ → List ℕ
-itemOctets parent tag body = maybe (λ k. framed tag (valueOctets k body)) (known parent tag)
+itemOctets parent tag body = maybe (λ k. framed tag (valueOctets k body)) (writtenAs parent tag)
 
 -- the size of the items of an element, each from the items inside it
 unfoldable pub normalSize : ℕ → Items → ℕ

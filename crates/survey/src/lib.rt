@@ -1,11 +1,12 @@
 // An object is surveyed before anything is written: judged, and then measured and held against what is lent. Also where items lie in octets, and the token table of an
-// object, for whoever walks over an object again. No call asks anything of its arguments, and none is lent memory to write to.
+// object, for whoever walks over an object again, and whether an item is written in normal form. No call asks anything of its arguments, and none is lent memory to write to.
 ghost use mathlib.Core.Path.{_≡_};
 ghost use Rattle.format.specs.Judge.{judge};
 ghost use Rattle.survey.specs.Survey.{sufficient, surveyed};
 
 mod measure;
 mod table;
+mod written;
 
 use crate::measure::Measured;
 use crate::measure::measure;
@@ -14,6 +15,7 @@ use format::Refusal;
 use judge::judge;
 pub use table::item_at;
 pub use table::table_of;
+pub use written::written_as;
 
 // An object held against what is lent: refused by the judgement; accepted, but without places for it (14) or room (15); or it fits.
 pub enum Standing {

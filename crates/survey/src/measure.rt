@@ -13,13 +13,13 @@ ghost use Rattle.survey.specs.Sizes.{partOf, sizesOf, ItemMeasured, Item
 use crate::Lies;
 use crate::table::item_at;
 use crate::table::table_of;
+use crate::written::written_as;
 use octets::header_size;
 use text::expanded_size;
 use text::widths_of;
 use values::Kind;
 use values::KnownKind;
 use values::NormalSize;
-use values::known_kind;
 use values::normal_size;
 
 // The octets that items take of a store and in normal form. Over: their normal form has more than 32,768, which no object may have.
@@ -48,12 +48,12 @@ fn value_size(kind: Kind, body: &[u8]) -> usize
     size
 }
 
-// An unknown item and the token table have no place in normal form.
+// An item that isn't written has no octets of its own.
 fn part_of(parent: u8, tag: u8, body: &[u8], table: &[u8], widths: &[u8; 32]) -> Part
     requires { ⌜ Widths 32 (entries (now table)) (now widths) ⌝ }
     ensures { λ r. ⌜ r ≡ partOf (entries (now (table .entry))) (known parent tag) (now (body .entry)) ⌝ }
 {
-    match known_kind(parent, tag) {
+    match written_as(parent, tag) {
         KnownKind::Unknown => Part::Nothing,
         KnownKind::Known(kind) => match kind {
             Kind::HoldsItems => Part::Inside,

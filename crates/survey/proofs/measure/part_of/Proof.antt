@@ -3,8 +3,8 @@ use borrow.Author.Needs.{needs}
 use Rattle.survey.proofs.measure.part_of.Statement.{statement}
 use Rattle.survey.proofs.measure.part_of.Tie as tie
 
-known-kind-requires : tie.Need-known-kind-requires
-known-kind-requires c κs = search needs
+written-as-requires : tie.Need-written-as-requires
+written-as-requires c κs = search needs
 
 enum-told : tie.Need-enum-told
 enum-told c = search needs
@@ -50,41 +50,41 @@ value-size-requires-4 c κs = search needs
 
 returns : tie.Need-returns
 returns c =
-    part-unknown _ _ _ _ _ ((c .before .before .known-kind) .ensures) ((c .enum-told) .given .1)
+    part-unknown _ _ _ _ _ ((c .before .before .written-as) .ensures) ((c .enum-told) .given .1)
 
 returns-2 : tie.Need-returns-2
 returns-2 c =
-    part-items _ _ _ _ _ ((c .before .before .before .before .before .known-kind) .ensures) _ ((c .before .before .before .kind) .given .1) ((c .enum-told2) .given .1)
+    part-items _ _ _ _ _ ((c .before .before .before .before .before .written-as) .ensures) _ ((c .before .before .before .kind) .given .1) ((c .enum-told2) .given .1)
 
 returns-3 : tie.Need-returns-3
 returns-3 c =
-    part-tokens _ _ _ _ _ ((c .before .before .before .before .before .known-kind) .ensures) _ ((c .before .before .before .kind) .given .1) ((c .enum-told3) .given .1)
+    part-tokens _ _ _ _ _ ((c .before .before .before .before .before .written-as) .ensures) _ ((c .before .before .before .kind) .given .1) ((c .enum-told3) .given .1)
 
 returns-4 : tie.Need-returns-4
 returns-4 c =
-    part-text _ _ _ _ _ ((c .before .before .before .before .before .before .known-kind) .ensures) _ ((c .before .before .before .before .kind) .given .1) _ _ ((c .before .before .before .before .before .before .before .before .before .pre)) ((c .before .enum-told4) .given .1) ((c .expanded-size) .ensures)
+    part-text _ _ _ _ _ ((c .before .before .before .before .before .before .written-as) .ensures) _ ((c .before .before .before .before .kind) .given .1) _ _ ((c .before .before .before .before .before .before .before .before .before .pre)) ((c .before .enum-told4) .given .1) ((c .expanded-size) .ensures)
 
 returns-5 : tie.Need-returns-5
 returns-5 c =
-    part-plain _ _ _ _ _ ((c .before .before .before .before .before .before .known-kind) .ensures) _ ((c .before .before .before .before .kind) .given .1) _ ((c .value-size) .ensures) ((c .before .enum-told5) .given .1)
+    part-plain _ _ _ _ _ ((c .before .before .before .before .before .before .written-as) .ensures) _ ((c .before .before .before .before .kind) .given .1) _ ((c .value-size) .ensures) ((c .before .enum-told5) .given .1)
 
 returns-6 : tie.Need-returns-6
 returns-6 c =
-    part-time _ _ _ _ _ ((c .before .before .before .before .before .before .known-kind) .ensures) _ ((c .before .before .before .before .kind) .given .1) _ ((c .value-size2) .ensures) ((c .before .enum-told6) .given .1)
+    part-time _ _ _ _ _ ((c .before .before .before .before .before .before .written-as) .ensures) _ ((c .before .before .before .before .kind) .given .1) _ ((c .value-size2) .ensures) ((c .before .enum-told6) .given .1)
 
 returns-7 : tie.Need-returns-7
 returns-7 c =
-    part-bearer _ _ _ _ _ ((c .before .before .before .before .before .before .known-kind) .ensures) _ ((c .before .before .before .before .kind) .given .1) _ ((c .value-size3) .ensures) ((c .before .enum-told7) .given .1)
+    part-bearer _ _ _ _ _ ((c .before .before .before .before .before .before .written-as) .ensures) _ ((c .before .before .before .before .kind) .given .1) _ ((c .value-size3) .ensures) ((c .before .enum-told7) .given .1)
 
 returns-8 : tie.Need-returns-8
 returns-8 c =
-    part-number _ _ _ _ _ ((c .before .before .before .before .before .before .known-kind) .ensures) _ ((c .before .before .before .before .kind) .given .1) _ ((c .value-size4) .ensures) _ ((c .before .enum-told8) .given .1)
+    part-number _ _ _ _ _ ((c .before .before .before .before .before .before .written-as) .ensures) _ ((c .before .before .before .before .kind) .given .1) _ ((c .value-size4) .ensures) _ ((c .before .enum-told8) .given .1)
 
 pub part-of-spec : {M : Type 1} → statement M
 part-of-spec =
     tie.close
     (tie.spec
-    known-kind-requires
+    written-as-requires
     enum-told
     enum-known-kind
     enum-told-2
