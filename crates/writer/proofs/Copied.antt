@@ -87,7 +87,7 @@ module _ (T : Entries) (sound : Sound T) (s : Spot) (tag : ℕ) (body : List ℕ
       let k = known-is (known (s .parent) tag) (i .kind .isOne) in
       let h : KindTold T (s .parent) tag body (some (k .0)) = rw (k .1) at (i .kind) in
       let v = told-value (k .0) (i .octets) h (value-kind (s .parent) tag (k .0) (k .1) f o) in
-      rw (k .1) (item-known (s .parent) tag (stored T (some (k .0)) body) (k .0) (k .1) ∙ ap (framed tag) (proper-octets T (k .0) body v))
+      rw (k .1) (item-known (s .parent) tag (stored T (some (k .0)) body) (k .0) f (k .1) ∙ ap (framed tag) (proper-octets T (k .0) body v))
 
   abbrev Loaded : Spot → Items → Type 0
   Loaded u t = (at : ℕ) → AsLaid (u .parent) (loadedIn T (u .parent) at t)

@@ -9,7 +9,11 @@ use lib.Dec.{eqb}
 use lib.ListN.{length, take, drop, getD, length-append}
 use borrow.Author.Tests.{le-ltb, eq-eqb, ne-eqb}
 use Rattle.octets.specs.Header.{framed}
+use Rattle.values.specs.declared.Kind.{Kind}
+use Rattle.values.specs.declared.KnownKind.{KnownKind}
+use Rattle.values.specs.declared.KnownKind.the-variants.{Known}
 use Rattle.values.specs.Table.{attribute}
+use Rattle.values.specs.Calls.{asKnown}
 use Rattle.format.specs.Tree.{Items}
 use Rattle.format.specs.Tree.Items.{end, item}
 use Rattle.format.specs.Meaning.{opens, attributesIn, rising}
@@ -20,8 +24,9 @@ use Rattle.writer.specs.declared.emit.Lowest.{Lowest}
 use Rattle.writer.specs.declared.emit.Role.{Role}
 use Rattle.writer.specs.declared.emit.Role.the-variants.{Gone, Element, Attribute, Other}
 use Rattle.writer.specs.declared.emit.Reached.{Reached}
-use Rattle.survey.specs.Normal.{itemOctets, attributeOctets, laterOctets}
+use Rattle.survey.specs.Normal.{valueOctets, writtenAs, itemOctets, attributeOctets, laterOctets}
 use Rattle.writer.specs.Steps.{fourOf, itemsFrom, Holding, roleOf, bodyAt, BodyAt, Lays, Fitting, Ordered, Stands, FindsLowest, elementOctets, between, Framable, Emits, AsLaid}
+use Rattle.survey.proofs.WrittenAs.{written-octets}
 use Rattle.survey.proofs.Rising.{rising-seven, rising-skip}
 use Rattle.writer.proofs.Copied.{laid-inside, laid-own, laid-after, laid-found}
 use Rattle.writer.proofs.Finding.{found-octets, none-between, found-body}
@@ -58,14 +63,19 @@ module _ (p tag i : ℕ) (starts sizes lent : List ℕ) (start size : ℕ) (a : 
   unfolding bodyAt
   same-body = rw (add-sub-cancel-left, a, b)
 
-  pub body-fits : (to room : ℕ) → Fitting (itemOctets p tag (bodyAt i starts sizes lent)) to room → Fitting (itemOctets p tag (take (start + size - start) (drop start lent))) to room
-  body-fits to room f = rw same-body f
+  -- one that is written as a value of a kind
+  module _ (r : KnownKind) (e : r ≡ asKnown (writtenAs p tag)) (k : Kind) (q : r ≡ Known k) where
+    octets-are : itemOctets p tag (bodyAt i starts sizes lent) ≡ framed tag (valueOctets k (take (start + size - start) (drop start lent)))
+    octets-are = written-octets p tag r e k q (bodyAt i starts sizes lent) ∙ ap (λ o. framed tag (valueOctets k o)) (sym same-body)
 
-  pub body-laid : (to : ℕ) (before after : List ℕ) (stop : ℕ) → Lays (itemOctets p tag (take (start + size - start) (drop start lent))) to before after stop
-      → Lays (itemOctets p tag (bodyAt i starts sizes lent)) to before after stop
-  body-laid to before after stop h = rw same-body at h
+    pub body-fits : (to room : ℕ) → Fitting (itemOctets p tag (bodyAt i starts sizes lent)) to room → Fitting (framed tag (valueOctets k (take (start + size - start) (drop start lent)))) to room
+    body-fits to room f = rw octets-are at f
 
-  -- the same of one that is written as it stands
+    pub body-laid : (to : ℕ) (before after : List ℕ) (stop : ℕ) → Lays (framed tag (valueOctets k (take (start + size - start) (drop start lent)))) to before after stop
+        → Lays (itemOctets p tag (bodyAt i starts sizes lent)) to before after stop
+    body-laid to before after stop h = rw octets-are h
+
+  -- and as it stands
   module _ (stands : itemOctets p tag (bodyAt i starts sizes lent) ≡ framed tag (bodyAt i starts sizes lent)) where
     pub stored-fits : (to room : ℕ) → Fitting (itemOctets p tag (bodyAt i starts sizes lent)) to room → Fitting (framed tag (take (start + size - start) (drop start lent))) to room
     stored-fits to room f = rw same-body (rw stands at f)

@@ -25,7 +25,7 @@ use Rattle.writer.specs.Steps.{fourOf, itemsFrom, Holding, lowerOf, Stan
 use Rattle.survey.proofs.Ways.{value-fits, item-known}
 use Rattle.survey.proofs.Rising.{oneAttribute}
 use Rattle.survey.proofs.Found.{none-behind}
-use Rattle.survey.proofs.Sizes.{opens-attribute, high-attribute}
+use Rattle.survey.proofs.Sizes.{attribute-high, opens-attribute, high-attribute}
 use Rattle.writer.proofs.Rows.{here-end, here-not, here-is, from-stop, from-single, from-item}
 
 -- one record more
@@ -162,7 +162,7 @@ module _ (p : ℕ) (t : Items) (tag : ℕ) (a : attribute tag ≡ true) where
       let kept : Kept (k .0) tag body (known p tag) = subst (λ q. Kept (k .0) tag body (known q tag)) (o .element) (k .1) in
       let kind = known-is (known p tag) (kept .isOne) in
       let fit : fits (kind .0) body ≡ true = rw (kind .1) at (kept .value) in
-      rw (a, f, kind .1) (sym (item-known p tag body (kind .0) (kind .1) ∙ ap (framed tag) (value-fits (kind .0) body fit)))
+      rw (a, f, kind .1) (sym (item-known p tag body (kind .0) (ne-eqb tag 4 (λ z. omega (arith, attribute-high tag a))) (kind .1) ∙ ap (framed tag) (value-fits (kind .0) body fit)))
 
 -- the attribute that was found, and that there is none before it
 module _ (p n : ℕ) (tags depths starts sizes lent : List ℕ) (at depth : ℕ) (o : Ordered p (itemsFrom (fourOf tags depths starts sizes) n lent depth at .0)) (a : Lowest) where

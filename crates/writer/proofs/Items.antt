@@ -1,5 +1,5 @@
 -- An item that holds no items: how long its octets can be, and what is measured and written of it.
-use mathlib.Core.Path.{_≡_, refl, sym, ap, _∙_, subst}
+use mathlib.Core.Path.{_≡_, refl, sym, ap, _∙_}
 use mathlib.Core.Bool.{Bool, true, false, cond, false≢true}
 use mathlib.Core.Option.{Option, none, some}
 use mathlib.Core.List.{List, [], _∷_, _++_}
@@ -16,19 +16,17 @@ use Rattle.values.specs.declared.Kind.{Kind}
 use Rattle.values.specs.declared.Kind.the-variants.{HoldsPlain}
 use Rattle.values.specs.declared.KnownKind.{KnownKind}
 use Rattle.values.specs.declared.KnownKind.the-variants.{Unknown, Known}
-use Rattle.values.specs.Table.{known}
 use Rattle.values.specs.Values.{fits, meant, octetsOf}
-use Rattle.values.specs.Calls.{knownKind, normalOctets, putAnswer as valueAnswer, Puts as PutsValue}
+use Rattle.values.specs.Calls.{asKnown, knownKind, normalOctets, putAnswer as valueAnswer, Puts as PutsValue}
 use Rattle.values.specs.declared.Put.{Put as PutValue}
 use Rattle.values.specs.declared.Put.the-variants.{Done, NoRoom, Invalid}
 use Rattle.values.proofs.Laws.{known-kind, unknown-kind, put-written, put-kept, normal-shorter}
 use Rattle.format.specs.Judge.{isItems}
 use Rattle.format.specs.Meaning.{opens, maybe}
-use Rattle.writer.specs.declared.item.Form.{Form}
-use Rattle.writer.specs.declared.item.Form.the-variants.{Nothing, Value}
-use Rattle.survey.specs.Normal.{framedSize, valueOctets, itemOctets}
-use Rattle.writer.specs.Steps.{writtenOf, Lays, Fitting}
-use Rattle.survey.proofs.Ways.{framed-length, value-fits, item-known}
+use Rattle.survey.specs.Normal.{framedSize, valueOctets, writtenAs, itemOctets}
+use Rattle.writer.specs.Steps.{Lays, Fitting}
+use Rattle.survey.proofs.Ways.{framed-length, value-fits}
+use Rattle.survey.proofs.WrittenAs.{unwritten-octets}
 use Rattle.writer.proofs.Lays.{lays-none, lays-append, fitting-left, fitting-right}
 
 -- an item is at most five octets longer than its body
@@ -57,16 +55,6 @@ module _ (tag : ℕ) (r : KnownKind) (e : r ≡ knownKind 0 tag) where
   pub opens-known : (k : Kind) → r ≡ Known k → (b : Bool) → b ≡ isItems (some k) → b ≡ opens tag
   unfolding opens
   opens-known k q b h = rw (known-kind 0 tag r e k q) h
-
--- whether an item is written
-module _ (p tag : ℕ) (body : List ℕ) (r : KnownKind) (e : r ≡ knownKind p tag) where
-  pub written-unknown : r ≡ Unknown → Nothing ≡ writtenOf (known p tag) body
-  unfolding writtenOf
-  written-unknown q = rw (unknown-kind p tag r e q)
-
-  pub written-known : (k : Kind) → r ≡ Known k → (n : ℕ) → n ≡ length (valueOctets k body) → Value k n ≡ writtenOf (known p tag) body
-  unfolding writtenOf
-  written-known k q n h = rw (known-kind p tag r e k q, h)
 
 -- a header written where it has room
 module _ (tag n to : ℕ) (before after : List ℕ) (answer : Put) (f : (n ≤ 32_768) × Fitting (tag ∷ lengthField n) to (length before))
@@ -115,78 +103,40 @@ module _ (k : Kind) (body : List ℕ) (to : ℕ) (before after : List ℕ) (answ
   pub value-invalid : answer ≡ Invalid → Lays (valueOctets k body) to before after to
   value-invalid q = kept (λ stop d. let z : _≡_ {A = ℕ} 0 1 = cc in omega arith)
 
+-- an item that is written as a value of a kind
+module _ (tag : ℕ) (k : Kind) (body : List ℕ) (n : ℕ) (e : n ≡ length (valueOctets k body)) where
+  pub value-bound : length body < 65536 → n < 131072
+  value-bound l = omega (arith, value-short k body)
+
+  value-parts : framed tag (valueOctets k body) ≡ (tag ∷ lengthField n) ++ valueOctets k body
+  unfolding framed
+  value-parts = ap (λ m. (tag ∷ lengthField m) ++ valueOctets k body) (sym e)
+
+  module _ (to : ℕ) (room : List ℕ) (f : Fitting (framed tag (valueOctets k body)) to (length room)) where
+    all-fits : Fitting ((tag ∷ lengthField n) ++ valueOctets k body) to (length room)
+    all-fits = rw value-parts at f
+
+    pub header-fits : (n ≤ 32_768) × Fitting (tag ∷ lengthField n) to (length room)
+    header-fits =
+        let x = all-fits .inObject in
+        let l = length-append (tag ∷ lengthField n) (valueOctets k body) in
+        (omega arith, fitting-left (tag ∷ lengthField n) (valueOctets k body) to (length room) all-fits)
+
+    module _ (mid : List ℕ) (at : ℕ) (h : Lays (tag ∷ lengthField n) to room mid at) where
+      pub value-fits-room : Fitting (valueOctets k body) at (length mid)
+      value-fits-room = fitting-right (tag ∷ lengthField n) (valueOctets k body) to room mid at all-fits h
+
+      pub value-laid : (after : List ℕ) (end : ℕ) → Lays (valueOctets k body) at mid after end → Lays (framed tag (valueOctets k body)) to room after end
+      value-laid after end g = rw value-parts (lays-append (tag ∷ lengthField n) (valueOctets k body) to room mid at after end h g)
+
+-- one that isn't written
+pub nothing-laid : (p tag : ℕ) (r : KnownKind) → r ≡ asKnown (writtenAs p tag) → r ≡ Unknown → (body : List ℕ) (to : ℕ) (room : List ℕ) → Lays (itemOctets p tag body) to room room to
+nothing-laid p tag r e q body to room = rw (unwritten-octets p tag r e q body) (lays-none to room)
+
 module _ (p tag : ℕ) (body : List ℕ) where
-  -- what is written of an item
-  unfoldable Tells : Form → Type 0
-  Tells Nothing = known p tag ≡ none
-  Tells (Value k n) = (known p tag ≡ some k) × (n ≡ length (valueOctets k body))
-
-  tells : (r : Form) → r ≡ writtenOf (known p tag) body → Tells r
-  unfolding Tells writtenOf
-  tells r e = subst Tells (sym e) (go (known p tag) refl)
-    where
-      go : (o : Option Kind) → known p tag ≡ o → Tells (writtenOf o body)
-      go none q = q
-      go (some k) q = (q, refl)
-
-  module _ (r : Form) (e : r ≡ writtenOf (known p tag) body) where
-    pub unwritten-kind : r ≡ Nothing → known p tag ≡ none
-    unfolding Tells
-    unwritten-kind q = subst Tells q (tells r e)
-
-    tells-nothing : r ≡ Nothing → itemOctets p tag body ≡ []
-    unfolding itemOctets maybe
-    tells-nothing q = rw (unwritten-kind q)
-
-    pub written-kind : (k : Kind) (n : ℕ) → r ≡ Value k n → (known p tag ≡ some k) × (n ≡ length (valueOctets k body))
-    unfolding Tells
-    written-kind k n q = subst Tells q (tells r e)
-
-    tells-value : (k : Kind) (n : ℕ) → r ≡ Value k n → (itemOctets p tag body ≡ framed tag (valueOctets k body)) × (n ≡ length (valueOctets k body))
-    tells-value k n q = let t = written-kind k n q in (item-known p tag body k (t .0), t .1)
-
-    -- measured
-    pub nothing-size : r ≡ Nothing → 0 ≡ length (itemOctets p tag body)
-    nothing-size q = ap length (sym (tells-nothing q))
-
-    pub value-bound : (k : Kind) (n : ℕ) → r ≡ Value k n → length body < 65536 → n < 131072
-    value-bound k n q l = omega (arith, tells-value k n q .1, value-short k body)
-
-    pub value-size : (k : Kind) (n m : ℕ) → r ≡ Value k n → m ≡ framedSize n → m ≡ length (itemOctets p tag body)
-    value-size k n m q f =
-        let t = tells-value k n q in
-        f ∙ (ap framedSize (t .1) ∙ (sym (framed-length tag (valueOctets k body)) ∙ ap length (sym (t .0))))
-
-    -- written
-    pub nothing-laid : (to : ℕ) (room : List ℕ) → r ≡ Nothing → Lays (itemOctets p tag body) to room room to
-    nothing-laid to room q = rw (tells-nothing q) (lays-none to room)
-
-    module _ (k : Kind) (n : ℕ) (q : r ≡ Value k n) where
-      value-parts : itemOctets p tag body ≡ (tag ∷ lengthField n) ++ valueOctets k body
-      unfolding framed
-      value-parts = let t = tells-value k n q in t .0 ∙ ap (λ m. (tag ∷ lengthField m) ++ valueOctets k body) (sym (t .1))
-
-      module _ (to : ℕ) (room : List ℕ) (f : Fitting (itemOctets p tag body) to (length room)) where
-        all-fits : Fitting ((tag ∷ lengthField n) ++ valueOctets k body) to (length room)
-        all-fits = rw value-parts at f
-
-        pub header-fits : (n ≤ 32_768) × Fitting (tag ∷ lengthField n) to (length room)
-        header-fits =
-            let x = all-fits .inObject in
-            let l = length-append (tag ∷ lengthField n) (valueOctets k body) in
-            let t = tells-value k n q .1 in
-            (omega arith, fitting-left (tag ∷ lengthField n) (valueOctets k body) to (length room) all-fits)
-
-        module _ (mid : List ℕ) (at : ℕ) (h : Lays (tag ∷ lengthField n) to room mid at) where
-          pub value-fits-room : Fitting (valueOctets k body) at (length mid)
-          value-fits-room = fitting-right (tag ∷ lengthField n) (valueOctets k body) to room mid at all-fits h
-
-          pub value-laid : (after : List ℕ) (end : ℕ) → Lays (valueOctets k body) at mid after end → Lays (itemOctets p tag body) to room after end
-          value-laid after end g = rw value-parts (lays-append (tag ∷ lengthField n) (valueOctets k body) to room mid at after end h g)
-
   pub item-short : length (itemOctets p tag body) ≤ length body + 5
   unfolding itemOctets maybe
-  item-short = go (known p tag)
+  item-short = go (writtenAs p tag)
     where
       go : (o : Option Kind) → length (maybe (λ k. framed tag (valueOctets k body)) o) ≤ length body + 5
       go none = omega arith

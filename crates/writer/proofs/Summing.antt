@@ -12,41 +12,43 @@ use borrow.Author.Tests.{lt-leb, le-leb, leb-false, leb-true, eq-eqb, ne-eqb}
 use mir.Syntax.{w16, w64}
 use mir.Val.{Fits}
 use Rattle.values.specs.declared.Kind.{Kind}
-use Rattle.values.specs.Table.{known}
+use Rattle.values.specs.declared.KnownKind.{KnownKind}
+use Rattle.values.specs.declared.KnownKind.the-variants.{Unknown, Known}
+use Rattle.values.specs.Calls.{asKnown}
 use Rattle.format.specs.declared.Record.{Record}
 use Rattle.format.specs.Judge.{isItems}
 use Rattle.format.specs.Meaning.{opens}
 use Rattle.format.specs.Writer.{bodyIn, here}
 use Rattle.format.specs.Calls.{Lists, row}
-use Rattle.writer.specs.declared.item.Form.{Form}
-use Rattle.writer.specs.declared.item.Form.the-variants.{Nothing, Value}
 use Rattle.writer.specs.declared.size.Part.{Part}
 use Rattle.writer.specs.declared.size.Part.the-variants.{Past, Holds, Single}
 use Rattle.writer.specs.declared.size.Sized.{Sized}
 use Rattle.writer.specs.declared.size.Sized.the-variants.{Over, Size}
-use Rattle.survey.specs.Normal.{framedSize, itemOctets, normalSize}
-use Rattle.writer.specs.Steps.{itemsFrom, writtenOf, partOf, partAt, sizedOf, sizedFrom}
-use Rattle.writer.proofs.Items.{item-short, framed-short, unwritten-kind, written-kind, nothing-size, value-size}
+use Rattle.survey.specs.Normal.{framedSize, valueOctets, writtenAs, itemOctets, normalSize}
+use Rattle.survey.proofs.Ways.{framed-length}
+use Rattle.survey.proofs.WrittenAs.{written-kind, written-octets, unwritten-octets, unwritten-opens}
+use Rattle.writer.specs.Steps.{itemsFrom, partOf, partAt, sizedOf, sizedFrom}
+use Rattle.writer.proofs.Items.{item-short, framed-short}
 use Rattle.format.proofs.Means.{items-opens}
 use Rattle.writer.proofs.Rows.{here-end, here-not, here-is, from-stop, from-single, from-nested, from-ahead, from-within}
 
--- what a record adds, by what is written of it
-module _ (p tag : ℕ) (body : List ℕ) (r : Form) (e : r ≡ writtenOf (known p tag) body) where
-  pub part-nothing : r ≡ Nothing → Single 0 ≡ partOf p tag body
-  unfolding partOf isItems
-  part-nothing q = rw (← items-opens p tag, unwritten-kind p tag body r e q) (ap Single (nothing-size p tag body r e q))
+-- what a record adds, by whether and as what it is written
+module _ (p tag : ℕ) (body : List ℕ) (r : KnownKind) (e : r ≡ asKnown (writtenAs p tag)) where
+  pub part-nothing : r ≡ Unknown → Single 0 ≡ partOf p tag body
+  unfolding partOf
+  part-nothing q = rw (unwritten-opens p tag r e q, unwritten-octets p tag r e q body)
 
-  module _ (k : Kind) (n : ℕ) (q : r ≡ Value k n) (o : Bool) (h : o ≡ isItems (some k)) where
+  module _ (k : Kind) (q : r ≡ Known k) (o : Bool) (h : o ≡ isItems (some k)) where
     holds : opens tag ≡ o
-    holds = sym (items-opens p tag) ∙ (ap isItems (written-kind p tag body r e k n q .0) ∙ sym h)
+    holds = sym (items-opens p tag) ∙ (ap isItems (written-kind p tag r e k q .1) ∙ sym h)
 
     pub part-holds : o ≡ true → Holds tag ≡ partOf p tag body
     unfolding partOf
     part-holds y = rw (holds ∙ y)
 
-    pub part-single : o ≡ false → (m : ℕ) → m ≡ framedSize n → Single m ≡ partOf p tag body
+    pub part-single : o ≡ false → (n : ℕ) → n ≡ length (valueOctets k body) → (m : ℕ) → m ≡ framedSize n → Single m ≡ partOf p tag body
     unfolding partOf
-    part-single y m f = rw (holds ∙ y, value-size p tag body r e k n m q f)
+    part-single y n l m f = rw (holds ∙ y, written-octets p tag r e k q body, framed-length tag (valueOctets k body), ← l, f)
 
 module _ (p depth : ℕ) (lent : List ℕ) (l : Lists) (i d : ℕ) (e : d ≡ getD (l .depths) i 0) where
   pub part-past : (d ≡ depth → ⊥) → Past ≡ partAt p depth lent (row l i)

@@ -1,7 +1,7 @@
 -- What the parts of the writer answer, and what the room then holds: measuring and writing the items of an element from a record on.
 use mathlib.Core.Path.{_≡_}
 use mathlib.Core.Bool.{true, false, cond, _&&_}
-use mathlib.Core.Option.{Option, none, some}
+use mathlib.Core.Option.{none, some}
 use mathlib.Core.List.{List, [], _++_}
 use Prim.Native.Nat.{ℕ, suc, _+_, _-_, _≤_, _<_}
 use lib.Dec.{eqb, leb, ltb}
@@ -9,7 +9,6 @@ use lib.ListN.{length, take, drop, getD}
 use lib.Seq.{sets}
 use denote.Ref.{RefT}
 use Rattle.octets.specs.Header.{framed}
-use Rattle.values.specs.declared.Kind.{Kind}
 use Rattle.values.specs.Table.{attribute}
 use Rattle.format.specs.declared.Record.{Record}
 use Rattle.format.specs.Tree.{Items, find}
@@ -17,9 +16,7 @@ use Rattle.format.specs.Tree.Items.{end, item}
 use Rattle.format.specs.Meaning.{opens}
 use Rattle.format.specs.Writer.{Spot, bodyIn, tree, ruled}
 use Rattle.format.specs.Calls.{Lists, row}
-use Rattle.survey.specs.Normal.{valueOctets, itemOctets, normalSize, attributeOctets, laterOctets}
-use Rattle.writer.specs.declared.item.Form.{Form}
-use Rattle.writer.specs.declared.item.Form.the-variants.{Nothing, Value as Valued}
+use Rattle.survey.specs.Normal.{itemOctets, normalSize, attributeOctets, laterOctets}
 use Rattle.writer.specs.declared.size.Part.{Part}
 use Rattle.writer.specs.declared.size.Part.the-variants.{Past, Holds, Single}
 use Rattle.writer.specs.declared.size.Sized.{Sized}
@@ -47,11 +44,6 @@ pub record Holding (n : ℕ) (l : Lists) (lent : List ℕ) : Type 0 where
   pub starts : n ≤ length (l .starts)
   pub sizes : n ≤ length (l .sizes)
   pub bodies : (i : ℕ) → i < n → getD (l .starts) i 0 + getD (l .sizes) i 0 ≤ length lent
-
--- what is written of an item that holds no items: a value of its kind with so many octets; nothing where it isn't known
-unfoldable pub writtenOf : Option Kind → List ℕ → Form
-writtenOf none body = Nothing
-writtenOf (some k) body = Valued k (length (valueOctets k body))
 
 -- what a record adds to the size of an element's items: it holds items, or has a size of its own, or is none of them
 unfoldable pub partOf : (parent tag : ℕ) → List ℕ → Part

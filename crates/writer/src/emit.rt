@@ -16,6 +16,8 @@ use crate::item::put_item;
 use crate::item::put_stored;
 use crate::item::wide;
 use crate::item::wide16;
+use survey::written_as;
+use values::KnownKind;
 
 // An attribute and its record: the one with the lowest tag of those that were asked for. With the tag 0x87 there is none: the table of
 // items knows no attribute from there on.
@@ -83,7 +85,7 @@ fn next_attribute(
     lowest
 }
 
-// The body of record `i` as an item of a tag.
+// The body of record `i` as an item of a tag, if it is written: that is asked of a stored body too, which is then copied.
 fn put_body(
     room: &mut [u8],
     to: usize,
@@ -100,13 +102,16 @@ fn put_body(
     requires { ⌜ Fitting (itemOctets parent tag (bodyAt i (now starts) (now sizes) (now octets))) to (length (now room)) ⌝ }
     ensures { λ r. ⌜ Lays (itemOctets parent tag (bodyAt i (now (starts .entry)) (now (sizes .entry)) (now (octets .entry)))) to (now (room .entry)) (now (room .exit)) r ⌝ }
 {
+    let KnownKind::Known(kind) = written_as(parent, tag) else {
+        return to;
+    };
     let start = wide16(starts[i]);
     let end = start + wide16(sizes[i]);
     let body = &octets[start..end];
     if stored {
         return put_stored(room, to, tag, body);
     }
-    put_item(room, to, parent, tag, body)
+    put_item(room, to, kind, tag, body)
 }
 
 // The attributes of an element by rising tag.

@@ -1,28 +1,21 @@
-// An item that holds no items: whether it is written, how many octets it then has, and its octets. Measuring records and writing
-// them both ask `written`, so they can't differ in what they leave out.
+// An item that holds no items, once it is known to be written: how many octets it has, and its octets. Whether it is written is asked before, of survey's
+// `written_as`, by whoever measures records (size.rt) and whoever writes them, stored ones too (put_body in emit.rt).
 ghost use mathlib.Core.Path.{_≡_};
 ghost use mathlib.Core.Option.{some};
 ghost use mathlib.Core.List.{_∷_};
 ghost use Prim.Native.Nat.{_+_, _≤_, _<_};
 ghost use lib.ListN.{length};
 ghost use Rattle.octets.specs.Header.{lengthField, framed};
-ghost use Rattle.values.specs.Table.{known};
 ghost use Rattle.format.specs.Judge.{isItems};
 ghost use Rattle.format.specs.Meaning.{opens};
-ghost use Rattle.survey.specs.Normal.{framedSize, valueOctets, itemOctets};
-ghost use Rattle.writer.specs.Steps.{writtenOf, Lays, Fitting};
+ghost use Rattle.survey.specs.Normal.{framedSize, valueOctets};
+ghost use Rattle.writer.specs.Steps.{Lays, Fitting};
 use values::Kind;
 use values::KnownKind;
 use values::NormalSize;
 use values::known_kind;
 use values::normal_size;
 use values::put_normal;
-
-// What is written of an item: nothing, or a value of its kind with so many octets.
-pub enum Form {
-    Nothing,
-    Value { kind: Kind, size: usize },
-}
 
 pub fn wide(x: u8) -> usize
     ensures { λ r. ⌜ r ≡ x ⌝ }
@@ -61,25 +54,12 @@ pub fn holds_items(tag: u8) -> bool
     }
 }
 
-fn value_size(kind: Kind, body: &[u8]) -> usize
+pub fn value_size(kind: Kind, body: &[u8]) -> usize
     ensures { λ r. ⌜ r ≡ length (valueOctets kind (now (body .entry))) ⌝ }
 {
     match normal_size(kind, body) {
         NormalSize::Octets(size) => size,
         NormalSize::NoValue => 0,
-    }
-}
-
-// The one place that says whether an item is written: an item that its element doesn't know isn't.
-pub fn written(parent: u8, tag: u8, body: &[u8]) -> Form
-    ensures { λ r. ⌜ r ≡ writtenOf (known parent tag) (now (body .entry)) ⌝ }
-{
-    match known_kind(parent, tag) {
-        KnownKind::Unknown => Form::Nothing,
-        KnownKind::Known(kind) => Form::Value {
-            kind,
-            size: value_size(kind, body),
-        },
     }
 }
 
@@ -114,20 +94,16 @@ fn put_value(room: &mut [u8], to: usize, kind: Kind, body: &[u8]) -> usize
     }
 }
 
-pub fn put_item(room: &mut [u8], to: usize, parent: u8, tag: u8, body: &[u8]) -> usize
-    requires { ⌜ Fitting (itemOctets parent tag (now body)) to (length (now room)) ⌝ }
-    ensures { λ r. ⌜ Lays (itemOctets parent tag (now (body .entry))) to (now (room .entry)) (now (room .exit)) r ⌝ }
+// An item that is written as a value of a kind.
+pub fn put_item(room: &mut [u8], to: usize, kind: Kind, tag: u8, body: &[u8]) -> usize
+    requires { ⌜ Fitting (framed tag (valueOctets kind (now body))) to (length (now room)) ⌝ }
+    ensures { λ r. ⌜ Lays (framed tag (valueOctets kind (now (body .entry)))) to (now (room .entry)) (now (room .exit)) r ⌝ }
 {
-    match written(parent, tag, body) {
-        Form::Nothing => to,
-        Form::Value { kind, size } => {
-            let at = put_header(room, to, tag, size);
-            put_value(room, at, kind, body)
-        }
-    }
+    let at = put_header(room, to, tag, value_size(kind, body));
+    put_value(room, at, kind, body)
 }
 
-// An item that is known to be written, and its body to be its normal octets: nothing is asked of it, the body is copied as it stands.
+// An item that is written, and whose body is its normal octets: it is copied as it stands.
 pub fn put_stored(room: &mut [u8], to: usize, tag: u8, body: &[u8]) -> usize
     requires { ⌜ Fitting (framed tag (now body)) to (length (now room)) ⌝ }
     ensures { λ r. ⌜ Lays (framed tag (now (body .entry))) to (now (room .entry)) (now (room .exit)) r ⌝ }

@@ -6,12 +6,13 @@ ghost use Prim.Native.Nat.{_+_, _≤_, _<_};
 ghost use lib.ListN.{length};
 ghost use Rattle.format.specs.Calls.{row};
 ghost use Rattle.writer.specs.Steps.{four, Holding, partOf, partAt, sizedFrom};
-use crate::item::Form;
 use crate::item::framed_size;
 use crate::item::is_holder;
+use crate::item::value_size;
 use crate::item::wide;
 use crate::item::wide16;
-use crate::item::written;
+use survey::written_as;
+use values::KnownKind;
 
 // What a record adds to the items of an element: it is none of them; it holds items that are to be measured; so many octets.
 pub enum Part {
@@ -31,13 +32,13 @@ fn part_of(parent: u8, tag: u8, body: &[u8]) -> Part
     requires { ⌜ length (now body) < 65536 ⌝ }
     ensures { λ r. ⌜ r ≡ partOf parent tag (now (body .entry)) ⌝ }
 {
-    match written(parent, tag, body) {
-        Form::Nothing => Part::Single(0),
-        Form::Value { kind, size } => {
+    match written_as(parent, tag) {
+        KnownKind::Unknown => Part::Single(0),
+        KnownKind::Known(kind) => {
             if is_holder(kind) {
                 return Part::Holds(tag);
             }
-            Part::Single(framed_size(size))
+            Part::Single(framed_size(value_size(kind, body)))
         }
     }
 }
