@@ -25,10 +25,13 @@ static void put_field(uint64_t number)
     put_number(number);
 }
 
+/* Only an attribute's kind depends on what it stands in, and that has to be an element, as it always is in second.c. */
 static void answer_kind(const uint8_t *octets, size_t size)
 {
+    bool may_stand = size == 2 && (octets[0] < ELEMENT_TAGS || !is_attribute(octets[1]));
+
     put_string("kind ");
-    put_string(size == 2 ? body_names[body_of_item(octets[0], octets[1])] : "unknown");
+    put_string(may_stand ? body_names[body_of_item(octets[0], octets[1])] : "unknown");
 }
 
 /* The first octet says whether token octets may stand in the text. */

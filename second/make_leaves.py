@@ -1,10 +1,13 @@
 #!/usr/bin/env python3
-"""Writes questions for second/leaves.c and the program leaves_run to standard output.
+"""Writes questions for second/leaves.c and the program leaves_run:  make_leaves.py > crates/leaves_run/stdin
 
 Every element and tag that could be a known pair; UTF-8 at its edges; document 01's time vectors and
-the edges of each field; bearers of every first octet.
+the edges of each field; bearers of every first octet.  compare_leaves.py takes random ones too.
 """
+import random
 import sys
+
+from make_cases import BAD_OCTETS, Maker
 
 
 def question(letter, octets):
@@ -82,10 +85,35 @@ def bearers():
         yield question("B", bytes([0x50] + [7] * 9)[:size])
 
 
-def main():
+def fixed_questions():
     for group in (kinds, texts, times, bearers):
-        sys.stdout.buffer.write(b"".join(group()))
+        yield from group()
+
+
+def random_octets(rng, letter):
+    """What a question asks of: most often a good value or one with a single fault, now and then any octets."""
+    if letter == "K":
+        return bytes([rng.choice([0, rng.randrange(0x40), rng.randrange(256)]), rng.randrange(256)])
+    maker = Maker(rng)
+    if letter == "U":
+        text = maker.letters(rng.choice([0, 1, 2, 7, 8, 9, 15, 16, 17, 31, 33, 60]))
+        at = rng.randint(0, len(text))
+        return rng.choice([b"\0", b"\1"]) + text[:at] + rng.choice(BAD_OCTETS + [b""] * len(BAD_OCTETS)) + text[at:]
+    octets = (maker.bearer() if letter == "B" else maker.time()).encoded(rng)
+    fault = rng.randrange(6)
+    if fault == 0:
+        return octets[:rng.randint(0, len(octets))] + rng.randbytes(rng.randint(0, 3))
+    if fault == 1:
+        return rng.randbytes(len(octets))
+    return octets
+
+
+def random_questions(seed, count):
+    for index in range(count):
+        rng = random.Random(f"leaves {seed} {index}")
+        letter = rng.choice("KUTOB")
+        yield question(letter, random_octets(rng, letter))
 
 
 if __name__ == "__main__":
-    main()
+    sys.stdout.buffer.write(b"".join(fixed_questions()))
