@@ -4,15 +4,23 @@
 For random trees, of which the maker knows the meaning: each way to write a tree has the tree's normal
 form, its number of records and just its needs in store and room; a normal form is its own normal form
 and is listed; the writer makes it of the tree's records; and both ways to write a tree mean the same.
+Beside each tree, a pair of meanings.py that is known to mean the same or not; the ways to make one take turns, so
+COUNT is at least the number of ways.
 """
 import random
 import sys
 
 from make_cases import Encoder, OBJECT_LIMIT, case_l, case_n, case_s, case_w, make_records, random_raw
+from meanings import WAYS, known_pair
 from streams import run, split_answers
 
 
-def laws(rng):
+def pair_law(rng, answer, way):
+    first, second = known_pair(rng, answer, way)
+    return case_s(first.octets(), second.octets()), answer
+
+
+def tree_laws(rng):
     """Pairs of a case and the last line that its answer must have."""
     while True:
         maker, tree, raw = random_raw(rng)
@@ -37,18 +45,28 @@ def laws(rng):
     yield case_s(normal, octets), "same"
 
 
+def laws(seed, count):
+    """What is tried, the case and the last line of its answer."""
+    for index in range(count):
+        rng = random.Random(f"laws {seed} {index}")
+        for case, must in tree_laws(rng):
+            yield "a tree", case, must
+        answer, way = WAYS[index % len(WAYS)]
+        yield f"{answer}: {way}", *pair_law(rng, answer, way)
+
+
 def main():
-    if len(sys.argv) != 4:
-        sys.exit("usage: check_laws.py PROGRAM SEED COUNT")
+    if len(sys.argv) != 4 or int(sys.argv[3]) < len(WAYS):
+        sys.exit(f"usage: check_laws.py PROGRAM SEED COUNT, COUNT at least {len(WAYS)}")
     program, seed, count = sys.argv[1], sys.argv[2], int(sys.argv[3])
-    pairs = [pair for index in range(count) for pair in laws(random.Random(f"laws {seed} {index}"))]
-    lines, status = run(program, b"".join(case for case, _ in pairs))
+    tried = list(laws(seed, count))
+    lines, status = run(program, b"".join(case for _, case, _ in tried))
     answers = split_answers(lines)
-    broken = [(case, must, answer[-1]) for (case, must), answer in zip(pairs, answers) if answer[-1] != must]
-    for case, must, answer in broken[:3]:
-        print(f"{chr(case[0])} {case.hex()[:200]}\n  must be: {must[:200]}\n  answered: {answer[:200]}")
-    good = pairs and not broken and status == 0 and len(answers) == len(pairs)
-    print(f"laws: {len(pairs)} answers of seed {seed}: {'all hold' if good else 'NOT ALL HOLD'}")
+    broken = [(what, case, must, answer[-1]) for (what, case, must), answer in zip(tried, answers) if answer[-1] != must]
+    for what, case, must, answer in broken[:3]:
+        print(f"{what}: {chr(case[0])} {case.hex()[:200]}\n  must be: {must[:200]}\n  answered: {answer[:200]}")
+    good = not broken and status == 0 and len(answers) == len(tried)
+    print(f"laws: {len(tried)} answers of seed {seed}, {count} of pairs in {len(WAYS)} ways: {'all hold' if good else 'NOT ALL HOLD'}")
     sys.exit(0 if good else 1)
 
 

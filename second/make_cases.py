@@ -186,6 +186,7 @@ class Time:
 
 class Bearer:
     def __init__(self, ensemble, sid, scids):
+        self.ensemble, self.sid, self.scids = ensemble, sid, scids
         self.first = (0x40 if ensemble else 0) | (0x10 if len(sid) == 4 else 0) | scids
         self.rest = ensemble + sid
         self.normal = bytes([self.first]) + self.rest
@@ -629,58 +630,16 @@ def random_w(rng):
     return case_w(count, records, lent(rng, len(tree.normal()), FIELD_LIMIT), bytes(pool))
 
 
-def change_meaning(maker, tree):
-    """A copy of the tree with one small change that may change its meaning."""
-    rng, twin = maker.rng, tree.copy()
-    nodes = list(twin.walk())
-    node = rng.choice(nodes)
-    holders = [n for n in nodes if n.value is None]
-    action = rng.randrange(5)
-    if action <= 1 and isinstance(node.value, Time):
-        node.value = Time(*[f + (i == 3 and f < 59) for i, f in enumerate(node.value.fields)])
-    elif action <= 1 and isinstance(node.value, Fixed) and node.value.normal:
-        body = bytearray(node.value.normal)
-        body[rng.randrange(len(body))] ^= 1 << rng.randrange(8)
-        node.value = Fixed(bytes(body))
-    elif action <= 1 and isinstance(node.value, Bearer):
-        node.value = maker.bearer()
-    elif action <= 1 and isinstance(node.value, Text):
-        node.value = Text(node.value.pieces[:-1])
-    elif action == 2:
-        holder = rng.choice(holders)
-        rng.shuffle(holder.attributes)
-        elements = [p for p in holder.children if p.tag not in (0x01, 0x06)]
-        rng.shuffle(elements)
-        holder.children = [elements.pop() if p.tag not in (0x01, 0x06) else p for p in holder.children]
-    elif action == 3:
-        holder = rng.choice(holders)
-        part = rng.choice([holder.attributes, holder.children])
-        if part:
-            part.pop(rng.randrange(len(part)))
-    else:
-        holder = rng.choice(holders)
-        if not any(p.tag == 0x01 for p in holder.children):
-            holder.children.append(Node(0x01, Text([])))
-    return twin
-
-
 def random_s(rng):
-    maker, tree, raw = random_raw(rng)
-    first, roll = raw.octets(), rng.random()
-    other = tree if roll < 0.45 else change_meaning(maker, tree)
-    if rng.random() < 0.3:
-        maker.table = {}
-        for node in list(tree.walk()) + list(other.walk()):
-            if isinstance(node.value, Text):
-                node.value = Text([(octets, 0) for octets, _ in node.value.pieces])
-    again = Encoder(maker, rng.choice([0, 0.1, 0.3])).raw(other)
-    second = again.octets()
-    if roll > 0.8:
-        second = damage(rng, again)
-    if roll > 0.93:
-        first = damage(rng, raw)
-    if rng.random() < 0.5:
-        first, second = second, first
+    """Two objects of which it is known whether they mean the same, or two ways to write one tree; now and then damaged."""
+    from meanings import WAYS, known_pair  # which stands on the trees of this file
+    if rng.random() < 0.1:
+        maker, tree, first = random_raw(rng)
+        second = Encoder(maker, 0.2).raw(tree)
+    else:
+        first, second = known_pair(rng, *rng.choice(WAYS))
+    damaged = rng.choice([0, 0, 0, 0, 0, 0, 0, 1, 2, 3])
+    first, second = damage(rng, first) if damaged & 1 else first.octets(), damage(rng, second) if damaged & 2 else second.octets()
     return case_s(first[:FIELD_LIMIT], second[:FIELD_LIMIT])
 
 
