@@ -228,13 +228,15 @@ def child_deeper(rng, tree):
     return bool(choices)
 
 
-def element_tag(rng, tree):
-    """Another tag for an element, of one in which its attributes are of the same kinds."""
-    choices = [(node, tag) for node, depth in with_depth(tree) for tag in ((0x02, 0x03) if depth == 1 else HOLDERS)
-               if tag != node.tag and all(ATTRIBUTES[tag].get(part.tag) == kind_of(node, part) for part in node.attributes)]
-    if choices:
-        node, node.tag = rng.choice(choices)
-    return bool(choices)
+def element_tag(tags):
+    """Another of these tags for an element that has one, where its attributes are of the same kinds under both."""
+    def way(rng, tree):
+        choices = [(node, tag) for node, _ in with_depth(tree) for tag in tags if node.tag in tags and tag != node.tag
+                   and all(ATTRIBUTES[tag].get(part.tag) == kind_of(node, part) for part in node.attributes)]
+        if choices:
+            node, node.tag = rng.choice(choices)
+        return bool(choices)
+    return way
 
 
 def coordinates_tag(rng, tree):
@@ -278,7 +280,8 @@ DIFFERENT = {
     "a child twice": child_twice,
     "the order of children": children_exchanged,
     "a child one deeper": child_deeper,
-    "an element's tag": element_tag,
+    "the top's tag": element_tag([0x02, 0x03]),
+    "an element's tag": element_tag(HOLDERS),
     "the tag of coordinates": coordinates_tag,
 }
 
