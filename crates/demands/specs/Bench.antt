@@ -15,8 +15,8 @@ use Rattle.format.specs.Calls.{Lists, row, places, ReadClaim, NormaliseClaim}
 use Rattle.format.specs.Bench.{outcome, cases, listed, slips}
 use Rattle.format.specs.Bench.Outcome.{refuses, normally}
 
--- P1 to P14, one table under one claim: for each object the refusal, or how many records and which normal form; for the octets of a time that they are accepted as
--- one, the time and its normal octets (format/specs/Bench has the table, as document 01 has it)
+-- P1 to P14, one table under one claim: for each object the refusal, or how many records and which normal form; for the octets of a time, that they are accepted
+-- as one, which time they mean and its normal octets (format/specs/Bench has the table, as document 01 has it)
 abbrev pub BenchTable : Type 0
 BenchTable = map (λ c. outcome (c .0) (c .1)) cases ≡ map (λ c. c .2) cases
 

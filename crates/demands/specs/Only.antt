@@ -1,5 +1,5 @@
 -- Only one answer: two answers that meet a call's claim, with what is lent as they leave it, are the same (document 01, What the auditor will try). Each public
--- call's `ensures` is its claim and nothing else, and each public call is named over one of these statements, so nothing is left open in what a call answers and leaves.
+-- call's `ensures` is its claim, and each is named over one of these statements, so nothing is left open in what a call answers and leaves.
 use mathlib.Core.Path.{_≡_}
 use mathlib.Core.Bool.{Bool}
 use mathlib.Core.List.{List}
@@ -79,11 +79,11 @@ OneOctetsPut =
     → OctetsPuts exists octets at before one answer → OctetsPuts exists octets at before other answer′
     → (answer ≡ answer′) × (one ≡ other)
 
--- tokens_of: one mask says of each octet whether it is a token that is a tag of the table
+-- tokens_of: its claim is an equation for each bit of the mask
 abbrev pub OneMarks : Type 0
 OneMarks = (octets : List ℕ) (one other : ℕ) → Marks one octets → Marks other octets → one ≡ other
 
--- widths_of
+-- widths_of: an equation for each of the 32 places
 abbrev pub OneWidths : Type 0
 OneWidths = (entries : Entries) (one other : List ℕ) → Widths 32 entries one → Widths 32 entries other → one ≡ other
 

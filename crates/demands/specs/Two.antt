@@ -49,8 +49,8 @@ JudgedExactly =
 abbrev pub OneTree : Type 0
 OneTree = (object : List ℕ) (t u : Items) → Accepts object t → Accepts object u → t ≡ u
 
--- `span` and `body`, asked for a record's number in lists that hold the n records of a tree: the span is the record's start and size, and the body is the body of the tree's item of that number.
--- The lists may be longer than n, and of different lengths
+-- `span` and `body`, asked for a record's number in lists that hold the n records of a tree: the span is the record's start and size, and the body is that of the
+-- tree's item of that number, in reading order. The lists may be longer than n, and of different lengths
 pub record BodiesFound (object : List ℕ) (t : Items) (lists : Lists) (n : ℕ) : Type 0 where
   pub many : length (bodiesOf t) ≡ n
   pub span : (i : ℕ) → i < n → spanOf object (lists .starts) (lists .sizes) i ≡ record { start = row lists i .start; size = row lists i .size }
