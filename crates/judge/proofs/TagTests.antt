@@ -51,12 +51,12 @@ module _ (parent stage : ℕ) (t : Bool) (e : t ≡ isTop parent) where
 pub ruleset waiting-ways = (waiting-top, waiting-inner)
 
 module _ (tag left : ℕ) where
-  pub level-spare : 17 < left → true ≡ withinDepth tag (depthOf left)
+  pub level-left : 0 < left → true ≡ withinDepth tag (depthOf left)
   unfolding depthOf
-  level-spare h = rw (le-leb (17 - left) 16 (omega arith)) (sym (or-true (attribute tag || eqb tag 1)))
+  level-left h = rw (le-leb (17 - left) 16 (omega arith)) (sym (or-true (attribute tag || eqb tag 1)))
 
-  pub level-counted : left ≤ 17 → (b : Bool) → b ≡ withinDepth tag (17 - left) → b ≡ withinDepth tag (depthOf left)
+  pub level-none : left ≤ 0 → (b : Bool) → b ≡ withinDepth tag 17 → b ≡ withinDepth tag (depthOf left)
   unfolding depthOf
-  level-counted h b e = e
+  level-none h b e = let z : 17 - left ≡ 17 = omega arith in rw z e
 
-pub ruleset level-ways = (level-spare, level-counted)
+pub ruleset level-ways = (level-left, level-none)

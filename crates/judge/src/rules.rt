@@ -48,14 +48,14 @@ fn trails(parent: u8, whole: usize, room: usize) -> bool
     false
 }
 
-// Rule 7 where so many levels of elements are left: sixteen at depth 1, none at depth 17. More are never left, and would bound nothing.
+// Rule 7 where so many levels of elements are left: while there is one, any item may stand, and at depth 17 there is none.
 fn has_level(tag: u8, left: u8) -> bool
     ensures { λ r. ⌜ r ≡ withinDepth tag (depthOf left) ⌝ }
 {
-    if left > 17 {
+    if left > 0 {
         return true;
     }
-    is_within_depth(tag, 17 - left)
+    is_within_depth(tag, 17)
 }
 
 // One of the top's own attributes.
