@@ -1,5 +1,5 @@
 #!/usr/bin/env python3
-"""Makes streams of test cases for the two programs (DESIGN.md, section 7).
+"""Makes streams of test cases for the two programs (docs/STREAM.md).
 
     make_cases.py SEED COUNT [--letters LNWS]     COUNT random cases, the same for the same seed
     make_cases.py --edges [--letters LNWS]        the fixed edge cases of edges.py

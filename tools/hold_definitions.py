@@ -81,7 +81,7 @@ answer (compare a b) = afterSame (sameAnswer LENT LENT (judge a) (judge b))
 
 
 class Fields:
-    """The fields of one case of the stream, taken from its octets in order (DESIGN, section 7)."""
+    """The fields of one case of the stream, taken from its octets in order (docs/STREAM.md)."""
 
     def __init__(self, octets):
         self.octets, self.at = octets, 0
