@@ -309,9 +309,11 @@ def holding(rng, raw, fits=lambda part, depth: True):
 
 
 def long_length(rng, raw):
+    """A longer length form than an item needs; one above 65,535 octets, in a tree that is no object, has none."""
     part, _ = rng.choice(list(all_items(raw)))
-    part.form = rng.choice([1, 2]) if len(part.octets()) < 250 else 2
-    return True
+    size = len(part.octets())
+    part.form = rng.choice([1, 2]) if size < 250 else 2
+    return size <= 0xFFFF
 
 
 def unknown_attribute(rng, raw):
