@@ -1,4 +1,5 @@
-// The command for people: checks objects in files, lists their records, writes their normal form, compares two. The script ./spi builds it and runs it.
+// The command for people: checks objects in files, lists their records, writes their normal form, compares two. The script ./spi builds it and runs it, once a
+// pair of files where two folders are compared.
 //
 // What is said of an object is proved where it is found, in `judge`, `reader`, `writer` and `show`; here every function is safe and ends. A program has no exit
 // status, so the last line on standard output is a status of its own, which the script takes away and ends with.
@@ -48,6 +49,7 @@ fn help() -> u8 {
     say(b"spi list FILE           the records of an object\n");
     say(b"spi normal FILE OUT     writes an object's normal form to the file OUT\n");
     say(b"spi compare FILE FILE   whether two objects mean the same\n");
+    say(b"spi compare DIR DIR     the same of the objects in two folders, by file name\n");
     say(b"spi help                these lines\n");
     say(b"status: 0 ok or same, 1 refused or different, 2 no such command or file\n");
     GOOD
@@ -146,7 +148,7 @@ fn obey(command: &[u8], count: usize) -> u8 {
         return treat_first(Task::Normal, count == 4, b"normal FILE OUT");
     }
     if is_word(command, b"compare") {
-        return treat_first(Task::Compare, count == 4, b"compare FILE FILE");
+        return treat_first(Task::Compare, count == 4, b"compare FILE FILE, or DIR DIR");
     }
     if is_word(command, b"help") {
         return help();
