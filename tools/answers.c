@@ -1,0 +1,374 @@
+/*
+ * answers < STREAM: answers a stream of test cases (docs/STREAM.md) through the library for C, so that its answers can
+ * be compared with those of the second program.  tools/answers builds it and runs it.
+ *
+ * A new letter is a row of the table `letters`: the fields of its cases, the call, and what is printed of the answer.
+ * After the call all that was lent, and what lies around it, has to be as before, but for what was handed out.
+ */
+#include "spi.h"
+
+#include <stdio.h>
+#include <string.h>
+
+enum {
+    MOST = 65536, /* octets of an object, a store or a room in a case; places are fewer */
+    AROUND = 64,  /* octets on each side of what is lent */
+    FIELDS = 8    /* a letter has fewer */
+};
+
+/* ---- Lent memory -------------------------------------------------------------------------------- */
+
+enum { TAGS, KINDS, DEPTHS, PARENTS, STARTS, SIZES, STORE, ROOM, FIRST, SECOND, PIECES };
+
+union memory {
+    uint8_t octets[AROUND + 2 * MOST + AROUND];
+    uint16_t numbers[(AROUND + 2 * MOST + AROUND) / 2];
+};
+
+/* A list, a store, a room or an object; `handed` of its elements, the first ones, are the call's to change. */
+struct piece {
+    size_t count, handed;
+    union memory now, before;
+};
+
+static struct piece lent[PIECES];
+static bool overrun; /* an answer said that more was handed out than was lent */
+static uint8_t pattern[sizeof(union memory)];
+
+#define OCTETS(piece) lent[piece].now.octets + AROUND, lent[piece].count
+#define NUMBERS(piece) lent[piece].now.numbers + AROUND / 2, lent[piece].count
+#define LISTS OCTETS(TAGS), OCTETS(KINDS), OCTETS(DEPTHS), NUMBERS(PARENTS), NUMBERS(STARTS), NUMBERS(SIZES)
+
+static uint8_t *octets_of(int piece)
+{
+    return lent[piece].now.octets + AROUND;
+}
+
+static uint16_t *numbers_of(int piece)
+{
+    return lent[piece].now.numbers + AROUND / 2;
+}
+
+static size_t width_of(int piece)
+{
+    return piece == PARENTS || piece == STARTS || piece == SIZES ? 2 : 1;
+}
+
+static size_t end_of(int piece)
+{
+    return AROUND + lent[piece].count * width_of(piece);
+}
+
+/* No octet of the pattern is its neighbour, so that memory that is moved or filled shows. */
+static void make_pattern(void)
+{
+    for (size_t i = 0; i < sizeof pattern; i++)
+        pattern[i] = (uint8_t)(255 - i % 251);
+}
+
+static void lend(int piece, size_t count)
+{
+    lent[piece].count = count;
+    lent[piece].handed = 0;
+    memcpy(lent[piece].now.octets, pattern, end_of(piece) + AROUND);
+}
+
+static void lend_lists(size_t places)
+{
+    for (int piece = TAGS; piece <= SIZES; piece++)
+        lend(piece, places);
+}
+
+static void lend_nothing(void)
+{
+    overrun = false;
+    for (int piece = 0; piece < PIECES; piece++)
+        lend(piece, 0);
+}
+
+static void keep_before(void)
+{
+    for (int piece = 0; piece < PIECES; piece++)
+        memcpy(lent[piece].before.octets, lent[piece].now.octets, end_of(piece) + AROUND);
+}
+
+/* The first `count` elements of a piece are the answer's, and no more than were lent. */
+static void hand_out(int piece, size_t count)
+{
+    overrun = overrun || count > lent[piece].count;
+    lent[piece].handed = count < lent[piece].count ? count : lent[piece].count;
+}
+
+static void hand_out_lists(size_t records)
+{
+    for (int piece = TAGS; piece <= SIZES; piece++)
+        hand_out(piece, records);
+}
+
+/* Whether all that the call had to leave is as it was: what was not handed out, and what lies around it. */
+static bool is_kept(void)
+{
+    for (int piece = 0; piece < PIECES; piece++) {
+        const uint8_t *now = lent[piece].now.octets, *before = lent[piece].before.octets;
+        size_t rest = AROUND + lent[piece].handed * width_of(piece);
+        if (memcmp(now, before, AROUND) != 0 || memcmp(now + rest, before + rest, end_of(piece) + AROUND - rest) != 0)
+            return false;
+    }
+    return !overrun;
+}
+
+/* ---- The fields of a case: each is taken from the stream and lent; false where the stream is bad -- */
+
+static size_t taken;         /* octets of the stream so far */
+static size_t records_given; /* by a W case, whose lists may have more places */
+
+static bool take_octets(uint8_t *into, size_t count)
+{
+    taken += count;
+    return fread(into, 1, count, stdin) == count;
+}
+
+static bool take_number(size_t octets, size_t *number)
+{
+    uint8_t digits[3];
+
+    if (!take_octets(digits, octets))
+        return false;
+    *number = 0;
+    for (size_t i = 0; i < octets; i++)
+        *number = *number << 8 | digits[i];
+    return *number <= MOST;
+}
+
+static bool take_count(void)
+{
+    return take_number(2, &records_given);
+}
+
+static bool take_places(void)
+{
+    size_t number;
+
+    if (!take_number(2, &number))
+        return false;
+    lend_lists(number);
+    return true;
+}
+
+static bool take_size(int piece)
+{
+    size_t size;
+
+    if (!take_number(3, &size))
+        return false;
+    lend(piece, size);
+    return true;
+}
+
+static bool take_store(void)
+{
+    return take_size(STORE);
+}
+
+static bool take_room(void)
+{
+    return take_size(ROOM);
+}
+
+static bool take_object(void)
+{
+    return take_size(FIRST) && take_octets(octets_of(FIRST), lent[FIRST].count);
+}
+
+static bool take_second_object(void)
+{
+    return take_size(SECOND) && take_octets(octets_of(SECOND), lent[SECOND].count);
+}
+
+/* Places, and a record for each. */
+static bool take_records(void)
+{
+    uint8_t fields[9];
+
+    if (!take_places())
+        return false;
+    for (size_t i = 0; i < lent[TAGS].count; i++) {
+        if (!take_octets(fields, sizeof fields))
+            return false;
+        for (int piece = TAGS; piece <= DEPTHS; piece++)
+            octets_of(piece)[i] = fields[piece];
+        for (int piece = PARENTS; piece <= SIZES; piece++) {
+            const uint8_t *number = fields + 3 + 2 * (piece - PARENTS);
+            numbers_of(piece)[i] = (uint16_t)(number[0] << 8 | number[1]);
+        }
+    }
+    return true;
+}
+
+/* ---- The calls ---------------------------------------------------------------------------------- */
+
+/* Lists of the program's own, for what a case does not lend. */
+static struct {
+    uint8_t tags[SPI_MOST_RECORDS], kinds[SPI_MOST_RECORDS], depths[SPI_MOST_RECORDS];
+    uint16_t parents[SPI_MOST_RECORDS], starts[SPI_MOST_RECORDS], sizes[SPI_MOST_RECORDS];
+} own;
+
+#define OWN_LISTS                                                                                                      \
+    own.tags, SPI_MOST_RECORDS, own.kinds, SPI_MOST_RECORDS, own.depths, SPI_MOST_RECORDS, own.parents,                \
+        SPI_MOST_RECORDS, own.starts, SPI_MOST_RECORDS, own.sizes, SPI_MOST_RECORDS
+
+static uint64_t call_read(void)
+{
+    return spi_read(OCTETS(FIRST), LISTS);
+}
+
+static uint64_t call_normalise(void)
+{
+    return spi_normalise(OCTETS(FIRST), LISTS, OCTETS(STORE), OCTETS(ROOM));
+}
+
+static uint64_t call_write(void)
+{
+    return spi_write(records_given, LISTS, OCTETS(FIRST), OCTETS(ROOM));
+}
+
+static uint64_t call_same(void)
+{
+    static uint8_t own_store[MOST], first_room[SPI_MOST_OCTETS], second_room[SPI_MOST_OCTETS];
+
+    return spi_same(OCTETS(FIRST), OCTETS(SECOND), OWN_LISTS, own_store, sizeof own_store, first_room,
+                    sizeof first_room, second_room, sizeof second_room);
+}
+
+/* ---- What is printed where nothing is refused; each says what was handed out --------------------- */
+
+/* A line of the listing.  Where the body lies is asked of the library once more, and CDATA has to be text. */
+static void print_record(size_t i)
+{
+    static const char *const words[] = {"element", "attribute", "cdata"};
+    uint64_t span = spi_span(OCTETS(FIRST), NUMBERS(STARTS), NUMBERS(SIZES), i);
+    const uint8_t *body = octets_of(FIRST) + spi_span_start(span);
+    uint8_t kind = octets_of(KINDS)[i];
+
+    printf("%u %02X %s %zu %zu\n", (unsigned)octets_of(DEPTHS)[i], (unsigned)octets_of(TAGS)[i],
+           kind <= SPI_CDATA ? words[kind] : "no kind", spi_span_start(span), spi_span_size(span));
+    if (kind == SPI_CDATA && !spi_check_text(body, spi_span_size(span), true))
+        printf("no text\n");
+}
+
+static void print_listing(size_t records)
+{
+    hand_out_lists(records);
+    printf("depth tag kind offset length\n");
+    for (size_t i = 0; i < lent[TAGS].handed; i++)
+        print_record(i);
+    printf("records %zu\n", records);
+}
+
+static void print_room(const char *word, size_t octets)
+{
+    static const char digits[] = "0123456789abcdef";
+    static char text[2 * MOST];
+
+    hand_out(ROOM, octets);
+    for (size_t i = 0; i < lent[ROOM].handed; i++) {
+        text[2 * i] = digits[octets_of(ROOM)[i] >> 4];
+        text[2 * i + 1] = digits[octets_of(ROOM)[i] & 0xF];
+    }
+    printf("%s ", word);
+    fwrite(text, 1, 2 * lent[ROOM].handed, stdout);
+    printf("\n");
+}
+
+/* The answer tells the octets alone.  The lists have as many records as `spi_read` counts, and the store ends with the
+ * last of their bodies. */
+static void print_normal(size_t octets)
+{
+    size_t stored = 0;
+
+    hand_out_lists(spi_value(spi_read(OCTETS(FIRST), OWN_LISTS)));
+    for (size_t i = 0; i < lent[TAGS].handed; i++) {
+        size_t end = (size_t)numbers_of(STARTS)[i] + numbers_of(SIZES)[i];
+        stored = end > stored ? end : stored;
+    }
+    hand_out(STORE, stored);
+    print_room("normal", octets);
+}
+
+static void print_written(size_t octets)
+{
+    print_room("written", octets);
+}
+
+static void print_same(size_t same)
+{
+    printf(same == 1 ? "same\n" : "different\n");
+}
+
+static void print_refusal(uint64_t answer)
+{
+    static const char *const which[] = {"", " in first", " in second"};
+    int object = spi_refused_object(answer);
+
+    printf("refused %d at %zu%s\n", (int)spi_refused(answer), spi_value(answer),
+           object <= 2 ? which[object] : " in neither");
+}
+
+/* ---- The letters -------------------------------------------------------------------------------- */
+
+struct letter {
+    char letter;
+    bool (*fields[FIELDS])(void); /* in the order of the stream */
+    uint64_t (*call)(void);
+    void (*print)(size_t value);
+};
+
+static const struct letter letters[] = {
+    {'L', {take_places, take_object}, call_read, print_listing},
+    {'N', {take_places, take_store, take_room, take_object}, call_normalise, print_normal},
+    {'W', {take_count, take_records, take_room, take_object}, call_write, print_written},
+    {'S', {take_object, take_second_object}, call_same, print_same},
+};
+
+static const struct letter *find_letter(int letter)
+{
+    for (size_t i = 0; i < sizeof letters / sizeof letters[0]; i++)
+        if (letters[i].letter == letter)
+            return &letters[i];
+    return NULL;
+}
+
+/* The case behind a letter; false where the stream is bad. */
+static bool answer_case(const struct letter *letter)
+{
+    if (letter == NULL)
+        return false;
+    lend_nothing();
+    for (size_t i = 0; letter->fields[i] != NULL; i++)
+        if (!letter->fields[i]())
+            return false;
+    keep_before();
+    uint64_t answer = letter->call();
+    if (spi_refused(answer) == SPI_OK)
+        letter->print(spi_value(answer));
+    else
+        print_refusal(answer);
+    if (!is_kept())
+        printf("touched\n");
+    return true;
+}
+
+int main(void)
+{
+    int letter;
+
+    make_pattern();
+    for (size_t begun = 0; (letter = getchar()) != EOF; begun = taken) {
+        taken++;
+        if (!answer_case(find_letter(letter))) {
+            printf("bad stream at %zu\n", begun);
+            break;
+        }
+    }
+    return fflush(stdout) != 0 || ferror(stdin);
+}
