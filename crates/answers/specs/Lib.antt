@@ -1,4 +1,0 @@
-pub mod Cases
-pub mod Marks
-pub mod Lines
-pub mod Stream
