@@ -173,6 +173,13 @@ def objects(seed, count):
     return drawn.sample(small, count // 2) + fresh[:count - count // 2], drawn
 
 
+def known_crates():
+    """The crates that the caller stands on, each with those below it, as crates.txt has them."""
+    with open(os.path.join(HERE, "crates.txt"), encoding="utf-8") as lines:
+        crates = dict(line.rstrip().split(":") for line in lines if not line.startswith("#"))
+    return {name: below for name, below in crates.items() if name in crates["entry"].split() + ["entry", "show"]}
+
+
 def main():
     program, seed, count = sys.argv[1], sys.argv[2], int(sys.argv[3])
     chosen, drawn = objects(seed, count)
@@ -181,13 +188,12 @@ def main():
     with tempfile.TemporaryDirectory() as made:
         crate = os.path.join(made, "crates", "try_entry")
         os.makedirs(os.path.join(crate, "src"))
-        with open(os.path.join(HERE, "crates.txt"), encoding="utf-8") as lines:
-            known = [line for line in lines if line.startswith(("octets:", "text:", "values:", "format:", "judge:", "reader:", "entry:", "show:"))]
-        for line in known:
-            name = line.split(":")[0]
+        crates = known_crates()
+        for name in crates:
             os.symlink(os.path.join(HERE, "crates", name), os.path.join(made, "crates", name))
         with open(os.path.join(made, "crates.txt"), "w", encoding="utf-8") as lines:
-            lines.writelines(known + ["try_entry: octets text values format judge reader entry show io libc\n"])
+            lines.writelines(f"{name}:{below}\n" for name, below in crates.items())
+            lines.write(f"try_entry: {' '.join(crates)} io libc\n")
         for name, text in (("src/main.rt", CALLER.encode()), ("stdin", stream), ("stdout", listed)):
             with open(os.path.join(crate, name), "wb") as file:
                 file.write(text)
