@@ -15,7 +15,7 @@ use Rattle.show.specs.Digits.{decimal, hexDigit, twoDigits, hexLower, he
 use Rattle.octets.proofs.Lists.{sets-append, set-sets, drop-next}
 use Rattle.format.specs.declared.Record.{Record}
 use Rattle.format.specs.declared.Refusal.{Refusal}
-use Rattle.show.specs.Lines.{ascii, line, kindName, recordLine, recordsLine, refusalLine, badStreamLine, reasons, refusalWords}
+use Rattle.show.specs.Lines.{ascii, line, kindName, recordLine, recordsLine, refusalLine, reasons, refusalWords}
 use Rattle.show.specs.Calls.{putAnswer, putLeaves, Puts, Wrote, Few}
 use Rattle.show.specs.declared.Put.{Put}
 use Rattle.show.proofs.Digits.{decimal-one, decimal-more, length-more, decimal-some, decimal-few}
@@ -409,14 +409,6 @@ module _ (n : ℕ) where
   pub records-length : (d : ℕ) → Few n d → 9 + d ≡ length (recordsLine n)
   unfolding recordsLine ascii
   records-length d f = omega (arith, f .exact, length-line (ascii "records") (decimal n) [], length-end (decimal n))
-
-  pub bad-room : (at : ℕ) (out : List ℕ) → at + length (badStreamLine n) ≤ length out → Room (ascii "bad stream at" ∷ decimal n ∷ []) at out
-  unfolding badStreamLine
-  bad-room at out h = record { fits = h }
-
-  pub bad-length : (d : ℕ) → Few n d → 15 + d ≡ length (badStreamLine n)
-  unfolding badStreamLine ascii
-  bad-length d f = omega (arith, f .exact, length-line (ascii "bad stream at") (decimal n) [], length-end (decimal n))
 
 module _ (r : Refusal) where
   pub refusal-room : (at : ℕ) (out : List ℕ) → at + length (refusalLine r) ≤ length out → Room (ascii "refused" ∷ decimal (r .number) ∷ ascii "at" ∷ decimal (r .place) ∷ []) at out

@@ -41,10 +41,6 @@ refusalLine r = line (ascii "refused" ∷ decimal (r .number) ∷ ascii "at" ∷
 unfoldable pub touchedLine : List ℕ
 touchedLine = line (ascii "touched" ∷ [])
 
--- a stream of cases that ends or goes wrong within the case at an offset
-unfoldable pub badStreamLine : ℕ → List ℕ
-badStreamLine n = line (ascii "bad stream at" ∷ decimal n ∷ [])
-
 -- why an object, a request or a list of records is refused, by the refusal's number (document 01, Refusal numbers)
 unfoldable pub reasons : List String
 reasons =

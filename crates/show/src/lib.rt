@@ -10,7 +10,7 @@ ghost use Prim.Native.Nat.{_+_, _≤_, _<_};
 ghost use lib.Dec.{leb};
 ghost use lib.ListN.{length};
 ghost use Rattle.show.specs.Digits.{decimal, hexDigit, twoDigits, hexLower, hexUpper};
-ghost use Rattle.show.specs.Lines.{kindName, headerLine, recordLine, recordsLine, refusalLine, touchedLine, badStreamLine, refusalWords};
+ghost use Rattle.show.specs.Lines.{kindName, headerLine, recordLine, recordsLine, refusalLine, touchedLine, refusalWords};
 ghost use Rattle.show.specs.Calls.{Puts, Wrote, Few};
 
 // Text put into a lent slice. Done: the place behind its last character.
@@ -271,23 +271,6 @@ pub fn put_records(out: &mut [u8], at: usize, n: usize) -> Put
         return Put::NoRoom;
     }
     Put::Done(store_records(out, at, n))
-}
-
-fn store_bad_stream(out: &mut [u8], at: usize, n: usize) -> usize
-    requires { ⌜ at + length (badStreamLine n) ≤ length (now out) ⌝ }
-    ensures { λ end. ⌜ Wrote (badStreamLine n) at (now (out .entry)) (now (out .exit)) end ⌝ }
-{
-    let to = octets_word(out, at, b"bad stream at", SPACE);
-    number_word(out, to, n, NEWLINE)
-}
-
-pub fn put_bad_stream(out: &mut [u8], at: usize, n: usize) -> Put
-    ensures { λ put. ⌜ Puts (badStreamLine n) at (now (out .entry)) (now (out .exit)) put ⌝ }
-{
-    if !has_room(out.len(), at, 15 + decimal_size(n)) {
-        return Put::NoRoom;
-    }
-    Put::Done(store_bad_stream(out, at, n))
 }
 
 fn store_refusal(out: &mut [u8], at: usize, r: Refusal) -> usize
