@@ -36,7 +36,8 @@ use Rattle.format.specs.Tree.{Items, count, recordsOf}
 use Rattle.format.specs.Judge.{Judged, rule, unless, judge}
 use Rattle.format.specs.Judge.Judged.{refused, accepted}
 use Rattle.format.specs.Meaning.{means, encode, normalOf}
-use Rattle.format.specs.Calls.{Lists, places, lay, judgeAnswer, readAnswer, readRecords, roomy, treeGiven, writeAnswer, writeOctets, Lent, lentBy, fitsLent, misfit, normalAnswer, handed, refusalOr, secondRefusalOr, sameOctets, sameAnswer, bothFit, ofFirst, ofSecond}
+use Rattle.format.specs.Calls.{Lists, places, lay, judgeAnswer, readAnswer, readRecords, roomy, treeGiven, writeAnswer, writeOctets, Lent, lentBy, fitsLent, misfit, normalAnswer, handed, refusalOr, secondRefusalOr, sameAnswer, bothFit, ofFirst, ofSecond}
+use Rattle.format.specs.Same.{sameOctets}
 use Rattle.format.proofs.Lays.{lay-none}
 use Rattle.demands.specs.One.{OfObject, OfCall, Refuses, Ends, SameEnds, JudgeEnds, ReadEnds, ReadAtMostEnds, ReadRecordsEnds, WriteEnds, NormaliseEnds, SameCallEnds, OneExactly, ReadOrder, ReadInOrder, ReadAtMostInOrder, ReadRecordsInOrder, GivenTree, WriteOrder, WriteInOrder, Suffices, Lacks, NormaliseOrder, NormaliseInOrder, SameOrder, SameInOrder, PutEnds, OctetsPutEnds, ExpandEnds, ValuePutEnds, ShowPutEnds}
 use Rattle.demands.specs.One.OfCall.{ofCall}

@@ -18,7 +18,8 @@ use Rattle.format.specs.Judge.{Judged, judge}
 use Rattle.format.specs.Judge.Judged.{refused, accepted}
 use Rattle.format.specs.Meaning.{meaningOf, meaning, encode, normalOf}
 use Rattle.format.specs.Loaded.{storeOf}
-use Rattle.format.specs.Calls.{Lists, Lent, lentBy, handed, sameOctets, sameAnswer, NormaliseClaim}
+use Rattle.format.specs.Calls.{Lists, Lent, lentBy, handed, sameAnswer, NormaliseClaim}
+use Rattle.format.specs.Same.{sameOctets}
 use Rattle.format.proofs.Normal.{normal-means, same-normal}
 use Rattle.format.proofs.NormalOctets.{normal-octets}
 use Rattle.format.proofs.Takes.{ofMeaning, inRecords, inStore, records-means, store-means}

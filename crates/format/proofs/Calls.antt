@@ -21,11 +21,13 @@ use Rattle.format.specs.Judge.Judged.{accepted}
 use Rattle.format.specs.Meaning.{means, meaningOf, meaning, encode, normalOf}
 use Rattle.format.specs.Writer.{tabled, rebuilt}
 use Rattle.format.specs.Loaded.{storeOf, loadedOf}
-use Rattle.format.specs.Calls.{Lists, put, lay, roomy, Lent, storedWithin, fitsLent, normalAnswer, sameOctets, refusalOr, secondRefusalOr, sameAnswer}
+use Rattle.format.specs.Calls.{Lists, put, lay, roomy, Lent, storedWithin, fitsLent, normalAnswer, refusalOr, secondRefusalOr, sameAnswer}
+use Rattle.format.specs.Same.{sameOctets}
 use Rattle.octets.proofs.Tests.{and-left, and-right, and-true}
 use Rattle.values.proofs.Known.{items-tag}
 use Rattle.format.proofs.Round.{meaning-encode, encode-injective}
 use Rattle.format.proofs.Normal.{accepted-ok}
+use Rattle.format.proofs.Same.{same-octets, octets-same}
 use Rattle.format.proofs.Force.{top-known}
 use Rattle.format.proofs.Told.{top}
 use Rattle.format.proofs.Loading.{loaded-ruled, loaded-located}
@@ -66,18 +68,6 @@ pub loaded-rebuilt : (o : List ℕ) (t : Items) → Octets o → judge o ≡ acc
 loaded-rebuilt o t os h row rest e =
     whole-rebuilt row (count t) (storeOf t ++ rest) (loadedOf t)
     (record { some = some-record o t os h; records = sym e; located = loaded-located o t os h rest; rules = loaded-ruled o t os h })
-
-same-octets : (a b : List ℕ) → sameOctets a b ≡ true → a ≡ b
-unfolding sameOctets
-same-octets [] [] h = refl
-same-octets [] (b ∷ bs) h = absurd (false≢true h)
-same-octets (a ∷ more) [] h = absurd (false≢true h)
-same-octets (a ∷ more) (b ∷ bs) h = ap₂ _∷_ (eqb-true a b (and-left (eqb a b) (sameOctets more bs) h)) (same-octets more bs (and-right (eqb a b) (sameOctets more bs) h))
-
-octets-same : (a : List ℕ) → sameOctets a a ≡ true
-unfolding sameOctets
-octets-same [] = refl
-octets-same (a ∷ more) = and-true (eqb a a) (sameOctets more more) (eq-eqb a a refl) (octets-same more)
 
 -- an answer that fits is no refusal
 fits-handed : (lent : Lent) (t : Items) → fitsLent lent t ≡ true → normalAnswer lent (accepted t) ≡ Handed (length (normalOf t))

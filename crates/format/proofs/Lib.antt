@@ -13,6 +13,7 @@ pub mod Fine
 pub mod Order
 pub mod Sums
 pub mod Normal
+pub mod Same
 pub mod Refusals
 pub mod Bench
 pub mod Examples

@@ -80,7 +80,7 @@ rising-octets (suc n) a f h l = go (f a) refl l (λ q. rising-octets n (suc a) f
         let longer = framed-longer a (octetsOf v) rest in
         octets-append (framed a (octetsOf v)) rest (framed-octets a (octetsOf v) (w .0) (omega arith) (w .1)) (ih (omega arith))
 
-child-no-attribute : (tag : ℕ) → isChild tag ≡ true → attribute tag ≡ false
+pub child-no-attribute : (tag : ℕ) → isChild tag ≡ true → attribute tag ≡ false
 unfolding isChild
 child-no-attribute tag h = go (attribute tag) (eqb tag 1) (eqb tag 4) h
   where

@@ -287,7 +287,7 @@ record Comes (c : Context) (part : List ℕ) (t : Items) : Type 0 where
   tells : Tells c t
   whole : c ≡ outermost → (part ≡ [] → ⊥) → Top t
 
-some-octet : (tag : ℕ) (rest : List ℕ) → tag ∷ rest ≡ [] → ⊥
+pub some-octet : (tag : ℕ) (rest : List ℕ) → tag ∷ rest ≡ [] → ⊥
 some-octet tag rest e = let z : suc (length rest) ≡ 0 = ap length e in omega arith
 
 -- the first item of the outermost part holds items

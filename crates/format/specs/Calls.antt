@@ -23,6 +23,7 @@ use Rattle.format.specs.Judge.Judged.{refused, accepted}
 use Rattle.format.specs.Meaning.{means, encode, normalOf}
 use Rattle.format.specs.Writer.{rebuilt}
 use Rattle.format.specs.Loaded.{storeOf, loadedOf}
+use Rattle.format.specs.Same.{sameOctets}
 
 -- the record list as the core keeps it: a list of numbers for each field
 pub record Lists : Type 0 where
@@ -153,12 +154,6 @@ pub record NormaliseClaim (object : List ℕ) (lists lists′ : Lists) (store st
 
 -- same: 1 to 13 of the first object, then of the second, then 14 and 15 of the first, then of the second, then whether the normal forms are the same octets,
 -- which is whether the meanings are the same (proofs/Calls, same-exactly)
-unfoldable pub sameOctets : List ℕ → List ℕ → Bool
-sameOctets [] [] = true
-sameOctets [] (b ∷ bs) = false
-sameOctets (a ∷ more) [] = false
-sameOctets (a ∷ more) (b ∷ bs) = eqb a b && sameOctets more bs
-
 unfoldable pub refusalOr : WriteAnswer → SameAnswer → SameAnswer
 refusalOr (Octets n) a = a
 refusalOr (NotWritten r) a = FirstRefused r

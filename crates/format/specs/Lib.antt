@@ -5,6 +5,7 @@ pub mod Meaning
 pub mod WellFormed
 pub mod Writer
 pub mod Loaded
+pub mod Same
 pub mod Calls
 pub mod Lent
 pub mod Bench

@@ -23,17 +23,17 @@ use Rattle.reader.specs.declared.filling.Place.{Place}
 use Rattle.reader.specs.Filling.{Accepts, Fillable, Filled, Fills}
 
 -- what the judge's answer says of the judgement
-was-refused : (j : Judged) (r : Refusal) → NotRead r ≡ judgeAnswer j → j ≡ refused r
+pub was-refused : (j : Judged) (r : Refusal) → NotRead r ≡ judgeAnswer j → j ≡ refused r
 unfolding judgeAnswer
 was-refused (refused q) r h = cc
 was-refused (accepted t) r h = let z : _≡_ {A = ℕ} 0 1 = cc in absurd (omega arith)
 
-record Taken (j : Judged) (c : Counts) : Type 0 where
+pub record Taken (j : Judged) (c : Counts) : Type 0 where
   pub tree : Items
   pub is : j ≡ accepted tree
   pub many : c .records ≡ count tree
 
-was-accepted : (j : Judged) (c : Counts) → Records c ≡ judgeAnswer j → Taken j c
+pub was-accepted : (j : Judged) (c : Counts) → Records c ≡ judgeAnswer j → Taken j c
 unfolding judgeAnswer
 was-accepted (refused q) c h = let z : _≡_ {A = ℕ} 0 1 = cc in absurd (omega arith)
 was-accepted (accepted t) c h = let e : c ≡ record { records = count t } = cc in record { tree = t; is = refl; many = ap (λ x. x .records) e }

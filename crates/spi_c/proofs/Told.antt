@@ -23,7 +23,8 @@ use Rattle.format.specs.Judge.{Judged, rule, unless, outermost, read, judge}
 use Rattle.format.specs.Judge.Judged.{refused, accepted}
 use Rattle.format.specs.Meaning.{means, encode, normalOf}
 use Rattle.format.specs.Loaded.{storeOf}
-use Rattle.format.specs.Calls.{readAnswer, roomy, writeAnswer, Lent, storedWithin, fitsLent, misfit, normalAnswer, sameOctets, refusalOr, secondRefusalOr, sameAnswer}
+use Rattle.format.specs.Calls.{readAnswer, roomy, writeAnswer, Lent, storedWithin, fitsLent, misfit, normalAnswer, refusalOr, secondRefusalOr, sameAnswer}
+use Rattle.format.specs.Same.{sameOctets}
 use Rattle.format.proofs.Induction.{few}
 use Rattle.format.proofs.Refusals.{refusal-inside}
 use Rattle.spi_c.specs.Packed.{packed, packedOutcome, outcomeIn, packedSame, sameIn, Small, SmallSame}

@@ -9,6 +9,7 @@ use lib.Dec.{leb}
 use lib.ListN.{length, length-append}
 use borrow.Author.Tests.{leb-true}
 use Rattle.octets.specs.Header.{framed}
+use Rattle.text.specs.Tokens.{Entries}
 use Rattle.values.specs.declared.Kind.{Kind}
 use Rattle.values.specs.Table.{rows, known, attribute}
 use Rattle.values.specs.Values.{Value, octetsOf}
@@ -64,22 +65,23 @@ pub known-few : (p tag : ℕ) (k : Kind) → known p tag ≡ some k → tag ≤ 
 unfolding known rows
 known-few p tag k h = leb-true tag 0x86 (row-holds (λ e t l. leb t 0x86) (cond (attribute tag) p 0) tag k rows refl h)
 
-past-known : (p : ℕ) (t : Items) (a : ℕ) → 0x87 ≤ a → attributesIn [] p t a ≡ none
+-- so no element has an attribute above it, whatever the token table
+pub past-known : (table : Entries) (p : ℕ) (t : Items) (a : ℕ) → 0x87 ≤ a → attributesIn table p t a ≡ none
 unfolding attributesIn valueIn
-past-known p t a h = go (attribute a) (known p a) refl (find a t)
+past-known table p t a h = go (attribute a) (known p a) refl (find a t)
   where
-    go : (b : Bool) (k : Option Kind) → known p a ≡ k → (o : Option (List ℕ)) → cond b (valueIn [] o k) none ≡ none
+    go : (b : Bool) (k : Option Kind) → known p a ≡ k → (o : Option (List ℕ)) → cond b (valueIn table o k) none ≡ none
     go false k e o = refl
     go true none e none = refl
     go true none e (some v) = refl
     go true (some k) e o = absurd (omega (arith, known-few p a k e))
 
--- so seven tags are all that an element's attributes have
+-- and seven tags are all that an element's attributes have
 pub rising-seven : (p : ℕ) (t : Items) → attributeOctets p t ≡ rising 7 0x80 (attributesIn [] p t)
 unfolding attributeOctets
 rising-seven p t =
     rising-append 7 121 0x80 (attributesIn [] p t)
-    ∙ (ap (λ x. rising 7 0x80 (attributesIn [] p t) ++ x) (rising-none 121 0x87 (attributesIn [] p t) (λ a h l. past-known p t a h)) ∙ append-nil (rising 7 0x80 (attributesIn [] p t)))
+    ∙ (ap (λ x. rising 7 0x80 (attributesIn [] p t) ++ x) (rising-none 121 0x87 (attributesIn [] p t) (λ a h l. past-known [] p t a h)) ∙ append-nil (rising 7 0x80 (attributesIn [] p t)))
 
 -- up to an attribute, where there is none before it
 pub rising-skip : (start tag : ℕ) (f : ℕ → Option Value) → start ≤ tag → tag ≤ 0x87 → ((t : ℕ) → start ≤ t → t < tag → f t ≡ none) → rising (0x87 - start) start f ≡ rising (0x87 - tag) tag f

@@ -30,11 +30,11 @@ use Rattle.survey.proofs.Places.{Lying, lying, not-whole, to-inside, bo
 -- ---- the table among the items of octets, from one item to the next
 
 -- octets that hold a whole item are more than those after it
-fewer-after : (s : List ℕ) → isWhole s ≡ true → length (afterFirst s) < length s
+pub fewer-after : (s : List ℕ) → isWhole s ≡ true → length (afterFirst s) < length s
 fewer-after s h =
     omega (arith, leb-true (headerSize s + bodySize s) (length s) h, header-two s, length-drop (bodySize s) (drop (headerSize s) s), length-drop (headerSize s) s)
 
-none-whole : (s : List ℕ) → length s ≤ 0 → isWhole s ≡ false
+pub none-whole : (s : List ℕ) → length s ≤ 0 → isWhole s ≡ false
 none-whole s h = lt-leb (headerSize s + bodySize s) (length s) (omega (arith, header-two s))
 
 -- as many steps as there are octets suffice

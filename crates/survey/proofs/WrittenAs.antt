@@ -53,6 +53,10 @@ module _ (p tag : ℕ) (r : KnownKind) (e : r ≡ asKnown (writtenAs p tag)) whe
           absurd (omega arith)
       go false f = (f, known-kind p tag r (looked-up f) k q)
 
+  pub written-some : (k : Kind) → r ≡ Known k → writtenAs p tag ≡ some k
+  unfolding writtenAs
+  written-some k q = let t = written-kind k q in rw (t .0, t .1)
+
   pub written-octets : (k : Kind) → r ≡ Known k → (body : List ℕ) → itemOctets p tag body ≡ framed tag (valueOctets k body)
   written-octets k q body = let t = written-kind k q in item-known p tag body k (t .0) (t .1)
 
@@ -64,13 +68,17 @@ module _ (p tag : ℕ) (r : KnownKind) (e : r ≡ asKnown (writtenAs p tag)) whe
       go true f = inr (table-known p tag f)
       go false f = inl (unknown-kind p tag r (looked-up f) q)
 
-  pub unwritten-octets : r ≡ Unknown → (body : List ℕ) → itemOctets p tag body ≡ []
-  unfolding itemOctets writtenAs maybe
-  unwritten-octets q body = go (eqb tag 4) refl
+  pub written-none : r ≡ Unknown → writtenAs p tag ≡ none
+  unfolding writtenAs
+  written-none q = go (eqb tag 4) refl
     where
-      go : (b : Bool) → eqb tag 4 ≡ b → itemOctets p tag body ≡ []
+      go : (b : Bool) → eqb tag 4 ≡ b → writtenAs p tag ≡ none
       go true f = rw f
       go false f = rw (f, unknown-kind p tag r (looked-up f) q)
+
+  pub unwritten-octets : r ≡ Unknown → (body : List ℕ) → itemOctets p tag body ≡ []
+  unfolding itemOctets maybe
+  unwritten-octets q body = rw (written-none q)
 
   pub unwritten-opens : r ≡ Unknown → opens tag ≡ false
   unfolding isItems

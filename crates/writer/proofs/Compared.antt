@@ -20,7 +20,8 @@ use Rattle.format.specs.Judge.{Judged, judge}
 use Rattle.format.specs.Judge.Judged.{refused, accepted}
 use Rattle.format.specs.Meaning.{normalOf}
 use Rattle.format.specs.Loaded.{storeOf}
-use Rattle.format.specs.Calls.{Lists, places, lay, Lent, lentBy, storedWithin, fitsLent, misfit, normalAnswer, handed, loadedRecords, NormaliseClaim, sameOctets, refusalOr, secondRefusalOr, sameAnswer, bothFit, ofFirst, ofSecond, SameClaim}
+use Rattle.format.specs.Calls.{Lists, places, lay, Lent, lentBy, storedWithin, fitsLent, misfit, normalAnswer, handed, loadedRecords, NormaliseClaim, refusalOr, secondRefusalOr, sameAnswer, bothFit, ofFirst, ofSecond, SameClaim}
+use Rattle.format.specs.Same.{sameOctets}
 use Rattle.format.proofs.Lays.{places-lay}
 use Rattle.survey.specs.declared.Standing.{Standing}
 use Rattle.survey.specs.declared.Standing.the-variants.{Bad, Misfit, Fits}
