@@ -1,0 +1,11 @@
+pub mod Expansions
+pub mod Telling
+pub mod Walking
+pub mod Sets
+pub mod Comparing
+pub mod Shaping
+pub mod Frames
+pub mod Normalising
+pub mod Answering
+pub mod Examples
+pub mod Wrong

@@ -1,0 +1,114 @@
+-- Wrong answers, refuted by computing the definitions: for each public call two, of the kind that slips make.
+use mathlib.Core.Path.{_≡_, refl, sym, ap, _∙_}
+use mathlib.Core.Bool.{Bool, true, false, false≢true, true≢false}
+use mathlib.Core.List.{List, [], _∷_}
+use Prim.Native.Nat.{ℕ}
+use native.Mathlib.Omega.{arith}
+use lib.ListN.{getD}
+use Rattle.octets.specs.Numbers.{among, value, digits}
+use Rattle.octets.specs.Header.{headerSize, bodySize}
+use Rattle.text.specs.Text.{layout, token}
+use Rattle.text.specs.Tokens.{Entries, entry, orItself, stands, expanded}
+use Rattle.text.specs.Index.{usable, placeAt, placeBy, withPlace, entriesBelow, entriesBy}
+use Rattle.values.specs.declared.Kind.the-variants.{HoldsTime, HoldsBearer}
+use Rattle.values.specs.Table.{rows, kindIn, known, attribute}
+use Rattle.values.specs.Times.{bits, longFlag, offsetFlag, offsetOctet, timeOf, inRange, isTime, sign, timeOctets}
+use Rattle.values.specs.Bearers.{ensembleFlag, longSidFlag, ensembleOf, bearerOf, isBearer, ensembleBit, ensembleOctets, bearerOctets}
+use Rattle.values.specs.Values.{width, fits, meant, octetsOf}
+use Rattle.format.specs.declared.SameAnswer.the-variants.{Same, Different, FirstRefused, SecondRefused}
+use Rattle.format.specs.Answers.{refusal}
+use Rattle.format.specs.Judge.{judge}
+use Rattle.format.specs.Same.{sameOctets, sameValue, sameMaybe, sameAnswer, isNormal}
+use Rattle.survey.specs.declared.Lies.the-variants.{Outside, Between}
+use Rattle.compare.specs.Bodies.{sameBody}
+use Rattle.compare.specs.Walks.{spanWithin, spanOfTag, bodyBy, bodyOfTag}
+use Rattle.compare.specs.Items.{sameFound, sameText}
+use Rattle.compare.proofs.Examples.{rising-order, falling-minus-zero, no-cdata, empty-cdata, top, cut-short, language, computed}
+
+-- `same`: no CDATA and an empty one told as the same; another order of attributes and minus 0 told as different; the second object's refusal told of the first
+pub empty-as-none : sameAnswer (judge no-cdata) (judge empty-cdata) ≡ Same → ⊥
+empty-as-none h = let z : Same ≡ Different = sym h ∙ ap (λ l. getD l 6 Same) (computed .compared) in let z : _≡_ {A = ℕ} 0 1 = cc in omega arith
+
+pub order-counted : sameAnswer (judge rising-order) (judge falling-minus-zero) ≡ Different → ⊥
+order-counted h = let z : Different ≡ Same = sym h ∙ ap (λ l. getD l 3 Same) (computed .compared) in let z : _≡_ {A = ℕ} 0 1 = cc in omega arith
+
+pub told-of-first : sameAnswer (judge top) (judge cut-short) ≡ FirstRefused (refusal 3 0) → ⊥
+told-of-first h = let z : FirstRefused (refusal 3 0) ≡ SecondRefused (refusal 3 0) = sym h ∙ ap (λ l. getD l 12 Same) (computed .compared) in let z : _≡_ {A = ℕ} 0 1 = cc in omega arith
+
+-- `is_normal`: attributes by falling tag and minus 0 passed; a normal form refused
+pub falling-passes : isNormal falling-minus-zero ≡ true → ⊥
+falling-passes h = false≢true (sym (ap (λ l. getD l 5 true) (computed .formed)) ∙ h)
+
+pub normal-refused : isNormal language ≡ false → ⊥
+normal-refused h = true≢false (sym (ap (λ l. getD l 3 false) (computed .formed)) ∙ h)
+
+-- a token table with 'ab' under 0x01, its index, and the index of no table
+abbrev ab : List ℕ
+ab = 0x01 ∷ 0x02 ∷ 0x61 ∷ 0x62 ∷ []
+
+abbrev abIndex : List ℕ
+abIndex = 2 ∷ 2 ∷ 0 ∷ 0 ∷ 0 ∷ 0 ∷ 0 ∷ 0 ∷ 0 ∷ 0 ∷ 0 ∷ 0 ∷ 0 ∷ 0 ∷ 0 ∷ 0 ∷ 0 ∷ 0 ∷ 0 ∷ 0 ∷ 0 ∷ 0 ∷ 0 ∷ 0 ∷ 0 ∷ 0 ∷ 0 ∷ 0 ∷ 0 ∷ 0 ∷ 0 ∷ 0 ∷ []
+
+abbrev noIndex : List ℕ
+noIndex = 1 ∷ 0 ∷ 0 ∷ 0 ∷ 0 ∷ 0 ∷ 0 ∷ 0 ∷ 0 ∷ 0 ∷ 0 ∷ 0 ∷ 0 ∷ 0 ∷ 0 ∷ 0 ∷ 0 ∷ 0 ∷ 0 ∷ 0 ∷ 0 ∷ 0 ∷ 0 ∷ 0 ∷ 0 ∷ 0 ∷ 0 ∷ 0 ∷ 0 ∷ 0 ∷ 0 ∷ 0 ∷ []
+
+-- `same_texts`: a token taken for itself; a text that only begins like the other told as the same
+record Texts : Type 0 where
+  whole : sameOctets (expanded (entriesBy abIndex ab) (0x01 ∷ [])) (expanded (entriesBy noIndex []) (0x61 ∷ 0x62 ∷ [])) ≡ true
+  begun : sameOctets (expanded (entriesBy abIndex ab) (0x01 ∷ [])) (expanded (entriesBy noIndex []) (0x61 ∷ 0x62 ∷ 0x63 ∷ [])) ≡ false
+
+texts : Texts
+unfolding sameOctets expanded stands token layout among entry orItself entriesBy entriesBelow withPlace placeBy placeAt usable
+texts = record { whole = refl; begun = refl }
+
+pub token-unexpanded : sameOctets (expanded (entriesBy abIndex ab) (0x01 ∷ [])) (expanded (entriesBy noIndex []) (0x61 ∷ 0x62 ∷ [])) ≡ false → ⊥
+token-unexpanded h = true≢false (sym (texts .whole) ∙ h)
+
+pub beginning-passes : sameOctets (expanded (entriesBy abIndex ab) (0x01 ∷ [])) (expanded (entriesBy noIndex []) (0x61 ∷ 0x62 ∷ 0x63 ∷ [])) ≡ true → ⊥
+beginning-passes h = false≢true (sym (texts .begun) ∙ h)
+
+-- `same_bodies`: minus 0 and no offset told as different; a 16-bit SId told as the same as a 32-bit one of that number
+pub minus-zero-differs : (es fs : Entries) → sameBody es fs HoldsTime (0x30 ∷ 0xD4 ∷ 0x10 ∷ 0x00 ∷ 0x20 ∷ []) (0x30 ∷ 0xD4 ∷ 0x00 ∷ 0x00 ∷ []) ≡ false → ⊥
+unfolding sameBody sameValue sameOctets fits meant octetsOf isTime timeOf timeOctets inRange sign bits longFlag offsetFlag offsetOctet value digits
+minus-zero-differs es fs h = true≢false h
+
+pub widths-alike : (es fs : Entries) → sameBody es fs HoldsBearer (0x00 ∷ 0xC1 ∷ 0x23 ∷ []) (0x10 ∷ 0x00 ∷ 0x00 ∷ 0xC1 ∷ 0x23 ∷ []) ≡ true → ⊥
+unfolding sameBody sameValue sameOctets fits meant octetsOf isBearer bearerOf bearerOctets ensembleFlag longSidFlag ensembleOf ensembleBit ensembleOctets bits value digits
+widths-alike es fs h = false≢true h
+
+-- `same_octets`: octets that only begin like the others; the last octet not looked at
+pub shorter-passes : sameOctets (0x61 ∷ []) (0x61 ∷ 0x62 ∷ []) ≡ true → ⊥
+unfolding sameOctets
+shorter-passes h = false≢true h
+
+pub last-unseen : sameOctets (0x61 ∷ 0x62 ∷ []) (0x61 ∷ 0x63 ∷ []) ≡ true → ⊥
+unfolding sameOctets
+last-unseen h = false≢true h
+
+-- `find_item`: an item inside another one found; an attribute found behind an element
+pub inner-found : spanOfTag 0x29 (0x28 ∷ 0x02 ∷ 0x29 ∷ 0x00 ∷ []) ≡ Between 4 4 → ⊥
+unfolding spanOfTag spanWithin attribute headerSize bodySize
+inner-found h = let z : Outside ≡ Between 4 4 = h in let z : _≡_ {A = ℕ} 0 1 = cc in omega arith
+
+pub late-found : spanOfTag 0x80 (0x10 ∷ 0x00 ∷ 0x80 ∷ 0x01 ∷ 0x61 ∷ []) ≡ Between 4 5 → ⊥
+unfolding spanOfTag spanWithin attribute headerSize bodySize
+late-found h = let z : Outside ≡ Between 4 5 = h in let z : _≡_ {A = ℕ} 0 1 = cc in omega arith
+
+-- `same_attribute`, the version of serviceInformation: absent in one told as the same; an unknown attribute before it told as a difference
+pub absent-passes : (es fs : Entries) → sameFound es fs (known 0x03 0x80) (bodyOfTag 0x80 []) (bodyOfTag 0x80 (0x80 ∷ 0x02 ∷ 0x00 ∷ 0x01 ∷ [])) ≡ true → ⊥
+unfolding sameFound sameMaybe known rows kindIn attribute bodyOfTag bodyBy spanOfTag spanWithin headerSize bodySize
+absent-passes es fs h = false≢true h
+
+pub unknown-counted : (es fs : Entries)
+    → sameFound es fs (known 0x03 0x80) (bodyOfTag 0x80 (0x80 ∷ 0x02 ∷ 0x00 ∷ 0x01 ∷ [])) (bodyOfTag 0x80 (0x99 ∷ 0x00 ∷ 0x80 ∷ 0x02 ∷ 0x00 ∷ 0x01 ∷ [])) ≡ false → ⊥
+unfolding sameFound sameMaybe known rows kindIn attribute bodyOfTag bodyBy spanOfTag spanWithin headerSize bodySize sameBody sameValue sameOctets fits width meant octetsOf value digits
+unknown-counted es fs h = true≢false h
+
+-- `same_cdata`: none told as the same as an empty one; that of a child taken for the element's own
+pub none-as-empty : (es fs : Entries) → sameText es fs (bodyOfTag 1 []) (bodyOfTag 1 (0x01 ∷ 0x00 ∷ [])) ≡ true → ⊥
+unfolding sameText sameMaybe attribute bodyOfTag bodyBy spanOfTag spanWithin headerSize bodySize
+none-as-empty es fs h = false≢true h
+
+pub child-for-own : (es fs : Entries) → sameText es fs (bodyOfTag 1 (0x10 ∷ 0x03 ∷ 0x01 ∷ 0x01 ∷ 0x61 ∷ [])) (bodyOfTag 1 (0x01 ∷ 0x01 ∷ 0x61 ∷ [])) ≡ true → ⊥
+unfolding sameText sameMaybe attribute bodyOfTag bodyBy spanOfTag spanWithin headerSize bodySize
+child-for-own es fs h = false≢true h

@@ -1,0 +1,5 @@
+pub mod Texts
+pub mod Bodies
+pub mod Walks
+pub mod Items
+pub mod Normal

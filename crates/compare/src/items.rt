@@ -1,0 +1,233 @@
+// The items of two elements of one tag, each under its own token table: whether they mean the same. Attributes are a set, so each tag is sought in both; child
+// elements are compared in order, stepping over what has no meaning; CDATA is in both or in neither. Nothing is judged here.
+// Cost: an element's items are stepped over twice, and its attributes once more for each of the seven tags that attributes have.
+ghost use mathlib.Core.Path.{_≡_};
+ghost use Rattle.text.specs.Index.{entriesBy};
+ghost use Rattle.values.specs.Table.{known};
+ghost use Rattle.compare.specs.Items.{sameFound, sameText, SameSets, SameChild, SameItems, isAbsent, contentOf, isEnded};
+ghost use Rattle.compare.specs.Walks.{bodyOfTag};
+use crate::bodies::same_bodies;
+use crate::bodies::same_octets;
+use crate::texts::same_texts;
+use crate::walks::Child;
+use crate::walks::find_item;
+use crate::walks::next_child;
+use survey::Lies;
+use values::Kind;
+use values::KnownKind;
+use values::known_kind;
+
+fn is_absent(found: Lies) -> bool
+    ensures { λ r. ⌜ r ≡ isAbsent found ⌝ }
+{
+    match found {
+        Lies::Outside => true,
+        Lies::Between { from: _, to: _ } => false,
+    }
+}
+
+// The attribute of a tag in two elements with the tag `parent` and these bodies. A tag that isn't known there says nothing.
+pub fn same_attribute(
+    parent: u8,
+    tag: u8,
+    index_a: &[usize; 32],
+    table_a: &[u8],
+    a: &[u8],
+    index_b: &[usize; 32],
+    table_b: &[u8],
+    b: &[u8],
+) -> bool
+    ensures { λ r. ⌜ r ≡ sameFound (entriesBy (now («index_a» .entry)) (now («table_a» .entry))) (entriesBy (now («index_b» .entry)) (now («table_b» .entry))) (known parent tag) (bodyOfTag tag (now (a .entry))) (bodyOfTag tag (now (b .entry))) ⌝ }
+{
+    let KnownKind::Known(kind) = known_kind(parent, tag) else {
+        return true;
+    };
+    let Lies::Between { from, to } = find_item(a, tag) else {
+        return is_absent(find_item(b, tag));
+    };
+    let Lies::Between {
+        from: start,
+        to: end,
+    } = find_item(b, tag)
+    else {
+        return false;
+    };
+    same_bodies(
+        kind,
+        index_a,
+        table_a,
+        &a[from..to],
+        index_b,
+        table_b,
+        &b[start..end],
+    )
+}
+
+// All attributes of two elements. No element knows one above 0x86.
+pub fn same_attributes(
+    parent: u8,
+    index_a: &[usize; 32],
+    table_a: &[u8],
+    a: &[u8],
+    index_b: &[usize; 32],
+    table_b: &[u8],
+    b: &[u8],
+) -> bool
+    ensures { λ r. ⌜ SameSets parent (entriesBy (now («index_a» .entry)) (now («table_a» .entry))) (now (a .entry)) (entriesBy (now («index_b» .entry)) (now («table_b» .entry))) (now (b .entry)) r ⌝ }
+{
+    let mut tag: u8 = 0x80;
+    while tag < 0x87 {
+        if !same_attribute(parent, tag, index_a, table_a, a, index_b, table_b, b) {
+            return false;
+        }
+        tag = tag + 1;
+    }
+    true
+}
+
+// The CDATA of two elements with these bodies: none differs from an empty one.
+pub fn same_cdata(
+    index_a: &[usize; 32],
+    table_a: &[u8],
+    a: &[u8],
+    index_b: &[usize; 32],
+    table_b: &[u8],
+    b: &[u8],
+) -> bool
+    ensures { λ r. ⌜ r ≡ sameText (entriesBy (now («index_a» .entry)) (now («table_a» .entry))) (entriesBy (now («index_b» .entry)) (now («table_b» .entry))) (bodyOfTag 1 (now (a .entry))) (bodyOfTag 1 (now (b .entry))) ⌝ }
+{
+    let Lies::Between { from, to } = find_item(a, 1) else {
+        return is_absent(find_item(b, 1));
+    };
+    let Lies::Between {
+        from: start,
+        to: end,
+    } = find_item(b, 1)
+    else {
+        return false;
+    };
+    same_texts(
+        index_a,
+        table_a,
+        &a[from..to],
+        index_b,
+        table_b,
+        &b[start..end],
+    )
+}
+
+// What an element's body is: items, text, or octets that mean themselves.
+enum Content {
+    Items,
+    Text,
+    Octets,
+}
+
+fn content_of(tag: u8) -> Content
+    ensures { λ r. ⌜ r ≡ contentOf (known 0 tag) ⌝ }
+{
+    match known_kind(0, tag) {
+        KnownKind::Unknown => Content::Octets,
+        KnownKind::Known(kind) => match kind {
+            Kind::HoldsItems => Content::Items,
+            Kind::HoldsText => Content::Text,
+            Kind::HoldsTokens => Content::Octets,
+            Kind::HoldsPlain => Content::Octets,
+            Kind::HoldsTime => Content::Octets,
+            Kind::HoldsBearer => Content::Octets,
+            Kind::HoldsNumber(_) => Content::Octets,
+        },
+    }
+}
+
+// Two elements of one tag, with these bodies. `left` is how many levels of elements may still open: in an accepted object none opens below depth 16. Told of
+// accepted bodies alone, so it is not for other crates.
+pub fn same_child(
+    tag: u8,
+    left: usize,
+    index_a: &[usize; 32],
+    table_a: &[u8],
+    a: &[u8],
+    index_b: &[usize; 32],
+    table_b: &[u8],
+    b: &[u8],
+) -> bool
+    ensures { λ r. ⌜ SameChild tag left (entriesBy (now («index_a» .entry)) (now («table_a» .entry))) (now (a .entry)) (entriesBy (now («index_b» .entry)) (now («table_b» .entry))) (now (b .entry)) r ⌝ }
+{
+    match content_of(tag) {
+        Content::Octets => same_octets(a, b),
+        Content::Text => same_texts(index_a, table_a, a, index_b, table_b, b),
+        Content::Items => {
+            if left == 0 {
+                return false;
+            }
+            if !same_attributes(tag, index_a, table_a, a, index_b, table_b, b) {
+                return false;
+            }
+            if !same_cdata(index_a, table_a, a, index_b, table_b, b) {
+                return false;
+            }
+            same_children(left - 1, index_a, table_a, a, index_b, table_b, b)
+        }
+    }
+}
+
+fn is_end(child: Child) -> bool
+    ensures { λ r. ⌜ r ≡ isEnded child ⌝ }
+{
+    match child {
+        Child::End => true,
+        Child::Found {
+            at: _,
+            from: _,
+            to: _,
+        } => false,
+    }
+}
+
+// The child elements of two elements with these bodies, in order. Told of accepted bodies alone too.
+pub fn same_children(
+    left: usize,
+    index_a: &[usize; 32],
+    table_a: &[u8],
+    a: &[u8],
+    index_b: &[usize; 32],
+    table_b: &[u8],
+    b: &[u8],
+) -> bool
+    ensures { λ r. ⌜ SameItems left (entriesBy (now («index_a» .entry)) (now («table_a» .entry))) (now (a .entry)) (entriesBy (now («index_b» .entry)) (now («table_b» .entry))) (now (b .entry)) r ⌝ }
+{
+    let mut i: usize = 0;
+    let mut j: usize = 0;
+    loop {
+        let Child::Found { at, from, to } = next_child(a, i) else {
+            return is_end(next_child(b, j));
+        };
+        let Child::Found {
+            at: place,
+            from: start,
+            to: end,
+        } = next_child(b, j)
+        else {
+            return false;
+        };
+        let tag = a[at];
+        if tag != b[place] {
+            return false;
+        }
+        if !same_child(
+            tag,
+            left,
+            index_a,
+            table_a,
+            &a[from..to],
+            index_b,
+            table_b,
+            &b[start..end],
+        ) {
+            return false;
+        }
+        i = to;
+        j = end;
+    }
+}
