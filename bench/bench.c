@@ -35,7 +35,7 @@ static struct {
     uint8_t tags[PLACES], kinds[PLACES], depths[PLACES];
     uint16_t parents[PLACES], starts[PLACES], sizes[PLACES];
 } lists;
-static uint8_t store[ROOM], room[ROOM], other_room[ROOM];
+static uint8_t store[ROOM], room[ROOM];
 
 #define SIX_LISTS                                                                                                      \
     lists.tags, PLACES, lists.kinds, PLACES, lists.depths, PLACES, lists.parents, PLACES, lists.starts, PLACES,        \
@@ -95,8 +95,7 @@ static uint64_t normalise_by_second(const struct file *object, const struct file
 
 static uint64_t same_by_library(const struct file *object, const struct file *other)
 {
-    return spi_same(object->octets, object->size, other->octets, other->size, SIX_LISTS, store, ROOM, room, ROOM,
-                    other_room, ROOM);
+    return spi_same(object->octets, object->size, other->octets, other->size);
 }
 
 static uint64_t same_by_second(const struct file *object, const struct file *other)

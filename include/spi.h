@@ -143,20 +143,11 @@ uint64_t spi_normalise(const uint8_t *object, size_t octets,
                        uint8_t *store, size_t store_count,
                        uint8_t *room, size_t room_count);
 
-/* Whether two objects mean the same: the count is 1 where they do, else 0.  Both use the lists and the
- * store, the second after the first; each has a room of its own for its normal form.  Refused by 1 to
- * 13 of the first object, then of the second, then 14 and 15 of the first, then of the second. */
+/* Whether two objects mean the same: the count is 1 where they do, else 0.  Nothing is lent to it but the
+ * objects, which may overlap.  Refused by 1 to 13 of the first object, then of the second; objects whose
+ * normal form has more octets than an object may are compared like all others. */
 uint64_t spi_same(const uint8_t *first, size_t first_octets,
-                  const uint8_t *second, size_t second_octets,
-                  uint8_t *tags, size_t tags_count,
-                  uint8_t *kinds, size_t kinds_count,
-                  uint8_t *depths, size_t depths_count,
-                  uint16_t *parents, size_t parents_count,
-                  uint16_t *starts, size_t starts_count,
-                  uint16_t *sizes, size_t sizes_count,
-                  uint8_t *store, size_t store_count,
-                  uint8_t *first_room, size_t first_room_count,
-                  uint8_t *second_room, size_t second_room_count);
+                  const uint8_t *second, size_t second_octets);
 
 /* Whether octets are text; `tokens` says whether token octets may stand in it. */
 bool spi_check_text(const uint8_t *text, size_t octets, bool tokens);

@@ -234,10 +234,7 @@ static uint64_t call_write(void)
 
 static uint64_t call_same(void)
 {
-    static uint8_t own_store[MOST], first_room[SPI_MOST_OCTETS], second_room[SPI_MOST_OCTETS];
-
-    return spi_same(OCTETS(FIRST), OCTETS(SECOND), OWN_LISTS, own_store, sizeof own_store, first_room,
-                    sizeof first_room, second_room, sizeof second_room);
+    return spi_same(OCTETS(FIRST), OCTETS(SECOND));
 }
 
 /* ---- What is printed where nothing is refused; each says what was handed out --------------------- */

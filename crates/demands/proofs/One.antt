@@ -1,5 +1,5 @@
 -- Demand 1: from each call's claim alone.
-use mathlib.Core.Path.{_≡_, refl, sym, ap, ap₂, _∙_, subst}
+use mathlib.Core.Path.{_≡_, refl, sym, ap, _∙_, subst}
 use mathlib.Core.Bool.{Bool, true, false, cond, _&&_, false≢true}
 use mathlib.Core.Logic.{_⊎_, inl, inr}
 use mathlib.Core.Option.{Option, none, some, Option·some-injective, Option·none-ne-some}
@@ -35,9 +35,9 @@ use Rattle.format.specs.Answers.{refusal, readOutcome, writeOutcome, sameOutcom
 use Rattle.format.specs.Tree.{Items, count, recordsOf}
 use Rattle.format.specs.Judge.{Judged, rule, unless, judge}
 use Rattle.format.specs.Judge.Judged.{refused, accepted}
-use Rattle.format.specs.Meaning.{means, encode, normalOf}
-use Rattle.format.specs.Calls.{Lists, places, lay, judgeAnswer, readAnswer, readRecords, roomy, treeGiven, writeAnswer, writeOctets, Lent, lentBy, fitsLent, misfit, normalAnswer, handed, refusalOr, secondRefusalOr, sameAnswer, bothFit, ofFirst, ofSecond}
-use Rattle.format.specs.Same.{sameOctets}
+use Rattle.format.specs.Meaning.{means, meaningOf, encode, normalOf}
+use Rattle.format.specs.Calls.{Lists, places, lay, judgeAnswer, readAnswer, readRecords, roomy, treeGiven, writeAnswer, writeOctets, Lent, lentBy, fitsLent, misfit, normalAnswer, handed}
+use Rattle.format.specs.Same.{sameMeaning, sameAnswer}
 use Rattle.format.proofs.Lays.{lay-none}
 use Rattle.demands.specs.One.{OfObject, OfCall, Refuses, Ends, SameEnds, JudgeEnds, ReadEnds, ReadAtMostEnds, ReadRecordsEnds, WriteEnds, NormaliseEnds, SameCallEnds, OneExactly, ReadOrder, ReadInOrder, ReadAtMostInOrder, ReadRecordsInOrder, GivenTree, WriteOrder, WriteInOrder, Suffices, Lacks, NormaliseOrder, NormaliseInOrder, SameOrder, SameInOrder, PutEnds, OctetsPutEnds, ExpandEnds, ValuePutEnds, ShowPutEnds}
 use Rattle.demands.specs.One.OfCall.{ofCall}
@@ -159,83 +159,18 @@ normalise-ends object lists lists′ store store′ room room′ answer c =
     go (accepted t) h (lacking r e l) = rw (h, e) (refusedAt (r .number) (r .place) (lack-told object lent t r l) (kept r (rw h e)))
     go (accepted t) h (good e s) = rw (h, e) (answered (length (normalOf t)))
 
--- how comparing ends, of any two judgements
-pub data Compared (first second : Lent) : Judged → Judged → Type 0 where
-  badFirst : {r : Refusal} {b : Judged} → sameAnswer first second (refused r) b ≡ FirstRefused r → Compared first second (refused r) b
-  badSecond : {t : Items} {r : Refusal} → sameAnswer first second (accepted t) (refused r) ≡ SecondRefused r → Compared first second (accepted t) (refused r)
-  lackingFirst : {t u : Items} (r : Refusal) → sameAnswer first second (accepted t) (accepted u) ≡ FirstRefused r → Lacks first t r → Compared first second (accepted t) (accepted u)
-  lackingSecond : {t u : Items} (r : Refusal) → sameAnswer first second (accepted t) (accepted u) ≡ SecondRefused r → Suffices first t → Lacks second u r
-      → Compared first second (accepted t) (accepted u)
-  bothGood : {t u : Items} → sameAnswer first second (accepted t) (accepted u) ≡ cond (sameOctets (normalOf t) (normalOf u)) Same Different → Suffices first t → Suffices second u
-      → Compared first second (accepted t) (accepted u)
-
-pub compare : (first second : Lent) (a b : Judged) → Compared first second a b
-unfolding sameAnswer refusalOr secondRefusalOr
-compare first second (refused r) b = badFirst refl
-compare first second (accepted t) (refused r) = badSecond refl
-compare first second (accepted t) (accepted u) = go (normal first (accepted t)) (normal second (accepted u))
-  where
-    go : Normal first (accepted t) → Normal second (accepted u) → Compared first second (accepted t) (accepted u)
-    go (lacking r e l) n = lackingFirst {t = t} {u = u} r (rw e) l
-    go (good e s) (lacking r f l) = lackingSecond {t = t} {u = u} r (rw (e, f)) s l
-    go (good e s) (good f v) = bothGood {t = t} {u = u} (rw (e, f)) s v
-
--- two objects that fit are compared
-pub both-compared : (first second : Lent) (t u : Items) → fitsLent first t ≡ true → fitsLent second u ≡ true
-    → sameAnswer first second (accepted t) (accepted u) ≡ cond (sameOctets (normalOf t) (normalOf u)) Same Different
-unfolding sameAnswer normalAnswer refusalOr secondRefusalOr
-both-compared first second t u f s = rw (f, s)
-
--- nothing is handed out of either object with a refusal
-no-both : (first second : Lent) (a b : Judged) → ((answer : Bool) → sameAnswer first second a b ≡ cond answer Same Different → ⊥) → bothFit first second a b ≡ false
-unfolding bothFit
-no-both first second (refused r) b not = refl
-no-both first second (accepted t) (refused r) not = refl
-no-both first second (accepted t) (accepted u) not = go (fitsLent first t) (fitsLent second u) refl refl
-  where
-    go : (x y : Bool) → fitsLent first t ≡ x → fitsLent second u ≡ y → x && y ≡ false
-    go false y f s = refl
-    go true false f s = refl
-    go true true f s = absurd (not (sameOctets (normalOf t) (normalOf u)) (both-compared first second t u f s))
-
 pub same-ends : SameCallEnds
-unfolding ofFirst ofSecond
-same-ends a b lists lists′ store store′ roomA roomA′ roomB roomB′ answer c =
-    subst (λ x. SameEnds (Refuses a (14 ∷ 15 ∷ [])) (Refuses b (14 ∷ 15 ∷ [])) Kept (sameOutcome x)) (sym (c .answers)) (go (judge a) (judge b) refl refl (compare first second (judge a) (judge b)))
+unfolding sameAnswer
+same-ends a b answer e = subst (λ x. SameEnds a b (sameOutcome x)) (sym e) (go (judge a) (judge b) refl refl)
   where
-    first : Lent
-    first = lentBy lists store roomA
-
-    second : Lent
-    second = lentBy lists store roomB
-
-    Kept : Type 0
-    Kept = (lists′ ≡ lists) × (store′ ≡ store) × (roomA′ ≡ roomA) × (roomB′ ≡ roomB)
-
-    kept : ((answer : Bool) → sameAnswer first second (judge a) (judge b) ≡ cond answer Same Different → ⊥) → Kept
-    kept not =
-        let f = no-both first second (judge a) (judge b) not in (
-          c .leavesLists ∙ rw f (lay-none 0 (lay 0 [] lists) ∙ lay-none 0 lists),
-          c .leavesStore ∙ rw (f, sets-none),
-          c .leavesFirst ∙ rw (f, sets-none),
-          c .leavesSecond ∙ rw (f, sets-none),
-        )
-
-    not-compared : (x : Bool) (r : Refusal) → (FirstRefused r ≡ cond x Same Different → ⊥) × (SecondRefused r ≡ cond x Same Different → ⊥)
-    not-compared true r = ((λ e. never (cc)), (λ e. never (cc)))
-    not-compared false r = ((λ e. never (cc)), (λ e. never (cc)))
-
-    told : (x : Bool) → SameEnds (Refuses a (14 ∷ 15 ∷ [])) (Refuses b (14 ∷ 15 ∷ [])) Kept (sameOutcome (cond x Same Different))
+    told : (x : Bool) → SameEnds a b (sameOutcome (cond x Same Different))
     told true = compared true
     told false = compared false
 
-    go : (j k : Judged) → judge a ≡ j → judge b ≡ k → Compared first second j k
-        → SameEnds (Refuses a (14 ∷ 15 ∷ [])) (Refuses b (14 ∷ 15 ∷ [])) Kept (sameOutcome (sameAnswer first second (judge a) (judge b)))
-    go (refused r) k h g (badFirst e) = rw (h, g, e) (firstAt (r .number) (r .place) (forObject (r .number) (r .place) (of-object a r h)) (kept (λ x q. not-compared x r .0 (sym e ∙ (rw (h, g) at q)))))
-    go (accepted t) (refused r) h g (badSecond e) = rw (h, g, e) (secondAt (r .number) (r .place) (forObject (r .number) (r .place) (of-object b r g)) (kept (λ x q. not-compared x r .1 (sym e ∙ (rw (h, g) at q)))))
-    go (accepted t) (accepted u) h g (lackingFirst r e l) = rw (h, g, e) (firstAt (r .number) (r .place) (lack-told a first t r l) (kept (λ x q. not-compared x r .0 (sym e ∙ (rw (h, g) at q)))))
-    go (accepted t) (accepted u) h g (lackingSecond r e s l) = rw (h, g, e) (secondAt (r .number) (r .place) (lack-told b second u r l) (kept (λ x q. not-compared x r .1 (sym e ∙ (rw (h, g) at q)))))
-    go (accepted t) (accepted u) h g (bothGood e s v) = rw (h, g, e) (told (sameOctets (normalOf t) (normalOf u)))
+    go : (j k : Judged) → judge a ≡ j → judge b ≡ k → SameEnds a b (sameOutcome (sameAnswer j k))
+    go (refused r) k h g = firstAt (r .number) (r .place) (of-object a r h)
+    go (accepted t) (refused r) h g = secondAt (r .number) (r .place) (of-object b r g)
+    go (accepted t) (accepted u) h g = told (sameMeaning (meaningOf t) (meaningOf u))
 
 -- ---- the order of the refusals
 pub one-exactly : OneExactly
@@ -399,72 +334,40 @@ pub normalise-in-order : NormaliseInOrder
 normalise-in-order object lists lists′ store store′ room room′ answer c =
     normalise-order (judge object) (lentBy lists store room) answer (λ r h. of-object object r h .most) (c .answers)
 
-module _ (j k : Judged) (first second : Lent) (answer : SameAnswer) where
-  same-order : ((r : Refusal) → j ≡ refused r → r .number ≤ 13) → ((r : Refusal) → k ≡ refused r → r .number ≤ 13) → answer ≡ sameAnswer first second j k
-      → SameOrder j k first second answer
-  same-order lowA lowB e = go j k refl refl (compare first second j k) e
+module _ (j k : Judged) (answer : SameAnswer) where
+  same-order : answer ≡ sameAnswer j k → SameOrder j k answer
+  unfolding sameAnswer
+  same-order e = go j k refl refl e
     where
-      firstRefusing : (s : Refusal) → j ≡ refused s → answer ≡ FirstRefused s → SameOrder j k first second answer
+      firstRefusing : (s : Refusal) → j ≡ refused s → answer ≡ FirstRefused s → SameOrder j k answer
       firstRefusing s h e = record {
-        ofFirst = λ r l. ((λ q. cc), (λ q. cc));
-        ofSecond = λ r l. ((λ q. never (cc)), (λ q. never (let p = q .1 in cc)));
-        lackingFirst = λ r l. ((λ q. let p : s ≡ r = cc in absurd (omega (arith, lowA s h, ap (λ x. x .number) p))), (λ q. never (let p = q .2 in cc)));
-        lackingSecond = λ r l. ((λ q. never (cc)), (λ q. never (let p = q .2 in cc)));
+        ofFirst = λ r. ((λ q. cc), (λ q. cc));
+        ofSecond = λ r. ((λ q. never (cc)), (λ q. never (let p = q .1 in cc)));
       }
 
-      secondRefusing : (t : Items) (s : Refusal) → j ≡ accepted t → k ≡ refused s → answer ≡ SecondRefused s → SameOrder j k first second answer
+      secondRefusing : (t : Items) (s : Refusal) → j ≡ accepted t → k ≡ refused s → answer ≡ SecondRefused s → SameOrder j k answer
       secondRefusing t s h g e = record {
-        ofFirst = λ r l. ((λ q. never (cc)), (λ q. never (cc)));
-        ofSecond = λ r l. ((λ q. (t, h, (cc))), (λ q. let p = q .2 in cc));
-        lackingFirst = λ r l. ((λ q. never (cc)), (λ q. never (let p = q .3 in cc)));
-        lackingSecond = λ r l. ((λ q. let p : s ≡ r = cc in absurd (omega (arith, lowB s g, ap (λ x. x .number) p))), (λ q. never (let p = q .3 in cc)));
+        ofFirst = λ r. ((λ q. never (cc)), (λ q. never (cc)));
+        ofSecond = λ r. ((λ q. (t, h, (cc))), (λ q. let p = q .2 in cc));
       }
 
-      firstShort : (t u : Items) (s : Refusal) → j ≡ accepted t → k ≡ accepted u → Lacks first t s → answer ≡ FirstRefused s → SameOrder j k first second answer
-      firstShort t u s h g l e = record {
-        ofFirst = λ r m. ((λ q. let p : s ≡ r = cc in absurd (omega (arith, lack-late first t s l, ap (λ x. x .number) p))), (λ q. never (cc)));
-        ofSecond = λ r m. ((λ q. never (cc)), (λ q. never (let p = q .2 in cc)));
-        lackingFirst = λ r m. (
-          (λ q. let p : s ≡ r = cc in (t, u, h, g, subst (Lacks first t) p l)),
-          (λ q. let p : q .0 ≡ t = (let z = q .2 in cc) in e ∙ ap FirstRefused (lack-one first t s r l (subst (λ x. Lacks first x r) p (q .4)))),
-        );
-        lackingSecond = λ r m. ((λ q. never (cc)), (λ q. let p : q .0 ≡ t = (let z = q .2 in cc) in absurd (lack-short first t s l (subst (Suffices first) p (q .4)))));
-      }
-
-      secondShort : (t u : Items) (s : Refusal) → j ≡ accepted t → k ≡ accepted u → Suffices first t → Lacks second u s → answer ≡ SecondRefused s → SameOrder j k first second answer
-      secondShort t u s h g f l e = record {
-        ofFirst = λ r m. ((λ q. never (cc)), (λ q. never (cc)));
-        ofSecond = λ r m. ((λ q. let p : s ≡ r = cc in absurd (omega (arith, lack-late second u s l, ap (λ x. x .number) p))), (λ q. never (let p = q .2 in cc)));
-        lackingFirst = λ r m. ((λ q. never (cc)), (λ q. let p : q .0 ≡ t = (let z = q .2 in cc) in absurd (lack-short first t r (subst (λ x. Lacks first x r) p (q .4)) f)));
-        lackingSecond = λ r m. (
-          (λ q. let p : s ≡ r = cc in (t, u, h, g, f, subst (Lacks second u) p l)),
-          (λ q. let p : q .1 ≡ u = (let z = q .3 in cc) in e ∙ ap SecondRefused (lack-one second u s r l (subst (λ x. Lacks second x r) p (q .5)))),
-        );
-      }
-
-      neither : (t u : Items) → j ≡ accepted t → k ≡ accepted u → Suffices first t → Suffices second u → ((r : Refusal) → (answer ≡ FirstRefused r → ⊥) × (answer ≡ SecondRefused r → ⊥))
-          → SameOrder j k first second answer
-      neither t u h g f s not = record {
-        ofFirst = λ r m. ((λ q. absurd (not r .0 q)), (λ q. never (cc)));
-        ofSecond = λ r m. ((λ q. absurd (not r .1 q)), (λ q. never (let p = q .2 in cc)));
-        lackingFirst = λ r m. ((λ q. absurd (not r .0 q)), (λ q. let p : q .0 ≡ t = (let z = q .2 in cc) in absurd (lack-short first t r (subst (λ x. Lacks first x r) p (q .4)) f)));
-        lackingSecond = λ r m. ((λ q. absurd (not r .1 q)), (λ q. let p : q .1 ≡ u = (let z = q .3 in cc) in absurd (lack-short second u r (subst (λ x. Lacks second x r) p (q .5)) s)));
+      neither : (t u : Items) → j ≡ accepted t → k ≡ accepted u → ((r : Refusal) → (answer ≡ FirstRefused r → ⊥) × (answer ≡ SecondRefused r → ⊥)) → SameOrder j k answer
+      neither t u h g not = record {
+        ofFirst = λ r. ((λ q. absurd (not r .0 q)), (λ q. never (cc)));
+        ofSecond = λ r. ((λ q. absurd (not r .1 q)), (λ q. never (let p = q .2 in cc)));
       }
 
       told : (x : Bool) → answer ≡ cond x Same Different → (r : Refusal) → (answer ≡ FirstRefused r → ⊥) × (answer ≡ SecondRefused r → ⊥)
       told true e r = ((λ q. never (cc)), (λ q. never (cc)))
       told false e r = ((λ q. never (cc)), (λ q. never (cc)))
 
-      go : (a b : Judged) → j ≡ a → k ≡ b → Compared first second a b → answer ≡ sameAnswer first second j k → SameOrder j k first second answer
-      go (refused s) b h g (badFirst f) e = firstRefusing s h (e ∙ ap₂ (sameAnswer first second) h g ∙ f)
-      go (accepted t) (refused s) h g (badSecond f) e = secondRefusing t s h g (e ∙ ap₂ (sameAnswer first second) h g ∙ f)
-      go (accepted t) (accepted u) h g (lackingFirst s f l) e = firstShort t u s h g l (e ∙ ap₂ (sameAnswer first second) h g ∙ f)
-      go (accepted t) (accepted u) h g (lackingSecond s f v l) e = secondShort t u s h g v l (e ∙ ap₂ (sameAnswer first second) h g ∙ f)
-      go (accepted t) (accepted u) h g (bothGood f v w) e = neither t u h g v w (told (sameOctets (normalOf t) (normalOf u)) (e ∙ ap₂ (sameAnswer first second) h g ∙ f))
+      go : (a b : Judged) → j ≡ a → k ≡ b → answer ≡ sameAnswer a b → SameOrder j k answer
+      go (refused s) b h g e = firstRefusing s h e
+      go (accepted t) (refused s) h g e = secondRefusing t s h g e
+      go (accepted t) (accepted u) h g e = neither t u h g (told (sameMeaning (meaningOf t) (meaningOf u)) e)
 
 pub same-in-order : SameInOrder
-same-in-order a b lists lists′ store store′ roomA roomA′ roomB roomB′ answer c =
-    same-order (judge a) (judge b) (lentBy lists store roomA) (lentBy lists store roomB) answer (λ r h. of-object a r h .most) (λ r h. of-object b r h .most) (c .answers)
+same-in-order a b answer e = same-order (judge a) (judge b) answer e
 
 -- ---- the leaves: one law
 put-ends : (A : Type 0) (done : ℕ → A) (noRoom invalid : A) (valid : Bool) (octets : List ℕ) (at : ℕ) (before after : List ℕ) (answer : A)

@@ -1,6 +1,6 @@
 -- Only one answer: each claim gives an equation for the answer and one for each lent thing, and two things that equal a third are equal.
 use mathlib.Core.Path.{sym, _∙_}
-use Rattle.demands.specs.Only.{OneAnswer, OneRead, OneReadAtMost, OneReadRecords, OneWrite, OneNormalise, OneSame, OneOctetsPut, OneMarks, OneWidths, OneIndex, OneExpand, OneValuePut, OneShowPut, OneReadC, OneSpanC, OneWriteC, OneNormaliseC, OneSameC}
+use Rattle.demands.specs.Only.{OneAnswer, OneRead, OneReadAtMost, OneReadRecords, OneWrite, OneNormalise, OneOctetsPut, OneMarks, OneWidths, OneIndex, OneExpand, OneValuePut, OneShowPut, OneReadC, OneSpanC, OneWriteC, OneNormaliseC, OneSameC}
 use Rattle.text.proofs.Index.{one-index as index-alone}
 use Rattle.text.proofs.WeighLaws.{marks-one, widths-one}
 
@@ -29,15 +29,6 @@ one-normalise object lists oneLists otherLists store oneStore otherStore room on
   one-answer _ _ oneLists otherLists (c .leavesLists) (d .leavesLists),
   one-answer _ _ oneStore otherStore (c .leavesStore) (d .leavesStore),
   one-answer _ _ oneRoom otherRoom (c .leavesRoom) (d .leavesRoom),
-)
-
-pub one-same : OneSame
-one-same a b lists oneLists otherLists store oneStore otherStore roomA oneA otherA roomB oneB otherB answer answer′ c d = (
-  one-answer _ _ answer answer′ (c .answers) (d .answers),
-  one-answer _ _ oneLists otherLists (c .leavesLists) (d .leavesLists),
-  one-answer _ _ oneStore otherStore (c .leavesStore) (d .leavesStore),
-  one-answer _ _ oneA otherA (c .leavesFirst) (d .leavesFirst),
-  one-answer _ _ oneB otherB (c .leavesSecond) (d .leavesSecond),
 )
 
 pub one-octets-put : OneOctetsPut
@@ -81,10 +72,4 @@ one-normalise-c object lists oneLists otherLists store oneStore otherStore room 
 )
 
 pub one-same-c : OneSameC
-one-same-c a b lists oneLists otherLists store oneStore otherStore roomA oneA otherA roomB oneB otherB answer answer′ c d = (
-  one-answer _ _ answer answer′ (c .answers) (d .answers),
-  one-answer _ _ oneLists otherLists (c .leaves .leavesLists) (d .leaves .leavesLists),
-  one-answer _ _ oneStore otherStore (c .leaves .leavesStore) (d .leaves .leavesStore),
-  one-answer _ _ oneA otherA (c .leaves .leavesFirst) (d .leaves .leavesFirst),
-  one-answer _ _ oneB otherB (c .leaves .leavesSecond) (d .leaves .leavesSecond),
-)
+one-same-c a b answer answer′ c d = one-answer _ _ answer answer′ (c .answers) (d .answers)

@@ -12,24 +12,23 @@ use Rattle.octets.specs.Numbers.{Octets}
 use Rattle.octets.proofs.Lists.{part-of-sets, drop-sets}
 use Rattle.format.specs.declared.WriteAnswer.the-variants.{Octets as Written}
 use Rattle.format.specs.declared.SameAnswer.{SameAnswer}
-use Rattle.format.specs.declared.SameAnswer.the-variants.{Same, Different}
+use Rattle.format.specs.declared.SameAnswer.the-variants.{Same, Different, FirstRefused, SecondRefused}
 use Rattle.format.specs.Tree.{Items, count}
 use Rattle.format.specs.Judge.{Judged, judge}
 use Rattle.format.specs.Judge.Judged.{refused, accepted}
 use Rattle.format.specs.Meaning.{meaningOf, meaning, encode, normalOf}
 use Rattle.format.specs.Loaded.{storeOf}
-use Rattle.format.specs.Calls.{Lists, Lent, lentBy, handed, sameAnswer, NormaliseClaim}
-use Rattle.format.specs.Same.{sameOctets}
+use Rattle.format.specs.Calls.{Lists, Lent, lentBy, handed, NormaliseClaim}
+use Rattle.format.specs.Same.{sameAnswer}
 use Rattle.format.proofs.Normal.{normal-means, same-normal}
 use Rattle.format.proofs.NormalOctets.{normal-octets}
 use Rattle.format.proofs.Takes.{ofMeaning, inRecords, inStore, records-means, store-means}
-use Rattle.format.proofs.Calls.{same-exactly as same-meaning}
+use Rattle.format.proofs.Same.{same-exactly as same-meaning, different-exactly as different-meaning, normal-exactly}
 use Rattle.grammar.proofs.Agree.{complete}
 use Rattle.demands.specs.One.{Suffices}
-use Rattle.demands.specs.Three.{SameNormalForms, NormalAccepted, NormalTakesNoMore, NormalAgain, NormalAgainIfAny, BothSuffice, Comparison, SameExactly}
+use Rattle.demands.specs.Three.{SameNormalForms, NormalAccepted, NormalTakesNoMore, NormalAgain, NormalAgainIfAny, BothAccepted, Comparison, SameExactly, IsNormalExactly}
 use Rattle.demands.proofs.Laws.{never, suffices-fits, has-meaning, accepted-means}
-use Rattle.demands.proofs.One.{Compared, compare, both-compared, normalise-in-order}
-use Rattle.demands.proofs.One.Compared.{badFirst, badSecond, lackingFirst, lackingSecond, bothGood}
+use Rattle.demands.proofs.One.{normalise-in-order}
 
 -- what a call of normalise that gives octets leaves in its room
 pub record Normalised (object : List ℕ) (lent : Lent) (room room′ : List ℕ) (n : ℕ) : Type 0 where
@@ -123,48 +122,46 @@ normal-again object os lists lists′ store store′ room room′ n c again agai
     (written, normal-again-if-any object os lists lists′ store store′ room room′ n c again again′ store₂ store₂′ room₂ room₂′ n given .1)
 
 -- ---- comparing
-module _ (a b : List ℕ) (first second : Lent) (answer : SameAnswer) (e : answer ≡ sameAnswer first second (judge a) (judge b)) where
-  -- what is answered when two objects are compared
-  both : (x : Bool) → answer ≡ cond x Same Different → BothSuffice a b first second
-  both x q = go (judge a) (judge b) refl refl (compare first second (judge a) (judge b)) (sym q ∙ e)
+module _ (a b : List ℕ) (answer : SameAnswer) (e : answer ≡ sameAnswer (judge a) (judge b)) where
+  -- only accepted objects are the same or different
+  both : (x : Bool) → answer ≡ cond x Same Different → BothAccepted a b
+  unfolding sameAnswer
+  both x q = go (judge a) (judge b) refl refl (sym q ∙ e)
     where
       told : (x : Bool) {A : Type 0} → (y : SameAnswer) → cond x Same Different ≡ y → (Same ≡ y → A) → (Different ≡ y → A) → A
       told true y q f g = f q
       told false y q f g = g q
 
-      go : (j k : Judged) → judge a ≡ j → judge b ≡ k → Compared first second j k → cond x Same Different ≡ sameAnswer first second (judge a) (judge b) → BothSuffice a b first second
-      go (refused r) k h g (badFirst f) q = told x _ (q ∙ ap₂ (sameAnswer first second) h g ∙ f) (λ z. never (cc)) (λ z. never (cc))
-      go (accepted t) (refused r) h g (badSecond f) q = told x _ (q ∙ ap₂ (sameAnswer first second) h g ∙ f) (λ z. never (cc)) (λ z. never (cc))
-      go (accepted t) (accepted u) h g (lackingFirst r f l) q = told x _ (q ∙ ap₂ (sameAnswer first second) h g ∙ f) (λ z. never (cc)) (λ z. never (cc))
-      go (accepted t) (accepted u) h g (lackingSecond r f s l) q = told x _ (q ∙ ap₂ (sameAnswer first second) h g ∙ f) (λ z. never (cc)) (λ z. never (cc))
-      go (accepted t) (accepted u) h g (bothGood f s v) q = record { treeA = t; treeB = u; acceptedA = h; acceptedB = g; forA = s; forB = v }
+      go : (j k : Judged) → judge a ≡ j → judge b ≡ k → cond x Same Different ≡ sameAnswer j k → BothAccepted a b
+      go (refused r) k h g q = told x (FirstRefused r) q (λ z. never (cc)) (λ z. never (cc))
+      go (accepted t) (refused r) h g q = told x (SecondRefused r) q (λ z. never (cc)) (λ z. never (cc))
+      go (accepted t) (accepted u) h g q = record { treeA = t; treeB = u; acceptedA = h; acceptedB = g }
+
+  meanings : (s : BothAccepted a b) → (meaning a ≡ meaning b) ↔ (meaningOf (s .treeA) ≡ meaningOf (s .treeB))
+  meanings s =
+      let p = accepted-means a (s .treeA) (s .acceptedA) in
+      let q = accepted-means b (s .treeB) (s .acceptedB) in
+      ((λ f. Option·some-injective (meaningOf (s .treeA)) (meaningOf (s .treeB)) (sym p ∙ f ∙ q)), (λ f. p ∙ ap some f ∙ sym q))
 
   module _ (os : Octets a) (ps : Octets b) where
-    same-when : BothSuffice a b first second → (answer ≡ Same) ↔ (meaning a ≡ meaning b)
+    same-when : (s : BothAccepted a b) → (answer ≡ Same) ↔ (meaning a ≡ meaning b)
     same-when s =
-        let p = accepted-means a (s .treeA) (s .acceptedA) in
-        let q = accepted-means b (s .treeB) (s .acceptedB) in
-        let at : answer ≡ sameAnswer first second (accepted (s .treeA)) (accepted (s .treeB)) = e ∙ ap₂ (sameAnswer first second) (s .acceptedA) (s .acceptedB) in
-        let one = same-meaning a b (s .treeA) (s .treeB) os ps (s .acceptedA) (s .acceptedB) first second (suffices-fits first (s .treeA) (s .forA)) (suffices-fits second (s .treeB) (s .forB)) in (
-          (λ f. p ∙ ap some (one .0 (sym at ∙ f)) ∙ sym q),
-          (λ f. at ∙ one .1 (Option·some-injective (meaningOf (s .treeA)) (meaningOf (s .treeB)) (sym p ∙ f ∙ q))),
-        )
+        let one = same-meaning a b (s .treeA) (s .treeB) os ps (s .acceptedA) (s .acceptedB) in
+        ((λ f. meanings s .1 (one .0 (sym e ∙ f))), (λ f. e ∙ one .1 (meanings s .0 f)))
 
-    different-when : BothSuffice a b first second → (meaning a ≡ meaning b → ⊥) → answer ≡ Different
-    different-when s apart =
-        let at : answer ≡ sameAnswer first second (accepted (s .treeA)) (accepted (s .treeB)) = e ∙ ap₂ (sameAnswer first second) (s .acceptedA) (s .acceptedB) in
-        go (sameOctets (normalOf (s .treeA)) (normalOf (s .treeB)))
-        (at ∙ both-compared first second (s .treeA) (s .treeB) (suffices-fits first (s .treeA) (s .forA)) (suffices-fits second (s .treeB) (s .forB)))
-      where
-        go : (x : Bool) → answer ≡ cond x Same Different → answer ≡ Different
-        go true f = absurd (apart (same-when s .0 f))
-        go false f = f
+    different-when : (s : BothAccepted a b) → (answer ≡ Different) ↔ (meaning a ≡ meaning b → ⊥)
+    different-when s =
+        let one = different-meaning a b (s .treeA) (s .treeB) os ps (s .acceptedA) (s .acceptedB) in
+        ((λ f g. one .0 (sym e ∙ f) (meanings s .0 g)), (λ f. e ∙ one .1 (λ g. f (meanings s .1 g))))
 
-    comparison : Comparison a b first second answer
+    comparison : Comparison a b answer
     comparison = record {
       same = ((λ f. (both true f, same-when (both true f) .0 f)), (λ s. same-when (s .0) .1 (s .1)));
-      different = ((λ f. (both false f, (λ g. let h = same-when (both false f) .1 g in never (cc)))), (λ s. different-when (s .0) (s .1)));
+      different = ((λ f. (both false f, different-when (both false f) .0 f)), (λ s. different-when (s .0) .1 (s .1)));
     }
 
 pub same-exactly : SameExactly
-same-exactly a b os ps lists lists′ store store′ roomA roomA′ roomB roomB′ answer c = comparison a b (lentBy lists store roomA) (lentBy lists store roomB) answer (c .answers) os ps
+same-exactly a b os ps answer e = comparison a b answer e os ps
+
+pub is-normal-exactly : IsNormalExactly
+is-normal-exactly object answer e = let one = normal-exactly object in ((λ h. one .0 (sym e ∙ h)), (λ h. e ∙ one .1 h))

@@ -38,7 +38,8 @@ use Rattle.format.specs.Judge.Judged.{refused, accepted}
 use Rattle.format.specs.Meaning.{means, encode, normalOf}
 use Rattle.format.specs.Writer.{atTop, ruled, tabled}
 use Rattle.format.specs.Loaded.{storeOf}
-use Rattle.format.specs.Calls.{Lists, row, places, Lent, lentBy, judgeAnswer, ReadClaim, ReadAtMostClaim, ReadRecordsClaim, WriteClaim, NormaliseClaim, SameClaim}
+use Rattle.format.specs.Calls.{Lists, row, places, Lent, lentBy, judgeAnswer, ReadClaim, ReadAtMostClaim, ReadRecordsClaim, WriteClaim, NormaliseClaim}
+use Rattle.format.specs.Same.{sameAnswer}
 
 -- ---- an answer, or one numbered refusal and a place; and a refusal leaves all lent memory untouched
 
@@ -64,11 +65,11 @@ pub data Ends (Reason : ℕ → ℕ → Type 0) (Kept : Type 0) : Outcome → Ty
   answered : (n : ℕ) → Ends Reason Kept (record { number = 0; place = 0; count = n })
   refusedAt : (number place : ℕ) → Reason number place → Kept → Ends Reason Kept (record { number = number; place = place; count = 0 })
 
--- the same of two objects: which of them is refused is told too
-pub data SameEnds (First Second : ℕ → ℕ → Type 0) (Kept : Type 0) : SameOutcome → Type 0 where
-  answered : (same : Bool) → SameEnds First Second Kept (record { same = same; which = 0; number = 0; place = 0 })
-  firstAt : (number place : ℕ) → First number place → Kept → SameEnds First Second Kept (record { same = false; which = 1; number = number; place = place })
-  secondAt : (number place : ℕ) → Second number place → Kept → SameEnds First Second Kept (record { same = false; which = 2; number = number; place = place })
+-- the same of two objects with nothing lent: which of them is refused is told too
+pub data SameEnds (a b : List ℕ) : SameOutcome → Type 0 where
+  answered : (same : Bool) → SameEnds a b (record { same = same; which = 0; number = 0; place = 0 })
+  firstAt : (number place : ℕ) → OfObject a number place → SameEnds a b (record { same = false; which = 1; number = number; place = place })
+  secondAt : (number place : ℕ) → OfObject b number place → SameEnds a b (record { same = false; which = 2; number = number; place = place })
 
 -- judge gives 1 to 13; nothing is lent to it
 abbrev pub JudgeEnds : Type 0
@@ -104,12 +105,9 @@ NormaliseEnds =
     (object : List ℕ) (lists lists′ : Lists) (store store′ room room′ : List ℕ) (answer : WriteAnswer) → NormaliseClaim object lists lists′ store store′ room room′ answer
     → Ends (Refuses object (14 ∷ 15 ∷ [])) ((lists′ ≡ lists) × (store′ ≡ store) × (room′ ≡ room)) (writeOutcome answer)
 
--- same gives 1 to 13, 14 and 15 of either object
+-- same gives 1 to 13 of either object; nothing is lent to it
 abbrev pub SameCallEnds : Type 0
-SameCallEnds =
-    (a b : List ℕ) (lists lists′ : Lists) (store store′ roomA roomA′ roomB roomB′ : List ℕ) (answer : SameAnswer)
-    → SameClaim a b lists lists′ store store′ roomA roomA′ roomB roomB′ answer
-    → SameEnds (Refuses a (14 ∷ 15 ∷ [])) (Refuses b (14 ∷ 15 ∷ [])) ((lists′ ≡ lists) × (store′ ≡ store) × (roomA′ ≡ roomA) × (roomB′ ≡ roomB)) (sameOutcome answer)
+SameCallEnds = (a b : List ℕ) (answer : SameAnswer) → answer ≡ sameAnswer (judge a) (judge b) → SameEnds a b (sameOutcome answer)
 
 -- ---- by the order in document 01. The order within an object is that of the definition `judge` (format/specs/Judge); these say how its refusals, 14, 15 and 16
 -- stand to one another
@@ -188,21 +186,13 @@ NormaliseInOrder =
     (object : List ℕ) (lists lists′ : Lists) (store store′ room room′ : List ℕ) (answer : WriteAnswer) → NormaliseClaim object lists lists′ store store′ room room′ answer
     → NormaliseOrder (judge object) (lentBy lists store room) answer
 
--- same: 1 to 13 of the first object exactly when it is refused so; of the second, when the first is accepted; 14 and 15 of the first exactly when both are accepted
--- and that is lacking; of the second, when nothing is lacking for the first
-pub record SameOrder (judgedA judgedB : Judged) (first second : Lent) (answer : SameAnswer) : Type 0 where
-  pub ofFirst : (r : Refusal) → r .number ≤ 13 → (answer ≡ FirstRefused r) ↔ (judgedA ≡ refused r)
-  pub ofSecond : (r : Refusal) → r .number ≤ 13 → (answer ≡ SecondRefused r) ↔ ((t : Items) × (judgedA ≡ accepted t) × (judgedB ≡ refused r))
-  pub lackingFirst : (r : Refusal) → 14 ≤ r .number
-      → (answer ≡ FirstRefused r) ↔ ((t u : Items) × (judgedA ≡ accepted t) × (judgedB ≡ accepted u) × Lacks first t r)
-  pub lackingSecond : (r : Refusal) → 14 ≤ r .number
-      → (answer ≡ SecondRefused r) ↔ ((t u : Items) × (judgedA ≡ accepted t) × (judgedB ≡ accepted u) × Suffices first t × Lacks second u r)
+-- same: the first object's refusal exactly when it has one; the second's exactly when it has one and the first is accepted
+pub record SameOrder (judgedA judgedB : Judged) (answer : SameAnswer) : Type 0 where
+  pub ofFirst : (r : Refusal) → (answer ≡ FirstRefused r) ↔ (judgedA ≡ refused r)
+  pub ofSecond : (r : Refusal) → (answer ≡ SecondRefused r) ↔ ((t : Items) × (judgedA ≡ accepted t) × (judgedB ≡ refused r))
 
 abbrev pub SameInOrder : Type 0
-SameInOrder =
-    (a b : List ℕ) (lists lists′ : Lists) (store store′ roomA roomA′ roomB roomB′ : List ℕ) (answer : SameAnswer)
-    → SameClaim a b lists lists′ store store′ roomA roomA′ roomB roomB′ answer
-    → SameOrder (judge a) (judge b) (lentBy lists store roomA) (lentBy lists store roomB) answer
+SameInOrder = (a b : List ℕ) (answer : SameAnswer) → answer ≡ sameAnswer (judge a) (judge b) → SameOrder (judge a) (judge b) answer
 
 -- ---- the leaves that write into lent octets. They have no number of document 01, but one answer for each way to end
 

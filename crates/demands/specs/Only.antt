@@ -16,8 +16,7 @@ use Rattle.values.specs.Calls.{Puts as ValuesPuts}
 use Rattle.format.specs.declared.Record.{Record}
 use Rattle.format.specs.declared.ReadAnswer.{ReadAnswer}
 use Rattle.format.specs.declared.WriteAnswer.{WriteAnswer}
-use Rattle.format.specs.declared.SameAnswer.{SameAnswer}
-use Rattle.format.specs.Calls.{Lists, ReadClaim, ReadAtMostClaim, ReadRecordsClaim, WriteClaim, NormaliseClaim, SameClaim}
+use Rattle.format.specs.Calls.{Lists, ReadClaim, ReadAtMostClaim, ReadRecordsClaim, WriteClaim, NormaliseClaim}
 use Rattle.show.specs.declared.Put.{Put as ShowPut}
 use Rattle.show.specs.Calls.{Puts as ShowPuts}
 use Rattle.spi_c.specs.Claims.{ReadsC, SpansC, WritesC, NormalisesC, SameC}
@@ -26,7 +25,8 @@ use Rattle.spi_c.specs.Claims.{ReadsC, SpansC, WritesC, NormalisesC, SameC}
 -- octets: read_header, header_size, read_number. text: check, is_token, is_table, is_covered, is_shown, weigh, expanded_size. values: is_attribute, known_kind,
 -- Time::take, valid, canonical, local, size, Bearer::take, valid, size, fits_kind, normal_size. format: kind_of, and outcome of ReadAnswer, WriteAnswer, SameAnswer.
 -- tags: is_top, is_allowed, latest_of, stage_after, is_within_depth, limit_of, has_bit, with_bit. judge: judge. reader: places, span, body. records: is_well_formed.
--- survey: survey, item_at, table_of, written_as. spi_c: spi_check_text.
+-- survey: survey, item_at, table_of, written_as. compare: same, is_normal, same_texts, same_bodies, same_octets, find_item, same_attribute, same_cdata.
+-- spi_c: spi_check_text.
 -- For body and table_of, which hand back a part of the caller's octets, the equation is for what the part holds
 abbrev pub OneAnswer : Type 1
 OneAnswer = (A : Type 0) (claimed one other : A) → one ≡ claimed → other ≡ claimed → one ≡ other
@@ -65,13 +65,6 @@ OneNormalise =
     (object : List ℕ) (lists oneLists otherLists : Lists) (store oneStore otherStore room oneRoom otherRoom : List ℕ) (answer answer′ : WriteAnswer)
     → NormaliseClaim object lists oneLists store oneStore room oneRoom answer → NormaliseClaim object lists otherLists store otherStore room otherRoom answer′
     → (answer ≡ answer′) × (oneLists ≡ otherLists) × (oneStore ≡ otherStore) × (oneRoom ≡ otherRoom)
-
--- same
-abbrev pub OneSame : Type 0
-OneSame =
-    (a b : List ℕ) (lists oneLists otherLists : Lists) (store oneStore otherStore roomA oneA otherA roomB oneB otherB : List ℕ) (answer answer′ : SameAnswer)
-    → SameClaim a b lists oneLists store oneStore roomA oneA roomB oneB answer → SameClaim a b lists otherLists store otherStore roomA otherA roomB otherB answer′
-    → (answer ≡ answer′) × (oneLists ≡ otherLists) × (oneStore ≡ otherStore) × (oneA ≡ otherA) × (oneB ≡ otherB)
 
 -- write_header, put_number, copy_into
 abbrev pub OneOctetsPut : Type 0
@@ -135,7 +128,4 @@ OneNormaliseC =
     → (answer ≡ answer′) × (oneLists ≡ otherLists) × (oneStore ≡ otherStore) × (oneRoom ≡ otherRoom)
 
 abbrev pub OneSameC : Type 0
-OneSameC =
-    (a b : List ℕ) (lists oneLists otherLists : Lists) (store oneStore otherStore roomA oneA otherA roomB oneB otherB : List ℕ) (answer answer′ : ℕ)
-    → SameC a b lists oneLists store oneStore roomA oneA roomB oneB answer → SameC a b lists otherLists store otherStore roomA otherA roomB otherB answer′
-    → (answer ≡ answer′) × (oneLists ≡ otherLists) × (oneStore ≡ otherStore) × (oneA ≡ otherA) × (oneB ≡ otherB)
+OneSameC = (a b : List ℕ) (answer answer′ : ℕ) → SameC a b answer → SameC a b answer′ → answer ≡ answer′

@@ -5,7 +5,9 @@
 -- the writer in another. The premise `Octets` is as in Two. That normalise answers with octets says that the object is accepted and fits what is lent
 -- (One, NormaliseOrder); each call may be lent other memory.
 use mathlib.Core.Path.{_≡_}
+use mathlib.Core.Bool.{Bool, true}
 use mathlib.Core.Logic.{_↔_}
+use mathlib.Core.Option.{some}
 use mathlib.Core.List.{List}
 use Prim.Native.Nat.{ℕ, _≤_}
 use lib.ListN.{length, take, drop}
@@ -17,11 +19,11 @@ use Rattle.format.specs.declared.SameAnswer.the-variants.{Same, Different}
 use Rattle.format.specs.Tree.{Items, count}
 use Rattle.format.specs.Judge.{judge}
 use Rattle.format.specs.Judge.Judged.{accepted}
-use Rattle.format.specs.Meaning.{meaning, normalOf}
+use Rattle.format.specs.Meaning.{meaning, normalOf, normal}
 use Rattle.format.specs.Loaded.{storeOf}
-use Rattle.format.specs.Calls.{Lists, places, Lent, lentBy, NormaliseClaim, SameClaim}
+use Rattle.format.specs.Calls.{Lists, places, NormaliseClaim}
+use Rattle.format.specs.Same.{sameAnswer, isNormal}
 use Rattle.grammar.specs.Grammar.{Accepts}
-use Rattle.demands.specs.One.{Suffices}
 
 -- the normal forms of two accepted objects are the same octets exactly when the objects mean the same
 abbrev pub SameNormalForms : Type 0
@@ -73,21 +75,21 @@ NormalAgainIfAny =
     → (again again′ : Lists) (store₂ store₂′ room₂ room₂′ : List ℕ) (m : ℕ) → NormaliseClaim (take n room′) again again′ store₂ store₂′ room₂ room₂′ (Written m)
     → (m ≡ n) × (take m room₂′ ≡ take n room′)
 
--- two accepted objects for which what is lent suffices
-pub record BothSuffice (a b : List ℕ) (first second : Lent) : Type 0 where
+-- two accepted objects
+pub record BothAccepted (a b : List ℕ) : Type 0 where
   pub treeA : Items
   pub treeB : Items
   pub acceptedA : judge a ≡ accepted treeA
   pub acceptedB : judge b ≡ accepted treeB
-  pub forA : Suffices first treeA
-  pub forB : Suffices second treeB
 
--- same answers `Same` exactly when both objects are accepted and fit and mean the same, and `Different` exactly when they are and fit and do not
-pub record Comparison (a b : List ℕ) (first second : Lent) (answer : SameAnswer) : Type 0 where
-  pub same : (answer ≡ Same) ↔ (BothSuffice a b first second × (meaning a ≡ meaning b))
-  pub different : (answer ≡ Different) ↔ (BothSuffice a b first second × (meaning a ≡ meaning b → ⊥))
+-- same answers `Same` exactly when both objects are accepted and mean the same, and `Different` exactly when they are and do not, however long their normal forms
+pub record Comparison (a b : List ℕ) (answer : SameAnswer) : Type 0 where
+  pub same : (answer ≡ Same) ↔ (BothAccepted a b × (meaning a ≡ meaning b))
+  pub different : (answer ≡ Different) ↔ (BothAccepted a b × (meaning a ≡ meaning b → ⊥))
 
 abbrev pub SameExactly : Type 0
-SameExactly =
-    (a b : List ℕ) → Octets a → Octets b → (lists lists′ : Lists) (store store′ roomA roomA′ roomB roomB′ : List ℕ) (answer : SameAnswer)
-    → SameClaim a b lists lists′ store store′ roomA roomA′ roomB roomB′ answer → Comparison a b (lentBy lists store roomA) (lentBy lists store roomB) answer
+SameExactly = (a b : List ℕ) → Octets a → Octets b → (answer : SameAnswer) → answer ≡ sameAnswer (judge a) (judge b) → Comparison a b answer
+
+-- is_normal says yes exactly when the object is accepted and is its own normal form
+abbrev pub IsNormalExactly : Type 0
+IsNormalExactly = (object : List ℕ) (answer : Bool) → answer ≡ isNormal object → (answer ≡ true) ↔ (normal object ≡ some object)

@@ -1,33 +1,22 @@
 -- What the answers of the calls say: records laid into lists, octets that are written, trees that are loaded, objects that are compared.
-use mathlib.Core.Path.{_≡_, refl, sym, ap, ap₂, subst}
-use mathlib.Core.Bool.{Bool, true, false, cond, _&&_, false≢true}
-use mathlib.Core.Logic.{_↔_}
+use mathlib.Core.Path.{_≡_, refl, sym}
 use mathlib.Core.Option.{some}
 use mathlib.Core.List.{List, [], _∷_, _++_, map}
-use Prim.Native.Nat.{ℕ, suc, _≤_, _<_, min}
-use native.Mathlib.Nat.{min-le-right}
+use Prim.Native.Nat.{ℕ, suc, _≤_, _<_}
 use native.Mathlib.Omega.{arith}
-use lib.Dec.{eqb, leb}
 use lib.ListN.{length}
 use lib.Seq.{sets}
-use borrow.Author.Tests.{leb-true, eqb-true, eq-eqb}
 use Rattle.octets.specs.Numbers.{Octets}
 use Rattle.format.specs.declared.Record.{Record}
-use Rattle.format.specs.declared.WriteAnswer.the-variants.{Octets as Handed}
-use Rattle.format.specs.declared.SameAnswer.the-variants.{Same, Different}
 use Rattle.format.specs.Tree.{Items, count, recordsOf}
 use Rattle.format.specs.Judge.{outermost, judge}
 use Rattle.format.specs.Judge.Judged.{accepted}
-use Rattle.format.specs.Meaning.{means, meaningOf, meaning, encode, normalOf}
+use Rattle.format.specs.Meaning.{means, meaning, encode}
 use Rattle.format.specs.Writer.{tabled, rebuilt}
 use Rattle.format.specs.Loaded.{storeOf, loadedOf}
-use Rattle.format.specs.Calls.{Lists, put, lay, roomy, Lent, storedWithin, fitsLent, normalAnswer, refusalOr, secondRefusalOr, sameAnswer}
-use Rattle.format.specs.Same.{sameOctets}
-use Rattle.octets.proofs.Tests.{and-left, and-right, and-true}
+use Rattle.format.specs.Calls.{Lists, put, lay}
 use Rattle.values.proofs.Known.{items-tag}
-use Rattle.format.proofs.Round.{meaning-encode, encode-injective}
-use Rattle.format.proofs.Normal.{accepted-ok}
-use Rattle.format.proofs.Same.{same-octets, octets-same}
+use Rattle.format.proofs.Round.{meaning-encode}
 use Rattle.format.proofs.Force.{top-known}
 use Rattle.format.proofs.Told.{top}
 use Rattle.format.proofs.Loading.{loaded-ruled, loaded-located}
@@ -68,32 +57,3 @@ pub loaded-rebuilt : (o : List ℕ) (t : Items) → Octets o → judge o ≡ acc
 loaded-rebuilt o t os h row rest e =
     whole-rebuilt row (count t) (storeOf t ++ rest) (loadedOf t)
     (record { some = some-record o t os h; records = sym e; located = loaded-located o t os h rest; rules = loaded-ruled o t os h })
-
--- an answer that fits is no refusal
-fits-handed : (lent : Lent) (t : Items) → fitsLent lent t ≡ true → normalAnswer lent (accepted t) ≡ Handed (length (normalOf t))
-unfolding normalAnswer
-fits-handed lent t h = rw h
-
-fits-small : (lent : Lent) (t : Items) → fitsLent lent t ≡ true → length (normalOf t) ≤ 32_768
-unfolding fitsLent storedWithin roomy
-fits-small lent t h =
-    let a = leb (length (storeOf t)) (lent .store) in
-    let b = leb (length (normalOf t)) (min (lent .room) 32_768) in
-    let q = leb-true (length (normalOf t)) (min (lent .room) 32_768) (and-right a b (and-right (leb (count t) (lent .records)) (a && b) h)) in
-    omega (arith, min-le-right (lent .room) 32_768)
-
--- two accepted objects that fit what is lent: the answer is `Same` exactly when they mean the same
-pub same-exactly : (o p : List ℕ) (t u : Items) → Octets o → Octets p → judge o ≡ accepted t → judge p ≡ accepted u → (first second : Lent) → fitsLent first t ≡ true → fitsLent second u ≡ true
-    → sameAnswer first second (accepted t) (accepted u) ≡ Same ↔ meaningOf t ≡ meaningOf u
-unfolding sameAnswer refusalOr secondRefusalOr
-same-exactly o p t u os ps h g first second f s = (
-  (λ e. encode-injective (meaningOf t) (meaningOf u) (accepted-ok o t os h) (accepted-ok p u ps g) (fits-small first t f) (forth (sameOctets (normalOf t) (normalOf u)) refl (rw (fits-handed first t f, fits-handed second u s) at e))),
-  (λ e. rw (fits-handed first t f, fits-handed second u s, back e)),
-)
-  where
-    forth : (b : Bool) → sameOctets (normalOf t) (normalOf u) ≡ b → cond b Same Different ≡ Same → normalOf t ≡ normalOf u
-    forth true q r = same-octets (normalOf t) (normalOf u) q
-    forth false q r = let z : _≡_ {A = ℕ} 0 1 = cc in absurd (omega arith)
-
-    back : meaningOf t ≡ meaningOf u → sameOctets (normalOf t) (normalOf u) ≡ true
-    back e = subst (λ x. sameOctets (normalOf t) x ≡ true) (ap encode e) (octets-same (normalOf t))

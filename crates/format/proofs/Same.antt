@@ -13,7 +13,7 @@ use borrow.Author.Tests.{eqb-true, eqb-false, eq-eqb, ltb-true, leb-true, le-leb
 use Rattle.octets.specs.Numbers.{Octets}
 use Rattle.octets.proofs.Tests.{and-left, and-right, and-true}
 use Rattle.values.specs.declared.Kind.{Kind}
-use Rattle.values.specs.Table.{attribute, known}
+use Rattle.values.specs.Table.{attribute}
 use Rattle.values.specs.Values.{Value, meant, octetsOf}
 use Rattle.values.specs.Proper.{Proper}
 use Rattle.values.proofs.Values.{proper-means}

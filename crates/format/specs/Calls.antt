@@ -1,11 +1,11 @@
--- What each public call answers, and what each lent list then holds (document 01, Records and meaning, Refusal numbers). On a refusal that is what it held
--- before; on success what is handed out is laid over it.
+-- What each public call on objects and records answers, and what each lent list then holds (document 01, Records and meaning, Refusal numbers). On a refusal that is
+-- what it held before; on success what is handed out is laid over it. The calls that compare are lent nothing: specs/Same has their answers.
 use mathlib.Core.Path.{_≡_}
-use mathlib.Core.Bool.{Bool, true, false, cond, _&&_}
+use mathlib.Core.Bool.{Bool, cond, _&&_}
 use mathlib.Core.Option.{Option, none, some}
 use mathlib.Core.List.{List, [], _∷_, _++_}
 use Prim.Native.Nat.{ℕ, suc, _+_, min}
-use lib.Dec.{eqb, leb, ltb}
+use lib.Dec.{leb, ltb}
 use lib.ListN.{length, take, drop, getD, set}
 use lib.Seq.{sets}
 use Rattle.format.specs.declared.Record.{Record}
@@ -14,8 +14,6 @@ use Rattle.format.specs.declared.ReadAnswer.{ReadAnswer}
 use Rattle.format.specs.declared.ReadAnswer.the-variants.{Records, NotRead}
 use Rattle.format.specs.declared.WriteAnswer.{WriteAnswer}
 use Rattle.format.specs.declared.WriteAnswer.the-variants.{Octets, NotWritten}
-use Rattle.format.specs.declared.SameAnswer.{SameAnswer}
-use Rattle.format.specs.declared.SameAnswer.the-variants.{Same, Different, FirstRefused, SecondRefused}
 use Rattle.format.specs.Answers.{refusal}
 use Rattle.format.specs.Tree.{Items, count, recordsOf}
 use Rattle.format.specs.Judge.{Judged, judge}
@@ -23,7 +21,6 @@ use Rattle.format.specs.Judge.Judged.{refused, accepted}
 use Rattle.format.specs.Meaning.{means, encode, normalOf}
 use Rattle.format.specs.Writer.{rebuilt}
 use Rattle.format.specs.Loaded.{storeOf, loadedOf}
-use Rattle.format.specs.Same.{sameOctets}
 
 -- the record list as the core keeps it: a list of numbers for each field
 pub record Lists : Type 0 where
@@ -151,48 +148,3 @@ pub record NormaliseClaim (object : List ℕ) (lists lists′ : Lists) (store st
   pub leavesLists : lists′ ≡ lay 0 (handed (lentBy lists store room) loadedRecords (judge object)) lists
   pub leavesStore : store′ ≡ sets store 0 (handed (lentBy lists store room) storeOf (judge object))
   pub leavesRoom : room′ ≡ sets room 0 (handed (lentBy lists store room) normalOf (judge object))
-
--- same: 1 to 13 of the first object, then of the second, then 14 and 15 of the first, then of the second, then whether the normal forms are the same octets,
--- which is whether the meanings are the same (proofs/Calls, same-exactly)
-unfoldable pub refusalOr : WriteAnswer → SameAnswer → SameAnswer
-refusalOr (Octets n) a = a
-refusalOr (NotWritten r) a = FirstRefused r
-
-unfoldable pub secondRefusalOr : WriteAnswer → SameAnswer → SameAnswer
-secondRefusalOr (Octets n) a = a
-secondRefusalOr (NotWritten r) a = SecondRefused r
-
-unfoldable pub sameAnswer : (first second : Lent) → Judged → Judged → SameAnswer
-sameAnswer first second (refused r) b = FirstRefused r
-sameAnswer first second (accepted t) (refused r) = SecondRefused r
-sameAnswer first second (accepted t) (accepted u) =
-    refusalOr (normalAnswer first (accepted t))
-    (secondRefusalOr (normalAnswer second (accepted u))
-    (cond (sameOctets (normalOf t) (normalOf u)) Same Different))
-
--- both objects are accepted and fit what is lent
-unfoldable pub bothFit : (first second : Lent) → Judged → Judged → Bool
-bothFit first second (refused r) b = false
-bothFit first second (accepted t) (refused r) = false
-bothFit first second (accepted t) (accepted u) = fitsLent first t && fitsLent second u
-
--- what is handed out of each object: nothing, unless both fit
-unfoldable pub ofFirst : {A : Type 0} → (first second : Lent) → (Items → List A) → Judged → Judged → List A
-ofFirst first second f a b = cond (bothFit first second a b) (handed first f a) []
-
-unfoldable pub ofSecond : {A : Type 0} → (first second : Lent) → (Items → List A) → Judged → Judged → List A
-ofSecond first second f a b = cond (bothFit first second a b) (handed second f b) []
-
--- the objects share the lists and the store, in which the second is laid over the first; each has a room of its own
-pub record SameClaim (a b : List ℕ) (lists lists′ : Lists) (store store′ roomA roomA′ roomB roomB′ : List ℕ) (answer : SameAnswer) : Type 0 where
-  pub answers : answer ≡ sameAnswer (lentBy lists store roomA) (lentBy lists store roomB) (judge a) (judge b)
-  pub leavesLists :
-      lists′
-      ≡ lay 0 (ofSecond (lentBy lists store roomA) (lentBy lists store roomB) loadedRecords (judge a) (judge b))
-      (lay 0 (ofFirst (lentBy lists store roomA) (lentBy lists store roomB) loadedRecords (judge a) (judge b)) lists)
-  pub leavesStore :
-      store′
-      ≡ sets (sets store 0 (ofFirst (lentBy lists store roomA) (lentBy lists store roomB) storeOf (judge a) (judge b))) 0
-      (ofSecond (lentBy lists store roomA) (lentBy lists store roomB) storeOf (judge a) (judge b))
-  pub leavesFirst : roomA′ ≡ sets roomA 0 (ofFirst (lentBy lists store roomA) (lentBy lists store roomB) normalOf (judge a) (judge b))
-  pub leavesSecond : roomB′ ≡ sets roomB 0 (ofSecond (lentBy lists store roomA) (lentBy lists store roomB) normalOf (judge a) (judge b))

@@ -16,8 +16,8 @@ use Rattle.format.specs.declared.Outcome.{Outcome}
 use Rattle.format.specs.declared.WriteAnswer.{WriteAnswer}
 use Rattle.format.specs.declared.WriteAnswer.the-variants.{Octets, NotWritten}
 use Rattle.format.specs.Answers.{writeOutcome}
-use Rattle.format.specs.Calls.{Lists, lentBy, NormaliseClaim}
-use Rattle.writer.proofs.Normalised.{fit, written}
+use Rattle.format.specs.Calls.{Lists, NormaliseClaim}
+use Rattle.writer.proofs.Normalised.{written-inside}
 use Rattle.spi.specs.Common.{common}
 
 -- ---- octets compared
@@ -64,9 +64,7 @@ pub ruleset shared-ways = (shared-begin, shared-first, shared-second, shared-dif
 pub normal-within : (o : List ℕ) (l l′ : Lists) (store store′ room room′ : List ℕ) (answer : WriteAnswer) → NormaliseClaim o l l′ store store′ room room′ answer
     → length room′ ≡ length room → (r : Outcome) → r ≡ writeOutcome answer → Counts (r .count) room′
 normal-within o l l′ store store′ room room′ (Octets n) c e r q =
-    let w = written o l l′ store store′ room room′ (Octets n) c n refl in
-    let f = fit (lentBy l store room) (w .tree) (w .fits) in
-    counts (r .count) room′ (omega (arith, ap (λ x. x .count) q, w .many, f .room))
+    counts (r .count) room′ (omega (arith, ap (λ x. x .count) q, written-inside o l l′ store store′ room room′ (Octets n) c n refl))
 normal-within o l l′ store store′ room room′ (NotWritten r₁) c e r q = counts (r .count) room′ (omega (arith, ap (λ x. x .count) q))
 
 -- ---- a number that isn't negative

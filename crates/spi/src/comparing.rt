@@ -3,8 +3,6 @@ use crate::lines::say;
 use crate::lines::say_number;
 use crate::lines::say_refused;
 use crate::lines::say_sizes;
-use crate::memory::number_places;
-use crate::memory::octet_places;
 use crate::memory::room;
 use crate::objects::normal_form;
 use crate::status::BAD;
@@ -12,33 +10,6 @@ use crate::status::GOOD;
 use crate::status::worse;
 use crate::words::shared;
 use format::Outcome;
-use format::SameOutcome;
-
-fn verdict(a: &[u8], b: &[u8]) -> SameOutcome {
-    let mut tags = octet_places();
-    let mut kinds = octet_places();
-    let mut depths = octet_places();
-    let mut parents = number_places();
-    let mut starts = number_places();
-    let mut sizes = number_places();
-    let mut store = room();
-    let mut room_a = room();
-    let mut room_b = room();
-    let answer = writer::same(
-        a,
-        b,
-        &mut tags,
-        &mut kinds,
-        &mut depths,
-        &mut parents,
-        &mut starts,
-        &mut sizes,
-        &mut store,
-        &mut room_a,
-        &mut room_b,
-    );
-    answer.outcome()
-}
 
 fn say_difference(a: &[u8], b: &[u8]) {
     say(b"the normal forms first differ at ");
@@ -46,7 +17,7 @@ fn say_difference(a: &[u8], b: &[u8]) {
     say(b"\n");
 }
 
-// Both normal forms are known to fit their rooms.
+// Two accepted objects. A normal form may still be too large to be told, which counts as a refusal of its file.
 fn report(
     first: &[u8],
     a: &[u8],
@@ -54,14 +25,20 @@ fn report(
     second: &[u8],
     b: &[u8],
     second_records: usize,
-    same: bool,
 ) -> u8 {
     let mut room_a = room();
     let mut room_b = room();
     let made_a = normal_form(a, &mut room_a);
+    if made_a.number > 0 {
+        return say_refused(first, made_a.number, made_a.place);
+    }
     let made_b = normal_form(b, &mut room_b);
+    if made_b.number > 0 {
+        return say_refused(second, made_b.number, made_b.place);
+    }
     let n = made_a.count;
     let m = made_b.count;
+    let same = compare::same(a, b).outcome().same;
     if same {
         say(b"same\n")
     } else {
@@ -84,7 +61,7 @@ fn say_if_refused(path: &[u8], judged: Outcome) -> u8 {
     say_refused(path, judged.number, judged.place)
 }
 
-// Each file that is refused has its line. Where both are accepted, a normal form may still be too large.
+// Each file that is refused has its line.
 pub fn compare(first: &[u8], a: &[u8], second: &[u8], b: &[u8]) -> u8 {
     let one = judge::judge(a).outcome();
     let two = judge::judge(b).outcome();
@@ -92,11 +69,5 @@ pub fn compare(first: &[u8], a: &[u8], second: &[u8], b: &[u8]) -> u8 {
     if status > GOOD {
         return status;
     }
-    let said = verdict(a, b);
-    let which = said.which;
-    match which {
-        1 => say_refused(first, said.number, said.place),
-        2 => say_refused(second, said.number, said.place),
-        _ => report(first, a, one.count, second, b, two.count, said.same),
-    }
+    report(first, a, one.count, second, b, two.count)
 }

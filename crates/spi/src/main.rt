@@ -1,7 +1,7 @@
 // The command for people: checks objects in files, lists their records, writes their normal form, compares two. The script ./spi builds it and runs it, once a
 // pair of files where two folders are compared.
 //
-// What is said of an object is proved where it is found, in `judge`, `reader`, `writer` and `show`; here every function is safe and ends. A program has no exit
+// What is said of an object is proved where it is found, in `judge`, `reader`, `compare`, `writer` and `show`; here every function is safe and ends. A program has no exit
 // status, so the last line on standard output is a status of its own, which the script takes away and ends with.
 mod comparing;
 mod files;

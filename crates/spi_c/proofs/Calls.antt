@@ -13,7 +13,9 @@ use Rattle.format.specs.declared.ReadAnswer.{ReadAnswer}
 use Rattle.format.specs.declared.WriteAnswer.{WriteAnswer}
 use Rattle.format.specs.declared.SameAnswer.{SameAnswer}
 use Rattle.format.specs.Answers.{readOutcome, writeOutcome, sameOutcome}
-use Rattle.format.specs.Calls.{Lists, places, ReadClaim, spanOf, treeGiven, WriteClaim, lentBy, NormaliseClaim, SameClaim}
+use Rattle.format.specs.Calls.{Lists, places, ReadClaim, spanOf, treeGiven, WriteClaim, lentBy, NormaliseClaim}
+use Rattle.format.specs.Judge.{judge}
+use Rattle.format.specs.Same.{sameAnswer}
 use Rattle.spi_c.specs.Packed.{packedOutcome, packedSame, Small, SmallSame, SmallSpan}
 use Rattle.spi_c.specs.Claims.{ReadsC, WritesC, NormalisesC, SameC}
 use Rattle.spi_c.proofs.Told.{told-small, told-same-small, read-told, write-told, normal-told, same-told}
@@ -55,17 +57,12 @@ module _ (object : List ℕ) (lists lists′ : Lists) (store store′ room room�
         leaves = record { answers = refl; leavesLists = claim .leavesLists; leavesStore = claim .leavesStore; leavesRoom = claim .leavesRoom };
       }
 
-module _ (a b : List ℕ) (lists lists′ : Lists) (store store′ roomA roomA′ roomB roomB′ : List ℕ) (answer : SameAnswer) (claim : SameClaim a b lists lists′ store store′ roomA roomA′ roomB roomB′ answer)
-    (o : SameOutcome) (told : o ≡ sameOutcome answer) where
+module _ (a b : List ℕ) (answer : SameAnswer) (claim : answer ≡ sameAnswer (judge a) (judge b)) (o : SameOutcome) (told : o ≡ sameOutcome answer) where
   pub same-small : SmallSame o
-  same-small = outcome-is sameOutcome _ _ (claim .answers) o told SmallSame (told-same-small (same-told (lentBy lists store roomA) (lentBy lists store roomB) a b))
+  same-small = outcome-is sameOutcome _ _ claim o told SmallSame (told-same-small (same-told a b))
 
-  pub same-says : (n : ℕ) → n ≡ packedSame o → SameC a b lists lists′ store store′ roomA roomA′ roomB roomB′ n
-  same-says n h =
-      record {
-        answers = outcome-packed sameOutcome _ _ (claim .answers) o told packedSame n h;
-        leaves = record { answers = refl; leavesLists = claim .leavesLists; leavesStore = claim .leavesStore; leavesFirst = claim .leavesFirst; leavesSecond = claim .leavesSecond };
-      }
+  pub same-says : (n : ℕ) → n ≡ packedSame o → SameC a b n
+  same-says n h = record { answers = outcome-packed sameOutcome _ _ claim o told packedSame n h }
 
 -- numbers of 16 bits make a small span
 pub span-small : (object starts sizes : List ℕ) (i : ℕ) → getD starts i 0 < 0x1_0000 → getD sizes i 0 < 0x1_0000 → (s : Span) → s ≡ spanOf object starts sizes i → SmallSpan s

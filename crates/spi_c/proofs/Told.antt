@@ -13,18 +13,16 @@ use Rattle.format.specs.declared.Refusal.{Refusal}
 use Rattle.format.specs.declared.Outcome.{Outcome}
 use Rattle.format.specs.declared.SameOutcome.{SameOutcome}
 use Rattle.format.specs.declared.ReadAnswer.the-variants.{Records, NotRead}
-use Rattle.format.specs.declared.WriteAnswer.{WriteAnswer}
 use Rattle.format.specs.declared.WriteAnswer.the-variants.{Octets, NotWritten}
-use Rattle.format.specs.declared.SameAnswer.{SameAnswer}
 use Rattle.format.specs.declared.SameAnswer.the-variants.{Same, Different}
 use Rattle.format.specs.Answers.{refusal, readOutcome, writeOutcome, sameOutcome}
 use Rattle.format.specs.Tree.{Items, count}
 use Rattle.format.specs.Judge.{Judged, rule, unless, outermost, read, judge}
 use Rattle.format.specs.Judge.Judged.{refused, accepted}
-use Rattle.format.specs.Meaning.{means, encode, normalOf}
+use Rattle.format.specs.Meaning.{means, meaningOf, encode, normalOf}
 use Rattle.format.specs.Loaded.{storeOf}
-use Rattle.format.specs.Calls.{readAnswer, roomy, writeAnswer, Lent, storedWithin, fitsLent, misfit, normalAnswer, refusalOr, secondRefusalOr, sameAnswer}
-use Rattle.format.specs.Same.{sameOctets}
+use Rattle.format.specs.Calls.{readAnswer, roomy, writeAnswer, Lent, storedWithin, fitsLent, misfit, normalAnswer}
+use Rattle.format.specs.Same.{sameMeaning, sameAnswer}
 use Rattle.format.proofs.Induction.{few}
 use Rattle.format.proofs.Refusals.{refusal-inside}
 use Rattle.spi_c.specs.Packed.{packed, packedOutcome, outcomeIn, packedSame, sameIn, Small, SmallSame}
@@ -137,18 +135,14 @@ write-told room (some t) = go (roomy room (encode (means [] t))) refl
     go true e = counts (length (encode (means [] t))) (roomy-small room (encode (means [] t)) e)
     go false e = refuses (refusal 15 0) (late-refusal 15 (omega arith) (omega arith))
 
--- ---- normalise: an answer that is a kept refusal, or few enough octets
-data Handed : WriteAnswer → Type 0 where
-  octets : (n : ℕ) → n ≤ 32_768 → Handed (Octets n)
-  nothing : (r : Refusal) → Kept r → Handed (NotWritten r)
-
-misfit-handed : (lent : Lent) (t : Items) → Handed (misfit lent t)
+-- ---- normalise
+misfit-told : (lent : Lent) (t : Items) → Told (writeOutcome (misfit lent t))
 unfolding misfit
-misfit-handed lent t = go (leb (count t) (lent .records))
+misfit-told lent t = go (leb (count t) (lent .records))
   where
-    go : (b : Bool) → Handed (cond b (NotWritten (refusal 15 0)) (NotWritten (refusal 14 0)))
-    go true = nothing (refusal 15 0) (late-refusal 15 (omega arith) (omega arith))
-    go false = nothing (refusal 14 0) (late-refusal 14 (omega arith) (omega arith))
+    go : (b : Bool) → Told (writeOutcome (cond b (NotWritten (refusal 15 0)) (NotWritten (refusal 14 0))))
+    go true = refuses (refusal 15 0) (late-refusal 15 (omega arith) (omega arith))
+    go false = refuses (refusal 14 0) (late-refusal 14 (omega arith) (omega arith))
 
 fits-small : (lent : Lent) (t : Items) → fitsLent lent t ≡ true → length (normalOf t) ≤ 32_768
 unfolding fitsLent storedWithin
@@ -157,47 +151,28 @@ fits-small lent t h =
     let b = roomy (lent .room) (normalOf t) in
     roomy-small (lent .room) (normalOf t) (and-right a b (and-right (leb (count t) (lent .records)) (a && b) h))
 
-accepted-handed : (lent : Lent) (t : Items) → Handed (normalAnswer lent (accepted t))
-unfolding normalAnswer
-accepted-handed lent t = go (fitsLent lent t) refl
-  where
-    go : (b : Bool) → fitsLent lent t ≡ b → Handed (cond b (Octets (length (normalOf t))) (misfit lent t))
-    go true e = octets (length (normalOf t)) (fits-small lent t e)
-    go false e = misfit-handed lent t
-
-handed-told : {a : WriteAnswer} → Handed a → Told (writeOutcome a)
-handed-told (octets n l) = counts n l
-handed-told (nothing r k) = refuses r k
-
 normal-cases : (lent : Lent) (o : List ℕ) (j : Judged) → judge o ≡ j → Told (writeOutcome (normalAnswer lent j))
 unfolding normalAnswer
 normal-cases lent o (refused r) h = refuses r (judged-kept o r h)
-normal-cases lent o (accepted t) h = handed-told (accepted-handed lent t)
+normal-cases lent o (accepted t) h = go (fitsLent lent t) refl
+  where
+    go : (b : Bool) → fitsLent lent t ≡ b → Told (writeOutcome (cond b (Octets (length (normalOf t))) (misfit lent t)))
+    go true e = counts (length (normalOf t)) (fits-small lent t e)
+    go false e = misfit-told lent t
 
 pub normal-told : (lent : Lent) (o : List ℕ) → Told (writeOutcome (normalAnswer lent (judge o)))
 normal-told lent o = normal-cases lent o (judge o) refl
 
 -- ---- same
-first-or : {a : WriteAnswer} (s : SameAnswer) → Handed a → ToldSame (sameOutcome s) → ToldSame (sameOutcome (refusalOr a s))
-unfolding refusalOr
-first-or s (octets n l) h = h
-first-or s (nothing r k) h = refuses 1 r (omega arith) k
-
-second-or : {a : WriteAnswer} (s : SameAnswer) → Handed a → ToldSame (sameOutcome s) → ToldSame (sameOutcome (secondRefusalOr a s))
-unfolding secondRefusalOr
-second-or s (octets n l) h = h
-second-or s (nothing r k) h = refuses 2 r (omega arith) k
-
 decided : (b : Bool) → ToldSame (sameOutcome (cond b Same Different))
 decided true = decides true
 decided false = decides false
 
-same-cases : (first second : Lent) (o p : List ℕ) (i j : Judged) → judge o ≡ i → judge p ≡ j → ToldSame (sameOutcome (sameAnswer first second i j))
+same-cases : (o p : List ℕ) (i j : Judged) → judge o ≡ i → judge p ≡ j → ToldSame (sameOutcome (sameAnswer i j))
 unfolding sameAnswer
-same-cases first second o p (refused r) j h g = refuses 1 r (omega arith) (judged-kept o r h)
-same-cases first second o p (accepted t) (refused r) h g = refuses 2 r (omega arith) (judged-kept p r g)
-same-cases first second o p (accepted t) (accepted u) h g =
-    first-or _ (accepted-handed first t) (second-or _ (accepted-handed second u) (decided (sameOctets (normalOf t) (normalOf u))))
+same-cases o p (refused r) j h g = refuses 1 r (omega arith) (judged-kept o r h)
+same-cases o p (accepted t) (refused r) h g = refuses 2 r (omega arith) (judged-kept p r g)
+same-cases o p (accepted t) (accepted u) h g = decided (sameMeaning (meaningOf t) (meaningOf u))
 
-pub same-told : (first second : Lent) (o p : List ℕ) → ToldSame (sameOutcome (sameAnswer first second (judge o) (judge p)))
-same-told first second o p = same-cases first second o p (judge o) (judge p) refl refl
+pub same-told : (o p : List ℕ) → ToldSame (sameOutcome (sameAnswer (judge o) (judge p)))
+same-told o p = same-cases o p (judge o) (judge p) refl refl

@@ -1,5 +1,5 @@
 -- What answers are not. A number that meets a call's claim is read back as the call's outcome, so that each wrong outcome that is refuted of a call below (reader,
--- writer and normal, proofs/Wrong and its kin) is refuted of the call for C; and wrong ways to pack an outcome, refuted by computation.
+-- writer and compare, proofs/Wrong and its kin) is refuted of the call for C; and wrong ways to pack an outcome, refuted by computation.
 use mathlib.Core.Path.{_≡_, refl, ap, _∙_}
 use mathlib.Core.List.{List}
 use Prim.Native.Nat.{ℕ, _<_}
@@ -9,7 +9,8 @@ use Rattle.format.specs.declared.ReadAnswer.the-variants.{Records, NotRead}
 use Rattle.format.specs.declared.SameAnswer.the-variants.{Same, Different, FirstRefused, SecondRefused}
 use Rattle.format.specs.Answers.{refusal, readOutcome, writeOutcome, sameOutcome}
 use Rattle.format.specs.Judge.{judge}
-use Rattle.format.specs.Calls.{Lists, places, readAnswer, spanOf, treeGiven, writeAnswer, lentBy, normalAnswer, sameAnswer}
+use Rattle.format.specs.Calls.{Lists, places, readAnswer, spanOf, treeGiven, writeAnswer, lentBy, normalAnswer}
+use Rattle.format.specs.Same.{sameAnswer}
 use Rattle.spi_c.specs.Packed.{packed, packedOutcome, outcomeIn, packedSame, sameIn, packedSpan, spanIn}
 use Rattle.spi_c.specs.Claims.{ReadsC, SpansC, WritesC, NormalisesC, SameC}
 use Rattle.spi_c.proofs.Packing.{span-back}
@@ -31,9 +32,8 @@ pub normalise-back : (object : List ℕ) (lists lists′ : Lists) (store store�
     → outcomeIn a ≡ writeOutcome (normalAnswer (lentBy lists store room) (judge object))
 normalise-back object lists lists′ store store′ room room′ a c = ap outcomeIn (c .answers) ∙ told-back (normal-told (lentBy lists store room) object)
 
-pub same-back : (a b : List ℕ) (lists lists′ : Lists) (store store′ roomA roomA′ roomB roomB′ : List ℕ) (n : ℕ) → SameC a b lists lists′ store store′ roomA roomA′ roomB roomB′ n
-    → sameIn n ≡ sameOutcome (sameAnswer (lentBy lists store roomA) (lentBy lists store roomB) (judge a) (judge b))
-same-back a b lists lists′ store store′ roomA roomA′ roomB roomB′ n c = ap sameIn (c .answers) ∙ told-same-back (same-told (lentBy lists store roomA) (lentBy lists store roomB) a b)
+pub same-back : (a b : List ℕ) (n : ℕ) → SameC a b n → sameIn n ≡ sameOutcome (sameAnswer (judge a) (judge b))
+same-back a b n c = ap sameIn (c .answers) ∙ told-same-back (same-told a b)
 
 -- ---- a refusal told by its place alone, as if it were a count; a count told as a refusal
 pub refusal-unnumbered : packedOutcome (readOutcome (NotRead (refusal 13 412))) ≡ 412 → ⊥

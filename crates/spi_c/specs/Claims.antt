@@ -5,7 +5,8 @@ use Prim.Native.Nat.{ℕ}
 use lib.ListN.{length}
 use Rattle.format.specs.Answers.{readOutcome, writeOutcome, sameOutcome}
 use Rattle.format.specs.Judge.{judge}
-use Rattle.format.specs.Calls.{Lists, places, readAnswer, ReadClaim, spanOf, treeGiven, writeAnswer, WriteClaim, lentBy, normalAnswer, NormaliseClaim, sameAnswer, SameClaim}
+use Rattle.format.specs.Calls.{Lists, places, readAnswer, ReadClaim, spanOf, treeGiven, writeAnswer, WriteClaim, lentBy, normalAnswer, NormaliseClaim}
+use Rattle.format.specs.Same.{sameAnswer}
 use Rattle.spi_c.specs.Packed.{packedOutcome, packedSame, packedSpan}
 
 pub record ReadsC (object : List ℕ) (before after : Lists) (a : ℕ) : Type 0 where
@@ -23,7 +24,5 @@ pub record NormalisesC (object : List ℕ) (lists lists′ : Lists) (store store
   pub answers : a ≡ packedOutcome (writeOutcome (normalAnswer (lentBy lists store room) (judge object)))
   pub leaves : NormaliseClaim object lists lists′ store store′ room room′ (normalAnswer (lentBy lists store room) (judge object))
 
-pub record SameC (a b : List ℕ) (lists lists′ : Lists) (store store′ roomA roomA′ roomB roomB′ : List ℕ) (answer : ℕ) : Type 0 where
-  pub answers : answer ≡ packedSame (sameOutcome (sameAnswer (lentBy lists store roomA) (lentBy lists store roomB) (judge a) (judge b)))
-  pub leaves :
-      SameClaim a b lists lists′ store store′ roomA roomA′ roomB roomB′ (sameAnswer (lentBy lists store roomA) (lentBy lists store roomB) (judge a) (judge b))
+pub record SameC (a b : List ℕ) (answer : ℕ) : Type 0 where
+  pub answers : answer ≡ packedSame (sameOutcome (sameAnswer (judge a) (judge b)))

@@ -129,36 +129,12 @@ pub extern "C" fn spi_normalise(
     packed_outcome(answer.outcome())
 }
 
-// Whether two objects mean the same.
+// Whether two objects mean the same; nothing is lent.
 #[no_mangle]
-pub extern "C" fn spi_same(
-    a: &[u8],
-    b: &[u8],
-    tags: &mut [u8],
-    kinds: &mut [u8],
-    depths: &mut [u8],
-    parents: &mut [u16],
-    starts: &mut [u16],
-    sizes: &mut [u16],
-    store: &mut [u8],
-    room_a: &mut [u8],
-    room_b: &mut [u8],
-) -> u64
-    ensures { λ r. ⌜ SameC (now (a .entry)) (now (b .entry)) (lent (tags .entry) (kinds .entry) (depths .entry) (parents .entry) (starts .entry) (sizes .entry)) (lent (tags .exit) (kinds .exit) (depths .exit) (parents .exit) (starts .exit) (sizes .exit)) (now (store .entry)) (now (store .exit)) (now («room_a» .entry)) (now («room_a» .exit)) (now («room_b» .entry)) (now («room_b» .exit)) r ⌝ }
+pub extern "C" fn spi_same(a: &[u8], b: &[u8]) -> u64
+    ensures { λ r. ⌜ SameC (now (a .entry)) (now (b .entry)) r ⌝ }
 {
-    let answer = writer::same(
-        a,
-        b,
-        tags,
-        kinds,
-        depths,
-        parents,
-        starts,
-        sizes,
-        store,
-        room_a,
-        room_b,
-    );
+    let answer = compare::same(a, b);
     packed_same(answer.outcome())
 }
 

@@ -13,6 +13,5 @@ pub mod Pieces
 pub mod Laying
 pub mod WholeLaid
 pub mod Normalised
-pub mod Compared
 pub mod Theorems
 pub mod Miswritten

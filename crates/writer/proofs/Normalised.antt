@@ -242,13 +242,6 @@ module _ (o : List ℕ) (l l′ : Lists) (store store′ room room′ : List ℕ
         go (refused x) j = let w : Handed n ≡ NotWritten x = rw j at (c .answers) in let z : _≡_ {A = ℕ} 0 1 = cc in absurd (omega arith)
         go (accepted t) j = by t j (fitsLent (lentBy l store room) t) refl (leb (count t) (places l)) refl
 
-    room-enough : length (normalOf (written .tree)) ≤ length room
-    room-enough = fit (lentBy l store room) (written .tree) (written .fits) .room
-
     pub written-inside : n ≤ length room′
-    written-inside = omega (arith, written .many, room-enough, ap length (written .rooms), length-sets room 0 (normalOf (written .tree)))
-
-    pub written-octets : take n room′ ≡ normalOf (written .tree)
-    written-octets =
-        ap (λ x. take x room′) (written .many) ∙ ap (take (length (normalOf (written .tree)))) (written .rooms)
-        ∙ part-of-sets room 0 (normalOf (written .tree)) (omega (arith, room-enough))
+    written-inside =
+        omega (arith, written .many, fit (lentBy l store room) (written .tree) (written .fits) .room, ap length (written .rooms), length-sets room 0 (normalOf (written .tree)))

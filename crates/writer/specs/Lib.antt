@@ -2,4 +2,3 @@ pub mod Steps
 pub mod Theorems
 pub mod Store
 pub mod Lay
-pub mod Order

@@ -1,6 +1,6 @@
 // The writer and the normaliser. Records over lent octets become the octets of their normal form (document 01, Records and meaning): those that a caller lends are
 // checked, then measured, and only what is known to fit the room is written. An object has one normal form with all objects that mean the same: it is loaded as
-// records that are known to be well formed and to fit, so they are written without being looked at before. Two objects are compared by their normal forms.
+// records that are known to be well formed and to fit, so they are written without being looked at before.
 ghost use mathlib.Core.Path.{_≡_};
 ghost use Rattle.format.specs.declared.WriteAnswer.the-variants.{NotWritten, Octets};
 ghost use Rattle.format.specs.Answers.{refusal};
@@ -10,7 +10,6 @@ ghost use Rattle.format.specs.Lent.{lent};
 ghost use Rattle.survey.specs.declared.Standing.the-variants.{Fits};
 ghost use Rattle.survey.specs.Survey.{surveyed};
 
-mod comparing;
 mod emit;
 mod frame;
 mod item;
@@ -22,7 +21,6 @@ use crate::emit::emit_items;
 use crate::lay::lay;
 use crate::size::Sized;
 use crate::size::size_items;
-pub use comparing::same;
 use format::Refusal;
 use format::WriteAnswer;
 use reader::places;

@@ -10,52 +10,10 @@ outcome-requires : tie.Need-outcome-requires
 outcome-requires c κs = search needs
 
 packed-same-requires : tie.Need-packed-same-requires
-packed-same-requires c κs = same-small _ _ _ _ _ _ _ _ _ _ _ (c .before .before .before .before .before .before .before .before .before .before .before .before .before .before .before .before .before .before .before .same .ensures) _ (c .outcome .ensures)
-
-same-length : tie.Need-same-length
-same-length c = search needs
-
-same-length-2 : tie.Need-same-length-2
-same-length-2 c = search needs
-
-same-length-3 : tie.Need-same-length-3
-same-length-3 c = search needs
-
-same-length-4 : tie.Need-same-length-4
-same-length-4 c = search needs
-
-same-length-5 : tie.Need-same-length-5
-same-length-5 c = search needs
-
-same-length-6 : tie.Need-same-length-6
-same-length-6 c = search needs
-
-same-length-7 : tie.Need-same-length-7
-same-length-7 c = search needs
-
-same-length-8 : tie.Need-same-length-8
-same-length-8 c = search needs
-
-same-length-9 : tie.Need-same-length-9
-same-length-9 c = search needs
+packed-same-requires c κs = same-small _ _ _ (c .before .same .ensures) _ (c .outcome .ensures)
 
 returns : tie.Need-returns
-returns c = same-says _ _ _ _ _ _ _ _ _ _ _ (c .before .before .before .before .before .before .before .before .before .before .before .before .before .before .before .before .before .before .before .before .same .ensures) _ (c .before .outcome .ensures) _ (c .packed-same .ensures)
+returns c = same-says _ _ _ (c .before .before .same .ensures) _ (c .before .outcome .ensures) _ (c .packed-same .ensures)
 
 pub spi-same-spec : {M : Type 1} → statement M
-spi-same-spec =
-    tie.close
-    (tie.spec
-    same-requires
-    outcome-requires
-    packed-same-requires
-    same-length
-    same-length-2
-    same-length-3
-    same-length-4
-    same-length-5
-    same-length-6
-    same-length-7
-    same-length-8
-    same-length-9
-    returns)
+spi-same-spec = tie.close (tie.spec same-requires outcome-requires packed-same-requires returns)
