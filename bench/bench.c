@@ -78,19 +78,14 @@ static uint64_t normalise_by_library(const struct file *object, const struct fil
     return spi_normalise(object->octets, object->size, SIX_LISTS, store, ROOM, room, ROOM);
 }
 
-static uint64_t normalise_into(struct tree *tree, const struct file *file, uint8_t *out)
-{
-    size_t size = 0;
-    struct verdict verdict = read_object(tree, file->octets, (uint32_t)file->size);
-    if (verdict.number != ACCEPTED || normalise(tree, PLACES, ROOM, ROOM, out, &size) != ACCEPTED)
-        return UINT64_MAX;
-    return size;
-}
-
 static uint64_t normalise_by_second(const struct file *object, const struct file *other)
 {
     (void)other;
-    return normalise_into(&first_tree, object, first_normal);
+    size_t size = 0;
+    struct verdict verdict = read_object(&first_tree, object->octets, (uint32_t)object->size);
+    if (verdict.number != ACCEPTED || normalise(&first_tree, PLACES, ROOM, ROOM, normal_form, &size) != ACCEPTED)
+        return UINT64_MAX;
+    return size;
 }
 
 static uint64_t same_by_library(const struct file *object, const struct file *other)
@@ -100,9 +95,9 @@ static uint64_t same_by_library(const struct file *object, const struct file *ot
 
 static uint64_t same_by_second(const struct file *object, const struct file *other)
 {
-    uint64_t first = normalise_into(&first_tree, object, first_normal);
-    uint64_t then = normalise_into(&second_tree, other, second_normal);
-    return first == then && memcmp(first_normal, second_normal, first) == 0;
+    struct verdict first = read_object(&first_tree, object->octets, (uint32_t)object->size);
+    struct verdict second = read_object(&second_tree, other->octets, (uint32_t)other->size);
+    return first.number == ACCEPTED && second.number == ACCEPTED && same_meaning(&first_tree, &second_tree);
 }
 
 ON_EACH(library_read, read_by_library)
@@ -284,7 +279,7 @@ static void compare_normal_forms(void)
         for (size_t i = 0; i < sets[k].count; i++) {
             const struct file *object = &sets[k].objects[i], *other = &sets[k].others[i];
             uint64_t size = normalise_by_library(object, other);
-            if (size != normalise_by_second(object, other) || memcmp(room, first_normal, size) != 0)
+            if (size != normalise_by_second(object, other) || memcmp(room, normal_form, size) != 0)
                 stop("the normal forms differ");
         }
 }

@@ -5,19 +5,20 @@ For random trees, of which the maker knows the meaning: each way to write a tree
 form, its number of records and just its needs in store and room; a normal form is its own normal form
 and is listed; the writer makes it of the tree's records; and both ways to write a tree mean the same.
 Beside each tree, a pair of meanings.py that is known to mean the same or not; the ways to make one take turns, so
-COUNT is at least the number of ways.
+COUNT is at least the number of ways.  At last such pairs whose normal forms are no objects, since they are too large.
 """
 import random
 import sys
 
-from make_cases import Encoder, OBJECT_LIMIT, case_l, case_n, case_s, case_w, make_records, random_raw
-from meanings import WAYS, known_pair
+from make_cases import Encoder, Maker, OBJECT_LIMIT, case_l, case_n, case_s, case_w, make_records, random_raw
+from meanings import SWOLLEN_WAYS, WAYS, known_pair, random_tree
 from streams import run, split_answers
 
 
-def pair_law(rng, answer, way):
-    first, second = known_pair(rng, answer, way)
-    return case_s(first.octets(), second.octets()), answer
+def pair_law(rng, answer, way, draw=random_tree):
+    """What is tried, the case and the answer."""
+    first, second = known_pair(rng, answer, way, draw)
+    return f"{answer}: {way}", case_s(first.octets(), second.octets()), answer
 
 
 def tree_laws(rng):
@@ -51,8 +52,9 @@ def laws(seed, count):
         rng = random.Random(f"laws {seed} {index}")
         for case, must in tree_laws(rng):
             yield "a tree", case, must
-        answer, way = WAYS[index % len(WAYS)]
-        yield f"{answer}: {way}", *pair_law(rng, answer, way)
+        yield pair_law(rng, *WAYS[index % len(WAYS)])
+    for answer, way in SWOLLEN_WAYS:
+        yield pair_law(random.Random(f"swollen {seed} {way}"), answer, way, Maker.swollen_tree)
 
 
 def main():
@@ -66,7 +68,8 @@ def main():
     for what, case, must, answer in broken[:3]:
         print(f"{what}: {chr(case[0])} {case.hex()[:200]}\n  must be: {must[:200]}\n  answered: {answer[:200]}")
     good = not broken and status == 0 and len(answers) == len(tried)
-    print(f"laws: {len(tried)} answers of seed {seed}, {count} of pairs in {len(WAYS)} ways: {'all hold' if good else 'NOT ALL HOLD'}")
+    pairs = count + len(SWOLLEN_WAYS)
+    print(f"laws: {len(tried)} answers of seed {seed}, {pairs} of pairs in {len(WAYS)} ways: {'all hold' if good else 'NOT ALL HOLD'}")
     sys.exit(0 if good else 1)
 
 

@@ -35,6 +35,25 @@ def both(octets, places=65535):
     yield case_n(places, 65536, 65536, octets)
 
 
+def other_tokens(size, last):
+    """A text of so many octets, `radio` over and over but for the last letter, in tokens of 250."""
+    radio = b"radio" * 50
+    whole, rest = divmod(size - 1, len(radio))
+    return top(item(0x04, entry(0x13, radio)), item(0x01, b"\x13" * whole + radio[:rest] + last))
+
+
+def large_meanings(table):
+    """Many items whose tokens together make them large: attributes in two orders, with values exchanged, one item fewer."""
+    def link(uri, description, turned=False):
+        attributes = item(0x80, uri), item(0x83, description)
+        return item(0x18, b"".join(reversed(attributes) if turned else attributes))
+    forms = [top(table, link(b"\x01\x01", b"\x01") * 60), top(table, link(b"\x01\x01", b"\x01", True) * 60),
+             top(table, link(b"\x01\x01", b"\x01") * 59 + link(b"\x01", b"\x01\x01")), top(table, link(b"\x01\x01", b"\x01") * 59)]
+    for first in forms:
+        for second in forms:
+            yield case_s(first, second)
+
+
 def sizes():
     """Bodies around the length forms, objects around the limits, long forms of small sizes."""
     for size in (0, 1, 252, 253, 254, 255, 256, 8000):
@@ -51,14 +70,15 @@ def sizes():
     yield case_l(16383, top(b"\x10\x00" * 16382))
     yield case_l(16382, top(b"\x10\x00" * 16382))
     yield from both(b"")
-    # a token of 255 octets: the output and the store grow past their limits
-    table = item(0x04, entry(0x01, b"t" * 255))
-    for uses in (128, 129, 257, 258, 6000):
-        grown = top(table, item(0x01, b"\x01" * uses))
+    # a token of 255 octets: the output and the store grow past their limits, and nothing limits what is compared
+    table = item(0x04, entry(0x01, b"radio" * 51))
+    for uses in (128, 129, 257, 258, 6000, 32000):
+        grown, size = top(table, item(0x01, b"\x01" * uses)), 255 * uses
         yield from both(grown)
-        yield case_s(grown, top())
-        yield case_s(top(), grown)
-        yield case_s(grown, b"")
+        for other in (top(), grown, b"", other_tokens(size, b"o"), other_tokens(size, b"x"), other_tokens(size + 1, b"r")):
+            yield case_s(grown, other)
+            yield case_s(other, grown)
+    yield from large_meanings(table)
     # output of exactly 32,768 and one more from a shorter object
     for rest in (119, 120, 121):
         grown = top(table, item(0x01, b"\x01" * 128 + b"a" * rest))

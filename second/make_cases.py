@@ -359,11 +359,24 @@ class Maker:
                 branch.children.append(Node(0x01, Text([(self.letters(rng.randint(200, 6000)), 0)])))
                 top.children.append(branch)
         else:
-            token = rng.choice(TOKEN_TAGS)
-            self.table[token] = b"t" * rng.choice([250, 255])
-            uses = rng.choice([120, 128, 129, 256, 257, 258, 263])
-            top.children.append(Node(0x01, Text([(self.table[token], token)] * uses)))
+            top.children.append(Node(0x01, self.swollen_text([120, 128, 129, 256, 257, 258, 263])))
         return top
+
+    def swollen_text(self, uses):
+        """A text that a token, used so often, makes large; no text that uses the table may have been made before."""
+        token = self.rng.choice(TOKEN_TAGS)
+        self.table[token] = self.letters(self.rng.choice([250, 255]))
+        return Text([(self.table[token], token)] * self.rng.choice(uses))
+
+    def swollen_tree(self):
+        """A tree whose normal form is above 32,768 octets, though tokens can write it in fewer."""
+        text, tree, branch = self.swollen_text([132, 200, 257, 258, 263]), self.tree(), Node(0x16)
+        if self.rng.random() < 0.5:
+            branch.attributes.append(Node(0x80, text))
+        else:
+            branch.children.append(Node(0x01, text))
+        tree.children.insert(sum(1 for part in tree.children if part.tag == 0x06), branch)
+        return tree
 
 
 # ---- Octets that mean a tree -------------------------------------------------------------------
@@ -632,10 +645,13 @@ def random_w(rng):
 
 def random_s(rng):
     """Two objects of which it is known whether they mean the same, or two ways to write one tree; now and then damaged."""
-    from meanings import WAYS, known_pair  # which stands on the trees of this file
-    if rng.random() < 0.1:
+    from meanings import SWOLLEN_WAYS, WAYS, WRITTEN_TWICE, known_pair  # which stands on the trees of this file
+    roll = rng.random()
+    if roll < 0.1:
         maker, tree, first = random_raw(rng)
         second = Encoder(maker, 0.2).raw(tree)
+    elif roll < 0.15:
+        first, second = known_pair(rng, *rng.choice([WRITTEN_TWICE, rng.choice(SWOLLEN_WAYS)]), Maker.swollen_tree)
     else:
         first, second = known_pair(rng, *rng.choice(WAYS))
     damaged = rng.choice([0, 0, 0, 0, 0, 0, 0, 1, 2, 3])

@@ -405,41 +405,41 @@ SAME = {
     "a token": token,
     "entries that no text uses": unused_entries,
 }
-ALL_AT_ONCE = "all of it at once"
 
-WAYS = [("different", way) for way in DIFFERENT] + [("same", way) for way in [*SAME, ALL_AT_ONCE]]
+# One tree in two of its forms. Neither need be the normal form, so that may be above 32,768 octets: no object then, but a meaning.
+WRITTEN_TWICE = ("same", "all of it at once")
+SWOLLEN_WAYS = [("different", way) for way in DIFFERENT] + [WRITTEN_TWICE]
+
+WAYS = SWOLLEN_WAYS + [("same", way) for way in SAME]
 
 
 # ---- Pairs ---------------------------------------------------------------------------------------------
 
-def drawn_pair(rng, answer, way):
+def drawn_pair(rng, answer, way, draw):
     """The items of two objects, or None where the tree that was drawn has nothing to change in this way."""
     maker = Maker(rng)
-    tree = random_tree(maker)
+    tree = draw(maker)
     encoder = Encoder(maker, rng.choice([0, 0.1, 0.3]))
+    if tree.too_long():
+        return None
     if answer == "different":
         twin = tree.copy()
-        if not DIFFERENT[way](rng, twin) or twin.too_long() or len(twin.normal()) > OBJECT_LIMIT:
+        if not DIFFERENT[way](rng, twin) or twin.too_long():
             return None
         assert meaning(tree) != meaning(twin), way
-        return tree, encoder.raw(tree), encoder.raw(twin)
+        return encoder.raw(tree), encoder.raw(twin)
+    if (answer, way) == WRITTEN_TWICE:
+        return encoder.raw(tree), encoder.raw(tree)
     again = written(tree)
-    if way == ALL_AT_ONCE:
-        again = encoder.raw(tree)
-    elif not SAME[way](rng, again):
+    if not SAME[way](rng, again):
         return None
-    else:
-        assert again.octets() != tree.normal(), way
-    return tree, written(tree), again
+    assert again.octets() != tree.normal(), way
+    return written(tree), again
 
 
-def known_pair(rng, answer, way):
+def known_pair(rng, answer, way, draw=random_tree):
     """The items of two accepted objects, of which the answer is true, in either order."""
     while True:
-        pair = drawn_pair(rng, answer, way)
-        if pair is None:
-            continue
-        tree, *objects = pair
-        if len(tree.normal()) <= OBJECT_LIMIT and not tree.too_long() and max(len(raw.octets()) for raw in objects) <= OBJECT_LIMIT:
-            rng.shuffle(objects)
-            return objects
+        pair = drawn_pair(rng, answer, way, draw)
+        if pair is not None and max(len(raw.octets()) for raw in pair) <= OBJECT_LIMIT:
+            return rng.sample(pair, 2)

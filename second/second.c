@@ -7,7 +7,7 @@
  * TS 102 371 V3.2.1 (the layouts) alone, so that it can be held against the proved program.
  *
  * All memory is fixed; nothing is allocated.  Each octet of an object is looked at once while it is
- * judged and once more while its normal form is written.
+ * judged and once more while its normal form is written or its meaning compared.
  */
 #include <stdbool.h>
 #include <stdint.h>
@@ -23,9 +23,7 @@ enum {
     FIRST_ATTRIBUTE = 0x80,
     ATTRIBUTE_TAGS = 8,     /* annex E goes no further than 0x87 */
     ELEMENT_TAGS = 0x80,
-    TOKEN_TAGS = 0x20,
-    SAME_PLACES = 16384,    /* lent by an S case for each object, with rooms of OBJECT_LIMIT */
-    SAME_STORE = 65536
+    TOKEN_TAGS = 0x20
 };
 
 /* Refusal numbers of document 01; 0 stands for no refusal. */
@@ -348,13 +346,18 @@ static int read_token_table(const uint8_t *body, size_t length, struct token_tab
     return ACCEPTED;
 }
 
+static bool has_entry(const struct token_table *table, uint8_t octet)
+{
+    return octet < TOKEN_TAGS && (UINT32_C(1) << octet & table->present) != 0;
+}
+
 /* Writes a text with each token octet replaced by its entry; answers where the output ends. */
 static uint8_t *write_expanded(uint8_t *out, const uint8_t *text, size_t length,
                                const struct token_table *table)
 {
     for (size_t at = 0; at < length; at++) {
         uint8_t octet = text[at];
-        if (octet < TOKEN_TAGS && (UINT32_C(1) << octet & table->present) != 0) {
+        if (has_entry(table, octet)) {
             memcpy(out, table->text[octet], table->length[octet]);
             out += table->length[octet];
         } else {
@@ -477,6 +480,22 @@ static void clear_tree(struct tree *tree, const uint8_t *octets)
 static const uint8_t *body_octets(const struct tree *tree, const struct node *node)
 {
     return tree->octets + node->start;
+}
+
+/* The attributes of one element, each at the place of its tag, and the index behind them. */
+struct attributes {
+    const struct node *by_tag[ATTRIBUTE_TAGS];
+    size_t end;
+};
+
+/* Their records stand side by side, from `index` on; where no attribute stands there, there are none. */
+static struct attributes attributes_at(const struct tree *tree, size_t index)
+{
+    struct attributes found = {.end = index};
+
+    for (; found.end < tree->count && is_attribute(tree->nodes[found.end].tag); found.end++)
+        found.by_tag[tree->nodes[found.end].tag - FIRST_ATTRIBUTE] = &tree->nodes[found.end];
+    return found;
 }
 
 /* ---- Rules that the reader and the writer share ------------------------------------------------ */
@@ -897,17 +916,15 @@ static uint8_t *write_item(uint8_t *out, const struct tree *tree, const struct n
     return write_body(write_header(out, node), tree, node);
 }
 
-/* Writes one element's attributes by rising tag.  Their records stand side by side, `*index` at the
- * first; it is left behind the last. */
+/* Writes one element's attributes by rising tag; `*index` is left behind the last. */
 static uint8_t *write_attributes(uint8_t *out, const struct tree *tree, size_t *index)
 {
-    const struct node *by_tag[ATTRIBUTE_TAGS] = {0};
+    struct attributes attributes = attributes_at(tree, *index);
 
-    for (; *index < tree->count && is_attribute(tree->nodes[*index].tag); ++*index)
-        by_tag[tree->nodes[*index].tag - FIRST_ATTRIBUTE] = &tree->nodes[*index];
     for (size_t i = 0; i < ATTRIBUTE_TAGS; i++)
-        if (by_tag[i] != NULL)
-            out = write_item(out, tree, by_tag[i]);
+        if (attributes.by_tag[i] != NULL)
+            out = write_item(out, tree, attributes.by_tag[i]);
+    *index = attributes.end;
     return out;
 }
 
@@ -922,6 +939,147 @@ static void write_tree(uint8_t *out, const struct tree *tree)
         else
             out = write_item(out, tree, &tree->nodes[index++]);
     }
+}
+
+/* ---- Whether two objects mean the same (01, "Records and meaning") ------------------------------ */
+
+/* An item and the tree that it stands in. */
+struct place {
+    const struct tree *tree;
+    const struct node *node;
+};
+
+/* A text while it is read with its tokens replaced: octets that follow each other, then the rest of it. */
+struct reading {
+    const struct token_table *table;
+    const uint8_t *run, *rest;
+    size_t run_left, rest_left;
+};
+
+static struct reading begin_reading(struct place text)
+{
+    const uint8_t *body = body_octets(text.tree, text.node);
+    size_t length = text.node->length;
+
+    if (!text.node->has_tokens)
+        return (struct reading){.run = body, .run_left = length};
+    return (struct reading){.table = &text.tree->table, .rest = body, .rest_left = length};
+}
+
+/* Goes on to the next octets where none are left in the run: a token's, or those before the next token. */
+static void next_run(struct reading *reading)
+{
+    while (reading->run_left == 0 && reading->rest_left > 0) {
+        uint8_t octet = reading->rest[0];
+        size_t taken = 1;
+        if (has_entry(reading->table, octet)) {
+            reading->run = reading->table->text[octet];
+            reading->run_left = reading->table->length[octet];
+        } else {
+            while (taken < reading->rest_left && !has_entry(reading->table, reading->rest[taken]))
+                taken++;
+            reading->run = reading->rest;
+            reading->run_left = taken;
+        }
+        reading->rest += taken;
+        reading->rest_left -= taken;
+    }
+}
+
+/* Whether two texts are the same once their tokens are replaced. */
+static bool same_texts(struct place first, struct place second)
+{
+    struct reading a = begin_reading(first), b = begin_reading(second);
+
+    for (;;) {
+        next_run(&a);
+        next_run(&b);
+        size_t both = a.run_left < b.run_left ? a.run_left : b.run_left;
+        if (both == 0)
+            return a.run_left == b.run_left;
+        if (memcmp(a.run, b.run, both) != 0)
+            return false;
+        a.run += both;
+        a.run_left -= both;
+        b.run += both;
+        b.run_left -= both;
+    }
+}
+
+static bool same_times(struct place first, struct place second)
+{
+    struct time_value a, b;
+
+    read_time(body_octets(first.tree, first.node), first.node->length, &a);
+    read_time(body_octets(second.tree, second.node), second.node->length, &b);
+    return a.date == b.date && a.hours == b.hours && a.minutes == b.minutes && a.seconds == b.seconds &&
+           a.offset == b.offset;
+}
+
+/* A bearer's flags give its length, so bearers of one meaning differ at most in the bits that mean nothing. */
+static bool same_bearers(const uint8_t *a, const uint8_t *b, size_t length)
+{
+    return (a[0] & BEARER_MEANING) == (b[0] & BEARER_MEANING) && memcmp(a + 1, b + 1, length - 1) == 0;
+}
+
+/* Whether two items of one tag, in elements of one tag, mean the same; what a list of items means is told
+ * by these items.  Items of one meaning have normal forms of one size. */
+static bool same_items(struct place first, struct place second)
+{
+    const uint8_t *a = body_octets(first.tree, first.node), *b = body_octets(second.tree, second.node);
+
+    if (first.node->body == ITEMS)
+        return true;
+    if (first.node->normal_size != second.node->normal_size)
+        return false;
+    switch (first.node->body) {
+    case TEXT:
+        return same_texts(first, second);
+    case TIME:
+        return same_times(first, second);
+    case BEARER:
+        return same_bearers(a, b, first.node->length);
+    default:
+        return memcmp(a, b, first.node->length) == 0;
+    }
+}
+
+/* Whether two elements have the same attributes, as a set; `*index` is left behind them, in both trees. */
+static bool same_attributes(const struct tree *first, const struct tree *second, size_t *index)
+{
+    struct attributes a = attributes_at(first, *index), b = attributes_at(second, *index);
+
+    for (size_t i = 0; i < ATTRIBUTE_TAGS; i++) {
+        if ((a.by_tag[i] != NULL) != (b.by_tag[i] != NULL))
+            return false;
+        if (a.by_tag[i] != NULL &&
+            !same_items((struct place){first, a.by_tag[i]}, (struct place){second, b.by_tag[i]}))
+            return false;
+    }
+    *index = a.end;
+    return true;
+}
+
+/* Whether two accepted objects mean the same: item by item in reading order, in which tags and depths tell
+ * what stands in what.  Up to an item that differs, as many stand before it in one tree as in the other. */
+static bool same_meaning(const struct tree *first, const struct tree *second)
+{
+    size_t index = 0;
+
+    while (index < first->count && index < second->count) {
+        const struct node *a = &first->nodes[index], *b = &second->nodes[index];
+        if (is_attribute(a->tag)) {
+            if (!same_attributes(first, second, &index))
+                return false;
+            continue;
+        }
+        if (a->tag != b->tag || a->depth != b->depth)
+            return false;
+        if (!same_items((struct place){first, a}, (struct place){second, b}))
+            return false;
+        index++;
+    }
+    return first->count == second->count;
 }
 
 /* ---- The stream of cases ----------------------------------------------------------------------- */
@@ -1081,7 +1239,7 @@ static void put_octets(const char *word, const uint8_t *octets, size_t size)
 
 static struct tree first_tree, second_tree;
 static struct object first_object, second_object;
-static uint8_t first_normal[OBJECT_LIMIT], second_normal[OBJECT_LIMIT];
+static uint8_t normal_form[OBJECT_LIMIT];
 static uint8_t lent_records[LIST_LIMIT * RECORD_OCTETS];
 
 /* Writes the normal form of an accepted object, or answers 14 or 15 and writes nothing. */
@@ -1126,11 +1284,11 @@ static bool answer_normal(void)
         return false;
     struct verdict verdict = read_object(&first_tree, first_object.octets, first_object.size);
     if (verdict.number == ACCEPTED)
-        verdict.number = normalise(&first_tree, places, store, room, first_normal, &size);
+        verdict.number = normalise(&first_tree, places, store, room, normal_form, &size);
     if (verdict.number != ACCEPTED)
         put_refusal(verdict);
     else
-        put_octets("normal ", first_normal, size);
+        put_octets("normal ", normal_form, size);
     return true;
 }
 
@@ -1153,8 +1311,8 @@ static bool answer_written(void)
         put_refusal(verdict);
         return true;
     }
-    write_tree(first_normal, &first_tree);
-    put_octets("written ", first_normal, size);
+    write_tree(normal_form, &first_tree);
+    put_octets("written ", normal_form, size);
     return true;
 }
 
@@ -1164,29 +1322,19 @@ static void put_refusal_in(struct verdict verdict, const char *which)
     put_string(which);
 }
 
-/* Two objects mean the same exactly when their normal forms are the same octets. */
+/* Nothing is lent, so no object is too large to be compared. */
 static bool answer_same(void)
 {
-    size_t first_size = 0, second_size = 0;
-
     if (!take_object(&first_object) || !take_object(&second_object))
         return false;
     struct verdict first = read_object(&first_tree, first_object.octets, first_object.size);
     struct verdict second = read_object(&second_tree, second_object.octets, second_object.size);
-    if (first.number == ACCEPTED && second.number == ACCEPTED) {
-        first.number =
-            normalise(&first_tree, SAME_PLACES, SAME_STORE, OBJECT_LIMIT, first_normal, &first_size);
-        second.number =
-            normalise(&second_tree, SAME_PLACES, SAME_STORE, OBJECT_LIMIT, second_normal, &second_size);
-    }
     if (first.number != ACCEPTED)
         put_refusal_in(first, " in first");
     else if (second.number != ACCEPTED)
         put_refusal_in(second, " in second");
-    else if (first_size == second_size && memcmp(first_normal, second_normal, first_size) == 0)
-        put_string("same");
     else
-        put_string("different");
+        put_string(same_meaning(&first_tree, &second_tree) ? "same" : "different");
     return true;
 }
 
