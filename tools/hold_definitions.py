@@ -24,8 +24,7 @@ LONGEST = 160  # octets in a case: the prover computes some milliseconds for eac
 CHUNK = 20     # cases under one claim
 KINDS = {"element": 0, "attribute": 1, "cdata": 2}
 DEFINITIONS = {"octets": "Numbers Header", "text": "Text Tokens", "values": "Table Times Bearers Values",
-               "format": "Tree Judge Meaning Writer Loaded Calls"}
-LENT = "record { records = 16_384; store = 65_536; room = 32_768 }"
+               "format": "Tree Judge Meaning Writer Loaded Calls Same"}
 
 ANSWERS = """-- What the definitions answer to a case of the stream.
 use mathlib.Core.Bool.{Bool, true, false, cond}
@@ -40,7 +39,8 @@ use Rattle.format.specs.declared.SameAnswer.{SameAnswer}
 use Rattle.format.specs.declared.SameAnswer.the-variants.{Same, Different, FirstRefused, SecondRefused}
 use Rattle.format.specs.Judge.{Judged, judge}
 use Rattle.format.specs.Meaning.{normalOf}
-use Rattle.format.specs.Calls.{Lists, readAnswer, readRecords, treeGiven, writeAnswer, writeOctets, Lent, normalAnswer, handed, sameAnswer}
+use Rattle.format.specs.Calls.{Lists, readAnswer, readRecords, treeGiven, writeAnswer, writeOctets, Lent, normalAnswer, handed}
+use Rattle.format.specs.Same.{sameAnswer}
 
 pub data Case : Type 0 where
   list : ℕ → List ℕ → Case
@@ -76,8 +76,8 @@ abbrev pub answer : Case → Answer
 answer (list places o) = afterRead (readAnswer places (judge o)) (readRecords places (judge o))
 answer (normalise lent o) = afterWrite (normalAnswer lent (judge o)) (handed lent normalOf (judge o))
 answer (write n lists room o) = afterWrite (writeAnswer room (treeGiven n lists o)) (writeOctets room (treeGiven n lists o))
-answer (compare a b) = afterSame (sameAnswer LENT LENT (judge a) (judge b))
-""".replace("LENT", f"({LENT})")
+answer (compare a b) = afterSame (sameAnswer (judge a) (judge b))
+"""
 
 
 class Fields:
