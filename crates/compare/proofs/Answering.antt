@@ -32,7 +32,7 @@ use Rattle.survey.specs.Places.{tableBody}
 use Rattle.survey.proofs.Places.{whole}
 use Rattle.survey.proofs.Tables.{table-told}
 use Rattle.compare.specs.Normal.{shaped}
-use Rattle.format.proofs.Same.{octets-exactly, tests-agree}
+use Rattle.format.proofs.Same.{same-octets, octets-exactly, tests-agree, same-exactly}
 use Rattle.compare.proofs.Normalising.{shaped-exactly}
 use Rattle.compare.specs.Items.{SameItems, Compared}
 
@@ -113,6 +113,12 @@ module _ (a b : List ℕ) (ra : ReadAnswer) (ae : ra ≡ judgeAnswer (judge a)) 
   unfolding sameAnswer
   same-first n q = sym (ap (λ j. sameAnswer j (judge b)) (was-refused (judge a) n (sym q ∙ ae)))
 
+  pub same-twin : Octets a → (m : Counts) → ra ≡ Records m → (r : Bool) → r ≡ sameOctets a b → r ≡ true → Same ≡ sameAnswer (judge a) (judge b)
+  same-twin oa m q r e h =
+      let x = was-accepted (judge a) m (sym q ∙ ae) in
+      let twin : a ≡ b = same-octets a b (sym e ∙ h) in
+      sym (ap (λ o. sameAnswer (judge a) (judge o)) (sym twin) ∙ same-exactly a a (x .tree) (x .tree) oa oa (x .is) (x .is) .1 refl)
+
   module _ (m : Counts) (q : ra ≡ Records m) (rb : ReadAnswer) (be : rb ≡ judgeAnswer (judge b)) where
     pub same-second : (n : Refusal) → rb ≡ NotRead n → SecondRefused n ≡ sameAnswer (judge a) (judge b)
     unfolding sameAnswer
@@ -125,7 +131,7 @@ module _ (a b : List ℕ) (ra : ReadAnswer) (ae : ra ≡ judgeAnswer (judge a)) 
         let y = was-accepted (judge b) n (sym p ∙ be) in
         c (x .tree) (y .tree) (x .is) (y .is) ∙ sym (ap₂ sameAnswer (x .is) (y .is))
 
-pub ruleset same-ways = (same-first, same-second, same-both)
+pub ruleset same-ways = (same-first, same-twin, same-second, same-both)
 
 -- ---- is_normal
 
