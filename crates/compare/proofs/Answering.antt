@@ -34,7 +34,8 @@ use Rattle.survey.proofs.Tables.{table-told}
 use Rattle.compare.specs.Normal.{shaped}
 use Rattle.format.proofs.Same.{same-octets, octets-exactly, tests-agree, same-exactly}
 use Rattle.compare.proofs.Normalising.{shaped-exactly}
-use Rattle.compare.specs.Items.{SameItems, Compared}
+use Rattle.compare.specs.Items.{sameChildren, Compared}
+use Rattle.compare.proofs.Comparing.{children-say}
 
 -- ---- a meaning depends on a table by its expansions alone
 
@@ -91,10 +92,9 @@ found-means o t table index h e x =
 -- ---- compare_accepted
 
 module _ (a b ta tb xa xb : List ℕ) (ea : ta ≡ tableBody a) (eb : tb ≡ tableBody b) (ia : Indexes (entries ta) xa) (ib : Indexes (entries tb) xb)
-    (r : Bool) (s : SameItems 16 (entriesBy xa ta) a (entriesBy xb tb) b r) where
+    (r : Bool) (s : r ≡ sameChildren 16 (entriesBy xa ta) a (entriesBy xb tb) b) where
   says : (t u : Items) → judge a ≡ accepted t → judge b ≡ accepted u → r ≡ sameMeaning (meaningOf t) (meaningOf u)
-  unfolding SameItems
-  says t u x y = s 0 0 1 1 0 0 t u refl (whole a t x) (whole b u y) ∙ ap₂ sameMeaning (found-means a t ta xa x ea ia) (found-means b u tb xb y eb ib)
+  says t u x y = s ∙ children-say (entriesBy xa ta) (entriesBy xb tb) 16 0 0 1 1 0 0 a b t u refl (whole a t x) (whole b u y) ∙ ap₂ sameMeaning (found-means a t ta xa x ea ia) (found-means b u tb xb y eb ib)
 
   pub compared-same : r ≡ true → Compared a b Same
   unfolding Compared

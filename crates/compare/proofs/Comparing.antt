@@ -3,12 +3,12 @@ use mathlib.Core.Path.{_≡_, refl, sym, ap, ap₂, _∙_, subst}
 use mathlib.Core.Bool.{Bool, true, false, cond, _&&_, and-true as and-yes}
 use mathlib.Core.Logic.{_↔_}
 use mathlib.Core.Option.{some}
-use mathlib.Core.List.{List}
-use Prim.Native.Nat.{ℕ, _+_, _-_, _≤_, _<_}
-use native.Mathlib.Nat.{add-zero}
+use mathlib.Core.List.{List, []}
+use Prim.Native.Nat.{ℕ, zero, suc, _+_, _-_, _≤_, _<_}
 use native.Mathlib.Omega.{arith}
+use lib.Dec.{eqb}
 use lib.ListN.{length, drop, getD}
-use borrow.Author.Tests.{eq-eqb, ne-eqb}
+use borrow.Author.Tests.{eqb-true, eqb-false, eq-eqb, ne-eqb}
 use Rattle.text.specs.Tokens.{Entries, expanded}
 use Rattle.values.specs.declared.Kind.{Kind}
 use Rattle.values.specs.declared.Kind.the-variants.{HoldsItems, HoldsTokens, HoldsText, HoldsPlain, HoldsTime, HoldsBearer, HoldsNumber}
@@ -21,7 +21,7 @@ use Rattle.values.proofs.Laws.{known-kind, unknown-kind}
 use Rattle.format.specs.Tree.{Items}
 use Rattle.format.specs.Tree.Items.{end, item}
 use Rattle.format.specs.Judge.{isItems, isText}
-use Rattle.format.specs.Meaning.{opens, isChild, attributesIn, cdataIn, leafOctets, means}
+use Rattle.format.specs.Meaning.{Meaning, opens, isChild, attributesIn, cdataIn, leafOctets, means}
 use Rattle.format.specs.Meaning.Meaning.{nothing, element, leaf}
 use Rattle.format.specs.WellFormed.{WellFormed}
 use Rattle.format.specs.Same.{sameOctets, sameMaybe, sameAttributes, sameMeaning}
@@ -30,10 +30,12 @@ use Rattle.compare.specs.declared.walks.Child.{Child}
 use Rattle.compare.specs.declared.walks.Child.the-variants.{End, Found}
 use Rattle.compare.specs.declared.items.Content.{Content}
 use Rattle.compare.specs.declared.items.Content.the-variants.{Items as InItems, Text as InText, Octets as InOctets}
-use Rattle.compare.specs.Walks.{between, ChildTold, ChildFound, Children}
-use Rattle.compare.specs.Items.{SameSets, SameData, contentOf, isEnded, sameInside, SameChild, SameItems}
+use Rattle.compare.specs.Walks.{between, bodyOfTag, childrenIn, ChildFound, Children}
+use Rattle.compare.specs.Items.{sameSets, sameText, sameEach, sameElement, sameChildren, contentOf, isEnded}
 use Rattle.format.proofs.Same.{meaning-exactly}
-use Rattle.compare.proofs.Sets.{data-says}
+use Rattle.compare.proofs.Walking.{Told, children-told}
+use Rattle.compare.proofs.Walking.Told.{over, comes}
+use Rattle.compare.proofs.Sets.{SameData, sets-say, data-says}
 
 -- ---- content_of
 
@@ -107,61 +109,62 @@ module _ (tag : ℕ) (c : Content) (ce : c ≡ contentOf (known 0 tag)) where
 
 -- ---- same_child
 
-module _ (es fs : Entries) (tag : ℕ) (a : List ℕ) (t : Items) (b : List ℕ) (u : Items) where
-  inside-open : opens tag ≡ true
-      → sameInside es fs tag a t b u ≡ sameAttributes 128 0x80 (attributesIn es tag t) (attributesIn fs tag u) && sameMaybe sameOctets (cdataIn es t) (cdataIn fs u) && sameMeaning (means es t) (means fs u)
-  unfolding sameInside
-  inside-open h = rw h
+module _ (es fs : Entries) (tag : ℕ) (a b : List ℕ) where
+  element-shut : (levels : ℕ) → opens tag ≡ false → sameElement levels es fs tag a b ≡ sameOctets (leafOctets es tag a) (leafOctets fs tag b)
+  unfolding sameElement
+  element-shut zero h = rw h
+  element-shut (suc n) h = rw h
 
-  inside-text : opens tag ≡ false → isText (known 0 tag) ≡ true → sameInside es fs tag a t b u ≡ sameOctets (expanded es a) (expanded fs b)
-  unfolding sameInside leafOctets
-  inside-text h k = rw (h, k)
+  element-text : (levels : ℕ) → opens tag ≡ false → isText (known 0 tag) ≡ true → sameElement levels es fs tag a b ≡ sameOctets (expanded es a) (expanded fs b)
+  unfolding leafOctets
+  element-text levels h k = element-shut levels h ∙ rw k
 
-  inside-octets : opens tag ≡ false → isText (known 0 tag) ≡ false → sameInside es fs tag a t b u ≡ sameOctets a b
-  unfolding sameInside leafOctets
-  inside-octets h k = rw (h, k)
+  element-octets : (levels : ℕ) → opens tag ≡ false → isText (known 0 tag) ≡ false → sameElement levels es fs tag a b ≡ sameOctets a b
+  unfolding leafOctets
+  element-octets levels h k = element-shut levels h ∙ rw k
 
-module _ (tag left : ℕ) (es : Entries) (a : List ℕ) (fs : Entries) (b : List ℕ) (c : Content) (ce : c ≡ contentOf (known 0 tag)) where
-  pub child-octets : c ≡ InOctets → (r : Bool) → r ≡ sameOctets a b → SameChild tag left es a fs b r
-  unfolding SameChild
-  child-octets q r f d e i j t u l x z = let s = says-octets tag c ce q in f ∙ sym (inside-octets es fs tag a t b u (s .0) (s .1))
+  element-deep : (levels : ℕ) → levels ≡ 0 → opens tag ≡ true → sameElement levels es fs tag a b ≡ false
+  unfolding sameElement
+  element-deep levels e h = ap (λ n. sameElement n es fs tag a b) e ∙ rw h
 
-  pub child-text : c ≡ InText → (r : Bool) → r ≡ sameOctets (expanded es a) (expanded fs b) → SameChild tag left es a fs b r
-  unfolding SameChild
-  child-text q r f d e i j t u l x z = let s = says-text tag c ce q in f ∙ sym (inside-text es fs tag a t b u (s .0) (s .1))
+  element-open : (levels : ℕ) → (levels ≡ 0 → ⊥) → opens tag ≡ true
+      → sameElement levels es fs tag a b ≡ sameSets tag es a fs b && sameText es fs (bodyOfTag 1 a) (bodyOfTag 1 b) && sameChildren (levels - 1) es a fs b
+  unfolding sameElement sameChildren
+  element-open levels d h =
+      let n : levels ≡ suc (levels - 1) = omega arith in
+      ap (λ m. sameElement m es fs tag a b) n ∙ rw h
+
+module _ (tag levels : ℕ) (es : Entries) (a : List ℕ) (fs : Entries) (b : List ℕ) (c : Content) (ce : c ≡ contentOf (known 0 tag)) where
+  abbrev whole : Bool
+  whole = sameElement levels es fs tag a b
+
+  pub child-octets : c ≡ InOctets → (r : Bool) → r ≡ sameOctets a b → r ≡ whole
+  child-octets q r f = let s = says-octets tag c ce q in f ∙ sym (element-octets es fs tag a b levels (s .0) (s .1))
+
+  pub child-text : c ≡ InText → (r : Bool) → r ≡ sameOctets (expanded es a) (expanded fs b) → r ≡ whole
+  child-text q r f = let s = says-text tag c ce q in f ∙ sym (element-text es fs tag a b levels (s .0) (s .1))
 
   module _ (q : c ≡ InItems) where
-    held : opens tag ≡ true
-    held = says-items tag c ce q
+    pub child-deep : levels ≡ 0 → false ≡ whole
+    child-deep n = sym (element-deep es fs tag a b levels n (says-items tag c ce q))
 
-    pub child-deep : left ≡ 0 → SameChild tag left es a fs b false
-    unfolding SameChild
-    child-deep n d e i j t u l x z = absurd (omega (arith, x held .0))
+    module _ (n : levels ≡ 0 → ⊥) (s : Bool) (se : s ≡ sameSets tag es a fs b) where
+      held : whole ≡ s && sameText es fs (bodyOfTag 1 a) (bodyOfTag 1 b) && sameChildren (levels - 1) es a fs b
+      held =
+          element-open es fs tag a b levels n (says-items tag c ce q)
+          ∙ ap (λ x. x && sameText es fs (bodyOfTag 1 a) (bodyOfTag 1 b) && sameChildren (levels - 1) es a fs b) (sym se)
 
-    module _ (n : left ≡ 0 → ⊥) (s : Bool) (se : SameSets tag es a fs b s) where
-      pub child-sets : s ≡ false → SameChild tag left es a fs b false
-      unfolding SameChild SameSets
-      child-sets k d e i j t u l x z =
-          let w : sameAttributes 128 0x80 (attributesIn es tag t) (attributesIn fs tag u) ≡ false = sym (se (d + 1) (e + 1) i j t u (x held .1) (z held .1)) ∙ k in
-          sym (inside-open es fs tag a t b u held ∙ rw w)
+      pub child-sets : s ≡ false → false ≡ whole
+      child-sets k = sym (held ∙ rw k)
 
-      module _ (sq : s ≡ true) (m : Bool) (me : SameData es a fs b m) where
-        pub child-data : m ≡ false → SameChild tag left es a fs b false
-        unfolding SameChild SameSets SameData
-        child-data k d e i j t u l x z =
-            let w : sameAttributes 128 0x80 (attributesIn es tag t) (attributesIn fs tag u) ≡ true = sym (se (d + 1) (e + 1) i j t u (x held .1) (z held .1)) ∙ sq in
-            let v : sameMaybe sameOctets (cdataIn es t) (cdataIn fs u) ≡ false = sym (me tag tag (d + 1) (e + 1) i j t u (x held .1) (z held .1)) ∙ k in
-            sym (inside-open es fs tag a t b u held ∙ rw (w, v))
+      module _ (sq : s ≡ true) (m : Bool) (me : m ≡ sameText es fs (bodyOfTag 1 a) (bodyOfTag 1 b)) where
+        pub child-data : m ≡ false → false ≡ whole
+        child-data k = sym (held ∙ rw (sq, sym me ∙ k))
 
-        pub child-items : m ≡ true → (r : Bool) → SameItems (left - 1) es a fs b r → SameChild tag left es a fs b r
-        unfolding SameChild SameSets SameData SameItems
-        child-items k r re d e i j t u l x z =
-            let w : sameAttributes 128 0x80 (attributesIn es tag t) (attributesIn fs tag u) ≡ true = sym (se (d + 1) (e + 1) i j t u (x held .1) (z held .1)) ∙ sq in
-            let v : sameMaybe sameOctets (cdataIn es t) (cdataIn fs u) ≡ true = sym (me tag tag (d + 1) (e + 1) i j t u (x held .1) (z held .1)) ∙ k in
-            let g : d + 1 + (left - 1) ≡ 17 = omega (arith, x held .0) in
-            re tag tag (d + 1) (e + 1) i j t u g (x held .1) (z held .1) ∙ sym (inside-open es fs tag a t b u held ∙ rw (w, v))
+        pub child-items : m ≡ true → (r : Bool) → r ≡ sameChildren (levels - 1) es a fs b → r ≡ whole
+        child-items k r re = re ∙ sym (held ∙ rw (sq, sym me ∙ k))
 
-pub ruleset same-child-ways = (child-octets, child-text, child-deep, child-sets, child-data, child-items, data-says)
+pub ruleset same-child-ways = (child-octets, child-text, child-deep, child-sets, child-data, child-items)
 
 -- ---- same_children
 
@@ -175,24 +178,87 @@ end-no c at from to e = rw e refl
 
 pub ruleset end-ways = (end-yes, end-no)
 
-module _ (part : List ℕ) (at : ℕ) (c : Child) (x : Children part at c) (place from to : ℕ) (q : c ≡ Found place from to) where
-  found : ChildFound part at place from to
+module _ (part : List ℕ) (at : ℕ) (c : Child) (x : Children part at c) where
+  none-left : c ≡ End → childrenIn (drop at part) ≡ []
   unfolding Children
-  found = subst (Children part at) q x
+  none-left q = subst (Children part at) q x
 
-  pub found-begins : place < length part
-  found-begins = found .begins
+  module _ (place from to : ℕ) (q : c ≡ Found place from to) where
+    found : ChildFound part at place from to
+    unfolding Children
+    found = subst (Children part at) q x
 
-  pub found-ordered : from ≤ to
-  found-ordered = found .ordered
+    pub found-begins : place < length part
+    found-begins = found .begins
 
-  pub found-inside : to ≤ length part
-  found-inside = found .inside
+    pub found-ordered : from ≤ to
+    found-ordered = found .ordered
 
-  pub found-nearer : length part - to < length part - at
-  found-nearer = omega (arith, found .onward, found .inside)
+    pub found-inside : to ≤ length part
+    found-inside = found .inside
+
+    pub found-nearer : length part - to < length part - at
+    found-nearer = omega (arith, found .onward, found .inside)
 
 pub ruleset found-ways = (found-begins, found-ordered, found-inside, found-nearer)
+
+-- how far the comparison has come: the children are the same exactly where those from two places on are
+pub record Abreast (levels : ℕ) (es : Entries) (a : List ℕ) (fs : Entries) (b : List ℕ) (i j : ℕ) : Type 0 where
+  pub goes : sameChildren levels es a fs b ≡ sameEach (sameElement levels es fs) (childrenIn (drop i a)) (childrenIn (drop j b))
+
+module _ (levels : ℕ) (es : Entries) (a : List ℕ) (fs : Entries) (b : List ℕ) where
+  abbrev all : Bool
+  all = sameChildren levels es a fs b
+
+  abbrev each : List (ℕ × List ℕ) → List (ℕ × List ℕ) → Bool
+  each = sameEach (sameElement levels es fs)
+
+  pub abreast-begin : Abreast levels es a fs b 0 0
+  unfolding sameChildren
+  abreast-begin = record { goes = refl }
+
+  module _ (i j : ℕ) (inv : Abreast levels es a fs b i j) (ca : Child) (xa : Children a i ca) (cb : Child) (xb : Children b j cb) where
+    pub abreast-ended : ca ≡ End → (r : Bool) → r ≡ isEnded cb → r ≡ all
+    unfolding isEnded sameEach
+    abreast-ended q r f = f ∙ go cb refl ∙ sym (inv .goes ∙ ap (λ l. each l (childrenIn (drop j b))) (none-left a i ca xa q))
+      where
+        go : (k : Child) → cb ≡ k → isEnded k ≡ each [] (childrenIn (drop j b))
+        go End y = sym (ap (each []) (none-left b j cb xb y))
+        go (Found at from to) y = sym (ap (each []) (found b j cb xb at from to y .children))
+
+    module _ (at from to : ℕ) (q : ca ≡ Found at from to) where
+      pub abreast-shorter : cb ≡ End → false ≡ all
+      unfolding sameEach
+      abreast-shorter y = sym (inv .goes ∙ ap₂ each (found a i ca xa at from to q .children) (none-left b j cb xb y))
+
+      module _ (place start end : ℕ) (y : cb ≡ Found place start end) where
+        both : all ≡ eqb (getD a at 0) (getD b place 0) && sameElement levels es fs (getD a at 0) (between a from to) (between b start end) && each (childrenIn (drop to a)) (childrenIn (drop end b))
+        unfolding sameEach
+        both = inv .goes ∙ ap₂ each (found a i ca xa at from to q .children) (found b j cb xb place start end y .children)
+
+        pub abreast-tags : (getD a at 0 ≡ getD b place 0 → ⊥) → false ≡ all
+        abreast-tags k = sym (both ∙ rw (ne-eqb (getD a at 0) (getD b place 0) k))
+
+        module _ (k : getD a at 0 ≡ getD b place 0) (r : Bool) (s : r ≡ sameElement levels es fs (getD a at 0) (between a from to) (between b start end)) where
+          turn : all ≡ r && each (childrenIn (drop to a)) (childrenIn (drop end b))
+          turn = both ∙ ap₂ (λ x y. x && y && each (childrenIn (drop to a)) (childrenIn (drop end b))) (eq-eqb (getD a at 0) (getD b place 0) k) (sym s)
+
+          pub abreast-differ : r ≡ false → false ≡ all
+          abreast-differ rq = sym (turn ∙ rw rq)
+
+          pub abreast-again : r ≡ true → Abreast levels es a fs b to end
+          abreast-again rq = record { goes = turn ∙ rw rq }
+
+pub ruleset abreast-ways = (abreast-begin, abreast-ended, abreast-shorter, abreast-tags, abreast-differ, abreast-again)
+
+-- ---- what it says of accepted bodies
+
+-- two elements of one tag with these bodies and the items inside them
+unfoldable pub sameInside : Entries → Entries → ℕ → List ℕ → Items → List ℕ → Items → Bool
+sameInside es fs tag a t b u =
+    let sets = sameAttributes 128 0x80 (attributesIn es tag t) (attributesIn fs tag u) in
+    let held = sets && sameMaybe sameOctets (cdataIn es t) (cdataIn fs u) && sameMeaning (means es t) (means fs u) in
+    cond (opens tag) held (sameOctets (leafOctets es tag a) (leafOctets fs tag b))
 
 -- an element's share of the test
 module _ (es fs : Entries) (tag at : ℕ) (a : List ℕ) (t v : Items) (k : isChild tag ≡ true) where
@@ -238,108 +304,89 @@ module _ (es fs : Entries) (tag at : ℕ) (a : List ℕ) (t v : Items) (k : isCh
         go true = rw (eq-eqb tag tag refl)
         go false = rw (eq-eqb tag tag refl)
 
--- how far the comparison has come: two trees are the same where their rests are
-pub record Rests (es : Entries) (a : List ℕ) (fs : Entries) (b : List ℕ) (i j p q d e m n : ℕ) (t u : Items) : Type 0 where
-  pub v : Items
-  pub w : Items
-  pub first : Accepts p d (m + i) (drop i a) v
-  pub second : Accepts q e (n + j) (drop j b) w
-  pub same : sameMeaning (means es t) (means fs u) ≡ sameMeaning (means es v) (means fs w)
+-- the body of an element is accepted, where it holds items
+abbrev Held : (tag depth from : ℕ) → List ℕ → Items → Type 0
+Held tag depth from body inside = opens tag ≡ true → (depth ≤ 16) × Accepts tag (depth + 1) from body inside
 
-pub record Abreast (left : ℕ) (es : Entries) (a : List ℕ) (fs : Entries) (b : List ℕ) (i j : ℕ) : Type 0 where
-  pub goes : (p q d e m n : ℕ) (t u : Items) → d + left ≡ 17 → Accepts p d m a t → Accepts q e n b u → Rests es a fs b i j p q d e m n t u
+-- elements at a depth that leaves so many levels (rule 7)
+abbrev Elements : Entries → Entries → ℕ → Type 0
+Elements es fs levels = (tag d e i j : ℕ) (a b : List ℕ) (t u : Items) → d + levels ≡ 17 → Held tag d i a t → Held tag e j b u → sameElement levels es fs tag a b ≡ sameInside es fs tag a t b u
 
-module _ (left : ℕ) (es : Entries) (a : List ℕ) (fs : Entries) (b : List ℕ) where
-  pub abreast-begin : Abreast left es a fs b 0 0
-  abreast-begin = record { goes = λ p q d e m n t u l x z. record { v = t; w = u; first = rw add-zero x; second = rw add-zero z; same = refl } }
+module _ (es fs : Entries) (levels : ℕ) (own : Elements es fs levels) where
+  abbrev each-of : List (ℕ × List ℕ) → List (ℕ × List ℕ) → Bool
+  each-of = sameEach (sameElement levels es fs)
 
-  module _ (i j : ℕ) (inv : Abreast left es a fs b i j) (ca : Child) (xa : Children a i ca) (cb : Child) (xb : Children b j cb) where
-    none-first : ca ≡ End → (p d m : ℕ) (t : Items) → Accepts p d (m + i) (drop i a) t → means es t ≡ nothing
-    unfolding Children
-    none-first q p d m t x = subst (Children a i) q xa p d m t x es
+  -- the children of two parts mean what their trees mean
+  told-same : (d e : ℕ) (l m : List (ℕ × List ℕ)) (t u : Items) → d + levels ≡ 17 → Told d l t → Told e m u → each-of l m ≡ sameMeaning (means es t) (means fs u)
+  unfolding sameEach sameMeaning
+  told-same d e l m t u n (over x) (over y) = sym (ap₂ sameMeaning (x es) (y fs))
+  told-same d e l m t u n (over x) (comes tag from body inside after c i y later) = sym (ap₂ sameMeaning (x es) (y fs) ∙ second-longer fs fs tag from body inside after c)
+  told-same d e l m t u n (comes tag from body inside after c i x later) (over y) = sym (ap₂ sameMeaning (x es) (y fs) ∙ first-longer es es tag from body inside after c)
+  told-same d e l m t u n (comes {later = l′} tag from body inside after c i x more) (comes {later = m′} tag′ from′ body′ inside′ after′ c′ i′ y more′) =
+      go (eqb tag tag′) refl (told-same d e l′ m′ after after′ n more more′)
+    where
+      go : (q : Bool) → eqb tag tag′ ≡ q → each-of l′ m′ ≡ sameMeaning (means es after) (means fs after′)
+          → eqb tag tag′ && sameElement levels es fs tag body body′ && each-of l′ m′ ≡ sameMeaning (means es t) (means fs u)
+      go false q later =
+          rw q (sym (ap₂ sameMeaning (x es) (y fs) ∙ tags-differ es fs tag from body inside after c tag′ from′ body′ inside′ after′ c′ (eqb-false tag tag′ q)))
+      go true q later =
+          let w : tag ≡ tag′ = eqb-true tag tag′ q in
+          let h : Held tag e from′ body′ inside′ = subst (λ k. Held k e from′ body′ inside′) (sym w) i′ in
+          let v : means fs u ≡ means fs (item tag from′ body′ inside′ after′) = y fs ∙ ap (λ k. means fs (item k from′ body′ inside′ after′)) (sym w) in
+          rw q (ap₂ _&&_ (own tag d e from from′ body body′ inside inside′ n i h) later ∙ sym (ap₂ sameMeaning (x es) v ∙ tags-same es fs tag from body inside after c from′ body′ inside′ after′))
 
-    none-second : cb ≡ End → (p d m : ℕ) (t : Items) → Accepts p d (m + j) (drop j b) t → means fs t ≡ nothing
-    unfolding Children
-    none-second q p d m t x = subst (Children b j) q xb p d m t x fs
+  parts-say : (p q d e i j : ℕ) (a b : List ℕ) (t u : Items) → d + levels ≡ 17 → Accepts p d i a t → Accepts q e j b u → sameChildren levels es a fs b ≡ sameMeaning (means es t) (means fs u)
+  unfolding sameChildren
+  parts-say p q d e i j a b t u n x z = told-same d e (childrenIn a) (childrenIn b) t u n (children-told p d i a t x) (children-told q e j b u z)
 
-    found-first : (at from to : ℕ) → ca ≡ Found at from to → ChildFound a i at from to
-    found-first = found a i ca xa
+module _ (es fs : Entries) where
+  inside-shut : (levels tag : ℕ) (a b : List ℕ) (t u : Items) → opens tag ≡ false → sameElement levels es fs tag a b ≡ sameInside es fs tag a t b u
+  unfolding sameInside
+  inside-shut levels tag a b t u h = element-shut es fs tag a b levels h ∙ rw h
 
-    found-second : (at from to : ℕ) → cb ≡ Found at from to → ChildFound b j at from to
-    found-second = found b j cb xb
+  inside-open : (levels : ℕ) → Elements es fs levels → (tag d e i j : ℕ) (a b : List ℕ) (t u : Items) → d + suc levels ≡ 17 → Accepts tag (d + 1) i a t → Accepts tag (e + 1) j b u
+      → opens tag ≡ true → sameElement (suc levels) es fs tag a b ≡ sameInside es fs tag a t b u
+  unfolding sameInside SameData
+  inside-open levels own tag d e i j a b t u n x z h =
+      let m : suc levels - 1 ≡ levels = omega arith in
+      element-open es fs tag a b (suc levels) (λ y. omega arith) h ∙ ap (λ k. sameSets tag es a fs b && sameText es fs (bodyOfTag 1 a) (bodyOfTag 1 b) && sameChildren k es a fs b) m
+      ∙ ap₂ _&&_ (ap₂ _&&_ (sets-say tag es a fs b (d + 1) (e + 1) i j t u x z) (data-says es a fs b (sameText es fs (bodyOfTag 1 a) (bodyOfTag 1 b)) refl tag tag (d + 1) (e + 1) i j t u x z))
+      (parts-say es fs levels own tag tag (d + 1) (e + 1) i j a b t u (omega arith) x z) ∙ rw h
 
-    pub abreast-ended : ca ≡ End → (r : Bool) → r ≡ isEnded cb → SameItems left es a fs b r
-    unfolding SameItems isEnded sameMeaning
-    abreast-ended q r f p o d e m n t u l x z = f ∙ go cb refl
-      where
-        g : Rests es a fs b i j p o d e m n t u
-        g = inv .goes p o d e m n t u l x z
+  pub element-says : (levels : ℕ) → Elements es fs levels
+  element-says levels = go levels
+    where
+      go : (n : ℕ) → Elements es fs n
+      go zero tag d e i j a b t u s x z = by (opens tag) refl
+        where
+          by : (o : Bool) → opens tag ≡ o → sameElement zero es fs tag a b ≡ sameInside es fs tag a t b u
+          by true h = absurd (omega (arith, x h .0))
+          by false h = inside-shut zero tag a b t u h
+      go (suc n) tag d e i j a b t u s x z = by (opens tag) refl (go n)
+        where
+          by : (o : Bool) → opens tag ≡ o → Elements es fs n → sameElement (suc n) es fs tag a b ≡ sameInside es fs tag a t b u
+          by true h own = inside-open n own tag d e i j a b t u s (x h .1) (z h .1) h
+          by false h own = inside-shut (suc n) tag a b t u h
 
-        go : (k : Child) → cb ≡ k → isEnded k ≡ sameMeaning (means es t) (means fs u)
-        go End y = sym (g .same ∙ ap₂ sameMeaning (none-first q p d m (g .v) (g .first)) (none-second y o e n (g .w) (g .second)))
-        go (Found at from to) y =
-            let c = found-second at from to y .told o e n (g .w) (g .second) in
-            sym (g .same ∙ ap₂ sameMeaning (none-first q p d m (g .v) (g .first)) (c .same fs)
-            ∙ second-longer fs fs (getD b at 0) (n + from) (between b from to) (c .u) (c .v) (c .child))
-
-    module _ (at from to : ℕ) (q : ca ≡ Found at from to) where
-      pub abreast-shorter : cb ≡ End → SameItems left es a fs b false
-      unfolding SameItems
-      abreast-shorter y p o d e m n t u l x z =
-          let g = inv .goes p o d e m n t u l x z in
-          let c = found-first at from to q .told p d m (g .v) (g .first) in
-          sym (g .same ∙ ap₂ sameMeaning (c .same es) (none-second y o e n (g .w) (g .second)) ∙ first-longer es es (getD a at 0) (m + from) (between a from to) (c .u) (c .v) (c .child))
-
-      module _ (place start end : ℕ) (y : cb ≡ Found place start end) where
-        pub abreast-tags : (getD a at 0 ≡ getD b place 0 → ⊥) → SameItems left es a fs b false
-        unfolding SameItems
-        abreast-tags k p o d e m n t u l x z =
-            let g = inv .goes p o d e m n t u l x z in
-            let c = found-first at from to q .told p d m (g .v) (g .first) in
-            let f = found-second place start end y .told o e n (g .w) (g .second) in
-            sym (g .same ∙ ap₂ sameMeaning (c .same es) (f .same fs)
-            ∙ tags-differ es fs (getD a at 0) (m + from) (between a from to) (c .u) (c .v) (c .child) (getD b place 0) (n + start) (between b start end) (f .u) (f .v) (f .child) k)
-
-        module _ (k : getD a at 0 ≡ getD b place 0) (r : Bool) (s : SameChild (getD a at 0) left es (between a from to) fs (between b start end) r) where
-          turn : (p o d e m n : ℕ) (t u : Items) → d + left ≡ 17 → Accepts p d m a t → Accepts o e n b u
-              → (v w : Items) × Accepts p d (m + to) (drop to a) v × Accepts o e (n + end) (drop end b) w × (sameMeaning (means es t) (means fs u) ≡ r && sameMeaning (means es v) (means fs w))
-          unfolding SameChild
-          turn p o d e m n t u l x z =
-              let g = inv .goes p o d e m n t u l x z in
-              let c = found-first at from to q .told p d m (g .v) (g .first) in
-              let f : ChildTold o e n (getD a at 0) start end b (g .w) = subst (λ h. ChildTold o e n h start end b (g .w)) (sym k) (found-second place start end y .told o e n (g .w) (g .second)) in
-              let h = s d e (m + from) (n + start) (c .u) (f .u) l (c .inside) (f .inside) in (
-                c .v,
-                f .v,
-                c .after,
-                f .after,
-                g .same ∙ ap₂ sameMeaning (c .same es) (f .same fs)
-                    ∙ tags-same es fs (getD a at 0) (m + from) (between a from to) (c .u) (c .v) (c .child) (n + start) (between b start end) (f .u) (f .v)
-                    ∙ ap (λ g. g && sameMeaning (means es (c .v)) (means fs (f .v))) (sym h),
-              )
-
-          pub abreast-differ : r ≡ false → SameItems left es a fs b false
-          unfolding SameItems
-          abreast-differ rq p o d e m n t u l x z =
-              let g = turn p o d e m n t u l x z in
-              sym (g .4 ∙ ap (λ k. k && sameMeaning (means es (g .0)) (means fs (g .1))) rq)
-
-          pub abreast-again : r ≡ true → Abreast left es a fs b to end
-          abreast-again rq = record {
-            goes = λ p o d e m n t u l x z.
-                let g = turn p o d e m n t u l x z in
-                record { v = g .0; w = g .1; first = g .2; second = g .3; same = g .4 ∙ ap (λ k. k && sameMeaning (means es (g .0)) (means fs (g .1))) rq };
-          }
-
-pub ruleset abreast-ways = (abreast-begin, abreast-ended, abreast-shorter, abreast-tags, abreast-differ, abreast-again)
+  -- two parts that are accepted as the items of elements mean the same exactly where their child elements are the same
+  pub children-say : (levels p q d e i j : ℕ) (a b : List ℕ) (t u : Items) → d + levels ≡ 17 → Accepts p d i a t → Accepts q e j b u
+      → sameChildren levels es a fs b ≡ sameMeaning (means es t) (means fs u)
+  children-say levels = parts-say es fs levels (element-says levels)
 
 -- ---- what the answer for two elements says: their meanings are equal
 
-pub child-exactly : (es fs : Entries) (tag i j : ℕ) (a b : List ℕ) (t u : Items) (p d s p′ d′ s′ : ℕ) → isChild tag ≡ true → WellFormed p d s (means es (item tag i a t end))
-    → WellFormed p′ d′ s′ (means fs (item tag j b u end)) → sameInside es fs tag a t b u ≡ true ↔ means es (item tag i a t end) ≡ means fs (item tag j b u end)
-unfolding means sameMeaning
-child-exactly es fs tag i j a b t u p d s p′ d′ s′ k ok ok′ =
-    let e : sameMeaning (means es (item tag i a t end)) (means fs (item tag j b u end)) ≡ sameInside es fs tag a t b u =
-    tags-same es fs tag i a t end k j b u end ∙ and-yes (sameInside es fs tag a t b u) in
-    let m = meaning-exactly (means es (item tag i a t end)) (means fs (item tag j b u end)) p d s p′ d′ s′ ok ok′ in
-    ((λ h. m .0 (e ∙ h)), (λ h. sym e ∙ m .1 h))
+module _ (es fs : Entries) (levels tag d e i j : ℕ) (a b : List ℕ) (t u : Items) (n : d + levels ≡ 17) (c : isChild tag ≡ true) (x : Held tag d i a t) (z : Held tag e j b u) where
+  abbrev first : Meaning
+  first = means es (item tag i a t end)
+
+  abbrev second : Meaning
+  second = means fs (item tag j b u end)
+
+  element-tested : sameMeaning first second ≡ sameElement levels es fs tag a b
+  unfolding means sameMeaning
+  element-tested = tags-same es fs tag i a t end c j b u end ∙ and-yes (sameInside es fs tag a t b u) ∙ sym (element-says es fs levels tag d e i j a b t u n x z)
+
+  pub child-exactly : (p s p′ s′ : ℕ) → WellFormed p d s first → WellFormed p′ e s′ second → sameElement levels es fs tag a b ≡ true ↔ first ≡ second
+  child-exactly p s p′ s′ ok ok′ =
+      let m = meaning-exactly first second p d s p′ e s′ ok ok′ in
+      ((λ h. m .0 (element-tested ∙ h)), (λ h. sym element-tested ∙ m .1 h))

@@ -22,7 +22,6 @@ use Rattle.compare.specs.Normal.{isShortest}
 -- ---- octets that begin with a framed item
 
 pub record Framing (s : List ℕ) (tag : ℕ) (body later : List ℕ) : Type 0 where
-  pub head : getD s 0 0 ≡ tag
   pub whole : isWhole s ≡ true
   pub shortest : isShortest s ≡ true
   pub inside : firstBody s ≡ body
@@ -33,7 +32,6 @@ unfolding isShortest headed
 begun tag body later h =
     let k = split tag body later h in
     record {
-      head = refl;
       whole = le-leb (headerSize (tag ∷ behind body later) + bodySize (tag ∷ behind body later)) (suc (length (behind body later))) (omega (arith, k .header, k .size, k .room));
       shortest = rw (k .header, k .size) (eq-eqb (headed (length body)) (suc (length (lengthField (length body)))) refl);
       inside = rw (k .size, k .header) (k .inside);

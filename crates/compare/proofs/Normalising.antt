@@ -52,10 +52,6 @@ N es p last t = rising (255 - last) (suc last) (attributesIn es p t) ++ (encode 
 
 -- ---- attributes of a tree
 
-attribute-above : (b : ℕ) → 0x7F < b → attribute b ≡ true
-unfolding attribute
-attribute-above b h = lt-ltb 0x7F b h
-
 absent-attribute : (es : Entries) (p : ℕ) (t : Items) (b : ℕ) → (attribute b ≡ true → find b t ≡ none) → attributesIn es p t b ≡ none
 unfolding attributesIn valueIn
 absent-attribute es p t b h = go (attribute b) refl
@@ -112,9 +108,6 @@ child-tag tag h = go (attribute tag) (eqb tag 1) (eqb tag 4) refl refl refl h
     go false false true a b c q = absurd (false≢true q)
     go false true z a b c q = absurd (false≢true q)
     go true y z a b c q = absurd (false≢true q)
-
-cons-heads : (x y : ℕ) (a b : List ℕ) → x ∷ a ≡ y ∷ b → x ≡ y
-cons-heads x y a b e = cc
 
 no-cons : (x : ℕ) (xs : List ℕ) → [] ≡ x ∷ xs → ⊥
 no-cons x xs e = let z : 0 ≡ suc (length xs) = ap length e in omega arith

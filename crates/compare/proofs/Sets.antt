@@ -14,7 +14,7 @@ use Rattle.values.specs.declared.KnownKind.{KnownKind}
 use Rattle.values.specs.declared.KnownKind.the-variants.{Unknown, Known}
 use Rattle.values.specs.Calls.{asKnown, knownKind}
 use Rattle.values.specs.Table.{known, attribute}
-use Rattle.values.specs.Values.{Value, fits, meant}
+use Rattle.values.specs.Values.{fits, meant}
 use Rattle.values.proofs.Known.{known-cdata}
 use Rattle.values.proofs.Laws.{known-kind, unknown-kind}
 use Rattle.format.specs.Tree.{Items, find}
@@ -24,11 +24,11 @@ use Rattle.format.specs.Same.{sameOctets, sameValue, sameMaybe, sameAttributes}
 use Rattle.reader.specs.Filling.{Accepts}
 use Rattle.survey.specs.declared.Lies.{Lies}
 use Rattle.survey.specs.declared.Lies.the-variants.{Outside, Between}
-use Rattle.survey.proofs.Rising.{past-known}
+use Rattle.survey.proofs.Rising.{known-few}
 use Rattle.compare.specs.Bodies.{sameBody}
-use Rattle.compare.specs.Walks.{between, SoughtFound, Sought, spanOfTag, bodyBy, bodyOfTag}
-use Rattle.compare.specs.Items.{isAbsent, sameFound, sameText, Both, SameAttribute, SameSets, SameData}
-use Rattle.compare.proofs.Walking.{span-says}
+use Rattle.compare.specs.Walks.{between, spanOfTag, bodyBy, bodyOfTag}
+use Rattle.compare.specs.Items.{isAbsent, sameFound, sameFrom, sameSets, sameText}
+use Rattle.compare.proofs.Walking.{SoughtFound, Sought, span-says}
 
 pub absent-yes : (r : Lies) → r ≡ Outside → true ≡ isAbsent r
 unfolding isAbsent
@@ -39,6 +39,21 @@ unfolding isAbsent
 absent-no r from to e = rw e refl
 
 pub ruleset absent-ways = (absent-yes, absent-no)
+
+-- ---- what is asked of every two trees
+
+-- of two trees: the first part's in an element of a tag, the second's in one of another, each at some depth and offset
+abbrev pub Both : (p q : ℕ) (a b : List ℕ) → (Items → Items → Type 0) → Type 0
+Both p q a b P = (d e i j : ℕ) (t u : Items) → Accepts p d i a t → Accepts q e j b u → P t u
+
+-- the attribute of a tag, in two elements of one tag
+unfoldable pub SameAttribute : (parent tag : ℕ) → Entries → List ℕ → Entries → List ℕ → Bool → Type 0
+SameAttribute parent tag es a fs b r =
+    attribute tag ≡ true → Both parent parent a b (λ t u. r ≡ sameMaybe sameValue (attributesIn es parent t tag) (attributesIn fs parent u tag))
+
+-- the CDATA
+unfoldable pub SameData : Entries → List ℕ → Entries → List ℕ → Bool → Type 0
+SameData es a fs b r = (p q : ℕ) → Both p q a b (λ t u. r ≡ sameMaybe sameOctets (cdataIn es t) (cdataIn fs u))
 
 -- ---- what is found
 
@@ -207,48 +222,58 @@ module _ (parent tag : ℕ) (es : Entries) (a : List ℕ) (fs : Entries) (b : Li
 
 -- ---- all attributes
 
-none-same : (n tag : ℕ) (f g : ℕ → Option Value) → ((a : ℕ) → tag ≤ a → f a ≡ none) → ((a : ℕ) → tag ≤ a → g a ≡ none) → sameAttributes n tag f g ≡ true
-unfolding sameAttributes sameMaybe
-none-same zero tag f g p q = refl
-none-same (suc n) tag f g p q = rw (p tag (omega arith), q tag (omega arith)) (none-same n (suc tag) f g (λ a h. p a (omega arith)) (λ a h. q a (omega arith)))
+none-above : (p tag : ℕ) → 0x87 ≤ tag → known p tag ≡ none
+none-above p tag h = go (known p tag) refl
+  where
+    go : (k : Option Kind) → known p tag ≡ k → k ≡ none
+    go none e = refl
+    go (some k) e = absurd (omega (arith, known-few p tag k e))
+
+from-past : (n tag parent : ℕ) (es : Entries) (a : List ℕ) (fs : Entries) (b : List ℕ) → 0x87 ≤ tag → sameFrom n tag parent es a fs b ≡ true
+unfolding sameFrom sameFound
+from-past zero tag parent es a fs b h = refl
+from-past (suc n) tag parent es a fs b h = rw (none-above parent tag h) (from-past n (suc tag) parent es a fs b (omega arith))
 
 pub record Sets (parent : ℕ) (es : Entries) (a : List ℕ) (fs : Entries) (b : List ℕ) (tag : ℕ) : Type 0 where
-  pub low : 0x80 ≤ tag
   pub high : tag ≤ 0x87
-  pub goes : Both parent parent a b (λ t u. sameAttributes 128 0x80 (attributesIn es parent t) (attributesIn fs parent u) ≡ sameAttributes (0x100 - tag) tag (attributesIn es parent t) (attributesIn fs parent u))
+  pub goes : sameSets parent es a fs b ≡ sameFrom (0x100 - tag) tag parent es a fs b
 
 module _ (parent : ℕ) (es : Entries) (a : List ℕ) (fs : Entries) (b : List ℕ) where
   pub sets-begin : Sets parent es a fs b 0x80
-  sets-begin = record { low = omega arith; high = omega arith; goes = λ d e i j t u x z. refl }
+  unfolding sameSets
+  sets-begin = record { high = omega arith; goes = refl }
 
   module _ (tag : ℕ) (inv : Sets parent es a fs b tag) where
-    pub sets-ended : 0x87 ≤ tag → SameSets parent es a fs b true
-    unfolding SameSets
-    sets-ended h d e i j t u x z =
-        sym (inv .goes d e i j t u x z ∙ none-same (0x100 - tag) tag (attributesIn es parent t) (attributesIn fs parent u)
-        (λ n l. past-known es parent t n (omega arith)) (λ n l. past-known fs parent u n (omega arith)))
+    pub sets-ended : 0x87 ≤ tag → true ≡ sameSets parent es a fs b
+    sets-ended h = sym (inv .goes ∙ from-past (0x100 - tag) tag parent es a fs b h)
 
-    module _ (h : tag < 0x87) (r : Bool) (s : SameAttribute parent tag es a fs b r) where
-      is : attribute tag ≡ true
-      unfolding attribute
-      is = lt-ltb 0x7F tag (omega (arith, inv .low))
-
-      turn : Both parent parent a b (λ t u. sameAttributes 128 0x80 (attributesIn es parent t) (attributesIn fs parent u) ≡ r && sameAttributes (0x100 - (tag + 1)) (tag + 1) (attributesIn es parent t) (attributesIn fs parent u))
-      unfolding SameAttribute sameAttributes
-      turn d e i j t u x z =
+    module _ (h : tag < 0x87) (r : Bool) (s : r ≡ sameFound es fs (known parent tag) (bodyOfTag tag a) (bodyOfTag tag b)) where
+      turn : sameSets parent es a fs b ≡ r && sameFrom (0x100 - (tag + 1)) (tag + 1) parent es a fs b
+      unfolding sameFrom
+      turn =
           let n : 0x100 - tag ≡ suc (0x100 - (tag + 1)) = omega arith in
-          let f = attributesIn es parent t in
-          let g = attributesIn fs parent u in
-          inv .goes d e i j t u x z ∙ ap (λ m. sameAttributes m tag f g) n ∙ ap₂ (λ m l. m && sameAttributes (0x100 - (tag + 1)) l f g) (sym (s is d e i j t u x z)) (sym (add-one tag))
+          inv .goes ∙ ap (λ m. sameFrom m tag parent es a fs b) n ∙ ap₂ (λ m l. m && sameFrom (0x100 - (tag + 1)) l parent es a fs b) (sym s) (sym (add-one tag))
 
-      pub sets-differ : r ≡ false → SameSets parent es a fs b false
-      unfolding SameSets
-      sets-differ q d e i j t u x z = sym (turn d e i j t u x z ∙ rw q)
+      pub sets-differ : r ≡ false → false ≡ sameSets parent es a fs b
+      sets-differ q = sym (turn ∙ rw q)
 
       pub sets-again : r ≡ true → Sets parent es a fs b (tag + 1)
-      sets-again q = record { low = omega (arith, inv .low); high = omega arith; goes = λ d e i j t u x z. turn d e i j t u x z ∙ rw q }
+      sets-again q = record { high = omega arith; goes = turn ∙ rw q }
 
-pub ruleset sets-ways = (sets-begin, sets-ended, sets-differ, sets-again, attribute-says)
+pub ruleset sets-ways = (sets-begin, sets-ended, sets-differ, sets-again)
+
+-- of accepted parts they are the attributes of their trees
+module _ (parent : ℕ) (es : Entries) (a : List ℕ) (fs : Entries) (b : List ℕ) where
+  from-says : (n tag : ℕ) → 0x80 ≤ tag → Both parent parent a b (λ t u. sameFrom n tag parent es a fs b ≡ sameAttributes n tag (attributesIn es parent t) (attributesIn fs parent u))
+  unfolding sameFrom sameAttributes SameAttribute attribute
+  from-says zero tag h d e i j t u x z = refl
+  from-says (suc n) tag h d e i j t u x z =
+      ap₂ _&&_ (attribute-says parent tag es a fs b (sameFound es fs (known parent tag) (bodyOfTag tag a) (bodyOfTag tag b)) refl (lt-ltb 0x7F tag (omega arith)) d e i j t u x z)
+      (from-says n (suc tag) (omega arith) d e i j t u x z)
+
+  pub sets-say : Both parent parent a b (λ t u. sameSets parent es a fs b ≡ sameAttributes 128 0x80 (attributesIn es parent t) (attributesIn fs parent u))
+  unfolding sameSets
+  sets-say = from-says 128 0x80 (omega arith)
 
 -- ---- CDATA
 

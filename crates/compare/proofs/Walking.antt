@@ -24,20 +24,21 @@ use Rattle.format.specs.Tree.{Items, find}
 use Rattle.format.specs.Tree.Items.{end, item}
 use Rattle.format.specs.Judge.{Context, isKnown, isItems, isValue, latest, stageAfter, next}
 use Rattle.format.specs.Meaning.{opens, isChild, means}
+use Rattle.format.specs.Meaning.Meaning.{nothing}
 use Rattle.format.proofs.Rules.{held}
 use Rattle.format.proofs.Means.{items-opens}
 use Rattle.format.proofs.NormalOctets.{child-no-attribute}
 use Rattle.format.proofs.Induction.{Cases, accepted-all, Unbroken, bodyOf, laterOf}
 use Rattle.reader.specs.Filling.{Accepts, share}
-use Rattle.reader.proofs.Opening.{Opened, opened-end}
+use Rattle.reader.proofs.Opening.{Opened, fits-in, opened, opened-end}
 use Rattle.survey.specs.declared.Lies.{Lies}
 use Rattle.survey.specs.declared.Lies.the-variants.{Outside, Between}
-use Rattle.survey.specs.Places.{isWhole, afterFirst, liesAt}
-use Rattle.survey.proofs.Places.{Lying, lying, lies-inside, not-whole, bounds, later-is, met}
+use Rattle.survey.specs.Places.{isWhole, firstBody, afterFirst, liesAt}
+use Rattle.survey.proofs.Places.{Lying, lying, lies-inside, not-whole, bounds, tag-is, body-is, later-is, met}
 use Rattle.survey.proofs.Tables.{fewer-after, none-whole}
 use Rattle.survey.proofs.Found.{not-attribute}
 use Rattle.compare.specs.declared.walks.Child.the-variants.{End, Found}
-use Rattle.compare.specs.Walks.{between, Children, Sought, spanWithin, spanOfTag}
+use Rattle.compare.specs.Walks.{between, spanWithin, spanOfTag, isMeant, childrenWithin, childrenIn, Children}
 
 -- ---- what the lookup says
 
@@ -124,35 +125,63 @@ module _ (es : Entries) (p tag from : ℕ) (body : List ℕ) (u v : Items) where
       go false true e q = shut (sym (items-opens p tag) ∙ e)
       go false false e q = absurd (false≢true q)
 
+-- ---- the child elements of octets
+
+abbrev childStep : List ℕ → Bool → List (ℕ × List ℕ) → List (ℕ × List ℕ)
+childStep s b later = cond b (cond (isMeant (getD s 0 0)) ((getD s 0 0, firstBody s) ∷ later) later) []
+
+-- as many steps as there are octets suffice
+children-enough : (n m : ℕ) (s : List ℕ) → length s ≤ n → length s ≤ m → childrenWithin n s ≡ childrenWithin m s
+unfolding childrenWithin
+children-enough zero zero s h k = refl
+children-enough zero (suc m) s h k = rw (none-whole s h)
+children-enough (suc n) zero s h k = rw (none-whole s k)
+children-enough (suc n) (suc m) s h k = go (isWhole s) refl (λ l. children-enough n m (afterFirst s) (omega arith) (omega arith))
+  where
+    go : (b : Bool) → isWhole s ≡ b → (length (afterFirst s) < length s → childrenWithin n (afterFirst s) ≡ childrenWithin m (afterFirst s))
+        → childStep s b (childrenWithin n (afterFirst s)) ≡ childStep s b (childrenWithin m (afterFirst s))
+    go false q later = refl
+    go true q later = ap (childStep s true) (later (fewer-after s q))
+
+children-none : childrenIn [] ≡ []
+unfolding childrenIn childrenWithin
+children-none = refl
+
+children-step : (s : List ℕ) → childrenIn s ≡ childStep s (isWhole s) (childrenIn (afterFirst s))
+unfolding childrenIn childrenWithin
+children-step [] = rw (none-whole [] (omega arith))
+children-step (x ∷ rest) = go (isWhole s) refl
+  where
+    s : List ℕ
+    s = x ∷ rest
+
+    go : (b : Bool) → isWhole s ≡ b → childStep s b (childrenWithin (length rest) (afterFirst s)) ≡ childStep s b (childrenWithin (length (afterFirst s)) (afterFirst s))
+    go false q = refl
+    go true q = let l = fewer-after s q in ap (childStep s true) (children-enough (length rest) (length (afterFirst s)) (afterFirst s) (omega arith) (omega arith))
+
 -- ---- next_child
 
--- no child element stands between two places: of every tree that the part has from the first on, the rest from the second on means the same
-pub record Skipped (part : List ℕ) (p depth offset i : ℕ) (t : Items) : Type 0 where
-  pub rest : Items
-  pub accepts : Accepts p depth (offset + i) (drop i part) rest
-  pub same : (es : Entries) → means es t ≡ means es rest
-
+-- no child element stands between two places
 pub record Skips (part : List ℕ) (at i : ℕ) : Type 0 where
   pub onward : at ≤ i
-  pub goes : (p depth offset : ℕ) (t : Items) → Accepts p depth (offset + at) (drop at part) t → Skipped part p depth offset i t
+  pub same : childrenIn (drop at part) ≡ childrenIn (drop i part)
 
 module _ (part : List ℕ) (at : ℕ) where
   pub skip-begin : Skips part at at
-  skip-begin = record { onward = omega arith; goes = λ p depth offset t a. record { rest = t; accepts = a; same = λ es. refl } }
+  skip-begin = record { onward = omega arith; same = refl }
 
   module _ (i : ℕ) (inv : Skips part at i) where
     pub skip-ended : length part ≤ i → Children part at End
-    unfolding Children means
-    skip-ended h p depth offset t a es =
-        let g = inv .goes p depth offset t a in
-        g .same es ∙ ap (means es) (opened-end p depth (offset + i) (g .rest) (rw (drop-of-length-le part h) at (g .accepts)))
+    unfolding Children
+    skip-ended h = inv .same ∙ ap childrenIn (drop-of-length-le part h) ∙ children-none
 
     module _ (h : i < length part) (r : Lies) (re : r ≡ liesAt part i) where
+      child-at : childrenIn (drop at part) ≡ childStep (drop i part) (isWhole (drop i part)) (childrenIn (afterFirst (drop i part)))
+      child-at = inv .same ∙ children-step (drop i part)
+
       pub skip-outside : r ≡ Outside → Children part at End
       unfolding Children
-      skip-outside q p depth offset t a es =
-          let g = inv .goes p depth offset t a in
-          absurd (lies-inside part i r re h q p depth (offset + i) (g .rest) (g .accepts))
+      skip-outside q = child-at ∙ rw (not-whole part i r re q)
 
       module _ (from to : ℕ) (q : r ≡ Between from to) where
         here : Lying part i from to
@@ -167,49 +196,80 @@ module _ (part : List ℕ) (at : ℕ) where
         abbrev tag : ℕ
         tag = getD part i 0
 
-        opened-here : (p depth offset : ℕ) (t : Items) (a : Accepts p depth (offset + at) (drop at part) t)
-            → Opened p depth tag (offset + from) (offset + to) (between part from to) (drop to part) (inv .goes p depth offset t a .rest)
-        opened-here p depth offset t a =
-            let g = inv .goes p depth offset t a in
-            met here (omega arith) h p depth offset (g .rest) (g .accepts)
+        child-in : childrenIn (drop at part) ≡ cond (isMeant tag) ((tag, between part from to) ∷ childrenIn (drop to part)) (childrenIn (drop to part))
+        child-in =
+            child-at ∙ rw (le-leb (headerSize (drop i part) + bodySize (drop i part)) (length (drop i part)) (here .inside), tag-is here (omega arith), body-is here (omega arith), later-is here (omega arith))
 
-        module _ (b : Bool) (be : b ≡ isChild tag && isKnown (known 0 tag)) where
+        module _ (b : Bool) (be : b ≡ isMeant tag) where
           pub skip-found : b ≡ true → Children part at (Found i from to)
           unfolding Children
-          skip-found bq = record {
-            begins = h;
-            ordered = edges .1;
-            inside = edges .2;
-            onward = omega (arith, edges, inv .onward);
-            told = λ p depth offset t a.
-                let g = inv .goes p depth offset t a in
-                let o = opened-here p depth offset t a in
-                let k : isChild tag && isKnown (known 0 tag) ≡ true = sym be ∙ bq in
-                record {
-                  u = o .u;
-                  v = o .v;
-                  child = and-left (isChild tag) (isKnown (known 0 tag)) k;
-                  isOne = and-right (isChild tag) (isKnown (known 0 tag)) k;
-                  inside = λ n. let j : isItems (known p tag) ≡ true = items-opens p tag ∙ n in (o .deep j, o .inside j);
-                  after = o .after;
-                  same = λ es. g .same es ∙ ap (means es) (o .tree) ∙ own-item es p tag (offset + from) (between part from to) (o .u) (o .v) k;
-                };
-          }
+          skip-found bq =
+              record { begins = h; ordered = edges .1; inside = edges .2; onward = omega (arith, edges, inv .onward); children = child-in ∙ rw (sym be ∙ bq) }
 
           pub skip-again : b ≡ false → Skips part at to
-          skip-again bq = record {
-            onward = omega (arith, edges, inv .onward);
-            goes = λ p depth offset t a.
-                let g = inv .goes p depth offset t a in
-                let o = opened-here p depth offset t a in
-                record {
-                  rest = o .v;
-                  accepts = o .after;
-                  same = λ es. g .same es ∙ ap (means es) (o .tree) ∙ passed es p tag (offset + from) (between part from to) (o .u) (o .v) (sym be ∙ bq);
-                };
-          }
+          skip-again bq = record { onward = omega (arith, edges, inv .onward); same = child-in ∙ rw (sym be ∙ bq) }
 
 pub ruleset skip-ways = (skip-begin, skip-ended, skip-outside, skip-nearer, skip-found, skip-again)
+
+-- ---- the child elements of an accepted part
+
+-- they are those of its tree: what an element holds is accepted too, and the tree means what they mean, one after the other
+pub data Told (depth : ℕ) : List (ℕ × List ℕ) → Items → Type 0 where
+  over : {t : Items} → ((es : Entries) → means es t ≡ nothing) → Told depth [] t
+  comes : {t : Items} {later : List (ℕ × List ℕ)} (tag from : ℕ) (body : List ℕ) (inside after : Items) → isChild tag ≡ true
+      → (opens tag ≡ true → (depth ≤ 16) × Accepts tag (depth + 1) from body inside) → ((es : Entries) → means es t ≡ means es (item tag from body inside after)) → Told depth later after
+      → Told depth ((tag, body) ∷ later) t
+
+told-same : (depth : ℕ) {l : List (ℕ × List ℕ)} (t v : Items) → ((es : Entries) → means es t ≡ means es v) → Told depth l v → Told depth l t
+told-same depth t v e (over h) = over {t = t} (λ es. e es ∙ h es)
+told-same depth t v e (comes tag from body inside after c i h m) = comes {t = t} tag from body inside after c i (λ es. e es ∙ h es) m
+
+told-item : (p depth offset : ℕ) (s : List ℕ) (t : Items) → 0 < length s → (a : Accepts p depth offset s t)
+    → ((v : Items) (behind : ℕ) → Accepts p depth behind (afterFirst s) v → Told depth (childrenIn (afterFirst s)) v) → Told depth (childrenIn s) t
+told-item p depth offset s t h a later = go (isMeant tag) refl
+  where
+    tag : ℕ
+    tag = getD s 0 0
+
+    from : ℕ
+    from = offset + headerSize s
+
+    o : Opened p depth tag from (offset + headerSize s + bodySize s) (firstBody s) (afterFirst s) t
+    o = opened p depth offset s t h a
+
+    rest : Told depth (childrenIn (afterFirst s)) (o .v)
+    rest = later (o .v) (offset + headerSize s + bodySize s) (o .after)
+
+    list : childrenIn s ≡ cond (isMeant tag) ((tag, firstBody s) ∷ childrenIn (afterFirst s)) (childrenIn (afterFirst s))
+    list = children-step s ∙ rw (le-leb (headerSize s + bodySize s) (length s) (fits-in p depth offset s t h a))
+
+    go : (b : Bool) → isMeant tag ≡ b → Told depth (childrenIn s) t
+    go true e =
+        subst (λ l. Told depth l t) (sym (list ∙ rw e))
+        (comes {t = t} tag from (firstBody s) (o .u) (o .v) (and-left (isChild tag) (isKnown (known 0 tag)) e)
+        (λ n. let j : isItems (known p tag) ≡ true = items-opens p tag ∙ n in (o .deep j, o .inside j))
+        (λ es. ap (means es) (o .tree) ∙ own-item es p tag from (firstBody s) (o .u) (o .v) e) rest)
+    go false e =
+        subst (λ l. Told depth l t) (sym (list ∙ rw e)) (told-same depth t (o .v) (λ es. ap (means es) (o .tree) ∙ passed es p tag from (firstBody s) (o .u) (o .v) e) rest)
+
+told-end : (p depth offset : ℕ) (t : Items) → Accepts p depth offset [] t → Told depth (childrenIn []) t
+unfolding means
+told-end p depth offset t a = subst (λ l. Told depth l t) (sym children-none) (over {t = t} (λ es. ap (means es) (opened-end p depth offset t a)))
+
+told-next : (p depth offset : ℕ) (s : List ℕ) (t : Items) → Accepts p depth offset s t
+    → ((v : Items) (behind : ℕ) → length (afterFirst s) < length s → Accepts p depth behind (afterFirst s) v → Told depth (childrenIn (afterFirst s)) v) → Told depth (childrenIn s) t
+told-next p depth offset [] t a later = told-end p depth offset t a
+told-next p depth offset (x ∷ rest) t a later =
+    let s = x ∷ rest in
+    let f = fewer-after s (le-leb (headerSize s + bodySize s) (length s) (fits-in p depth offset s t (omega arith) a)) in
+    told-item p depth offset s t (omega arith) a (λ v behind c. later v behind f c)
+
+told-within : (n p depth offset : ℕ) (s : List ℕ) (t : Items) → length s ≤ n → Accepts p depth offset s t → Told depth (childrenIn s) t
+told-within zero p depth offset s t l a = told-next p depth offset s t a (λ v behind f c. absurd (omega arith))
+told-within (suc n) p depth offset s t l a = told-next p depth offset s t a (λ v behind f c. told-within n p depth behind (afterFirst s) v (omega arith) c)
+
+pub children-told : (p depth offset : ℕ) (s : List ℕ) (t : Items) → Accepts p depth offset s t → Told depth (childrenIn s) t
+children-told p depth offset s t a = told-within (length s) p depth offset s t (omega arith) a
 
 -- ---- find_item
 
@@ -289,6 +349,17 @@ find-later sought p tag from body u v h = go (isItems (known p tag)) (isKnown (k
     go true b = rw other
     go false true = rw other
     go false false = refl
+
+-- what is found in a part is the first item of the tag in every tree that the part has, where the tag is known in the element, and a value of its kind
+pub record SoughtFound (part : List ℕ) (tag from to : ℕ) : Type 0 where
+  pub ordered : from ≤ to
+  pub inside : to ≤ length part
+  pub is : (p depth offset : ℕ) (t : Items) → Accepts p depth offset part t → isKnown (known p tag) ≡ true → find tag t ≡ some (between part from to)
+  pub value : (p depth offset : ℕ) (t : Items) → Accepts p depth offset part t → isValue (known p tag) (between part from to) ≡ true
+
+unfoldable pub Sought : List ℕ → ℕ → Lies → Type 0
+Sought part tag Outside = (p depth offset : ℕ) (t : Items) → Accepts p depth offset part t → find tag t ≡ none
+Sought part tag (Between from to) = SoughtFound part tag from to
 
 -- what is sought is not among the items before a place
 pub record Passed (part : List ℕ) (tag p depth offset at : ℕ) (t : Items) : Type 0 where
@@ -463,16 +534,16 @@ pub ruleset span-ways = (span-begin, span-ended, span-behind, span-outside, span
 
 -- of a part that is accepted it is the item of its tree
 module _ (part : List ℕ) (tag : ℕ) where
-  abbrev Told : Type 0
-  Told = Sought part tag (spanOfTag tag part)
+  abbrev Says : Type 0
+  Says = Sought part tag (spanOfTag tag part)
 
-  told-end : (at : ℕ) → length part ≤ at → Seeks part tag at → Spans part tag at → Told
-  told-end at h k p = subst (Sought part tag) (span-ended part tag at p h) (seek-ended part tag at k h)
+  says-end : (at : ℕ) → length part ≤ at → Seeks part tag at → Spans part tag at → Says
+  says-end at h k p = subst (Sought part tag) (span-ended part tag at p h) (seek-ended part tag at k h)
 
-  told-item : (at : ℕ) → at < length part → Seeks part tag at → Spans part tag at → ((to : ℕ) → length part - to < length part - at → Seeks part tag to → Spans part tag to → Told) → Told
-  told-item at h k p later = go (attribute tag && not (attribute (getD part at 0))) refl (liesAt part at) refl
+  says-item : (at : ℕ) → at < length part → Seeks part tag at → Spans part tag at → ((to : ℕ) → length part - to < length part - at → Seeks part tag to → Spans part tag to → Says) → Says
+  says-item at h k p later = go (attribute tag && not (attribute (getD part at 0))) refl (liesAt part at) refl
     where
-      found : (from to : ℕ) → attribute tag && not (attribute (getD part at 0)) ≡ false → liesAt part at ≡ Between from to → (b : Bool) → eqb (getD part at 0) tag ≡ b → Told
+      found : (from to : ℕ) → attribute tag && not (attribute (getD part at 0)) ≡ false → liesAt part at ≡ Between from to → (b : Bool) → eqb (getD part at 0) tag ≡ b → Says
       found from to f q true e =
           let x = eqb-true (getD part at 0) tag e in
           subst (Sought part tag) (span-found part tag at p false (sym f) refl (liesAt part at) refl from to q x) (seek-found part tag at k h (liesAt part at) refl from to q x)
@@ -481,18 +552,18 @@ module _ (part : List ℕ) (tag : ℕ) where
           later to (seek-nearer part tag at k h (liesAt part at) refl from to q) (seek-again part tag at k h (liesAt part at) refl from to q x)
           (span-again part tag at p false (sym f) refl (liesAt part at) refl from to q x)
 
-      go : (b : Bool) → attribute tag && not (attribute (getD part at 0)) ≡ b → (r : Lies) → liesAt part at ≡ r → Told
+      go : (b : Bool) → attribute tag && not (attribute (getD part at 0)) ≡ b → (r : Lies) → liesAt part at ≡ r → Says
       go true f r q = subst (Sought part tag) (span-behind part tag at p true (sym f) refl) (seek-behind part tag at k h true (sym f) refl)
       go false f Outside q = subst (Sought part tag) (span-outside part tag at p false (sym f) refl (liesAt part at) refl q) (seek-outside part tag at k h (liesAt part at) refl q)
       go false f (Between from to) q = found from to f q (eqb (getD part at 0) tag) refl
 
-  told-within : (n at : ℕ) → length part - at ≤ n → Seeks part tag at → Spans part tag at → Told
-  told-within zero at l k p = told-end at (omega arith) k p
-  told-within (suc n) at l k p = go (ltb at (length part)) refl (λ to m x y. told-within n to (omega arith) x y)
+  says-within : (n at : ℕ) → length part - at ≤ n → Seeks part tag at → Spans part tag at → Says
+  says-within zero at l k p = says-end at (omega arith) k p
+  says-within (suc n) at l k p = go (ltb at (length part)) refl (λ to m x y. says-within n to (omega arith) x y)
     where
-      go : (b : Bool) → ltb at (length part) ≡ b → ((to : ℕ) → length part - to < length part - at → Seeks part tag to → Spans part tag to → Told) → Told
-      go true e later = told-item at (ltb-true at (length part) e) k p later
-      go false e later = told-end at (ltb-false at (length part) e) k p
+      go : (b : Bool) → ltb at (length part) ≡ b → ((to : ℕ) → length part - to < length part - at → Seeks part tag to → Spans part tag to → Says) → Says
+      go true e later = says-item at (ltb-true at (length part) e) k p later
+      go false e later = says-end at (ltb-false at (length part) e) k p
 
   pub span-says : (r : Lies) → r ≡ spanOfTag tag part → Sought part tag r
-  span-says r e = subst (Sought part tag) (sym e) (told-within (length part) 0 (omega arith) (seek-begin part tag) (span-begin part tag))
+  span-says r e = subst (Sought part tag) (sym e) (says-within (length part) 0 (omega arith) (seek-begin part tag) (span-begin part tag))

@@ -1,7 +1,7 @@
 -- Wrong answers, refuted by computing the definitions: for each public call two, of the kind that slips make.
 use mathlib.Core.Path.{_≡_, refl, sym, ap, _∙_}
-use mathlib.Core.Bool.{Bool, true, false, false≢true, true≢false}
-use mathlib.Core.List.{List, [], _∷_}
+use mathlib.Core.Bool.{true, false, false≢true, true≢false}
+use mathlib.Core.List.{List, [], _∷_, _++_}
 use Prim.Native.Nat.{ℕ}
 use native.Mathlib.Omega.{arith}
 use lib.ListN.{getD}
@@ -17,12 +17,13 @@ use Rattle.values.specs.Bearers.{ensembleFlag, longSidFlag, ensembleOf, bearerO
 use Rattle.values.specs.Values.{width, fits, meant, octetsOf}
 use Rattle.format.specs.declared.SameAnswer.the-variants.{Same, Different, FirstRefused, SecondRefused}
 use Rattle.format.specs.Answers.{refusal}
-use Rattle.format.specs.Judge.{judge}
+use Rattle.format.specs.Judge.{isKnown, isItems, judge}
+use Rattle.format.specs.Meaning.{opens, isChild}
 use Rattle.format.specs.Same.{sameOctets, sameValue, sameMaybe, sameAnswer, isNormal}
 use Rattle.survey.specs.declared.Lies.the-variants.{Outside, Between}
 use Rattle.compare.specs.Bodies.{sameBody}
-use Rattle.compare.specs.Walks.{spanWithin, spanOfTag, bodyBy, bodyOfTag}
-use Rattle.compare.specs.Items.{sameFound, sameText}
+use Rattle.compare.specs.Walks.{spanWithin, spanOfTag, bodyBy, bodyOfTag, childrenWithin, childrenIn}
+use Rattle.compare.specs.Items.{sameFound, sameFrom, sameSets, sameText, sameEach, sameElement, sameChildren}
 use Rattle.compare.proofs.Examples.{rising-order, falling-minus-zero, no-cdata, empty-cdata, top, cut-short, language, computed}
 
 -- `same`: no CDATA and an empty one told as the same; another order of attributes and minus 0 told as different; the second object's refusal told of the first
@@ -112,3 +113,54 @@ none-as-empty es fs h = false≢true h
 pub child-for-own : (es fs : Entries) → sameText es fs (bodyOfTag 1 (0x10 ∷ 0x03 ∷ 0x01 ∷ 0x01 ∷ 0x61 ∷ [])) (bodyOfTag 1 (0x01 ∷ 0x01 ∷ 0x61 ∷ [])) ≡ true → ⊥
 unfolding sameText sameMaybe attribute bodyOfTag bodyBy spanOfTag spanWithin headerSize bodySize
 child-for-own es fs h = false≢true h
+
+-- `same_attributes`: attributes in another order told as different; the last one that an element can have, programme's xml:lang, not looked at
+abbrev versioned : List ℕ
+versioned = 0x80 ∷ 0x02 ∷ 0x00 ∷ 0x01 ∷ []
+
+abbrev created : List ℕ
+created = 0x81 ∷ 0x04 ∷ 0x30 ∷ 0xD4 ∷ 0x00 ∷ 0x00 ∷ []
+
+record Attributes : Type 0 where
+  turned : sameSets 0x03 [] (versioned ++ created) [] (created ++ versioned) ≡ true
+  last : sameSets 0x1C [] (0x86 ∷ 0x01 ∷ 0x61 ∷ []) [] [] ≡ false
+
+attributes : Attributes
+unfolding sameSets sameFrom sameFound sameMaybe known rows kindIn attribute bodyOfTag bodyBy spanOfTag spanWithin headerSize bodySize sameBody sameValue sameOctets fits width meant octetsOf value digits isTime timeOf timeOctets inRange sign bits longFlag offsetFlag offsetOctet
+attributes = record { turned = refl; last = refl }
+
+pub turned-different : sameSets 0x03 [] (versioned ++ created) [] (created ++ versioned) ≡ false → ⊥
+turned-different h = true≢false (sym (attributes .turned) ∙ h)
+
+pub last-attribute-unseen : sameSets 0x1C [] (0x86 ∷ 0x01 ∷ 0x61 ∷ []) [] [] ≡ true → ⊥
+last-attribute-unseen h = false≢true (sym (attributes .last) ∙ h)
+
+-- `same_child`, two services: an unknown element in one told as a difference; a name in one alone told as none. `same_children`: names in another order told as
+-- the same; a token table taken for a child element
+abbrev short-name : List ℕ
+short-name = 0x10 ∷ 0x00 ∷ []
+
+abbrev medium-name : List ℕ
+medium-name = 0x11 ∷ 0x00 ∷ []
+
+record Elements : Type 0 where
+  unknown : sameElement 2 [] [] 0x28 (0x7F ∷ 0x00 ∷ []) [] ≡ true
+  named : sameElement 2 [] [] 0x28 short-name [] ≡ false
+  turned : sameChildren 1 [] (short-name ++ medium-name) [] (medium-name ++ short-name) ≡ false
+  tabled : sameChildren 1 [] (0x04 ∷ 0x00 ∷ short-name) [] short-name ≡ true
+
+elements : Elements
+unfolding sameElement sameChildren sameEach childrenIn childrenWithin opens isChild isKnown isItems sameSets sameFrom sameFound sameMaybe sameText known rows kindIn attribute bodyOfTag bodyBy spanOfTag spanWithin headerSize bodySize
+elements = record { unknown = refl; named = refl; turned = refl; tabled = refl }
+
+pub unknown-differs : sameElement 2 [] [] 0x28 (0x7F ∷ 0x00 ∷ []) [] ≡ false → ⊥
+unknown-differs h = true≢false (sym (elements .unknown) ∙ h)
+
+pub name-unseen : sameElement 2 [] [] 0x28 short-name [] ≡ true → ⊥
+name-unseen h = false≢true (sym (elements .named) ∙ h)
+
+pub order-unseen : sameChildren 1 [] (short-name ++ medium-name) [] (medium-name ++ short-name) ≡ true → ⊥
+order-unseen h = false≢true (sym (elements .turned) ∙ h)
+
+pub table-as-child : sameChildren 1 [] (0x04 ∷ 0x00 ∷ short-name) [] short-name ≡ false → ⊥
+table-as-child h = true≢false (sym (elements .tabled) ∙ h)

@@ -1,21 +1,21 @@
--- An attribute and the CDATA in two elements, told of all octets (`sameFound`, `sameText`); and what the functions that compare two parts tell of every two trees that
--- these have, where they are accepted as the items of two elements.
+-- Two elements of one tag with two bodies, each under the entries of its own token table: whether they mean the same (document 01, Records and meaning). Told
+-- of all octets; that it says so of accepted bodies is proved (proofs/Comparing, element-says).
 use mathlib.Core.Path.{_≡_}
 use mathlib.Core.Bool.{Bool, true, false, cond, _&&_}
 use mathlib.Core.Option.{Option, none, some}
-use mathlib.Core.List.{List}
-use Prim.Native.Nat.{ℕ, _+_, _≤_}
+use mathlib.Core.List.{List, [], _∷_}
+use Prim.Native.Nat.{ℕ, zero, suc}
+use lib.Dec.{eqb}
 use Rattle.text.specs.Tokens.{Entries, expanded}
 use Rattle.values.specs.declared.Kind.{Kind}
-use Rattle.values.specs.Table.{attribute}
+use Rattle.values.specs.Table.{known}
 use Rattle.format.specs.declared.SameAnswer.{SameAnswer}
 use Rattle.format.specs.declared.SameAnswer.the-variants.{Same, Different}
 use Rattle.format.specs.Tree.{Items}
 use Rattle.format.specs.Judge.{isItems, isText, judge}
 use Rattle.format.specs.Judge.Judged.{accepted}
-use Rattle.format.specs.Meaning.{opens, attributesIn, cdataIn, leafOctets, means, meaningOf}
-use Rattle.format.specs.Same.{sameOctets, sameValue, sameMaybe, sameAttributes, sameMeaning}
-use Rattle.reader.specs.Filling.{Accepts}
+use Rattle.format.specs.Meaning.{opens, leafOctets, meaningOf}
+use Rattle.format.specs.Same.{sameOctets, sameMaybe, sameMeaning}
 use Rattle.survey.specs.declared.Lies.{Lies}
 use Rattle.survey.specs.declared.Lies.the-variants.{Outside, Between}
 use Rattle.compare.specs.declared.walks.Child.{Child}
@@ -23,36 +23,52 @@ use Rattle.compare.specs.declared.walks.Child.the-variants.{End, Found}
 use Rattle.compare.specs.declared.items.Content.{Content}
 use Rattle.compare.specs.declared.items.Content.the-variants.{Items as InItems, Text as InText, Octets as InOctets}
 use Rattle.compare.specs.Bodies.{sameBody}
+use Rattle.compare.specs.Walks.{bodyOfTag, childrenIn}
 
-unfoldable pub isAbsent : Lies → Bool
-isAbsent Outside = true
-isAbsent (Between from to) = false
-
--- the bodies under one tag in two elements: both absent, or both present and of one meaning by the kind that the tag has there; one that isn't known says nothing
+-- the bodies under one tag in two elements: both absent, or both present and of one meaning by the kind that the tag has there; one that isn't known says
+-- nothing
 unfoldable pub sameFound : Entries → Entries → Option Kind → Option (List ℕ) → Option (List ℕ) → Bool
 sameFound es fs none a b = true
 sameFound es fs (some k) a b = sameMaybe (sameBody es fs k) a b
+
+-- the attributes of as many tags as the first number says, from a tag on
+unfoldable pub sameFrom : (many tag parent : ℕ) → Entries → List ℕ → Entries → List ℕ → Bool
+sameFrom zero tag parent es a fs b = true
+sameFrom (suc n) tag parent es a fs b = sameFound es fs (known parent tag) (bodyOfTag tag a) (bodyOfTag tag b) && sameFrom n (suc tag) parent es a fs b
+
+-- all attributes of two elements of a tag, as sets: where each stands says nothing
+unfoldable pub sameSets : (parent : ℕ) → Entries → List ℕ → Entries → List ℕ → Bool
+sameSets parent es a fs b = sameFrom 128 0x80 parent es a fs b
 
 -- both absent, or texts that expand to the same octets
 unfoldable pub sameText : Entries → Entries → Option (List ℕ) → Option (List ℕ) → Bool
 sameText es fs a b = sameMaybe (λ x y. sameOctets (expanded es x) (expanded fs y)) a b
 
--- of two trees: the first part's in an element of a tag, the second's in one of another, each at some depth and offset
-abbrev pub Both : (p q : ℕ) (a b : List ℕ) → (Items → Items → Type 0) → Type 0
-Both p q a b P = (d e i j : ℕ) (t u : Items) → Accepts p d i a t → Accepts q e j b u → P t u
+-- elements in order, by a test of two of one tag
+unfoldable pub sameEach : (ℕ → List ℕ → List ℕ → Bool) → List (ℕ × List ℕ) → List (ℕ × List ℕ) → Bool
+sameEach f [] [] = true
+sameEach f [] (y ∷ ys) = false
+sameEach f (x ∷ xs) [] = false
+sameEach f (x ∷ xs) (y ∷ ys) = eqb (x .0) (y .0) && f (x .0) (x .1) (y .1) && sameEach f xs ys
 
--- the attribute of a tag, in two elements of one tag
-unfoldable pub SameAttribute : (parent tag : ℕ) → Entries → List ℕ → Entries → List ℕ → Bool → Type 0
-SameAttribute parent tag es a fs b r =
-    attribute tag ≡ true → Both parent parent a b (λ t u. r ≡ sameMaybe sameValue (attributesIn es parent t tag) (attributesIn fs parent u tag))
+-- two elements of a tag: the same attributes, CDATA and child elements, as deep as so many levels of elements; or, where it holds no items, the same octets,
+-- expanded where they are text
+unfoldable pub sameElement : (levels : ℕ) → Entries → Entries → (tag : ℕ) → List ℕ → List ℕ → Bool
+sameElement zero es fs tag a b = cond (opens tag) false (sameOctets (leafOctets es tag a) (leafOctets fs tag b))
+sameElement (suc n) es fs tag a b =
+    let children = sameEach (sameElement n es fs) (childrenIn a) (childrenIn b) in
+    let held = sameSets tag es a fs b && sameText es fs (bodyOfTag 1 a) (bodyOfTag 1 b) && children in
+    cond (opens tag) held (sameOctets (leafOctets es tag a) (leafOctets fs tag b))
 
--- all attributes
-unfoldable pub SameSets : (parent : ℕ) → Entries → List ℕ → Entries → List ℕ → Bool → Type 0
-SameSets parent es a fs b r = Both parent parent a b (λ t u. r ≡ sameAttributes 128 0x80 (attributesIn es parent t) (attributesIn fs parent u))
+-- the child elements in two bodies
+unfoldable pub sameChildren : (levels : ℕ) → Entries → List ℕ → Entries → List ℕ → Bool
+sameChildren levels es a fs b = sameEach (sameElement levels es fs) (childrenIn a) (childrenIn b)
 
--- the CDATA
-unfoldable pub SameData : Entries → List ℕ → Entries → List ℕ → Bool → Type 0
-SameData es a fs b r = (p q : ℕ) → Both p q a b (λ t u. r ≡ sameMaybe sameOctets (cdataIn es t) (cdataIn fs u))
+-- ---- what single functions tell; no claim of a call names these
+
+unfoldable pub isAbsent : Lies → Bool
+isAbsent Outside = true
+isAbsent (Between from to) = false
 
 -- what an element's body is
 unfoldable pub contentOf : Option Kind → Content
@@ -61,23 +77,6 @@ contentOf k = cond (isItems k) InItems (cond (isText k) InText InOctets)
 unfoldable pub isEnded : Child → Bool
 isEnded End = true
 isEnded (Found at from to) = false
-
--- two elements of one tag with these bodies and the items inside them mean the same
-unfoldable pub sameInside : Entries → Entries → ℕ → List ℕ → Items → List ℕ → Items → Bool
-sameInside es fs tag a t b u =
-    let sets = sameAttributes 128 0x80 (attributesIn es tag t) (attributesIn fs tag u) in
-    let held = sets && sameMaybe sameOctets (cdataIn es t) (cdataIn fs u) && sameMeaning (means es t) (means fs u) in
-    cond (opens tag) held (sameOctets (leafOctets es tag a) (leafOctets fs tag b))
-
--- two elements of one tag, of which the first stands at a depth that leaves so many levels (rule 7)
-unfoldable pub SameChild : (tag left : ℕ) → Entries → List ℕ → Entries → List ℕ → Bool → Type 0
-SameChild tag left es a fs b r =
-    (d e i j : ℕ) (t u : Items) → d + left ≡ 17 → (opens tag ≡ true → (d ≤ 16) × Accepts tag (d + 1) i a t) → (opens tag ≡ true → (e ≤ 16) × Accepts tag (e + 1) j b u)
-    → r ≡ sameInside es fs tag a t b u
-
--- the items of two parts
-unfoldable pub SameItems : (left : ℕ) → Entries → List ℕ → Entries → List ℕ → Bool → Type 0
-SameItems left es a fs b r = (p q d e i j : ℕ) (t u : Items) → d + left ≡ 17 → Accepts p d i a t → Accepts q e j b u → r ≡ sameMeaning (means es t) (means fs u)
 
 -- two objects that are accepted
 unfoldable pub Compared : List ℕ → List ℕ → SameAnswer → Type 0

@@ -1,5 +1,5 @@
--- The test whether octets stand in normal form, item by item. It is told of all octets; that an accepted object passes it exactly when it is its own normal form is
--- proved (proofs/Normalising, shaped-exactly), so nobody who reads document 01 has to believe it.
+-- The test whether octets stand in normal form, item by item. It is told of all octets; that an accepted object passes it exactly when it is its own normal
+-- form is proved (proofs/Normalising, shaped-exactly), so nobody who reads document 01 has to believe it.
 use mathlib.Core.Bool.{Bool, true, false, cond, not, _&&_, _||_}
 use mathlib.Core.Option.{Option, none, some}
 use mathlib.Core.List.{List, [], _∷_}

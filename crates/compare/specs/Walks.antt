@@ -1,24 +1,19 @@
--- Where an item of a tag lies in octets, told of all octets (`spanOfTag`, `bodyOfTag`); and what the walks tell of every tree that a part has, where it is accepted as
--- the items of some element. Like the functions that fill the lists, they carry neither table nor tags seen.
+-- Where items lie in octets: an item by its tag, child elements in order. Told of all octets; what it says of an accepted part is proved (proofs/Walking,
+-- span-says and children-told).
 use mathlib.Core.Path.{_≡_}
-use mathlib.Core.Bool.{true, cond, not, _&&_}
+use mathlib.Core.Bool.{Bool, cond, not, _&&_}
 use mathlib.Core.Option.{Option, none, some}
-use mathlib.Core.List.{List}
+use mathlib.Core.List.{List, [], _∷_}
 use Prim.Native.Nat.{ℕ, zero, suc, _+_, _-_, _≤_, _<_}
 use lib.Dec.{eqb}
 use lib.ListN.{length, take, drop, getD}
 use Rattle.octets.specs.Header.{headerSize, bodySize}
-use Rattle.text.specs.Tokens.{Entries}
 use Rattle.values.specs.Table.{known, attribute}
-use Rattle.format.specs.Tree.{Items, find}
-use Rattle.format.specs.Tree.Items.{item}
-use Rattle.format.specs.Judge.{isKnown, isValue}
-use Rattle.format.specs.Meaning.{opens, isChild, means}
-use Rattle.format.specs.Meaning.Meaning.{nothing}
-use Rattle.reader.specs.Filling.{Accepts}
+use Rattle.format.specs.Judge.{isKnown}
+use Rattle.format.specs.Meaning.{isChild}
 use Rattle.survey.specs.declared.Lies.{Lies}
 use Rattle.survey.specs.declared.Lies.the-variants.{Outside, Between}
-use Rattle.survey.specs.Places.{isWhole, afterFirst}
+use Rattle.survey.specs.Places.{isWhole, firstBody, afterFirst}
 use Rattle.compare.specs.declared.walks.Child.{Child}
 use Rattle.compare.specs.declared.walks.Child.the-variants.{End, Found}
 
@@ -26,42 +21,9 @@ use Rattle.compare.specs.declared.walks.Child.the-variants.{End, Found}
 abbrev pub between : List ℕ → ℕ → ℕ → List ℕ
 between part from to = take (to - from) (drop from part)
 
--- a child element with its body: the tree means what this element and the items after it mean
-pub record ChildTold (p depth offset tag from to : ℕ) (part : List ℕ) (t : Items) : Type 0 where
-  pub u : Items
-  pub v : Items
-  pub child : isChild tag ≡ true
-  pub isOne : isKnown (known 0 tag) ≡ true
-  pub inside : opens tag ≡ true → (depth ≤ 16) × Accepts tag (depth + 1) (offset + from) (between part from to) u
-  pub after : Accepts p depth (offset + to) (drop to part) v
-  pub same : (es : Entries) → means es t ≡ means es (item tag (offset + from) (between part from to) u v)
-
-pub record ChildFound (part : List ℕ) (at place from to : ℕ) : Type 0 where
-  pub begins : place < length part
-  pub ordered : from ≤ to
-  pub inside : to ≤ length part
-  pub onward : at < to
-  pub told : (p depth offset : ℕ) (t : Items) → Accepts p depth (offset + at) (drop at part) t → ChildTold p depth offset (getD part place 0) from to part t
-
--- the first child element from a place on, or that what follows means nothing
-unfoldable pub Children : List ℕ → ℕ → Child → Type 0
-Children part at End = (p depth offset : ℕ) (t : Items) → Accepts p depth (offset + at) (drop at part) t → (es : Entries) → means es t ≡ nothing
-Children part at (Found place from to) = ChildFound part at place from to
-
--- the first item of a tag, which is the tree's where the tag is known in the element
-pub record SoughtFound (part : List ℕ) (tag from to : ℕ) : Type 0 where
-  pub ordered : from ≤ to
-  pub inside : to ≤ length part
-  pub is : (p depth offset : ℕ) (t : Items) → Accepts p depth offset part t → isKnown (known p tag) ≡ true → find tag t ≡ some (between part from to)
-  pub value : (p depth offset : ℕ) (t : Items) → Accepts p depth offset part t → isValue (known p tag) (between part from to) ≡ true
-
-unfoldable pub Sought : List ℕ → ℕ → Lies → Type 0
-Sought part tag Outside = (p depth offset : ℕ) (t : Items) → Accepts p depth offset part t → find tag t ≡ none
-Sought part tag (Between from to) = SoughtFound part tag from to
-
--- where the body of the first item of a tag lies among items that lie one behind the other, the first of them at a place. Nowhere, where an item on the way runs past
--- the end, or, of an attribute, where another item comes first (document 01, Framing: attributes, then child elements, then CDATA). Each item has octets, so it is
--- found in no more steps than there are octets
+-- where the body of the first item of a tag lies among items that lie one behind the other, the first of them at a place. Nowhere, where an item on the way
+-- runs past the end, or, of an attribute, where another item comes first (document 01, Framing: attributes, then child elements, then CDATA). Each item has
+-- octets, so it is found in no more steps than there are octets
 unfoldable pub spanWithin : (steps at tag : ℕ) → List ℕ → Lies
 spanWithin zero at tag s = Outside
 spanWithin (suc n) at tag s =
@@ -79,3 +41,30 @@ bodyBy part (Between from to) = some (between part from to)
 
 unfoldable pub bodyOfTag : ℕ → List ℕ → Option (List ℕ)
 bodyOfTag tag part = bodyBy part (spanOfTag tag part)
+
+-- a child element that has a meaning: known, and not the token table (document 01, Records and meaning)
+abbrev pub isMeant : ℕ → Bool
+isMeant tag = isChild tag && isKnown (known 0 tag)
+
+-- the child elements among items that lie one behind the other, each with its tag and its body; none behind an item that runs past the end. They are found in
+-- no more steps than there are octets
+unfoldable pub childrenWithin : (steps : ℕ) → List ℕ → List (ℕ × List ℕ)
+childrenWithin zero s = []
+childrenWithin (suc n) s =
+    let later = childrenWithin n (afterFirst s) in
+    cond (isWhole s) (cond (isMeant (getD s 0 0)) ((getD s 0 0, firstBody s) ∷ later) later) []
+
+unfoldable pub childrenIn : List ℕ → List (ℕ × List ℕ)
+childrenIn s = childrenWithin (length s) s
+
+-- what next_child tells of the items from a place on: there is no child element, or where the first one lies, and that the others come behind it
+pub record ChildFound (part : List ℕ) (at place from to : ℕ) : Type 0 where
+  pub begins : place < length part
+  pub ordered : from ≤ to
+  pub inside : to ≤ length part
+  pub onward : at < to
+  pub children : childrenIn (drop at part) ≡ (getD part place 0, between part from to) ∷ childrenIn (drop to part)
+
+unfoldable pub Children : List ℕ → ℕ → Child → Type 0
+Children part at End = childrenIn (drop at part) ≡ []
+Children part at (Found place from to) = ChildFound part at place from to

@@ -1,4 +1,5 @@
-// The bodies of two items of one kind: whether they mean the same value (document 01, Values). Texts stand each under its own token table; no other kind needs one.
+// The bodies of two items of one kind: whether they mean the same value (document 01, Values). Texts stand each under its own token table; no other kind needs
+// one.
 ghost use mathlib.Core.Path.{_≡_};
 ghost use mathlib.Core.Bool.{_&&_};
 ghost use Rattle.text.specs.Index.{entriesBy};

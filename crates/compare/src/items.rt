@@ -4,7 +4,7 @@
 ghost use mathlib.Core.Path.{_≡_};
 ghost use Rattle.text.specs.Index.{entriesBy};
 ghost use Rattle.values.specs.Table.{known};
-ghost use Rattle.compare.specs.Items.{sameFound, sameText, SameSets, SameChild, SameItems, isAbsent, contentOf, isEnded};
+ghost use Rattle.compare.specs.Items.{sameFound, sameSets, sameText, sameElement, sameChildren, isAbsent, contentOf, isEnded};
 ghost use Rattle.compare.specs.Walks.{bodyOfTag};
 use crate::bodies::same_bodies;
 use crate::bodies::same_octets;
@@ -63,7 +63,7 @@ pub fn same_attribute(
     )
 }
 
-// All attributes of two elements. No element knows one above 0x86.
+// All attributes of two elements with the tag `parent` and these bodies. No element knows one above 0x86.
 pub fn same_attributes(
     parent: u8,
     index_a: &[usize; 32],
@@ -73,7 +73,7 @@ pub fn same_attributes(
     table_b: &[u8],
     b: &[u8],
 ) -> bool
-    ensures { λ r. ⌜ SameSets parent (entriesBy (now («index_a» .entry)) (now («table_a» .entry))) (now (a .entry)) (entriesBy (now («index_b» .entry)) (now («table_b» .entry))) (now (b .entry)) r ⌝ }
+    ensures { λ r. ⌜ r ≡ sameSets parent (entriesBy (now («index_a» .entry)) (now («table_a» .entry))) (now (a .entry)) (entriesBy (now («index_b» .entry)) (now («table_b» .entry))) (now (b .entry)) ⌝ }
 {
     let mut tag: u8 = 0x80;
     while tag < 0x87 {
@@ -140,11 +140,11 @@ fn content_of(tag: u8) -> Content
     }
 }
 
-// Two elements of one tag, with these bodies. `left` is how many levels of elements may still open: in an accepted object none opens below depth 16. Told of
-// accepted bodies alone, so it is not for other crates.
+// Two elements of one tag with these bodies. Elements are looked into as deep as `levels` levels, and any deeper ones that hold items count as different; in an
+// accepted object none lies deeper than 16, so with 17 less the depth of the first element nothing is cut off.
 pub fn same_child(
     tag: u8,
-    left: usize,
+    levels: usize,
     index_a: &[usize; 32],
     table_a: &[u8],
     a: &[u8],
@@ -152,13 +152,13 @@ pub fn same_child(
     table_b: &[u8],
     b: &[u8],
 ) -> bool
-    ensures { λ r. ⌜ SameChild tag left (entriesBy (now («index_a» .entry)) (now («table_a» .entry))) (now (a .entry)) (entriesBy (now («index_b» .entry)) (now («table_b» .entry))) (now (b .entry)) r ⌝ }
+    ensures { λ r. ⌜ r ≡ sameElement levels (entriesBy (now («index_a» .entry)) (now («table_a» .entry))) (entriesBy (now («index_b» .entry)) (now («table_b» .entry))) tag (now (a .entry)) (now (b .entry)) ⌝ }
 {
     match content_of(tag) {
         Content::Octets => same_octets(a, b),
         Content::Text => same_texts(index_a, table_a, a, index_b, table_b, b),
         Content::Items => {
-            if left == 0 {
+            if levels == 0 {
                 return false;
             }
             if !same_attributes(tag, index_a, table_a, a, index_b, table_b, b) {
@@ -167,7 +167,7 @@ pub fn same_child(
             if !same_cdata(index_a, table_a, a, index_b, table_b, b) {
                 return false;
             }
-            same_children(left - 1, index_a, table_a, a, index_b, table_b, b)
+            same_children(levels - 1, index_a, table_a, a, index_b, table_b, b)
         }
     }
 }
@@ -185,9 +185,9 @@ fn is_end(child: Child) -> bool
     }
 }
 
-// The child elements of two elements with these bodies, in order. Told of accepted bodies alone too.
+// The child elements in two bodies, in order; `levels` as for each of them.
 pub fn same_children(
-    left: usize,
+    levels: usize,
     index_a: &[usize; 32],
     table_a: &[u8],
     a: &[u8],
@@ -195,7 +195,7 @@ pub fn same_children(
     table_b: &[u8],
     b: &[u8],
 ) -> bool
-    ensures { λ r. ⌜ SameItems left (entriesBy (now («index_a» .entry)) (now («table_a» .entry))) (now (a .entry)) (entriesBy (now («index_b» .entry)) (now («table_b» .entry))) (now (b .entry)) r ⌝ }
+    ensures { λ r. ⌜ r ≡ sameChildren levels (entriesBy (now («index_a» .entry)) (now («table_a» .entry))) (now (a .entry)) (entriesBy (now («index_b» .entry)) (now («table_b» .entry))) (now (b .entry)) ⌝ }
 {
     let mut i: usize = 0;
     let mut j: usize = 0;
@@ -217,7 +217,7 @@ pub fn same_children(
         }
         if !same_child(
             tag,
-            left,
+            levels,
             index_a,
             table_a,
             &a[from..to],

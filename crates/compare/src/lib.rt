@@ -12,14 +12,16 @@ mod normal;
 mod texts;
 mod walks;
 
-use crate::items::same_children;
 use crate::normal::are_items_normal;
 pub use bodies::same_bodies;
 pub use bodies::same_octets;
 use format::ReadAnswer;
 use format::SameAnswer;
 pub use items::same_attribute;
+pub use items::same_attributes;
 pub use items::same_cdata;
+pub use items::same_child;
+pub use items::same_children;
 use judge::judge;
 use survey::table_of;
 use text::index_of;

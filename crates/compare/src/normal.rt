@@ -1,6 +1,6 @@
-// Whether octets stand in normal form (document 01, Records and meaning): each item is one that is written, its length in the shortest form, attributes by rising
-// tag, each value in its normal octets. The normal octets of a time or a bearer are made in an array of eight and compared; nothing else is written anywhere.
-// Cost: each item is looked at once.
+// Whether octets stand in normal form (document 01, Records and meaning): each item is one that is written, its length in the shortest form, attributes by
+// rising tag, each value in its normal octets. The normal octets of a time or a bearer are made in an array of eight and compared; nothing else is written
+// anywhere. Cost: each item is looked at once.
 ghost use mathlib.Core.Path.{_≡_};
 ghost use mathlib.Core.Bool.{cond, _&&_};
 ghost use Prim.Native.Nat.{_≤_};

@@ -1,5 +1,5 @@
-// Two texts under two token tables: whether they expand to the same octets. Nothing is copied: each expansion is gone through octet by octet where it stands, and
-// equal octets that can be no tokens, which most texts are made of, are passed over without a look at the tables.
+// Two texts under two token tables: whether they expand to the same octets. Nothing is copied: each expansion is gone through octet by octet where it stands,
+// and equal octets that can be no tokens, which most texts are made of, are passed over without a look at the tables.
 ghost use mathlib.Core.Path.{_≡_};
 ghost use Prim.Native.Nat.{_+_, _≤_};
 ghost use lib.ListN.{length, take, drop};

@@ -3,8 +3,7 @@ ghost use mathlib.Core.Path.{_≡_};
 ghost use mathlib.Core.Bool.{not, _&&_};
 ghost use Rattle.values.specs.Table.{known, attribute};
 ghost use Rattle.format.specs.Judge.{isKnown};
-ghost use Rattle.format.specs.Meaning.{isChild};
-ghost use Rattle.compare.specs.Walks.{Children, spanOfTag};
+ghost use Rattle.compare.specs.Walks.{isMeant, Children, spanOfTag};
 use survey::Lies;
 use survey::item_at;
 use values::KnownKind;
@@ -28,7 +27,7 @@ fn is_known(tag: u8) -> bool
 
 // An element that has a meaning of its own: known, and not the token table.
 fn is_child(tag: u8) -> bool
-    ensures { λ r. ⌜ r ≡ isChild tag && isKnown (known 0 tag) ⌝ }
+    ensures { λ r. ⌜ r ≡ isMeant tag ⌝ }
 {
     if is_attribute(tag) {
         return false;
@@ -42,7 +41,7 @@ fn is_child(tag: u8) -> bool
     is_known(tag)
 }
 
-// The first child element from the item at a place on. Told of accepted parts alone, so it is not for other crates.
+// The first child element from the item at a place on.
 pub fn next_child(part: &[u8], at: usize) -> Child
     ensures { λ r. ⌜ Children (now (part .entry)) at r ⌝ }
 {
