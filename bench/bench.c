@@ -304,7 +304,7 @@ static void repeat_call(const char *folder, const char *name, const char *of, un
         call called;
     } calls[] = {{"library_read", library_read}, {"second_read", second_read}, {"library_normalise", library_normalise},
                  {"second_normalise", second_normalise}, {"library_same", library_same}, {"second_same", second_same}};
-    load_all(folder, of, strcmp(of, "day") == 0 ? "other" : of);
+    load_all(folder, of, strcmp(of, "day") == 0 ? "other" : "twin");
     set = &sets[SIZES - 1];
     for (size_t i = 0; i < sizeof calls / sizeof calls[0]; i++)
         if (strcmp(calls[i].name, name) == 0)
@@ -324,7 +324,7 @@ int main(int count, char **arguments)
     printf("%-22s %11s %9s %9s %7s %8s\n", "", "octets", "library", "second", "ratio", "growth");
     printf("%-22s %11s %9s %9s %7s %8s\n", "", "", "ns/octet", "ns/octet", "", "");
     compare_calls(folder, "day", "other", (const char *[]){"read day", "normalise day", "same day", "texts of the day"});
-    compare_calls(folder, "small", "small",
+    compare_calls(folder, "small", "twin",
                   (const char *[]){"read small", "normalise small", "same small", "texts of small items"});
     repeat_text("The news at one, and then the weather for the coast. ");
     compare("text English", text_octets, library_text, second_text);

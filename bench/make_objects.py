@@ -2,8 +2,9 @@
 """Makes the objects of the benchmark:  make_objects.py FOLDER
 
     day-N-I.spi     a day's programmes: English and accented text, tokens, times, bearers
-    small-N-I.spi   many small items: numbers, times and short names
     other-N-I.spi   the day again in its longest forms, without tokens: other octets, the same meaning
+    small-N-I.spi   many small items: numbers, times and short names
+    twin-N-I.spi    the small items again without tokens
 
 N is 1, 4, 16 and 32: the object and its normal form have as many octets as fit N * 1024. I counts the objects of a size, 32 / N of
 them, so that a round over those of one size is as many octets as over those of another: a processor that has learnt the branches of one
@@ -120,7 +121,9 @@ def main():
             day, other = grown(programme, kilo * KILO, i, 2)
             (folder / f"day-{kilo}-{i}.spi").write_bytes(day)
             (folder / f"other-{kilo}-{i}.spi").write_bytes(other)
-            (folder / f"small-{kilo}-{i}.spi").write_bytes(grown(small, kilo * KILO, i, 0)[0])
+            items, twin = grown(small, kilo * KILO, i, 0)
+            (folder / f"small-{kilo}-{i}.spi").write_bytes(items)
+            (folder / f"twin-{kilo}-{i}.spi").write_bytes(twin)
 
 
 if __name__ == "__main__":
