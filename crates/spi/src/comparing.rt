@@ -17,7 +17,7 @@ fn say_difference(a: &[u8], b: &[u8]) {
     say(b"\n");
 }
 
-// Two accepted objects. A normal form may still be too large to be told, which counts as a refusal of its file.
+// Two accepted objects. They are compared whatever their normal forms have; where both can be told, so can the place of the first difference.
 fn report(
     first: &[u8],
     a: &[u8],
@@ -29,27 +29,23 @@ fn report(
     let mut room_a = room();
     let mut room_b = room();
     let made_a = normal_form(a, &mut room_a);
-    if made_a.number > 0 {
-        return say_refused(first, made_a.number, made_a.place);
-    }
     let made_b = normal_form(b, &mut room_b);
-    if made_b.number > 0 {
-        return say_refused(second, made_b.number, made_b.place);
-    }
-    let n = made_a.count;
-    let m = made_b.count;
     let same = compare::same(a, b).outcome().same;
     if same {
         say(b"same\n")
     } else {
         say(b"different\n")
     }
-    say_sizes(first, a.len(), first_records, n);
-    say_sizes(second, b.len(), second_records, m);
+    say_sizes(first, a.len(), first_records, made_a);
+    say_sizes(second, b.len(), second_records, made_b);
     if same {
         return GOOD;
     }
-    say_difference(&room_a[..n], &room_b[..m]);
+    if (made_a.number == 0) & (made_b.number == 0) {
+        let n = made_a.count;
+        let m = made_b.count;
+        say_difference(&room_a[..n], &room_b[..m]);
+    }
     BAD
 }
 

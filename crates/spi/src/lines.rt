@@ -1,5 +1,6 @@
 // What is said on standard output. The script that runs the program sees whether it got there.
 use crate::status::BAD;
+use format::Outcome;
 use format::Record;
 use libc::STDOUT_FILENO;
 use show::Put;
@@ -83,13 +84,22 @@ pub fn say_saved(path: &[u8], octets: usize, out: &[u8], normal: usize) {
     say(b"\n");
 }
 
-pub fn say_sizes(path: &[u8], octets: usize, records: usize, normal: usize) {
+// How many octets a normal form has. What is refused of an accepted object, to which all the memory is lent that it can need, has more than an object may have.
+fn say_normal(made: Outcome) {
+    if made.number > 0 {
+        say(b"above 32768");
+        return;
+    }
+    say_number(made.count)
+}
+
+pub fn say_sizes(path: &[u8], octets: usize, records: usize, made: Outcome) {
     say(path);
     say(b": ");
     say_number(octets);
     say(b" octets, ");
     say_number(records);
     say(b" records, normal form ");
-    say_number(normal);
+    say_normal(made);
     say(b" octets\n");
 }
