@@ -1,200 +1,67 @@
--- Two expansions gone through octet by octet: the ways through the functions of texts.
+-- Two expansions gone through in pieces: the ways through the functions of texts.
 use mathlib.Core.Path.{_≡_, refl, sym, ap, ap₂, _∙_, subst}
-use mathlib.Core.Bool.{Bool, true, false, cond}
-use mathlib.Core.List.{List, [], _∷_, _++_}
-use Prim.Native.Nat.{ℕ, suc, _+_, _-_, _^_, _≤_, _<_}
-use native.Mathlib.Numerals.{add-one}
-use native.Mathlib.Nat.{add-zero}
+use mathlib.Core.Bool.{Bool, true, false, cond, _&&_, false≢true}
+use mathlib.Core.List.{List, [], _∷_, _++_, append-assoc}
+use Prim.Native.Nat.{ℕ, zero, suc, _+_, _-_, _^_, _≤_, _<_, min}
 use native.Mathlib.Omega.{arith}
 use lib.Dec.{eqb, leb, ltb}
-use lib.ListN.{length, take, drop, getD, length-append, length-drop, drop-of-length-le, List·getD-append}
-use lib.Seq.{drop-drop, drop-nil, drop-cons, drop-append-add, getD-drop, getD-take, length-take-le}
-use borrow.Author.Tests.{ltb-true, ltb-false, lt-ltb, le-ltb, lt-leb, eqb-true, eq-eqb, ne-eqb}
-use mir.Syntax.{w64}
-use mir.Val.{Fits}
+use lib.ListN.{length, take, drop, getD, length-append, length-drop, drop-of-length-le}
+use lib.Seq.{drop-drop, length-take-le, getD-take, getD-drop}
+use borrow.Author.Tests.{ltb-true, ltb-false, lt-ltb, le-ltb, lt-leb, leb-true, leb-false, eqb-true, eqb-false, eq-eqb, ne-eqb}
 use Rattle.octets.proofs.Tests.{and-false}
-use Rattle.octets.proofs.Lists.{part-to-end}
+use Rattle.octets.proofs.Lists.{part-to-end, part-split, take-of-take, take-next, drop-next, length-part}
 use Rattle.text.specs.Text.{token}
 use Rattle.text.specs.Tokens.{Entries, stands, expanded}
 use Rattle.text.specs.Index.{entriesBy}
 use Rattle.text.proofs.Index.{self-by, part-by, by-plain, by-inside, by-none, by-past, by-long, by-wide, by-found}
 use Rattle.format.specs.Same.{sameOctets}
-use Rattle.compare.specs.declared.texts.Stand.{Stand}
-use Rattle.compare.specs.declared.texts.Stand.the-variants.{Past, Octet, Last}
-use Rattle.compare.specs.declared.texts.Next.{Next}
-use Rattle.compare.specs.declared.texts.Next.the-variants as next
-use Rattle.compare.specs.Texts.{standAt, left, Goes, isOver, Common, Skipped}
+use Rattle.survey.specs.declared.Lies.{Lies}
+use Rattle.survey.specs.declared.Lies.the-variants.{Outside, Between}
+use Rattle.compare.specs.declared.texts.Rest.{Rest}
+use Rattle.compare.specs.Walks.{between}
+use Rattle.compare.specs.Texts.{Entry, Standing, left, Inside, Opened, ahead, beyond, isOver, orOne, Common}
 
 -- ---- what stands for an octet
 
-pub itself-first : (b k : ℕ) → k ≡ 0 → Last b ≡ standAt (b ∷ []) k
-unfolding standAt
-itself-first b k e = rw e refl
+module _ (index table : List ℕ) (b : ℕ) (t : Bool) (m : t ≡ token b) where
+  pub stand-plain : t ≡ false → Standing (entriesBy index table) table b Outside
+  unfolding Standing
+  stand-plain n = self-by index table b _ (by-plain index table b t m n) refl
 
-pub itself-past : (b k : ℕ) → (k ≡ 0 → ⊥) → Past 1 ≡ standAt (b ∷ []) k
-unfolding standAt
-itself-past b k e = rw (le-ltb k 1 (omega arith))
+  module _ (y : t ≡ true) (p : ℕ) (l : p ≡ b) where
+    pub stand-none : getD index p 0 ≡ 0 → Standing (entriesBy index table) table b Outside
+    unfolding Standing
+    stand-none e = self-by index table b _ (by-none index table b t m y p l e) refl
 
-pub ruleset itself-ways = (itself-first, itself-past)
+    pub stand-token : p < 32
+    stand-token = by-inside index table b t m y p l
 
-module _ (table : List ℕ) (start n k : ℕ) (h : start + n ≤ length table) where
-  entry-width : length (take n (drop start table)) ≡ n
-  entry-width = length-take-le n (drop start table) (omega (arith, length-drop start table))
+    module _ (g : getD index p 0 ≡ 0 → ⊥) where
+      pub stand-past : length table < getD index p 0 → Standing (entriesBy index table) table b Outside
+      unfolding Standing
+      stand-past h = self-by index table b _ (by-past index table b t m y p l g h) refl
 
-  pub entry-behind : n ≤ k → Past n ≡ standAt (take n (drop start table)) k
-  unfolding standAt
-  entry-behind i = let w = entry-width in rw (w, le-ltb k n i)
+      module _ (h : getD index p 0 ≤ length table) (n : ℕ) (e : n ≡ getD table (getD index p 0 - 1) 0) where
+        pub stand-long : length table - getD index p 0 < n → Standing (entriesBy index table) table b Outside
+        unfolding Standing
+        stand-long d = self-by index table b _ (by-long index table b t m y p l g h n e d) refl
 
-  octet-here : k < n → getD (take n (drop start table)) k 0 ≡ getD table (start + k) 0
-  octet-here i = getD-take n (drop start table) k 0 i ∙ getD-drop start table k 0
+        module _ (d : n ≤ length table - getD index p 0) where
+          pub stand-wide : getD index 0 0 < n → Standing (entriesBy index table) table b Outside
+          unfolding Standing
+          stand-wide c = self-by index table b _ (by-wide index table b t m y p l g h n e d c) refl
 
-  pub entry-here : k < n → (k + 1 ≡ n → ⊥) → Octet (getD table (start + k) 0) (k + 1) ≡ standAt (take n (drop start table)) k
-  unfolding standAt
-  entry-here i d = let w = entry-width in let x = octet-here i in rw (w, lt-ltb k n i, ne-eqb (k + 1) n d, x)
-
-  pub entry-last : k < n → k + 1 ≡ n → Last (getD table (start + k) 0) ≡ standAt (take n (drop start table)) k
-  unfolding standAt
-  entry-last i d = let w = entry-width in let x = octet-here i in rw (w, lt-ltb k n i, eq-eqb (k + 1) n d, x)
-
-pub ruleset entry-ways = (entry-behind, entry-here, entry-last)
-
--- the ways of `stand_at`: those in which the octet stands for itself, and those in which an entry does
-module _ (index table : List ℕ) (b k : ℕ) where
-  alone : stands (entriesBy index table) b ≡ b ∷ [] → (r : Stand) → r ≡ standAt (b ∷ []) k → r ≡ standAt (stands (entriesBy index table) b) k
-  alone q r e = e ∙ ap (λ o. standAt o k) (sym q)
-
-  module _ (t : Bool) (m : t ≡ token b) where
-    pub stand-plain : t ≡ false → (r : Stand) → r ≡ standAt (b ∷ []) k → r ≡ standAt (stands (entriesBy index table) b) k
-    stand-plain n = alone (self-by index table b _ (by-plain index table b t m n) refl)
-
-    module _ (y : t ≡ true) (p : ℕ) (l : p ≡ b) where
-      pub stand-none : getD index p 0 ≡ 0 → (r : Stand) → r ≡ standAt (b ∷ []) k → r ≡ standAt (stands (entriesBy index table) b) k
-      stand-none e = alone (self-by index table b _ (by-none index table b t m y p l e) refl)
-
-      pub stand-token : p < 32
-      stand-token = by-inside index table b t m y p l
-
-      module _ (g : getD index p 0 ≡ 0 → ⊥) where
-        pub stand-past : length table < getD index p 0 → (r : Stand) → r ≡ standAt (b ∷ []) k → r ≡ standAt (stands (entriesBy index table) b) k
-        stand-past h = alone (self-by index table b _ (by-past index table b t m y p l g h) refl)
-
-        module _ (h : getD index p 0 ≤ length table) (n : ℕ) (e : n ≡ getD table (getD index p 0 - 1) 0) where
-          pub stand-long : length table - getD index p 0 < n → (r : Stand) → r ≡ standAt (b ∷ []) k → r ≡ standAt (stands (entriesBy index table) b) k
-          stand-long d = alone (self-by index table b _ (by-long index table b t m y p l g h n e d) refl)
-
-          module _ (d : n ≤ length table - getD index p 0) where
-            pub stand-wide : getD index 0 0 < n → (r : Stand) → r ≡ standAt (b ∷ []) k → r ≡ standAt (stands (entriesBy index table) b) k
-            stand-wide c = alone (self-by index table b _ (by-wide index table b t m y p l g h n e d c) refl)
-
-            module _ (c : n ≤ getD index 0 0) where
-              part : stands (entriesBy index table) b ≡ take n (drop (getD index p 0) table)
-              part = part-by index table b _ (by-found index table b t m y p l g h n e d c) _ _ refl
-
-              pub stand-entry : (r : Stand) → r ≡ standAt (take n (drop (getD index p 0) table)) k → r ≡ standAt (stands (entriesBy index table) b) k
-              stand-entry r q = q ∙ ap (λ o. standAt o k) (sym part)
+          pub stand-entry : n ≤ getD index 0 0 → Standing (entriesBy index table) table b (Between (getD index p 0) (getD index p 0 + n))
+          unfolding Standing
+          stand-entry c =
+              let w : n ≡ getD index p 0 + n - getD index p 0 = omega arith in
+              record {
+                ordered = omega arith;
+                inside = omega arith;
+                is = part-by index table b _ (by-found index table b t m y p l g h n e d c) _ _ refl ∙ ap (λ k. take k (drop (getD index p 0) table)) w;
+              }
 
 pub ruleset stand-ways = (stand-plain, stand-none, stand-token, stand-past, stand-long, stand-wide, stand-entry)
-
--- ---- the next octet
-
-pub over-yes : (n : Next) → n ≡ next.End → true ≡ isOver n
-unfolding isOver
-over-yes n e = rw e refl
-
-pub over-no : (n : Next) (octet at within : ℕ) → n ≡ next.Octet octet at within → false ≡ isOver n
-unfolding isOver
-over-no n octet at within e = rw e refl
-
-pub ruleset over-ways = (over-yes, over-no)
-
-pub record Going (es : Entries) (s : List ℕ) (at within i k : ℕ) : Type 0 where
-  pub same : left es s at within ≡ left es s i k
-
-expanded-from : (es : Entries) (s : List ℕ) (i : ℕ) → i < length s → expanded es (drop i s) ≡ stands es (getD s i 0) ++ expanded es (drop (i + 1) s)
-unfolding expanded
-expanded-from es s i h = ap (expanded es) (drop-cons s i 0 h) ∙ ap (λ n. stands es (getD s i 0) ++ expanded es (drop n s)) (sym (add-one i))
-
-module _ (es : Entries) (s : List ℕ) (at within : ℕ) where
-  pub going-begin : Going es s at within at within
-  going-begin = record { same = refl }
-
-  module _ (i k : ℕ) (inv : Going es s at within i k) where
-    pub goes-end : length s ≤ i → Goes es s at within next.End
-    unfolding Goes left expanded
-    goes-end h = inv .same ∙ ap (λ o. drop k (expanded es o)) (drop-of-length-le s h) ∙ drop-nil k
-
-    module _ (h : i < length s) (r : Stand) (e : r ≡ standAt (stands es (getD s i 0)) k) where
-      abbrev own : List ℕ
-      own = stands es (getD s i 0)
-
-      abbrev rest : List ℕ
-      rest = expanded es (drop (i + 1) s)
-
-      abbrev shown : (a b : Bool) → Stand
-      shown a b = cond a (cond b (Last (getD own k 0)) (Octet (getD own k 0) (k + 1))) (Past (length own))
-
-      octet-facts : (x n : ℕ) → r ≡ Octet x n → (k < length own) × (x ≡ getD own k 0) × (n ≡ k + 1)
-      unfolding standAt
-      octet-facts x n q = go (ltb k (length own)) refl (eqb (k + 1) (length own)) (sym q ∙ e)
-        where
-          go : (b : Bool) → ltb k (length own) ≡ b → (c : Bool) → Octet x n ≡ shown b c → (k < length own) × (x ≡ getD own k 0) × (n ≡ k + 1)
-          go true t true p = let z : _≡_ {A = ℕ} 0 1 = cc in absurd (omega arith)
-          go true t false p = (ltb-true k (length own) t, cc, cc)
-          go false t c p = let z : _≡_ {A = ℕ} 0 1 = cc in absurd (omega arith)
-
-      last-facts : (x : ℕ) → r ≡ Last x → (k + 1 ≡ length own) × (x ≡ getD own k 0)
-      unfolding standAt
-      last-facts x q = go (ltb k (length own)) (eqb (k + 1) (length own)) refl (sym q ∙ e)
-        where
-          go : (b c : Bool) → eqb (k + 1) (length own) ≡ c → Last x ≡ shown b c → (k + 1 ≡ length own) × (x ≡ getD own k 0)
-          go true true t p = (eqb-true (k + 1) (length own) t, cc)
-          go true false t p = let z : _≡_ {A = ℕ} 0 1 = cc in absurd (omega arith)
-          go false c t p = let z : _≡_ {A = ℕ} 0 1 = cc in absurd (omega arith)
-
-      past-facts : (w : ℕ) → r ≡ Past w → (length own ≤ k) × (w ≡ length own)
-      unfolding standAt
-      past-facts w q = go (ltb k (length own)) refl (eqb (k + 1) (length own)) (sym q ∙ e)
-        where
-          go : (b : Bool) → ltb k (length own) ≡ b → (c : Bool) → Past w ≡ shown b c → (length own ≤ k) × (w ≡ length own)
-          go true t true p = let z : _≡_ {A = ℕ} 0 1 = cc in absurd (omega arith)
-          go true t false p = let z : _≡_ {A = ℕ} 0 1 = cc in absurd (omega arith)
-          go false t c p = (ltb-false k (length own) t, cc)
-
-      -- an octet of what stands there, and then the rest
-      one-on : k < length own → left es s at within ≡ getD own k 0 ∷ drop (k + 1) (own ++ rest)
-      unfolding left
-      one-on f =
-          let l : k < length (own ++ rest) = omega (arith, length-append own rest) in
-          let m : suc k ≡ k + 1 = omega arith in
-          inv .same ∙ ap (drop k) (expanded-from es s i h) ∙ drop-cons (own ++ rest) k 0 l ∙ ap₂ (λ y z. y ∷ drop z (own ++ rest)) (List·getD-append own rest 0 k f) m
-
-      pub goes-octet : (x n : ℕ) → r ≡ Octet x n → Goes es s at within (next.Octet x i n)
-      unfolding Goes left
-      goes-octet x n q =
-          let f = octet-facts x n q in
-          (one-on (f .0) ∙ ap₂ (λ y z. y ∷ drop z (own ++ rest)) (sym (f .1)) (sym (f .2)) ∙ ap (λ o. x ∷ drop n o) (sym (expanded-from es s i h)), omega arith)
-
-      pub goes-last : (x : ℕ) → r ≡ Last x → Goes es s at within (next.Octet x (i + 1) 0)
-      unfolding Goes left
-      goes-last x q =
-          let f = last-facts x q in
-          let z : k + 1 ≡ length own + 0 = omega (arith, f .0) in
-          (one-on (omega (arith, f .0)) ∙ ap₂ (λ y o. y ∷ o) (sym (f .1)) (ap (λ n. drop n (own ++ rest)) z ∙ drop-append-add own rest 0), omega arith)
-
-      module _ (w : ℕ) (q : r ≡ Past w) where
-        pub past-below : w ≤ k
-        past-below = omega (arith, past-facts w q)
-
-        pub going-again : Going es s at within (i + 1) (k - w)
-        unfolding left
-        going-again =
-            let f = past-facts w q in
-            let m : k ≡ length own + (k - w) = omega (arith, f) in
-            record { same = inv .same ∙ ap (drop k) (expanded-from es s i h) ∙ ap (λ n. drop n (own ++ rest)) m ∙ drop-append-add own rest (k - w) }
-
-pub ruleset goes-ways = (going-begin, goes-end, goes-octet, goes-last, past-below, going-again)
-
--- ---- what two texts have in common at their beginnings
 
 high-token : (b : ℕ) → 0x14 ≤ b → token b ≡ false
 unfolding token
@@ -204,123 +71,350 @@ stands-high : (es : Entries) (b : ℕ) → 0x14 ≤ b → stands es b ≡ b ∷ 
 unfolding stands
 stands-high es b h = rw (high-token b h)
 
+-- ---- opened
+
+nothing-between : (table : List ℕ) (from to : ℕ) → to ≤ from → between table from to ≡ []
+nothing-between table from to h = let z : to - from ≡ 0 = omega arith in ap (λ n. take n (drop from table)) z
+
+expanded-from : (es : Entries) (s : List ℕ) (i : ℕ) → i < length s → expanded es (drop i s) ≡ stands es (getD s i 0) ++ expanded es (drop (i + 1) s)
+unfolding expanded
+expanded-from es s i h = ap (expanded es) (drop-next s i 0 h)
+
+-- nothing of an entry comes next, but the text
+left-text : (es : Entries) (table s : List ℕ) (r : Rest) → r .to ≤ r .from → left es table s r ≡ expanded es (drop (r .at) s)
+unfolding left
+left-text es table s r h = ap (λ o. o ++ expanded es (drop (r .at) s)) (nothing-between table (r .from) (r .to) h)
+
+pub record Opening (es : Entries) (table s : List ℕ) (r q : Rest) : Type 0 where
+  pub places : Inside table s q
+  pub same : left es table s r ≡ left es table s q
+
+module _ (es : Entries) (table s : List ℕ) (r : Rest) where
+  pub open-begin : Inside table s r → Opening es table s r r
+  open-begin i = record { places = i; same = refl }
+
+  module _ (q : Rest) (inv : Opening es table s r q) where
+    pub open-ended : length s ≤ q .at → Opened es table s r q
+    open-ended h = record { places = inv .places; same = inv .same; plain = λ e l. absurd (omega arith) }
+
+    pub open-entry : q .from < q .to → Opened es table s r q
+    open-entry h = record { places = inv .places; same = inv .same; plain = λ e l. absurd (omega arith) }
+
+    module _ (h : q .at < length s) (e : q .to ≤ q .from) (l : Lies) (d : Standing es table (getD s (q .at) 0) l) where
+      pub open-plain : l ≡ Outside → Opened es table s r q
+      unfolding Standing
+      open-plain x = record { places = inv .places; same = inv .same; plain = λ y z. subst (Standing es table (getD s (q .at) 0)) x d }
+
+      module _ (from to : ℕ) (x : l ≡ Between from to) where
+        met : Entry es table (getD s (q .at) 0) from to
+        unfolding Standing
+        met = subst (Standing es table (getD s (q .at) 0)) x d
+
+        pub open-again : Opening es table s r (record { from = from; to = to; at = q .at + 1 })
+        unfolding left
+        open-again = record {
+          places = record { ordered = met .ordered; entry = met .inside; text = omega arith };
+          same = inv .same ∙ left-text es table s q e ∙ expanded-from es s (q .at) h ∙ ap (λ o. o ++ expanded es (drop (q .at + 1) s)) (met .is);
+        }
+
+pub ruleset open-ways = (open-begin, open-ended, open-entry, open-plain, open-again)
+
+-- ---- beyond, is_over, are_over, or_one
+
+module _ (r : Rest) (n : ℕ) where
+  pub beyond-entry : r .from < r .to → record { from = r .from + n; to = r .to; at = r .at } ≡ beyond r n
+  unfolding beyond
+  beyond-entry h = rw (lt-ltb (r .from) (r .to) h)
+
+  pub beyond-text : r .to ≤ r .from → record { from = r .from; to = r .to; at = r .at + n } ≡ beyond r n
+  unfolding beyond
+  beyond-text h = rw (le-ltb (r .from) (r .to) h)
+
+pub ruleset beyond-ways = (beyond-entry, beyond-text)
+
+module _ (s : List ℕ) (r : Rest) where
+  pub over-entry : r .from < r .to → false ≡ isOver s r
+  unfolding isOver
+  over-entry h = rw (lt-ltb (r .from) (r .to) h)
+
+  pub over-text : r .to ≤ r .from → leb (length s) (r .at) ≡ isOver s r
+  unfolding isOver
+  over-text h = rw (le-ltb (r .from) (r .to) h)
+
+pub ruleset over-ways = (over-entry, over-text)
+
+module _ (a b : List ℕ) (p q : Rest) (t : Bool) (e : t ≡ isOver a p) where
+  pub over-both : t ≡ true → (r : Bool) → r ≡ isOver b q → r ≡ isOver a p && isOver b q
+  over-both y r f = f ∙ ap (λ x. x && isOver b q) (sym y ∙ e)
+
+  pub over-not : t ≡ false → false ≡ isOver a p && isOver b q
+  over-not n = ap (λ x. x && isOver b q) (sym n ∙ e)
+
+pub one-first : (n : ℕ) → n ≡ 0 → 1 ≡ orOne n
+unfolding orOne
+one-first n e = rw (eq-eqb n 0 e)
+
+pub one-later : (n : ℕ) → (n ≡ 0 → ⊥) → n ≡ orOne n
+unfolding orOne
+one-later n e = rw (ne-eqb n 0 e)
+
+-- ---- common
+
+-- so many octets are the same at the beginnings, and none of them can be a token
+pub record Agree (a b : List ℕ) (n : ℕ) : Type 0 where
+  pub first : n ≤ length a
+  pub second : n ≤ length b
+  pub same : take n a ≡ take n b
+  pub high : (i : ℕ) → i < n → 0x14 ≤ getD a i 0
+
+module _ (a b : List ℕ) where
+  pub agree-begin : Agree a b 0
+  agree-begin = record { first = omega arith; second = omega arith; same = refl; high = λ i h. absurd (omega arith) }
+
+  module _ (n : ℕ) (inv : Agree a b n) where
+    module _ (h : n < length a) (g : n < length b) (e : getD a n 0 ≡ getD b n 0) where
+      on : take (n + 1) a ≡ take (n + 1) b
+      on = take-next a n 0 h ∙ ap₂ (λ x y. x ++ (y ∷ [])) (inv .same) e ∙ sym (take-next b n 0 g)
+
+      pub agree-again : 0x14 ≤ getD a n 0 → Agree a b (n + 1)
+      agree-again l = record { first = omega arith; second = omega arith; same = on; high = λ i k. go i k (ltb i n) refl }
+        where
+          go : (i : ℕ) → i < n + 1 → (t : Bool) → ltb i n ≡ t → 0x14 ≤ getD a i 0
+          go i k true t = inv .high i (ltb-true i n t)
+          go i k false t = let q : n ≡ i = omega (arith, ltb-false i n t) in subst (λ j. 0x14 ≤ getD a j 0) q l
+
+    -- the pieces may still differ at the first octet, or one be over
+    agreed : (n ≡ 0 → 0 < length a → 0 < length b → getD a 0 0 ≡ getD b 0 0 → ⊥) → Common a b n
+    agreed d = record { first = inv .first; second = inv .second; same = inv .same; high = λ i p k. inv .high i k; differ = d }
+
+    pub common-first : length a ≤ n → Common a b n
+    common-first h = agreed λ z p q e. omega arith
+
+    pub common-second : length b ≤ n → Common a b n
+    common-second h = agreed λ z p q e. omega arith
+
+    pub common-differ : (getD a n 0 ≡ getD b n 0 → ⊥) → Common a b n
+    common-differ d = agreed λ z p q e. d (ap (λ i. getD a i 0) z ∙ e ∙ ap (λ i. getD b i 0) (sym z))
+
+    pub common-low : n < length a → n < length b → getD a n 0 ≡ getD b n 0 → (r : ℕ) → r ≡ orOne n → Common a b r
+    unfolding orOne
+    common-low h g e r q = subst (Common a b) (sym q) (go (eqb n 0) refl)
+      where
+        go : (t : Bool) → eqb n 0 ≡ t → Common a b (cond t 1 n)
+        go true t =
+            let z = eqb-true n 0 t in
+            record {
+              first = omega arith;
+              second = omega arith;
+              same = subst (λ k. take (k + 1) a ≡ take (k + 1) b) z (on h g e);
+              high = λ i p k. absurd (omega arith);
+              differ = λ y. absurd (omega arith);
+            }
+        go false t = agreed λ z. absurd (eqb-false n 0 t z)
+
+pub ruleset common-ways = (agree-begin, agree-again, common-first, common-second, common-differ, common-low)
+
+-- ---- what comes next
+
+module _ (table s : List ℕ) (r : Rest) where
+  ahead-entry : r .from < r .to → ahead table s r ≡ between table (r .from) (r .to)
+  unfolding ahead
+  ahead-entry h = rw (lt-ltb (r .from) (r .to) h)
+
+  ahead-text : r .to ≤ r .from → ahead table s r ≡ drop (r .at) s
+  unfolding ahead
+  ahead-text h = rw (le-ltb (r .from) (r .to) h)
+
+  entry-width : Inside table s r → r .from < r .to → length (ahead table s r) ≡ r .to - r .from
+  entry-width i h = ap length (ahead-entry h) ∙ length-part table (r .from) (r .to - r .from) (omega (arith, i .ordered, i .entry))
+
+  text-width : r .to ≤ r .from → length (ahead table s r) ≡ length s - r .at
+  text-width h = ap length (ahead-text h) ∙ length-drop (r .at) s
+
+  module _ (x : List ℕ) (n : ℕ) where
+    pub second-entry : r .from < r .to → Common x (between table (r .from) (r .to)) n → Common x (ahead table s r) n
+    second-entry h c = subst (λ y. Common x y n) (sym (ahead-entry h)) c
+
+    pub second-text : r .to ≤ r .from → Common x (take (length s - r .at) (drop (r .at) s)) n → Common x (ahead table s r) n
+    second-text h c = subst (λ y. Common x y n) (part-to-end s (r .at) ∙ sym (ahead-text h)) c
+
+    pub first-entry : r .from < r .to → Common (between table (r .from) (r .to)) x n → Common (ahead table s r) x n
+    first-entry h c = subst (λ y. Common y x n) (sym (ahead-entry h)) c
+
+    pub first-text : r .to ≤ r .from → Common (take (length s - r .at) (drop (r .at) s)) x n → Common (ahead table s r) x n
+    first-text h c = subst (λ y. Common y x n) (part-to-end s (r .at) ∙ sym (ahead-text h)) c
+
+pub ruleset second-ways = (second-entry, second-text)
+
+pub ruleset first-ways = (first-entry, first-text)
+
+-- octets that stand for themselves
+itself-run : (es : Entries) (n : ℕ) (s : List ℕ) → n ≤ length s → ((i : ℕ) → i < n → stands es (getD s i 0) ≡ getD s i 0 ∷ []) → expanded es s ≡ take n s ++ expanded es (drop n s)
+unfolding expanded
+itself-run es zero s h f = refl
+itself-run es (suc n) [] h f = absurd (omega arith)
+itself-run es (suc n) (x ∷ s) h f =
+    ap (λ o. o ++ expanded es s) (f 0 (omega arith)) ∙ ap (λ o. x ∷ o) (itself-run es n s (omega arith) (λ i k. f (suc i) (omega arith)))
+
+module _ (es : Entries) (table s : List ℕ) (r : Rest) (i : Inside table s r) (n : ℕ) (h : n ≤ length (ahead table s r)) where
+  entry-on : r .from < r .to → left es table s r ≡ take n (ahead table s r) ++ left es table s (record { from = r .from + n; to = r .to; at = r .at })
+  unfolding left
+  entry-on e =
+      let o = ahead-entry table s r e in
+      let l : n ≤ r .to - r .from = omega (arith, entry-width table s r i e) in
+      let m : r .to - r .from ≡ n + (r .to - (r .from + n)) = omega arith in
+      let z : min n (r .to - r .from) ≡ n = omega arith in
+      let front : take n (ahead table s r) ≡ take n (drop (r .from) table) =
+      ap (take n) o ∙ take-of-take n (r .to - r .from) (drop (r .from) table) ∙ ap (λ k. take k (drop (r .from) table)) z in
+      ap (λ k. take k (drop (r .from) table) ++ expanded es (drop (r .at) s)) m
+      ∙ ap (λ x. x ++ expanded es (drop (r .at) s)) (part-split table (r .from) n (r .to - (r .from + n)) ∙ ap (λ x. x ++ between table (r .from + n) (r .to)) (sym front))
+      ∙ append-assoc (take n (ahead table s r)) (between table (r .from + n) (r .to)) (expanded es (drop (r .at) s))
+
+  text-on : r .to ≤ r .from → ((j : ℕ) → j < n → stands es (getD (drop (r .at) s) j 0) ≡ getD (drop (r .at) s) j 0 ∷ [])
+      → left es table s r ≡ take n (ahead table s r) ++ left es table s (record { from = r .from; to = r .to; at = r .at + n })
+  text-on e f =
+      let o = ahead-text table s r e in
+      left-text es table s r e
+      ∙ itself-run es n (drop (r .at) s) (subst (λ x. n ≤ length x) o h) f
+      ∙ ap₂ (λ x y. take n x ++ expanded es y) (sym o) (drop-drop n (r .at) s)
+      ∙ ap (λ x. take n (ahead table s r) ++ x) (sym (left-text es table s (record { from = r .from; to = r .to; at = r .at + n }) e))
+
+-- what is left begins with the next octets, and goes on behind them
+module _ (es : Entries) (table s : List ℕ) (r q : Rest) (o : Opened es table s r q) (n : ℕ) (h : n ≤ length (ahead table s q)) where
+  onward : ((i : ℕ) → 0 < i → i < n → 0x14 ≤ getD (ahead table s q) i 0) → left es table s q ≡ take n (ahead table s q) ++ left es table s (beyond q n)
+  unfolding beyond
+  onward f = go (ltb (q .from) (q .to)) refl
+    where
+      alone : q .to ≤ q .from → (j : ℕ) → j < n → (t : Bool) → ltb 0 j ≡ t → stands es (getD (drop (q .at) s) j 0) ≡ getD (drop (q .at) s) j 0 ∷ []
+      alone e j k true t = stands-high es (getD (drop (q .at) s) j 0) (subst (λ x. 0x14 ≤ getD x j 0) (ahead-text table s q e) (f j (ltb-true 0 j t) k))
+      alone e j k false t =
+          let z : q .at + j ≡ q .at = omega (arith, ltb-false 0 j t) in
+          let x : getD (drop (q .at) s) j 0 ≡ getD s (q .at) 0 = getD-drop (q .at) s j 0 ∙ ap (λ i. getD s i 0) z in
+          let l : q .at < length s = omega (arith, text-width table s q e) in
+          subst (λ b. stands es b ≡ b ∷ []) (sym x) (o .plain e l)
+
+      go : (t : Bool) → ltb (q .from) (q .to) ≡ t
+          → left es table s q ≡ take n (ahead table s q) ++ left es table s (cond t (record { from = q .from + n; to = q .to; at = q .at }) (record { from = q .from; to = q .to; at = q .at + n }))
+      go true t = entry-on es table s q (o .places) n h (ltb-true (q .from) (q .to) t)
+      go false t = let e = ltb-false (q .from) (q .to) t in text-on es table s q (o .places) n h e (λ j k. alone e j k (ltb 0 j) refl)
+
+  beyond-inside : Inside table s (beyond q n)
+  unfolding beyond
+  beyond-inside = go (ltb (q .from) (q .to)) refl
+    where
+      p : Inside table s q
+      p = o .places
+
+      go : (t : Bool) → ltb (q .from) (q .to) ≡ t → Inside table s (cond t (record { from = q .from + n; to = q .to; at = q .at }) (record { from = q .from; to = q .to; at = q .at + n }))
+      go true t = record { ordered = omega (arith, entry-width table s q p (ltb-true (q .from) (q .to) t), p .ordered); entry = p .entry; text = p .text }
+      go false t = record { ordered = p .ordered; entry = p .entry; text = omega (arith, text-width table s q (ltb-false (q .from) (q .to) t), p .text) }
+
+  -- so many octets can be added to either place: no slice has 2 to the 63rd
+  module _ (k : length table < 2 ^ 63) (l : length s < 2 ^ 63) where
+    few : n < 2 ^ 63
+    few = go (ltb (q .from) (q .to)) refl
+      where
+        go : (t : Bool) → ltb (q .from) (q .to) ≡ t → n < 2 ^ 63
+        go true t = omega (arith, entry-width table s q (o .places) (ltb-true (q .from) (q .to) t), o .places .entry)
+        go false t = omega (arith, text-width table s q (ltb-false (q .from) (q .to) t))
+
+    places-fit : (q .from + n < 2 ^ 64) × (q .at + n < 2 ^ 64)
+    places-fit = let p = o .places in (omega (arith, few, p .ordered, p .entry), omega (arith, few, p .text))
+
+module _ (es : Entries) (table s : List ℕ) (r q : Rest) (o : Opened es table s r q) (x : List ℕ) (n : ℕ) where
+  pub fit-first : Common (ahead table s q) x n → length table < 2 ^ 63 → length s < 2 ^ 63 → (q .from + n < 2 ^ 64) × (q .at + n < 2 ^ 64)
+  fit-first c = places-fit es table s r q o n (c .first)
+
+  pub fit-second : Common x (ahead table s q) n → length table < 2 ^ 63 → length s < 2 ^ 63 → (q .from + n < 2 ^ 64) × (q .at + n < 2 ^ 64)
+  fit-second c = places-fit es table s r q o n (c .second)
+
+module _ (es : Entries) (table s : List ℕ) (q : Rest) where
+  none-left : isOver s q ≡ true → left es table s q ≡ []
+  unfolding isOver expanded
+  none-left h = go (ltb (q .from) (q .to)) refl h
+    where
+      go : (t : Bool) → ltb (q .from) (q .to) ≡ t → cond t false (leb (length s) (q .at)) ≡ true → left es table s q ≡ []
+      go true t x = absurd (false≢true x)
+      go false t x = left-text es table s q (ltb-false (q .from) (q .to) t) ∙ ap (expanded es) (drop-of-length-le s (leb-true (length s) (q .at) x))
+
+  some-ahead : Inside table s q → isOver s q ≡ false → 0 < length (ahead table s q)
+  unfolding isOver
+  some-ahead p h = go (ltb (q .from) (q .to)) refl h
+    where
+      go : (t : Bool) → ltb (q .from) (q .to) ≡ t → cond t false (leb (length s) (q .at)) ≡ false → 0 < length (ahead table s q)
+      go true t x = let e = ltb-true (q .from) (q .to) t in omega (arith, e, entry-width table s q p e)
+      go false t x = omega (arith, leb-false (length s) (q .at) x, text-width table s q (ltb-false (q .from) (q .to) t))
+
+  -- the octet that comes next
+  next-left : (r : Rest) → Opened es table s r q → isOver s q ≡ false → left es table s q ≡ getD (ahead table s q) 0 0 ∷ left es table s (beyond q 1)
+  next-left r o h =
+      let l = some-ahead (o .places) h in
+      onward es table s r q o 1 l (λ i p k. absurd (omega arith)) ∙ ap (λ x. x ++ left es table s (beyond q 1)) (take-next (ahead table s q) 0 0 l)
+
+-- ---- two texts
+
 same-heads : (x : ℕ) (a b : List ℕ) → sameOctets (x ∷ a) (x ∷ b) ≡ sameOctets a b
 unfolding sameOctets
 same-heads x a b = rw (eq-eqb x x refl)
 
-module _ (a b : List ℕ) where
-  pub common-begin : Common a b 0
-  common-begin = record { first = omega arith; second = omega arith; same = λ es fs. refl; fewer = λ es. omega arith }
+same-after : (c a b : List ℕ) → sameOctets (c ++ a) (c ++ b) ≡ sameOctets a b
+same-after [] a b = refl
+same-after (x ∷ c) a b = same-heads x (c ++ a) (c ++ b) ∙ same-after c a b
 
-  pub common-again : (n : ℕ) → Common a b n → n < length a → n < length b → getD a n 0 ≡ getD b n 0 → 0x14 ≤ getD a n 0 → Common a b (n + 1)
-  common-again n inv h g e l = record {
-    first = omega arith;
-    second = omega arith;
-    same = λ es fs.
-        let x = expanded-from es a n h ∙ ap (λ o. o ++ expanded es (drop (n + 1) a)) (stands-high es (getD a n 0) l) in
-        let y = expanded-from fs b n g ∙ ap (λ o. o ++ expanded fs (drop (n + 1) b)) (stands-high fs (getD b n 0) (subst (λ z. 0x14 ≤ z) e l)) in
-        inv .same es fs ∙ ap₂ sameOctets x (y ∙ ap (λ z. z ∷ expanded fs (drop (n + 1) b)) (sym e)) ∙ same-heads (getD a n 0) (expanded es (drop (n + 1) a)) (expanded fs (drop (n + 1) b));
-    fewer = λ es. omega (arith, inv .fewer es, ap length (expanded-from es a n h), length-append (stands es (getD a n 0)) (expanded es (drop (n + 1) a)));
+-- how far the comparison has come: the expansions are the same exactly where what is left of them is
+pub record Meeting (es : Entries) (ta a : List ℕ) (fs : Entries) (tb b : List ℕ) (p q : Rest) : Type 0 where
+  pub first : Inside ta a p
+  pub second : Inside tb b q
+  pub same : sameOctets (expanded es a) (expanded fs b) ≡ sameOctets (left es ta a p) (left fs tb b q)
+
+module _ (es : Entries) (ta a : List ℕ) (fs : Entries) (tb b : List ℕ) where
+  pub meet-begin : Meeting es ta a fs tb b (record { from = 0; to = 0; at = 0 }) (record { from = 0; to = 0; at = 0 })
+  unfolding left
+  meet-begin = record {
+    first = record { ordered = omega arith; entry = omega arith; text = omega arith };
+    second = record { ordered = omega arith; entry = omega arith; text = omega arith };
+    same = refl;
   }
 
-pub ruleset common-ways = (common-begin, common-again)
+  module _ (p q : Rest) (inv : Meeting es ta a fs tb b p q) (u : Rest) (ou : Opened es ta a p u) (v : Rest) (ov : Opened fs tb b q v) where
+    met-at : sameOctets (expanded es a) (expanded fs b) ≡ sameOctets (left es ta a u) (left fs tb b v)
+    met-at = inv .same ∙ ap₂ sameOctets (ou .same) (ov .same)
 
--- ---- skip
-
-module _ (a : List ℕ) (i k : ℕ) (b : List ℕ) (j l : ℕ) (h : i ≤ length a) (g : j ≤ length b) where
-  skip-none : Skipped a i k b j l 0
-  skip-none = record { first = omega arith; second = omega arith; same = λ es fs. ap₂ (λ x y. sameOctets (left es a x k) (left fs b y l)) (sym (add-zero i)) (sym (add-zero j)); fewer = λ es. rw (add-zero i) (omega arith) }
-
-  pub skip-first : (k ≡ 0 → ⊥) → Skipped a i k b j l 0
-  skip-first d = skip-none
-
-  pub skip-second : (l ≡ 0 → ⊥) → Skipped a i k b j l 0
-  skip-second d = skip-none
-
-  pub skip-both : k ≡ 0 → l ≡ 0 → (n : ℕ) → Common (take (length a - i) (drop i a)) (take (length b - j) (drop j b)) n → Skipped a i k b j l n
-  unfolding left
-  skip-both p q n c = subst (λ x. Skipped a i x b j l n) (sym p) (subst (λ y. Skipped a i 0 b j y n) (sym q) zeros)
-    where
-      whole : Common (drop i a) (drop j b) n
-      whole = subst (λ x. Common x (drop j b) n) (part-to-end a i) (subst (λ y. Common (take (length a - i) (drop i a)) y n) (part-to-end b j) c)
-
-      zeros : Skipped a i 0 b j 0 n
-      zeros = record {
-        first = omega (arith, whole .first, length-drop i a);
-        second = omega (arith, whole .second, length-drop j b);
-        same = λ es fs. whole .same es fs ∙ ap₂ (λ x y. sameOctets (expanded es x) (expanded fs y)) (drop-drop n i a) (drop-drop n j b);
-        fewer = λ es. rw drop-drop at (whole .fewer es);
-      }
-
-pub ruleset skip-ways = (skip-first, skip-second, skip-both)
-
--- ---- two texts
-
-pub record Meeting (es : Entries) (a : List ℕ) (fs : Entries) (b : List ℕ) (i k j l : ℕ) : Type 0 where
-  pub first : i ≤ length a
-  pub second : j ≤ length b
-  pub same : sameOctets (expanded es a) (expanded fs b) ≡ sameOctets (left es a i k) (left fs b j l)
-
-module _ (es : Entries) (a : List ℕ) (fs : Entries) (b : List ℕ) where
-  pub meet-begin : Meeting es a fs b 0 0 0 0
-  unfolding left
-  meet-begin = record { first = omega arith; second = omega arith; same = refl }
-
-  module _ (i k j l : ℕ) (inv : Meeting es a fs b i k j l) (m : ℕ) (o : Skipped a i k b j l m) where
-    pub meet-first : length a < 2 ^ 63 → Fits w64 (i + m)
-    meet-first h = record { fits = omega (arith, o .first) }
-
-    pub meet-second : length b < 2 ^ 63 → Fits w64 (j + m)
-    meet-second h = record { fits = omega (arith, o .second) }
-
-    module _ (r q : Next) (g : Goes es a (i + m) k r) (h : Goes fs b (j + m) l q) where
-      abbrev X : List ℕ
-      X = left es a (i + m) k
-
-      abbrev Y : List ℕ
-      Y = left fs b (j + m) l
-
-      met : sameOctets (expanded es a) (expanded fs b) ≡ sameOctets X Y
-      met = inv .same ∙ o .same es fs
-
-      pub meet-ended : r ≡ next.End → (t : Bool) → t ≡ isOver q → t ≡ sameOctets (expanded es a) (expanded fs b)
-      unfolding Goes sameOctets isOver
-      meet-ended e t w = w ∙ go q refl ∙ sym (met ∙ ap (λ o. sameOctets o Y) (subst (Goes es a (i + m) k) e g))
+    module _ (n : ℕ) (c : Common (ahead ta a u) (ahead tb b v) n) where
+      pub meet-ended : n ≡ 0 → (r : Bool) → r ≡ isOver a u && isOver b v → r ≡ sameOctets (expanded es a) (expanded fs b)
+      unfolding sameOctets
+      meet-ended z r e = e ∙ go (isOver a u) refl (isOver b v) refl ∙ sym met-at
         where
-          go : (n : Next) → q ≡ n → isOver n ≡ sameOctets [] Y
-          go next.End f = sym (ap (sameOctets []) (subst (Goes fs b (j + m) l) f h))
-          go (next.Octet y j′ l′) f = sym (ap (sameOctets []) (subst (Goes fs b (j + m) l) f h .0))
+          go : (x : Bool) → isOver a u ≡ x → (y : Bool) → isOver b v ≡ y → x && y ≡ sameOctets (left es ta a u) (left fs tb b v)
+          go true f true g = sym (ap₂ sameOctets (none-left es ta a u f) (none-left fs tb b v g))
+          go true f false g = sym (ap₂ sameOctets (none-left es ta a u f) (next-left fs tb b v q ov g))
+          go false f true g = sym (ap₂ sameOctets (next-left es ta a u p ou f) (none-left fs tb b v g))
+          go false f false g =
+              let d = c .differ z (some-ahead es ta a u (ou .places) f) (some-ahead fs tb b v (ov .places) g) in
+              sym (ap₂ sameOctets (next-left es ta a u p ou f) (next-left fs tb b v q ov g) ∙ rw (ne-eqb (getD (ahead ta a u) 0 0) (getD (ahead tb b v) 0 0) d))
 
-      module _ (x i′ k′ : ℕ) (e : r ≡ next.Octet x i′ k′) where
-        told : (X ≡ x ∷ left es a i′ k′) × (i′ ≤ length a)
-        unfolding Goes
-        told = subst (Goes es a (i + m) k) e g
+      first-on : left es ta a u ≡ take n (ahead ta a u) ++ left es ta a (beyond u n)
+      first-on = onward es ta a p u ou n (c .first) (c .high)
 
-        pub meet-shorter : q ≡ next.End → false ≡ sameOctets (expanded es a) (expanded fs b)
-        unfolding Goes sameOctets
-        meet-shorter f = sym (met ∙ ap₂ sameOctets (told .0) (subst (Goes fs b (j + m) l) f h))
+      second-on : left fs tb b v ≡ take n (ahead ta a u) ++ left fs tb b (beyond v n)
+      second-on = onward fs tb b q v ov n (c .second) (λ i x k. subst (λ y. 0x14 ≤ y) (alike i k) (c .high i x k)) ∙ ap (λ o. o ++ left fs tb b (beyond v n)) (sym (c .same))
+        where
+          alike : (i : ℕ) → i < n → getD (ahead ta a u) i 0 ≡ getD (ahead tb b v) i 0
+          alike i k = sym (getD-take n (ahead ta a u) i 0 k) ∙ ap (λ o. getD o i 0) (c .same) ∙ getD-take n (ahead tb b v) i 0 k
 
-        module _ (y j′ l′ : ℕ) (f : q ≡ next.Octet y j′ l′) where
-          told-second : (Y ≡ y ∷ left fs b j′ l′) × (j′ ≤ length b)
-          unfolding Goes
-          told-second = subst (Goes fs b (j + m) l) f h
-
-          on : sameOctets (expanded es a) (expanded fs b) ≡ sameOctets (x ∷ left es a i′ k′) (y ∷ left fs b j′ l′)
-          on = met ∙ ap₂ sameOctets (told .0) (told-second .0)
-
-          pub meet-differ : (x ≡ y → ⊥) → false ≡ sameOctets (expanded es a) (expanded fs b)
-          unfolding sameOctets
-          meet-differ d = sym (on ∙ rw (ne-eqb x y d))
-
-          pub meet-again : x ≡ y → Meeting es a fs b i′ k′ j′ l′
-          meet-again d = record {
-            first = told .1;
-            second = told-second .1;
-            same = on ∙ ap (λ z. sameOctets (x ∷ left es a i′ k′) (z ∷ left fs b j′ l′)) (sym d) ∙ same-heads x (left es a i′ k′) (left fs b j′ l′);
+      pub meet-again : (x : Rest) → x ≡ beyond u n → (y : Rest) → y ≡ beyond v n → Meeting es ta a fs tb b x y
+      meet-again x e y f = subst (λ z. Meeting es ta a fs tb b z y) (sym e) (subst (Meeting es ta a fs tb b (beyond u n)) (sym f) onto)
+        where
+          onto : Meeting es ta a fs tb b (beyond u n) (beyond v n)
+          onto = record {
+            first = beyond-inside es ta a p u ou n (c .first);
+            second = beyond-inside fs tb b q v ov n (c .second);
+            same = met-at ∙ ap₂ sameOctets first-on second-on ∙ same-after (take n (ahead ta a u)) (left es ta a (beyond u n)) (left fs tb b (beyond v n));
           }
 
-          -- skipping shortens nothing but what is left, and the octet that was met is gone
-          pub meet-less : length (left es a i′ k′) < length (left es a i k)
-          meet-less = omega (arith, o .fewer es, ap length (told .0))
+      pub meet-less : (n ≡ 0 → ⊥) → (x : Rest) → x ≡ beyond u n → length (left es ta a x) < length (left es ta a p)
+      meet-less d x e =
+          let m = length-take-le n (ahead ta a u) (c .first) in
+          omega (arith, m, ap length (ou .same), ap length first-on, length-append (take n (ahead ta a u)) (left es ta a (beyond u n)), ap (λ z. length (left es ta a z)) e)
 
-pub ruleset meet-ways = (meet-begin, meet-first, meet-second, meet-ended, meet-shorter, meet-differ, meet-again, meet-less)
+pub ruleset meet-ways = (meet-begin, meet-ended, meet-again, meet-less)

@@ -1,45 +1,62 @@
--- What the functions that go through an expansion tell one another. No claim of a call of this crate names these.
+-- What the functions that go through two expansions tell one another. No claim of a call of this crate names these.
 use mathlib.Core.Path.{_≡_}
-use mathlib.Core.Bool.{Bool, true, false, cond}
-use mathlib.Core.List.{List, [], _∷_}
-use Prim.Native.Nat.{ℕ, _+_, _≤_}
-use lib.Dec.{eqb, ltb}
-use lib.ListN.{length, getD, drop}
-use Rattle.text.specs.Tokens.{Entries, expanded}
-use Rattle.format.specs.Same.{sameOctets}
-use Rattle.compare.specs.declared.texts.Stand.{Stand}
-use Rattle.compare.specs.declared.texts.Stand.the-variants.{Past, Octet, Last}
-use Rattle.compare.specs.declared.texts.Next.{Next}
-use Rattle.compare.specs.declared.texts.Next.the-variants as next
+use mathlib.Core.Bool.{Bool, false, cond}
+use mathlib.Core.List.{List, [], _∷_, _++_}
+use Prim.Native.Nat.{ℕ, _+_, _≤_, _<_}
+use lib.Dec.{eqb, leb, ltb}
+use lib.ListN.{length, getD, take, drop}
+use Rattle.text.specs.Tokens.{Entries, stands, expanded}
+use Rattle.survey.specs.declared.Lies.{Lies}
+use Rattle.survey.specs.declared.Lies.the-variants.{Outside, Between}
+use Rattle.compare.specs.declared.texts.Rest.{Rest}
+use Rattle.compare.specs.Walks.{between}
 
--- one of the octets that stand for one, and the place of the next, or that it is the last; past them how many there are
-unfoldable pub standAt : List ℕ → ℕ → Stand
-standAt o k = cond (ltb k (length o)) (cond (eqb (k + 1) (length o)) (Last (getD o k 0)) (Octet (getD o k 0) (k + 1))) (Past (length o))
+-- what stands for an octet: itself, or an entry that lies in the table
+pub record Entry (es : Entries) (table : List ℕ) (b from to : ℕ) : Type 0 where
+  pub ordered : from ≤ to
+  pub inside : to ≤ length table
+  pub is : stands es b ≡ between table from to
 
--- what is left of an expansion: that of the text from a place on, but for its first octets
-unfoldable pub left : Entries → List ℕ → (at within : ℕ) → List ℕ
-left es s at within = drop within (expanded es (drop at s))
+unfoldable pub Standing : Entries → List ℕ → ℕ → Lies → Type 0
+Standing es table b Outside = stands es b ≡ b ∷ []
+Standing es table b (Between from to) = Entry es table b from to
 
--- the next octet of it, and what is left then
-unfoldable pub Goes : Entries → List ℕ → (at within : ℕ) → Next → Type 0
-Goes es s at within next.End = left es s at within ≡ []
-Goes es s at within (next.Octet octet at′ within′) = (left es s at within ≡ octet ∷ left es s at′ within′) × (at′ ≤ length s)
+-- what is left of an expansion
+unfoldable pub left : Entries → List ℕ → List ℕ → Rest → List ℕ
+left es table s r = between table (r .from) (r .to) ++ expanded es (drop (r .at) s)
 
--- there is no further octet
-unfoldable pub isOver : Next → Bool
-isOver next.End = true
-isOver (next.Octet octet at within) = false
+-- its places lie in the table and in the text
+pub record Inside (table s : List ℕ) (r : Rest) : Type 0 where
+  pub ordered : r .from ≤ r .to
+  pub entry : r .to ≤ length table
+  pub text : r .at ≤ length s
 
--- so many octets at the beginnings of two texts say nothing, whatever the tables: the expansions are the same exactly where those of the rests are
+-- the same is left, and the next octet of the text, if it comes next, stands for itself
+pub record Opened (es : Entries) (table s : List ℕ) (r q : Rest) : Type 0 where
+  pub places : Inside table s q
+  pub same : left es table s r ≡ left es table s q
+  pub plain : q .to ≤ q .from → q .at < length s → stands es (getD s (q .at) 0) ≡ getD s (q .at) 0 ∷ []
+
+-- the octets that come next, as they stand: those of an entry, else those of the text
+unfoldable pub ahead : List ℕ → List ℕ → Rest → List ℕ
+ahead table s r = cond (ltb (r .from) (r .to)) (between table (r .from) (r .to)) (drop (r .at) s)
+
+-- what is left behind so many of them
+unfoldable pub beyond : Rest → ℕ → Rest
+beyond r n = cond (ltb (r .from) (r .to)) (record { from = r .from + n; to = r .to; at = r .at }) (record { from = r .from; to = r .to; at = r .at + n })
+
+-- there are none
+unfoldable pub isOver : List ℕ → Rest → Bool
+isOver s r = cond (ltb (r .from) (r .to)) false (leb (length s) (r .at))
+
+unfoldable pub orOne : ℕ → ℕ
+orOne n = cond (eqb n 0) 1 n
+
+-- so many octets are the same at the beginnings of two pieces, and none of them but the first can be a token; none are only where a piece is empty or the first
+-- octets differ
 pub record Common (a b : List ℕ) (n : ℕ) : Type 0 where
   pub first : n ≤ length a
   pub second : n ≤ length b
-  pub same : (es fs : Entries) → sameOctets (expanded es a) (expanded fs b) ≡ sameOctets (expanded es (drop n a)) (expanded fs (drop n b))
-  pub fewer : (es : Entries) → length (expanded es (drop n a)) ≤ length (expanded es a)
-
--- the same from two places on, at which something may be left over
-pub record Skipped (a : List ℕ) (i k : ℕ) (b : List ℕ) (j l n : ℕ) : Type 0 where
-  pub first : i + n ≤ length a
-  pub second : j + n ≤ length b
-  pub same : (es fs : Entries) → sameOctets (left es a i k) (left fs b j l) ≡ sameOctets (left es a (i + n) k) (left fs b (j + n) l)
-  pub fewer : (es : Entries) → length (left es a (i + n) k) ≤ length (left es a i k)
+  pub same : take n a ≡ take n b
+  pub high : (i : ℕ) → 0 < i → i < n → 0x14 ≤ getD a i 0
+  pub differ : n ≡ 0 → 0 < length a → 0 < length b → getD a 0 0 ≡ getD b 0 0 → ⊥

@@ -1,26 +1,20 @@
-// Two texts under two token tables: whether they expand to the same octets. Nothing is copied: each expansion is gone through octet by octet where it stands,
-// and equal octets that can be no tokens, which most texts are made of, are passed over without a look at the tables.
+// Two texts under two token tables: whether they expand to the same octets. Nothing is copied: each expansion is gone through where it stands, in pieces that are
+// held against each other: an entry of the table under a token, or a run of the text in which no token comes.
 ghost use mathlib.Core.Path.{_≡_};
-ghost use Prim.Native.Nat.{_+_, _≤_};
-ghost use lib.ListN.{length, take, drop};
-ghost use mathlib.Core.List.{[], _∷_};
-ghost use Rattle.text.specs.Tokens.{stands, expanded};
+ghost use mathlib.Core.Bool.{_&&_};
+ghost use Prim.Native.Nat.{_+_, _^_, _<_};
+ghost use Rattle.text.specs.Tokens.{expanded};
 ghost use Rattle.text.specs.Index.{entriesBy};
 ghost use Rattle.format.specs.Same.{sameOctets};
-ghost use Rattle.compare.specs.Texts.{standAt, Goes, isOver, Common, Skipped};
+ghost use Rattle.compare.specs.Texts.{Standing, Inside, Opened, ahead, beyond, isOver, orOne, Common};
+use survey::Lies;
 use text::is_token;
 
-// One octet of what stands for an octet of a text: with the place of the next, or the last one; or that only so many stand for it.
-enum Stand {
-    Past(usize),
-    Octet { octet: u8, next: usize },
-    Last(u8),
-}
-
-// The next octet of an expansion, and what is left behind it: the text from `at` on, but for the first `within` octets of what stands for the octet there.
-enum Next {
-    End,
-    Octet { octet: u8, at: usize, within: usize },
+// What is left of an expansion: the octets of the table from one place up to another, and behind them the text from a place on.
+struct Rest {
+    from: usize,
+    to: usize,
+    at: usize,
 }
 
 fn wide(x: u8) -> usize
@@ -29,101 +23,99 @@ fn wide(x: u8) -> usize
     x as usize
 }
 
-// An octet that stands for itself.
-fn itself(b: u8, within: usize) -> Stand
-    ensures { λ r. ⌜ r ≡ standAt (b ∷ []) within ⌝ }
-{
-    if within == 0 {
-        return Stand::Last(b);
-    }
-    Stand::Past(1)
-}
-
-// The text of an entry, which stands in a table.
-fn entry_octet(table: &[u8], start: usize, size: usize, within: usize) -> Stand
-    requires { ⌜ start + size ≤ length (now table) ⌝ }
-    ensures { λ r. ⌜ r ≡ standAt (take size (drop start (now (table .entry)))) within ⌝ }
-{
-    if within >= size {
-        return Stand::Past(size);
-    }
-    let octet = table[start + within];
-    let next = within + 1;
-    if next == size {
-        return Stand::Last(octet);
-    }
-    Stand::Octet { octet, next }
-}
-
-// By any index of any table: an entry that doesn't lie in the table, or is longer than the index says that any is, counts as none, as `expand` has it.
-fn stand_at(index: &[usize; 32], table: &[u8], b: u8, within: usize) -> Stand
-    ensures { λ r. ⌜ r ≡ standAt (stands (entriesBy (now (index .entry)) (now (table .entry))) b) within ⌝ }
+// Where the entry lies that stands for an octet. Outside: the octet stands for itself. By any index of any table: an entry that doesn't lie in the table, or is
+// longer than the index says that any is, counts as none, as `expand` has it.
+fn entry_of(index: &[usize; 32], table: &[u8], b: u8) -> Lies
+    ensures { λ r. ⌜ Standing (entriesBy (now (index .entry)) (now (table .entry))) (now (table .entry)) b r ⌝ }
 {
     if !is_token(b) {
-        return itself(b, within);
+        return Lies::Outside;
     }
-    let start = index[wide(b)];
-    if start == 0 {
-        return itself(b, within);
+    let from = index[wide(b)];
+    if from == 0 {
+        return Lies::Outside;
     }
-    if start > table.len() {
-        return itself(b, within);
+    if from > table.len() {
+        return Lies::Outside;
     }
-    let size = wide(table[start - 1]);
-    if size > table.len() - start {
-        return itself(b, within);
+    let size = wide(table[from - 1]);
+    if size > table.len() - from {
+        return Lies::Outside;
     }
     if size > index[0] {
-        return itself(b, within);
+        return Lies::Outside;
     }
-    entry_octet(table, start, size, within)
+    Lies::Between {
+        from,
+        to: from + size,
+    }
 }
 
-// The next octet of the expansion of `s`, from where `at` and `within` say.
-fn next_octet(index: &[usize; 32], table: &[u8], s: &[u8], at: usize, within: usize) -> Next
-    ensures { λ r. ⌜ Goes (entriesBy (now (index .entry)) (now (table .entry))) (now (s .entry)) at within r ⌝ }
+// The same rest, with the entry of a token that comes next before the text. So what comes next are octets of the table, or one of the text that stands for
+// itself, or nothing.
+fn opened(index: &[usize; 32], table: &[u8], s: &[u8], rest: Rest) -> Rest
+    requires { ⌜ Inside (now table) (now s) rest ⌝ }
+    ensures { λ r. ⌜ Opened (entriesBy (now (index .entry)) (now (table .entry))) (now (table .entry)) (now (s .entry)) rest r ⌝ }
 {
-    let mut i = at;
-    let mut k = within;
-    while i < s.len() {
-        match stand_at(index, table, s[i], k) {
-            Stand::Octet { octet, next } => {
-                return Next::Octet {
-                    octet,
-                    at: i,
-                    within: next,
-                };
-            }
-            Stand::Last(octet) => {
-                return Next::Octet {
-                    octet,
-                    at: i + 1,
-                    within: 0,
-                };
-            }
-            Stand::Past(width) => {
-                k = k - width;
-                i = i + 1;
-            }
+    let mut r = rest;
+    while r.at < s.len() {
+        if r.from < r.to {
+            return r;
         }
+        let at = r.at;
+        let Lies::Between { from, to } = entry_of(index, table, s[at]) else {
+            return r;
+        };
+        r = Rest {
+            from,
+            to,
+            at: at + 1,
+        };
     }
-    Next::End
+    r
 }
 
-fn is_over(next: Next) -> bool
-    ensures { λ r. ⌜ r ≡ isOver next ⌝ }
+// A rest behind its next octets, all of the table or all of the text.
+fn beyond(r: Rest, n: usize) -> Rest
+    requires { ⌜ r .from + n < 2 ^ 64 ⌝ }
+    requires { ⌜ r .at + n < 2 ^ 64 ⌝ }
+    ensures { λ q. ⌜ q ≡ beyond r n ⌝ }
 {
-    match next {
-        Next::End => true,
-        Next::Octet {
-            octet: _,
-            at: _,
-            within: _,
-        } => false,
+    if r.from < r.to {
+        return Rest {
+            from: r.from + n,
+            to: r.to,
+            at: r.at,
+        };
+    }
+    Rest {
+        from: r.from,
+        to: r.to,
+        at: r.at + n,
     }
 }
 
-// How many octets two texts have in common at their beginnings, up to the first that could be a token (below 0x14).
+// Nothing is left.
+fn is_over(s: &[u8], r: Rest) -> bool
+    ensures { λ q. ⌜ q ≡ isOver (now (s .entry)) r ⌝ }
+{
+    if r.from < r.to {
+        return false;
+    }
+    r.at >= s.len()
+}
+
+// An octet is in common that could be a token (below 0x14): it counts where it is the first, which is known to stand for itself.
+fn or_one(n: usize) -> usize
+    ensures { λ r. ⌜ r ≡ orOne n ⌝ }
+{
+    if n == 0 {
+        return 1;
+    }
+    n
+}
+
+// How many octets two pieces have in common at their beginnings, up to the second or a later one that could be a token.
 fn common(a: &[u8], b: &[u8]) -> usize
     ensures { λ r. ⌜ Common (now (a .entry)) (now (b .entry)) r ⌝ }
 {
@@ -136,26 +128,49 @@ fn common(a: &[u8], b: &[u8]) -> usize
             return n;
         }
         if a[n] < 0x14 {
-            return n;
+            return or_one(n);
         }
         n = n + 1;
     }
     n
 }
 
-// How many octets can be passed over at once: none where something is left over of what stands for the octets before.
-fn skip(a: &[u8], at_a: usize, within_a: usize, b: &[u8], at_b: usize, within_b: usize) -> usize
-    requires { ⌜ «at_a» ≤ length (now a) ⌝ }
-    requires { ⌜ «at_b» ≤ length (now b) ⌝ }
-    ensures { λ r. ⌜ Skipped (now (a .entry)) «at_a» «within_a» (now (b .entry)) «at_b» «within_b» r ⌝ }
+// How many octets a piece and what comes next in a rest have in common.
+fn common_with(x: &[u8], table: &[u8], s: &[u8], r: Rest) -> usize
+    requires { ⌜ Inside (now table) (now s) r ⌝ }
+    ensures { λ n. ⌜ Common (now (x .entry)) (ahead (now (table .entry)) (now (s .entry)) r) n ⌝ }
 {
-    if within_a != 0 {
-        return 0;
+    let from = r.from;
+    let to = r.to;
+    let at = r.at;
+    if from < to {
+        return common(x, &table[from..to]);
     }
-    if within_b != 0 {
-        return 0;
+    common(x, &s[at..])
+}
+
+// How many octets come next in both of two rests.
+fn common_ahead(table_a: &[u8], a: &[u8], p: Rest, table_b: &[u8], b: &[u8], q: Rest) -> usize
+    requires { ⌜ Inside (now «table_a») (now a) p ⌝ }
+    requires { ⌜ Inside (now «table_b») (now b) q ⌝ }
+    ensures { λ n. ⌜ Common (ahead (now («table_a» .entry)) (now (a .entry)) p) (ahead (now («table_b» .entry)) (now (b .entry)) q) n ⌝ }
+{
+    let from = p.from;
+    let to = p.to;
+    let at = p.at;
+    if from < to {
+        return common_with(&table_a[from..to], table_b, b, q);
     }
-    common(&a[at_a..], &b[at_b..])
+    common_with(&a[at..], table_b, b, q)
+}
+
+fn are_over(a: &[u8], p: Rest, b: &[u8], q: Rest) -> bool
+    ensures { λ r. ⌜ r ≡ isOver (now (a .entry)) p && isOver (now (b .entry)) q ⌝ }
+{
+    if is_over(a, p) {
+        return is_over(b, q);
+    }
+    false
 }
 
 // The first text stands under the table `table_a` with the index `index_a`, the second under `table_b` with `index_b`. Any indexes may be given; by those that
@@ -170,36 +185,24 @@ pub fn same_texts(
 ) -> bool
     ensures { λ r. ⌜ r ≡ sameOctets (expanded (entriesBy (now («index_a» .entry)) (now («table_a» .entry))) (now (a .entry))) (expanded (entriesBy (now («index_b» .entry)) (now («table_b» .entry))) (now (b .entry))) ⌝ }
 {
-    let mut at_a: usize = 0;
-    let mut within_a: usize = 0;
-    let mut at_b: usize = 0;
-    let mut within_b: usize = 0;
+    let mut p = Rest {
+        from: 0,
+        to: 0,
+        at: 0,
+    };
+    let mut q = Rest {
+        from: 0,
+        to: 0,
+        at: 0,
+    };
     loop {
-        let n = skip(a, at_a, within_a, b, at_b, within_b);
-        at_a = at_a + n;
-        at_b = at_b + n;
-        let Next::Octet {
-            octet: octet_a,
-            at: next_a,
-            within: rest_a,
-        } = next_octet(index_a, table_a, a, at_a, within_a)
-        else {
-            return is_over(next_octet(index_b, table_b, b, at_b, within_b));
-        };
-        let Next::Octet {
-            octet: octet_b,
-            at: next_b,
-            within: rest_b,
-        } = next_octet(index_b, table_b, b, at_b, within_b)
-        else {
-            return false;
-        };
-        if octet_a != octet_b {
-            return false;
+        p = opened(index_a, table_a, a, p);
+        q = opened(index_b, table_b, b, q);
+        let n = common_ahead(table_a, a, p, table_b, b, q);
+        if n == 0 {
+            return are_over(a, p, b, q);
         }
-        at_a = next_a;
-        within_a = rest_a;
-        at_b = next_b;
-        within_b = rest_b;
+        p = beyond(p, n);
+        q = beyond(q, n);
     }
 }

@@ -3,12 +3,6 @@ use borrow.Author.Needs.{needs}
 use Rattle.compare.proofs.texts.is_over.Statement.{statement}
 use Rattle.compare.proofs.texts.is_over.Tie as tie
 
-enum-told : tie.Need-enum-told
-enum-told c = search needs
-
-enum-told-2 : tie.Need-enum-told-2
-enum-told-2 c = search needs
-
 returns : tie.Need-returns
 returns c = search (over-ways, needs)
 
@@ -16,4 +10,4 @@ returns-2 : tie.Need-returns-2
 returns-2 c = search (over-ways, needs)
 
 pub is-over-spec : {M : Type 1} → statement M
-is-over-spec = tie.close (tie.spec enum-told enum-told-2 returns returns-2)
+is-over-spec = tie.close (tie.spec returns returns-2)

@@ -1,61 +1,42 @@
 use lib.ListN.{length}
 use Rattle.text.specs.Index.{entriesBy}
 use Rattle.compare.specs.Texts.{left}
-use Rattle.compare.proofs.Expansions.{Meeting, meet-ways}
+use Rattle.compare.proofs.Expansions.{Meeting, fit-first, fit-second, meet-ways}
 use borrow.Author.Needs.{needs}
 use Rattle.compare.proofs.texts.same_texts.Statement.{statement}
 use Rattle.compare.proofs.texts.same_texts.Tie as tie
 
 abbrev Inv-loop : tie.InvT-loop
-Inv-loop xa ta a xb tb b i₀ k₀ j₀ l₀ i k j l = Meeting (entriesBy xa ta) a (entriesBy xb tb) b i k j l
+Inv-loop xa ta a xb tb b p₀ q₀ p q = Meeting (entriesBy xa ta) ta a (entriesBy xb tb) tb b p q
 
 abbrev μ-loop : tie.MeasureT-loop
-μ-loop xa ta a xb tb b i₀ k₀ j₀ l₀ i k j l = length (left (entriesBy xa ta) a i k)
+μ-loop xa ta a xb tb b p₀ q₀ p q = length (left (entriesBy xa ta) ta a p)
 
 loop-holds : tie.Need-loop-holds Inv-loop μ-loop
 loop-holds c = search (meet-ways, needs)
 
-skip-requires : tie.Need-skip-requires Inv-loop μ-loop
-skip-requires c κs = search (meet-ways, needs)
+opened-requires : tie.Need-opened-requires Inv-loop μ-loop
+opened-requires c κs = search (meet-ways, needs)
 
-add-at-a : tie.Need-add-at-a Inv-loop μ-loop
-add-at-a c = search (meet-ways, needs)
+opened-requires-2 : tie.Need-opened-requires-2 Inv-loop μ-loop
+opened-requires-2 c κs = search (meet-ways, needs)
 
-add-at-b : tie.Need-add-at-b Inv-loop μ-loop
-add-at-b c = search (meet-ways, needs)
+common-ahead-requires : tie.Need-common-ahead-requires Inv-loop μ-loop
+common-ahead-requires c κs = search (meet-ways, needs)
 
-next-octet-requires : tie.Need-next-octet-requires Inv-loop μ-loop
-next-octet-requires c κs = search (meet-ways, needs)
-
-enum-known-octet-a : tie.Need-enum-known-octet-a Inv-loop μ-loop
-enum-known-octet-a c = search (meet-ways, needs)
-
-enum-told : tie.Need-enum-told Inv-loop μ-loop
-enum-told c = search (meet-ways, needs)
-
-next-octet-requires-2 : tie.Need-next-octet-requires-2 Inv-loop μ-loop
-next-octet-requires-2 c κs = search (meet-ways, needs)
-
-is-over-requires : tie.Need-is-over-requires Inv-loop μ-loop
-is-over-requires c κs = search (meet-ways, needs)
+are-over-requires : tie.Need-are-over-requires Inv-loop μ-loop
+are-over-requires c κs = search (meet-ways, needs)
 
 returns : tie.Need-returns Inv-loop μ-loop
 returns c = search (meet-ways, needs)
 
-next-octet-requires-3 : tie.Need-next-octet-requires-3 Inv-loop μ-loop
-next-octet-requires-3 c κs = search (meet-ways, needs)
+beyond-requires : tie.Need-beyond-requires Inv-loop μ-loop
+beyond-requires c κs = fit-first _ _ _ _ _ (c .before .before .before .opened .ensures) _ _ (c .before .common-ahead .ensures) (search needs) (search needs)
 
-enum-known-octet-b : tie.Need-enum-known-octet-b Inv-loop μ-loop
-enum-known-octet-b c = search (meet-ways, needs)
-
-enum-told-2 : tie.Need-enum-told-2 Inv-loop μ-loop
-enum-told-2 c = search (meet-ways, needs)
-
-returns-2 : tie.Need-returns-2 Inv-loop μ-loop
-returns-2 c = search (meet-ways, needs)
-
-returns-3 : tie.Need-returns-3 Inv-loop μ-loop
-returns-3 c = search (meet-ways, needs)
+beyond-requires-2 : tie.Need-beyond-requires-2 Inv-loop μ-loop
+beyond-requires-2 c κs =
+    let start = c .before .before .before .before .before .before .before .before .before .before in
+    fit-second _ (start .args .table-b .now) (start .args .b .now) _ _ (c .before .before .before .opened2 .ensures) _ _ (c .before .before .common-ahead .ensures) (search needs) (search needs)
 
 loop-less : tie.Need-loop-less Inv-loop μ-loop
 loop-less c = search (meet-ways, needs)
@@ -70,19 +51,12 @@ same-texts-spec =
     Inv-loop
     μ-loop
     loop-holds
-    skip-requires
-    add-at-a
-    add-at-b
-    next-octet-requires
-    enum-known-octet-a
-    enum-told
-    next-octet-requires-2
-    is-over-requires
+    opened-requires
+    opened-requires-2
+    common-ahead-requires
+    are-over-requires
     returns
-    next-octet-requires-3
-    enum-known-octet-b
-    enum-told-2
-    returns-2
-    returns-3
+    beyond-requires
+    beyond-requires-2
     loop-less
     loop-again)
