@@ -2,6 +2,7 @@ pub mod Expansions
 pub mod Telling
 pub mod Walking
 pub mod Sets
+pub mod Stepping
 pub mod Comparing
 pub mod Shaping
 pub mod Frames

@@ -141,12 +141,12 @@ module _ (parent tag : ℕ) (es : Entries) (a : List ℕ) (fs : Entries) (b : Li
 -- ---- the same told of all octets
 
 module _ (part : List ℕ) (tag : ℕ) (r : Lies) (e : r ≡ spanOfTag tag part) where
-  body-none : r ≡ Outside → bodyOfTag tag part ≡ none
+  pub body-none : r ≡ Outside → bodyOfTag tag part ≡ none
   unfolding bodyOfTag bodyBy
   body-none q = ap (bodyBy part) (sym e ∙ q)
 
   module _ (from to : ℕ) (q : r ≡ Between from to) where
-    body-some : bodyOfTag tag part ≡ some (between part from to)
+    pub body-some : bodyOfTag tag part ≡ some (between part from to)
     unfolding bodyOfTag bodyBy
     body-some = ap (bodyBy part) (sym e ∙ q)
 

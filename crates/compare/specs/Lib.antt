@@ -2,4 +2,5 @@ pub mod Texts
 pub mod Bodies
 pub mod Walks
 pub mod Items
+pub mod Steps
 pub mod Normal

@@ -1,6 +1,7 @@
-// The items of two elements of one tag, each under its own token table: whether they mean the same. Attributes are a set, so each tag is sought in both; child
-// elements are compared in order, stepping over what has no meaning; CDATA is in both or in neither. Nothing is judged here.
-// Cost: an element's items are stepped over twice, and its attributes once more for each of the seven tags that attributes have.
+// The items of two elements of one tag, each under its own token table: whether they mean the same. Attributes are a set: they are gone over in step where they
+// can be, else each tag is sought in both; child elements are compared in order, stepping over what has no meaning; CDATA is in both or in neither. Nothing is
+// judged here.
+// Cost: an element's items are stepped over twice, and its attributes once more, or once more for each of the seven tags that attributes have.
 ghost use mathlib.Core.Path.{_≡_};
 ghost use Rattle.text.specs.Index.{entriesBy};
 ghost use Rattle.values.specs.Table.{known};
@@ -8,6 +9,8 @@ ghost use Rattle.compare.specs.Items.{sameFound, sameSets, sameText, sam
 ghost use Rattle.compare.specs.Walks.{bodyOfTag};
 use crate::bodies::same_bodies;
 use crate::bodies::same_octets;
+use crate::steps::InStep;
+use crate::steps::compare_in_step;
 use crate::texts::same_texts;
 use crate::walks::Child;
 use crate::walks::find_item;
@@ -63,8 +66,8 @@ pub fn same_attribute(
     )
 }
 
-// All attributes of two elements with the tag `parent` and these bodies. No element knows one above 0x86.
-pub fn same_attributes(
+// All attributes of two elements with the tag `parent` and these bodies, each tag sought in both. No element knows one above 0x86.
+fn same_by_tags(
     parent: u8,
     index_a: &[usize; 32],
     table_a: &[u8],
@@ -83,6 +86,25 @@ pub fn same_attributes(
         tag = tag + 1;
     }
     true
+}
+
+// The same, sought only where the attributes of both are not in step.
+pub fn same_attributes(
+    parent: u8,
+    index_a: &[usize; 32],
+    table_a: &[u8],
+    a: &[u8],
+    index_b: &[usize; 32],
+    table_b: &[u8],
+    b: &[u8],
+) -> bool
+    ensures { λ r. ⌜ r ≡ sameSets parent (entriesBy (now («index_a» .entry)) (now («table_a» .entry))) (now (a .entry)) (entriesBy (now («index_b» .entry)) (now («table_b» .entry))) (now (b .entry)) ⌝ }
+{
+    match compare_in_step(parent, index_a, table_a, a, index_b, table_b, b) {
+        InStep::Same => true,
+        InStep::Different => false,
+        InStep::Astray => same_by_tags(parent, index_a, table_a, a, index_b, table_b, b),
+    }
 }
 
 // The CDATA of two elements with these bodies: none differs from an empty one.

@@ -9,6 +9,7 @@ ghost use Rattle.compare.specs.Items.{Compared};
 mod bodies;
 mod items;
 mod normal;
+mod steps;
 mod texts;
 mod walks;
 
