@@ -2,11 +2,12 @@
 // held against each other: an entry of the table under a token, or a run of the text in which no token comes.
 ghost use mathlib.Core.Path.{_≡_};
 ghost use mathlib.Core.Bool.{_&&_};
-ghost use Prim.Native.Nat.{_+_, _^_, _<_};
+ghost use Prim.Native.Nat.{_+_, _^_, _≤_, _<_};
+ghost use lib.ListN.{length};
 ghost use Rattle.text.specs.Tokens.{expanded};
 ghost use Rattle.text.specs.Index.{entriesBy};
 ghost use Rattle.format.specs.Same.{sameOctets};
-ghost use Rattle.compare.specs.Texts.{Standing, Inside, Opened, ahead, beyond, isOver, orOne, Common};
+ghost use Rattle.compare.specs.Texts.{Standing, Inside, Opened, ahead, beyond, isOver, orOne, shared, allShared, Shared, Common};
 use survey::Lies;
 use text::is_token;
 
@@ -115,11 +116,52 @@ fn or_one(n: usize) -> usize
     n
 }
 
-// How many octets two pieces have in common at their beginnings, up to the second or a later one that could be a token.
+// Two octets are the same and can be no token.
+fn is_shared(x: u8, y: u8) -> bool
+    ensures { λ r. ⌜ r ≡ shared x y ⌝ }
+{
+    (x == y) & (x >= 0x14)
+}
+
+// The first eight octets. Nothing is decided between their tests, so that the compiler makes one comparison of all eight.
+fn are_eight_shared(a: &[u8], b: &[u8]) -> bool
+    requires { ⌜ 8 ≤ length (now a) ⌝ }
+    requires { ⌜ 8 ≤ length (now b) ⌝ }
+    ensures { λ r. ⌜ r ≡ allShared 8 (now (a .entry)) (now (b .entry)) ⌝ }
+{
+    is_shared(a[0], b[0])
+        & is_shared(a[1], b[1])
+        & is_shared(a[2], b[2])
+        & is_shared(a[3], b[3])
+        & is_shared(a[4], b[4])
+        & is_shared(a[5], b[5])
+        & is_shared(a[6], b[6])
+        & is_shared(a[7], b[7])
+}
+
+// How many octets two pieces share at their beginnings, by eights alone.
+fn eights(a: &[u8], b: &[u8]) -> usize
+    ensures { λ r. ⌜ Shared (now (a .entry)) (now (b .entry)) r ⌝ }
+{
+    let mut n: usize = 0;
+    while a.len() - n >= 8 {
+        if b.len() - n < 8 {
+            return n;
+        }
+        if !are_eight_shared(&a[n..], &b[n..]) {
+            return n;
+        }
+        n = n + 8;
+    }
+    n
+}
+
+// How many octets two pieces have in common at their beginnings, up to the second or a later one that could be a token: by eights as far as they go, then by
+// single octets.
 fn common(a: &[u8], b: &[u8]) -> usize
     ensures { λ r. ⌜ Common (now (a .entry)) (now (b .entry)) r ⌝ }
 {
-    let mut n: usize = 0;
+    let mut n = eights(a, b);
     while n < a.len() {
         if n >= b.len() {
             return n;
