@@ -20,7 +20,8 @@ use Rattle.survey.specs.declared.Lies.{Lies}
 use Rattle.survey.specs.declared.Lies.the-variants.{Outside, Between}
 use Rattle.compare.specs.declared.texts.Rest.{Rest}
 use Rattle.compare.specs.Walks.{between}
-use Rattle.compare.specs.Texts.{Entry, Standing, left, Inside, Opened, ahead, beyond, isOver, orOne, shared, allShared, Shared, Common}
+use Rattle.compare.specs.Bodies.{allBy}
+use Rattle.compare.specs.Texts.{Entry, Standing, left, Inside, Opened, ahead, beyond, isOver, orOne, shared, Shared, Common}
 
 -- ---- what stands for an octet
 
@@ -177,18 +178,18 @@ module _ (a b : List ℕ) where
           go i k true t = inv .high i (ltb-true i n t)
           go i k false t = let q : n ≡ i = omega (arith, ltb-false i n t) in subst (λ j. 0x14 ≤ getD a j 0) q l
 
-    -- the pieces may still differ at the first octet, or one be over
-    whole-share : (n ≡ 0 → 0 < length a → 0 < length b → getD a 0 0 ≡ getD b 0 0 → ⊥) → Common a b n
-    whole-share d = record { first = inv .first; second = inv .second; same = inv .same; high = λ i p k. inv .high i k; differ = d }
+    -- they are all that the pieces have in common
+    no-further : (n ≡ 0 → 0 < length a → 0 < length b → getD a 0 0 ≡ getD b 0 0 → ⊥) → Common a b n
+    no-further d = record { first = inv .first; second = inv .second; same = inv .same; high = λ i p k. inv .high i k; differ = d }
 
     pub common-first : length a ≤ n → Common a b n
-    common-first h = whole-share λ z p q e. omega arith
+    common-first h = no-further λ z p q e. omega arith
 
     pub common-second : length b ≤ n → Common a b n
-    common-second h = whole-share λ z p q e. omega arith
+    common-second h = no-further λ z p q e. omega arith
 
     pub common-differ : (getD a n 0 ≡ getD b n 0 → ⊥) → Common a b n
-    common-differ d = whole-share λ z p q e. d (ap (λ i. getD a i 0) z ∙ e ∙ ap (λ i. getD b i 0) (sym z))
+    common-differ d = no-further λ z p q e. d (ap (λ i. getD a i 0) z ∙ e ∙ ap (λ i. getD b i 0) (sym z))
 
     pub common-low : n < length a → n < length b → getD a n 0 ≡ getD b n 0 → (r : ℕ) → r ≡ orOne n → Common a b r
     unfolding orOne
@@ -204,28 +205,21 @@ module _ (a b : List ℕ) where
               high = λ i p k. absurd (omega arith);
               differ = λ y. absurd (omega arith);
             }
-        go false t = whole-share λ z. absurd (eqb-false n 0 t z)
+        go false t = no-further λ z. absurd (eqb-false n 0 t z)
 
 pub ruleset common-ways = (share-again, common-first, common-second, common-differ, common-low)
 
--- ---- are_eight_shared, eights
-
-pub eight-shared : (x y : List ℕ) (a b c d e f g h : Bool)
-    → a ≡ shared (getD x 0 0) (getD y 0 0) → b ≡ shared (getD x 1 0) (getD y 1 0) → c ≡ shared (getD x 2 0) (getD y 2 0) → d ≡ shared (getD x 3 0) (getD y 3 0)
-    → e ≡ shared (getD x 4 0) (getD y 4 0) → f ≡ shared (getD x 5 0) (getD y 5 0) → g ≡ shared (getD x 6 0) (getD y 6 0) → h ≡ shared (getD x 7 0) (getD y 7 0)
-    → a && b && c && d && e && f && g && h ≡ allShared 8 x y
-unfolding allShared
-eight-shared x y a b c d e f g h ea eb ec ed ee ef eg eh = rw (ea, eb, ec, ed, ee, ef, eg, eh)
+-- ---- eights
 
 module _ (a b : List ℕ) where
-  share-more : (k n : ℕ) → Shared a b n → n + k ≤ length a → n + k ≤ length b → allShared k (drop n a) (drop n b) ≡ true → Shared a b (n + k)
-  unfolding allShared shared
+  share-more : (k n : ℕ) → Shared a b n → n + k ≤ length a → n + k ≤ length b → allBy shared k (drop n a) (drop n b) ≡ true → Shared a b (n + k)
+  unfolding allBy shared
   share-more zero n inv h g e = rw add-zero inv
   share-more (suc k) n inv h g e =
       let x = getD (drop n a) k 0 in
       let y = getD (drop n b) k 0 in
-      let last = and-right (allShared k (drop n a) (drop n b)) (eqb x y && leb 0x14 x) e in
-      let before = share-more k n inv (omega arith) (omega arith) (and-left (allShared k (drop n a) (drop n b)) (eqb x y && leb 0x14 x) e) in
+      let last = and-right (allBy shared k (drop n a) (drop n b)) (eqb x y && leb 0x14 x) e in
+      let before = share-more k n inv (omega arith) (omega arith) (and-left (allBy shared k (drop n a) (drop n b)) (eqb x y && leb 0x14 x) e) in
       let s : getD a (n + k) 0 ≡ getD b (n + k) 0 = sym (getD-drop n a k 0) ∙ eqb-true x y (and-left (eqb x y) (leb 0x14 x) last) ∙ getD-drop n b k 0 in
       let l : 0x14 ≤ getD a (n + k) 0 = subst (λ z. 0x14 ≤ z) (getD-drop n a k 0) (leb-true 0x14 x (and-right (eqb x y) (leb 0x14 x) last)) in
       let m : n + k + 1 ≡ n + suc k = omega arith in
@@ -238,10 +232,10 @@ module _ (a b : List ℕ) where
     pub eights-second : n ≤ length b
     eights-second = inv .second
 
-    pub eights-again : 8 ≤ length a - n → 8 ≤ length b - n → (r : Bool) → r ≡ allShared 8 (take (length a - n) (drop n a)) (take (length b - n) (drop n b)) → r ≡ true
+    pub eights-again : 8 ≤ length a - n → 8 ≤ length b - n → (r : Bool) → r ≡ allBy shared 8 (take (length a - n) (drop n a)) (take (length b - n) (drop n b)) → r ≡ true
         → Shared a b (n + 8)
     eights-again h g r e q =
-        share-more 8 n inv (omega (arith, inv .first)) (omega (arith, inv .second)) (ap₂ (allShared 8) (sym (part-to-end a n)) (sym (part-to-end b n)) ∙ sym e ∙ q)
+        share-more 8 n inv (omega (arith, inv .first)) (omega (arith, inv .second)) (ap₂ (allBy shared 8) (sym (part-to-end a n)) (sym (part-to-end b n)) ∙ sym e ∙ q)
 
 pub ruleset eights-ways = (share-begin, eights-first, eights-second)
 

@@ -2,15 +2,17 @@
 use mathlib.Core.Path.{_≡_, refl, sym, ap, ap₂, _∙_, subst}
 use mathlib.Core.Bool.{Bool, true, false, not, _&&_, false≢true}
 use mathlib.Core.List.{List, []}
-use Prim.Native.Nat.{ℕ, suc, _+_, _≤_, _<_}
+use Prim.Native.Nat.{ℕ, zero, suc, _+_, _-_, _≤_, _<_}
 use native.Mathlib.Numerals.{add-one}
+use native.Mathlib.Nat.{add-zero}
 use native.Mathlib.Omega.{arith}
 use lib.Dec.{eqb}
-use lib.ListN.{length, drop, getD, drop-of-length-le}
-use lib.Seq.{drop-cons}
+use lib.ListN.{length, take, drop, getD, drop-of-length-le}
+use lib.Seq.{drop-cons, getD-drop}
 use borrow.Author.Tests.{eqb-true, eq-eqb, ne-eqb}
 use Rattle.octets.specs.Numbers.{value, digits, Octets}
-use Rattle.octets.proofs.Tests.{and-false}
+use Rattle.octets.proofs.Tests.{and-left, and-right, and-false}
+use Rattle.octets.proofs.Lists.{part-to-end}
 use Rattle.text.specs.Tokens.{Entries, expanded}
 use Rattle.values.specs.declared.Kind.{Kind}
 use Rattle.values.specs.declared.Kind.the-variants.{HoldsItems, HoldsTokens, HoldsText, HoldsPlain, HoldsTime, HoldsBearer, HoldsNumber}
@@ -34,14 +36,18 @@ use Rattle.values.proofs.Times.{time-ok}
 use Rattle.values.proofs.Bearers.{bearer-ok}
 use Rattle.values.proofs.Laws.{number-normal, time-taken, time-refused, bearer-taken, bearer-refused}
 use Rattle.format.specs.Same.{sameOctets, sameValue}
-use Rattle.compare.specs.Bodies.{sameBody, sameStanding, Tells}
+use Rattle.compare.specs.Bodies.{sameBody, sameStanding, Tells, allBy, Alike}
 use Rattle.format.proofs.Same.{same-octets, tests-agree, value-exactly}
 
 -- ---- octets
 
-pub record Alike (a b : List ℕ) (i : ℕ) : Type 0 where
-  pub long : length a ≡ length b
-  pub same : sameOctets a b ≡ sameOctets (drop i a) (drop i b)
+-- eight tests of two octets each
+pub eight-by : (t : ℕ → ℕ → Bool) (x y : List ℕ) (a b c d e f g h : Bool)
+    → a ≡ t (getD x 0 0) (getD y 0 0) → b ≡ t (getD x 1 0) (getD y 1 0) → c ≡ t (getD x 2 0) (getD y 2 0) → d ≡ t (getD x 3 0) (getD y 3 0)
+    → e ≡ t (getD x 4 0) (getD y 4 0) → f ≡ t (getD x 5 0) (getD y 5 0) → g ≡ t (getD x 6 0) (getD y 6 0) → h ≡ t (getD x 7 0) (getD y 7 0)
+    → a && b && c && d && e && f && g && h ≡ allBy t 8 x y
+unfolding allBy
+eight-by t x y a b c d e f g h ea eb ec ed ee ef eg eh = rw (ea, eb, ec, ed, ee, ef, eg, eh)
 
 module _ (a b : List ℕ) where
   pub alike-longer : (length a ≡ length b → ⊥) → false ≡ sameOctets a b
@@ -52,7 +58,7 @@ module _ (a b : List ℕ) where
       go false e = sym e
 
   pub alike-begin : length a ≡ length b → Alike a b 0
-  alike-begin h = record { long = h; same = refl }
+  alike-begin h = record { inside = omega arith; long = h; same = refl }
 
   module _ (i : ℕ) (inv : Alike a b i) where
     pub alike-ended : length a ≤ i → true ≡ sameOctets a b
@@ -71,9 +77,36 @@ module _ (a b : List ℕ) where
       alike-differ d = sym (step ∙ rw (ne-eqb (getD a i 0) (getD b i 0) d))
 
       pub alike-again : getD a i 0 ≡ getD b i 0 → Alike a b (i + 1)
-      alike-again e = record { long = inv .long; same = rw add-one (step ∙ rw (eq-eqb (getD a i 0) (getD b i 0) e)) }
+      alike-again e = record { inside = omega arith; long = inv .long; same = rw add-one (step ∙ rw (eq-eqb (getD a i 0) (getD b i 0) e)) }
 
-pub ruleset alike-ways = (alike-longer, alike-begin, alike-ended, alike-other, alike-differ, alike-again)
+pub ruleset alike-ways = (alike-longer, alike-ended, alike-other, alike-differ, alike-again)
+
+module _ (a b : List ℕ) where
+  alike-more : (k i : ℕ) → Alike a b i → i + k ≤ length a → allBy eqb k (drop i a) (drop i b) ≡ true → Alike a b (i + k)
+  unfolding allBy
+  alike-more zero i inv h e = rw add-zero inv
+  alike-more (suc k) i inv h e =
+      let x = getD (drop i a) k 0 in
+      let y = getD (drop i b) k 0 in
+      let last = eqb-true x y (and-right (allBy eqb k (drop i a) (drop i b)) (eqb x y) e) in
+      let before = alike-more k i inv (omega arith) (and-left (allBy eqb k (drop i a) (drop i b)) (eqb x y) e) in
+      let m : i + k + 1 ≡ i + suc k = omega arith in
+      subst (Alike a b) m (alike-again a b (i + k) before (omega arith) (sym (getD-drop i a k 0) ∙ last ∙ getD-drop i b k 0))
+
+  module _ (i : ℕ) (inv : Alike a b i) where
+    pub alike-inside : i ≤ length a
+    alike-inside = inv .inside
+
+    pub alike-inside-second : i ≤ length b
+    alike-inside-second = omega (arith, inv .inside, inv .long)
+
+    pub alike-eight-second : 8 ≤ length a - i → 8 ≤ length b - i
+    alike-eight-second h = omega (arith, inv .long)
+
+    pub alike-eight : 8 ≤ length a - i → (r : Bool) → r ≡ allBy eqb 8 (take (length a - i) (drop i a)) (take (length b - i) (drop i b)) → r ≡ true → Alike a b (i + 8)
+    alike-eight h r e q = alike-more 8 i inv (omega (arith, inv .inside)) (ap₂ (allBy eqb 8) (sym (part-to-end a i)) (sym (part-to-end b i)) ∙ sym e ∙ q)
+
+pub ruleset eights-ways = (alike-begin, alike-inside, alike-inside-second, alike-eight-second)
 
 -- ---- answers that tell equality
 

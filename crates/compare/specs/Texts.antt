@@ -1,8 +1,8 @@
 -- What the functions that go through two expansions tell one another. No claim of a call of this crate names these.
 use mathlib.Core.Path.{_≡_}
-use mathlib.Core.Bool.{Bool, true, false, cond, _&&_}
+use mathlib.Core.Bool.{Bool, false, cond, _&&_}
 use mathlib.Core.List.{List, [], _∷_, _++_}
-use Prim.Native.Nat.{ℕ, zero, suc, _+_, _≤_, _<_}
+use Prim.Native.Nat.{ℕ, _+_, _≤_, _<_}
 use lib.Dec.{eqb, leb, ltb}
 use lib.ListN.{length, getD, take, drop}
 use Rattle.text.specs.Tokens.{Entries, stands, expanded}
@@ -52,13 +52,9 @@ isOver s r = cond (ltb (r .from) (r .to)) false (leb (length s) (r .at))
 unfoldable pub orOne : ℕ → ℕ
 orOne n = cond (eqb n 0) 1 n
 
--- two octets are the same and can be no token; so are the first ones of two pieces, as many as the number says
+-- two octets are the same and can be no token
 unfoldable pub shared : ℕ → ℕ → Bool
 shared x y = eqb x y && leb 0x14 x
-
-unfoldable pub allShared : ℕ → List ℕ → List ℕ → Bool
-allShared zero a b = true
-allShared (suc n) a b = allShared n a b && shared (getD a n 0) (getD b n 0)
 
 -- so many are at the beginnings of two pieces; there may be more
 pub record Shared (a b : List ℕ) (n : ℕ) : Type 0 where

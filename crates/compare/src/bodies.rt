@@ -2,11 +2,14 @@
 // one.
 ghost use mathlib.Core.Path.{_≡_};
 ghost use mathlib.Core.Bool.{_&&_};
+ghost use Prim.Native.Nat.{_≤_};
+ghost use lib.Dec.{eqb};
+ghost use lib.ListN.{length};
 ghost use Rattle.text.specs.Index.{entriesBy};
 ghost use Rattle.values.specs.declared.Kind.the-variants.{HoldsTime, HoldsBearer};
 ghost use Rattle.values.specs.Values.{fits};
 ghost use Rattle.format.specs.Same.{sameOctets};
-ghost use Rattle.compare.specs.Bodies.{Tells, sameBody, sameStanding};
+ghost use Rattle.compare.specs.Bodies.{Tells, sameBody, sameStanding, allBy, Alike};
 use crate::texts::same_texts;
 use values::Bearer;
 use values::Ensemble;
@@ -16,14 +19,45 @@ use values::TakenTime;
 use values::Time;
 use values::fits_kind;
 
-// Octets as they stand.
+// The first eight octets. Nothing is decided between their tests, so that the compiler makes one comparison of all eight.
+fn are_eight_same(a: &[u8], b: &[u8]) -> bool
+    requires { ⌜ 8 ≤ length (now a) ⌝ }
+    requires { ⌜ 8 ≤ length (now b) ⌝ }
+    ensures { λ r. ⌜ r ≡ allBy eqb 8 (now (a .entry)) (now (b .entry)) ⌝ }
+{
+    (a[0] == b[0])
+        & (a[1] == b[1])
+        & (a[2] == b[2])
+        & (a[3] == b[3])
+        & (a[4] == b[4])
+        & (a[5] == b[5])
+        & (a[6] == b[6])
+        & (a[7] == b[7])
+}
+
+// How far octets of one length are the same, by eights alone.
+fn same_eights(a: &[u8], b: &[u8]) -> usize
+    requires { ⌜ length (now a) ≡ length (now b) ⌝ }
+    ensures { λ r. ⌜ Alike (now (a .entry)) (now (b .entry)) r ⌝ }
+{
+    let mut i: usize = 0;
+    while a.len() - i >= 8 {
+        if !are_eight_same(&a[i..], &b[i..]) {
+            return i;
+        }
+        i = i + 8;
+    }
+    i
+}
+
+// Octets as they stand: by eights as far as they go, then one by one.
 pub fn same_octets(a: &[u8], b: &[u8]) -> bool
     ensures { λ r. ⌜ r ≡ sameOctets (now (a .entry)) (now (b .entry)) ⌝ }
 {
     if a.len() != b.len() {
         return false;
     }
-    let mut i: usize = 0;
+    let mut i = same_eights(a, b);
     while i < a.len() {
         if a[i] != b[i] {
             return false;

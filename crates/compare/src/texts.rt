@@ -7,7 +7,8 @@ ghost use lib.ListN.{length};
 ghost use Rattle.text.specs.Tokens.{expanded};
 ghost use Rattle.text.specs.Index.{entriesBy};
 ghost use Rattle.format.specs.Same.{sameOctets};
-ghost use Rattle.compare.specs.Texts.{Standing, Inside, Opened, ahead, beyond, isOver, orOne, shared, allShared, Shared, Common};
+ghost use Rattle.compare.specs.Bodies.{allBy};
+ghost use Rattle.compare.specs.Texts.{Standing, Inside, Opened, ahead, beyond, isOver, orOne, shared, Shared, Common};
 use survey::Lies;
 use text::is_token;
 
@@ -127,7 +128,7 @@ fn is_shared(x: u8, y: u8) -> bool
 fn are_eight_shared(a: &[u8], b: &[u8]) -> bool
     requires { ⌜ 8 ≤ length (now a) ⌝ }
     requires { ⌜ 8 ≤ length (now b) ⌝ }
-    ensures { λ r. ⌜ r ≡ allShared 8 (now (a .entry)) (now (b .entry)) ⌝ }
+    ensures { λ r. ⌜ r ≡ allBy shared 8 (now (a .entry)) (now (b .entry)) ⌝ }
 {
     is_shared(a[0], b[0])
         & is_shared(a[1], b[1])

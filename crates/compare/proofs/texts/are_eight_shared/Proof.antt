@@ -1,4 +1,4 @@
-use Rattle.compare.proofs.Expansions.{eight-shared}
+use Rattle.compare.proofs.Telling.{eight-by}
 use borrow.Author.Needs.{needs}
 use borrow.Author.Needs.{needs}
 use Rattle.compare.proofs.texts.are_eight_shared.Statement.{statement}
@@ -77,7 +77,7 @@ is-shared-requires-8 : tie.Need-is-shared-requires-8
 is-shared-requires-8 c κs = search needs
 
 returns : tie.Need-returns
-returns c = search (eight-shared, needs)
+returns c = search (eight-by, needs)
 
 pub are-eight-shared-spec : {M : Type 1} → statement M
 are-eight-shared-spec =
