@@ -13,9 +13,11 @@ use lib.Seq.{sets}
 use mir.Syntax.{w8, w64}
 use mir.Val.{Fits}
 use borrow.Author.Tests.{le-leb, lt-leb, leb-true, leb-false, lt-ltb, le-ltb, ltb-true, ltb-false, eq-eqb, ne-eqb}
+use Rattle.octets.specs.Counts.{asOctets}
 use Rattle.octets.specs.Numbers.{digits}
 use Rattle.octets.specs.Header.{lengthField}
 use Rattle.octets.specs.Calls.{fitsWidth, endOf, putAnswer, putOut, Puts, announced, widthOf, Formed}
+use Rattle.octets.specs.declared.counts.Octets.{Octets}
 use Rattle.octets.specs.declared.Put.{Put}
 use Rattle.octets.specs.declared.End.{End}
 use Rattle.octets.specs.declared.LengthForm.{LengthForm}
@@ -93,15 +95,15 @@ module _ (n : ℕ) (f : LengthForm) (k : Formed n f) where
   length-field : length (lengthField n) ≡ length (announced f) + widthOf f
   length-field = ap length (k .field) ∙ length-append (announced f) (digits (widthOf f) n) ∙ ap (λ m. length (announced f) + m) (length-digits (widthOf f) n)
 
-  pub size-one : f ≡ One → 2 ≡ suc (length (lengthField n))
+  pub size-one : f ≡ One → asOctets 2 ≡ asOctets (suc (length (lengthField n)))
   unfolding announced widthOf
   size-one e = rw (length-field, e)
 
-  pub size-two : f ≡ Two → 4 ≡ suc (length (lengthField n))
+  pub size-two : f ≡ Two → asOctets 4 ≡ asOctets (suc (length (lengthField n)))
   unfolding announced widthOf
   size-two e = rw (length-field, e)
 
-  pub size-three : f ≡ Three → 5 ≡ suc (length (lengthField n))
+  pub size-three : f ≡ Three → asOctets 5 ≡ asOctets (suc (length (lengthField n)))
   unfolding announced widthOf
   size-three e = rw (length-field, e)
 
@@ -318,26 +320,29 @@ module _ (out : List ℕ) (at tag n : ℕ) where
   pub header-long : 0xFFFFFF < n → Puts (ltb n (256 ^ 3)) (tag ∷ lengthField n) at out out Put.TooLong
   header-long h = puts-no (ltb n (256 ^ 3)) (tag ∷ lengthField n) at out (le-ltb n (256 ^ 3) (omega arith))
 
-  module _ (h : n ≤ 0xFFFFFF) (size : ℕ) (l : size ≡ suc (length (lengthField n))) (e : End) (k : e ≡ endOf (length out) at size) where
+  module _ (h : n ≤ 0xFFFFFF) (size : Octets) (l : size ≡ asOctets (suc (length (lengthField n)))) (e : End) (k : e ≡ endOf (length out) at (size .0)) where
+    long : size .0 ≡ suc (length (lengthField n))
+    long = ap (λ m. m .0) l
+
     short : ltb n (256 ^ 3) ≡ true
     short = lt-ltb n (256 ^ 3) (omega arith)
 
     pub header-none : e ≡ End.Outside → Puts (ltb n (256 ^ 3)) (tag ∷ lengthField n) at out out Put.NoRoom
-    header-none q = puts-none (ltb n (256 ^ 3)) (tag ∷ lengthField n) at out short (rw (← l) (told-outside (length out) at size e k q))
+    header-none q = puts-none (ltb n (256 ^ 3)) (tag ∷ lengthField n) at out short (rw (← long) (told-outside (length out) at (size .0) e k q))
 
     module _ (end : ℕ) (q : e ≡ End.Within end) where
-      room : at + size ≤ length out
-      room = told-within (length out) at size e k end q .inside
+      room : at + size .0 ≤ length out
+      room = told-within (length out) at (size .0) e k end q .inside
 
       pub header-in : at < length out
-      header-in = omega (arith, room)
+      header-in = omega (arith, room, long)
 
       pub header-room : at + 1 + length (lengthField n) ≤ length (set out at tag)
-      header-room = simp length-set (omega (arith, room))
+      header-room = simp length-set (omega (arith, room, long))
 
       pub header-done : (out′ : List ℕ) → out′ ≡ sets (set out at tag) (at + 1) (lengthField n) → Puts (ltb n (256 ^ 3)) (tag ∷ lengthField n) at out out′ (Put.Done end)
       header-done out′ p =
-          puts-done (ltb n (256 ^ 3)) (tag ∷ lengthField n) at out short out′ end (rw (← l) room) (p ∙ ap (λ m. sets (set out at tag) m (lengthField n)) (add-one at))
-          (told-within (length out) at size e k end q .place ∙ ap (λ m. at + m) l)
+          puts-done (ltb n (256 ^ 3)) (tag ∷ lengthField n) at out short out′ end (rw (← long) room) (p ∙ ap (λ m. sets (set out at tag) m (lengthField n)) (add-one at))
+          (told-within (length out) at (size .0) e k end q .place ∙ ap (λ m. at + m) long)
 
 pub ruleset write-ways = (header-long, header-none, header-in, header-room, header-done, same-after-set)

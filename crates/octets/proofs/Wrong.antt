@@ -6,6 +6,7 @@ use Prim.Native.Nat.{ℕ, suc, _^_}
 use native.Mathlib.Omega.{arith}
 use lib.Dec.{ltb}
 use lib.ListN.{length, getD}
+use Rattle.octets.specs.Counts.{asOctets}
 use Rattle.octets.specs.Numbers.{value, digits}
 use Rattle.octets.specs.Header.{headerSize, bodySize, lengthField}
 use Rattle.octets.specs.Calls.{headerOf, numberOf, fitsWidth, putAnswer, putOut, Puts}
@@ -33,17 +34,17 @@ unfolding headerOf headerSize bodySize
 header-body h = let z : _≡_ {A = ℕ} 0 1 = cc h in omega arith
 
 -- ---- header_size: one octet long forms from 253 on, and up to 254; 65,536 in two octets
-pub size-early : suc (length (lengthField 0xFD)) ≡ 4 → ⊥
+pub size-early : asOctets 4 ≡ asOctets (suc (length (lengthField 0xFD))) → ⊥
 unfolding lengthField
-size-early h = omega arith
+size-early h = omega (arith, ap (λ n. n .0) h)
 
-pub size-late : suc (length (lengthField 0xFE)) ≡ 2 → ⊥
+pub size-late : asOctets 2 ≡ asOctets (suc (length (lengthField 0xFE))) → ⊥
 unfolding lengthField digits
-size-late h = omega arith
+size-late h = omega (arith, ap (λ n. n .0) h)
 
-pub size-middle : suc (length (lengthField 0x10000)) ≡ 4 → ⊥
+pub size-middle : asOctets 4 ≡ asOctets (suc (length (lengthField 0x10000))) → ⊥
 unfolding lengthField digits
-size-middle h = omega arith
+size-middle h = omega (arith, ap (λ n. n .0) h)
 
 -- ---- write_header: no room where the octets just fit; what fits of it written; 2 to the 24th cut to three octets
 pub written-just : (after : List ℕ) → Puts (ltb 2 (256 ^ 3)) (0x03 ∷ lengthField 2) 1 (9 ∷ 9 ∷ 9 ∷ []) after Put.NoRoom → ⊥

@@ -8,12 +8,18 @@ ghost use Prim.Native.Nat.{suc, _+_, _*_, _/_, _%_, _^_, _≤_, _<_};
 ghost use lib.Dec.{ltb};
 ghost use lib.ListN.{length};
 ghost use lib.Seq.{sets};
+ghost use Rattle.octets.specs.Counts.{asOctets};
 ghost use Rattle.octets.specs.Numbers.{value, digits};
 ghost use Rattle.octets.specs.Header.{lengthField};
 ghost use Rattle.octets.specs.Calls.{headerOf, numberOf, fitsWidth, endOf, Formed, Puts};
 
-// The header with which a part begins. Found: how many octets the tag and the length take, and how many the body has, which may be more than the part holds.
-// Past: the part ends within the header.
+mod counts;
+
+pub use counts::Characters;
+pub use counts::Octets;
+
+// The header with which a part begins. Found: the span of the body, which begins behind the tag and the length and may run past the part. Past: the part ends
+// within the header.
 pub enum Header {
     Past,
     Found { start: usize, size: usize },
@@ -110,38 +116,38 @@ fn wide(b: u8) -> usize
 
 // The one place that chooses the form in which a length is written: the shortest (document 01, Records and meaning). Whatever writes or measures a header goes
 // by its answer.
-fn length_form(n: usize) -> LengthForm
-    ensures { λ r. ⌜ Formed n r ⌝ }
+fn length_form(n: Octets) -> LengthForm
+    ensures { λ r. ⌜ Formed (n .0) r ⌝ }
 {
-    if n <= 0xFD {
+    if n.0 <= 0xFD {
         return LengthForm::One;
     }
-    if n <= 0xFFFF {
+    if n.0 <= 0xFFFF {
         return LengthForm::Two;
     }
     LengthForm::Three
 }
 
 // How many octets the header of a body of n octets takes. Told of every n; that none has a header from 2 to the 24th on is for write_header to say.
-pub fn header_size(n: usize) -> usize
-    ensures { λ r. ⌜ r ≡ suc (length (lengthField n)) ⌝ }
+pub fn header_size(n: Octets) -> Octets
+    ensures { λ r. ⌜ r ≡ asOctets (suc (length (lengthField (n .0)))) ⌝ }
 {
     match length_form(n) {
-        LengthForm::One => 2,
-        LengthForm::Two => 4,
-        LengthForm::Three => 5,
+        LengthForm::One => Octets(2),
+        LengthForm::Two => Octets(4),
+        LengthForm::Three => Octets(5),
     }
 }
 
 // The header of a body of n octets, put at a place. TooLong: n is 2 to the 24th or more.
-pub fn write_header(out: &mut [u8], at: usize, tag: u8, n: usize) -> Put
-    ensures { λ r. ⌜ Puts (ltb n (256 ^ 3)) (tag ∷ lengthField n) at (now (out .entry)) (now (out .exit)) r ⌝ }
+pub fn write_header(out: &mut [u8], at: usize, tag: u8, n: Octets) -> Put
+    ensures { λ r. ⌜ Puts (ltb (n .0) (256 ^ 3)) (tag ∷ lengthField (n .0)) at (now (out .entry)) (now (out .exit)) r ⌝ }
 {
-    if n > 0xFFFFFF {
+    if n.0 > 0xFFFFFF {
         return Put::TooLong;
     }
     let size = header_size(n);
-    let End::Within(end) = end_of(out.len(), at, size) else {
+    let End::Within(end) = end_of(Octets(out.len()), at, size) else {
         return Put::NoRoom;
     };
     out[at] = tag;
@@ -149,57 +155,57 @@ pub fn write_header(out: &mut [u8], at: usize, tag: u8, n: usize) -> Put
     Put::Done(end)
 }
 
-fn store_length(out: &mut [u8], at: usize, n: usize)
-    requires { ⌜ n < 256 ^ 3 ⌝ }
-    requires { ⌜ at + length (lengthField n) ≤ length (now out) ⌝ }
-    ensures { λ _. ⌜ now (out .exit) ≡ sets (now (out .entry)) at (lengthField n) ⌝ }
+fn store_length(out: &mut [u8], at: usize, n: Octets)
+    requires { ⌜ n .0 < 256 ^ 3 ⌝ }
+    requires { ⌜ at + length (lengthField (n .0)) ≤ length (now out) ⌝ }
+    ensures { λ _. ⌜ now (out .exit) ≡ sets (now (out .entry)) at (lengthField (n .0)) ⌝ }
 {
     match length_form(n) {
         LengthForm::One => {
-            store_number(out, at, 1, n as u32);
+            store_number(out, at, Octets(1), n.0 as u32);
         }
         LengthForm::Two => {
             out[at] = 0xFE;
-            store_number(out, at + 1, 2, n as u32);
+            store_number(out, at + 1, Octets(2), n.0 as u32);
         }
         LengthForm::Three => {
             out[at] = 0xFF;
-            store_number(out, at + 1, 3, n as u32);
+            store_number(out, at + 1, Octets(3), n.0 as u32);
         }
     }
 }
 
 // A number in so many octets, put at a place. TooLong: there are more than four, or too few for the number.
-pub fn put_number(out: &mut [u8], at: usize, width: usize, n: u32) -> Put
-    ensures { λ r. ⌜ Puts (fitsWidth width n) (digits width n) at (now (out .entry)) (now (out .exit)) r ⌝ }
+pub fn put_number(out: &mut [u8], at: usize, width: Octets, n: u32) -> Put
+    ensures { λ r. ⌜ Puts (fitsWidth (width .0) n) (digits (width .0) n) at (now (out .entry)) (now (out .exit)) r ⌝ }
 {
     if !fits_width(width, n) {
         return Put::TooLong;
     }
-    let End::Within(end) = end_of(out.len(), at, width) else {
+    let End::Within(end) = end_of(Octets(out.len()), at, width) else {
         return Put::NoRoom;
     };
     store_number(out, at, width, n);
     Put::Done(end)
 }
 
-fn fits_width(width: usize, n: u32) -> bool
-    ensures { λ r. ⌜ r ≡ fitsWidth width n ⌝ }
+fn fits_width(width: Octets, n: u32) -> bool
+    ensures { λ r. ⌜ r ≡ fitsWidth (width .0) n ⌝ }
 {
-    if width > 4 {
+    if width.0 > 4 {
         return false;
     }
-    (n as u64) >> (8 * width) == 0
+    (n as u64) >> (8 * width.0) == 0
 }
 
-fn store_number(out: &mut [u8], at: usize, width: usize, n: u32)
-    requires { ⌜ width ≤ 4 ⌝ }
-    requires { ⌜ n < 256 ^ width ⌝ }
-    requires { ⌜ at + width ≤ length (now out) ⌝ }
-    ensures { λ _. ⌜ now (out .exit) ≡ sets (now (out .entry)) at (digits width n) ⌝ }
+fn store_number(out: &mut [u8], at: usize, width: Octets, n: u32)
+    requires { ⌜ width .0 ≤ 4 ⌝ }
+    requires { ⌜ n < 256 ^ width .0 ⌝ }
+    requires { ⌜ at + width .0 ≤ length (now out) ⌝ }
+    ensures { λ _. ⌜ now (out .exit) ≡ sets (now (out .entry)) at (digits (width .0) n) ⌝ }
 {
     let mut to = at;
-    let mut left = width;
+    let mut left = width.0;
     while 0 < left {
         left = left - 1;
         out[to] = digit(n, left);
@@ -219,7 +225,7 @@ fn digit(n: u32, place: usize) -> u8
 pub fn copy_into(out: &mut [u8], at: usize, s: &[u8]) -> Put
     ensures { λ r. ⌜ Puts true (now (s .entry)) at (now (out .entry)) (now (out .exit)) r ⌝ }
 {
-    let End::Within(end) = end_of(out.len(), at, s.len()) else {
+    let End::Within(end) = end_of(Octets(out.len()), at, Octets(s.len())) else {
         return Put::NoRoom;
     };
     copy(out, at, s);
@@ -238,14 +244,14 @@ fn copy(out: &mut [u8], at: usize, s: &[u8])
 }
 
 // Where so many octets put at a place end, if that is within the room. No sum is made before it is known to fit.
-fn end_of(room: usize, at: usize, size: usize) -> End
-    ensures { λ r. ⌜ r ≡ endOf room at size ⌝ }
+fn end_of(room: Octets, at: usize, size: Octets) -> End
+    ensures { λ r. ⌜ r ≡ endOf (room .0) at (size .0) ⌝ }
 {
-    if at > room {
+    if at > room.0 {
         return End::Outside;
     }
-    if size > room - at {
+    if size.0 > room.0 - at {
         return End::Outside;
     }
-    End::Within(at + size)
+    End::Within(at + size.0)
 }

@@ -4,10 +4,10 @@ use Rattle.octets.proofs.store_number.Statement.{statement}
 use Rattle.octets.proofs.store_number.Tie as tie
 
 abbrev Inv-loop : tie.InvT-loop
-Inv-loop out₀ at width n to₀ left₀ out to left = Storing out₀ at width n out to left
+Inv-loop out₀ at n to₀ left₀ out to left = Storing out₀ at left₀ n out to left
 
 abbrev μ-loop : tie.MeasureT-loop
-μ-loop out₀ at width n to₀ left₀ out to left = left
+μ-loop out₀ at n to₀ left₀ out to left = left
 
 loop-holds : tie.Need-loop-holds Inv-loop μ-loop
 loop-holds c = search (store-ways, needs)

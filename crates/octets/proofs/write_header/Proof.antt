@@ -29,7 +29,7 @@ slice-write-out c = search (write-ways, needs)
 
 add-store-length : tie.Need-add-store-length
 add-store-length c =
-    let a = c .before .before .before .before .before .before .before .before .args in
+    let a = c .before .before .before .before .before .before .before .before .before .args in
     let inside : a .at < length (a .out .now) = search (header-in, needs) in
     omega arith
 
