@@ -414,7 +414,7 @@ module _ (index table : List ℕ) (n : ℕ) (bound : Bounds index n) where
       omega
       (arith, stands-bound b, expanded-bound s, length-append (stands (entriesBy index table) b) (expanded (entriesBy index table) s), suc-mul (length s) n)
 
-  pub fits-surely : (s : List ℕ) (room : ℕ) → length s ≤ room / n → true ≡ leb (expandedSize (entriesBy index table) s) room
+  pub fits-surely : (s : List ℕ) (room : ℕ) → length s ≤ room / n → true ≡ leb (expandedSize (entriesBy index table) s .0) room
   unfolding expandedSize
   fits-surely s room h =
       let all : length s * n ≤ room = le-div-iff-mul-le (bound .some) .0 h in

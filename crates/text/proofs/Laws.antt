@@ -8,6 +8,7 @@ use lib.ListN.{length, length-append}
 use lib.Seq.{sets}
 use borrow.Author.Tests.{leb-true, leb-false}
 use Rattle.octets.proofs.Tests.{and-left, and-right}
+use Rattle.octets.specs.Counts.{sizeOf}
 use Rattle.text.specs.Text.{token, utf8, text}
 use Rattle.text.specs.Tokens.{Entries, entry, stands, expanded, present, covers, covered, shownLength, expandedSize}
 use Rattle.text.specs.Calls.{expandFits, expandAnswer, expandOut, ExpandClaim}
@@ -31,7 +32,7 @@ unfolding expanded
 expanded-append es [] b = refl
 expanded-append es (c ∷ a) b = rw (expanded-append es a b, append-assoc (stands es c) (expanded es a) (expanded es b))
 
-pub expandedSize-append : (es : Entries) (a b : List ℕ) → expandedSize es (a ++ b) ≡ expandedSize es a + expandedSize es b
+pub expandedSize-append : (es : Entries) (a b : List ℕ) → expandedSize es (a ++ b) .0 ≡ expandedSize es a .0 + expandedSize es b .0
 unfolding expandedSize
 expandedSize-append es a b = ap length (expanded-append es a b) ∙ length-append (expanded es a) (expanded es b)
 
@@ -49,9 +50,9 @@ unfolding covered expanded stands
 bare-expanded es [] h = refl
 bare-expanded es (b ∷ s) h = rw (bare-octet b (and-left (covers [] b) (covered [] s) h), bare-expanded es s (and-right (covers [] b) (covered [] s) h))
 
-pub bare-size : (es : Entries) (s : List ℕ) → covered [] s ≡ true → expandedSize es s ≡ length s
+pub bare-size : (es : Entries) (s : List ℕ) → covered [] s ≡ true → expandedSize es s ≡ sizeOf s
 unfolding expandedSize
-bare-size es s h = ap length (bare-expanded es s h)
+bare-size es s h = ap sizeOf (bare-expanded es s h)
 
 pub bare-shown : (es : Entries) (s : List ℕ) → covered [] s ≡ true → shownLength es s ≡ shownLength [] s
 unfolding shownLength

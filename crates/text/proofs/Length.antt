@@ -49,6 +49,6 @@ pub short-entries : (o : List ℕ) → Octets o → Short (entries o)
 unfolding entries
 short-entries o os = short-cut (suc (length o)) o os
 
-pub expansion-bound : (table o : List ℕ) → Octets table → expandedSize (entries table) o ≤ 255 * length o
+pub expansion-bound : (table o : List ℕ) → Octets table → expandedSize (entries table) o .0 ≤ 255 * length o
 unfolding expandedSize
 expansion-bound table o os = expanded-length (entries table) (short-entries table os) o

@@ -12,3 +12,4 @@ pub mod RunLaws
 pub mod WeighLaws
 pub mod Sixteen
 pub mod Wrong
+pub mod Counted

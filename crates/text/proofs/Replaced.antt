@@ -16,10 +16,13 @@ use borrow.Author.Tests.{le-leb, lt-leb, leb-true, leb-false, eq-eqb, eqb-true, 
 use Rattle.octets.specs.Numbers.{among}
 use Rattle.octets.proofs.Tests.{and-left, and-right, and-true, or-elim, or-left, or-true}
 use Rattle.text.specs.Text.{token}
+use Rattle.octets.specs.declared.counts.Octets.{Octets}
+use Rattle.octets.specs.declared.counts.Characters.{Characters}
+use Rattle.octets.specs.Counts.{asOctets, charactersWithin}
 use Rattle.text.specs.Tokens.{Entries, entry, stands, expanded, present, covers, covered, shownLength, expandedSize}
 use Rattle.text.specs.Calls.{expandFits, expandAnswer, expandOut}
 use Rattle.text.specs.Leaves.{tokenBit}
-use Rattle.text.specs.Weighing.{bit, Marks, tags, Widths, widthAt, weight}
+use Rattle.text.specs.Weighing.{bit, Marks, tags, Shows, widthAt, weight, shownAt, shownBy}
 use Rattle.text.specs.Index.{placeBy, entriesBy}
 use Rattle.text.specs.Runs.{UntokenedTo}
 use Rattle.text.specs.declared.Expanded.the-variants.{Done, NoRoom}
@@ -28,8 +31,8 @@ use Rattle.text.specs.declared.expanding.Found.the-variants.{At, Nothing
 use Rattle.octets.proofs.Lists.{drop-next, sets-append}
 use Rattle.text.proofs.Masks.{bit-none, kept-within, within-kept, Marking, mark-begin, mark-done, mark-more}
 use Rattle.text.proofs.Index.{self-by, part-by, inside-by, width-by}
-use Rattle.text.proofs.Widths.{width-none, width-next, width-eight, weight-is}
-use Rattle.text.proofs.RunLaws.{run-length, expanded-run, expanded-length-run, shown-run, weight-run}
+use Rattle.text.proofs.Widths.{width-none, width-next, width-eight, shown-none, shown-next, shown-is}
+use Rattle.text.proofs.RunLaws.{run-length, expanded-run, expanded-length-run, weight-run}
 
 -- ---- the loop of `tokens_in`
 pub record Gathering (s : List ℕ) (mask at : ℕ) : Type 0 where
@@ -117,7 +120,7 @@ module _ (es : Entries) (s : List ℕ) (used : ℕ) (m : Marks used s) where
 
 pub ruleset covered-ways = (covered-none, covered-some)
 
--- ---- the loops of `fits_singly` and `fits_from`: `left` of the limit is left for what is left of the text
+-- ---- the loop of `shows_within`: `left` of the limit is left for what is left of the text
 leb-left : (n m l : ℕ) → n ≤ l → leb (n + m) l ≡ leb m (l - n)
 leb-left n m l h = go (leb m (l - n)) refl
   where
@@ -125,72 +128,31 @@ leb-left n m l h = go (leb m (l - n)) refl
     go true e = le-leb (n + m) l (omega (arith, leb-true m (l - n) e))
     go false e = lt-leb (n + m) l (omega (arith, leb-false m (l - n) e))
 
-pub record Fitting (w s : List ℕ) (from limit left at : ℕ) : Type 0 where
+pub record Fitting (w s : List ℕ) (limit left at : ℕ) : Type 0 where
   pub within : at ≤ length s
-  pub same : leb (weight w (drop from s)) limit ≡ leb (weight w (drop at s)) left
+  pub same : leb (shownBy w s) limit ≡ leb (shownBy w (drop at s)) left
 
-module _ (w s : List ℕ) (from limit : ℕ) where
-  pub fit-begin : from ≤ length s → Fitting w s from limit limit from
-  fit-begin h = record { within = h; same = refl }
+module _ (w s : List ℕ) (limit : ℕ) where
+  pub fit-begin : Fitting w s limit limit 0
+  fit-begin = record { within = omega arith; same = refl }
 
-  module _ (left at : ℕ) (inv : Fitting w s from limit left at) where
-    pub fit-done : length s ≤ at → true ≡ leb (weight w (drop from s)) limit
-    fit-done h = sym (inv .same ∙ le-leb (weight w (drop at s)) left (omega (arith, width-none w s at h)))
+  module _ (left at : ℕ) (inv : Fitting w s limit left at) where
+    pub fit-done : length s ≤ at → true ≡ leb (shownBy w s) limit
+    fit-done h = sym (inv .same ∙ le-leb (shownBy w (drop at s)) left (omega (arith, shown-none w s at h)))
 
-    pub fit-rest : (r : Bool) → r ≡ leb (weight w (drop at s)) left → r ≡ leb (weight w (drop from s)) limit
-    fit-rest r e = e ∙ sym (inv .same)
+    module _ (h : at < length s) (size : ℕ) (e : size ≡ shownAt w (getD s at 0)) where
+      pub fit-stop : left < size → false ≡ leb (shownBy w s) limit
+      fit-stop g = sym (inv .same ∙ lt-leb (shownBy w (drop at s)) left (omega (arith, shown-next w s at h size e)))
 
-    -- so many octets more, and their width
-    module _ (n size : ℕ) (next : weight w (drop at s) ≡ size + weight w (drop (at + n) s)) where
-      step-stop : left < size → false ≡ leb (weight w (drop from s)) limit
-      step-stop g = sym (inv .same ∙ lt-leb (weight w (drop at s)) left (omega (arith, next)))
-
-      step-again : at + n ≤ length s → size ≤ left → Fitting w s from limit (left - size) (at + n)
-      step-again h g = record { within = h; same = inv .same ∙ rw next (leb-left size (weight w (drop (at + n) s)) left g) }
-
-    module _ (h : at < length s) (size : ℕ) (e : size ≡ widthAt w (getD s at 0) 1) where
-      pub fit-stop : left < size → false ≡ leb (weight w (drop from s)) limit
-      fit-stop = step-stop 1 size (width-next w s at h size e)
-
-      pub fit-again : size ≤ left → Fitting w s from limit (left - size) (at + 1)
-      fit-again = step-again 1 size (width-next w s at h size e) (omega arith)
-
-    module _ (h : 8 ≤ length s - at) (size : ℕ) (e : size ≡ weight w (take 8 (take (length s - at) (drop at s)))) where
-      pub fit-eight-stop : left < size → false ≡ leb (weight w (drop from s)) limit
-      fit-eight-stop = step-stop 8 size (width-eight w s at size e)
-
-      pub fit-eight-again : size ≤ left → Fitting w s from limit (left - size) (at + 8)
-      fit-eight-again = step-again 8 size (width-eight w s at size e) (omega arith)
+      pub fit-again : size ≤ left → Fitting w s limit (left - size) (at + 1)
+      fit-again g = record { within = omega arith; same = inv .same ∙ rw (shown-next w s at h size e) (leb-left size (shownBy w (drop (at + 1) s)) left g) }
 
 pub ruleset fit-ways = (fit-begin, fit-done, fit-stop, fit-again)
 
-pub ruleset fit-eight-ways = (fit-begin, fit-rest, fit-eight-stop, fit-eight-again)
-
 -- ---- `is_shown`
-module _ (es : Entries) (s : List ℕ) (limit : ℕ) where
-  pub shown-none : length s ≡ 0 → true ≡ leb (shownLength es s) limit
-  unfolding shownLength expanded
-  shown-none e = let none : length s ≤ 0 = omega arith in sym (ap (λ q. leb (shownLength es q) limit) (drop-of-length-le s none) ∙ le-leb 0 limit (omega arith))
-
-  module _ (from : ℕ) (run : UntokenedTo s 0 from) where
-    pub shown-past : limit < from → false ≡ leb (shownLength es s) limit
-    shown-past g = sym (lt-leb (shownLength es s) limit (omega (arith, shown-run es s 0 from run)))
-
-    module _ (g : from ≤ limit) where
-      shown-behind : leb (shownLength es s) limit ≡ leb (shownLength es (drop from s)) (limit - from)
-      shown-behind = let size : from - 0 ≡ from = omega arith in rw (shown-run es s 0 from run, size) (leb-left from (shownLength es (drop from s)) limit g)
-
-      pub shown-end : from ≡ length s → true ≡ leb (shownLength es s) limit
-      unfolding shownLength expanded
-      shown-end e =
-          let none : length s ≤ from = omega arith in
-          sym (shown-behind ∙ ap (λ q. leb (shownLength es q) (limit - from)) (drop-of-length-le s none) ∙ le-leb 0 (limit - from) (omega arith))
-
-      pub shown-from : (w : List ℕ) → Widths 32 es w → (r : Bool) → r ≡ leb (weight w (drop from s)) (limit - from) → r ≡ leb (shownLength es s) limit
-      unfolding shownLength
-      shown-from w widths r e = e ∙ rw (weight-is es w widths (drop from s)) (sym shown-behind)
-
-pub ruleset shown-ways = (shown-none, shown-past, shown-end, shown-from)
+pub shown-fits : (es : Entries) (w s : List ℕ) (limit : Characters) → Shows 32 es w → (r : Bool) → r ≡ leb (shownBy w s) (limit .0) → r ≡ charactersWithin (shownLength es s) limit
+unfolding shownLength
+shown-fits es w s limit counts r e = e ∙ ap (λ n. leb n (limit .0)) (shown-is es w counts s)
 
 -- ---- the loops of `size_singly` and `size_from`: what is added up so far, and the width of what is left of the text
 pub record Sizing (w s : List ℕ) (whole most total at : ℕ) : Type 0 where
@@ -211,7 +173,7 @@ module _ (w s : List ℕ) (most : ℕ) where
     pub size-rest : (r : ℕ) → r ≡ min most (total + weight w (drop at s)) → r ≡ min most whole
     size-rest r e = e ∙ ap (min most) (inv .same)
 
-    module _ (h : at < length s) (size : ℕ) (e : size ≡ widthAt w (getD s at 0) 1) where
+    module _ (h : at < length s) (size : ℕ) (e : size ≡ widthAt w (getD s at 0)) where
       pub size-stop : most - total ≤ size → most ≡ min most whole
       size-stop g = sym (min-eq-left (omega (arith, inv .short, inv .same, width-next w s at h size e)))
 
@@ -230,25 +192,26 @@ pub ruleset size-ways = (size-begin, size-done, size-stop, size-again)
 pub ruleset size-eight-ways = (size-begin, size-rest, size-eight-stop, size-eight-again)
 
 -- ---- `expanded_size`
-module _ (w s : List ℕ) (most : ℕ) where
-  pub sized-none : length s ≡ 0 → 0 ≡ min most (weight w s)
+module _ (w s : List ℕ) (most : Octets) where
+  pub sized-none : length s ≡ 0 → asOctets 0 ≡ asOctets (min (most .0) (weight w s))
   unfolding weight
-  sized-none e = let none : length s ≤ 0 = omega arith in sym (ap (λ q. min most (weight w q)) (drop-of-length-le s none) ∙ min-eq-right (omega arith))
+  sized-none e =
+      let none : length s ≤ 0 = omega arith in ap asOctets (sym (ap (λ q. min (most .0) (weight w q)) (drop-of-length-le s none) ∙ min-eq-right (omega arith)))
 
   module _ (from : ℕ) (run : UntokenedTo s 0 from) where
-    pub sized-past : most ≤ from → most ≡ min most (weight w s)
-    sized-past g = sym (min-eq-left (omega (arith, weight-run w s 0 from run)))
+    pub sized-past : most .0 ≤ from → most ≡ asOctets (min (most .0) (weight w s))
+    sized-past g = ap asOctets (sym (min-eq-left (omega (arith, weight-run w s 0 from run))))
 
-    pub sized-end : from < most → from ≡ length s → from ≡ min most (weight w s)
+    pub sized-end : from < most .0 → from ≡ length s → asOctets from ≡ asOctets (min (most .0) (weight w s))
     unfolding weight
     sized-end g e =
         let behind : length s ≤ from = omega arith in
         let none : weight w (drop from s) ≡ 0 = ap (weight w) (drop-of-length-le s behind) in
         let all : from ≡ weight w s = omega (arith, weight-run w s 0 from run) in
-        sym (min-eq-right (omega arith) ∙ sym all)
+        ap asOctets (sym (min-eq-right (omega arith) ∙ sym all))
 
-    pub sized-from : (r : ℕ) → r ≡ min most (from + weight w (drop from s)) → r ≡ min most (weight w s)
-    sized-from r e = e ∙ ap (min most) (omega (arith, weight-run w s 0 from run))
+    pub sized-from : (r : Octets) → r .0 ≡ min (most .0) (from + weight w (drop from s)) → r ≡ asOctets (min (most .0) (weight w s))
+    sized-from r e = ap asOctets (e ∙ ap (min (most .0)) (omega (arith, weight-run w s 0 from run)))
 
 pub ruleset sized-ways = (sized-none, sized-past, sized-end, sized-from)
 
@@ -387,28 +350,28 @@ pub ruleset write-ways = (write-begin, write-done, write-done-at, copy-room, wri
 pub record Adding (es : Entries) (s : List ℕ) (most total at : ℕ) : Type 0 where
   pub within : at ≤ length s
   pub short : total ≤ most
-  pub same : total + expandedSize es (drop at s) ≡ expandedSize es s
+  pub same : total + expandedSize es (drop at s) .0 ≡ expandedSize es s .0
 
 module _ (es : Entries) (s : List ℕ) (most : ℕ) where
   pub add-begin : Adding es s most 0 0
   add-begin = record { within = omega arith; short = omega arith; same = omega arith }
 
   module _ (total at : ℕ) (inv : Adding es s most total at) where
-    pub add-done : length s ≤ at → total ≡ min most (expandedSize es s)
+    pub add-done : length s ≤ at → total ≡ min most (expandedSize es s .0)
     unfolding expandedSize expanded
     add-done h =
-        let none : expandedSize es (drop at s) ≡ 0 = ap (expandedSize es) (drop-of-length-le s h) in
-        let all : total ≡ expandedSize es s = omega (arith, inv .same) in
+        let none : expandedSize es (drop at s) .0 ≡ 0 = ap (λ q. expandedSize es q .0) (drop-of-length-le s h) in
+        let all : total ≡ expandedSize es s .0 = omega (arith, inv .same) in
         sym (min-eq-right (omega (arith, inv .short)) ∙ sym all)
 
     module _ (h : at < length s) (size : ℕ) (e : size ≡ length (stands es (getD s at 0))) where
-      next-size : expandedSize es (drop at s) ≡ size + expandedSize es (drop (at + 1) s)
+      next-size : expandedSize es (drop at s) .0 ≡ size + expandedSize es (drop (at + 1) s) .0
       unfolding expandedSize expanded
       next-size =
           ap (λ q. length (expanded es q)) (drop-next s at 0 h)
           ∙ length-append (stands es (getD s at 0)) (expanded es (drop (at + 1) s)) ∙ rw (← e)
 
-      pub add-stop : most - total ≤ size → most ≡ min most (expandedSize es s)
+      pub add-stop : most - total ≤ size → most ≡ min most (expandedSize es s .0)
       add-stop g = sym (min-eq-left (omega (arith, inv .short, inv .same, next-size)))
 
       pub add-again : size < most - total → Adding es s most (total + size) (at + 1)
@@ -417,15 +380,15 @@ module _ (es : Entries) (s : List ℕ) (most : ℕ) where
 pub ruleset add-ways = (add-begin, add-done, add-stop, add-again)
 
 -- ---- `fits`
-pub fits-measured : (es : Entries) (s : List ℕ) (room n : ℕ) → n ≡ min (room + 1) (expandedSize es s) → leb n room ≡ leb (expandedSize es s) room
-fits-measured es s room n e = go (leb (expandedSize es s) room) refl
+pub fits-measured : (es : Entries) (s : List ℕ) (room n : ℕ) → n ≡ min (room + 1) (expandedSize es s .0) → leb n room ≡ leb (expandedSize es s .0) room
+fits-measured es s room n e = go (leb (expandedSize es s .0) room) refl
   where
-    go : (b : Bool) → leb (expandedSize es s) room ≡ b → leb n room ≡ b
+    go : (b : Bool) → leb (expandedSize es s .0) room ≡ b → leb n room ≡ b
     go true q =
-        let short : expandedSize es s ≤ room = leb-true (expandedSize es s) room q in
+        let short : expandedSize es s .0 ≤ room = leb-true (expandedSize es s .0) room q in
         le-leb n room (omega (arith, e ∙ min-eq-right (omega arith)))
     go false q =
-        let long : room < expandedSize es s = omega (arith, leb-false (expandedSize es s) room q) in
+        let long : room < expandedSize es s .0 = omega (arith, leb-false (expandedSize es s .0) room q) in
         lt-leb n room (omega (arith, e ∙ min-eq-left (omega arith)))
 
 -- ---- `expand`
@@ -448,10 +411,10 @@ module _ (es : Entries) (s out : List ℕ) (at : ℕ) where
   pub outside-kept : length out < at → out ≡ expandOut es s out at
   outside-kept h = none-kept (omega arith)
 
-  module _ (h : at ≤ length out) (fit : Bool) (e : fit ≡ leb (expandedSize es s) (length out - at)) where
+  module _ (h : at ≤ length out) (fit : Bool) (e : fit ≡ leb (expandedSize es s .0) (length out - at)) where
     past : fit ≡ false → length out < at + length (expanded es s)
     unfolding expandedSize
-    past n = omega (arith, leb-false (expandedSize es s) (length out - at) (sym e ∙ n))
+    past n = omega (arith, leb-false (expandedSize es s .0) (length out - at) (sym e ∙ n))
 
     pub long-told : fit ≡ false → NoRoom ≡ expandAnswer es s out at
     long-told n = none-told (past n)
@@ -462,7 +425,7 @@ module _ (es : Entries) (s out : List ℕ) (at : ℕ) where
     module _ (y : fit ≡ true) where
       pub expand-room : at + length (expanded es s) ≤ length out
       unfolding expandedSize
-      expand-room = omega (arith, leb-true (expandedSize es s) (length out - at) (sym e ∙ y))
+      expand-room = omega (arith, leb-true (expandedSize es s .0) (length out - at) (sym e ∙ y))
 
       has-room : expandFits es s out at ≡ true
       unfolding expandFits

@@ -1,5 +1,5 @@
 -- Runs of octets: how the code finds where they end, what a text is without one, and the loop of `check`, which passes over them.
-use Prim.Native.Nat.{ℕ, zero, suc, _+_, _-_, _≤_, _<_}
+use Prim.Native.Nat.{ℕ, zero, suc, _+_, _-_, _/_, _≤_, _<_}
 use mathlib.Core.Path.{_≡_, refl, sym, ap, ap₂, subst, _∙_}
 use mathlib.Core.List.{List, [], _∷_, _++_}
 use mathlib.Core.Bool.{Bool, true, false, _&&_}
@@ -11,11 +11,11 @@ use borrow.Author.Tests.{leb-true}
 use Rattle.octets.proofs.Tests.{and-left, and-right, and-true}
 use Rattle.octets.proofs.Lists.{part-to-end, part-split, length-part, drop-next}
 use Rattle.text.specs.Text.{utf8, text}
-use Rattle.text.specs.Tokens.{Entries, expanded, covered, shownLength}
+use Rattle.text.specs.Tokens.{Entries, expanded, covered}
 use Rattle.text.specs.Leaves.{onward, Steps}
 use Rattle.text.specs.Runs.{within, allWithin, RunTo, PlainTo, UntokenedTo}
-use Rattle.text.specs.Weighing.{widthAt, weight}
-use Rattle.text.proofs.Widths.{width-high}
+use Rattle.text.specs.Weighing.{weight, shownBy}
+use Rattle.text.proofs.Widths.{width-high, shown-on, shown-first}
 use Rattle.text.proofs.Words.{high-octet, covered-cons}
 use Rattle.text.proofs.Laws.{ascii-text, expanded-append, bare-expanded}
 
@@ -149,9 +149,25 @@ run-weight w least most high [] r h = omega arith
 run-weight w least most high (b ∷ p) r h =
     omega (
       arith,
-      width-high w b 1 (omega (arith, bounds least most b (and-left (within least most b) (allWithin least most p) h) .0)),
+      width-high w b (omega (arith, bounds least most b (and-left (within least most b) (allWithin least most p) h) .0)),
       run-weight w least most high p r (and-right (within least most b) (allWithin least most p) h),
     )
+
+-- of octets that are text by themselves each is a character, and of those that go on with one none is
+pub run-shown : (w p r : List ℕ) → allWithin 0x20 0x7F p ≡ true → shownBy w (p ++ r) ≡ length p + shownBy w r
+unfolding allWithin shownBy
+run-shown w [] r h = omega arith
+run-shown w (b ∷ p) r h =
+    let k = bounds 0x20 0x7F b (and-left (within 0x20 0x7F b) (allWithin 0x20 0x7F p) h) in
+    omega (arith, shown-first w b (omega arith) (λ e. omega arith), run-shown w p r (and-right (within 0x20 0x7F b) (allWithin 0x20 0x7F p) h))
+
+pub tail-shown : (w p r : List ℕ) → allWithin 0x80 0xBF p ≡ true → shownBy w (p ++ r) ≡ shownBy w r
+unfolding allWithin shownBy
+tail-shown w [] r h = refl
+tail-shown w (b ∷ p) r h =
+    let k = bounds 0x80 0xBF b (and-left (within 0x80 0xBF b) (allWithin 0x80 0xBF p) h) in
+    let two : b / 64 ≡ 2 = omega arith in
+    omega (arith, shown-on w b (omega arith) two, tail-shown w p r (and-right (within 0x80 0xBF b) (allWithin 0x80 0xBF p) h))
 
 pub weight-run : (w s : List ℕ) (at end : ℕ) → UntokenedTo s at end → weight w (drop at s) ≡ end - at + weight w (drop end s)
 weight-run w s at end run =
@@ -173,10 +189,6 @@ module _ (es : Entries) (s : List ℕ) (at end : ℕ) (run : UntokenedTo s at en
   expanded-length-run =
       ap length expanded-run
       ∙ length-append (take (end - at) (drop at s)) (expanded es (drop end s)) ∙ ap (λ (n : ℕ). n + length (expanded es (drop end s))) (run-length 0x14 0xFF s at end run)
-
-  pub shown-run : shownLength es (drop at s) ≡ end - at + shownLength es (drop end s)
-  unfolding shownLength
-  shown-run = expanded-length-run
 
 -- ---- the loop of `check`
 pub record Holds (t : Bool) (s : List ℕ) (at : ℕ) : Type 0 where

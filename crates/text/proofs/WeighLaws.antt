@@ -1,32 +1,35 @@
--- A text weighed in one look: what the definitions are on each way through src/weighing.rt, that by the marks and widths of a table they say what rules 12 and
--- 13 say by its entries, and that a table has only one mask of marks and one list of widths.
+-- A text weighed in one look: what the definitions are on each way through src/weighing.rt, that by the marks and counts of a table they say what rules 12 and
+-- 13 say by its entries, and that a table has only one mask of marks, one list of widths and one of counts.
 use Prim.Native.Nat.{ℕ, zero, suc, _+_, _-_, _^_, _≤_, _<_, min}
 use mathlib.Core.Path.{_≡_, refl, sym, ap, ap₂, subst, _∙_}
 use mathlib.Core.List.{List, [], _∷_, _++_}
 use mathlib.Core.Bool.{Bool, true, false, cond, not, _&&_, _||_, false≢true}
-use lib.ListN.{length, getD, take, drop, length-drop, length-append, drop-of-length-le, take-append-drop}
-use lib.Seq.{drop-drop, getD-drop, length-take-le}
-use lib.Dec.{eqb, leb, ltb}
+use lib.ListN.{length, getD, take, drop, length-drop, drop-of-length-le, take-append-drop}
+use lib.Seq.{drop-drop, getD-drop}
+use lib.Dec.{eqb, leb}
 use lib.Bits.{bitAnd, and-comm}
 use native.Mathlib.Nat.{add-zero, min-eq-left, min-eq-right}
 use native.Mathlib.Omega.{arith}
 use mir.Val.{Fits}
 use mir.Syntax.{w64}
-use borrow.Author.Tests.{leb-true, leb-false, lt-ltb, le-ltb, ltb-true, ltb-false, eq-eqb, eqb-true, eqb-false}
+use borrow.Author.Tests.{leb-true, leb-false, eq-eqb, eqb-true, eqb-false}
+use Rattle.octets.specs.declared.counts.Characters.{Characters}
+use Rattle.octets.specs.Counts.{asCharacters}
 use Rattle.octets.proofs.Tests.{and-left, and-right, and-true}
 use Rattle.octets.proofs.Lists.{part-to-end}
 use Rattle.text.specs.Text.{token, text}
-use Rattle.text.specs.Tokens.{Entries, entry, stands, expanded, present, covers, covered, shownLength}
+use Rattle.text.specs.Tokens.{Entries, entry, present, covers, covered, shownLength}
 use Rattle.text.specs.Leaves.{tokenBit, Steps}
 use Rattle.text.specs.Runs.{within, allWithin, PlainTo}
-use Rattle.text.specs.Weighing.{bit, tags, Marks, Widths, marked, coveredBy, widthAt, weight, weighedBy}
+use Rattle.text.specs.Weighing.{bit, tags, Marks, WidthsBy, Shows, marked, coveredBy, shownAt, shownBy, weighedBy}
+use Rattle.text.specs.declared.tables.Measure.{Measure}
 use Rattle.text.specs.declared.Weighed.{Weighed}
 use Rattle.text.specs.declared.Weighed.the-variants.{NoText, Text}
 use Rattle.text.proofs.Words.{high-octet}
 use Rattle.text.proofs.Masks.{bit-none, mark-one, kept-within, within-kept}
-use Rattle.text.proofs.Widths.{weight-is}
+use Rattle.text.proofs.Widths.{shown-is}
 use Rattle.text.proofs.Replaced.{tag-present}
-use Rattle.text.proofs.RunLaws.{and-assoc, run-split, run-length, run-weight, bounds, Holds, check-done, check-stop, check-again, behind}
+use Rattle.text.proofs.RunLaws.{and-assoc, run-split, run-length, run-shown, tail-shown, bounds, Holds, check-done, check-stop, check-again, behind}
 
 -- ---- `is_marked`
 own-bit : (b t : ℕ) → bit (tokenBit b) t ≡ token t && eqb t b
@@ -79,22 +82,11 @@ module _ (marks : ℕ) (w q : List ℕ) (n : ℕ) (step : Steps true q n) (h : 0
       ap (coveredBy marks) (first-split q n h e)
       ∙ ap (λ c. marked marks (getD q 0 0) && c) (run-covered marks 0x80 0xBF (omega arith) (take (n - 1) (drop 1 q)) (drop n q) (step .high))
 
-  tail-length : length (take (n - 1) (drop 1 q)) ≡ n - 1
-  tail-length = length-take-le (n - 1) (drop 1 q) (omega (arith, step .within, length-drop 1 q))
-
-  first-width : widthAt w (getD q 0 0) 1 + (n - 1) ≡ widthAt w (getD q 0 0) n
-  unfolding widthAt
-  first-width = go (ltb (getD q 0 0) 0x14) refl
-    where
-      go : (l : Bool) → ltb (getD q 0 0) 0x14 ≡ l → cond l (getD w (getD q 0 0) 0) 1 + (n - 1) ≡ cond l (getD w (getD q 0 0) 0) n
-      go true p = omega (arith, step .low (omega (arith, ltb-true (getD q 0 0) 0x14 p)))
-      go false p = omega (arith, e)
-
-  first-weighs : weight w q ≡ widthAt w (getD q 0 0) n + weight w (drop n q)
-  unfolding weight
+  first-weighs : shownBy w q ≡ shownAt w (getD q 0 0) + shownBy w (drop n q)
+  unfolding shownBy
   first-weighs =
-      ap (weight w) (first-split q n h e)
-      ∙ omega (arith, run-weight w 0x80 0xBF (omega arith) (take (n - 1) (drop 1 q)) (drop n q) (step .high), tail-length, first-width)
+      ap (shownBy w) (first-split q n h e)
+      ∙ ap (λ m. shownAt w (getD q 0 0) + m) (tail-shown w (take (n - 1) (drop 1 q)) (drop n q) (step .high))
 
 -- ---- sums that stop
 pub min-again : (most a b : ℕ) → min most (min most a + b) ≡ min most (a + b)
@@ -130,56 +122,56 @@ pub record Weighing (marks : ℕ) (w s : List ℕ) (most at : ℕ) (covers : Boo
   pub same : text true s ≡ text true (drop at s)
   pub short : width ≤ most
   pub covering : coveredBy marks s ≡ covers && coveredBy marks (drop at s)
-  pub weighing : min most (weight w s) ≡ min most (width + weight w (drop at s))
+  pub weighing : min most (shownBy w s) ≡ min most (width + shownBy w (drop at s))
 
 and-one : (a : Bool) → a && true ≡ a
 and-one true = refl
 and-one false = refl
 
-module _ (marks : ℕ) (w s : List ℕ) (most : ℕ) where
-  pub weigh-begin : Weighing marks w s most 0 true 0
-  weigh-begin = record { within = omega arith; same = refl; short = omega arith; covering = refl; weighing = ap (min most) (omega arith) }
+module _ (marks : ℕ) (w s : List ℕ) (lim : Characters) where
+  pub weigh-begin : Weighing marks w s (lim .0) 0 true 0
+  weigh-begin = record { within = omega arith; same = refl; short = omega arith; covering = refl; weighing = ap (min (lim .0)) (omega arith) }
 
-  module _ (at : ℕ) (covers : Bool) (width : ℕ) (inv : Weighing marks w s most at covers width) where
+  module _ (at : ℕ) (covers : Bool) (shown : Characters) (inv : Weighing marks w s (lim .0) at covers (shown .0)) where
     in-text : Holds true s at
     in-text = record { within = inv .within; same = inv .same }
 
-    pub weigh-done : length s ≤ at → Text covers width ≡ weighedBy marks w s most
-    unfolding weighedBy coveredBy weight
+    pub weigh-done : length s ≤ at → Text covers shown ≡ weighedBy marks w s lim
+    unfolding weighedBy coveredBy shownBy
     weigh-done h =
         let none = drop-of-length-le s h in
         let c : coveredBy marks s ≡ covers = inv .covering ∙ ap (λ q. covers && coveredBy marks q) none ∙ and-one covers in
-        let k : min most (weight w s) ≡ width =
-        inv .weighing ∙ ap (λ q. min most (width + weight w q)) none ∙ ap (min most) (add-zero width) ∙ min-eq-right (inv .short) in
+        let k : min (lim .0) (shownBy w s) ≡ shown .0 =
+        inv .weighing ∙ ap (λ q. min (lim .0) (shown .0 + shownBy w q)) none ∙ ap (min (lim .0)) (add-zero (shown .0)) ∙ min-eq-right (inv .short) in
         rw (← check-done true s at in-text h, c, k)
 
-  module _ (at : ℕ) (covers : Bool) (width : ℕ) (inv : Weighing marks w s most at covers width) where
-    module _ (from : ℕ) (run : PlainTo s at from) (before : ℕ) (e : before ≡ min most (width + (from - at))) (g : before ≤ most) where
-      weigh-behind : Weighing marks w s most from covers before
+  module _ (at : ℕ) (covers : Bool) (shown : Characters) (inv : Weighing marks w s (lim .0) at covers (shown .0)) where
+    module _ (from : ℕ) (run : PlainTo s at from) (before : Characters) (e : before .0 ≡ min (lim .0) (shown .0 + (from - at))) (g : before .0 ≤ lim .0) where
+      weigh-behind : Weighing marks w s (lim .0) from covers (before .0)
       weigh-behind =
           let part = take (from - at) (drop at s) in
           let split = run-split 0x20 0x7F s at from run in
-          let more : width + weight w (drop at s) ≡ width + (from - at) + weight w (drop from s) =
-          omega (arith, ap (weight w) split ∙ run-weight w 0x20 0x7F (omega arith) part (drop from s) (run .all), run-length 0x20 0x7F s at from run) in
+          let more : shown .0 + shownBy w (drop at s) ≡ shown .0 + (from - at) + shownBy w (drop from s) =
+          omega (arith, ap (shownBy w) split ∙ run-shown w part (drop from s) (run .all), run-length 0x20 0x7F s at from run) in
           record {
             within = run .inside;
-            same = behind true s at from (in-text at covers width inv) run .same;
+            same = behind true s at from (in-text at covers shown inv) run .same;
             short = g;
             covering =
                 inv .covering
                 ∙ ap (λ c. covers && c) (ap (coveredBy marks) split ∙ run-covered marks 0x20 0x7F (omega arith) part (drop from s) (run .all));
             weighing =
-                inv .weighing ∙ ap (min most) more ∙ sym (min-again most (width + (from - at)) (weight w (drop from s)))
-                ∙ ap (λ (n : ℕ). min most (n + weight w (drop from s))) (sym e);
+                inv .weighing ∙ ap (min (lim .0)) more ∙ sym (min-again (lim .0) (shown .0 + (from - at)) (shownBy w (drop from s)))
+                ∙ ap (λ (n : ℕ). min (lim .0) (n + shownBy w (drop from s))) (sym e);
           }
 
-      pub weigh-end : from ≡ length s → Text covers before ≡ weighedBy marks w s most
+      pub weigh-end : from ≡ length s → Text covers before ≡ weighedBy marks w s lim
       weigh-end q = weigh-done from covers before weigh-behind (omega arith)
 
       module _ (n : ℕ) (step : Steps true (take (length s - from) (drop from s)) n) where
-        pub weigh-stop : n ≡ 0 → NoText ≡ weighedBy marks w s most
+        pub weigh-stop : n ≡ 0 → NoText ≡ weighedBy marks w s lim
         unfolding weighedBy
-        weigh-stop z = rw (← check-stop true s at from (in-text at covers width inv) run n step z)
+        weigh-stop z = rw (← check-stop true s at from (in-text at covers shown inv) run n step z)
 
         module _ (q : from ≡ length s → ⊥) (z : n ≡ 0 → ⊥) where
           some-left : 0 < length (drop from s)
@@ -191,12 +183,12 @@ module _ (marks : ℕ) (w s : List ℕ) (most : ℕ) where
           after : drop n (drop from s) ≡ drop (from + n) s
           after = drop-drop n from s
 
-          pub weigh-again : (m : Bool) → m ≡ marked marks (getD s from 0) → (more : ℕ) → more ≡ widthAt w (getD s from 0) n
-              → (k : ℕ) → k ≡ min most (before + more) → k ≤ most → Weighing marks w s most (from + n) (covers && m) k
+          pub weigh-again : (m : Bool) → m ≡ marked marks (getD s from 0) → (more : ℕ) → more ≡ shownAt w (getD s from 0)
+              → (k : ℕ) → k ≡ min (lim .0) (before .0 + more) → k ≤ lim .0 → Weighing marks w s (lim .0) (from + n) (covers && m) k
           weigh-again m f more d k l j =
               record {
                 within = step-inside s at from run n step;
-                same = check-again true s at from (in-text at covers width inv) run n step z .same;
+                same = check-again true s at from (in-text at covers shown inv) run n step z .same;
                 short = j;
                 covering =
                     weigh-behind .covering
@@ -205,17 +197,17 @@ module _ (marks : ℕ) (w s : List ℕ) (most : ℕ) where
                     ∙ ap₂ (λ b r. marked marks b && coveredBy marks r) first after ∙ ap (λ c. c && coveredBy marks (drop (from + n) s)) (sym f))
                     ∙ and-assoc covers m (coveredBy marks (drop (from + n) s));
                 weighing =
-                    let ahead : weight w (drop from s) ≡ more + weight w (drop (from + n) s) =
+                    let ahead : shownBy w (drop from s) ≡ more + shownBy w (drop (from + n) s) =
                     first-weighs marks w (drop from s) n (step-here s at from run n step) some-left z
-                    ∙ ap₂ (λ b r. widthAt w b n + weight w r) first after ∙ ap (λ (x : ℕ). x + weight w (drop (from + n) s)) (sym d) in
-                    let sum : before + weight w (drop from s) ≡ before + more + weight w (drop (from + n) s) = omega arith in
-                    weigh-behind .weighing ∙ ap (min most) sum ∙ sym (min-again most (before + more) (weight w (drop (from + n) s)))
-                    ∙ ap (λ (x : ℕ). min most (x + weight w (drop (from + n) s))) (sym l);
+                    ∙ ap₂ (λ b r. shownAt w b + shownBy w r) first after ∙ ap (λ (x : ℕ). x + shownBy w (drop (from + n) s)) (sym d) in
+                    let sum : before .0 + shownBy w (drop from s) ≡ before .0 + more + shownBy w (drop (from + n) s) = omega arith in
+                    weigh-behind .weighing ∙ ap (min (lim .0)) sum ∙ sym (min-again (lim .0) (before .0 + more) (shownBy w (drop (from + n) s)))
+                    ∙ ap (λ (x : ℕ). min (lim .0) (x + shownBy w (drop (from + n) s))) (sym l);
               }
 
 pub ruleset weigh-ways = (weigh-begin, weigh-done, weigh-end, weigh-stop)
 
--- ---- by the marks and widths of a table
+-- ---- by the marks of a table
 pub covered-by-is : (es : Entries) (marks : ℕ) → Marks marks (tags es) → (s : List ℕ) → coveredBy marks s ≡ covered es s
 unfolding coveredBy covered marked covers
 covered-by-is es marks m [] = refl
@@ -226,36 +218,36 @@ covered-by-is es marks m (b ∷ s) =
     one true k = rw (m .bits b, tag-present es b, k)
     one false k = rw k
 
--- ---- what the answer of `weigh` tells, by the marks and widths of a table
-module _ (es : Entries) (marks : ℕ) (w : List ℕ) (m : Marks marks (tags es)) (k : Widths 32 es w) (s : List ℕ) (most : ℕ)
+-- ---- what the answer of `weigh` tells, by the marks and counts of a table
+module _ (es : Entries) (marks : ℕ) (w : List ℕ) (m : Marks marks (tags es)) (k : Shows 32 es w) (s : List ℕ) (most : Characters)
     (r : Weighed) (e : r ≡ weighedBy marks w s most) where
   pub weighed-none : r ≡ NoText → text true s ≡ false
   unfolding weighedBy
   weighed-none q = go (text true s) (sym q ∙ e)
     where
-      go : (b : Bool) → NoText ≡ cond b (Text (coveredBy marks s) (min most (weight w s))) NoText → b ≡ false
+      go : (b : Bool) → NoText ≡ cond b (Text (coveredBy marks s) (asCharacters (min (most .0) (shownBy w s)))) NoText → b ≡ false
       go true h = let z : _≡_ {A = ℕ} 0 1 = cc in absurd (omega arith)
       go false h = refl
 
-  module _ (c : Bool) (n : ℕ) (q : r ≡ Text c n) where
+  module _ (c : Bool) (n : Characters) (q : r ≡ Text c n) where
     pub weighed-text : text true s ≡ true
     unfolding weighedBy
     weighed-text = go (text true s) (sym q ∙ e)
       where
-        go : (b : Bool) → Text c n ≡ cond b (Text (coveredBy marks s) (min most (weight w s))) NoText → b ≡ true
+        go : (b : Bool) → Text c n ≡ cond b (Text (coveredBy marks s) (asCharacters (min (most .0) (shownBy w s)))) NoText → b ≡ true
         go true h = refl
         go false h = let z : _≡_ {A = ℕ} 0 1 = cc in absurd (omega arith)
 
-    found : Text c n ≡ Text (coveredBy marks s) (min most (weight w s))
+    found : Text c n ≡ Text (coveredBy marks s) (asCharacters (min (most .0) (shownBy w s)))
     unfolding weighedBy
     found = sym q ∙ e ∙ rw weighed-text
 
     pub weighed-covered : c ≡ covered es s
     weighed-covered = let h = found in let z : c ≡ coveredBy marks s = cc in z ∙ covered-by-is es marks m s
 
-    pub weighed-width : n ≡ min most (shownLength es s)
+    pub weighed-shown : n ≡ asCharacters (min (most .0) (shownLength es s .0))
     unfolding shownLength
-    weighed-width = let h = found in let z : n ≡ min most (weight w s) = cc in z ∙ ap (min most) (weight-is es w k s)
+    weighed-shown = let h = found in let z : n ≡ asCharacters (min (most .0) (shownBy w s)) = cc in z ∙ ap (λ m. asCharacters (min (most .0) m)) (shown-is es w k s)
 
 -- ---- only one answer
 pub marks-one : (m k : ℕ) (octets : List ℕ) → Marks m octets → Marks k octets → m ≡ k
@@ -268,6 +260,6 @@ same-places [] (y ∷ b) e f = absurd (omega arith)
 same-places (x ∷ a) [] e f = absurd (omega arith)
 same-places (x ∷ a) (y ∷ b) e f = ap₂ (λ (h : ℕ) t. h ∷ t) (f 0 (omega arith)) (same-places a b (omega arith) (λ i h. f (suc i) (omega arith)))
 
-pub widths-one : (es : Entries) (a b : List ℕ) → Widths 32 es a → Widths 32 es b → a ≡ b
+pub widths-one : {measure : Measure} (es : Entries) (a b : List ℕ) → WidthsBy measure 32 es a → WidthsBy measure 32 es b → a ≡ b
 widths-one es a b p q =
     same-places a b (p .long ∙ sym (q .long)) (λ i h. p .each i (omega (arith, p .long)) ∙ sym (q .each i (omega (arith, p .long))))

@@ -1,20 +1,21 @@
 -- Wrong answers of each public call, each refuted at a closed input by what its contract says.
-use mathlib.Core.Path.{_≡_, sym, _∙_}
+use mathlib.Core.Path.{_≡_, sym, _∙_, ap}
 use mathlib.Core.Bool.{true, false, false≢true}
 use mathlib.Core.List.{List, [], _∷_}
 use Prim.Native.Nat.{ℕ, _^_, min}
 use native.Mathlib.Omega.{arith}
-use lib.Dec.{leb}
 use lib.ListN.{getD, replicate}
+use Rattle.octets.specs.Counts.{asOctets, asCharacters, charactersWithin}
 use Rattle.octets.specs.Numbers.{among}
 use Rattle.text.specs.Text.{layout, token, character, single, goesOn, utf8, text}
-use Rattle.text.specs.Tokens.{entries, cut, filled, isTable, entry, orItself, stands, expanded, present, covers, covered, shownLength}
+use Rattle.text.specs.Tokens.{entries, cut, filled, isTable, entry, orItself, stands, expanded, present, covers, covered, starts, shownLength}
 use Rattle.text.specs.Leaves.{replacedBy}
 use Rattle.text.specs.Index.{startOf, longest, Indexes, usable, placeAt, placeBy, withPlace, entriesBelow, entriesBy}
 use Rattle.text.specs.Calls.{found, expandFits, expandAnswer, expandOut, ExpandClaim}
-use Rattle.text.specs.Weighing.{tags, Marks, Widths, marked, coveredBy, widthAt, weight, weighedBy}
+use Rattle.text.specs.Weighing.{tags, Marks, Widths, Shows, marked, coveredBy, widthAt, weight, shownAt, shownBy, weighedBy}
 use Rattle.text.specs.declared.Expanded.the-variants.{Done, NoRoom}
-use Rattle.text.specs.declared.Weighed.the-variants.{Text}
+use Rattle.text.specs.declared.Weighed.{Weighed}
+use Rattle.text.specs.declared.Weighed.the-variants.{NoText, Text}
 
 -- one entry: the token 0x01 for the three octets ABC
 abbrev abc : List ℕ
@@ -107,22 +108,41 @@ pub width-of-last : (w : List ℕ) → getD w 0x01 0 ≡ 0 → Widths 32 (entrie
 unfolding stands token layout among entries cut entry orItself
 width-of-last w e h = let z : _≡_ {A = ℕ} 0 1 = sym e ∙ h .each 0x01 (omega arith) in omega arith
 
--- weigh: an overlong form is text; a token counts as one octet; a token without a mark passes; the width does not stop at the most that is asked for
-pub weighed-overlong : Text true 2 ≡ weighedBy 0 [] (0xC0 ∷ 0x80 ∷ []) 9 → ⊥
+-- characters_of: a token counts as one character; of its entry's text the octets are counted
+pub count-unexpanded : (w : List ℕ) → getD w 0x01 0 ≡ 1 → Shows 32 (entries abc) w → ⊥
+unfolding starts stands token layout among entries cut entry orItself
+count-unexpanded w e h = let z : _≡_ {A = ℕ} 1 3 = sym e ∙ h .each 0x01 (omega arith) in omega arith
+
+pub count-of-octets : (w : List ℕ) → getD w 0x01 0 ≡ 2 → Shows 32 (entries (0x01 ∷ 2 ∷ 0xC3 ∷ 0xA9 ∷ [])) w → ⊥
+unfolding starts stands token layout among entries cut entry orItself
+count-of-octets w e h = let z : _≡_ {A = ℕ} 2 1 = sym e ∙ h .each 0x01 (omega arith) in omega arith
+
+-- how many characters an answer of `weigh` says are shown
+abbrev shownIn : Weighed → ℕ
+shownIn NoText = 0
+shownIn (Text c n) = n .0
+
+-- weigh: an overlong form is text; a token counts as one character; octets are counted; a token without a mark passes; the count does not stop at the most that is
+-- asked for
+pub weighed-overlong : Text true (asCharacters 1) ≡ weighedBy 0 [] (0xC0 ∷ 0x80 ∷ []) (asCharacters 9) → ⊥
 unfolding weighedBy text utf8 goesOn character
 weighed-overlong h = let z : _≡_ {A = ℕ} 0 1 = cc in omega arith
 
-pub weighed-unexpanded : Text true 2 ≡ weighedBy (2 ^ 0x01) (1 ∷ 3 ∷ []) (0x01 ∷ 0x44 ∷ []) 9 → ⊥
-unfolding weighedBy text utf8 single layout among token coveredBy marked weight widthAt
-weighed-unexpanded h = let z : _≡_ {A = ℕ} 2 4 = cc in omega arith
+pub weighed-unexpanded : Text true (asCharacters 2) ≡ weighedBy (2 ^ 0x01) (1 ∷ 3 ∷ []) (0x01 ∷ 0x44 ∷ []) (asCharacters 9) → ⊥
+unfolding weighedBy text utf8 single layout among token coveredBy marked shownBy shownAt
+weighed-unexpanded h = let z : _≡_ {A = ℕ} 2 4 = ap shownIn h in omega arith
 
-pub weighed-bare : Text true 1 ≡ weighedBy 0 (1 ∷ 1 ∷ []) (0x01 ∷ []) 9 → ⊥
-unfolding weighedBy text utf8 single layout among token coveredBy marked weight widthAt
+pub weighed-octets : Text true (asCharacters 2) ≡ weighedBy 0 [] (0xC3 ∷ 0xA9 ∷ []) (asCharacters 9) → ⊥
+unfolding weighedBy text utf8 goesOn character layout among token coveredBy marked shownBy shownAt
+weighed-octets h = let z : _≡_ {A = ℕ} 2 1 = ap shownIn h in omega arith
+
+pub weighed-bare : Text true (asCharacters 1) ≡ weighedBy 0 (1 ∷ 1 ∷ []) (0x01 ∷ []) (asCharacters 9) → ⊥
+unfolding weighedBy text utf8 single layout among token coveredBy marked shownBy shownAt
 weighed-bare h = let z : true ≡ false = cc in false≢true (sym z)
 
-pub weighed-on : Text true 2 ≡ weighedBy 0 [] (0x41 ∷ 0x42 ∷ []) 1 → ⊥
-unfolding weighedBy text utf8 single layout among token coveredBy marked weight widthAt
-weighed-on h = let z : _≡_ {A = ℕ} 2 1 = cc in omega arith
+pub weighed-on : Text true (asCharacters 2) ≡ weighedBy 0 [] (0x41 ∷ 0x42 ∷ []) (asCharacters 1) → ⊥
+unfolding weighedBy text utf8 single layout among token coveredBy marked shownBy shownAt
+weighed-on h = let z : _≡_ {A = ℕ} 2 1 = ap shownIn h in omega arith
 
 -- is_covered: a token without an entry passes; a tab wants an entry
 pub bare-passes : true ≡ covered (entries abc) (0x02 ∷ []) → ⊥
@@ -133,23 +153,31 @@ pub tab-refused : false ≡ covered (entries abc) (0x09 ∷ []) → ⊥
 unfolding covered covers token layout among
 tab-refused h = false≢true h
 
--- is_shown: the token counts as one octet; a text of just the limit is refused
-pub shown-unexpanded : true ≡ leb (shownLength (entries abc) (0x01 ∷ 0x44 ∷ [])) 2 → ⊥
-unfolding shownLength expanded stands token layout among entries cut entry orItself
+-- is_shown: the token counts as one character; a text of just the limit is refused; octets are counted
+pub shown-unexpanded : true ≡ charactersWithin (shownLength (entries abc) (0x01 ∷ 0x44 ∷ [])) (asCharacters 2) → ⊥
+unfolding starts shownLength expanded stands token layout among entries cut entry orItself
 shown-unexpanded h = false≢true (sym h)
 
-pub limit-refused : false ≡ leb (shownLength (entries abc) (0x01 ∷ 0x44 ∷ [])) 4 → ⊥
-unfolding shownLength expanded stands token layout among entries cut entry orItself
+pub limit-refused : false ≡ charactersWithin (shownLength (entries abc) (0x01 ∷ 0x44 ∷ [])) (asCharacters 4) → ⊥
+unfolding starts shownLength expanded stands token layout among entries cut entry orItself
 limit-refused h = false≢true h
 
--- expanded_size: the token counts as one octet; it does not stop at the most that is asked for
-pub size-unexpanded : 2 ≡ min 9 (weight (1 ∷ 3 ∷ []) (0x01 ∷ 0x44 ∷ [])) → ⊥
-unfolding weight widthAt
-size-unexpanded h = let z : _≡_ {A = ℕ} 2 4 = h in omega arith
+pub octets-counted : false ≡ charactersWithin (shownLength [] (0xC3 ∷ 0xA9 ∷ [])) (asCharacters 1) → ⊥
+unfolding starts shownLength expanded stands token layout among entry orItself
+octets-counted h = false≢true h
 
-pub size-runs-on : 4 ≡ min 3 (weight (1 ∷ 3 ∷ []) (0x01 ∷ 0x44 ∷ [])) → ⊥
+-- expanded_size: the token counts as one octet; characters are counted; it does not stop at the most that is asked for
+pub size-unexpanded : asOctets 2 ≡ asOctets (min 9 (weight (1 ∷ 3 ∷ []) (0x01 ∷ 0x44 ∷ []))) → ⊥
 unfolding weight widthAt
-size-runs-on h = let z : _≡_ {A = ℕ} 4 3 = h in omega arith
+size-unexpanded h = let z : _≡_ {A = ℕ} 2 4 = ap (λ n. n .0) h in omega arith
+
+pub characters-counted : asOctets 1 ≡ asOctets (min 9 (weight [] (0xC3 ∷ 0xA9 ∷ []))) → ⊥
+unfolding weight widthAt
+characters-counted h = let z : _≡_ {A = ℕ} 1 2 = ap (λ n. n .0) h in omega arith
+
+pub size-runs-on : asOctets 4 ≡ asOctets (min 3 (weight (1 ∷ 3 ∷ []) (0x01 ∷ 0x44 ∷ []))) → ⊥
+unfolding weight widthAt
+size-runs-on h = let z : _≡_ {A = ℕ} 4 3 = ap (λ n. n .0) h in omega arith
 
 -- expand: a room of just the size is refused; what fits is written there and no more is told than its size; what doesn't fit is written in part; by an index
 -- that tells of no entry, one is taken from the table

@@ -2,9 +2,12 @@
 use mathlib.Core.Bool.{Bool, true, false, cond, not, _&&_, _||_}
 use mathlib.Core.Option.{Option, none, some}
 use mathlib.Core.List.{List, [], _∷_, _++_}
-use Prim.Native.Nat.{ℕ, zero, suc}
+use Prim.Native.Nat.{ℕ, zero, suc, _+_, _/_}
 use lib.Dec.{eqb, leb}
 use lib.ListN.{length, take, drop}
+use Rattle.octets.specs.declared.counts.Octets.{Octets}
+use Rattle.octets.specs.declared.counts.Characters.{Characters}
+use Rattle.octets.specs.Counts.{asCharacters, sizeOf}
 use Rattle.octets.specs.Numbers.{among}
 use Rattle.text.specs.Text.{token, text}
 
@@ -67,10 +70,17 @@ unfoldable pub covered : Entries → List ℕ → Bool
 covered table [] = true
 covered table (b ∷ bs) = covers table b && covered table bs
 
--- how much of a text is shown, in octets: what rule 13 holds against a limit
-unfoldable pub shownLength : Entries → List ℕ → ℕ
-shownLength table o = length (expanded table o)
+-- how many characters octets of text are: as many as don't begin with the bits 10, since each character has just one such octet, its first. In valid text that is
+-- the number of characters that the definition of UTF-8 goes through (proofs/Counted, characters-are)
+unfoldable pub starts : List ℕ → ℕ
+starts [] = 0
+starts (b ∷ bs) = cond (eqb (b / 64) 2) 0 1 + starts bs
 
--- how many octets an expanded text takes in a store or a room
-unfoldable pub expandedSize : Entries → List ℕ → ℕ
-expandedSize table o = length (expanded table o)
+-- how much of a text is shown: the characters of its expansion, which rule 13 holds against a limit (document 01, Lengths of shown text: change request 2026-01 has
+-- characters in place of octets)
+unfoldable pub shownLength : Entries → List ℕ → Characters
+shownLength table o = asCharacters (starts (expanded table o))
+
+-- how much an expanded text takes in a store or a room: its octets
+unfoldable pub expandedSize : Entries → List ℕ → Octets
+expandedSize table o = sizeOf (expanded table o)

@@ -1,14 +1,18 @@
 -- A token table gone through once, and a text looked at once by what was found there: whether it is text (rule 10), whether each of its tokens has an entry
--- (rule 12), and how much is shown of it (rule 13). Under the marks and widths of a table that is what the definitions say (proofs/WeighLaws).
+-- (rule 12), and how many characters are shown of it (rule 13). Under the marks and counts of a table that is what the definitions say (proofs/WeighLaws).
 use mathlib.Core.Path.{_≡_}
 use mathlib.Core.Bool.{Bool, true, cond, not, _&&_, _||_}
 use mathlib.Core.List.{List, [], _∷_}
 use Prim.Native.Nat.{ℕ, _+_, _/_, _%_, _^_, _<_, min}
 use lib.Dec.{eqb, ltb}
 use lib.ListN.{length, getD}
+use Rattle.octets.specs.declared.counts.Characters.{Characters}
+use Rattle.octets.specs.Counts.{asCharacters}
 use Rattle.octets.specs.Numbers.{among}
 use Rattle.text.specs.Text.{token, text}
-use Rattle.text.specs.Tokens.{Entries, stands}
+use Rattle.text.specs.Tokens.{Entries, stands, starts}
+use Rattle.text.specs.declared.tables.Measure.{Measure}
+use Rattle.text.specs.declared.tables.Measure.the-variants.{InOctets, InCharacters}
 use Rattle.text.specs.declared.Weighed.{Weighed}
 use Rattle.text.specs.declared.Weighed.the-variants.{NoText, Text}
 
@@ -25,10 +29,22 @@ unfoldable pub tags : Entries → List ℕ
 tags [] = []
 tags (e ∷ es) = e .0 ∷ tags es
 
--- how many octets stand for each octet below a bound, in a list of 32 places
-pub record Widths (bound : ℕ) (es : Entries) (widths : List ℕ) : Type 0 where
-  pub long : length widths ≡ 32
-  pub each : (b : ℕ) → b < bound → getD widths b 0 ≡ length (stands es b)
+-- how much octets are, by what a list counts
+abbrev pub sizeBy : Measure → List ℕ → ℕ
+sizeBy InOctets o = length o
+sizeBy InCharacters o = starts o
+
+-- how much stands for each octet below a bound, in a list of 32 places
+pub record WidthsBy (measure : Measure) (bound : ℕ) (es : Entries) (list : List ℕ) : Type 0 where
+  pub long : length list ≡ 32
+  pub each : (b : ℕ) → b < bound → getD list b 0 ≡ sizeBy measure (stands es b)
+
+-- the widths, which are octets, and the counts, which are characters
+abbrev pub Widths : ℕ → Entries → List ℕ → Type 0
+Widths bound es widths = WidthsBy InOctets bound es widths
+
+abbrev pub Shows : ℕ → Entries → List ℕ → Type 0
+Shows bound es counts = WidthsBy InCharacters bound es counts
 
 -- an octet that wants no entry, or has one by a mask
 unfoldable pub marked : ℕ → ℕ → Bool
@@ -38,15 +54,24 @@ unfoldable pub coveredBy : ℕ → List ℕ → Bool
 coveredBy marks [] = true
 coveredBy marks (b ∷ bs) = marked marks b && coveredBy marks bs
 
--- the width of a character of n octets, by its first: that at its place, or n for a character above the tokens
-unfoldable pub widthAt : List ℕ → ℕ → ℕ → ℕ
-widthAt widths b n = cond (ltb b 0x14) (getD widths b 0) n
+-- the width of an octet: that at its place, or 1 above the tokens
+unfoldable pub widthAt : List ℕ → ℕ → ℕ
+widthAt widths b = cond (ltb b 0x14) (getD widths b 0) 1
 
 -- the width of a text, octet by octet
 unfoldable pub weight : List ℕ → List ℕ → ℕ
 weight widths [] = 0
-weight widths (b ∷ bs) = widthAt widths b 1 + weight widths bs
+weight widths (b ∷ bs) = widthAt widths b + weight widths bs
 
--- weigh: a text by the marks and widths of a table, its width counted up to a most
-unfoldable pub weighedBy : ℕ → List ℕ → List ℕ → ℕ → Weighed
-weighedBy marks widths s most = cond (text true s) (Text (coveredBy marks s) (min most (weight widths s))) NoText
+-- how many characters are shown for an octet: those at its place, or 1 above the tokens where it begins a character, and none where it goes on with one
+unfoldable pub shownAt : List ℕ → ℕ → ℕ
+shownAt counts b = cond (ltb b 0x14) (getD counts b 0) (cond (eqb (b / 64) 2) 0 1)
+
+-- how many are shown for a text
+unfoldable pub shownBy : List ℕ → List ℕ → ℕ
+shownBy counts [] = 0
+shownBy counts (b ∷ bs) = shownAt counts b + shownBy counts bs
+
+-- weigh: a text by the marks and counts of characters of a table, what is shown of it counted up to a most
+unfoldable pub weighedBy : ℕ → List ℕ → List ℕ → Characters → Weighed
+weighedBy marks counts s most = cond (text true s) (Text (coveredBy marks s) (asCharacters (min (most .0) (shownBy counts s)))) NoText

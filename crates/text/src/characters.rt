@@ -1,10 +1,14 @@
 // Valid text, a character at a time.
 ghost use mathlib.Core.Path.{_≡_};
-ghost use Prim.Native.Nat.{_≤_, _<_};
+ghost use mathlib.Core.Bool.{cond};
+ghost use Prim.Native.Nat.{_/_, _≤_, _<_};
+ghost use lib.Dec.{eqb};
 ghost use lib.ListN.{length};
 ghost use Rattle.text.specs.Text.{layout, token, character, single, text};
 ghost use Rattle.text.specs.Leaves.{following, several, tokenBit, Lead, Steps};
 use crate::runs::long_plain_end;
+use octets::Characters;
+use octets::Octets;
 
 // An octet as a number whose sums fit.
 pub fn wide(x: u8) -> u32
@@ -45,6 +49,17 @@ pub fn token_bit(b: u8) -> u32
         return 0;
     }
     (1u32 << wide(b)) & 0xFD9FE
+}
+
+// How many characters begin with an octet: none where it begins with the bits 10 and so goes on with one, else one.
+pub fn begun(b: u8) -> Characters
+    ensures { λ r. ⌜ r .0 ≡ cond (eqb (b / 64) 2) 0 1 ⌝ }
+    ensures { λ r. ⌜ r .0 ≤ 1 ⌝ }
+{
+    if b / 64 == 2 {
+        return Characters(0);
+    }
+    Characters(1)
 }
 
 // An octet below 0x80 that may stand by itself.
@@ -114,32 +129,33 @@ fn several_ok(first: u8, rest: &[u8]) -> bool
 }
 
 // The length of a sequence that doesn't begin with an ASCII octet: the count of leading ones in its first octet.
-fn leading_ones(first: u8) -> usize
-    ensures { λ r. ⌜ Lead first r ⌝ }
+fn leading_ones(first: u8) -> Octets
+    ensures { λ r. ⌜ Lead first (r .0) ⌝ }
 {
-    u8::leading_zeros(!first) as usize
+    let ones = u8::leading_zeros(!first) as usize;
+    Octets(ones)
 }
 
 // How many octets the character has with which s begins, and 0 where it begins with none.
-pub fn sequence(s: &[u8], tokens: bool) -> usize
+pub fn sequence(s: &[u8], tokens: bool) -> Octets
     requires { ⌜ 0 < length (now s) ⌝ }
-    ensures { λ r. ⌜ Steps tokens (now (s .entry)) r ⌝ }
+    ensures { λ r. ⌜ Steps tokens (now (s .entry)) (r .0) ⌝ }
 {
     let first = s[0];
     if first < 0x80 {
         if single_ok(first, tokens) {
-            return 1;
+            return Octets(1);
         }
-        return 0;
+        return Octets(0);
     }
-    let n = leading_ones(first);
+    let n = leading_ones(first).0;
     if n > s.len() {
-        return 0;
+        return Octets(0);
     }
     if several_ok(first, &s[1..n]) {
-        return n;
+        return Octets(n);
     }
-    0
+    Octets(0)
 }
 
 // Valid text, in which token octets may stand or not. It passes over runs of octets that stand by themselves, and looks at what stands
@@ -154,10 +170,10 @@ pub fn check(s: &[u8], tokens: bool) -> bool
             return true;
         }
         let n = sequence(&s[from..], tokens);
-        if n == 0 {
+        if n.0 == 0 {
             return false;
         }
-        at = from + n;
+        at = from + n.0;
     }
     true
 }

@@ -7,17 +7,21 @@ ghost use Prim.Native.Nat.{_+_, _^_, _≤_, _<_, min};
 ghost use lib.Dec.{leb};
 ghost use lib.ListN.{length, take, drop};
 ghost use lib.Seq.{sets};
+ghost use Rattle.octets.specs.Counts.{asOctets, octetsWithin, charactersWithin};
 ghost use Rattle.text.specs.Tokens.{entries, stands, expanded, covered, shownLength, expandedSize};
 ghost use Rattle.text.specs.Calls.{ExpandClaim};
-ghost use Rattle.text.specs.Weighing.{Marks, widthAt, weight};
+ghost use Rattle.text.specs.Weighing.{Marks, widthAt, weight, shownBy};
 ghost use Rattle.text.specs.Index.{placeBy, entriesBy, Bounds};
 use crate::Expanded;
 use crate::characters::is_token;
 use crate::characters::token_bit;
 use crate::runs::untokened_end;
+use crate::tables::characters_of;
 use crate::tables::size_of;
 use crate::tables::tokens_of;
-use crate::tables::widths_of;
+use crate::weighing::shown_at;
+use octets::Characters;
+use octets::Octets;
 
 // The tokens of a text, a bit each. Nothing is decided between two octets, so that the compiler takes eight at a time.
 fn tokens_in(s: &[u8]) -> u32
@@ -46,140 +50,115 @@ pub fn is_covered(table: &[u8], s: &[u8]) -> bool
 
 // How many octets stand for an octet, by the widths of a table. Where tokens stand follows no rule, and a processor would often guess a branch
 // wrong: here are choices between two numbers, and one load, at a place that there is for every octet.
-fn width_by(widths: &[u8; 32], b: u8) -> usize
-    ensures { λ r. ⌜ r ≡ widthAt (now (widths .entry)) b 1 ⌝ }
-    ensures { λ r. ⌜ r < 256 ⌝ }
+fn width_by(widths: &[u8; 32], b: u8) -> Octets
+    ensures { λ r. ⌜ r .0 ≡ widthAt (now (widths .entry)) b ⌝ }
+    ensures { λ r. ⌜ r .0 < 256 ⌝ }
 {
     let k = if b < 0x14 { b } else { 0x14 };
     let width = size_of(widths[size_of(k)]);
-    if b < 0x14 { width } else { 1 }
+    if b < 0x14 { Octets(width) } else { Octets(1) }
+}
+
+fn width_of_two(widths: &[u8; 32], a: u8, b: u8) -> Octets
+    ensures { λ r. ⌜ r .0 ≡ widthAt (now (widths .entry)) a + widthAt (now (widths .entry)) b ⌝ }
+    ensures { λ r. ⌜ r .0 < 512 ⌝ }
+{
+    let both = width_by(widths, a).0 + width_by(widths, b).0;
+    Octets(both)
 }
 
 // The width of the first eight octets. Nothing is decided between them, and one test of their sum serves for all eight.
-fn width_of_eight(widths: &[u8; 32], s: &[u8]) -> usize
+fn width_of_eight(widths: &[u8; 32], s: &[u8]) -> Octets
     requires { ⌜ 8 ≤ length (now s) ⌝ }
-    ensures { λ r. ⌜ r ≡ weight (now (widths .entry)) (take 8 (now (s .entry))) ⌝ }
+    ensures { λ r. ⌜ r .0 ≡ weight (now (widths .entry)) (take 8 (now (s .entry))) ⌝ }
 {
-    width_by(widths, s[0])
-        + width_by(widths, s[1])
-        + width_by(widths, s[2])
-        + width_by(widths, s[3])
-        + width_by(widths, s[4])
-        + width_by(widths, s[5])
-        + width_by(widths, s[6])
-        + width_by(widths, s[7])
+    let sum = width_of_two(widths, s[0], s[1]).0
+        + width_of_two(widths, s[2], s[3]).0
+        + width_of_two(widths, s[4], s[5]).0
+        + width_of_two(widths, s[6], s[7]).0;
+    Octets(sum)
 }
 
-// The octets from a place on keep to a limit, by the widths of a table and octet by octet. It counts down from the limit, so that no sum can be too
-// large, and stops where the text passes it.
-fn fits_singly(widths: &[u8; 32], s: &[u8], from: usize, limit: usize) -> bool
-    requires { ⌜ from ≤ length (now s) ⌝ }
-    ensures { λ r. ⌜ r ≡ leb (weight (now (widths .entry)) (drop from (now (s .entry)))) limit ⌝ }
+// What is shown of a text keeps to a limit, by the counts of a table and octet by octet. It counts down from the limit, so that no sum can be too large, and
+// stops where the text passes it.
+fn shows_within(counts: &[u8; 32], s: &[u8], limit: Characters) -> bool
+    ensures { λ r. ⌜ r ≡ leb (shownBy (now (counts .entry)) (now (s .entry))) (limit .0) ⌝ }
 {
-    let mut left = limit;
-    let mut at = from;
+    let mut left = limit.0;
+    let mut at: usize = 0;
     while at < s.len() {
-        let size = width_by(widths, s[at]);
-        if size > left {
+        let more = shown_at(counts, s[at]);
+        if more.0 > left {
             return false;
         }
-        left -= size;
+        left -= more.0;
         at += 1;
     }
     true
 }
 
-// The same by eights as far as they go, and then by single octets.
-fn fits_from(widths: &[u8; 32], s: &[u8], from: usize, limit: usize) -> bool
-    requires { ⌜ from ≤ length (now s) ⌝ }
-    ensures { λ r. ⌜ r ≡ leb (weight (now (widths .entry)) (drop from (now (s .entry)))) limit ⌝ }
+// What is shown of a text keeps to a limit of characters (rule 13).
+pub fn is_shown(table: &[u8], s: &[u8], limit: Characters) -> bool
+    ensures { λ r. ⌜ r ≡ charactersWithin (shownLength (entries (now (table .entry))) (now (s .entry))) limit ⌝ }
 {
-    let mut left = limit;
-    let mut at = from;
-    while s.len() - at >= 8 {
-        let size = width_of_eight(widths, &s[at..]);
-        if size > left {
-            return false;
-        }
-        left -= size;
-        at += 8;
-    }
-    fits_singly(widths, s, at, left)
-}
-
-// What is shown of a text keeps to a limit (rule 13). The run with which the text begins stands for itself, and where it is the whole text, the
-// table is not asked.
-pub fn is_shown(table: &[u8], s: &[u8], limit: usize) -> bool
-    ensures { λ r. ⌜ r ≡ leb (shownLength (entries (now (table .entry))) (now (s .entry))) limit ⌝ }
-{
-    if s.len() == 0 {
-        return true;
-    }
-    let from = untokened_end(s, 0);
-    if from > limit {
-        return false;
-    }
-    if from == s.len() {
-        return true;
-    }
-    let widths = widths_of(table);
-    fits_from(&widths, s, from, limit - from)
+    let counts = characters_of(table);
+    shows_within(&counts, s, limit)
 }
 
 // A width before a place and that of the octets from there on, by the widths of a table and octet by octet, or `most` where that is less: there it
 // stops.
-fn size_singly(widths: &[u8; 32], s: &[u8], from: usize, before: usize, most: usize) -> usize
+fn size_singly(widths: &[u8; 32], s: &[u8], from: usize, before: Octets, most: Octets) -> Octets
     requires { ⌜ from ≤ length (now s) ⌝ }
-    requires { ⌜ before ≤ most ⌝ }
-    ensures { λ r. ⌜ r ≡ min most (before + weight (now (widths .entry)) (drop from (now (s .entry)))) ⌝ }
+    requires { ⌜ before .0 ≤ most .0 ⌝ }
+    ensures { λ r. ⌜ r .0 ≡ min (most .0) (before .0 + weight (now (widths .entry)) (drop from (now (s .entry)))) ⌝ }
 {
-    let mut total = before;
+    let mut total = before.0;
     let mut at = from;
     while at < s.len() {
-        let size = width_by(widths, s[at]);
-        if most - total <= size {
+        let more = width_by(widths, s[at]);
+        if most.0 - total <= more.0 {
             return most;
         }
-        total += size;
+        total += more.0;
         at += 1;
     }
-    total
+    Octets(total)
 }
 
 // How many octets the expansion of a text takes, by the widths of a table, or `most` where that is less: there it stops. The octets before a place
 // are known to stand for themselves. The others are taken by eights as far as they go, and then one by one.
-fn size_from(widths: &[u8; 32], s: &[u8], from: usize, most: usize) -> usize
+fn size_from(widths: &[u8; 32], s: &[u8], from: usize, most: Octets) -> Octets
     requires { ⌜ from ≤ length (now s) ⌝ }
-    requires { ⌜ from ≤ most ⌝ }
-    ensures { λ r. ⌜ r ≡ min most (from + weight (now (widths .entry)) (drop from (now (s .entry)))) ⌝ }
+    requires { ⌜ from ≤ most .0 ⌝ }
+    ensures { λ r. ⌜ r .0 ≡ min (most .0) (from + weight (now (widths .entry)) (drop from (now (s .entry)))) ⌝ }
 {
     let mut total = from;
     let mut at = from;
     while s.len() - at >= 8 {
-        let size = width_of_eight(widths, &s[at..]);
-        if most - total <= size {
+        let more = width_of_eight(widths, &s[at..]);
+        if most.0 - total <= more.0 {
             return most;
         }
-        total += size;
+        total += more.0;
         at += 8;
     }
-    size_singly(widths, s, at, total, most)
+    size_singly(widths, s, at, Octets(total), most)
 }
 
 // How many octets the expansion of a text takes, by the widths of a table, or `most` where that is less. The run with which the text begins needs
 // no widths.
-pub fn expanded_size(widths: &[u8; 32], s: &[u8], most: usize) -> usize
-    ensures { λ r. ⌜ r ≡ min most (weight (now (widths .entry)) (now (s .entry))) ⌝ }
+pub fn expanded_size(widths: &[u8; 32], s: &[u8], most: Octets) -> Octets
+    ensures { λ r. ⌜ r ≡ asOctets (min (most .0) (weight (now (widths .entry)) (now (s .entry)))) ⌝ }
 {
     if s.len() == 0 {
-        return 0;
+        return Octets(0);
     }
     let from = untokened_end(s, 0);
-    if most <= from {
+    if most.0 <= from {
         return most;
     }
     if from == s.len() {
-        return from;
+        return Octets(from);
     }
     size_from(widths, s, from, most)
 }
@@ -269,53 +248,54 @@ fn write_all(index: &[usize; 32], table: &[u8], s: &[u8], out: &mut [u8], at: us
 }
 
 // How many octets stand for an octet, by an index.
-fn indexed_width(index: &[usize; 32], table: &[u8], b: u8) -> usize
-    ensures { λ r. ⌜ r ≡ length (stands (entriesBy (now (index .entry)) (now (table .entry))) b) ⌝ }
+fn indexed_width(index: &[usize; 32], table: &[u8], b: u8) -> Octets
+    ensures { λ r. ⌜ r .0 ≡ length (stands (entriesBy (now (index .entry)) (now (table .entry))) b) ⌝ }
 {
     match replacement(index, table, b) {
-        Found::Nothing => 1,
-        Found::At { start: _, size } => size,
+        Found::Nothing => Octets(1),
+        Found::At { start: _, size } => Octets(size),
     }
 }
 
 // How many octets the expansion of a text takes, by an index and octet by octet, or `most` where that is less: there it stops.
-fn size_by(index: &[usize; 32], table: &[u8], s: &[u8], most: usize) -> usize
-    ensures { λ r. ⌜ r ≡ min most (expandedSize (entriesBy (now (index .entry)) (now (table .entry))) (now (s .entry))) ⌝ }
+fn size_by(index: &[usize; 32], table: &[u8], s: &[u8], most: Octets) -> Octets
+    ensures { λ r. ⌜ r .0 ≡ min (most .0) (expandedSize (entriesBy (now (index .entry)) (now (table .entry))) (now (s .entry)) .0) ⌝ }
 {
     let mut total: usize = 0;
     let mut at: usize = 0;
     while at < s.len() {
-        let size = indexed_width(index, table, s[at]);
-        if most - total <= size {
+        let more = indexed_width(index, table, s[at]);
+        if most.0 - total <= more.0 {
             return most;
         }
-        total += size;
+        total += more.0;
         at += 1;
     }
-    total
+    Octets(total)
 }
 
 // So many octets at most stand for any octet by an index.
-fn widest_by(index: &[usize; 32]) -> usize
-    ensures { λ r. ⌜ Bounds (now (index .entry)) r ⌝ }
+fn widest_by(index: &[usize; 32]) -> Octets
+    ensures { λ r. ⌜ Bounds (now (index .entry)) (r .0) ⌝ }
 {
     let longest = index[0];
     if longest == 0 {
-        return 1;
+        return Octets(1);
     }
-    longest
+    Octets(longest)
 }
 
 // The expansion of a text has room. It is measured only where that isn't sure by the length of the text and the longest entry. The room is that of a slice,
 // so that one more than it is still a number.
-fn fits(index: &[usize; 32], table: &[u8], s: &[u8], room: usize) -> bool
-    requires { ⌜ room < 2 ^ 63 ⌝ }
-    ensures { λ r. ⌜ r ≡ leb (expandedSize (entriesBy (now (index .entry)) (now (table .entry))) (now (s .entry))) room ⌝ }
+fn fits(index: &[usize; 32], table: &[u8], s: &[u8], room: Octets) -> bool
+    requires { ⌜ room .0 < 2 ^ 63 ⌝ }
+    ensures { λ r. ⌜ r ≡ octetsWithin (expandedSize (entriesBy (now (index .entry)) (now (table .entry))) (now (s .entry))) room ⌝ }
 {
-    if s.len() <= room / widest_by(index) {
+    if s.len() <= room.0 / widest_by(index).0 {
         return true;
     }
-    size_by(index, table, s, room + 1) <= room
+    let past = room.0 + 1;
+    size_by(index, table, s, Octets(past)).0 <= room.0
 }
 
 // The expansion of a text, written from a place on where it fits. That is known before the first octet is written, and nothing is written where it
@@ -326,7 +306,8 @@ pub fn expand(index: &[usize; 32], table: &[u8], s: &[u8], out: &mut [u8], at: u
     if at > out.len() {
         return Expanded::NoRoom;
     }
-    if !fits(index, table, s, out.len() - at) {
+    let room = out.len() - at;
+    if !fits(index, table, s, Octets(room)) {
         return Expanded::NoRoom;
     }
     Expanded::Done(write_all(index, table, s, out, at))

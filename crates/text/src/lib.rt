@@ -12,16 +12,18 @@ pub use expanding::expand;
 pub use expanding::expanded_size;
 pub use expanding::is_covered;
 pub use expanding::is_shown;
+use octets::Characters;
+pub use tables::characters_of;
 pub use tables::index_of;
 pub use tables::is_table;
 pub use tables::tokens_of;
 pub use tables::widths_of;
 pub use weighing::weigh;
 
-// A text looked at once: no text (rule 10); or text, whether each of its tokens has an entry (rule 12), and how many octets are shown of it (rule 13).
+// A text looked at once: no text (rule 10); or text, whether each of its tokens has an entry (rule 12), and how many characters are shown of it (rule 13).
 pub enum Weighed {
     NoText,
-    Text { covered: bool, width: usize },
+    Text { covered: bool, shown: Characters },
 }
 
 // Where the expansion ends in what was lent, or that it does not fit there.

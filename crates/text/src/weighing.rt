@@ -1,13 +1,15 @@
-// A text looked at once: whether it is text, whether each of its tokens has an entry, and how many octets are shown of it, by the marks and widths of
+// A text looked at once: whether it is text, whether each of its tokens has an entry, and how many characters are shown of it, by the marks and counts of
 // a table, which is gone through for them once and not once a text. Runs of octets that stand for themselves are passed over as `check` does.
 ghost use mathlib.Core.Path.{_≡_};
-ghost use Prim.Native.Nat.{_+_, _≤_, min};
-ghost use Rattle.text.specs.Weighing.{marked, widthAt, weighedBy};
+ghost use Prim.Native.Nat.{_+_, _≤_, _<_, min};
+ghost use Rattle.text.specs.Weighing.{marked, shownAt, weighedBy};
 use crate::Weighed;
+use crate::characters::begun;
 use crate::characters::sequence;
 use crate::characters::token_bit;
 use crate::runs::plain_end;
 use crate::tables::size_of;
+use octets::Characters;
 
 // An octet that wants no entry, or has one. Nothing is decided here, so that a processor has nothing to guess.
 fn is_marked(marks: u32, b: u8) -> bool
@@ -17,52 +19,56 @@ fn is_marked(marks: u32, b: u8) -> bool
     own & marks == own
 }
 
-// How many octets stand for a character of n octets, by its first. One below 0x14 is a character by itself.
-fn width_at(widths: &[u8; 32], b: u8, n: usize) -> usize
-    ensures { λ r. ⌜ r ≡ widthAt (now (widths .entry)) b n ⌝ }
+// How many characters are shown for an octet: as many as its token stands for; 1 where it begins a character, and 0 where it goes on with one.
+pub fn shown_at(counts: &[u8; 32], b: u8) -> Characters
+    ensures { λ r. ⌜ r .0 ≡ shownAt (now (counts .entry)) b ⌝ }
+    ensures { λ r. ⌜ r .0 < 256 ⌝ }
 {
     if b < 0x14 {
-        return size_of(widths[size_of(b)]);
+        return Characters(size_of(counts[size_of(b)]));
     }
-    n
+    begun(b)
 }
 
 // A sum that stops at `most`, so that none is too large.
-fn capped(width: usize, more: usize, most: usize) -> usize
-    requires { ⌜ width ≤ most ⌝ }
-    ensures { λ r. ⌜ r ≡ min most (width + more) ⌝ }
-    ensures { λ r. ⌜ r ≤ most ⌝ }
+fn capped(shown: Characters, more: Characters, most: Characters) -> Characters
+    requires { ⌜ shown .0 ≤ most .0 ⌝ }
+    ensures { λ r. ⌜ r .0 ≡ min (most .0) (shown .0 + more .0) ⌝ }
+    ensures { λ r. ⌜ r .0 ≤ most .0 ⌝ }
 {
-    if most - width <= more {
+    if most.0 - shown.0 <= more.0 {
         return most;
     }
-    width + more
+    let sum = shown.0 + more.0;
+    Characters(sum)
 }
 
-// A text weighed in one look, its width counted up to `most`.
-pub fn weigh(marks: u32, widths: &[u8; 32], s: &[u8], most: usize) -> Weighed
-    ensures { λ r. ⌜ r ≡ weighedBy marks (now (widths .entry)) (now (s .entry)) most ⌝ }
+// A text weighed in one look, what is shown of it counted up to `most`. Each octet of a run is a character, and of what stands between runs the first octet of
+// each character counts.
+pub fn weigh(marks: u32, counts: &[u8; 32], s: &[u8], most: Characters) -> Weighed
+    ensures { λ r. ⌜ r ≡ weighedBy marks (now (counts .entry)) (now (s .entry)) most ⌝ }
 {
     let mut at: usize = 0;
     let mut covered = true;
-    let mut width: usize = 0;
+    let mut shown = Characters(0);
     while at < s.len() {
         let from = plain_end(s, at);
-        let before = capped(width, from - at, most);
+        let run = from - at;
+        let before = capped(shown, Characters(run), most);
         if from == s.len() {
             return Weighed::Text {
                 covered,
-                width: before,
+                shown: before,
             };
         }
         let n = sequence(&s[from..], true);
-        if n == 0 {
+        if n.0 == 0 {
             return Weighed::NoText;
         }
         let b = s[from];
         covered = covered & is_marked(marks, b);
-        width = capped(before, width_at(widths, b, n), most);
-        at = from + n;
+        shown = capped(before, shown_at(counts, b), most);
+        at = from + n.0;
     }
-    Weighed::Text { covered, width }
+    Weighed::Text { covered, shown }
 }

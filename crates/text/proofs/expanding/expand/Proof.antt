@@ -7,8 +7,8 @@ use Rattle.text.proofs.expanding.expand.Tie as tie
 returns : tie.Need-returns
 returns c = search (expand-ways, not-true, not-false, needs)
 
-sub-fits : tie.Need-sub-fits
-sub-fits c = search needs
+sub-room : tie.Need-sub-room
+sub-room c = search needs
 
 fits-requires : tie.Need-fits-requires
 fits-requires c κs = search needs
@@ -28,4 +28,4 @@ returns-3 c = search (expand-ways, not-true, not-false, needs)
 pub expand-spec : {M : Type 1} → statement M
 expand-spec =
     tie.close
-    (tie.spec returns sub-fits fits-requires returns-2 write-all-requires same-length returns-3)
+    (tie.spec returns sub-room fits-requires returns-2 write-all-requires same-length returns-3)

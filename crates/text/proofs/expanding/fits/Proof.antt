@@ -13,8 +13,8 @@ div-if1 c = search needs
 returns : tie.Need-returns
 returns c = search (fits-surely, needs)
 
-add-size-by : tie.Need-add-size-by
-add-size-by c = search needs
+add-past : tie.Need-add-past
+add-past c = search needs
 
 size-by-requires : tie.Need-size-by-requires
 size-by-requires c κs = search needs
@@ -24,4 +24,4 @@ returns-2 c = search (fits-measured, needs)
 
 pub fits-spec : {M : Type 1} → statement M
 fits-spec =
-    tie.close (tie.spec widest-by-requires div-if1 returns add-size-by size-by-requires returns-2)
+    tie.close (tie.spec widest-by-requires div-if1 returns add-past size-by-requires returns-2)

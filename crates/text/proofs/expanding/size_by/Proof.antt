@@ -7,7 +7,7 @@ use Rattle.text.proofs.expanding.size_by.Statement.{statement}
 use Rattle.text.proofs.expanding.size_by.Tie as tie
 
 abbrev Inv-loop : tie.InvT-loop
-Inv-loop index table s most total₀ at₀ total at = Adding (entriesBy index table) s most total at
+Inv-loop index table s most total₀ at₀ total at = Adding (entriesBy index table) s (most .0) total at
 
 abbrev μ-loop : tie.MeasureT-loop
 μ-loop index table s most total₀ at₀ total at = length s - at

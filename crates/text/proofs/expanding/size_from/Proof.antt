@@ -7,7 +7,7 @@ use Rattle.text.proofs.expanding.size_from.Statement.{statement}
 use Rattle.text.proofs.expanding.size_from.Tie as tie
 
 abbrev Inv-loop : tie.InvT-loop
-Inv-loop widths s from most total₀ at₀ total at = Sizing widths s (from + weight widths (drop from s)) most total at
+Inv-loop widths s from most total₀ at₀ total at = Sizing widths s (from + weight widths (drop from s)) (most .0) total at
 
 abbrev μ-loop : tie.MeasureT-loop
 μ-loop widths s from most total₀ at₀ total at = length s - at

@@ -7,10 +7,10 @@ use Rattle.text.proofs.expanding.size_singly.Statement.{statement}
 use Rattle.text.proofs.expanding.size_singly.Tie as tie
 
 abbrev Inv-loop : tie.InvT-loop
-Inv-loop widths s from before most total₀ at₀ total at = Sizing widths s (before + weight widths (drop from s)) most total at
+Inv-loop widths s from most total₀ at₀ total at = Sizing widths s (total₀ + weight widths (drop from s)) (most .0) total at
 
 abbrev μ-loop : tie.MeasureT-loop
-μ-loop widths s from before most total₀ at₀ total at = length s - at
+μ-loop widths s from most total₀ at₀ total at = length s - at
 
 loop-holds : tie.Need-loop-holds Inv-loop μ-loop
 loop-holds c = search (size-ways, needs)

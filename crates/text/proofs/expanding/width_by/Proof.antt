@@ -21,14 +21,14 @@ returns c =
     let args = joined .before .args in
     let place = c .before .before .before .size-of in (
       ⊎-elim
-          (λ w. width-low (args .widths .now) (args .b) 1 (c .if2 .taken) _ _ (place .ensures .0 ∙ w .1) (c .before .size-of2 .ensures .0))
+          (λ w. width-low (args .widths .now) (args .b) (c .if2 .taken) _ _ (place .ensures .0 ∙ w .1) (c .before .size-of2 .ensures .0))
           (λ w. absurd (omega (arith, c .if2 .taken, w .0 .left)))
           (joined .if1 .came),
       c .before .size-of2 .ensures .1,
     )
 
 returns-2 : tie.Need-returns-2
-returns-2 c = let args = c .before .before .before .before .before .args in (width-high (args .widths .now) (args .b) 1 (c .if2 .left), omega arith)
+returns-2 c = let args = c .before .before .before .before .before .args in (width-high (args .widths .now) (args .b) (c .if2 .left), omega arith)
 
 pub width-by-spec : {M : Type 1} → statement M
 width-by-spec =

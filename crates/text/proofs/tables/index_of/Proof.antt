@@ -45,8 +45,8 @@ add-note c = search (index-ways, needs)
 note-requires : tie.Need-note-requires Inv-loop μ-loop
 note-requires c κs = search needs
 
-array-read-longer : tie.Need-array-read-longer Inv-loop μ-loop
-array-read-longer c = search needs
+array-read-longest : tie.Need-array-read-longest Inv-loop μ-loop
+array-read-longest c = search needs
 
 longer-requires : tie.Need-longer-requires Inv-loop μ-loop
 longer-requires c κs = search needs
@@ -88,7 +88,7 @@ index-of-spec =
     enum-known-tag
     add-note
     note-requires
-    array-read-longer
+    array-read-longest
     longer-requires
     array-write-index-2
     add-at

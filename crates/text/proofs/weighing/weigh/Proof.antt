@@ -6,10 +6,10 @@ use Rattle.text.proofs.weighing.weigh.Statement.{statement}
 use Rattle.text.proofs.weighing.weigh.Tie as tie
 
 abbrev Inv-loop : tie.InvT-loop
-Inv-loop marks widths s most at₀ covered₀ width₀ at covered width = Weighing marks widths s most at covered width
+Inv-loop marks counts s most at₀ covered₀ shown₀ at covered shown = Weighing marks counts s (most .0) at covered (shown .0)
 
 abbrev μ-loop : tie.MeasureT-loop
-μ-loop marks widths s most at₀ covered₀ width₀ at covered width = length s - at
+μ-loop marks counts s most at₀ covered₀ shown₀ at covered shown = length s - at
 
 loop-holds : tie.Need-loop-holds Inv-loop μ-loop
 loop-holds c = search (weigh-ways, needs)
@@ -17,8 +17,8 @@ loop-holds c = search (weigh-ways, needs)
 plain-end-requires : tie.Need-plain-end-requires Inv-loop μ-loop
 plain-end-requires c κs = search needs
 
-sub-capped : tie.Need-sub-capped Inv-loop μ-loop
-sub-capped c = search needs
+sub-run : tie.Need-sub-run Inv-loop μ-loop
+sub-run c = search needs
 
 capped-requires : tie.Need-capped-requires Inv-loop μ-loop
 capped-requires c κs = search needs
@@ -47,15 +47,15 @@ shared-slice-read-b c = search (run-inside, needs)
 is-marked-requires : tie.Need-is-marked-requires Inv-loop μ-loop
 is-marked-requires c κs = search needs
 
-width-at-requires : tie.Need-width-at-requires Inv-loop μ-loop
-width-at-requires c κs = search needs
+shown-at-requires : tie.Need-shown-at-requires Inv-loop μ-loop
+shown-at-requires c κs = search needs
 
 capped-requires-2 : tie.Need-capped-requires-2 Inv-loop μ-loop
 capped-requires-2 c κs = search needs
 
 add-at : tie.Need-add-at Inv-loop μ-loop
 add-at c =
-    let stepped = c .before .before .before .before .before in
+    let stepped = c .before .before .before .before .before .before .before in
     let ran = stepped .before .before .before .before in
     step-fits (ran .before .before .before .before .args .s .now) _ _ (ran .plain-end .ensures) _ (stepped .sequence .ensures) (search needs)
 
@@ -64,13 +64,14 @@ loop-less c = search (step-less, needs)
 
 loop-again : tie.Need-loop-again Inv-loop μ-loop
 loop-again c =
-    let stepped = c .before .before .before .before .before in
+    let looked = c .before .before .before in
+    let stepped = looked .before .before .before .before in
     let run = stepped .before .before .before in
     let ran = run .before in
     let args = ran .before .before .before .before .args in
-    weigh-again (args .marks) (args .widths .now) (args .s .now) (args .most) _ _ _ (ran .before .before .loop .inv) _ (ran .plain-end .ensures) _ (run .capped .ensures .0)
-    (run .capped .ensures .1) _ (stepped .sequence .ensures) (stepped .before .before .if1 .left) (c .before .before .before .before .if2 .left) _
-    (c .before .before .is-marked .ensures) _ (c .before .width-at .ensures) _ (c .capped2 .ensures .0) (c .capped2 .ensures .1)
+    weigh-again (args .marks) (args .counts .now) (args .s .now) (args .most) _ _ _ (ran .before .before .loop .inv) _ (ran .plain-end .ensures) _ (run .capped .ensures .0)
+    (run .capped .ensures .1) _ (stepped .sequence .ensures) (stepped .before .before .if1 .left) (looked .before .before .if2 .left) _ (looked .is-marked .ensures) _
+    (c .before .before .shown-at .ensures .0) _ (c .before .capped2 .ensures .0) (c .before .capped2 .ensures .1)
 
 returns-3 : tie.Need-returns-3 Inv-loop μ-loop
 returns-3 c = search (weigh-ways, needs)
@@ -83,7 +84,7 @@ weigh-spec =
     μ-loop
     loop-holds
     plain-end-requires
-    sub-capped
+    sub-run
     capped-requires
     returns
     sub-sequence
@@ -93,7 +94,7 @@ weigh-spec =
     returns-2
     shared-slice-read-b
     is-marked-requires
-    width-at-requires
+    shown-at-requires
     capped-requires-2
     add-at
     loop-less

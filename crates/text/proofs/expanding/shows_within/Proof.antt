@@ -2,23 +2,23 @@ use Prim.Native.Nat.{_-_}
 use lib.ListN.{length}
 use Rattle.text.proofs.Replaced.{Fitting, fit-ways}
 use borrow.Author.Needs.{needs}
-use Rattle.text.proofs.expanding.fits_singly.Statement.{statement}
-use Rattle.text.proofs.expanding.fits_singly.Tie as tie
+use Rattle.text.proofs.expanding.shows_within.Statement.{statement}
+use Rattle.text.proofs.expanding.shows_within.Tie as tie
 
 abbrev Inv-loop : tie.InvT-loop
-Inv-loop widths s from limit left₀ at₀ left at = Fitting widths s from limit left at
+Inv-loop counts s left₀ at₀ left at = Fitting counts s left₀ left at
 
 abbrev μ-loop : tie.MeasureT-loop
-μ-loop widths s from limit left₀ at₀ left at = length s - at
+μ-loop counts s left₀ at₀ left at = length s - at
 
 loop-holds : tie.Need-loop-holds Inv-loop μ-loop
 loop-holds c = search (fit-ways, needs)
 
-shared-slice-read-width-by : tie.Need-shared-slice-read-width-by Inv-loop μ-loop
-shared-slice-read-width-by c = search needs
+shared-slice-read-shown-at : tie.Need-shared-slice-read-shown-at Inv-loop μ-loop
+shared-slice-read-shown-at c = search needs
 
-width-by-requires : tie.Need-width-by-requires Inv-loop μ-loop
-width-by-requires c κs = search needs
+shown-at-requires : tie.Need-shown-at-requires Inv-loop μ-loop
+shown-at-requires c κs = search needs
 
 returns : tie.Need-returns Inv-loop μ-loop
 returns c = search (fit-ways, needs)
@@ -35,15 +35,15 @@ loop-again c = search (fit-ways, needs)
 returns-2 : tie.Need-returns-2 Inv-loop μ-loop
 returns-2 c = search (fit-ways, needs)
 
-pub fits-singly-spec : {M : Type 1} → statement M
-fits-singly-spec =
+pub shows-within-spec : {M : Type 1} → statement M
+shows-within-spec =
     tie.close
     (tie.spec
     Inv-loop
     μ-loop
     loop-holds
-    shared-slice-read-width-by
-    width-by-requires
+    shared-slice-read-shown-at
+    shown-at-requires
     returns
     add-at
     loop-less
