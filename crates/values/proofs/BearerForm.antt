@@ -10,6 +10,7 @@ use lib.ListN.{length, take, drop, getD, set, length-drop, length-set}
 use lib.Pow.{shl-exact}
 use lib.Seq.{sets, length-sets, take-all}
 use borrow.Author.Tests.{le-leb, lt-leb, leb-true, eq-eqb, ne-eqb}
+use Rattle.octets.specs.Counts.{asOctets, sizeOf}
 use Rattle.octets.specs.Numbers.{value, digits}
 use Rattle.octets.proofs.Tests.{and-left, and-right, and-true}
 use Rattle.values.specs.declared.Ensemble.{Ensemble}
@@ -74,11 +75,11 @@ first-octet e l s p q x r h pe pl qe ql xe f =
 
 -- the size
 module _ (b : Bearer) (m : ℕ) (e : m ≡ length (ensembleOctets (b .ensemble))) where
-  pub size-long : b .long ≡ true → 5 + m ≡ length (bearerOctets b)
-  size-long l = omega (arith, e, bearer-size b, ap {B = ℕ} (λ x. cond x 4 2) l)
+  pub size-long : b .long ≡ true → asOctets (5 + m) ≡ sizeOf (bearerOctets b)
+  size-long l = ap asOctets (omega (arith, e, bearer-size b, ap {B = ℕ} (λ x. cond x 4 2) l))
 
-  pub size-short : b .long ≡ false → 3 + m ≡ length (bearerOctets b)
-  size-short l = omega (arith, e, bearer-size b, ap {B = ℕ} (λ x. cond x 4 2) l)
+  pub size-short : b .long ≡ false → asOctets (3 + m) ≡ sizeOf (bearerOctets b)
+  size-short l = ap asOctets (omega (arith, e, bearer-size b, ap {B = ℕ} (λ x. cond x 4 2) l))
 
 -- an ensemble written
 module _ (e : Ensemble) (out : List ℕ) (at : ℕ) where

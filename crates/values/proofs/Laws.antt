@@ -10,6 +10,8 @@ use lib.Dec.{eqb, leb}
 use lib.ListN.{length, getD, take, drop, length-append}
 use lib.Seq.{sets, length-sets}
 use borrow.Author.Tests.{leb-true, eqb-true, eqb-false, eq-eqb}
+use Rattle.octets.specs.declared.counts.Octets.{Octets as OctetCount}
+use Rattle.octets.specs.Counts.{sizeOf}
 use Rattle.octets.specs.Numbers.{value, digits, Octets}
 use Rattle.octets.proofs.Numbers.{digits-value, length-digits}
 use Rattle.octets.proofs.Tests.{and-false, and-left}
@@ -194,11 +196,11 @@ pub record Sized (k : Kind) (s : List ℕ) (n : ℕ) : Type 0 where
   pub size : n ≡ length (normalOctets k s)
 
 module _ (k : Kind) (s : List ℕ) (r : NormalSize) (e : r ≡ normalSize k s) where
-  pub normal-sized : (n : ℕ) → r ≡ sized.Octets n → Sized k s n
+  pub normal-sized : (n : OctetCount) → r ≡ sized.Octets n → Sized k s (n .0)
   unfolding normalSize
   normal-sized n g = go (fits k s) refl (sym g ∙ e)
     where
-      go : (b : Bool) → fits k s ≡ b → sized.Octets n ≡ cond b (sized.Octets (length (normalOctets k s))) sized.NoValue → Sized k s n
+      go : (b : Bool) → fits k s ≡ b → sized.Octets n ≡ cond b (sized.Octets (sizeOf (normalOctets k s))) sized.NoValue → Sized k s (n .0)
       go true f q = record { fit = f; size = cc }
       go false f q = let z : _≡_ {A = ℕ} 0 1 = cc in absurd (omega arith)
 
@@ -206,7 +208,7 @@ module _ (k : Kind) (s : List ℕ) (r : NormalSize) (e : r ≡ normalSize k s) w
   unfolding normalSize
   not-sized g = go (fits k s) (sym g ∙ e)
     where
-      go : (b : Bool) → sized.NoValue ≡ cond b (sized.Octets (length (normalOctets k s))) sized.NoValue → b ≡ false
+      go : (b : Bool) → sized.NoValue ≡ cond b (sized.Octets (sizeOf (normalOctets k s))) sized.NoValue → b ≡ false
       go true q = let z : _≡_ {A = ℕ} 0 1 = cc in absurd (omega arith)
       go false q = refl
 

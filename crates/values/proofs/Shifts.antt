@@ -12,6 +12,8 @@ use lib.Seq.{sets, length-sets, getD-drop, drop-drop}
 use mir.Syntax.{w8, w64}
 use mir.Val.{Fits}
 use borrow.Author.Tests.{le-leb, lt-leb, leb-true}
+use Rattle.octets.specs.declared.counts.Octets.{Octets as OctetCount}
+use Rattle.octets.specs.Counts.{sizeOf}
 use Rattle.octets.specs.Numbers.{value, digits}
 use Rattle.values.specs.declared.Put.the-variants.{Done, NoRoom, Invalid}
 use Rattle.values.specs.Calls.{putAnswer, putOut, Puts}
@@ -122,26 +124,26 @@ module _ (valid : Bool) (octets out : List ℕ) (at : ℕ) (v : Bool) (e : v ≡
   unfolding putAnswer putOut
   put-invalid n = record { answered = rw (sym e ∙ n) refl; holds = rw (sym e ∙ n) refl }
 
-  module _ (y : v ≡ true) (size : ℕ) (s : size ≡ length octets) (r : Bool) (f : r ≡ leb (at + size) (length out)) where
+  module _ (y : v ≡ true) (size : OctetCount) (s : size ≡ sizeOf octets) (r : Bool) (f : r ≡ leb (at + size .0) (length out)) where
     room-is : leb (at + length octets) (length out) ≡ r
-    room-is = ap (λ n. leb (at + n) (length out)) (sym s) ∙ sym f
+    room-is = ap (λ n. leb (at + n .0) (length out)) (sym s) ∙ sym f
 
     pub put-no-room : r ≡ false → Puts valid octets out at NoRoom out
     unfolding putAnswer putOut
     put-no-room n = record { answered = rw (sym e ∙ y, room-is ∙ n) refl; holds = rw (sym e ∙ y, room-is ∙ n) refl }
 
     module _ (t : r ≡ true) where
-      pub put-done : (after : List ℕ) → after ≡ sets out at octets → Puts valid octets out at (Done (at + size)) after
+      pub put-done : (after : List ℕ) → after ≡ sets out at octets → Puts valid octets out at (Done (at + size .0)) after
       unfolding putAnswer putOut
-      put-done after q = record { answered = rw (sym e ∙ y, room-is ∙ t) (ap (λ n. Done (at + n)) s); holds = rw (sym e ∙ y, room-is ∙ t) q }
+      put-done after q = record { answered = rw (sym e ∙ y, room-is ∙ t) (ap (λ n. Done (at + n .0)) s); holds = rw (sym e ∙ y, room-is ∙ t) q }
 
 pub ruleset put-ways = (put-invalid, put-no-room, put-done)
 
 pub put-valid : (valid v : Bool) → v ≡ valid → v ≡ true → valid ≡ true
 put-valid valid v e y = sym e ∙ y
 
-pub put-room : (octets out : List ℕ) (at size : ℕ) (r : Bool) → size ≡ length octets → r ≡ leb (at + size) (length out) → r ≡ true → at + length octets ≤ length out
-put-room octets out at size r s f t = omega (arith, s, leb-true (at + size) (length out) (sym f ∙ t))
+pub put-room : (octets out : List ℕ) (at : ℕ) (size : OctetCount) (r : Bool) → r ≡ leb (at + size .0) (length out) → r ≡ true → size ≡ sizeOf octets → at + length octets ≤ length out
+put-room octets out at size r f t s = omega (arith, ap (λ n. n .0) s, leb-true (at + size .0) (length out) (sym f ∙ t))
 
 pub end-fits : (room at size : ℕ) (r : Bool) → r ≡ leb (at + size) room → r ≡ true → room < 2 ^ 64 → Fits w64 (at + size)
 end-fits room at size r f t h = record { fits = omega (arith, leb-true (at + size) room (sym f ∙ t)) }

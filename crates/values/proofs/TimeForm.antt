@@ -16,6 +16,7 @@ use mir.Facts.{toZ-ofZ, toZ-pos}
 use mir.Syntax.{w64}
 use mir.Val.{SFits, toZ, ofZ}
 use borrow.Author.Tests.{le-leb, lt-leb, le-ltb, eq-eqb, ne-eqb}
+use Rattle.octets.specs.Counts.{asOctets, sizeOf}
 use Rattle.octets.specs.Numbers.{value, digits}
 use Rattle.octets.proofs.Numbers.{length-digits}
 use Rattle.octets.proofs.Tests.{and-false}
@@ -237,19 +238,19 @@ local-is t n v e h f k =
 
 -- the normal octets: their size
 module _ (t : Time) where
-  pub size-4 : t .second ≡ 0 → t .halves ≡ 0 → 4 ≡ length (timeOctets t)
+  pub size-4 : t .second ≡ 0 → t .halves ≡ 0 → asOctets 4 ≡ sizeOf (timeOctets t)
   unfolding timeOctets digits
   size-4 p q = rw (eq-eqb (t .second) 0 p, eq-eqb (t .halves) 0 q) refl
 
-  pub size-5 : t .second ≡ 0 → (t .halves ≡ 0 → ⊥) → 5 ≡ length (timeOctets t)
+  pub size-5 : t .second ≡ 0 → (t .halves ≡ 0 → ⊥) → asOctets 5 ≡ sizeOf (timeOctets t)
   unfolding timeOctets digits
   size-5 p q = rw (eq-eqb (t .second) 0 p, ne-eqb (t .halves) 0 q) refl
 
-  pub size-6 : (t .second ≡ 0 → ⊥) → t .halves ≡ 0 → 6 ≡ length (timeOctets t)
+  pub size-6 : (t .second ≡ 0 → ⊥) → t .halves ≡ 0 → asOctets 6 ≡ sizeOf (timeOctets t)
   unfolding timeOctets digits
   size-6 p q = rw (ne-eqb (t .second) 0 p, eq-eqb (t .halves) 0 q) refl
 
-  pub size-7 : (t .second ≡ 0 → ⊥) → (t .halves ≡ 0 → ⊥) → 7 ≡ length (timeOctets t)
+  pub size-7 : (t .second ≡ 0 → ⊥) → (t .halves ≡ 0 → ⊥) → asOctets 7 ≡ sizeOf (timeOctets t)
   unfolding timeOctets digits
   size-7 p q = rw (ne-eqb (t .second) 0 p, ne-eqb (t .halves) 0 q) refl
 

@@ -9,6 +9,8 @@ use lib.Dec.{eqb, leb}
 use lib.ListN.{length, drop, getD, set, length-set, drop-of-length-le}
 use lib.Seq.{sets, drop-cons}
 use borrow.Author.Tests.{eqb-true}
+use Rattle.octets.specs.declared.counts.Octets.{Octets as OctetCount}
+use Rattle.octets.specs.Counts.{asOctets, sizeOf}
 use Rattle.octets.specs.Numbers.{value, digits, Octets}
 use Rattle.octets.proofs.Numbers.{digits-value, length-digits}
 use Rattle.values.specs.declared.Kind.{Kind}
@@ -68,11 +70,11 @@ module _ (s : List ℕ) (r : TakenTime) (e : r ≡ takenTime s) where
   pub no-time : r ≡ ofTime.Bad → false ≡ isTime s
   no-time g = sym (time-refused s r e g)
 
-  pub time-sized : (t : Time) (n : ℕ) → r ≡ ofTime.Good t → n ≡ length (timeOctets t) → sized.Octets n ≡ normalSize HoldsTime s
+  pub time-sized : (t : Time) (n : OctetCount) → r ≡ ofTime.Good t → n ≡ sizeOf (timeOctets t) → sized.Octets n ≡ normalSize HoldsTime s
   unfolding normalSize normalOctets fits meant octetsOf
   time-sized t n g q =
       let k = time-taken s r e t g in
-      rw (k .fit) (ap sized.Octets (q ∙ ap (λ u. length (timeOctets u)) (k .means)))
+      rw (k .fit) (ap sized.Octets (q ∙ ap (λ u. sizeOf (timeOctets u)) (k .means)))
 
   pub time-not-sized : r ≡ ofTime.Bad → sized.NoValue ≡ normalSize HoldsTime s
   unfolding normalSize fits
@@ -102,11 +104,11 @@ module _ (s : List ℕ) (r : TakenBearer) (e : r ≡ takenBearer s) where
   pub no-bearer : r ≡ ofBearer.Bad → false ≡ isBearer s
   no-bearer g = sym (bearer-refused s r e g)
 
-  pub bearer-sized : (b : Bearer) (n : ℕ) → r ≡ ofBearer.Good b → n ≡ length (bearerOctets b) → sized.Octets n ≡ normalSize HoldsBearer s
+  pub bearer-sized : (b : Bearer) (n : OctetCount) → r ≡ ofBearer.Good b → n ≡ sizeOf (bearerOctets b) → sized.Octets n ≡ normalSize HoldsBearer s
   unfolding normalSize normalOctets fits meant octetsOf
   bearer-sized b n g q =
       let k = bearer-taken s r e b g in
-      rw (k .fit) (ap sized.Octets (q ∙ ap (λ u. length (bearerOctets u)) (k .means)))
+      rw (k .fit) (ap sized.Octets (q ∙ ap (λ u. sizeOf (bearerOctets u)) (k .means)))
 
   pub bearer-not-sized : r ≡ ofBearer.Bad → sized.NoValue ≡ normalSize HoldsBearer s
   unfolding normalSize fits
@@ -138,9 +140,9 @@ module _ (n : NumberKind) (s : List ℕ) where
   has-width w e = ap (eqb (length s)) e
 
   module _ (b : Bool) (e : b ≡ fits (HoldsNumber n) s) where
-    pub number-sized : b ≡ true → sized.Octets (length s) ≡ normalSize (HoldsNumber n) s
+    pub number-sized : b ≡ true → sized.Octets (sizeOf s) ≡ normalSize (HoldsNumber n) s
     unfolding normalSize normalOctets fits meant octetsOf
-    number-sized t = rw (sym e ∙ t) (ap sized.Octets (eqb-true (length s) (width n) (sym e ∙ t) ∙ sym (length-digits (width n) (value s))))
+    number-sized t = rw (sym e ∙ t) (ap (λ m. sized.Octets (asOctets m)) (eqb-true (length s) (width n) (sym e ∙ t) ∙ sym (length-digits (width n) (value s))))
 
     pub number-not-sized : b ≡ false → sized.NoValue ≡ normalSize (HoldsNumber n) s
     unfolding normalSize
@@ -162,14 +164,14 @@ pub ruleset number-ways = (has-width, number-sized, number-not-sized, number-put
 
 -- octets as they stand
 pub octets-put-none : (s out : List ℕ) (at : ℕ) (r : Bool) → r ≡ leb (at + length s) (length out) → r ≡ false → Puts true s out at NoRoom out
-octets-put-none s out at r f n = put-no-room true s out at true refl refl (length s) refl r f n
+octets-put-none s out at r f n = put-no-room true s out at true refl refl (sizeOf s) refl r f n
 
 pub octets-put : (s out : List ℕ) (at : ℕ) (r : Bool) (after : List ℕ) → r ≡ leb (at + length s) (length out) → r ≡ true → after ≡ sets out at s
     → Puts true s out at (Done (at + length s)) after
-octets-put s out at r after f t q = put-done true s out at true refl refl (length s) refl r f t after q
+octets-put s out at r after f t q = put-done true s out at true refl refl (sizeOf s) refl r f t after q
 
 pub octets-room : (s out : List ℕ) (at : ℕ) (r : Bool) → r ≡ leb (at + length s) (length out) → r ≡ true → at + length s ≤ length out
-octets-room s out at r f t = put-room s out at (length s) r refl f t
+octets-room s out at r f t = put-room s out at (sizeOf s) r f t refl
 
 pub ruleset octets-ways = (octets-put-none, octets-put, octets-room)
 
@@ -184,11 +186,11 @@ module _ (k l : Kind) (e : k ≡ l) (s : List ℕ) where
   pub sized-as : (r : NormalSize) → r ≡ normalSize l s → r ≡ normalSize k s
   sized-as r f = f ∙ ap (λ m. normalSize m s) (sym e)
 
-  pub stands-sized : asItStands l ≡ true → sized.Octets (length s) ≡ normalSize k s
+  pub stands-sized : asItStands l ≡ true → sized.Octets (sizeOf s) ≡ normalSize k s
   unfolding normalSize
   stands-sized h =
-      sized-as (sized.Octets (length s))
-      (sym (ap₂ (λ b o. cond b (sized.Octets (length o)) sized.NoValue) (stands-fits l s h) (stands-normal l s h)))
+      sized-as (sized.Octets (sizeOf s))
+      (sym (ap₂ (λ b o. cond b (sized.Octets (sizeOf o)) sized.NoValue) (stands-fits l s h) (stands-normal l s h)))
 
   module _ (out : List ℕ) (at : ℕ) (a : Put) (after : List ℕ) where
     pub put-as : Puts (fits l s) (normalOctets l s) out at a after → Puts (fits k s) (normalOctets k s) out at a after

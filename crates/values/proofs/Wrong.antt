@@ -6,6 +6,7 @@ use Prim.Native.Nat.{ℕ}
 use native.Mathlib.Omega.{arith}
 use lib.IntN.{pos, negsuc}
 use lib.ListN.{length, getD}
+use Rattle.octets.specs.Counts.{asOctets, sizeOf}
 use Rattle.octets.specs.Numbers.{value, digits}
 use Rattle.values.specs.declared.Kind.the-variants.{HoldsText, HoldsPlain, HoldsTime, HoldsBearer, HoldsNumber}
 use Rattle.values.specs.declared.NumberKind.the-variants.{Duration, ShortId, Integer}
@@ -17,7 +18,8 @@ use Rattle.values.specs.declared.TakenTime.the-variants as ofTime
 use Rattle.values.specs.declared.TakenBearer.{TakenBearer}
 use Rattle.values.specs.declared.TakenBearer.the-variants as ofBearer
 use Rattle.values.specs.declared.Put.the-variants.{Done, NoRoom}
-use Rattle.values.specs.declared.NormalSize.the-variants.{Octets}
+use Rattle.values.specs.declared.NormalSize.{NormalSize}
+use Rattle.values.specs.declared.NormalSize.the-variants.{Octets, NoValue}
 use Rattle.values.specs.Table.{rows, kindIn, known, attribute}
 use Rattle.values.specs.Times.{bits, longFlag, offsetFlag, offsetOctet, timeOf, inRange, isTime, canonical, sign, timeOctets, localMinutes, localOf}
 use Rattle.values.specs.Bearers.{ensembleFlag, longSidFlag, ensembleOf, bearerOf, isBearer, ensembleBit, ensembleOctets, bearerOctets}
@@ -115,13 +117,13 @@ unfolding localOf localMinutes
 local-day-cut h = let z : _≡_ {A = ℕ} 2 0 = cc in omega arith
 
 -- `Time::size`: seconds left out; an octet for offset 0
-pub seconds-not-counted : length (timeOctets (at 50_000 15)) ≡ 4 → ⊥
+pub seconds-not-counted : sizeOf (timeOctets (at 50_000 15)) ≡ asOctets 4 → ⊥
 unfolding timeOctets digits sign
-seconds-not-counted h = omega arith
+seconds-not-counted h = omega (arith, ap (λ n. n .0) h)
 
-pub zero-offset-counted : length (timeOctets (record { day = 50_000; hour = 0; minute = 0; second = 0; minus = true; halves = 0 })) ≡ 5 → ⊥
+pub zero-offset-counted : sizeOf (timeOctets (record { day = 50_000; hour = 0; minute = 0; second = 0; minus = true; halves = 0 })) ≡ asOctets 5 → ⊥
 unfolding timeOctets digits sign
-zero-offset-counted h = omega arith
+zero-offset-counted h = omega (arith, ap (λ n. n .0) h)
 
 -- `Time::put`: done where one octet lacks; part of it written all the same; a time out of range written
 abbrev five : List ℕ
@@ -166,13 +168,13 @@ unfolding bearerInRange
 wide-sid-valid h = false≢true h
 
 -- `Bearer::size`: a long service id counted as a short one; the ensemble left out
-pub long-sid-short : length (bearerOctets (record { ensemble = Absent; long = true; sid = 1; scids = 0 })) ≡ 3 → ⊥
+pub long-sid-short : sizeOf (bearerOctets (record { ensemble = Absent; long = true; sid = 1; scids = 0 })) ≡ asOctets 3 → ⊥
 unfolding bearerOctets ensembleBit ensembleOctets digits
-long-sid-short h = omega arith
+long-sid-short h = omega (arith, ap (λ n. n .0) h)
 
-pub ensemble-not-counted : length (bearerOctets (record { ensemble = Present 0xE1 0xC185; long = false; sid = 1; scids = 0 })) ≡ 3 → ⊥
+pub ensemble-not-counted : sizeOf (bearerOctets (record { ensemble = Present 0xE1 0xC185; long = false; sid = 1; scids = 0 })) ≡ asOctets 3 → ⊥
 unfolding bearerOctets ensembleBit ensembleOctets digits
-ensemble-not-counted h = omega arith
+ensemble-not-counted h = omega (arith, ap (λ n. n .0) h)
 
 -- `Bearer::put`: a 16-bit service id written as the 32-bit one of the same number; the octets before the place changed
 pub widths-confused : bearerOctets (record { ensemble = Absent; long = false; sid = 0xC123; scids = 5 }) ≡ bearerOctets (record { ensemble = Absent; long = true; sid = 0xC123; scids = 5 }) → ⊥
@@ -196,12 +198,17 @@ pub empty-plain-refused : fits HoldsPlain [] ≡ false → ⊥
 unfolding fits
 empty-plain-refused h = true≢false h
 
--- `normal_size`: the octet of minus 0 counted; the size of octets that are no value
-pub minus-zero-counted : normalSize HoldsTime (0x30 ∷ 0xD4 ∷ 0x10 ∷ 0x00 ∷ 0x20 ∷ []) ≡ Octets 5 → ⊥
-unfolding normalSize normalOctets fits meant octetsOf isTime inRange timeOf bits longFlag offsetFlag offsetOctet value timeOctets digits sign
-minus-zero-counted h = let z : _≡_ {A = ℕ} 4 5 = cc in omega arith
+-- the size that an answer of `normal_size` tells
+abbrev sizeIn : NormalSize → ℕ
+sizeIn (Octets n) = n .0
+sizeIn NoValue = 0
 
-pub no-value-sized : normalSize (HoldsNumber Duration) (0x3C ∷ []) ≡ Octets 2 → ⊥
+-- `normal_size`: the octet of minus 0 counted; the size of octets that are no value
+pub minus-zero-counted : normalSize HoldsTime (0x30 ∷ 0xD4 ∷ 0x10 ∷ 0x00 ∷ 0x20 ∷ []) ≡ Octets (asOctets 5) → ⊥
+unfolding normalSize normalOctets fits meant octetsOf isTime inRange timeOf bits longFlag offsetFlag offsetOctet value timeOctets digits sign
+minus-zero-counted h = let z : _≡_ {A = ℕ} 4 5 = ap sizeIn h in omega arith
+
+pub no-value-sized : normalSize (HoldsNumber Duration) (0x3C ∷ []) ≡ Octets (asOctets 2) → ⊥
 unfolding normalSize fits width
 no-value-sized h = let z : _≡_ {A = ℕ} 0 1 = cc in omega arith
 

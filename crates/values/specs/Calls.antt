@@ -7,6 +7,7 @@ use Prim.Native.Nat.{ℕ, _+_}
 use lib.Dec.{leb}
 use lib.ListN.{length}
 use lib.Seq.{sets}
+use Rattle.octets.specs.Counts.{sizeOf}
 use Rattle.values.specs.declared.Kind.{Kind}
 use Rattle.values.specs.declared.KnownKind.{KnownKind}
 use Rattle.values.specs.declared.KnownKind.the-variants.{Unknown, Known}
@@ -62,6 +63,6 @@ pub record Puts (valid : Bool) (octets before : List ℕ) (at : ℕ) (answer : P
 unfoldable pub normalOctets : Kind → List ℕ → List ℕ
 normalOctets kind o = octetsOf (meant [] kind o)
 
--- how many they are, of octets that are a value of the kind
+-- how many octets they are, of octets that are a value of the kind
 unfoldable pub normalSize : Kind → List ℕ → NormalSize
-normalSize kind o = cond (fits kind o) (Octets (length (normalOctets kind o))) NoValue
+normalSize kind o = cond (fits kind o) (Octets (sizeOf (normalOctets kind o))) NoValue

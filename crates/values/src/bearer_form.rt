@@ -5,6 +5,7 @@ ghost use Prim.Native.Nat.{_+_, _*_, _≤_, _<_};
 ghost use lib.Dec.{eqb, leb};
 ghost use lib.ListN.{length, take, drop, getD};
 ghost use lib.Seq.{sets};
+ghost use Rattle.octets.specs.Counts.{sizeOf};
 ghost use Rattle.octets.specs.Numbers.{value, digits};
 ghost use Rattle.values.specs.declared.Ensemble.the-variants.{Absent, Present};
 ghost use Rattle.values.specs.Bearers.{ensembleBit, ensembleOctets, bearerOctets};
@@ -20,6 +21,7 @@ use crate::numbers::put_four;
 use crate::numbers::put_two;
 use crate::numbers::two_at;
 use crate::numbers::wide;
+use octets::Octets;
 
 impl Bearer {
     // The bearer that octets hold: of exactly the size that the two flags say.
@@ -63,15 +65,17 @@ impl Bearer {
     }
 
     // How many octets the normal form has.
-    pub fn size(self) -> usize
-        ensures { λ r. ⌜ r ≡ length (bearerOctets self) ⌝ }
+    pub fn size(self) -> Octets
+        ensures { λ r. ⌜ r ≡ sizeOf (bearerOctets self) ⌝ }
     {
         let ensemble = self.ensemble;
         let middle = ensemble_size(ensemble);
         if self.long {
-            return 5 + middle;
+            let size = 5 + middle.0;
+            return Octets(size);
         }
-        3 + middle
+        let size = 3 + middle.0;
+        Octets(size)
     }
 
     // The normal octets, written from a place on.
@@ -82,11 +86,11 @@ impl Bearer {
             return Put::Invalid;
         }
         let size = self.size();
-        if !has_room(out.len(), at, size) {
+        if !has_room(Octets(out.len()), at, size) {
             return Put::NoRoom;
         }
         self.store(out, at);
-        Put::Done(at + size)
+        Put::Done(at + size.0)
     }
 
     fn store(self, out: &mut [u8], at: usize)
@@ -131,13 +135,13 @@ fn sid_at(s: &[u8], present: u32, long: u32) -> u32
     four_at(s, at)
 }
 
-fn ensemble_size(ensemble: Ensemble) -> usize
-    ensures { λ r. ⌜ r ≡ length (ensembleOctets ensemble) ⌝ }
-    ensures { λ r. ⌜ r ≤ 3 ⌝ }
+fn ensemble_size(ensemble: Ensemble) -> Octets
+    ensures { λ r. ⌜ r .0 ≡ length (ensembleOctets ensemble) ⌝ }
+    ensures { λ r. ⌜ r .0 ≤ 3 ⌝ }
 {
     match ensemble {
-        Ensemble::Absent => 0,
-        Ensemble::Present { ecc: _, eid: _ } => 3,
+        Ensemble::Absent => Octets(0),
+        Ensemble::Present { ecc: _, eid: _ } => Octets(3),
     }
 }
 

@@ -7,6 +7,7 @@ mod table;
 mod time_form;
 mod value_form;
 
+use octets::Octets;
 pub use table::is_attribute;
 pub use table::known_kind;
 pub use value_form::fits_kind;
@@ -91,6 +92,6 @@ pub enum Put {
 
 // The size in normal form of octets that are a value of their kind.
 pub enum NormalSize {
-    Octets(usize),
+    Octets(Octets),
     NoValue,
 }

@@ -6,6 +6,7 @@ ghost use lib.Dec.{leb};
 ghost use lib.ListN.{length, take, drop};
 ghost use lib.Seq.{sets};
 ghost use Rattle.octets.specs.Numbers.{value, digits};
+use octets::Octets;
 
 pub fn wide(x: u8) -> u32
     ensures { λ r. ⌜ r ≡ x ⌝ }
@@ -62,13 +63,13 @@ pub fn put_four(n: u32, out: &mut [u8], at: usize)
 }
 
 // Whether so many octets have room from a place on.
-pub fn has_room(room: usize, at: usize, size: usize) -> bool
-    ensures { λ r. ⌜ r ≡ leb (at + size) room ⌝ }
+pub fn has_room(room: Octets, at: usize, size: Octets) -> bool
+    ensures { λ r. ⌜ r ≡ leb (at + size .0) (room .0) ⌝ }
 {
-    if at > room {
+    if at > room.0 {
         return false;
     }
-    if room - at < size {
+    if room.0 - at < size.0 {
         return false;
     }
     true

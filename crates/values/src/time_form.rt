@@ -5,6 +5,7 @@ ghost use Prim.Native.Nat.{_+_, _*_, _/_, _%_, _^_, _≤_, _<_};
 ghost use lib.Dec.{eqb};
 ghost use lib.ListN.{length, getD};
 ghost use lib.Seq.{sets};
+ghost use Rattle.octets.specs.Counts.{sizeOf};
 ghost use Rattle.values.specs.Times.{inRange, canonical, sign, timeOctets, localMinutes, localOf};
 ghost use Rattle.values.specs.Layout.{firstBits, secondOctets, offsetOctets};
 ghost use Rattle.values.specs.Calls.{takenTime, Puts};
@@ -17,6 +18,7 @@ use crate::numbers::has_room;
 use crate::numbers::low;
 use crate::numbers::put_four;
 use crate::numbers::wide;
+use octets::Octets;
 
 impl Time {
     // The time that octets hold: of exactly the size that the two flags say, and in range.
@@ -117,19 +119,19 @@ impl Time {
     }
 
     // How many octets the normal form has.
-    pub fn size(self) -> usize
-        ensures { λ r. ⌜ r ≡ length (timeOctets self) ⌝ }
+    pub fn size(self) -> Octets
+        ensures { λ r. ⌜ r ≡ sizeOf (timeOctets self) ⌝ }
     {
         if self.second == 0 {
             if self.halves == 0 {
-                return 4;
+                return Octets(4);
             }
-            return 5;
+            return Octets(5);
         }
         if self.halves == 0 {
-            return 6;
+            return Octets(6);
         }
-        7
+        Octets(7)
     }
 
     // The normal octets, written from a place on.
@@ -140,11 +142,11 @@ impl Time {
             return Put::Invalid;
         }
         let size = self.size();
-        if !has_room(out.len(), at, size) {
+        if !has_room(Octets(out.len()), at, size) {
             return Put::NoRoom;
         }
         self.store(out, at);
-        Put::Done(at + size)
+        Put::Done(at + size.0)
     }
 
     fn store(self, out: &mut [u8], at: usize)

@@ -18,6 +18,7 @@ use crate::TakenBearer;
 use crate::TakenTime;
 use crate::Time;
 use crate::numbers::has_room;
+use octets::Octets;
 
 // Rule 9: whether octets are a value of their kind. Text, tokens, items and plain octets always are.
 pub fn fits_kind(kind: Kind, s: &[u8]) -> bool
@@ -39,10 +40,10 @@ pub fn normal_size(kind: Kind, s: &[u8]) -> NormalSize
     ensures { λ r. ⌜ r ≡ normalSize kind (now (s .entry)) ⌝ }
 {
     match kind {
-        Kind::HoldsItems => NormalSize::Octets(s.len()),
-        Kind::HoldsTokens => NormalSize::Octets(s.len()),
-        Kind::HoldsText => NormalSize::Octets(s.len()),
-        Kind::HoldsPlain => NormalSize::Octets(s.len()),
+        Kind::HoldsItems => NormalSize::Octets(Octets(s.len())),
+        Kind::HoldsTokens => NormalSize::Octets(Octets(s.len())),
+        Kind::HoldsText => NormalSize::Octets(Octets(s.len())),
+        Kind::HoldsPlain => NormalSize::Octets(Octets(s.len())),
         Kind::HoldsTime => time_size(s),
         Kind::HoldsBearer => bearer_size(s),
         Kind::HoldsNumber(n) => number_size(n, s),
@@ -83,21 +84,21 @@ fn is_bearer(s: &[u8]) -> bool
 }
 
 // How many octets a number of the kind has.
-fn width_of(n: NumberKind) -> usize
-    ensures { λ r. ⌜ r ≡ width n ⌝ }
+fn width_of(n: NumberKind) -> Octets
+    ensures { λ r. ⌜ r .0 ≡ width n ⌝ }
 {
     match n {
-        NumberKind::Duration => 2,
-        NumberKind::ShortId => 3,
-        NumberKind::Enumerated => 1,
-        NumberKind::Integer => 2,
+        NumberKind::Duration => Octets(2),
+        NumberKind::ShortId => Octets(3),
+        NumberKind::Enumerated => Octets(1),
+        NumberKind::Integer => Octets(2),
     }
 }
 
 fn has_width(n: NumberKind, s: &[u8]) -> bool
     ensures { λ r. ⌜ r ≡ fits (HoldsNumber n) (now (s .entry)) ⌝ }
 {
-    s.len() == width_of(n)
+    s.len() == width_of(n).0
 }
 
 fn time_size(s: &[u8]) -> NormalSize
@@ -122,7 +123,7 @@ fn number_size(n: NumberKind, s: &[u8]) -> NormalSize
     ensures { λ r. ⌜ r ≡ normalSize (HoldsNumber n) (now (s .entry)) ⌝ }
 {
     if has_width(n, s) {
-        return NormalSize::Octets(s.len());
+        return NormalSize::Octets(Octets(s.len()));
     }
     NormalSize::NoValue
 }
@@ -160,7 +161,7 @@ fn put_octets(s: &[u8], out: &mut [u8], at: usize) -> Put
     ensures { λ r. ⌜ Puts true (now (s .entry)) (now (out .entry)) at r (now (out .exit)) ⌝ }
 {
     let size = s.len();
-    if !has_room(out.len(), at, size) {
+    if !has_room(Octets(out.len()), at, Octets(size)) {
         return Put::NoRoom;
     }
     copy(s, out, at);
