@@ -3,6 +3,7 @@ use mathlib.Core.Path.{_≡_, refl, ap}
 use mathlib.Core.Bool.{false}
 use Prim.Native.Nat.{ℕ}
 use native.Mathlib.Omega.{arith}
+use Rattle.octets.specs.Counts.{asOctets}
 use Rattle.format.specs.declared.ReadAnswer.the-variants.{Records, NotRead}
 use Rattle.format.specs.declared.WriteAnswer.the-variants.{Octets, NotWritten}
 use Rattle.format.specs.declared.SameAnswer.the-variants.{FirstRefused, SecondRefused}
@@ -14,7 +15,7 @@ pub read-outcomes : (readOutcome (NotRead (refusal 13 412)) ≡ record { number 
 read-outcomes = (refl, refl)
 
 pub write-outcomes : (writeOutcome (NotWritten (refusal 15 0)) ≡ record { number = 15; place = 0; count = 0 })
-    × (writeOutcome (Octets 6) ≡ record { number = 0; place = 0; count = 6 })
+    × (writeOutcome (Octets (asOctets 6)) ≡ record { number = 0; place = 0; count = 6 })
 write-outcomes = (refl, refl)
 
 -- which object was refused is told, and a refusal is not told as two meanings

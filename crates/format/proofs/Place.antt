@@ -7,6 +7,7 @@ use Prim.Native.Nat.{ℕ, suc, _≤_, _<_}
 use native.Mathlib.Omega.{arith}
 use lib.Dec.{eqb, leb}
 use borrow.Author.Tests.{lt-ltb, ltb-true, ne-eqb}
+use Rattle.octets.specs.declared.counts.Characters.{Characters}
 use Rattle.octets.specs.Numbers.{among}
 use Rattle.text.specs.Text.{text}
 use Rattle.text.specs.Tokens.{covered, shownLength}
@@ -87,7 +88,7 @@ pub allowed-cdata : (parent : ℕ) → eqb parent 0 ≡ false → allowed parent
 unfolding allowed isTop
 allowed-cdata parent p = rw p (or-true (eqb parent 2 || eqb parent 3))
 
-pub shown-other : (parent tag n : ℕ) → eqb tag 1 ≡ false → shown parent tag n ≡ true
+pub shown-other : (parent tag : ℕ) (n : Characters) → eqb tag 1 ≡ false → shown parent tag n ≡ true
 unfolding shown
 shown-other parent tag n e = rw e
 

@@ -15,13 +15,13 @@ use Rattle.format.specs.declared.SameOutcome.{SameOutcome}
 abbrev pub refusal : ℕ → ℕ → Refusal
 refusal number place = record { number = number; place = place }
 
--- number and place of a refusal, 0 and 0 where there is none; the count, 0 after a refusal
+-- number and place of a refusal, 0 and 0 where there is none; the count, of records or of octets, 0 after a refusal
 abbrev pub readOutcome : ReadAnswer → Outcome
 readOutcome (Records counts) = record { number = 0; place = 0; count = counts .records }
 readOutcome (NotRead r) = record { number = r .number; place = r .place; count = 0 }
 
 abbrev pub writeOutcome : WriteAnswer → Outcome
-writeOutcome (Octets n) = record { number = 0; place = 0; count = n }
+writeOutcome (Octets n) = record { number = 0; place = 0; count = n .0 }
 writeOutcome (NotWritten r) = record { number = r .number; place = r .place; count = 0 }
 
 -- the same, with the object that was refused: 1 the first, 2 the second, 0 none

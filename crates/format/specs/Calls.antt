@@ -8,6 +8,8 @@ use Prim.Native.Nat.{ℕ, suc, _+_, min}
 use lib.Dec.{leb, ltb}
 use lib.ListN.{length, take, drop, getD, set}
 use lib.Seq.{sets}
+use Rattle.octets.specs.declared.counts.Octets.{Octets as OctetCount}
+use Rattle.octets.specs.Counts.{asOctets, sizeOf, octetsWithin}
 use Rattle.format.specs.declared.Record.{Record}
 use Rattle.format.specs.declared.Span.{Span}
 use Rattle.format.specs.declared.ReadAnswer.{ReadAnswer}
@@ -91,36 +93,36 @@ unfoldable pub bodyAt : List ℕ → Span → List ℕ
 bodyAt object s = take (s .size) (drop (s .start) object)
 
 -- 15: the octets don't fit the room or are more than an object may have
-unfoldable pub roomy : ℕ → List ℕ → Bool
-roomy room o = leb (length o) (min room 32_768)
+unfoldable pub roomy : OctetCount → List ℕ → Bool
+roomy room o = octetsWithin (sizeOf o) (asOctets (min (room .0) 32_768))
 
 -- write: 16 where there are more records than places or they aren't a well-formed tree, else 15, else the octets of its normal form
 unfoldable pub treeGiven : ℕ → Lists → List ℕ → Option Items
 treeGiven n l lent = cond (leb n (places l)) (rebuilt (row l) n lent) none
 
-unfoldable pub writeAnswer : ℕ → Option Items → WriteAnswer
+unfoldable pub writeAnswer : OctetCount → Option Items → WriteAnswer
 writeAnswer room none = NotWritten (refusal 16 0)
-writeAnswer room (some t) = cond (roomy room (encode (means [] t))) (Octets (length (encode (means [] t)))) (NotWritten (refusal 15 0))
+writeAnswer room (some t) = cond (roomy room (encode (means [] t))) (Octets (sizeOf (encode (means [] t)))) (NotWritten (refusal 15 0))
 
-unfoldable pub writeOctets : ℕ → Option Items → List ℕ
+unfoldable pub writeOctets : OctetCount → Option Items → List ℕ
 writeOctets room none = []
 writeOctets room (some t) = cond (roomy room (encode (means [] t))) (encode (means [] t)) []
 
 pub record WriteClaim (n : ℕ) (lists : Lists) (lent before after : List ℕ) (answer : WriteAnswer) : Type 0 where
-  pub answers : answer ≡ writeAnswer (length before) (treeGiven n lists lent)
-  pub leaves : after ≡ sets before 0 (writeOctets (length before) (treeGiven n lists lent))
+  pub answers : answer ≡ writeAnswer (sizeOf before) (treeGiven n lists lent)
+  pub leaves : after ≡ sets before 0 (writeOctets (sizeOf before) (treeGiven n lists lent))
 
--- what is lent to normalise, by size: places for records, a store for texts and values, a room for octets
+-- what is lent to normalise: how many places for records, and how many octets of a store for texts and values and of a room
 pub record Lent : Type 0 where
   pub records : ℕ
-  pub store : ℕ
-  pub room : ℕ
+  pub store : OctetCount
+  pub room : OctetCount
 
 abbrev pub lentBy : Lists → List ℕ → List ℕ → Lent
-lentBy lists store room = record { records = places lists; store = length store; room = length room }
+lentBy lists store room = record { records = places lists; store = sizeOf store; room = sizeOf room }
 
 unfoldable pub storedWithin : Lent → Items → Bool
-storedWithin lent t = leb (length (storeOf t)) (lent .store) && roomy (lent .room) (normalOf t)
+storedWithin lent t = octetsWithin (sizeOf (storeOf t)) (lent .store) && roomy (lent .room) (normalOf t)
 
 -- an accepted object that fits all that is lent
 unfoldable pub fitsLent : Lent → Items → Bool
@@ -133,7 +135,7 @@ misfit lent t = cond (leb (count t) (lent .records)) (NotWritten (refusal 15 0))
 -- normalise: the refusal of the judgement, else 14, else 15, else the octets of the normal form
 unfoldable pub normalAnswer : Lent → Judged → WriteAnswer
 normalAnswer lent (refused r) = NotWritten r
-normalAnswer lent (accepted t) = cond (fitsLent lent t) (Octets (length (normalOf t))) (misfit lent t)
+normalAnswer lent (accepted t) = cond (fitsLent lent t) (Octets (sizeOf (normalOf t))) (misfit lent t)
 
 -- what a judgement hands out where it accepts an object that fits, and nothing otherwise
 unfoldable pub handed : {A : Type 0} → Lent → (Items → List A) → Judged → List A

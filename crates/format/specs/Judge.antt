@@ -5,6 +5,8 @@ use mathlib.Core.List.{List, [], _∷_, _++_}
 use Prim.Native.Nat.{ℕ, zero, suc, _+_}
 use lib.Dec.{eqb, leb}
 use lib.ListN.{length, take, drop}
+use Rattle.octets.specs.declared.counts.Characters.{Characters}
+use Rattle.octets.specs.Counts.{asCharacters, charactersWithin}
 use Rattle.octets.specs.Numbers.{among}
 use Rattle.octets.specs.Header.{headerSize, bodySize}
 use Rattle.text.specs.Text.{text}
@@ -88,17 +90,20 @@ latest tag = cond (attribute tag || eqb tag 4) 0 (cond (eqb tag 6) 1 2)
 unfoldable pub stageAfter : ℕ → ℕ
 stageAfter tag = cond (attribute tag) 0 (cond (eqb tag 4) 1 (cond (eqb tag 1) 3 2))
 
--- rule 13: how long the CDATA of shortName, mediumName, longName, shortDescription and longDescription may be
-unfoldable pub limit : ℕ → Option ℕ
+-- rule 13: how many characters, after expansion, the CDATA of shortName, mediumName, longName, shortDescription and longDescription may have (document 01, Lengths
+-- of shown text: change request 2026-01 counts them in characters)
+unfoldable pub limit : ℕ → Option Characters
 limit parent =
-    cond (eqb parent 0x10) (some 8)
-    (cond (eqb parent 0x11) (some 16) (cond (eqb parent 0x12) (some 128) (cond (eqb parent 0x1A) (some 180) (cond (eqb parent 0x1B) (some 1_200) none))))
+    cond (eqb parent 0x10) (some (asCharacters 8))
+    (cond (eqb parent 0x11) (some (asCharacters 16))
+    (cond (eqb parent 0x12) (some (asCharacters 128))
+    (cond (eqb parent 0x1A) (some (asCharacters 180)) (cond (eqb parent 0x1B) (some (asCharacters 1_200)) none))))
 
-unfoldable pub notAbove : ℕ → Option ℕ → Bool
+unfoldable pub notAbove : Characters → Option Characters → Bool
 notAbove n none = true
-notAbove n (some m) = leb n m
+notAbove n (some most) = charactersWithin n most
 
-unfoldable pub shown : ℕ → ℕ → ℕ → Bool
+unfoldable pub shown : ℕ → ℕ → Characters → Bool
 shown parent tag n = not (eqb tag 1) || notAbove n (limit parent)
 
 -- one of the top's own attributes

@@ -2,6 +2,7 @@
 ghost use mathlib.Core.Path.{_≡_};
 ghost use Rattle.format.specs.Tree.{kindOf};
 ghost use Rattle.format.specs.Answers.{readOutcome, writeOutcome, sameOutcome};
+use octets::Octets;
 use values::is_attribute;
 
 // One known item: its tag, its kind (0 an element, 1 an attribute, 2 CDATA), its depth, the number of its parent's record, and where its body
@@ -44,7 +45,7 @@ pub enum ReadAnswer {
 
 // The answer of writing and of normalising: how many octets were handed out, or why none were.
 pub enum WriteAnswer {
-    Octets(usize),
+    Octets(Octets),
     NotWritten(Refusal),
 }
 
@@ -62,7 +63,7 @@ pub struct Span {
     pub size: usize,
 }
 
-// Document 01's numbers for an answer: the refusal's number, 0 where there is none, its place, and the count, 0 after a refusal.
+// Document 01's numbers for an answer: the refusal's number, 0 where there is none, its place, and the count, of records or of octets, 0 after a refusal.
 pub struct Outcome {
     pub number: u8,
     pub place: usize,
@@ -101,10 +102,10 @@ impl WriteAnswer {
         ensures { λ r. ⌜ r ≡ writeOutcome self ⌝ }
     {
         match self {
-            WriteAnswer::Octets(count) => Outcome {
+            WriteAnswer::Octets(size) => Outcome {
                 number: 0,
                 place: 0,
-                count,
+                count: size.0,
             },
             WriteAnswer::NotWritten(refusal) => Outcome {
                 number: refusal.number,
