@@ -89,7 +89,7 @@ pub data Inside (T : Entries) : Part → (e d at : ℕ) → List ℕ → Items �
   unknownElement : {e d at start tag : ℕ} {body rest o : List ℕ} {u : Items} → Begins tag body rest o start → Child tag → d ≤ 16 → known 0 tag ≡ none
       → Inside T elements e d (at + start + length body) rest u → Inside T elements e d at o u
   noElement : {e d at : ℕ} {o : List ℕ} {u : Items} → Inside T cdata e d at o u → Inside T elements e d at o u
-  -- CDATA, no more of it than may be shown in e, or none
+  -- CDATA, of whose expansion no more characters are shown than may be in e, or none
   someCdata : {e d at start : ℕ} {body rest o : List ℕ} {u : Items} → Begins 1 body rest o start → TextIn T body → notAbove (shownLength T body) (limit e) ≡ true
       → Inside T nothing e d (at + start + length body) rest u → Inside T cdata e d at o (item 1 (at + start) body end u)
   noCdata : {e d at : ℕ} {o : List ℕ} {u : Items} → Inside T nothing e d at o u → Inside T cdata e d at o u
