@@ -7,6 +7,8 @@ use native.Mathlib.Omega.{arith}
 use lib.Dec.{eqb, leb}
 use borrow.Author.Tests.{ne-eqb}
 use Rattle.values.specs.Table.{attribute}
+use Rattle.octets.specs.declared.counts.Characters.{Characters}
+use Rattle.octets.specs.Counts.{asCharacters, charactersWithin}
 use Rattle.format.specs.Judge.{isTop, allowed, latest, stageAfter, limit, notAbove, shown}
 use Rattle.tags.specs.Rules.{withinDepth, asLimit, limited}
 use Rattle.tags.specs.declared.Limit.{Limit}
@@ -103,23 +105,23 @@ pub ruleset after-ways = (after-attribute, after-four, after-cdata, after-other)
 pub ruleset deep-ways = (deep-attribute, deep-cdata, deep-element)
 
 module _ (parent : ℕ) where
-  pub limit-short : parent ≡ 0x10 → AtMost 8 ≡ asLimit parent
+  pub limit-short : parent ≡ 0x10 → AtMost (asCharacters 8) ≡ asLimit parent
   unfolding asLimit limited limit
   limit-short e = rw e
 
-  pub limit-medium : parent ≡ 0x11 → AtMost 16 ≡ asLimit parent
+  pub limit-medium : parent ≡ 0x11 → AtMost (asCharacters 16) ≡ asLimit parent
   unfolding asLimit limited limit
   limit-medium e = rw e
 
-  pub limit-long : parent ≡ 0x12 → AtMost 128 ≡ asLimit parent
+  pub limit-long : parent ≡ 0x12 → AtMost (asCharacters 128) ≡ asLimit parent
   unfolding asLimit limited limit
   limit-long e = rw e
 
-  pub limit-brief : parent ≡ 0x1A → AtMost 180 ≡ asLimit parent
+  pub limit-brief : parent ≡ 0x1A → AtMost (asCharacters 180) ≡ asLimit parent
   unfolding asLimit limited limit
   limit-brief e = rw e
 
-  pub limit-full : parent ≡ 0x1B → AtMost 1_200 ≡ asLimit parent
+  pub limit-full : parent ≡ 0x1B → AtMost (asCharacters 1_200) ≡ asLimit parent
   unfolding asLimit limited limit
   limit-full e = rw e
 
@@ -129,29 +131,29 @@ module _ (parent : ℕ) where
 
 pub ruleset limit-ways = (limit-short, limit-medium, limit-long, limit-brief, limit-full, limit-none)
 
--- rule 13 as the callers ask it: by the limit, of a text that is shown with so many octets
-module _ (parent tag width : ℕ) where
-  pub short-no-cdata : (tag ≡ 1 → ⊥) → true ≡ shown parent tag width
+-- rule 13 as the callers ask it: by the limit, of a text that is shown with so many characters
+module _ (parent tag : ℕ) (n : Characters) where
+  pub short-no-cdata : (tag ≡ 1 → ⊥) → true ≡ shown parent tag n
   unfolding shown
   short-no-cdata h = rw (ne-eqb tag 1 h)
 
-  limit-is : (n : ℕ) (o : Option ℕ) → limited o ≡ AtMost n → notAbove width o ≡ leb width n
+  limit-is : (most : Characters) (o : Option Characters) → limited o ≡ AtMost most → notAbove n o ≡ charactersWithin n most
   unfolding limited notAbove
-  limit-is n none h = let z : _≡_ {A = ℕ} 0 1 = cc in absurd (omega arith)
-  limit-is n (some m) h = let e : m ≡ n = cc in rw e
+  limit-is most none h = let z : _≡_ {A = ℕ} 0 1 = cc in absurd (omega arith)
+  limit-is most (some m) h = let e : m ≡ most = cc in rw e
 
-  no-limit : (o : Option ℕ) → limited o ≡ Unlimited → notAbove width o ≡ true
+  no-limit : (o : Option Characters) → limited o ≡ Unlimited → notAbove n o ≡ true
   unfolding limited notAbove
   no-limit none h = refl
   no-limit (some m) h = let z : _≡_ {A = ℕ} 0 1 = cc in absurd (omega arith)
 
   module _ (h : tag ≡ 1) (l : Limit) (e : l ≡ asLimit parent) where
-    pub short-unlimited : l ≡ Unlimited → true ≡ shown parent tag width
+    pub short-unlimited : l ≡ Unlimited → true ≡ shown parent tag n
     unfolding shown asLimit
     short-unlimited q = rw h (sym (no-limit (limit parent) (sym e ∙ q)))
 
-    pub short-limited : (n : ℕ) → l ≡ AtMost n → (b : Bool) → b ≡ leb width n → b ≡ shown parent tag width
+    pub short-limited : (most : Characters) → l ≡ AtMost most → (b : Bool) → b ≡ charactersWithin n most → b ≡ shown parent tag n
     unfolding shown asLimit
-    short-limited n q b f = rw h (f ∙ sym (limit-is n (limit parent) (sym e ∙ q)))
+    short-limited most q b f = rw h (f ∙ sym (limit-is most (limit parent) (sym e ∙ q)))
 
 pub ruleset short-ways = (short-no-cdata, short-unlimited, short-limited)

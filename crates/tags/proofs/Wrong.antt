@@ -1,11 +1,13 @@
 -- Wrong answers, refuted by computing the definitions: for each public call two, of the kind that slips make.
-use mathlib.Core.Path.{_≡_}
+use mathlib.Core.Path.{_≡_, ap}
 use mathlib.Core.Bool.{true, false, false≢true, true≢false}
 use Prim.Native.Nat.{ℕ}
 use native.Mathlib.Omega.{arith}
+use Rattle.octets.specs.Counts.{asCharacters}
 use Rattle.values.specs.Table.{attribute}
 use Rattle.format.specs.Judge.{isTop, allowed, latest, stageAfter, limit}
 use Rattle.tags.specs.Rules.{withinDepth, limited, asLimit, hasBit, withBit}
+use Rattle.tags.specs.declared.Limit.{Limit}
 use Rattle.tags.specs.declared.Limit.the-variants.{Unlimited, AtMost}
 
 -- `is_top`: epg alone; the token table taken for a top
@@ -53,10 +55,15 @@ pub cdata-at-seventeen : withinDepth 1 17 ≡ false → ⊥
 unfolding attribute
 cdata-at-seventeen h = true≢false h
 
+-- the number of characters in a limit
+abbrev most : Limit → ℕ
+most Unlimited = 0
+most (AtMost n) = n .0
+
 -- `limit_of`: the limit of mediumName for shortName; no limit for longDescription
-pub medium-for-short : asLimit 0x10 ≡ AtMost 16 → ⊥
+pub medium-for-short : asLimit 0x10 ≡ AtMost (asCharacters 16) → ⊥
 unfolding asLimit limited limit
-medium-for-short h = let z : _≡_ {A = ℕ} 8 16 = cc in omega arith
+medium-for-short h = let z : _≡_ {A = ℕ} 8 16 = ap most h in omega arith
 
 pub no-limit-of-long : asLimit 0x1B ≡ Unlimited → ⊥
 unfolding asLimit limited limit

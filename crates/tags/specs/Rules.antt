@@ -6,6 +6,7 @@ use mathlib.Core.List.{List}
 use Prim.Native.Nat.{ℕ, _-_, _^_}
 use lib.Dec.{eqb, leb}
 use lib.Bits.{bitOr}
+use Rattle.octets.specs.declared.counts.Characters.{Characters}
 use Rattle.octets.specs.Numbers.{among}
 use Rattle.text.specs.Weighing.{bit}
 use Rattle.values.specs.Table.{known, attribute}
@@ -18,7 +19,7 @@ abbrev pub withinDepth : (tag depth : ℕ) → Bool
 withinDepth tag depth = attribute tag || eqb tag 1 || leb depth 16
 
 -- rule 13: the limit for the CDATA of an element, in the code's words
-unfoldable pub limited : Option ℕ → Limit
+unfoldable pub limited : Option Characters → Limit
 limited none = Unlimited
 limited (some n) = AtMost n
 

@@ -3,6 +3,7 @@
 mod rules;
 mod seen;
 
+use octets::Characters;
 pub use rules::is_allowed;
 pub use rules::is_top;
 pub use rules::is_within_depth;
@@ -12,8 +13,8 @@ pub use rules::stage_after;
 pub use seen::has_bit;
 pub use seen::with_bit;
 
-// How many octets a shown text may have, where that is limited.
+// How many characters a shown text may have, where that is limited.
 pub enum Limit {
     Unlimited,
-    AtMost(usize),
+    AtMost(Characters),
 }

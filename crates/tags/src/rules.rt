@@ -3,6 +3,7 @@ ghost use mathlib.Core.Path.{_≡_};
 ghost use Rattle.format.specs.Judge.{allowed, isTop, latest, stageAfter};
 ghost use Rattle.tags.specs.Rules.{asLimit, withinDepth};
 use crate::Limit;
+use octets::Characters;
 use values::is_attribute;
 
 // epg or serviceInformation.
@@ -83,16 +84,16 @@ pub fn is_within_depth(tag: u8, depth: u8) -> bool
     depth <= 16
 }
 
-// Rule 13: the limit for the CDATA of an element.
+// Rule 13: the limit for the CDATA of an element, in characters.
 pub fn limit_of(parent: u8) -> Limit
     ensures { λ r. ⌜ r ≡ asLimit parent ⌝ }
 {
     match parent {
-        0x10 => Limit::AtMost(8),
-        0x11 => Limit::AtMost(16),
-        0x12 => Limit::AtMost(128),
-        0x1A => Limit::AtMost(180),
-        0x1B => Limit::AtMost(1_200),
+        0x10 => Limit::AtMost(Characters(8)),
+        0x11 => Limit::AtMost(Characters(16)),
+        0x12 => Limit::AtMost(Characters(128)),
+        0x1A => Limit::AtMost(Characters(180)),
+        0x1B => Limit::AtMost(Characters(1_200)),
         _ => Limit::Unlimited,
     }
 }
