@@ -13,12 +13,14 @@ use denote.Enum.Declared.{tagOf}
 use borrow.Author.Tests.{le-leb, lt-leb, leb-true, leb-false, eq-eqb}
 use Rattle.octets.specs.Numbers.{among}
 use Rattle.octets.proofs.Tests.{or-true}
+use Rattle.octets.specs.declared.counts.Characters.{Characters}
+use Rattle.octets.specs.Counts.{asCharacters}
 use Rattle.text.specs.Text.{text}
 use Rattle.text.specs.Tokens.{entries, isTable, covered, shownLength}
 use Rattle.text.specs.Weighing.{weighedBy}
 use Rattle.text.specs.declared.Weighed.{Weighed}
 use Rattle.text.specs.declared.Weighed.the-variants.{NoText, Text}
-use Rattle.text.proofs.WeighLaws.{weighed-none, weighed-text, weighed-covered, weighed-width}
+use Rattle.text.proofs.WeighLaws.{weighed-none, weighed-text, weighed-covered, weighed-shown}
 use Rattle.values.specs.declared.Kind.{Kind}
 use Rattle.values.proofs.Kind.{the-type}
 use Rattle.values.specs.declared.Kind.the-variants.{HoldsItems, HoldsTokens, HoldsText, HoldsPlain, HoldsTime, HoldsBearer, HoldsNumber}
@@ -58,16 +60,16 @@ module _ (parent tag : ℕ) (holds t : Bool) (e : t ≡ (attribute tag && isTop 
 
 pub ruleset held-ways = (held-later, held-now)
 
--- a width that is counted up to more than each limit keeps to a limit as the whole does
-Below : ℕ → Option ℕ → Type 0
+-- characters that are counted up to more than each limit keep to a limit as all of them do
+Below : ℕ → Option Characters → Type 0
 Below most none = Unit {0}
-Below most (some m) = m < most
+Below most (some m) = m .0 < most
 
 limit-below : (parent : ℕ) → Below 32_769 (limit parent)
 unfolding limit Below
 limit-below parent = go (eqb parent 0x10) (eqb parent 0x11) (eqb parent 0x12) (eqb parent 0x1A) (eqb parent 0x1B)
   where
-    go : (a b c d e : Bool) → Below 32_769 (cond a (some 8) (cond b (some 16) (cond c (some 128) (cond d (some 180) (cond e (some 1_200) none)))))
+    go : (a b c d e : Bool) → Below 32_769 (cond a (some (asCharacters 8)) (cond b (some (asCharacters 16)) (cond c (some (asCharacters 128)) (cond d (some (asCharacters 180)) (cond e (some (asCharacters 1_200)) none)))))
     go true b c d e = omega arith
     go false true c d e = omega arith
     go false false true d e = omega arith
@@ -84,42 +86,42 @@ capped-leb most n m h = go (leb n most) refl
         let past : most < n = omega (arith, leb-false n most e) in
         ap (λ (k : ℕ). leb k m) (min-eq-left (omega arith)) ∙ lt-leb most m h ∙ sym (lt-leb n m (omega arith))
 
-capped-above : (most n : ℕ) (o : Option ℕ) → Below most o → notAbove (min most n) o ≡ notAbove n o
+capped-above : (most : ℕ) (n : Characters) (o : Option Characters) → Below most o → notAbove (asCharacters (min most (n .0))) o ≡ notAbove n o
 unfolding notAbove Below
 capped-above most n none h = refl
-capped-above most n (some m) h = capped-leb most n m h
+capped-above most n (some m) h = capped-leb most (n .0) (m .0) h
 
-capped-shown : (parent tag n : ℕ) → shown parent tag (min 32_769 n) ≡ shown parent tag n
+capped-shown : (parent tag : ℕ) (n : Characters) → shown parent tag (asCharacters (min 32_769 (n .0))) ≡ shown parent tag n
 unfolding shown
 capped-shown parent tag n = ap (λ b. not (eqb tag 1) || b) (capped-above 32_769 n (limit parent) (limit-below parent))
 
 -- rules 10, 12 and 13
-module _ (parent tag place : ℕ) (table body : List ℕ) (marks : ℕ) (widths : List ℕ) (told : InForce table marks widths)
-    (r : Weighed) (e : r ≡ weighedBy marks widths body 32_769) where
+module _ (parent tag place : ℕ) (table body : List ℕ) (marks : ℕ) (shows : List ℕ) (told : InForce table marks shows)
+    (r : Weighed) (e : r ≡ weighedBy marks shows body (asCharacters 32_769)) where
   abbrev Ruled : Option Refusal
   Ruled = kindRules (bare parent (entries table)) place tag body (some HoldsText)
 
   pub text-bad : r ≡ NoText → checked (Broken (refusal 10 place)) ≡ Ruled
   unfolding kindRules first rule checked isValue isText isTokens fits
-  text-bad f = rw (weighed-none (entries table) marks widths (told .marking) (told .measuring) body 32_769 r e f)
+  text-bad f = rw (weighed-none (entries table) marks shows (told .marking) (told .showing) body (asCharacters 32_769) r e f)
 
-  module _ (holds : Bool) (width : ℕ) (f : r ≡ Text holds width) (t : Bool) (g : t ≡ ((attribute tag && isTop parent) || holds)) where
+  module _ (holds : Bool) (count : Characters) (f : r ≡ Text holds count) (t : Bool) (g : t ≡ ((attribute tag && isTop parent) || holds)) where
     is-text : text true body ≡ true
-    is-text = weighed-text (entries table) marks widths (told .marking) (told .measuring) body 32_769 r e holds width f
+    is-text = weighed-text (entries table) marks shows (told .marking) (told .showing) body (asCharacters 32_769) r e holds count f
 
     is-held : ((attribute tag && isTop parent) || covered (entries table) body) ≡ t
     is-held =
-        ap (λ b. (attribute tag && isTop parent) || b) (sym (weighed-covered (entries table) marks widths (told .marking) (told .measuring) body 32_769 r e holds width f)) ∙ sym g
+        ap (λ b. (attribute tag && isTop parent) || b) (sym (weighed-covered (entries table) marks shows (told .marking) (told .showing) body (asCharacters 32_769) r e holds count f)) ∙ sym g
 
     pub text-uncovered : t ≡ false → checked (Broken (refusal 12 place)) ≡ Ruled
     unfolding kindRules first rule checked isValue isText isTokens fits ofTop
     text-uncovered h = rw (is-text, is-held ∙ h)
 
-    module _ (h : t ≡ true) (u : Bool) (i : u ≡ shown parent tag width) where
+    module _ (h : t ≡ true) (u : Bool) (i : u ≡ shown parent tag count) where
       is-shown : shown parent tag (shownLength (entries table) body) ≡ u
       is-shown =
           sym (capped-shown parent tag (shownLength (entries table) body))
-          ∙ ap (shown parent tag) (sym (weighed-width (entries table) marks widths (told .marking) (told .measuring) body 32_769 r e holds width f)) ∙ sym i
+          ∙ ap (shown parent tag) (sym (weighed-shown (entries table) marks shows (told .marking) (told .showing) body (asCharacters 32_769) r e holds count f)) ∙ sym i
 
       pub text-long : u ≡ false → checked (Broken (refusal 13 place)) ≡ Ruled
       unfolding kindRules first rule checked isValue isText isTokens fits ofTop

@@ -6,7 +6,7 @@ use native.Mathlib.Omega.{arith}
 use Rattle.octets.specs.Numbers.{among, value}
 use Rattle.octets.specs.Header.{headerSize, bodySize}
 use Rattle.text.specs.Text.{layout, token, character, single, goesOn, utf8, text}
-use Rattle.text.specs.Tokens.{cut, entries, filled, isTable, entry, orItself, stands, expanded, present, covers, covered, shownLength}
+use Rattle.text.specs.Tokens.{cut, entries, filled, isTable, entry, orItself, stands, expanded, present, covers, covered, starts, shownLength}
 use Rattle.values.specs.Table.{rows, kindIn, known, attribute}
 use Rattle.values.specs.Values.{width, fits}
 use Rattle.format.specs.declared.Refusal.{Refusal}
@@ -40,7 +40,7 @@ record Answers : Type 0 where
   ofWaiting : judgeAnswer (judge waiting) ≡ NotRead (refusal 12 2)
 
 answers : Answers
-unfolding among value headerSize bodySize layout token character single goesOn utf8 text cut entries filled isTable entry orItself stands expanded present covers covered shownLength rows kindIn known attribute width fits count isKnown isItems isTokens isText isValue isTop allowed latest stageAfter limit notAbove shown ofTop rule first kindRules itemRules own late lateBefore lateAfter broken within waits next unless followed joined byKind items outermost judge judgeAnswer
+unfolding among value headerSize bodySize layout token character single goesOn utf8 text cut entries filled isTable entry orItself stands expanded present covers covered starts shownLength rows kindIn known attribute width fits count isKnown isItems isTokens isText isValue isTop allowed latest stageAfter limit notAbove shown ofTop rule first kindRules itemRules own late lateBefore lateAfter broken within waits next unless followed joined byKind items outermost judge judgeAnswer
 answers = record { ofTop = refl; ofTabled = refl; ofPassing = refl; ofWaiting = refl }
 
 differ : (r : Refusal) (c : Counts) → NotRead r ≡ Records c → ⊥

@@ -9,7 +9,7 @@ use lib.Dec.{eqb}
 use lib.ListN.{length, take, drop, getD}
 use Rattle.octets.specs.Header.{headerSize, bodySize}
 use Rattle.text.specs.Tokens.{Entries, entries}
-use Rattle.text.specs.Weighing.{tags, Marks, Widths}
+use Rattle.text.specs.Weighing.{tags, Marks, Shows}
 use Rattle.values.specs.declared.Kind.{Kind}
 use Rattle.values.specs.declared.Kind.the-variants.{HoldsItems, HoldsTokens, HoldsText, HoldsPlain, HoldsTime, HoldsBearer, HoldsNumber}
 use Rattle.values.specs.Table.{known}
@@ -40,10 +40,10 @@ ctx parent depth stage seen table waiting = record { parent = parent; depth = de
 abbrev pub bare : ℕ → Entries → Context
 bare parent table = ctx parent 0 0 [] table []
 
--- what is kept of a token table beside its octets: its tokens as marks, and the widths of the octets that could be tokens
-pub record InForce (table : List ℕ) (marks : ℕ) (widths : List ℕ) : Type 0 where
+-- what is kept of a token table beside its octets: its tokens as marks, and how many characters are shown for each of the octets that could be tokens
+pub record InForce (table : List ℕ) (marks : ℕ) (shows : List ℕ) : Type 0 where
   pub marking : Marks marks (tags (entries table))
-  pub measuring : Widths 32 (entries table) widths
+  pub showing : Shows 32 (entries table) shows
 
 -- the code counts levels down, the definition counts depth up (document 01, Framing): at depth 1 sixteen levels of elements may begin, at depth 17 none
 unfoldable pub depthOf : ℕ → ℕ

@@ -19,8 +19,8 @@ use crate::late::judge_late;
 use crate::rules::judge_own;
 use format::Counts;
 use format::ReadAnswer;
+use text::characters_of;
 use text::tokens_of;
-use text::widths_of;
 
 // The late rule is judged just after the table.
 fn is_due_after(sort: Sort, parent: u8, stage: u8) -> bool
@@ -44,10 +44,10 @@ fn judge_item(
     progress: Progress,
     table: &[u8],
     marks: u32,
-    widths: &[u8; 32],
+    shows: &[u8; 32],
 ) -> Item
     requires { ⌜ (base + length (now part) ≤ 32_768) × (at < length (now part)) ⌝ }
-    requires { ⌜ InForce (now table) marks (now widths) ⌝ }
+    requires { ⌜ InForce (now table) marks (now shows) ⌝ }
     ensures { λ r. ⌜ Says (BehindIs parent left progress (now (table .entry)) base at (now (part .entry))) parent progress (drop at (now (part .entry))) r ⌝ }
 {
     match judge_own(
@@ -58,7 +58,7 @@ fn judge_item(
         progress,
         table,
         marks,
-        widths,
+        shows,
     ) {
         Item::Bad(refusal) => Item::Bad(refusal),
         Item::Good(sort, start, size, next) => {
@@ -83,16 +83,16 @@ fn read_item(
     progress: Progress,
     table: &[u8],
     marks: u32,
-    widths: &[u8; 32],
+    shows: &[u8; 32],
 ) -> Item
     requires { ⌜ (base + length (now part) ≤ 32_768) × (at < length (now part)) ⌝ }
-    requires { ⌜ InForce (now table) marks (now widths) ⌝ }
+    requires { ⌜ InForce (now table) marks (now shows) ⌝ }
     ensures { λ r. ⌜ Says (AllIs parent left progress (now (table .entry)) base at (now (part .entry))) parent progress (drop at (now (part .entry))) r ⌝ }
 {
     let due = is_due_before(parent, progress.stage, part[at]);
     match judge_late(due, part, at, parent, base, &part[0..0]) {
         Check::Broken(refusal) => Item::Bad(refusal),
-        Check::Kept => judge_item(part, at, base, parent, left, progress, table, marks, widths),
+        Check::Kept => judge_item(part, at, base, parent, left, progress, table, marks, shows),
     }
 }
 
@@ -123,8 +123,8 @@ fn end_items(
 }
 
 // The items of a part, which begins at the place `base` of the object and is the body of an element with the tag `parent`, or the object (0).
-// So many levels of elements may still begin in it. `before` is what was counted before it, `given` the token table in force, which has these marks
-// and widths. `table`, `marks` and `wide` are those in force so far.
+// So many levels of elements may still begin in it. `before` is what was counted before it, `given` the token table in force, with its marks and what
+// each of its tokens shows. `table`, `marks` and `shows` are those in force so far.
 pub fn read_items<'a>(
     part: &'a [u8],
     base: usize,
@@ -133,10 +133,10 @@ pub fn read_items<'a>(
     before: Counts,
     given: &'a [u8],
     marked: u32,
-    widths: &[u8; 32],
+    shown: &[u8; 32],
 ) -> ReadAnswer
     requires { ⌜ (base + length (now part) ≤ 32_768) × (before .records ≤ base) × (left ≤ 16) ⌝ }
-    requires { ⌜ InForce (now given) marked (now widths) ⌝ }
+    requires { ⌜ InForce (now given) marked (now shown) ⌝ }
     ensures { λ r. ⌜ r ≡ counted before (read (ctx parent (depthOf left) 0 [] (entries (now (given .entry))) []) base (now (part .entry))) ⌝ }
     ensures { λ r. ⌜ CountsAtMost (base + length (now (part .entry))) r ⌝ }
 {
@@ -145,9 +145,9 @@ pub fn read_items<'a>(
     let mut counts = before;
     let mut table: &'a [u8] = given;
     let mut marks = marked;
-    let mut wide: [u8; 32] = *widths;
+    let mut shows: [u8; 32] = *shown;
     while at < part.len() {
-        match read_item(part, at, base, parent, left, progress, table, marks, &wide) {
+        match read_item(part, at, base, parent, left, progress, table, marks, &shows) {
             Item::Bad(refusal) => {
                 return ReadAnswer::NotRead(refusal);
             }
@@ -164,7 +164,7 @@ pub fn read_items<'a>(
                     Sort::Table => {
                         table = &part[from..at];
                         marks = tokens_of(table);
-                        wide = widths_of(table);
+                        shows = characters_of(table);
                     }
                     Sort::Element => {
                         match read_element(
@@ -177,7 +177,7 @@ pub fn read_items<'a>(
                             counts,
                             table,
                             marks,
-                            &wide,
+                            &shows,
                         ) {
                             ReadAnswer::NotRead(refusal) => {
                                 return ReadAnswer::NotRead(refusal);
@@ -206,10 +206,10 @@ fn read_element<'a>(
     before: Counts,
     table: &'a [u8],
     marks: u32,
-    widths: &[u8; 32],
+    shows: &[u8; 32],
 ) -> ReadAnswer
     requires { ⌜ (from ≤ to) × (to ≤ length (now part)) × (base + length (now part) ≤ 32_768) × (before .records < base + from) × (0 < left) × (left ≤ 16) ⌝ }
-    requires { ⌜ InForce (now table) marks (now widths) ⌝ }
+    requires { ⌜ InForce (now table) marks (now shows) ⌝ }
     ensures { λ r. ⌜ r ≡ counted (oneMore before) (read (ctx tag (depthOf (left - 1)) 0 [] (entries (now (table .entry))) []) (base + from) (take (to - from) (drop from (now (part .entry))))) ⌝ }
     ensures { λ r. ⌜ CountsAtMost (base + to) r ⌝ }
 {
@@ -223,6 +223,6 @@ fn read_element<'a>(
         counts,
         table,
         marks,
-        widths,
+        shows,
     )
 }

@@ -11,8 +11,8 @@ use format::Counts;
 use format::ReadAnswer;
 use format::Refusal;
 use items::read_items;
+use text::characters_of;
 use text::tokens_of;
-use text::widths_of;
 
 // What rules say in their order: that they are kept, or the refusal of the first that is broken.
 enum Check {
@@ -59,15 +59,6 @@ pub fn judge(object: &[u8]) -> ReadAnswer
     }
     let none = &object[0..0];
     let marks = tokens_of(none);
-    let widths = widths_of(none);
-    read_items(
-        object,
-        0,
-        0,
-        16,
-        Counts { records: 0 },
-        none,
-        marks,
-        &widths,
-    )
+    let shows = characters_of(none);
+    read_items(object, 0, 0, 16, Counts { records: 0 }, none, marks, &shows)
 }

@@ -1,5 +1,5 @@
-// The rules of one item, 2 to 13, by rising number, but for the late 12 (late.rt). Beside the token table in force go its marks and widths, so that the
-// table itself is not gone through again for a text.
+// The rules of one item, 2 to 13, by rising number, but for the late 12 (late.rt). Beside the token table in force go its marks and how many characters each
+// token shows, so that the table itself is not gone through again for a text.
 ghost use mathlib.Core.Path.{_≡_};
 ghost use mathlib.Core.Bool.{_&&_, _||_};
 ghost use mathlib.Core.Option.{some};
@@ -18,6 +18,7 @@ use crate::Item;
 use crate::Progress;
 use crate::Sort;
 use format::Refusal;
+use octets::Characters;
 use octets::Header;
 use octets::read_header;
 use tags::Limit;
@@ -78,16 +79,16 @@ fn is_held(parent: u8, tag: u8, covered: bool) -> bool
     covered
 }
 
-// Rule 13, for text of which so many octets are shown.
-fn is_short(parent: u8, tag: u8, width: usize) -> bool
-    ensures { λ r. ⌜ r ≡ shown parent tag width ⌝ }
+// Rule 13, for text of which so many characters are shown.
+fn is_short(parent: u8, tag: u8, count: Characters) -> bool
+    ensures { λ r. ⌜ r ≡ shown parent tag count ⌝ }
 {
     if tag != 1 {
         return true;
     }
     match limit_of(parent) {
         Limit::Unlimited => true,
-        Limit::AtMost(n) => width <= n,
+        Limit::AtMost(most) => count.0 <= most.0,
     }
 }
 
@@ -98,19 +99,19 @@ fn check_text(
     place: usize,
     table: &[u8],
     marks: u32,
-    widths: &[u8; 32],
+    shows: &[u8; 32],
     body: &[u8],
 ) -> Check
-    requires { ⌜ InForce (now table) marks (now widths) ⌝ }
+    requires { ⌜ InForce (now table) marks (now shows) ⌝ }
     ensures { λ r. ⌜ checked r ≡ kindRules (bare parent (entries (now (table .entry)))) place tag (now (body .entry)) (some HoldsText) ⌝ }
 {
-    match weigh(marks, widths, body, 32_769) {
+    match weigh(marks, shows, body, Characters(32_769)) {
         Weighed::NoText => Check::Broken(Refusal { number: 10, place }),
-        Weighed::Text { covered, width } => {
+        Weighed::Text { covered, shown } => {
             if !is_held(parent, tag, covered) {
                 return Check::Broken(Refusal { number: 12, place });
             }
-            if !is_short(parent, tag, width) {
+            if !is_short(parent, tag, shown) {
                 return Check::Broken(Refusal { number: 13, place });
             }
             Check::Kept
@@ -126,10 +127,10 @@ fn check_kind(
     place: usize,
     table: &[u8],
     marks: u32,
-    widths: &[u8; 32],
+    shows: &[u8; 32],
     body: &[u8],
 ) -> Check
-    requires { ⌜ InForce (now table) marks (now widths) ⌝ }
+    requires { ⌜ InForce (now table) marks (now shows) ⌝ }
     ensures { λ r. ⌜ checked r ≡ kindRules (bare parent (entries (now (table .entry)))) place tag (now (body .entry)) (some kind) ⌝ }
 {
     match kind {
@@ -140,7 +141,7 @@ fn check_kind(
             }
             Check::Broken(Refusal { number: 11, place })
         }
-        Kind::HoldsText => check_text(parent, tag, place, table, marks, widths, body),
+        Kind::HoldsText => check_text(parent, tag, place, table, marks, shows, body),
         Kind::HoldsPlain => Check::Kept,
         _ => {
             if fits_kind(kind, body) {
@@ -159,15 +160,15 @@ fn check_body(
     place: usize,
     table: &[u8],
     marks: u32,
-    widths: &[u8; 32],
+    shows: &[u8; 32],
     body: &[u8],
 ) -> Check
-    requires { ⌜ InForce (now table) marks (now widths) ⌝ }
+    requires { ⌜ InForce (now table) marks (now shows) ⌝ }
     ensures { λ r. ⌜ checked r ≡ kindRules (bare parent (entries (now (table .entry)))) place tag (now (body .entry)) (asKind known) ⌝ }
 {
     match known {
         KnownKind::Unknown => Check::Kept,
-        KnownKind::Known(kind) => check_kind(kind, parent, tag, place, table, marks, widths, body),
+        KnownKind::Known(kind) => check_kind(kind, parent, tag, place, table, marks, shows, body),
     }
 }
 
@@ -191,11 +192,11 @@ fn check_item(
     place: usize,
     table: &[u8],
     marks: u32,
-    widths: &[u8; 32],
+    shows: &[u8; 32],
     body: &[u8],
 ) -> Check
     requires { ⌜ known ≡ knownKind parent tag ⌝ }
-    requires { ⌜ InForce (now table) marks (now widths) ⌝ }
+    requires { ⌜ InForce (now table) marks (now shows) ⌝ }
     ensures { λ r. ⌜ ItemSays parent tag left progress place (now (table .entry)) (now (body .entry)) r ⌝ }
 {
     if latest_of(tag) < progress.stage {
@@ -207,7 +208,7 @@ fn check_item(
     if is_twice(known, tag, progress.mask) {
         return Check::Broken(Refusal { number: 8, place });
     }
-    check_body(known, parent, tag, place, table, marks, widths, body)
+    check_body(known, parent, tag, place, table, marks, shows, body)
 }
 
 fn sort_of(known: KnownKind) -> Sort
@@ -243,10 +244,10 @@ fn judge_framed(
     progress: Progress,
     table: &[u8],
     marks: u32,
-    widths: &[u8; 32],
+    shows: &[u8; 32],
 ) -> Item
     requires { ⌜ Framed (now rest) start size × (place + length (now rest) ≤ 32_768) ⌝ }
-    requires { ⌜ InForce (now table) marks (now widths) ⌝ }
+    requires { ⌜ InForce (now table) marks (now shows) ⌝ }
     ensures { λ r. ⌜ Says (OwnIs parent left progress (now (table .entry)) place (now (rest .entry))) parent progress (now (rest .entry)) r ⌝ }
 {
     if rest.len() - start < size {
@@ -273,7 +274,7 @@ fn judge_framed(
         place,
         table,
         marks,
-        widths,
+        shows,
         &rest[start..to],
     ) {
         Check::Broken(refusal) => Item::Bad(refusal),
@@ -290,10 +291,10 @@ pub fn judge_own(
     progress: Progress,
     table: &[u8],
     marks: u32,
-    widths: &[u8; 32],
+    shows: &[u8; 32],
 ) -> Item
     requires { ⌜ place + length (now rest) ≤ 32_768 ⌝ }
-    requires { ⌜ InForce (now table) marks (now widths) ⌝ }
+    requires { ⌜ InForce (now table) marks (now shows) ⌝ }
     ensures { λ r. ⌜ Says (OwnIs parent left progress (now (table .entry)) place (now (rest .entry))) parent progress (now (rest .entry)) r ⌝ }
 {
     match read_header(rest) {
@@ -308,7 +309,7 @@ pub fn judge_own(
             progress,
             table,
             marks,
-            widths,
+            shows,
         ),
     }
 }

@@ -21,8 +21,8 @@ part-none-end c = search needs
 tokens-of-requires : tie.Need-tokens-of-requires
 tokens-of-requires c κs = search needs
 
-widths-of-requires : tie.Need-widths-of-requires
-widths-of-requires c κs = search needs
+characters-of-requires : tie.Need-characters-of-requires
+characters-of-requires c κs = search needs
 
 read-items-requires : tie.Need-read-items-requires
 read-items-requires c κs = search needs
@@ -40,6 +40,6 @@ judge-spec =
     part-none-start
     part-none-end
     tokens-of-requires
-    widths-of-requires
+    characters-of-requires
     read-items-requires
     returns-3)

@@ -12,8 +12,8 @@ limit-of-requires c κs = search needs
 enum-told : tie.Need-enum-told
 enum-told c = search needs
 
-enum-known-n : tie.Need-enum-known-n
-enum-known-n c = search needs
+enum-known-most : tie.Need-enum-known-most
+enum-known-most c = search needs
 
 returns-2 : tie.Need-returns-2
 returns-2 c = search (short-ways, needs)
@@ -23,4 +23,4 @@ returns-3 c = search (short-ways, needs)
 
 pub is-short-spec : {M : Type 1} → statement M
 is-short-spec =
-    tie.close (tie.spec returns limit-of-requires enum-told enum-known-n returns-2 returns-3)
+    tie.close (tie.spec returns limit-of-requires enum-told enum-known-most returns-2 returns-3)
