@@ -108,7 +108,7 @@ fn put_bearer(room: &mut [u8], bearer: Bearer) -> usize
     }
 }
 
-fn put_number(room: &mut [u8], width: usize, n: u32) -> usize
+fn put_number(room: &mut [u8], width: octets::Octets, n: u32) -> usize
     ensures { λ r. ⌜ r ≤ length (now (room .exit)) ⌝ }
 {
     match octets::put_number(room, 0, width, n) {
@@ -136,7 +136,7 @@ fn say_bearer_octets(out: &mut [u8], used: usize, bearer: Bearer) -> usize
     say_hex(out, used, &room[..size])
 }
 
-fn say_number_octets(out: &mut [u8], used: usize, width: usize, n: u32) -> usize
+fn say_number_octets(out: &mut [u8], used: usize, width: octets::Octets, n: u32) -> usize
     requires { ⌜ used ≤ length (now out) ⌝ }
     ensures { λ r. ⌜ r ≤ length (now (out .exit)) ⌝ }
 {
@@ -294,9 +294,9 @@ fn say_ensemble(out: &mut [u8], used: usize, ensemble: Ensemble) -> usize
         Ensemble::Absent => used,
         Ensemble::Present { ecc, eid } => {
             let first = say(out, used, b" ");
-            let space = say_number_octets(out, first, 1, ecc as u32);
+            let space = say_number_octets(out, first, octets::Octets(1), ecc as u32);
             let second = say(out, space, b" ");
-            say_number_octets(out, second, 2, eid as u32)
+            say_number_octets(out, second, octets::Octets(2), eid as u32)
         }
     }
 }
@@ -307,9 +307,9 @@ fn say_sid(out: &mut [u8], used: usize, long: bool, sid: u32) -> usize
 {
     let to = say(out, used, b" sid ");
     if long {
-        return say_number_octets(out, to, 4, sid);
+        return say_number_octets(out, to, octets::Octets(4), sid);
     }
-    say_number_octets(out, to, 2, sid)
+    say_number_octets(out, to, octets::Octets(2), sid)
 }
 
 fn say_bearer(out: &mut [u8], used: usize, bearer: Bearer) -> usize
