@@ -5,7 +5,7 @@ use mathlib.Core.List.{[], _∷_}
 use Prim.Native.Nat.{ℕ}
 use Rattle.octets.specs.Numbers.{among}
 use Rattle.text.specs.Text.{layout, token, character, single, goesOn, utf8, text}
-use Rattle.text.specs.Tokens.{entry, orItself, stands, expanded, shownLength}
+use Rattle.text.specs.Tokens.{entry, orItself, stands, expanded, starts, shownLength}
 use Rattle.values.specs.Table.{rows, kindIn, known, attribute}
 use Rattle.values.specs.Values.{fits}
 use Rattle.format.specs.Tree.{kindOf}
@@ -13,27 +13,29 @@ use Rattle.format.specs.Judge.{isKnown, isItems, isTokens, isText, isValue, isT
 use Rattle.format.specs.Meaning.{opens}
 use Rattle.format.specs.Writer.{below, past, atTop, placed, bodyKeeps, keeps, bodyIn, good, here, onward, walk, tree, toEnd, rebuilt}
 use Rattle.format.specs.Calls.{Lists, places, treeGiven}
+use Rattle.format.specs.Bench.{accented}
 use Rattle.records.specs.Check.{isGiven}
 
--- a top, and a shortName with the number of its parent and a CDATA, over lent octets that are all the CDATA's
-abbrev nameIn : ℕ → Lists
-nameIn parent = record {
+-- a top, and a shortName with the number of its parent and a CDATA of so many octets, over lent octets that are all the CDATA's
+abbrev nameIn : (parent size : ℕ) → Lists
+nameIn parent size = record {
   tags = 0x03 ∷ 0x10 ∷ 0x01 ∷ [];
   kinds = 0 ∷ 0 ∷ 2 ∷ [];
   depths = 1 ∷ 2 ∷ 3 ∷ [];
   parents = 0 ∷ parent ∷ 1 ∷ [];
   starts = 0 ∷ 0 ∷ 0 ∷ [];
-  sizes = 0 ∷ 0 ∷ 2 ∷ [];
+  sizes = 0 ∷ 0 ∷ size ∷ [];
 }
 
 abbrev twoTops : Lists
 twoTops = record { tags = 0x03 ∷ 0x03 ∷ []; kinds = 0 ∷ 0 ∷ []; depths = 1 ∷ 1 ∷ []; parents = 0 ∷ 0 ∷ []; starts = 0 ∷ 0 ∷ []; sizes = 0 ∷ 0 ∷ [] }
 
 -- the name's parent is the top; not itself. Of its text a token octet is a fault. There are no more records than places, and there is one; a part of a tree is
--- one too, a top beside a top is none
-pub ill-formed : (isGiven (treeGiven 3 (nameIn 0) (0x61 ∷ 0x62 ∷ [])) ≡ true) × (isGiven (treeGiven 3 (nameIn 1) (0x61 ∷ 0x62 ∷ [])) ≡ false)
-    × (isGiven (treeGiven 3 (nameIn 0) (0x61 ∷ 0x01 ∷ [])) ≡ false) × (isGiven (treeGiven 3 (nameIn 0) (0x61 ∷ [])) ≡ false)
-    × (isGiven (treeGiven 4 (nameIn 0) (0x61 ∷ 0x62 ∷ [])) ≡ false) × (isGiven (treeGiven 0 (nameIn 0) (0x61 ∷ 0x62 ∷ [])) ≡ false)
+-- one too, a top beside a top is none. A short name has eight characters at most, whatever their octets
+pub ill-formed : (isGiven (treeGiven 3 (nameIn 0 2) (0x61 ∷ 0x62 ∷ [])) ≡ true) × (isGiven (treeGiven 3 (nameIn 1 2) (0x61 ∷ 0x62 ∷ [])) ≡ false)
+    × (isGiven (treeGiven 3 (nameIn 0 2) (0x61 ∷ 0x01 ∷ [])) ≡ false) × (isGiven (treeGiven 3 (nameIn 0 2) (0x61 ∷ [])) ≡ false)
+    × (isGiven (treeGiven 4 (nameIn 0 2) (0x61 ∷ 0x62 ∷ [])) ≡ false) × (isGiven (treeGiven 0 (nameIn 0 2) (0x61 ∷ 0x62 ∷ [])) ≡ false)
     × (isGiven (treeGiven 1 twoTops []) ≡ true) × (isGiven (treeGiven 2 twoTops []) ≡ false)
-unfolding among layout token character single goesOn utf8 text entry orItself stands expanded shownLength rows kindIn known attribute fits kindOf isKnown isItems isTokens isText isValue isTop allowed latest stageAfter limit notAbove shown opens below past atTop placed bodyKeeps keeps bodyIn good here onward walk tree toEnd rebuilt places treeGiven isGiven
-ill-formed = (refl, refl, refl, refl, refl, refl, refl, refl)
+    × (isGiven (treeGiven 3 (nameIn 0 16) (accented 8)) ≡ true) × (isGiven (treeGiven 3 (nameIn 0 18) (accented 9)) ≡ false)
+unfolding among layout token character single goesOn utf8 text entry orItself stands expanded starts shownLength rows kindIn known attribute fits kindOf isKnown isItems isTokens isText isValue isTop allowed latest stageAfter limit notAbove shown opens below past atTop placed bodyKeeps keeps bodyIn good here onward walk tree toEnd rebuilt places treeGiven accented isGiven
+ill-formed = (refl, refl, refl, refl, refl, refl, refl, refl, refl, refl)

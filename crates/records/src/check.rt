@@ -70,7 +70,7 @@ fn octets_if(good: bool) -> Held
     if good { Held::Octets } else { Held::Broken }
 }
 
-// Rule 13: CDATA is no longer than may be shown, once its tokens are replaced by their entries in a table. Other text has no limit.
+// Rule 13: CDATA has no more characters than may be shown, once its tokens are replaced by their entries in a table. Other text has no limit.
 fn is_short(parent: u8, tag: u8, table: &[u8], body: &[u8]) -> bool
     ensures { λ r. ⌜ r ≡ shown parent tag (shownLength (entries (now (table .entry))) (now (body .entry))) ⌝ }
 {
