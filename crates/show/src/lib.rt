@@ -4,6 +4,7 @@
 // A call measures its text, asks for room, and only then stores it, word by word. What stores (`store_..`, `.._word`) is told that there is room.
 use format::Record;
 use format::Refusal;
+use octets::Octets;
 ghost use mathlib.Core.Path.{_≡_};
 ghost use mathlib.Core.List.{[], _∷_, _++_};
 ghost use Prim.Native.Nat.{_+_, _≤_, _<_};
@@ -27,13 +28,13 @@ const SPACE: u8 = b' ';
 
 const NEWLINE: u8 = b'\n';
 
-fn has_room(room: usize, at: usize, size: usize) -> bool
-    ensures { λ r. ⌜ r ≡ leb (at + size) room ⌝ }
+fn has_room(room: Octets, at: usize, size: Octets) -> bool
+    ensures { λ r. ⌜ r ≡ leb (at + size .0) (room .0) ⌝ }
 {
-    if at > room {
+    if at > room.0 {
         return false;
     }
-    size <= room - at
+    size.0 <= room.0 - at
 }
 
 // ---- what stores
@@ -51,8 +52,8 @@ fn store_octets(out: &mut [u8], at: usize, s: &[u8]) -> usize
 }
 
 // At most 20 digits, so the sum of a few sizes is a small number.
-fn decimal_size(n: usize) -> usize
-    ensures { λ r. ⌜ Few n r ⌝ }
+fn decimal_size(n: usize) -> Octets
+    ensures { λ r. ⌜ Few n (r .0) ⌝ }
 {
     let mut rest = n;
     let mut size: usize = 1;
@@ -60,7 +61,7 @@ fn decimal_size(n: usize) -> usize
         rest = rest / 10;
         size = size + 1;
     }
-    size
+    Octets(size)
 }
 
 fn digit(d: usize) -> u8
@@ -75,7 +76,7 @@ fn store_decimal(out: &mut [u8], at: usize, n: usize) -> usize
     requires { ⌜ at + length (decimal n) ≤ length (now out) ⌝ }
     ensures { λ r. ⌜ Wrote (decimal n) at (now (out .entry)) (now (out .exit)) r ⌝ }
 {
-    let end = at + decimal_size(n);
+    let end = at + decimal_size(n).0;
     let mut to = end;
     let mut rest = n;
     while rest >= 10 {
@@ -162,15 +163,15 @@ fn kind_word(out: &mut [u8], at: usize, kind: u8, behind: u8) -> usize
     }
 }
 
-fn kind_size(kind: u8) -> usize
-    ensures { λ r. ⌜ r ≡ length (kindName kind) ⌝ }
-    ensures { λ r. ⌜ r ≤ 9 ⌝ }
+fn kind_size(kind: u8) -> Octets
+    ensures { λ r. ⌜ r .0 ≡ length (kindName kind) ⌝ }
+    ensures { λ r. ⌜ r .0 ≤ 9 ⌝ }
 {
     match kind {
-        0 => 7,
-        1 => 9,
-        2 => 5,
-        _ => 7,
+        0 => Octets(7),
+        1 => Octets(9),
+        2 => Octets(5),
+        _ => Octets(7),
     }
 }
 
@@ -179,7 +180,7 @@ fn kind_size(kind: u8) -> usize
 pub fn put_bytes(out: &mut [u8], at: usize, s: &[u8]) -> Put
     ensures { λ r. ⌜ Puts (now (s .entry)) at (now (out .entry)) (now (out .exit)) r ⌝ }
 {
-    if !has_room(out.len(), at, s.len()) {
+    if !has_room(Octets(out.len()), at, Octets(s.len())) {
         return Put::NoRoom;
     }
     Put::Done(store_octets(out, at, s))
@@ -188,7 +189,7 @@ pub fn put_bytes(out: &mut [u8], at: usize, s: &[u8]) -> Put
 pub fn put_decimal(out: &mut [u8], at: usize, n: usize) -> Put
     ensures { λ r. ⌜ Puts (decimal n) at (now (out .entry)) (now (out .exit)) r ⌝ }
 {
-    if !has_room(out.len(), at, decimal_size(n)) {
+    if !has_room(Octets(out.len()), at, decimal_size(n)) {
         return Put::NoRoom;
     }
     Put::Done(store_decimal(out, at, n))
@@ -197,7 +198,8 @@ pub fn put_decimal(out: &mut [u8], at: usize, n: usize) -> Put
 pub fn put_hex(out: &mut [u8], at: usize, s: &[u8]) -> Put
     ensures { λ r. ⌜ Puts (hexLower (now (s .entry))) at (now (out .entry)) (now (out .exit)) r ⌝ }
 {
-    if !has_room(out.len(), at, 2 * s.len()) {
+    let size = 2 * s.len();
+    if !has_room(Octets(out.len()), at, Octets(size)) {
         return Put::NoRoom;
     }
     Put::Done(store_all_hex(out, at, s))
@@ -206,7 +208,7 @@ pub fn put_hex(out: &mut [u8], at: usize, s: &[u8]) -> Put
 pub fn put_hex_upper(out: &mut [u8], at: usize, b: u8) -> Put
     ensures { λ r. ⌜ Puts (hexUpper b) at (now (out .entry)) (now (out .exit)) r ⌝ }
 {
-    if !has_room(out.len(), at, 2) {
+    if !has_room(Octets(out.len()), at, Octets(2)) {
         return Put::NoRoom;
     }
     Put::Done(store_hex(out, at, UPPER, b))
@@ -227,13 +229,14 @@ pub fn put_touched(out: &mut [u8], at: usize) -> Put
 }
 
 // Two digits of the tag, four spaces and a newline beside what is measured.
-fn record_size(r: Record) -> usize
-    ensures { λ size. ⌜ size ≡ length (recordLine r) ⌝ }
+fn record_size(r: Record) -> Octets
+    ensures { λ size. ⌜ size .0 ≡ length (recordLine r) ⌝ }
 {
     let depth = decimal_size(r.depth as usize);
     let start = decimal_size(r.start as usize);
     let size = decimal_size(r.size as usize);
-    7 + depth + kind_size(r.kind) + start + size
+    let all = 7 + depth.0 + kind_size(r.kind).0 + start.0 + size.0;
+    Octets(all)
 }
 
 fn store_record(out: &mut [u8], at: usize, r: Record) -> usize
@@ -250,7 +253,7 @@ fn store_record(out: &mut [u8], at: usize, r: Record) -> usize
 pub fn put_record(out: &mut [u8], at: usize, r: Record) -> Put
     ensures { λ put. ⌜ Puts (recordLine r) at (now (out .entry)) (now (out .exit)) put ⌝ }
 {
-    if !has_room(out.len(), at, record_size(r)) {
+    if !has_room(Octets(out.len()), at, record_size(r)) {
         return Put::NoRoom;
     }
     Put::Done(store_record(out, at, r))
@@ -267,7 +270,8 @@ fn store_records(out: &mut [u8], at: usize, n: usize) -> usize
 pub fn put_records(out: &mut [u8], at: usize, n: usize) -> Put
     ensures { λ put. ⌜ Puts (recordsLine n) at (now (out .entry)) (now (out .exit)) put ⌝ }
 {
-    if !has_room(out.len(), at, 9 + decimal_size(n)) {
+    let size = 9 + decimal_size(n).0;
+    if !has_room(Octets(out.len()), at, Octets(size)) {
         return Put::NoRoom;
     }
     Put::Done(store_records(out, at, n))
@@ -288,7 +292,8 @@ pub fn put_refusal(out: &mut [u8], at: usize, r: Refusal) -> Put
 {
     let number = decimal_size(r.number as usize);
     let place = decimal_size(r.place);
-    if !has_room(out.len(), at, 13 + number + place) {
+    let size = 13 + number.0 + place.0;
+    if !has_room(Octets(out.len()), at, Octets(size)) {
         return Put::NoRoom;
     }
     Put::Done(store_refusal(out, at, r))

@@ -11,23 +11,18 @@ Inv-loop n rest₀ size₀ rest size = Measuring n rest size
 abbrev μ-loop : tie.MeasureT-loop
 μ-loop n rest₀ size₀ rest size = rest
 
--- src/lib.rt:56:5
 loop-holds : tie.Need-loop-holds Inv-loop μ-loop
 loop-holds c = search (measure-ways, needs)
 
--- src/lib.rt:58:16
 add-size : tie.Need-add-size Inv-loop μ-loop
 add-size c = search (measure-ways, needs)
 
--- src/lib.rt:56:5
 loop-less : tie.Need-loop-less Inv-loop μ-loop
 loop-less c = search (measure-ways, needs)
 
--- src/lib.rt:56:5
 loop-again : tie.Need-loop-again Inv-loop μ-loop
 loop-again c = search (measure-ways, needs)
 
--- src/lib.rt:51:1
 returns : tie.Need-returns Inv-loop μ-loop
 returns c = search (measure-ways, needs)
 

@@ -5,11 +5,9 @@ use Rattle.show.proofs.has_room.Tie as tie
 use Rattle.show.proofs.has_room.Reads as reads
 use Rattle.show.proofs.has_room.Lts as lts
 
--- src/lib.rt:31:9
 returns : tie.Need-returns
 returns c = search (room-ways, needs)
 
--- src/lib.rt:27:1
 returns-2 : tie.Need-returns-2
 returns-2 c = search (room-ways, needs)
 

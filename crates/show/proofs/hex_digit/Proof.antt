@@ -5,19 +5,15 @@ use Rattle.show.proofs.hex_digit.Tie as tie
 use Rattle.show.proofs.hex_digit.Reads as reads
 use Rattle.show.proofs.hex_digit.Lts as lts
 
--- src/lib.rt:93:16
 add-result : tie.Need-add-result
 add-result c = search (digit-ways, needs)
 
--- src/lib.rt:93:9
 returns : tie.Need-returns
 returns c = search (digit-ways, needs)
 
--- src/lib.rt:95:5
 add-result-2 : tie.Need-add-result-2
 add-result-2 c = search (digit-ways, needs)
 
--- src/lib.rt:87:1
 returns-2 : tie.Need-returns-2
 returns-2 c = search (digit-ways, needs)
 

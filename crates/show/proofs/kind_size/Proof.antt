@@ -8,22 +8,18 @@ use Rattle.show.proofs.kind_size.Tie as tie
 use Rattle.show.proofs.kind_size.Reads as reads
 use Rattle.show.proofs.kind_size.Lts as lts
 
--- src/lib.rt:162:1
 returns : tie.Need-returns
 unfolding ascii
 returns c = (sym (ap length (kind-element _ (c .match .keys1))), search needs)
 
--- src/lib.rt:162:1
 returns-2 : tie.Need-returns-2
 unfolding ascii
 returns-2 c = (sym (ap length (kind-attribute _ (c .match .keys2))), search needs)
 
--- src/lib.rt:162:1
 returns-3 : tie.Need-returns-3
 unfolding ascii
 returns-3 c = (sym (ap length (kind-cdata _ (c .match .keys3))), search needs)
 
--- src/lib.rt:162:1
 returns-4 : tie.Need-returns-4
 unfolding ascii
 returns-4 c = (sym (ap length (kind-other _ (c .match .rest .0 .0 .1) (c .match .rest .0 .1) (c .match .rest .1))), search needs)

@@ -6,23 +6,18 @@ use Rattle.show.proofs.number_word.Reads as reads
 use Rattle.show.proofs.number_word.Lts as lts
 use Rattle.show.proofs.store_decimal.Reads as store-decimal-reads
 
--- src/lib.rt:136:9
 store-decimal-requires : tie.Need-store-decimal-requires
 store-decimal-requires c κs = search (word-ways, needs)
 
--- src/lib.rt:137:5
 slice-write-out : tie.Need-slice-write-out
 slice-write-out c = search (word-ways, needs)
 
--- src/lib.rt:138:5
 add-result : tie.Need-add-result
 add-result c = search (word-ways, needs)
 
--- src/lib.rt:132:1
 same-length : tie.Need-same-length
 same-length c = search (word-ways, needs)
 
--- src/lib.rt:132:1
 returns : tie.Need-returns
 returns c = search (word-ways, needs)
 

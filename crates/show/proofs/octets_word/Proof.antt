@@ -6,23 +6,18 @@ use Rattle.show.proofs.octets_word.Reads as reads
 use Rattle.show.proofs.octets_word.Lts as lts
 use Rattle.show.proofs.store_octets.Reads as store-octets-reads
 
--- src/lib.rt:127:9
 store-octets-requires : tie.Need-store-octets-requires
 store-octets-requires c κs = search (word-ways, needs)
 
--- src/lib.rt:128:5
 slice-write-out : tie.Need-slice-write-out
 slice-write-out c = search (word-ways, needs)
 
--- src/lib.rt:129:5
 add-result : tie.Need-add-result
 add-result c = search (word-ways, needs)
 
--- src/lib.rt:123:1
 same-length : tie.Need-same-length
 same-length c = search (word-ways, needs)
 
--- src/lib.rt:123:1
 returns : tie.Need-returns
 returns c = search (word-ways, needs)
 

@@ -8,23 +8,18 @@ use Rattle.show.proofs.put_bytes.Lts as lts
 use Rattle.show.proofs.has_room.Reads as has-room-reads
 use Rattle.show.proofs.store_octets.Reads as store-octets-reads
 
--- src/lib.rt:178:9
 has-room-requires : tie.Need-has-room-requires
 has-room-requires c κs = search (put-none, put-room, put-done, not-true, not-false, needs)
 
--- src/lib.rt:179:9
 returns : tie.Need-returns
 returns c = search (put-none, put-room, put-done, not-true, not-false, needs)
 
--- src/lib.rt:181:15
 store-octets-requires : tie.Need-store-octets-requires
 store-octets-requires c κs = search (put-none, put-room, put-done, not-true, not-false, needs)
 
--- src/lib.rt:175:1
 same-length : tie.Need-same-length
 same-length c = search (put-none, put-room, put-done, not-true, not-false, needs)
 
--- src/lib.rt:175:1
 returns-2 : tie.Need-returns-2
 returns-2 c = search (put-none, put-room, put-done, not-true, not-false, needs)
 

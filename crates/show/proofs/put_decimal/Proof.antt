@@ -9,27 +9,21 @@ use Rattle.show.proofs.decimal_size.Reads as decimal-size-reads
 use Rattle.show.proofs.has_room.Reads as has-room-reads
 use Rattle.show.proofs.store_decimal.Reads as store-decimal-reads
 
--- src/lib.rt:187:33
 decimal-size-requires : tie.Need-decimal-size-requires
 decimal-size-requires c κs = search (put-none, put-room, put-done, not-true, not-false, needs)
 
--- src/lib.rt:187:9
 has-room-requires : tie.Need-has-room-requires
 has-room-requires c κs = search (put-none, put-room, put-done, not-true, not-false, needs)
 
--- src/lib.rt:188:9
 returns : tie.Need-returns
 returns c = search (put-none, put-room, put-done, not-true, not-false, needs)
 
--- src/lib.rt:190:15
 store-decimal-requires : tie.Need-store-decimal-requires
 store-decimal-requires c κs = search (put-none, put-room, put-done, not-true, not-false, needs)
 
--- src/lib.rt:184:1
 same-length : tie.Need-same-length
 same-length c = search (put-none, put-room, put-done, not-true, not-false, needs)
 
--- src/lib.rt:184:1
 returns-2 : tie.Need-returns-2
 returns-2 c = search (put-none, put-room, put-done, not-true, not-false, needs)
 

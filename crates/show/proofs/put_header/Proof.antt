@@ -7,19 +7,15 @@ use Rattle.show.proofs.put_header.Reads as reads
 use Rattle.show.proofs.put_header.Lts as lts
 use Rattle.show.proofs.put_bytes.Reads as put-bytes-reads
 
--- src/lib.rt:216:24
 slice-aggregate-put-bytes : tie.Need-slice-aggregate-put-bytes
 slice-aggregate-put-bytes c = search (puts-same, needs)
 
--- src/lib.rt:216:5
 put-bytes-requires : tie.Need-put-bytes-requires
 put-bytes-requires c κs = search (puts-same, needs)
 
--- src/lib.rt:213:1
 same-length : tie.Need-same-length
 same-length c = search (puts-same, needs)
 
--- src/lib.rt:213:1
 returns : tie.Need-returns
 unfolding ascii headerLine touchedLine line
 returns c = search (puts-same, needs)

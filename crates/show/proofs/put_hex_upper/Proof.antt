@@ -8,23 +8,18 @@ use Rattle.show.proofs.put_hex_upper.Lts as lts
 use Rattle.show.proofs.has_room.Reads as has-room-reads
 use Rattle.show.proofs.store_hex.Reads as store-hex-reads
 
--- src/lib.rt:205:9
 has-room-requires : tie.Need-has-room-requires
 has-room-requires c κs = search (put-none, put-room, put-done, length-two, not-true, not-false, needs)
 
--- src/lib.rt:206:9
 returns : tie.Need-returns
 returns c = search (put-none, put-room, put-done, length-two, not-true, not-false, needs)
 
--- src/lib.rt:208:15
 store-hex-requires : tie.Need-store-hex-requires
 store-hex-requires c κs = search (put-none, put-room, put-done, length-two, not-true, not-false, needs)
 
--- src/lib.rt:202:1
 same-length : tie.Need-same-length
 same-length c = search (put-none, put-room, put-done, length-two, not-true, not-false, needs)
 
--- src/lib.rt:202:1
 returns-2 : tie.Need-returns-2
 returns-2 c = search (put-none, put-room, put-done, length-two, not-true, not-false, needs)
 

@@ -9,27 +9,21 @@ use Rattle.show.proofs.has_room.Reads as has-room-reads
 use Rattle.show.proofs.record_size.Reads as record-size-reads
 use Rattle.show.proofs.store_record.Reads as store-record-reads
 
--- src/lib.rt:250:33
 record-size-requires : tie.Need-record-size-requires
 record-size-requires c κs = search (put-none, put-room, put-done, not-true, not-false, needs)
 
--- src/lib.rt:250:9
 has-room-requires : tie.Need-has-room-requires
 has-room-requires c κs = search (put-none, put-room, put-done, not-true, not-false, needs)
 
--- src/lib.rt:251:9
 returns : tie.Need-returns
 returns c = search (put-none, put-room, put-done, not-true, not-false, needs)
 
--- src/lib.rt:253:15
 store-record-requires : tie.Need-store-record-requires
 store-record-requires c κs = search (put-none, put-room, put-done, not-true, not-false, needs)
 
--- src/lib.rt:247:1
 same-length : tie.Need-same-length
 same-length c = search (put-none, put-room, put-done, not-true, not-false, needs)
 
--- src/lib.rt:247:1
 returns-2 : tie.Need-returns-2
 returns-2 c = search (put-none, put-room, put-done, not-true, not-false, needs)
 

@@ -9,31 +9,24 @@ use Rattle.show.proofs.decimal_size.Reads as decimal-size-reads
 use Rattle.show.proofs.has_room.Reads as has-room-reads
 use Rattle.show.proofs.store_records.Reads as store-records-reads
 
--- src/lib.rt:267:37
 decimal-size-requires : tie.Need-decimal-size-requires
 decimal-size-requires c κs = search (put-none, put-room, put-done, records-length, not-true, not-false, needs)
 
--- src/lib.rt:267:33
-add-has-room : tie.Need-add-has-room
-add-has-room c = search (put-none, put-room, put-done, records-length, not-true, not-false, needs)
+add-size : tie.Need-add-size
+add-size c = search (put-none, put-room, put-done, records-length, not-true, not-false, needs)
 
--- src/lib.rt:267:9
 has-room-requires : tie.Need-has-room-requires
 has-room-requires c κs = search (put-none, put-room, put-done, records-length, not-true, not-false, needs)
 
--- src/lib.rt:268:9
 returns : tie.Need-returns
 returns c = search (put-none, put-room, put-done, records-length, not-true, not-false, needs)
 
--- src/lib.rt:270:15
 store-records-requires : tie.Need-store-records-requires
 store-records-requires c κs = search (put-none, put-room, put-done, records-length, not-true, not-false, needs)
 
--- src/lib.rt:264:1
 same-length : tie.Need-same-length
 same-length c = search (put-none, put-room, put-done, records-length, not-true, not-false, needs)
 
--- src/lib.rt:264:1
 returns-2 : tie.Need-returns-2
 returns-2 c = search (put-none, put-room, put-done, records-length, not-true, not-false, needs)
 
@@ -42,7 +35,7 @@ put-records-spec =
     tie.close
     (tie.spec
     decimal-size-requires
-    add-has-room
+    add-size
     has-room-requires
     returns
     store-records-requires

@@ -8,308 +8,236 @@ use Rattle.show.proofs.put_refusal_words.Reads as reads
 use Rattle.show.proofs.put_refusal_words.Lts as lts
 use Rattle.show.proofs.put_bytes.Reads as put-bytes-reads
 
--- src/lib.rt:317:33
 slice-aggregate-put-bytes : tie.Need-slice-aggregate-put-bytes
 slice-aggregate-put-bytes c = search needs
 
--- src/lib.rt:317:14
 put-bytes-requires : tie.Need-put-bytes-requires
 put-bytes-requires c κs = search needs
 
--- src/lib.rt:318:33
 slice-aggregate-put-bytes-2 : tie.Need-slice-aggregate-put-bytes-2
 slice-aggregate-put-bytes-2 c = search needs
 
--- src/lib.rt:318:14
 put-bytes-requires-2 : tie.Need-put-bytes-requires-2
 put-bytes-requires-2 c κs = search needs
 
--- src/lib.rt:319:33
 slice-aggregate-put-bytes-3 : tie.Need-slice-aggregate-put-bytes-3
 slice-aggregate-put-bytes-3 c = search needs
 
--- src/lib.rt:319:14
 put-bytes-requires-3 : tie.Need-put-bytes-requires-3
 put-bytes-requires-3 c κs = search needs
 
--- src/lib.rt:320:33
 slice-aggregate-put-bytes-4 : tie.Need-slice-aggregate-put-bytes-4
 slice-aggregate-put-bytes-4 c = search needs
 
--- src/lib.rt:320:14
 put-bytes-requires-4 : tie.Need-put-bytes-requires-4
 put-bytes-requires-4 c κs = search needs
 
--- src/lib.rt:321:33
 slice-aggregate-put-bytes-5 : tie.Need-slice-aggregate-put-bytes-5
 slice-aggregate-put-bytes-5 c = search needs
 
--- src/lib.rt:321:14
 put-bytes-requires-5 : tie.Need-put-bytes-requires-5
 put-bytes-requires-5 c κs = search needs
 
--- src/lib.rt:322:33
 slice-aggregate-put-bytes-6 : tie.Need-slice-aggregate-put-bytes-6
 slice-aggregate-put-bytes-6 c = search needs
 
--- src/lib.rt:322:14
 put-bytes-requires-6 : tie.Need-put-bytes-requires-6
 put-bytes-requires-6 c κs = search needs
 
--- src/lib.rt:323:33
 slice-aggregate-put-bytes-7 : tie.Need-slice-aggregate-put-bytes-7
 slice-aggregate-put-bytes-7 c = search needs
 
--- src/lib.rt:323:14
 put-bytes-requires-7 : tie.Need-put-bytes-requires-7
 put-bytes-requires-7 c κs = search needs
 
--- src/lib.rt:324:33
 slice-aggregate-put-bytes-8 : tie.Need-slice-aggregate-put-bytes-8
 slice-aggregate-put-bytes-8 c = search needs
 
--- src/lib.rt:324:14
 put-bytes-requires-8 : tie.Need-put-bytes-requires-8
 put-bytes-requires-8 c κs = search needs
 
--- src/lib.rt:325:33
 slice-aggregate-put-bytes-9 : tie.Need-slice-aggregate-put-bytes-9
 slice-aggregate-put-bytes-9 c = search needs
 
--- src/lib.rt:325:14
 put-bytes-requires-9 : tie.Need-put-bytes-requires-9
 put-bytes-requires-9 c κs = search needs
 
--- src/lib.rt:326:33
 slice-aggregate-put-bytes-10 : tie.Need-slice-aggregate-put-bytes-10
 slice-aggregate-put-bytes-10 c = search needs
 
--- src/lib.rt:326:14
 put-bytes-requires-10 : tie.Need-put-bytes-requires-10
 put-bytes-requires-10 c κs = search needs
 
--- src/lib.rt:327:34
 slice-aggregate-put-bytes-11 : tie.Need-slice-aggregate-put-bytes-11
 slice-aggregate-put-bytes-11 c = search needs
 
--- src/lib.rt:327:15
 put-bytes-requires-11 : tie.Need-put-bytes-requires-11
 put-bytes-requires-11 c κs = search needs
 
--- src/lib.rt:328:34
 slice-aggregate-put-bytes-12 : tie.Need-slice-aggregate-put-bytes-12
 slice-aggregate-put-bytes-12 c = search needs
 
--- src/lib.rt:328:15
 put-bytes-requires-12 : tie.Need-put-bytes-requires-12
 put-bytes-requires-12 c κs = search needs
 
--- src/lib.rt:329:34
 slice-aggregate-put-bytes-13 : tie.Need-slice-aggregate-put-bytes-13
 slice-aggregate-put-bytes-13 c = search needs
 
--- src/lib.rt:329:15
 put-bytes-requires-13 : tie.Need-put-bytes-requires-13
 put-bytes-requires-13 c κs = search needs
 
--- src/lib.rt:330:34
 slice-aggregate-put-bytes-14 : tie.Need-slice-aggregate-put-bytes-14
 slice-aggregate-put-bytes-14 c = search needs
 
--- src/lib.rt:330:15
 put-bytes-requires-14 : tie.Need-put-bytes-requires-14
 put-bytes-requires-14 c κs = search needs
 
--- src/lib.rt:331:34
 slice-aggregate-put-bytes-15 : tie.Need-slice-aggregate-put-bytes-15
 slice-aggregate-put-bytes-15 c = search needs
 
--- src/lib.rt:331:15
 put-bytes-requires-15 : tie.Need-put-bytes-requires-15
 put-bytes-requires-15 c κs = search needs
 
--- src/lib.rt:332:34
 slice-aggregate-put-bytes-16 : tie.Need-slice-aggregate-put-bytes-16
 slice-aggregate-put-bytes-16 c = search needs
 
--- src/lib.rt:332:15
 put-bytes-requires-16 : tie.Need-put-bytes-requires-16
 put-bytes-requires-16 c κs = search needs
 
--- src/lib.rt:333:34
 slice-aggregate-put-bytes-17 : tie.Need-slice-aggregate-put-bytes-17
 slice-aggregate-put-bytes-17 c = search needs
 
--- src/lib.rt:333:15
 put-bytes-requires-17 : tie.Need-put-bytes-requires-17
 put-bytes-requires-17 c κs = search needs
 
--- src/lib.rt:334:33
 slice-aggregate-put-bytes-18 : tie.Need-slice-aggregate-put-bytes-18
 slice-aggregate-put-bytes-18 c = search needs
 
--- src/lib.rt:334:14
 put-bytes-requires-18 : tie.Need-put-bytes-requires-18
 put-bytes-requires-18 c κs = search needs
 
--- src/lib.rt:313:1
 same-length : tie.Need-same-length
 same-length c = search needs
 
--- src/lib.rt:313:1
 returns : tie.Need-returns
 unfolding ascii reasons refusalWords
 returns c = words-same _ 0 (c .before .before .before .before .before .match .keys1) _ _ _ _ (c .before .before .put-bytes .ensures)
 
--- src/lib.rt:313:1
 same-length-2 : tie.Need-same-length-2
 same-length-2 c = search needs
 
--- src/lib.rt:313:1
 returns-2 : tie.Need-returns-2
 unfolding ascii reasons refusalWords
 returns-2 c = words-same _ 1 (c .before .before .before .before .before .match .keys2) _ _ _ _ (c .before .before .put-bytes2 .ensures)
 
--- src/lib.rt:313:1
 same-length-3 : tie.Need-same-length-3
 same-length-3 c = search needs
 
--- src/lib.rt:313:1
 returns-3 : tie.Need-returns-3
 unfolding ascii reasons refusalWords
 returns-3 c = words-same _ 2 (c .before .before .before .before .before .match .keys3) _ _ _ _ (c .before .before .put-bytes3 .ensures)
 
--- src/lib.rt:313:1
 same-length-4 : tie.Need-same-length-4
 same-length-4 c = search needs
 
--- src/lib.rt:313:1
 returns-4 : tie.Need-returns-4
 unfolding ascii reasons refusalWords
 returns-4 c = words-same _ 3 (c .before .before .before .before .before .match .keys4) _ _ _ _ (c .before .before .put-bytes4 .ensures)
 
--- src/lib.rt:313:1
 same-length-5 : tie.Need-same-length-5
 same-length-5 c = search needs
 
--- src/lib.rt:313:1
 returns-5 : tie.Need-returns-5
 unfolding ascii reasons refusalWords
 returns-5 c = words-same _ 4 (c .before .before .before .before .before .match .keys5) _ _ _ _ (c .before .before .put-bytes5 .ensures)
 
--- src/lib.rt:313:1
 same-length-6 : tie.Need-same-length-6
 same-length-6 c = search needs
 
--- src/lib.rt:313:1
 returns-6 : tie.Need-returns-6
 unfolding ascii reasons refusalWords
 returns-6 c = words-same _ 5 (c .before .before .before .before .before .match .keys6) _ _ _ _ (c .before .before .put-bytes6 .ensures)
 
--- src/lib.rt:313:1
 same-length-7 : tie.Need-same-length-7
 same-length-7 c = search needs
 
--- src/lib.rt:313:1
 returns-7 : tie.Need-returns-7
 unfolding ascii reasons refusalWords
 returns-7 c = words-same _ 6 (c .before .before .before .before .before .match .keys7) _ _ _ _ (c .before .before .put-bytes7 .ensures)
 
--- src/lib.rt:313:1
 same-length-8 : tie.Need-same-length-8
 same-length-8 c = search needs
 
--- src/lib.rt:313:1
 returns-8 : tie.Need-returns-8
 unfolding ascii reasons refusalWords
 returns-8 c = words-same _ 7 (c .before .before .before .before .before .match .keys8) _ _ _ _ (c .before .before .put-bytes8 .ensures)
 
--- src/lib.rt:313:1
 same-length-9 : tie.Need-same-length-9
 same-length-9 c = search needs
 
--- src/lib.rt:313:1
 returns-9 : tie.Need-returns-9
 unfolding ascii reasons refusalWords
 returns-9 c = words-same _ 8 (c .before .before .before .before .before .match .keys9) _ _ _ _ (c .before .before .put-bytes9 .ensures)
 
--- src/lib.rt:313:1
 same-length-10 : tie.Need-same-length-10
 same-length-10 c = search needs
 
--- src/lib.rt:313:1
 returns-10 : tie.Need-returns-10
 unfolding ascii reasons refusalWords
 returns-10 c = words-same _ 9 (c .before .before .before .before .before .match .keys10) _ _ _ _ (c .before .before .put-bytes10 .ensures)
 
--- src/lib.rt:313:1
 same-length-11 : tie.Need-same-length-11
 same-length-11 c = search needs
 
--- src/lib.rt:313:1
 returns-11 : tie.Need-returns-11
 unfolding ascii reasons refusalWords
 returns-11 c = words-same _ 10 (c .before .before .before .before .before .match .keys11) _ _ _ _ (c .before .before .put-bytes11 .ensures)
 
--- src/lib.rt:313:1
 same-length-12 : tie.Need-same-length-12
 same-length-12 c = search needs
 
--- src/lib.rt:313:1
 returns-12 : tie.Need-returns-12
 unfolding ascii reasons refusalWords
 returns-12 c = words-same _ 11 (c .before .before .before .before .before .match .keys12) _ _ _ _ (c .before .before .put-bytes12 .ensures)
 
--- src/lib.rt:313:1
 same-length-13 : tie.Need-same-length-13
 same-length-13 c = search needs
 
--- src/lib.rt:313:1
 returns-13 : tie.Need-returns-13
 unfolding ascii reasons refusalWords
 returns-13 c = words-same _ 12 (c .before .before .before .before .before .match .keys13) _ _ _ _ (c .before .before .put-bytes13 .ensures)
 
--- src/lib.rt:313:1
 same-length-14 : tie.Need-same-length-14
 same-length-14 c = search needs
 
--- src/lib.rt:313:1
 returns-14 : tie.Need-returns-14
 unfolding ascii reasons refusalWords
 returns-14 c = words-same _ 13 (c .before .before .before .before .before .match .keys14) _ _ _ _ (c .before .before .put-bytes14 .ensures)
 
--- src/lib.rt:313:1
 same-length-15 : tie.Need-same-length-15
 same-length-15 c = search needs
 
--- src/lib.rt:313:1
 returns-15 : tie.Need-returns-15
 unfolding ascii reasons refusalWords
 returns-15 c = words-same _ 14 (c .before .before .before .before .before .match .keys15) _ _ _ _ (c .before .before .put-bytes15 .ensures)
 
--- src/lib.rt:313:1
 same-length-16 : tie.Need-same-length-16
 same-length-16 c = search needs
 
--- src/lib.rt:313:1
 returns-16 : tie.Need-returns-16
 unfolding ascii reasons refusalWords
 returns-16 c = words-same _ 15 (c .before .before .before .before .before .match .keys16) _ _ _ _ (c .before .before .put-bytes16 .ensures)
 
--- src/lib.rt:313:1
 same-length-17 : tie.Need-same-length-17
 same-length-17 c = search needs
 
--- src/lib.rt:313:1
 returns-17 : tie.Need-returns-17
 unfolding ascii reasons refusalWords
 returns-17 c = words-same _ 16 (c .before .before .before .before .before .match .keys17) _ _ _ _ (c .before .before .put-bytes17 .ensures)
 
--- src/lib.rt:313:1
 same-length-18 : tie.Need-same-length-18
 same-length-18 c = search needs
 
--- src/lib.rt:313:1
 returns-18 : tie.Need-returns-18
 unfolding ascii reasons refusalWords
 returns-18 c = puts-same _ _ (words-other _ (above _ (above _ (above _ (above _ (above _ (above _ (above _ (above _ (above _ (above _ (above _ (above _ (above _ (above _ (above _ (above _ (above _ zero-le (c .before .before .before .before .before .match .rest .0 .0 .0 .0 .0 .0 .0 .0 .0 .0 .0 .0 .0 .0 .0 .0 .1)) (c .before .before .before .before .before .match .rest .0 .0 .0 .0 .0 .0 .0 .0 .0 .0 .0 .0 .0 .0 .0 .1)) (c .before .before .before .before .before .match .rest .0 .0 .0 .0 .0 .0 .0 .0 .0 .0 .0 .0 .0 .0 .1)) (c .before .before .before .before .before .match .rest .0 .0 .0 .0 .0 .0 .0 .0 .0 .0 .0 .0 .0 .1)) (c .before .before .before .before .before .match .rest .0 .0 .0 .0 .0 .0 .0 .0 .0 .0 .0 .0 .1)) (c .before .before .before .before .before .match .rest .0 .0 .0 .0 .0 .0 .0 .0 .0 .0 .0 .1)) (c .before .before .before .before .before .match .rest .0 .0 .0 .0 .0 .0 .0 .0 .0 .0 .1)) (c .before .before .before .before .before .match .rest .0 .0 .0 .0 .0 .0 .0 .0 .0 .1)) (c .before .before .before .before .before .match .rest .0 .0 .0 .0 .0 .0 .0 .0 .1)) (c .before .before .before .before .before .match .rest .0 .0 .0 .0 .0 .0 .0 .1)) (c .before .before .before .before .before .match .rest .0 .0 .0 .0 .0 .0 .1)) (c .before .before .before .before .before .match .rest .0 .0 .0 .0 .0 .1)) (c .before .before .before .before .before .match .rest .0 .0 .0 .0 .1)) (c .before .before .before .before .before .match .rest .0 .0 .0 .1)) (c .before .before .before .before .before .match .rest .0 .0 .1)) (c .before .before .before .before .before .match .rest .0 .1)) (c .before .before .before .before .before .match .rest .1))) _ _ _ _ (c .before .before .put-bytes18 .ensures)

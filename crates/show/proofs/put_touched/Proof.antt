@@ -7,19 +7,15 @@ use Rattle.show.proofs.put_touched.Reads as reads
 use Rattle.show.proofs.put_touched.Lts as lts
 use Rattle.show.proofs.put_bytes.Reads as put-bytes-reads
 
--- src/lib.rt:222:24
 slice-aggregate-put-bytes : tie.Need-slice-aggregate-put-bytes
 slice-aggregate-put-bytes c = search needs
 
--- src/lib.rt:222:5
 put-bytes-requires : tie.Need-put-bytes-requires
 put-bytes-requires c κs = search needs
 
--- src/lib.rt:219:1
 same-length : tie.Need-same-length
 same-length c = search needs
 
--- src/lib.rt:219:1
 returns : tie.Need-returns
 unfolding ascii headerLine touchedLine line
 returns c = search needs

@@ -14,35 +14,27 @@ Inv-loop out₀ at s to₀ i₀ out to i = Hexing out₀ at s out to i
 abbrev μ-loop : tie.MeasureT-loop
 μ-loop out₀ at s to₀ i₀ out to i = length s - i
 
--- src/lib.rt:114:5
 loop-holds : tie.Need-loop-holds Inv-loop μ-loop
 loop-holds c = search (hex-ways, needs)
 
--- src/lib.rt:115:40
 shared-slice-read-store-hex : tie.Need-shared-slice-read-store-hex Inv-loop μ-loop
 shared-slice-read-store-hex c = search (hex-ways, needs)
 
--- src/lib.rt:115:9
 store-hex-requires : tie.Need-store-hex-requires Inv-loop μ-loop
 store-hex-requires c κs = search (hex-ways, needs)
 
--- src/lib.rt:116:13
 add-i : tie.Need-add-i Inv-loop μ-loop
 add-i c = search (hex-ways, needs)
 
--- src/lib.rt:114:5
 loop-less : tie.Need-loop-less Inv-loop μ-loop
 loop-less c = search (hex-ways, needs)
 
--- src/lib.rt:114:5
 loop-again : tie.Need-loop-again Inv-loop μ-loop
 loop-again c = search (hex-ways, needs)
 
--- src/lib.rt:108:1
 same-length : tie.Need-same-length Inv-loop μ-loop
 same-length c = search (hex-ways, needs)
 
--- src/lib.rt:108:1
 returns : tie.Need-returns Inv-loop μ-loop
 returns c = search (hex-ways, needs)
 

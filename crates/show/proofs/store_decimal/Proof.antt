@@ -13,51 +13,39 @@ Inv-loop out₀ at n end to₀ rest₀ out to rest = Spelling out₀ at n out to
 abbrev μ-loop : tie.MeasureT-loop
 μ-loop out₀ at n end to₀ rest₀ out to rest = rest
 
--- src/lib.rt:75:20
 decimal-size-requires : tie.Need-decimal-size-requires Inv-loop μ-loop
 decimal-size-requires c κs = search (spell-ways, needs)
 
--- src/lib.rt:75:15
 add-end : tie.Need-add-end Inv-loop μ-loop
 add-end c = search (spell-ways, needs)
 
--- src/lib.rt:78:5
 loop-holds : tie.Need-loop-holds Inv-loop μ-loop
 loop-holds c = search (spell-ways, needs)
 
--- src/lib.rt:79:14
 sub-to : tie.Need-sub-to Inv-loop μ-loop
 sub-to c = search (spell-ways, needs)
 
--- src/lib.rt:80:19
 digit-requires : tie.Need-digit-requires Inv-loop μ-loop
 digit-requires c κs = search (spell-ways, needs)
 
--- src/lib.rt:80:9
 slice-write-out : tie.Need-slice-write-out Inv-loop μ-loop
 slice-write-out c = search (spell-ways, needs)
 
--- src/lib.rt:78:5
 loop-less : tie.Need-loop-less Inv-loop μ-loop
 loop-less c = search (spell-ways, needs)
 
--- src/lib.rt:78:5
 loop-again : tie.Need-loop-again Inv-loop μ-loop
 loop-again c = search (spell-ways, needs)
 
--- src/lib.rt:83:15
 digit-requires-2 : tie.Need-digit-requires-2 Inv-loop μ-loop
 digit-requires-2 c κs = search (spell-ways, needs)
 
--- src/lib.rt:83:5
 slice-write-out-2 : tie.Need-slice-write-out-2 Inv-loop μ-loop
 slice-write-out-2 c = search (spell-ways, needs)
 
--- src/lib.rt:71:1
 same-length : tie.Need-same-length Inv-loop μ-loop
 same-length c = search (spell-ways, needs)
 
--- src/lib.rt:71:1
 returns : tie.Need-returns Inv-loop μ-loop
 returns c = search (spell-ways, needs)
 

@@ -13,43 +13,33 @@ Inv-loop out₀ at s i₀ out i = Copying out₀ at s out i
 abbrev μ-loop : tie.MeasureT-loop
 μ-loop out₀ at s i₀ out i = length s - i
 
--- src/lib.rt:43:5
 loop-holds : tie.Need-loop-holds Inv-loop μ-loop
 loop-holds c = search (copy-ways, needs)
 
--- src/lib.rt:44:23
 shared-slice-read-out : tie.Need-shared-slice-read-out Inv-loop μ-loop
 shared-slice-read-out c = search (copy-ways, needs)
 
--- src/lib.rt:44:13
 add-out : tie.Need-add-out Inv-loop μ-loop
 add-out c = search (copy-ways, needs)
 
--- src/lib.rt:44:9
 slice-write-out : tie.Need-slice-write-out Inv-loop μ-loop
 slice-write-out c = search (copy-ways, needs)
 
--- src/lib.rt:45:13
 add-i : tie.Need-add-i Inv-loop μ-loop
 add-i c = search (copy-ways, needs)
 
--- src/lib.rt:43:5
 loop-less : tie.Need-loop-less Inv-loop μ-loop
 loop-less c = search (copy-ways, needs)
 
--- src/lib.rt:43:5
 loop-again : tie.Need-loop-again Inv-loop μ-loop
 loop-again c = search (copy-ways, needs)
 
--- src/lib.rt:47:5
 add-result : tie.Need-add-result Inv-loop μ-loop
 add-result c = search (copy-ways, needs)
 
--- src/lib.rt:38:1
 same-length : tie.Need-same-length Inv-loop μ-loop
 same-length c = search (copy-ways, needs)
 
--- src/lib.rt:38:1
 returns : tie.Need-returns Inv-loop μ-loop
 returns c = search (copy-ways, needs)
 

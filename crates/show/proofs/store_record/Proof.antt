@@ -9,48 +9,38 @@ use Rattle.show.proofs.kind_word.Reads as kind-word-reads
 use Rattle.show.proofs.number_word.Reads as number-word-reads
 use Rattle.show.proofs.tag_word.Reads as tag-word-reads
 
--- src/lib.rt:240:36
 cast-number-word : tie.Need-cast-number-word
 cast-number-word c = search needs
 
--- src/lib.rt:240:9
 number-word-requires : tie.Need-number-word-requires
 unfolding ascii recordLine
 number-word-requires c κs = search (line-ways, record-room, needs)
 
--- src/lib.rt:241:9
 tag-word-requires : tie.Need-tag-word-requires
 unfolding ascii recordLine
 tag-word-requires c κs = room-word (room-after (record-room (c .before .before .before .before .before .before .before .args .r) _ (c .before .before .before .before .before .before .before .args .out .now) (c .before .before .before .before .before .before .before .pre)) (c .before .before .before .number-word .ensures))
 
--- src/lib.rt:242:9
 kind-word-requires : tie.Need-kind-word-requires
 unfolding ascii recordLine
 kind-word-requires c κs = room-word (room-after (room-after (record-room (c .before .before .before .before .before .before .before .before .before .before .before .args .r) _ (c .before .before .before .before .before .before .before .before .before .before .before .args .out .now) (c .before .before .before .before .before .before .before .before .before .before .before .pre)) (c .before .before .before .before .before .before .before .number-word .ensures)) (c .before .before .before .tag-word .ensures))
 
--- src/lib.rt:243:40
 cast-number-word-2 : tie.Need-cast-number-word-2
 cast-number-word-2 c = search needs
 
--- src/lib.rt:243:9
 number-word-requires-2 : tie.Need-number-word-requires-2
 unfolding ascii recordLine
 number-word-requires-2 c κs = room-word (room-after (room-after (room-after (record-room (c .before .before .before .before .before .before .before .before .before .before .before .before .before .before .before .before .args .r) _ (c .before .before .before .before .before .before .before .before .before .before .before .before .before .before .before .before .args .out .now) (c .before .before .before .before .before .before .before .before .before .before .before .before .before .before .before .before .pre)) (c .before .before .before .before .before .before .before .before .before .before .before .before .number-word .ensures)) (c .before .before .before .before .before .before .before .before .tag-word .ensures)) (c .before .before .before .before .kind-word .ensures))
 
--- src/lib.rt:244:28
 cast-number-word-3 : tie.Need-cast-number-word-3
 cast-number-word-3 c = search needs
 
--- src/lib.rt:244:5
 number-word-requires-3 : tie.Need-number-word-requires-3
 unfolding ascii recordLine
 number-word-requires-3 c κs = room-last (room-after (room-after (room-after (room-after (record-room (c .before .before .before .before .before .before .before .before .before .before .before .before .before .before .before .before .before .before .before .before .before .args .r) _ (c .before .before .before .before .before .before .before .before .before .before .before .before .before .before .before .before .before .before .before .before .before .args .out .now) (c .before .before .before .before .before .before .before .before .before .before .before .before .before .before .before .before .before .before .before .before .before .pre)) (c .before .before .before .before .before .before .before .before .before .before .before .before .before .before .before .before .before .number-word .ensures)) (c .before .before .before .before .before .before .before .before .before .before .before .before .before .tag-word .ensures)) (c .before .before .before .before .before .before .before .before .before .kind-word .ensures)) (c .before .before .before .before .number-word2 .ensures))
 
--- src/lib.rt:236:1
 same-length : tie.Need-same-length
 same-length c = search needs
 
--- src/lib.rt:236:1
 returns : tie.Need-returns
 unfolding ascii recordLine
 returns c = line-more _ _ _ _ _ _ _ _ _ (c .before .before .before .before .before .before .before .before .before .before .before .before .before .before .before .before .before .before .before .before .number-word .ensures) (line-more _ _ _ _ _ _ _ _ _ (c .before .before .before .before .before .before .before .before .before .before .before .before .before .before .before .before .tag-word .ensures) (line-more _ _ _ _ _ _ _ _ _ (c .before .before .before .before .before .before .before .before .before .before .before .before .kind-word .ensures) (line-more _ _ _ _ _ _ _ _ _ (c .before .before .before .before .before .before .before .number-word2 .ensures) (line-last _ _ _ _ _ (c .before .before .number-word3 .ensures)))))

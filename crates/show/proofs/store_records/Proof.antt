@@ -8,25 +8,20 @@ use Rattle.show.proofs.store_records.Lts as lts
 use Rattle.show.proofs.number_word.Reads as number-word-reads
 use Rattle.show.proofs.octets_word.Reads as octets-word-reads
 
--- src/lib.rt:260:35
 slice-aggregate-octets-word : tie.Need-slice-aggregate-octets-word
 slice-aggregate-octets-word c = search needs
 
--- src/lib.rt:260:9
 octets-word-requires : tie.Need-octets-word-requires
 unfolding ascii recordsLine
 octets-word-requires c κs = search (line-ways, records-room, needs)
 
--- src/lib.rt:261:5
 number-word-requires : tie.Need-number-word-requires
 unfolding ascii recordsLine
 number-word-requires c κs = search (line-ways, records-room, needs)
 
--- src/lib.rt:256:1
 same-length : tie.Need-same-length
 same-length c = search needs
 
--- src/lib.rt:256:1
 returns : tie.Need-returns
 unfolding ascii recordsLine
 returns c = search (line-ways, records-room, needs)

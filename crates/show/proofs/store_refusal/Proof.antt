@@ -8,43 +8,34 @@ use Rattle.show.proofs.store_refusal.Lts as lts
 use Rattle.show.proofs.number_word.Reads as number-word-reads
 use Rattle.show.proofs.octets_word.Reads as octets-word-reads
 
--- src/lib.rt:294:39
 slice-aggregate-octets-word : tie.Need-slice-aggregate-octets-word
 slice-aggregate-octets-word c = search needs
 
--- src/lib.rt:294:9
 octets-word-requires : tie.Need-octets-word-requires
 unfolding ascii refusalLine
 octets-word-requires c κs = search (line-ways, refusal-room, needs)
 
--- src/lib.rt:295:41
 cast-number-word : tie.Need-cast-number-word
 cast-number-word c = search needs
 
--- src/lib.rt:295:9
 number-word-requires : tie.Need-number-word-requires
 unfolding ascii refusalLine
 number-word-requires c κs = room-word (room-after (refusal-room (c .before .before .before .before .before .before .before .before .args .r) _ (c .before .before .before .before .before .before .before .before .args .out .now) (c .before .before .before .before .before .before .before .before .pre)) (c .before .before .before .before .octets-word .ensures))
 
--- src/lib.rt:296:40
 slice-aggregate-octets-word-2 : tie.Need-slice-aggregate-octets-word-2
 slice-aggregate-octets-word-2 c = search needs
 
--- src/lib.rt:296:9
 octets-word-requires-2 : tie.Need-octets-word-requires-2
 unfolding ascii refusalLine
 octets-word-requires-2 c κs = room-word (room-after (room-after (refusal-room (c .before .before .before .before .before .before .before .before .before .before .before .before .before .args .r) _ (c .before .before .before .before .before .before .before .before .before .before .before .before .before .args .out .now) (c .before .before .before .before .before .before .before .before .before .before .before .before .before .pre)) (c .before .before .before .before .before .before .before .before .before .octets-word .ensures)) (c .before .before .before .before .number-word .ensures))
 
--- src/lib.rt:297:5
 number-word-requires-2 : tie.Need-number-word-requires-2
 unfolding ascii refusalLine
 number-word-requires-2 c κs = room-last (room-after (room-after (room-after (refusal-room (c .before .before .before .before .before .before .before .before .before .before .before .before .before .before .before .before .before .args .r) _ (c .before .before .before .before .before .before .before .before .before .before .before .before .before .before .before .before .before .args .out .now) (c .before .before .before .before .before .before .before .before .before .before .before .before .before .before .before .before .before .pre)) (c .before .before .before .before .before .before .before .before .before .before .before .before .before .octets-word .ensures)) (c .before .before .before .before .before .before .before .before .number-word .ensures)) (c .before .before .before .octets-word2 .ensures))
 
--- src/lib.rt:290:1
 same-length : tie.Need-same-length
 same-length c = search needs
 
--- src/lib.rt:290:1
 returns : tie.Need-returns
 unfolding ascii refusalLine
 returns c = line-more _ _ _ _ _ _ _ _ _ (c .before .before .before .before .before .before .before .before .before .before .before .before .before .before .before .before .octets-word .ensures) (line-more _ _ _ _ _ _ _ _ _ (c .before .before .before .before .before .before .before .before .before .before .before .number-word .ensures) (line-more _ _ _ _ _ _ _ _ _ (c .before .before .before .before .before .before .octets-word2 .ensures) (line-last _ _ _ _ _ (c .before .before .number-word2 .ensures))))
