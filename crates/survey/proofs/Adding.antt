@@ -7,6 +7,8 @@ use Prim.Native.Nat.{ℕ, _+_, min}
 use native.Mathlib.Omega.{arith}
 use lib.Dec.{eqb, leb}
 use lib.ListN.{length}
+use Rattle.octets.specs.declared.counts.Octets.{Octets as OctetCount}
+use Rattle.octets.specs.Counts.{asOctets}
 use Rattle.text.specs.Tokens.{Entries}
 use Rattle.values.specs.declared.Kind.{Kind}
 use Rattle.values.specs.Table.{known}
@@ -49,7 +51,7 @@ module _ (T : Entries) (p tag start : ℕ) (body : List ℕ) where
     own = share (known p tag) tag start body u end
 
     abbrev partly : (a b c : Bool) → Part
-    partly a b c = cond a Inside (cond (b && not c) (Octets (min 32_769 (length (taken T (known p tag) body)))) Nothing)
+    partly a b c = cond a Inside (cond (b && not c) (Octets (asOctets (min 32_769 (length (taken T (known p tag) body))))) Nothing)
 
     abbrev shared : (a b : Bool) → Items
     shared a b = cond a (item tag start body u end) (cond b (item tag start body end end) end)
@@ -61,8 +63,8 @@ module _ (T : Entries) (p tag start : ℕ) (body : List ℕ) where
     nothing-by false true false e h = let z : _≡_ {A = ℕ} 0 1 = cc in absurd (omega arith)
     nothing-by false false c e h = record { room = refl; size = refl }
 
-    octets-by : (a b c : Bool) → a ≡ opens tag → c ≡ eqb tag 4 → (n : ℕ) → Octets n ≡ partly a b c
-        → (n ≡ min 32_769 (length (taken T (known p tag) body))) × Has T p (shared a b) (length (taken T (known p tag) body)) (framedSize (length (taken T (known p tag) body)))
+    octets-by : (a b c : Bool) → a ≡ opens tag → c ≡ eqb tag 4 → (n : OctetCount) → Octets n ≡ partly a b c
+        → (n .0 ≡ min 32_769 (length (taken T (known p tag) body))) × Has T p (shared a b) (length (taken T (known p tag) body)) (framedSize (length (taken T (known p tag) body)))
     unfolding roomIn sizeIn
     octets-by true b c o e n h = let z : _≡_ {A = ℕ} 0 1 = cc in absurd (omega arith)
     octets-by false true true o e n h = let z : _≡_ {A = ℕ} 0 1 = cc in absurd (omega arith)
@@ -79,8 +81,8 @@ module _ (T : Entries) (p tag start : ℕ) (body : List ℕ) where
     unfolding partOf share
     adds-nothing h = nothing-by (isItems (known p tag)) (isKnown (known p tag)) (isTokens (known p tag)) (tokens-four p tag) h
 
-    pub adds-octets : (n : ℕ) → Octets n ≡ partOf T (known p tag) body
-        → (n ≡ min 32_769 (length (taken T (known p tag) body))) × Has T p own (length (taken T (known p tag) body)) (framedSize (length (taken T (known p tag) body)))
+    pub adds-octets : (n : OctetCount) → Octets n ≡ partOf T (known p tag) body
+        → (n .0 ≡ min 32_769 (length (taken T (known p tag) body))) × Has T p own (length (taken T (known p tag) body)) (framedSize (length (taken T (known p tag) body)))
     unfolding partOf share
     adds-octets n h = octets-by (isItems (known p tag)) (isKnown (known p tag)) (isTokens (known p tag)) (items-opens p tag) (tokens-four p tag) n h
 

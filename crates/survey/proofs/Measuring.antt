@@ -8,6 +8,8 @@ use native.Mathlib.Omega.{arith}
 use lib.ListN.{length, take, drop, getD, drop-of-length-le}
 use mir.Syntax.{w64}
 use mir.Val.{Fits}
+use Rattle.octets.specs.declared.counts.Octets.{Octets as OctetCount}
+use Rattle.octets.specs.Counts.{asOctets}
 use Rattle.text.specs.Tokens.{Entries}
 use Rattle.values.specs.Table.{known}
 use Rattle.format.specs.Tree.{Items}
@@ -39,26 +41,26 @@ sizes-has T p t store octets h = ap₂ sizesOf (sym (h .room)) (sym (h .size))
 -- ---- measure_item
 
 module _ (T : Entries) (p tag left : ℕ) (body : List ℕ) (x : Part) (xe : x ≡ partOf T (known p tag) body) where
-  pub item-nothing : x ≡ Nothing → ItemMeasured T p tag left body (Sizes 0 0)
+  pub item-nothing : x ≡ Nothing → ItemMeasured T p tag left body (Sizes (asOctets 0) (asOctets 0))
   item-nothing q = record {
     small = (omega arith, omega arith);
     told = λ depth offset u l a. sizes-are 0 0 (omega arith) ∙ sizes-has T p (share (known p tag) tag offset body u end) 0 0 (adds-nothing T p tag offset body u (sym q ∙ xe));
   }
 
   -- octets of its own
-  module _ (n : ℕ) (q : x ≡ Octets n) where
+  module _ (n : OctetCount) (q : x ≡ Octets n) where
     abbrev whole : ℕ
     whole = length (taken T (known p tag) body)
 
-    pub octets-few : n ≤ 32_769
+    pub octets-few : n .0 ≤ 32_769
     octets-few = omega (arith, adds-octets T p tag 0 body end n (sym q ∙ xe) .0)
 
-    pub item-octets : (r : Measured) → r ≡ sizesOf n (framedSize n) → ItemMeasured T p tag left body r
+    pub item-octets : (r : Measured) → r ≡ sizesOf (n .0) (framedSize (n .0)) → ItemMeasured T p tag left body r
     item-octets r e = record {
-      small = subst Small (sym e) (small-sizes n (framedSize n) (omega (arith, framed-more n)));
+      small = subst Small (sym e) (small-sizes (n .0) (framedSize (n .0)) (omega (arith, framed-more (n .0))));
       told = λ depth offset u l a.
           let h = adds-octets T p tag offset body u n (sym q ∙ xe) in
-          e ∙ cut-same n whole (h .0) ∙ sizes-has T p (share (known p tag) tag offset body u end) whole (framedSize whole) (h .1);
+          e ∙ cut-same (n .0) whole (h .0) ∙ sizes-has T p (share (known p tag) tag offset body u end) whole (framedSize whole) (h .1);
     }
 
   -- the items inside it
@@ -84,16 +86,16 @@ module _ (T : Entries) (p tag left : ℕ) (body : List ℕ) (x : Part) (xe : x �
             sizes-over (roomIn T tag u) (framedSize (sizeIn T tag u)) (omega (arith, framed-more (sizeIn T tag u))) ∙ inner offset u;
       }
 
-      module _ (s n : ℕ) (w : v ≡ Sizes s n) where
-        bounded : (s ≤ n) × (n ≤ 32_768)
+      module _ (s n : OctetCount) (w : v ≡ Sizes s n) where
+        bounded : (s .0 ≤ n .0) × (n .0 ≤ 32_768)
         bounded = subst Small w (m .small)
 
-        pub inside-few : n ≤ 32_769
+        pub inside-few : n .0 ≤ 32_769
         inside-few = omega (arith, bounded .1)
 
-        pub item-inside : (r : Measured) → r ≡ sizesOf s (framedSize n) → ItemMeasured T p tag left body r
+        pub item-inside : (r : Measured) → r ≡ sizesOf (s .0) (framedSize (n .0)) → ItemMeasured T p tag left body r
         item-inside r e = record {
-          small = subst Small (sym e) (small-sizes s (framedSize n) (omega (arith, bounded .0, framed-more n)));
+          small = subst Small (sym e) (small-sizes (s .0) (framedSize (n .0)) (omega (arith, bounded .0, framed-more (n .0))));
           told = λ depth offset u l a.
               let k = sizes-say (roomIn T tag u) (sizeIn T tag u) s n (sym w ∙ inside-told depth offset u l (a holds)) in
               e ∙ ap₂ (λ b c. sizesOf b (framedSize c)) (sym (k .0)) (sym (k .1)) ∙ inner offset u;
@@ -123,7 +125,7 @@ begin T p left part = record {
 }
 
 module _ (T : Entries) (p left : ℕ) (part : List ℕ) (store octets at : ℕ) (inv : Sums T p left part store octets at) where
-  pub ended : length part ≤ at → ItemsMeasured T p left part (Sizes store octets)
+  pub ended : length part ≤ at → ItemsMeasured T p left part (Sizes (asOctets store) (asOctets octets))
   unfolding roomIn sizeIn
   ended h = record {
     small = (inv .fewer, inv .few);
@@ -187,27 +189,27 @@ module _ (T : Entries) (p left : ℕ) (part : List ℕ) (store octets at : ℕ) 
               sizes-over (roomIn T p t) (sizeIn T p t) (omega (arith, g .size));
         }
 
-        module _ (more longer : ℕ) (e : v ≡ Sizes more longer) where
-          limits : (more ≤ longer) × (longer ≤ 32_768)
+        module _ (more longer : OctetCount) (e : v ≡ Sizes more longer) where
+          limits : (more .0 ≤ longer .0) × (longer .0 ≤ 32_768)
           limits = subst Small e (m .small)
 
-          pub store-fits : Fits w64 (store + more)
+          pub store-fits : Fits w64 (store + more .0)
           store-fits = omega (arith, limits, inv .fewer, inv .few)
 
-          pub octets-fit : Fits w64 (octets + longer)
+          pub octets-fit : Fits w64 (octets + longer .0)
           octets-fit = omega (arith, limits, inv .few)
 
-          further : (depth offset : ℕ) (t : Items) → depth + left ≡ 17 → Accepts p depth offset part t → Going T p depth offset part t (store + more) (octets + longer) to
+          further : (depth offset : ℕ) (t : Items) → depth + left ≡ 17 → Accepts p depth offset part t → Going T p depth offset part t (store + more .0) (octets + longer .0) to
           further depth offset t l a =
               let g = turn depth offset t l a in
               let k = sizes-say _ _ more longer (sym e ∙ g .own) in
               record { rest = g .w; accepts = g .after; room = omega (arith, g .room, k .0); size = omega (arith, g .size, k .1) }
 
-          pub too-long : 32_768 < octets + longer → ItemsMeasured T p left part Over
+          pub too-long : 32_768 < octets + longer .0 → ItemsMeasured T p left part Over
           too-long k = record {
             small = tt;
             told = λ depth offset t l a. sizes-over (roomIn T p t) (sizeIn T p t) (omega (arith, further depth offset t l a .size));
           }
 
-          pub again : octets + longer ≤ 32_768 → Sums T p left part (store + more) (octets + longer) to
+          pub again : octets + longer .0 ≤ 32_768 → Sums T p left part (store + more .0) (octets + longer .0) to
           again k = record { inside = to-inside here (inv .inside); fewer = omega (arith, limits, inv .fewer); few = k; goes = further }

@@ -11,6 +11,8 @@ use lib.ListN.{length}
 use borrow.Author.Tests.{leb-true, leb-false, le-leb, lt-leb}
 use mir.Syntax.{w64}
 use mir.Val.{Fits}
+use Rattle.octets.specs.declared.counts.Octets.{Octets as OctetCount}
+use Rattle.octets.specs.Counts.{asOctets}
 use Rattle.octets.specs.Header.{lengthField}
 use Rattle.text.specs.Tokens.{Entries}
 use Rattle.text.specs.Weighing.{Widths, weight}
@@ -38,7 +40,7 @@ use Rattle.survey.specs.Sizes.{taken, partOf, sizesOf, Small}
 -- ---- sizes, of a value and of an item, which the writer measures too
 
 module _ (k : Kind) (body : List ℕ) (r : NormalSize) (e : r ≡ normalSize k body) where
-  pub value-octets : (n : ℕ) → r ≡ sized.Octets n → n ≡ length (valueOctets k body)
+  pub value-octets : (n : OctetCount) → r ≡ sized.Octets n → n .0 ≡ length (valueOctets k body)
   unfolding normalOctets
   value-octets n q = let z = normal-sized k body r e n q in z .size ∙ ap length (sym (value-fits k body (z .fit)))
 
@@ -46,12 +48,16 @@ module _ (k : Kind) (body : List ℕ) (r : NormalSize) (e : r ≡ normalSize k b
   unfolding valueOctets
   value-none q = rw (not-sized k body r e q)
 
-pub framed-fits : (n h : ℕ) → n < 131072 → h ≡ suc (length (lengthField n)) → Fits w64 (h + n)
-framed-fits n h l e = omega (arith, size-five n)
+module _ (n h : OctetCount) (e : h ≡ asOctets (suc (length (lengthField (n .0))))) where
+  header-is : h .0 ≡ suc (length (lengthField (n .0)))
+  header-is = ap (λ m. m .0) e
 
-pub framed-is : (n h : ℕ) → h ≡ suc (length (lengthField n)) → h + n ≡ framedSize n
-unfolding framedSize
-framed-is n h e = rw e
+  pub framed-fits : n .0 < 131072 → Fits w64 (h .0 + n .0)
+  framed-fits l = omega (arith, header-is, size-five (n .0))
+
+  pub framed-is : h .0 + n .0 ≡ framedSize (n .0)
+  unfolding framedSize
+  framed-is = rw header-is
 
 -- ---- value_size
 
@@ -59,11 +65,11 @@ module _ (k : Kind) (o : List ℕ) (r : NormalSize) (e : r ≡ normalSize k o) w
   pub size-none : r ≡ sized.NoValue → 0 ≡ min 32_769 (length (valueOctets k o))
   size-none q = omega (arith, value-none k o r e q)
 
-  module _ (n : ℕ) (q : r ≡ sized.Octets n) where
-    pub size-long : 32_769 < n → 32_769 ≡ min 32_769 (length (valueOctets k o))
+  module _ (n : OctetCount) (q : r ≡ sized.Octets n) where
+    pub size-long : 32_769 < n .0 → 32_769 ≡ min 32_769 (length (valueOctets k o))
     size-long h = omega (arith, value-octets k o r e n q)
 
-    pub size-short : n ≤ 32_769 → n ≡ min 32_769 (length (valueOctets k o))
+    pub size-short : n .0 ≤ 32_769 → n .0 ≡ min 32_769 (length (valueOctets k o))
     size-short h = omega (arith, value-octets k o r e n q)
 
 -- ---- part_of
@@ -85,28 +91,28 @@ module _ (T : Entries) (p tag : ℕ) (o : List ℕ) (r : KnownKind) (e : r ≡ a
     unfolding partOf isItems isKnown isTokens
     part-tokens w = rw (kind-is, w)
 
-    module _ (n : ℕ) where
-      pub part-text : (widths : List ℕ) → Widths 32 T widths → k ≡ HoldsText → n ≡ min 32_769 (weight widths o) → Octets n ≡ partOf T (known p tag) o
+    module _ (n : OctetCount) where
+      pub part-text : (widths : List ℕ) → Widths 32 T widths → k ≡ HoldsText → n ≡ asOctets (min 32_769 (weight widths o)) → Octets n ≡ partOf T (known p tag) o
       unfolding partOf isItems isKnown isTokens taken fits meant octetsOf
       part-text widths h w x = rw (kind-is, w, x, weight-is T widths h o)
 
       -- a value that is no text has the same octets under every table
-      module _ (x : n ≡ min 32_769 (length (valueOctets k o))) where
+      module _ (x : n .0 ≡ min 32_769 (length (valueOctets k o))) where
         pub part-plain : k ≡ HoldsPlain → Octets n ≡ partOf T (known p tag) o
         unfolding partOf isItems isKnown isTokens taken valueOctets meant
-        part-plain w = ap Octets (x ∙ ap (λ l. min 32_769 (length (valueOctets l o))) w) ∙ rw (kind-is, w)
+        part-plain w = ap (λ size. Octets (asOctets size)) (x ∙ ap (λ l. min 32_769 (length (valueOctets l o))) w) ∙ rw (kind-is, w)
 
         pub part-time : k ≡ HoldsTime → Octets n ≡ partOf T (known p tag) o
         unfolding partOf isItems isKnown isTokens taken valueOctets meant
-        part-time w = ap Octets (x ∙ ap (λ l. min 32_769 (length (valueOctets l o))) w) ∙ rw (kind-is, w)
+        part-time w = ap (λ size. Octets (asOctets size)) (x ∙ ap (λ l. min 32_769 (length (valueOctets l o))) w) ∙ rw (kind-is, w)
 
         pub part-bearer : k ≡ HoldsBearer → Octets n ≡ partOf T (known p tag) o
         unfolding partOf isItems isKnown isTokens taken valueOctets meant
-        part-bearer w = ap Octets (x ∙ ap (λ l. min 32_769 (length (valueOctets l o))) w) ∙ rw (kind-is, w)
+        part-bearer w = ap (λ size. Octets (asOctets size)) (x ∙ ap (λ l. min 32_769 (length (valueOctets l o))) w) ∙ rw (kind-is, w)
 
         pub part-number : (m : NumberKind) → k ≡ HoldsNumber m → Octets n ≡ partOf T (known p tag) o
         unfolding partOf isItems isKnown isTokens taken valueOctets meant
-        part-number m w = ap Octets (x ∙ ap (λ l. min 32_769 (length (valueOctets l o))) w) ∙ rw (kind-is, w)
+        part-number m w = ap (λ size. Octets (asOctets size)) (x ∙ ap (λ l. min 32_769 (length (valueOctets l o))) w) ∙ rw (kind-is, w)
 
 -- ---- framed
 
@@ -114,19 +120,19 @@ pub sizes-over : (s n : ℕ) → 32_768 < n → Over ≡ sizesOf s n
 unfolding sizesOf
 sizes-over s n h = rw (lt-leb n 32_768 h)
 
-pub sizes-are : (s n : ℕ) → n ≤ 32_768 → Sizes s n ≡ sizesOf s n
+pub sizes-are : (s n : ℕ) → n ≤ 32_768 → Sizes (asOctets s) (asOctets n) ≡ sizesOf s n
 unfolding sizesOf
 sizes-are s n h = rw (le-leb n 32_768 h)
 
-module _ (s n h : ℕ) (e : h ≡ suc (length (lengthField n))) where
-  pub framed-sum : n ≤ 32_769 → Fits w64 (h + n)
-  framed-sum l = framed-fits n h (omega arith) e
+module _ (s n h : OctetCount) (e : h ≡ asOctets (suc (length (lengthField (n .0))))) where
+  pub framed-sum : n .0 ≤ 32_769 → Fits w64 (h .0 + n .0)
+  framed-sum l = framed-fits n h e (omega arith)
 
-  pub framed-over : 32_768 < h + n → Over ≡ sizesOf s (framedSize n)
-  framed-over l = sizes-over s (framedSize n) (omega (arith, framed-is n h e))
+  pub framed-over : 32_768 < h .0 + n .0 → Over ≡ sizesOf (s .0) (framedSize (n .0))
+  framed-over l = sizes-over (s .0) (framedSize (n .0)) (omega (arith, framed-is n h e))
 
-  pub framed-sizes : h + n ≤ 32_768 → Sizes s (h + n) ≡ sizesOf s (framedSize n)
-  framed-sizes l = sizes-are s (h + n) l ∙ ap (sizesOf s) (framed-is n h e)
+  pub framed-sizes : h .0 + n .0 ≤ 32_768 → Sizes s (asOctets (h .0 + n .0)) ≡ sizesOf (s .0) (framedSize (n .0))
+  framed-sizes l = sizes-are (s .0) (h .0 + n .0) l ∙ ap (sizesOf (s .0)) (framed-is n h e)
 
 -- ---- what an answer says
 
@@ -134,15 +140,15 @@ pub over-says : (s n : ℕ) → Over ≡ sizesOf s n → 32_768 < n
 unfolding sizesOf
 over-says s n e = go (leb n 32_768) refl e
   where
-    go : (b : Bool) → leb n 32_768 ≡ b → Over ≡ cond b (Sizes s n) Over → 32_768 < n
+    go : (b : Bool) → leb n 32_768 ≡ b → Over ≡ cond b (Sizes (asOctets s) (asOctets n)) Over → 32_768 < n
     go true q p = let z : _≡_ {A = ℕ} 0 1 = cc in absurd (omega arith)
     go false q p = leb-false n 32_768 q
 
-pub sizes-say : (s n a b : ℕ) → Sizes a b ≡ sizesOf s n → (s ≡ a) × (n ≡ b)
+pub sizes-say : (s n : ℕ) (a b : OctetCount) → Sizes a b ≡ sizesOf s n → (s ≡ a .0) × (n ≡ b .0)
 unfolding sizesOf
 sizes-say s n a b e = go (leb n 32_768) e
   where
-    go : (c : Bool) → Sizes a b ≡ cond c (Sizes s n) Over → (s ≡ a) × (n ≡ b)
+    go : (c : Bool) → Sizes a b ≡ cond c (Sizes (asOctets s) (asOctets n)) Over → (s ≡ a .0) × (n ≡ b .0)
     go true p = (cc, cc)
     go false p = let z : _≡_ {A = ℕ} 0 1 = cc in absurd (omega arith)
 
@@ -150,6 +156,6 @@ pub small-sizes : (s n : ℕ) → s ≤ n → Small (sizesOf s n)
 unfolding sizesOf
 small-sizes s n h = go (leb n 32_768) refl
   where
-    go : (b : Bool) → leb n 32_768 ≡ b → Small (cond b (Sizes s n) Over)
+    go : (b : Bool) → leb n 32_768 ≡ b → Small (cond b (Sizes (asOctets s) (asOctets n)) Over)
     go true q = (h, leb-true n 32_768 q)
     go false q = tt

@@ -7,6 +7,8 @@ use native.Mathlib.Omega.{arith}
 use lib.Dec.{leb}
 use lib.ListN.{length}
 use borrow.Author.Tests.{leb-true, leb-false, le-leb, lt-leb}
+use Rattle.octets.specs.declared.counts.Octets.{Octets as OctetCount}
+use Rattle.octets.specs.Counts.{sizeOf}
 use Rattle.octets.proofs.Tests.{and-false}
 use Rattle.format.specs.declared.Refusal.{Refusal}
 use Rattle.format.specs.declared.Counts.{Counts}
@@ -37,13 +39,13 @@ capped n room h = go (leb n room) refl
 
 sufficient-measured : (lent : Lent) (t : Items) → sufficient (measuredOf t) (lent .store) (lent .room) ≡ storedWithin lent t
 unfolding measuredOf storedWithin roomy sufficient
-sufficient-measured lent t = go (leb (length (storeOf t)) (lent .store)) (leb (length (normalOf t)) 32_768) refl refl
+sufficient-measured lent t = go (leb (length (storeOf t)) (lent .store .0)) (leb (length (normalOf t)) 32_768) refl refl
   where
-    go : (a b : Bool) → leb (length (storeOf t)) (lent .store) ≡ a → leb (length (normalOf t)) 32_768 ≡ b
-        → sufficient (cond b (Sizes (length (storeOf t)) (length (normalOf t))) Over) (lent .store) (lent .room) ≡ a && leb (length (normalOf t)) (min (lent .room) 32_768)
-    go a true w q = rw w (ap (λ x. a && x) (capped (length (normalOf t)) (lent .room) (leb-true (length (normalOf t)) 32_768 q)))
+    go : (a b : Bool) → leb (length (storeOf t)) (lent .store .0) ≡ a → leb (length (normalOf t)) 32_768 ≡ b
+        → sufficient (cond b (Sizes (sizeOf (storeOf t)) (sizeOf (normalOf t))) Over) (lent .store) (lent .room) ≡ a && leb (length (normalOf t)) (min (lent .room .0) 32_768)
+    go a true w q = rw w (ap (λ x. a && x) (capped (length (normalOf t)) (lent .room .0) (leb-true (length (normalOf t)) 32_768 q)))
     go a false w q =
-        let over : leb (length (normalOf t)) (min (lent .room) 32_768) ≡ false = lt-leb (length (normalOf t)) (min (lent .room) 32_768) (omega (arith, leb-false (length (normalOf t)) 32_768 q)) in
+        let over : leb (length (normalOf t)) (min (lent .room .0) 32_768) ≡ false = lt-leb (length (normalOf t)) (min (lent .room .0) 32_768) (omega (arith, leb-false (length (normalOf t)) 32_768 q)) in
         sym (ap (λ x. a && x) over ∙ and-false a)
 
 module _ (o : List ℕ) (m : Measured) (e : Measures o m) (b : Bool) (lent : Lent) (f : b ≡ sufficient m (lent .store) (lent .room)) where
@@ -94,19 +96,19 @@ module _ (o : List ℕ) (v : ReadAnswer) (e : v ≡ judgeAnswer (judge o)) (lent
 
 -- ---- is_sufficient
 
-module _ (m : Measured) (store room : ℕ) where
+module _ (m : Measured) (store room : OctetCount) where
   pub sufficient-over : m ≡ Over → false ≡ sufficient m store room
   unfolding sufficient
   sufficient-over q = rw q
 
-  module _ (s n : ℕ) (q : m ≡ Sizes s n) where
-    pub sufficient-store : store < s → false ≡ sufficient m store room
+  module _ (s n : OctetCount) (q : m ≡ Sizes s n) where
+    pub sufficient-store : store .0 < s .0 → false ≡ sufficient m store room
     unfolding sufficient
-    sufficient-store h = rw (q, lt-leb s store h)
+    sufficient-store h = rw (q, lt-leb (s .0) (store .0) h)
 
-    pub sufficient-room : s ≤ store → leb n room ≡ sufficient m store room
+    pub sufficient-room : s .0 ≤ store .0 → leb (n .0) (room .0) ≡ sufficient m store room
     unfolding sufficient
-    sufficient-room h = rw (q, le-leb s store h)
+    sufficient-room h = rw (q, le-leb (s .0) (store .0) h)
 
 pub ruleset sufficient-ways = (sufficient-over, sufficient-store, sufficient-room)
 

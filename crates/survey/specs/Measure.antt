@@ -3,8 +3,7 @@ use mathlib.Core.Path.{_≡_}
 use mathlib.Core.Bool.{cond}
 use mathlib.Core.List.{List}
 use Prim.Native.Nat.{ℕ}
-use lib.Dec.{leb}
-use lib.ListN.{length}
+use Rattle.octets.specs.Counts.{asOctets, sizeOf, octetsWithin}
 use Rattle.format.specs.Tree.{Items}
 use Rattle.format.specs.Judge.{judge}
 use Rattle.format.specs.Judge.Judged.{accepted}
@@ -15,7 +14,7 @@ use Rattle.survey.specs.declared.measure.Measured.the-variants.{Over, Si
 
 -- how many octets of a store an object needs, and how many its normal form has; that it has more than an object may have (document 01, Refusal numbers: 15)
 unfoldable pub measuredOf : Items → Measured
-measuredOf t = cond (leb (length (normalOf t)) 32_768) (Sizes (length (storeOf t)) (length (normalOf t))) Over
+measuredOf t = cond (octetsWithin (sizeOf (normalOf t)) (asOctets 32_768)) (Sizes (sizeOf (storeOf t)) (sizeOf (normalOf t))) Over
 
 unfoldable pub Measures : List ℕ → Measured → Type 0
 Measures object r = (t : Items) → judge object ≡ accepted t → r ≡ measuredOf t

@@ -7,6 +7,7 @@ use mathlib.Core.List.{List, []}
 use Prim.Native.Nat.{ℕ, _+_, _≤_, min}
 use lib.Dec.{eqb, leb}
 use lib.ListN.{length}
+use Rattle.octets.specs.Counts.{asOctets}
 use Rattle.text.specs.Tokens.{Entries}
 use Rattle.values.specs.declared.Kind.{Kind}
 use Rattle.values.specs.Table.{known}
@@ -29,7 +30,7 @@ taken table (some k) o = cond (fits k o) (octetsOf (meant table k o)) []
 
 -- what is measured of an item of a kind
 unfoldable pub partOf : Entries → Option Kind → List ℕ → Part
-partOf table k o = cond (isItems k) Inside (cond (isKnown k && not (isTokens k)) (Octets (min 32_769 (length (taken table k o)))) Nothing)
+partOf table k o = cond (isItems k) Inside (cond (isKnown k && not (isTokens k)) (Octets (asOctets (min 32_769 (length (taken table k o))))) Nothing)
 
 -- how much of a store the items of an element take
 unfoldable pub roomIn : Entries → ℕ → Items → ℕ
@@ -45,7 +46,7 @@ sizeIn table parent (item tag at body inside after) =
 
 -- both as an answer
 unfoldable pub sizesOf : (store octets : ℕ) → Measured
-sizesOf store octets = cond (leb octets 32_768) (Sizes store octets) Over
+sizesOf store octets = cond (leb octets 32_768) (Sizes (asOctets store) (asOctets octets)) Over
 
 abbrev pub sizesIn : Entries → ℕ → Items → Measured
 sizesIn table parent t = sizesOf (roomIn table parent t) (sizeIn table parent t)
@@ -53,7 +54,7 @@ sizesIn table parent t = sizesOf (roomIn table parent t) (sizeIn table parent t)
 -- no answer tells more octets than an object may have, nor more of a store than octets
 abbrev pub Small : Measured → Type 0
 Small Over = Unit {0}
-Small (Sizes store octets) = (store ≤ octets) × (octets ≤ 32_768)
+Small (Sizes store octets) = (store .0 ≤ octets .0) × (octets .0 ≤ 32_768)
 
 -- the answer for the items in a part, of every tree that it has in some context whose depth leaves so many levels (rule 7)
 pub record ItemsMeasured (table : Entries) (parent left : ℕ) (part : List ℕ) (r : Measured) : Type 0 where

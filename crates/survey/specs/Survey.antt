@@ -1,7 +1,8 @@
 -- An object held against what is lent to it, before anything is written: whether it is accepted, and whether its records, texts and values and its normal form fit.
 use mathlib.Core.Bool.{Bool, false, cond, _&&_}
-use Prim.Native.Nat.{ℕ}
 use lib.Dec.{leb}
+use Rattle.octets.specs.declared.counts.Octets.{Octets}
+use Rattle.octets.specs.Counts.{octetsWithin}
 use Rattle.format.specs.Answers.{refusal}
 use Rattle.format.specs.Tree.{count}
 use Rattle.format.specs.Judge.{Judged}
@@ -13,9 +14,9 @@ use Rattle.survey.specs.declared.Standing.{Standing}
 use Rattle.survey.specs.declared.Standing.the-variants.{Bad, Misfit, Fits}
 
 -- sizes that lent memory has
-unfoldable pub sufficient : Measured → (store room : ℕ) → Bool
+unfoldable pub sufficient : Measured → (store room : Octets) → Bool
 sufficient Over store room = false
-sufficient (Sizes s n) store room = leb s store && leb n room
+sufficient (Sizes stored octets) store room = octetsWithin stored store && octetsWithin octets room
 
 -- an object held against what is lent, with nothing loaded: refused by the judgement; accepted, but 14 or 15; or it fits
 unfoldable pub surveyed : Lent → Judged → Standing

@@ -13,6 +13,7 @@ use crate::measure::measure;
 use format::ReadAnswer;
 use format::Refusal;
 use judge::judge;
+use octets::Octets;
 pub use table::item_at;
 pub use table::table_of;
 pub use written::written_as;
@@ -30,7 +31,7 @@ pub enum Lies {
     Between { from: usize, to: usize },
 }
 
-fn is_sufficient(needs: Measured, store: usize, room: usize) -> bool
+fn is_sufficient(needs: Measured, store: Octets, room: Octets) -> bool
     ensures { λ r. ⌜ r ≡ sufficient needs store room ⌝ }
 {
     match needs {
@@ -39,16 +40,16 @@ fn is_sufficient(needs: Measured, store: usize, room: usize) -> bool
             store: stored,
             octets,
         } => {
-            if stored > store {
+            if stored.0 > store.0 {
                 return false;
             }
-            octets <= room
+            octets.0 <= room.0
         }
     }
 }
 
-// The numbers are those of what is lent: places for records, octets of the store and of the room.
-pub fn survey(object: &[u8], places: usize, store: usize, room: usize) -> Standing
+// What is lent, by size: places for records, octets of the store and of the room.
+pub fn survey(object: &[u8], places: usize, store: Octets, room: Octets) -> Standing
     ensures { λ r. ⌜ r ≡ surveyed (record { records = places; store = store; room = room }) (judge (now (object .entry))) ⌝ }
 {
     match judge(object) {

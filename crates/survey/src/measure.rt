@@ -14,6 +14,7 @@ use crate::Lies;
 use crate::table::item_at;
 use crate::table::table_of;
 use crate::written::written_as;
+use octets::Octets;
 use octets::header_size;
 use text::expanded_size;
 use text::widths_of;
@@ -25,25 +26,25 @@ use values::normal_size;
 // The octets that items take of a store and in normal form. Over: their normal form has more than 32,768, which no object may have.
 pub enum Measured {
     Over,
-    Sizes { store: usize, octets: usize },
+    Sizes { store: Octets, octets: Octets },
 }
 
 // What is measured of an item: nothing; the items inside it; octets of its own, of which no more than 32,769 are counted.
 enum Part {
     Nothing,
     Inside,
-    Octets(usize),
+    Octets(Octets),
 }
 
 // A value that is no text. One that is none of its kind, which no accepted item has, has no octets.
-fn value_size(kind: Kind, body: &[u8]) -> usize
-    ensures { λ r. ⌜ r ≡ min 32_769 (length (valueOctets kind (now (body .entry)))) ⌝ }
+fn value_size(kind: Kind, body: &[u8]) -> Octets
+    ensures { λ r. ⌜ r .0 ≡ min 32_769 (length (valueOctets kind (now (body .entry)))) ⌝ }
 {
     let NormalSize::Octets(size) = normal_size(kind, body) else {
-        return 0;
+        return Octets(0);
     };
-    if size > 32_769 {
-        return 32_769;
+    if size.0 > 32_769 {
+        return Octets(32_769);
     }
     size
 }
@@ -58,7 +59,7 @@ fn part_of(parent: u8, tag: u8, body: &[u8], table: &[u8], widths: &[u8; 32]) ->
         KnownKind::Known(kind) => match kind {
             Kind::HoldsItems => Part::Inside,
             Kind::HoldsTokens => Part::Nothing,
-            Kind::HoldsText => Part::Octets(expanded_size(widths, body, 32_769)),
+            Kind::HoldsText => Part::Octets(expanded_size(widths, body, Octets(32_769))),
             Kind::HoldsPlain => Part::Octets(value_size(kind, body)),
             Kind::HoldsTime => Part::Octets(value_size(kind, body)),
             Kind::HoldsBearer => Part::Octets(value_size(kind, body)),
@@ -68,17 +69,17 @@ fn part_of(parent: u8, tag: u8, body: &[u8], table: &[u8], widths: &[u8; 32]) ->
 }
 
 // An item whose body has so many octets in normal form.
-fn framed(store: usize, octets: usize) -> Measured
-    requires { ⌜ octets ≤ 32_769 ⌝ }
-    ensures { λ r. ⌜ r ≡ sizesOf store (framedSize octets) ⌝ }
+fn framed(store: Octets, octets: Octets) -> Measured
+    requires { ⌜ octets .0 ≤ 32_769 ⌝ }
+    ensures { λ r. ⌜ r ≡ sizesOf (store .0) (framedSize (octets .0)) ⌝ }
 {
-    let size = header_size(octets) + octets;
+    let size = header_size(octets).0 + octets.0;
     if size > 32_768 {
         return Measured::Over;
     }
     Measured::Sizes {
         store,
-        octets: size,
+        octets: Octets(size),
     }
 }
 
@@ -96,8 +97,8 @@ fn measure_item(
 {
     match part_of(parent, tag, body, table, widths) {
         Part::Nothing => Measured::Sizes {
-            store: 0,
-            octets: 0,
+            store: Octets(0),
+            octets: Octets(0),
         },
         Part::Octets(size) => framed(size, size),
         Part::Inside => {
@@ -132,14 +133,17 @@ fn measure_items(parent: u8, left: usize, part: &[u8], table: &[u8], widths: &[u
         else {
             return Measured::Over;
         };
-        store = store + more;
-        octets = octets + longer;
+        store = store + more.0;
+        octets = octets + longer.0;
         if octets > 32_768 {
             return Measured::Over;
         }
         at = to;
     }
-    Measured::Sizes { store, octets }
+    Measured::Sizes {
+        store: Octets(store),
+        octets: Octets(octets),
+    }
 }
 
 // An object that is accepted. The object itself counts as an element with the tag 0, whose one item is the top at depth 1.

@@ -335,7 +335,7 @@ measure-items-add-store : (t : ℕ) → measure-items-lts.Need-add-store (
   measure-item.Post,
 ) (measure-items-at t) measure-items.Post measure-items-Inv-loop measure-items-μ-loop
 measure-items-add-store t c =
-    store-fits _ _ _ _ _ _ _ ((c .before .before .before .before .before .before .before .before .before .before .before .loop) .inv) ((c .before .before .before .before .before .before .before .before .before .before .loop-test) .taken) _ ((c .before .before .before .before .before .before .before .before .before .item-at) .ensures) _ _ ((c .before .before .before .before .before .before .before .from) .given .1) _ ((c .before .before .before .measure-item) .ensures) _ _ ((c .before .item) .given .1)
+    store-fits _ _ _ _ _ _ _ ((c .before .before .before .before .before .before .before .before .before .before .before .before .loop) .inv) ((c .before .before .before .before .before .before .before .before .before .before .before .loop-test) .taken) _ ((c .before .before .before .before .before .before .before .before .before .before .item-at) .ensures) _ _ ((c .before .before .before .before .before .before .before .before .from) .given .1) _ ((c .before .before .before .before .measure-item) .ensures) _ _ ((c .before .before .item) .given .1)
 
 measure-items-add-octets : (t : ℕ) → measure-items-lts.Need-add-octets (
   item-at-reads.Asked,
@@ -344,7 +344,7 @@ measure-items-add-octets : (t : ℕ) → measure-items-lts.Need-add-octets (
   measure-item.Post,
 ) (measure-items-at t) measure-items.Post measure-items-Inv-loop measure-items-μ-loop
 measure-items-add-octets t c =
-    octets-fit _ _ _ _ _ _ _ ((c .before .before .before .before .before .before .before .before .before .before .before .loop) .inv) ((c .before .before .before .before .before .before .before .before .before .before .loop-test) .taken) _ ((c .before .before .before .before .before .before .before .before .before .item-at) .ensures) _ _ ((c .before .before .before .before .before .before .before .from) .given .1) _ ((c .before .before .before .measure-item) .ensures) _ _ ((c .before .item) .given .1)
+    octets-fit _ _ _ _ _ _ _ ((c .before .before .before .before .before .before .before .before .before .before .before .before .before .loop) .inv) ((c .before .before .before .before .before .before .before .before .before .before .before .before .loop-test) .taken) _ ((c .before .before .before .before .before .before .before .before .before .before .before .item-at) .ensures) _ _ ((c .before .before .before .before .before .before .before .before .before .from) .given .1) _ ((c .before .before .before .before .before .measure-item) .ensures) _ _ ((c .before .before .before .item) .given .1)
 
 measure-items-returns-3 : (t : ℕ) → measure-items-lts.Need-returns-3 (
   item-at-reads.Asked,
@@ -353,7 +353,7 @@ measure-items-returns-3 : (t : ℕ) → measure-items-lts.Need-returns-3 (
   measure-item.Post,
 ) (measure-items-at t) measure-items.Post measure-items-Inv-loop measure-items-μ-loop
 measure-items-returns-3 t c =
-    too-long _ _ _ _ _ _ _ ((c .before .before .before .before .before .before .before .before .before .before .before .before .loop) .inv) ((c .before .before .before .before .before .before .before .before .before .before .before .loop-test) .taken) _ ((c .before .before .before .before .before .before .before .before .before .before .item-at) .ensures) _ _ ((c .before .before .before .before .before .before .before .before .from) .given .1) _ ((c .before .before .before .before .measure-item) .ensures) _ _ ((c .before .before .item) .given .1) ((c .if1) .taken)
+    too-long _ _ _ _ _ _ _ ((c .before .before .before .before .before .before .before .before .before .before .before .before .before .before .loop) .inv) ((c .before .before .before .before .before .before .before .before .before .before .before .before .before .loop-test) .taken) _ ((c .before .before .before .before .before .before .before .before .before .before .before .before .item-at) .ensures) _ _ ((c .before .before .before .before .before .before .before .before .before .before .from) .given .1) _ ((c .before .before .before .before .before .before .measure-item) .ensures) _ _ ((c .before .before .before .before .item) .given .1) ((c .if1) .taken)
 
 measure-items-loop-less : (t : ℕ) → measure-items-lts.Need-loop-less (
   item-at-reads.Asked,
@@ -362,7 +362,7 @@ measure-items-loop-less : (t : ℕ) → measure-items-lts.Need-loop-less (
   measure-item.Post,
 ) (measure-items-at t) measure-items.Post measure-items-Inv-loop measure-items-μ-loop
 measure-items-loop-less t c =
-    nearer (here _ _ _ _ _ _ _ ((c .before .before .before .before .before .before .before .before .before .before .before .before .loop) .inv) ((c .before .before .before .before .before .before .before .before .before .before .before .loop-test) .taken) _ ((c .before .before .before .before .before .before .before .before .before .before .item-at) .ensures) _ _ ((c .before .before .before .before .before .before .before .before .from) .given .1)) ((c .before .before .before .before .before .before .before .before .before .before .before .before .loop) .inv .inside)
+    nearer (here _ _ _ _ _ _ _ ((c .before .before .before .before .before .before .before .before .before .before .before .before .before .before .loop) .inv) ((c .before .before .before .before .before .before .before .before .before .before .before .before .before .loop-test) .taken) _ ((c .before .before .before .before .before .before .before .before .before .before .before .before .item-at) .ensures) _ _ ((c .before .before .before .before .before .before .before .before .before .before .from) .given .1)) ((c .before .before .before .before .before .before .before .before .before .before .before .before .before .before .loop) .inv .inside)
 
 measure-items-loop-again : (t : ℕ) → measure-items-lts.Need-loop-again (
   item-at-reads.Asked,
@@ -371,7 +371,7 @@ measure-items-loop-again : (t : ℕ) → measure-items-lts.Need-loop-again (
   measure-item.Post,
 ) (measure-items-at t) measure-items.Post measure-items-Inv-loop measure-items-μ-loop
 measure-items-loop-again t c =
-    again _ _ _ _ _ _ _ ((c .before .before .before .before .before .before .before .before .before .before .before .before .loop) .inv) ((c .before .before .before .before .before .before .before .before .before .before .before .loop-test) .taken) _ ((c .before .before .before .before .before .before .before .before .before .before .item-at) .ensures) _ _ ((c .before .before .before .before .before .before .before .before .from) .given .1) _ ((c .before .before .before .before .measure-item) .ensures) _ _ ((c .before .before .item) .given .1) ((c .if1) .left)
+    again _ _ _ _ _ _ _ ((c .before .before .before .before .before .before .before .before .before .before .before .before .before .before .loop) .inv) ((c .before .before .before .before .before .before .before .before .before .before .before .before .before .loop-test) .taken) _ ((c .before .before .before .before .before .before .before .before .before .before .before .before .item-at) .ensures) _ _ ((c .before .before .before .before .before .before .before .before .before .before .from) .given .1) _ ((c .before .before .before .before .before .before .measure-item) .ensures) _ _ ((c .before .before .before .before .item) .given .1) ((c .if1) .left)
 
 measure-items-returns-4 : (t : ℕ) → measure-items-lts.Need-returns-4 (
   item-at-reads.Asked,

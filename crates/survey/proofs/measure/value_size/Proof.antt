@@ -18,11 +18,11 @@ returns c =
 
 returns-2 : tie.Need-returns-2
 returns-2 c =
-    size-long _ _ _ ((c .before .before .before .before .normal-size) .ensures) _ ((c .before .before .size) .given .1) ((c .if1) .taken)
+    size-long _ _ _ ((c .before .before .before .before .before .normal-size) .ensures) _ ((c .before .before .before .size) .given .1) ((c .if1) .taken)
 
 returns-3 : tie.Need-returns-3
 returns-3 c =
-    size-short _ _ _ ((c .before .before .before .before .normal-size) .ensures) _ ((c .before .before .size) .given .1) ((c .if1) .left)
+    size-short _ _ _ ((c .before .before .before .before .before .normal-size) .ensures) _ ((c .before .before .before .size) .given .1) ((c .if1) .left)
 
 pub value-size-spec : {M : Type 1} → statement M
 value-size-spec =
