@@ -8,6 +8,8 @@ use lib.Dec.{leb}
 use lib.ListN.{length, take, drop, getD, set, length-append, length-drop, take-append-drop}
 use lib.Seq.{sets, length-sets, length-take-le}
 use borrow.Author.Tests.{leb-false}
+use Rattle.octets.specs.declared.counts.Octets.{Octets}
+use Rattle.octets.specs.Counts.{asOctets}
 use Rattle.octets.specs.Numbers.{digits}
 use Rattle.octets.specs.Header.{lengthField, framed}
 use Rattle.octets.proofs.Answers.{framed-length}
@@ -121,10 +123,10 @@ module _ (tag to end : ℕ) (room : List ℕ) (f : Framable tag to end room) (si
   frame-behind before after at h = let a = whole-fits .inObject in let b = h .ends in omega (arith, body-size, length-append header body)
 
   -- behind a short header the body lies where it is
-  pub frame-short : (k : ℕ) → k ≡ suc (length (lengthField size)) → k ≤ 2 → (after : List ℕ) (at : ℕ) → Lays header to room after at → Lays (framed tag body) to room after (at + size)
+  pub frame-short : (k : Octets) → k ≡ asOctets (suc (length (lengthField size))) → k .0 ≤ 2 → (after : List ℕ) (at : ℕ) → Lays header to room after at → Lays (framed tag body) to room after (at + size)
   unfolding between
   frame-short k e short after at h =
-      let n : length header ≡ 2 = omega (arith, e, field-some size) in
+      let n : length header ≡ 2 = omega (arith, ap (λ m. m .0) e, field-some size) in
       let kept : body ≡ take (end - (to + 2)) (drop (to + 2) after) =
       ap (λ l. take (end - (to + 2)) l) (sym (ap (drop (to + 2)) (h .leaves) ∙ drop-sets (to + 2) room to header (omega arith))) in
       rw whole record {
@@ -134,9 +136,9 @@ module _ (tag to end : ℕ) (room : List ℕ) (f : Framable tag to end room) (si
       }
 
   -- before a long one it is moved first
-  module _ (k : ℕ) (e : k ≡ suc (length (lengthField size))) (long : 2 < k) where
+  module _ (k : Octets) (e : k ≡ asOctets (suc (length (lengthField size)))) (long : 2 < k .0) where
     four : length header ≡ 4
-    four = let l : 2 < suc (length (lengthField size)) = omega (arith, e) in omega (arith, field-long size (omega (arith, frame-small)) l)
+    four = let l : 2 < suc (length (lengthField size)) = omega (arith, ap (λ m. m .0) e) in omega (arith, field-long size (omega (arith, frame-small)) l)
 
     pub frame-room : (to + 2 ≤ end) × (end + 2 ≤ length room)
     frame-room = let a = whole-fits .inRoom in let b = f .behind in (b, omega (arith, four, body-size, s, length-append header body))

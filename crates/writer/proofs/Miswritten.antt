@@ -3,10 +3,11 @@ use mathlib.Core.Path.{_≡_, refl, ap, _∙_}
 use mathlib.Core.List.{List, [], _∷_}
 use Prim.Native.Nat.{ℕ}
 use native.Mathlib.Omega.{arith}
+use Rattle.octets.specs.Counts.{asOctets}
 use Rattle.octets.specs.Numbers.{among, digits}
 use Rattle.octets.specs.Header.{lengthField, framed}
 use Rattle.text.specs.Text.{layout, token, character, single, goesOn, utf8, text}
-use Rattle.text.specs.Tokens.{entry, orItself, stands, expanded, shownLength}
+use Rattle.text.specs.Tokens.{entry, orItself, stands, expanded, starts, shownLength}
 use Rattle.values.specs.Table.{rows, kindIn, known, attribute}
 use Rattle.values.specs.Values.{fits, meant, octetsOf}
 use Rattle.format.specs.declared.WriteAnswer.{WriteAnswer}
@@ -32,17 +33,17 @@ abbrev room : List ℕ
 room = 9 ∷ 9 ∷ 9 ∷ 9 ∷ 9 ∷ 9 ∷ 9 ∷ 9 ∷ 9 ∷ []
 
 -- 0x82 before 0x83, eight octets in all, and the ninth place as before; in a room of seven, nothing, and 15
-writes : (writeAnswer 9 (treeGiven 3 given (0x61 ∷ 0x62 ∷ [])) ≡ Octets 8)
-    × (writeOctets 9 (treeGiven 3 given (0x61 ∷ 0x62 ∷ [])) ≡ 0x03 ∷ 0x06 ∷ 0x82 ∷ 0x01 ∷ 0x62 ∷ 0x83 ∷ 0x01 ∷ 0x61 ∷ [])
-    × (writeAnswer 7 (treeGiven 3 given (0x61 ∷ 0x62 ∷ [])) ≡ NotWritten (refusal 15 0)) × (writeOctets 7 (treeGiven 3 given (0x61 ∷ 0x62 ∷ [])) ≡ [])
-unfolding among digits lengthField framed layout token character single goesOn utf8 text entry orItself stands expanded shownLength rows kindIn known attribute fits meant octetsOf find kindOf isKnown isItems isTokens isText isValue isTop allowed latest stageAfter limit notAbove shown opens isChild valueIn attributesIn cdataIn leafOctets means maybe rising encode below past atTop placed bodyKeeps keeps bodyIn good here onward walk tree toEnd rebuilt places roomy treeGiven writeAnswer writeOctets
+writes : (writeAnswer (asOctets 9) (treeGiven 3 given (0x61 ∷ 0x62 ∷ [])) ≡ Octets (asOctets 8))
+    × (writeOctets (asOctets 9) (treeGiven 3 given (0x61 ∷ 0x62 ∷ [])) ≡ 0x03 ∷ 0x06 ∷ 0x82 ∷ 0x01 ∷ 0x62 ∷ 0x83 ∷ 0x01 ∷ 0x61 ∷ [])
+    × (writeAnswer (asOctets 7) (treeGiven 3 given (0x61 ∷ 0x62 ∷ [])) ≡ NotWritten (refusal 15 0)) × (writeOctets (asOctets 7) (treeGiven 3 given (0x61 ∷ 0x62 ∷ [])) ≡ [])
+unfolding among digits lengthField framed layout token character single goesOn utf8 text entry orItself stands expanded starts shownLength rows kindIn known attribute fits meant octetsOf find kindOf isKnown isItems isTokens isText isValue isTop allowed latest stageAfter limit notAbove shown opens isChild valueIn attributesIn cdataIn leafOctets means maybe rising encode below past atTop placed bodyKeeps keeps bodyIn good here onward walk tree toEnd rebuilt places roomy treeGiven writeAnswer writeOctets
 writes = (refl, refl, refl, refl)
 
 abbrev written : List ℕ
 written = 0x03 ∷ 0x06 ∷ 0x82 ∷ 0x01 ∷ 0x62 ∷ 0x83 ∷ 0x01 ∷ 0x61 ∷ 9 ∷ []
 
 abbrev Writes : (before after : List ℕ) → ℕ → Type 0
-Writes before after k = WriteClaim 3 given (0x61 ∷ 0x62 ∷ []) before after (Octets k)
+Writes before after k = WriteClaim 3 given (0x61 ∷ 0x62 ∷ []) before after (Octets (asOctets k))
 
 -- the count, and no octet stored
 pub nothing-stored : Writes room room 8 → ⊥
@@ -63,8 +64,12 @@ pub length-without-last : Writes room shorter 8 → ⊥
 length-without-last c = let e : shorter ≡ written = c .leaves ∙ rw (writes .1) in let z : _≡_ {A = ℕ} 0x03 0x06 = cc in omega arith
 
 -- a count that is not that of the octets
+abbrev countOf : WriteAnswer → ℕ
+countOf (Octets n) = n .0
+countOf (NotWritten r) = 0
+
 pub other-count : (after : List ℕ) → Writes room after 9 → ⊥
-other-count after c = let e : Octets 9 ≡ Octets 8 = c .answers ∙ writes .0 in let z : _≡_ {A = ℕ} 9 8 = cc in omega arith
+other-count after c = let z : _≡_ {A = ℕ} 9 8 = ap countOf (c .answers ∙ writes .0) in omega arith
 
 -- what fits of the octets, before 15
 abbrev small : List ℕ

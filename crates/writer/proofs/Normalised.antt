@@ -9,6 +9,8 @@ use lib.Dec.{leb}
 use lib.ListN.{length, take, drop}
 use lib.Seq.{sets, sets-eq, length-sets}
 use borrow.Author.Tests.{leb-true, le-leb}
+use Rattle.octets.specs.declared.counts.Octets.{Octets as OctetCount}
+use Rattle.octets.specs.Counts.{asOctets, sizeOf}
 use Rattle.octets.specs.Numbers.{Octets}
 use Rattle.octets.proofs.Tests.{and-left, and-right}
 use Rattle.octets.proofs.Lists.{sets-none, part-of-sets}
@@ -42,22 +44,22 @@ use Rattle.survey.proofs.WholeSizes.{store-less}
 -- the parts of an object's fit
 pub record Fit (lent : Lent) (t : Items) : Type 0 where
   pub records : count t ≤ lent .records
-  pub store : length (storeOf t) ≤ lent .store
+  pub store : length (storeOf t) ≤ lent .store .0
   pub roomy : roomy (lent .room) (normalOf t) ≡ true
-  pub room : length (normalOf t) ≤ lent .room
+  pub room : length (normalOf t) ≤ lent .room .0
   pub small : length (normalOf t) ≤ 32_768
 
 pub fit : (lent : Lent) (t : Items) → fitsLent lent t ≡ true → Fit lent t
 unfolding fitsLent storedWithin roomy
 fit lent t h =
     let a = leb (count t) (lent .records) in
-    let b = leb (length (storeOf t)) (lent .store) in
-    let c = leb (length (normalOf t)) (min (lent .room) 32_768) in
+    let b = leb (length (storeOf t)) (lent .store .0) in
+    let c = leb (length (normalOf t)) (min (lent .room .0) 32_768) in
     let w = and-right b c (and-right a (b && c) h) in
-    let less = leb-true (length (normalOf t)) (min (lent .room) 32_768) w in
+    let less = leb-true (length (normalOf t)) (min (lent .room .0) 32_768) w in
     record {
       records = leb-true (count t) (lent .records) (and-left a (b && c) h);
-      store = leb-true (length (storeOf t)) (lent .store) (and-left b c (and-right a (b && c) h));
+      store = leb-true (length (storeOf t)) (lent .store .0) (and-left b c (and-right a (b && c) h));
       roomy = w;
       room = omega (arith, less);
       small = omega (arith, less);
@@ -66,7 +68,7 @@ fit lent t h =
 -- ---- surveyed
 
 -- the places, counted once
-pub counted : (o : List ℕ) (l : Lists) (n store room : ℕ) → n ≡ places l → (v : Standing) → v ≡ surveyed (record { records = n; store = store; room = room }) (judge o)
+pub counted : (o : List ℕ) (l : Lists) (n : ℕ) (store room : OctetCount) → n ≡ places l → (v : Standing) → v ≡ surveyed (record { records = n; store = store; room = room }) (judge o)
     → v ≡ surveyed (record { records = places l; store = store; room = room }) (judge o)
 counted o l n store room e v h = h ∙ ap (λ x. surveyed (record { records = x; store = store; room = room }) (judge o)) e
 
@@ -180,7 +182,7 @@ module _ (o : List ℕ) (os : Octets o) (l : Lists) (store room : List ℕ) (v :
         rw b r
 
     -- the normal form of the loaded tree is the object's, so that it fits
-    given-fit : roomy (length room) (encode (means [] (loadedOf t))) ≡ true
+    given-fit : roomy (sizeOf room) (encode (means [] (loadedOf t))) ≡ true
     given-fit = rw (loaded-means o t os (found .judged)) (fitting .roomy)
 
     pub normal-holding : Holding n (fourIn l′) store′
@@ -208,22 +210,22 @@ module _ (o : List ℕ) (os : Octets o) (l : Lists) (store room : List ℕ) (v :
           leavesRoom = (rw (g, m, f .roomy) at (w .leaves)) ∙ rw (found .judged, found .fits);
         }
 
-    pub normal-written : (room′ : List ℕ) (r : Reached) → Emits (itemsFrom (fourIn l′) n store′ 1 0) 0 0 room room′ r → NormaliseClaim o l l′ store store′ room room′ (Handed (r .end))
-    normal-written room′ r g = claimed room′ (Handed (r .end)) (tree-written n l′ store′ (loadedOf t) given room given-fit room′ r g)
+    pub normal-written : (room′ : List ℕ) (r : Reached) → Emits (itemsFrom (fourIn l′) n store′ 1 0) 0 0 room room′ r → NormaliseClaim o l l′ store store′ room room′ (Handed (asOctets (r .end)))
+    normal-written room′ r g = claimed room′ (Handed (asOctets (r .end))) (tree-written n l′ store′ (loadedOf t) given room given-fit room′ r g)
 
 -- ---- what a normal form that was written left
 
 module _ (o : List ℕ) (l l′ : Lists) (store store′ room room′ : List ℕ) where
-  pub record Written (n : ℕ) : Type 0 where
+  pub record Written (n : OctetCount) : Type 0 where
     pub tree : Items
     pub judged : judge o ≡ accepted tree
     pub fits : fitsLent (lentBy l store room) tree ≡ true
-    pub many : n ≡ length (normalOf tree)
+    pub many : n ≡ sizeOf (normalOf tree)
     pub lists : l′ ≡ lay 0 (loadedRecords tree) l
     pub stores : store′ ≡ sets store 0 (storeOf tree)
     pub rooms : room′ ≡ sets room 0 (normalOf tree)
 
-  module _ (answer : WriteAnswer) (claim : NormaliseClaim o l l′ store store′ room room′ answer) (n : ℕ) (w : answer ≡ Handed n) where
+  module _ (answer : WriteAnswer) (claim : NormaliseClaim o l l′ store store′ room room′ answer) (n : OctetCount) (w : answer ≡ Handed n) where
     pub written : Written n
     unfolding normalAnswer misfit handed
     written = go (judge o) refl
@@ -233,7 +235,7 @@ module _ (o : List ℕ) (l l′ : Lists) (store store′ room room′ : List ℕ
 
         by : (t : Items) → judge o ≡ accepted t → (f : Bool) → fitsLent (lentBy l store room) t ≡ f → (k : Bool) → leb (count t) (places l) ≡ k → Written n
         by t j true f k p =
-            let w : Handed n ≡ Handed (length (normalOf t)) = rw (j, f) at (c .answers) in
+            let w : Handed n ≡ Handed (sizeOf (normalOf t)) = rw (j, f) at (c .answers) in
             record { tree = t; judged = j; fits = f; many = cc; lists = rw (j, f) at (c .leavesLists); stores = rw (j, f) at (c .leavesStore); rooms = rw (j, f) at (c .leavesRoom) }
         by t j false f true p = let w : Handed n ≡ NotWritten (refusal 15 0) = rw (j, f, p) at (c .answers) in let z : _≡_ {A = ℕ} 0 1 = cc in absurd (omega arith)
         by t j false f false p = let w : Handed n ≡ NotWritten (refusal 14 0) = rw (j, f, p) at (c .answers) in let z : _≡_ {A = ℕ} 0 1 = cc in absurd (omega arith)
@@ -242,6 +244,6 @@ module _ (o : List ℕ) (l l′ : Lists) (store store′ room room′ : List ℕ
         go (refused x) j = let w : Handed n ≡ NotWritten x = rw j at (c .answers) in let z : _≡_ {A = ℕ} 0 1 = cc in absurd (omega arith)
         go (accepted t) j = by t j (fitsLent (lentBy l store room) t) refl (leb (count t) (places l)) refl
 
-    pub written-inside : n ≤ length room′
+    pub written-inside : n .0 ≤ length room′
     written-inside =
-        omega (arith, written .many, fit (lentBy l store room) (written .tree) (written .fits) .room, ap length (written .rooms), length-sets room 0 (normalOf (written .tree)))
+        omega (arith, ap (λ m. m .0) (written .many), fit (lentBy l store room) (written .tree) (written .fits) .room, ap length (written .rooms), length-sets room 0 (normalOf (written .tree)))

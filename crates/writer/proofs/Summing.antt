@@ -11,6 +11,8 @@ use lib.ListN.{length, take, drop, getD, length-take}
 use borrow.Author.Tests.{lt-leb, le-leb, leb-false, leb-true, eq-eqb, ne-eqb}
 use mir.Syntax.{w16, w64}
 use mir.Val.{Fits}
+use Rattle.octets.specs.declared.counts.Octets.{Octets}
+use Rattle.octets.specs.Counts.{asOctets, sizeOf}
 use Rattle.values.specs.declared.Kind.{Kind}
 use Rattle.values.specs.declared.KnownKind.{KnownKind}
 use Rattle.values.specs.declared.KnownKind.the-variants.{Unknown, Known}
@@ -34,7 +36,7 @@ use Rattle.writer.proofs.Rows.{here-end, here-not, here-is, from-stop, 
 
 -- what a record adds, by whether and as what it is written
 module _ (p tag : ℕ) (body : List ℕ) (r : KnownKind) (e : r ≡ asKnown (writtenAs p tag)) where
-  pub part-nothing : r ≡ Unknown → Single 0 ≡ partOf p tag body
+  pub part-nothing : r ≡ Unknown → Single (asOctets 0) ≡ partOf p tag body
   unfolding partOf
   part-nothing q = rw (unwritten-opens p tag r e q, unwritten-octets p tag r e q body)
 
@@ -46,9 +48,10 @@ module _ (p tag : ℕ) (body : List ℕ) (r : KnownKind) (e : r ≡ asKnown (wri
     unfolding partOf
     part-holds y = rw (holds ∙ y)
 
-    pub part-single : o ≡ false → (n : ℕ) → n ≡ length (valueOctets k body) → (m : ℕ) → m ≡ framedSize n → Single m ≡ partOf p tag body
+    pub part-single : o ≡ false → (n : Octets) → n .0 ≡ length (valueOctets k body) → (m : Octets) → m .0 ≡ framedSize (n .0) → Single m ≡ partOf p tag body
     unfolding partOf
-    part-single y n l m f = rw (holds ∙ y, written-octets p tag r e k q body, framed-length tag (valueOctets k body), ← l, f)
+    part-single y n l m f =
+        rw (holds ∙ y, written-octets p tag r e k q body) (ap (λ size. Single (asOctets size)) (f ∙ (ap framedSize l ∙ sym (framed-length tag (valueOctets k body)))))
 
 module _ (p depth : ℕ) (lent : List ℕ) (l : Lists) (i d : ℕ) (e : d ≡ getD (l .depths) i 0) where
   pub part-past : (d ≡ depth → ⊥) → Past ≡ partAt p depth lent (row l i)
@@ -65,13 +68,13 @@ module _ (p depth : ℕ) (lent : List ℕ) (r : Record) where
   unfoldable Tells : Part → Type 0
   Tells Past = eqb (r .depth) depth ≡ false
   Tells (Holds tag) = (eqb (r .depth) depth ≡ true) × (opens (r .tag) ≡ true) × (tag ≡ r .tag)
-  Tells (Single m) = (eqb (r .depth) depth ≡ true) × (opens (r .tag) ≡ false) × (m ≡ length (itemOctets p (r .tag) (bodyIn lent r)))
+  Tells (Single m) = (eqb (r .depth) depth ≡ true) × (opens (r .tag) ≡ false) × (m .0 ≡ length (itemOctets p (r .tag) (bodyIn lent r)))
 
   tells : (x : Part) → x ≡ partAt p depth lent r → Tells x
   unfolding partAt partOf Tells
   tells x e = subst Tells (sym e) (go (eqb (r .depth) depth) (opens (r .tag)) refl refl)
     where
-      go : (a b : Bool) → eqb (r .depth) depth ≡ a → opens (r .tag) ≡ b → Tells (cond a (cond b (Holds (r .tag)) (Single (length (itemOctets p (r .tag) (bodyIn lent r))))) Past)
+      go : (a b : Bool) → eqb (r .depth) depth ≡ a → opens (r .tag) ≡ b → Tells (cond a (cond b (Holds (r .tag)) (Single (sizeOf (itemOctets p (r .tag) (bodyIn lent r))))) Past)
       go false b f g = f
       go true true f g = (f, g, refl)
       go true false f g = (f, g, refl)
@@ -85,13 +88,13 @@ next l n lent d i = itemsFrom l n lent d i .1
 -- what a size says
 unfoldable SizeTells : ℕ → ℕ → Sized → Type 0
 SizeTells m j Over = 32_768 < m
-SizeTells m j (Size t k) = (m ≡ t) × (j ≡ k) × (t ≤ 32_768)
+SizeTells m j (Size t k) = (m ≡ t .0) × (j ≡ k) × (t .0 ≤ 32_768)
 
 size-tells : (l : Lists) (n : ℕ) (lent : List ℕ) (p d i : ℕ) (v : Sized) → v ≡ sizedFrom l n lent p d i → SizeTells (sum l n lent p d i) (next l n lent d i) v
 unfolding sizedFrom sizedOf SizeTells
 size-tells l n lent p d i v e = subst (SizeTells (sum l n lent p d i) (next l n lent d i)) (sym e) (go (leb (sum l n lent p d i) 32_768) refl)
   where
-    go : (b : Bool) → leb (sum l n lent p d i) 32_768 ≡ b → SizeTells (sum l n lent p d i) (next l n lent d i) (cond b (Size (sum l n lent p d i) (next l n lent d i)) Over)
+    go : (b : Bool) → leb (sum l n lent p d i) 32_768 ≡ b → SizeTells (sum l n lent p d i) (next l n lent d i) (cond b (Size (asOctets (sum l n lent p d i)) (next l n lent d i)) Over)
     go true q = (refl, refl, leb-true _ _ q)
     go false q = leb-false (sum l n lent p d i) 32_768 q
 
@@ -99,8 +102,8 @@ pub size-over : (l : Lists) (n : ℕ) (lent : List ℕ) (p d i : ℕ) (v : Sized
 unfolding SizeTells
 size-over l n lent p d i v e q = subst (SizeTells (sum l n lent p d i) (next l n lent d i)) q (size-tells l n lent p d i v e)
 
-pub size-told : (l : Lists) (n : ℕ) (lent : List ℕ) (p d i : ℕ) (v : Sized) → v ≡ sizedFrom l n lent p d i → (t j : ℕ) → v ≡ Size t j
-    → (sum l n lent p d i ≡ t) × (next l n lent d i ≡ j) × (t ≤ 32_768)
+pub size-told : (l : Lists) (n : ℕ) (lent : List ℕ) (p d i : ℕ) (v : Sized) → v ≡ sizedFrom l n lent p d i → (t : Octets) (j : ℕ) → v ≡ Size t j
+    → (sum l n lent p d i ≡ t .0) × (next l n lent d i ≡ j) × (t .0 ≤ 32_768)
 unfolding SizeTells
 size-told l n lent p d i v e t j q = subst (SizeTells (sum l n lent p d i) (next l n lent d i)) q (size-tells l n lent p d i v e)
 
@@ -108,7 +111,7 @@ over-is : (l : Lists) (n : ℕ) (lent : List ℕ) (p d i : ℕ) → 32_768 < sum
 unfolding sizedFrom sizedOf
 over-is l n lent p d i h = rw (lt-leb (sum l n lent p d i) 32_768 h)
 
-size-is : (l : Lists) (n : ℕ) (lent : List ℕ) (p d i m j : ℕ) → sum l n lent p d i ≡ m → next l n lent d i ≡ j → m ≤ 32_768 → Size m j ≡ sizedFrom l n lent p d i
+size-is : (l : Lists) (n : ℕ) (lent : List ℕ) (p d i m j : ℕ) → sum l n lent p d i ≡ m → next l n lent d i ≡ j → m ≤ 32_768 → Size (asOctets m) j ≡ sizedFrom l n lent p d i
 unfolding sizedFrom sizedOf
 size-is l n lent p d i m j e f h = rw (e, f, le-leb m 32_768 h)
 
@@ -124,7 +127,7 @@ pub sums-start : (l : Lists) (n : ℕ) (lent : List ℕ) (at depth p : ℕ) → 
 sums-start l n lent at depth p h = record { low = omega arith; high = h; small = omega arith; added = omega arith; same = refl }
 
 module _ (l : Lists) (n : ℕ) (lent : List ℕ) (at depth p i total : ℕ) (inv : Sums l n lent at depth p i total) where
-  ended : here (row l) n depth i ≡ false → Size total i ≡ sizedFrom l n lent p depth at
+  ended : here (row l) n depth i ≡ false → Size (asOctets total) i ≡ sizedFrom l n lent p depth at
   unfolding normalSize
   ended e =
       let t = from-stop l n lent depth i e in
@@ -132,26 +135,26 @@ module _ (l : Lists) (n : ℕ) (lent : List ℕ) (at depth p i total : ℕ) (inv
       let a = inv .added in
       size-is l n lent p depth at total i (omega arith) (inv .same ∙ ap (λ x. x .1) t) (inv .small)
 
-  pub sums-end : n ≤ i → Size total i ≡ sizedFrom l n lent p depth at
+  pub sums-end : n ≤ i → Size (asOctets total) i ≡ sizedFrom l n lent p depth at
   sums-end h = ended (here-end l n lent depth i h)
 
   module _ (lt : i < n) (x : Part) (xe : x ≡ partAt p depth lent (row l i)) where
-    pub sums-past : x ≡ Past → Size total i ≡ sizedFrom l n lent p depth at
+    pub sums-past : x ≡ Past → Size (asOctets total) i ≡ sizedFrom l n lent p depth at
     unfolding Tells
     sums-past f = ended (here-not l n lent depth i (subst (Tells p depth lent (row l i)) f (tells p depth lent (row l i) x xe)))
 
-    module _ (m : ℕ) (f : x ≡ Single m) where
-      single-says : (eqb (row l i .depth) depth ≡ true) × (opens (row l i .tag) ≡ false) × (m ≡ length (itemOctets p (row l i .tag) (bodyIn lent (row l i))))
+    module _ (m : Octets) (f : x ≡ Single m) where
+      single-says : (eqb (row l i .depth) depth ≡ true) × (opens (row l i .tag) ≡ false) × (m .0 ≡ length (itemOctets p (row l i .tag) (bodyIn lent (row l i))))
       unfolding Tells
       single-says = subst (Tells p depth lent (row l i)) f (tells p depth lent (row l i) x xe)
 
-      pub single-fits : Fits w16 (getD (l .sizes) i 0) → Fits w64 (total + m)
+      pub single-fits : Fits w16 (getD (l .sizes) i 0) → Fits w64 (total + m .0)
       unfolding bodyIn
       single-fits h =
           let s = inv .small in
           omega (arith, single-says .2, item-short p (row l i .tag) (bodyIn lent (row l i)), length-take (row l i .size) (drop (row l i .start) lent))
 
-      single-turn : (sum l n lent p depth at ≡ total + m + sum l n lent p depth (i + 1)) × (next l n lent depth at ≡ next l n lent depth (i + 1))
+      single-turn : (sum l n lent p depth at ≡ total + m .0 + sum l n lent p depth (i + 1)) × (next l n lent depth at ≡ next l n lent depth (i + 1))
       unfolding normalSize
       single-turn =
           let t = single-says in
@@ -161,10 +164,10 @@ module _ (l : Lists) (n : ℕ) (lent : List ℕ) (at depth p i total : ℕ) (inv
           let e = t .2 in
           (omega arith, inv .same ∙ ap (λ y. y .1) u)
 
-      pub single-over : 32_768 < total + m → Over ≡ sizedFrom l n lent p depth at
+      pub single-over : 32_768 < total + m .0 → Over ≡ sizedFrom l n lent p depth at
       single-over h = let a = single-turn .0 in over-is l n lent p depth at (omega arith)
 
-      pub single-next : total + m ≤ 32_768 → Sums l n lent at depth p (i + 1) (total + m)
+      pub single-next : total + m .0 ≤ 32_768 → Sums l n lent at depth p (i + 1) (total + m .0)
       single-next h = let a = single-turn in let k = inv .low in record { low = omega arith; high = omega arith; small = h; added = a .0; same = a .1 }
 
     module _ (tag : ℕ) (f : x ≡ Holds tag) (v : Sized) (ve : v ≡ sizedFrom l n lent tag (depth + 1) (i + 1)) where
@@ -186,8 +189,8 @@ module _ (l : Lists) (n : ℕ) (lent : List ℕ) (at depth p i total : ℕ) (inv
           let a = holds-turn .0 in
           over-is l n lent p depth at (omega arith)
 
-      module _ (t j : ℕ) (q : v ≡ Size t j) where
-        pub inner-small : t < 131072
+      module _ (t : Octets) (j : ℕ) (q : v ≡ Size t j) where
+        pub inner-small : t .0 < 131072
         inner-small = let k = size-told l n lent tag (depth + 1) (i + 1) v ve t j q .2 in omega arith
 
         between : (i + 1 ≤ j) × (j ≤ n)
@@ -198,19 +201,19 @@ module _ (l : Lists) (n : ℕ) (lent : List ℕ) (at depth p i total : ℕ) (inv
         pub holds-less : n - j < n - i
         holds-less = let b = between in omega arith
 
-        module _ (m : ℕ) (me : m ≡ framedSize t) where
-          pub inner-fits : Fits w64 (total + m)
-          inner-fits = let s = inv .small in omega (arith, inner-small, framed-short t)
+        module _ (m : Octets) (me : m .0 ≡ framedSize (t .0)) where
+          pub inner-fits : Fits w64 (total + m .0)
+          inner-fits = let s = inv .small in omega (arith, inner-small, framed-short (t .0))
 
-          holds-both : (sum l n lent p depth at ≡ total + m + sum l n lent p depth j) × (next l n lent depth at ≡ next l n lent depth j)
+          holds-both : (sum l n lent p depth at ≡ total + m .0 + sum l n lent p depth j) × (next l n lent depth at ≡ next l n lent depth j)
           holds-both =
               let k = size-told l n lent tag (depth + 1) (i + 1) v ve t j q in
               rw (k .0, k .1, ← me) at holds-turn
 
-          pub inner-over : 32_768 < total + m → Over ≡ sizedFrom l n lent p depth at
+          pub inner-over : 32_768 < total + m .0 → Over ≡ sizedFrom l n lent p depth at
           inner-over g = let a = holds-both .0 in over-is l n lent p depth at (omega arith)
 
-          pub inner-next : total + m ≤ 32_768 → Sums l n lent at depth p j (total + m)
+          pub inner-next : total + m .0 ≤ 32_768 → Sums l n lent at depth p j (total + m .0)
           inner-next g = let b = between in let k = inv .low in record { low = omega arith; high = b .1; small = g; added = holds-both .0; same = holds-both .1 }
 
 -- the call for the items inside: fewer records are left, and no depth is beyond the number of its record

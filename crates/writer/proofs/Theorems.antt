@@ -11,6 +11,8 @@ use lib.Dec.{eqb, leb}
 use lib.ListN.{length, take, drop}
 use lib.Seq.{sets}
 use borrow.Author.Tests.{leb-true, le-leb, eqb-false, ne-eqb, not-true}
+use Rattle.octets.specs.declared.counts.Octets.{Octets as OctetCount}
+use Rattle.octets.specs.Counts.{sizeOf}
 use Rattle.octets.specs.Numbers.{Octets as AllOctets}
 use Rattle.octets.proofs.Tests.{and-left, and-right, and-true}
 use Rattle.octets.proofs.Lists.{part-of-sets, drop-sets}
@@ -56,27 +58,27 @@ use Rattle.writer.proofs.Whole.{given-both, rebuilt-reached}
 
 -- ---- what the claim says of an answer
 module _ (n : ℕ) (l : Lists) (lent before after : List ℕ) where
-  pub record Fits (k : ℕ) : Type 0 where
+  pub record Fits (k : OctetCount) : Type 0 where
     pub tree : Items
     pub given : treeGiven n l lent ≡ some tree
-    pub size : k ≡ length (encode (means [] tree))
-    pub room : k ≤ length before
-    pub object : k ≤ 32_768
+    pub size : k .0 ≡ length (encode (means [] tree))
+    pub room : k .0 ≤ length before
+    pub object : k .0 ≤ 32_768
     pub leaves : after ≡ sets before 0 (encode (means [] tree))
 
-  pub claim-fits : (k : ℕ) → WriteClaim n l lent before after (Octets k) → Fits k
+  pub claim-fits : (k : OctetCount) → WriteClaim n l lent before after (Octets k) → Fits k
   unfolding writeAnswer writeOctets roomy
   claim-fits k c = go (treeGiven n l lent) refl (c .answers) (c .leaves)
     where
       some-tree : (t : Items) → treeGiven n l lent ≡ some t → (b : Bool) → leb (length (encode (means [] t))) (min (length before) 32_768) ≡ b
-          → Octets k ≡ cond b (Octets (length (encode (means [] t)))) (NotWritten (refusal 15 0)) → after ≡ sets before 0 (cond b (encode (means [] t)) []) → Fits k
+          → Octets k ≡ cond b (Octets (sizeOf (encode (means [] t)))) (NotWritten (refusal 15 0)) → after ≡ sets before 0 (cond b (encode (means [] t)) []) → Fits k
       some-tree t e true q a g =
-          let s : k ≡ length (encode (means [] t)) = cc in
+          let s : k .0 ≡ length (encode (means [] t)) = cc in
           let m = leb-true (length (encode (means [] t))) (min (length before) 32_768) q in
           record { tree = t; given = e; size = s; room = omega (arith, min-le-left (length before) 32_768); object = omega (arith, min-le-right (length before) 32_768); leaves = g }
       some-tree t e false q a g = let z : _≡_ {A = ℕ} 0 1 = cc in absurd (omega arith)
 
-      go : (o : Option Items) → treeGiven n l lent ≡ o → Octets k ≡ writeAnswer (length before) o → after ≡ sets before 0 (writeOctets (length before) o) → Fits k
+      go : (o : Option Items) → treeGiven n l lent ≡ o → Octets k ≡ writeAnswer (sizeOf before) o → after ≡ sets before 0 (writeOctets (sizeOf before) o) → Fits k
       go none e a g = let z : _≡_ {A = ℕ} 0 1 = cc in absurd (omega arith)
       go (some t) e a g = some-tree t e (leb (length (encode (means [] t))) (min (length before) 32_768)) refl a g
 
@@ -85,27 +87,27 @@ module _ (n : ℕ) (l : Lists) (lent before after : List ℕ) where
   unfolding writeAnswer writeOctets
   refused-untouched r c = go (treeGiven n l lent) (c .answers) (c .leaves)
     where
-      some-tree : (t : Items) (b : Bool) → NotWritten r ≡ cond b (Octets (length (encode (means [] t)))) (NotWritten (refusal 15 0)) → after ≡ sets before 0 (cond b (encode (means [] t)) []) → after ≡ before
+      some-tree : (t : Items) (b : Bool) → NotWritten r ≡ cond b (Octets (sizeOf (encode (means [] t)))) (NotWritten (refusal 15 0)) → after ≡ sets before 0 (cond b (encode (means [] t)) []) → after ≡ before
       some-tree t true a g = let z : _≡_ {A = ℕ} 0 1 = cc in absurd (omega arith)
       some-tree t false a g = g
 
-      go : (o : Option Items) → NotWritten r ≡ writeAnswer (length before) o → after ≡ sets before 0 (writeOctets (length before) o) → after ≡ before
+      go : (o : Option Items) → NotWritten r ≡ writeAnswer (sizeOf before) o → after ≡ sets before 0 (writeOctets (sizeOf before) o) → after ≡ before
       go none a g = g
-      go (some t) a g = some-tree t (roomy (length before) (encode (means [] t))) a g
+      go (some t) a g = some-tree t (roomy (sizeOf before) (encode (means [] t))) a g
 
   -- what is written is accepted, and means what the records mean
-  pub delivered : AllOctets lent → (k : ℕ) → WriteClaim n l lent before after (Octets k) → Delivered n l lent before after k
+  pub delivered : AllOctets lent → (k : OctetCount) → WriteClaim n l lent before after (Octets k) → Delivered n l lent before after k
   delivered os k c =
       let f = claim-fits k c in
       let o = encode (means [] (f .tree)) in
-      let front : take k after ≡ o =
+      let front : take (k .0) after ≡ o =
       ap₂ (λ m x. take m x) (f .size) (f .leaves) ∙ part-of-sets before 0 o (omega (arith, f .size, f .room)) in
       record {
         tree = f .tree;
         given = f .given;
         octets = front;
         meant = ap meaning front ∙ written-means (row l) n lent (f .tree) os (given-both n l lent (f .tree) (f .given) .1) (omega (arith, f .size, f .object));
-        rest = ap (drop k) (f .leaves) ∙ drop-sets k before 0 o (omega (arith, f .size));
+        rest = ap (drop (k .0)) (f .leaves) ∙ drop-sets (k .0) before 0 o (omega (arith, f .size));
       }
 
 -- ---- under the writer's rules no text has token octets, so the token table doesn't matter
@@ -190,7 +192,7 @@ module _ (o : List ℕ) (t : Items) (h : judge o ≡ accepted t) (n : ℕ) (l : 
       bare-means (tableOf t) u atTop (rebuilt-whole (row l) n o u b .rules) ∙ (ap (means (tableOf t)) same ∙ regrown-means t)
 
   -- so what is written from them is the object's normal form
-  pub object-written : (before after : List ℕ) (k : ℕ) → WriteClaim n l o before after (Octets k) → take k after ≡ normalOf t
+  pub object-written : (before after : List ℕ) (k : OctetCount) → WriteClaim n l o before after (Octets k) → take (k .0) after ≡ normalOf t
   object-written before after k c =
       let f = claim-fits n l o before after k c in
       let p = encode (means [] (f .tree)) in
@@ -271,10 +273,10 @@ module _ (o : List ℕ) (t : Items) (os : AllOctets o) (h : judge o ≡ accepted
       rw (le-leb (count t) (places l) places-enough)
       (whole-rebuilt (row l) (count t) o t (record { some = some-record; records = sym e; located = located o t h; rules = rules }))
 
-  pub tableless-written : (before after : List ℕ) (answer : WriteAnswer) → roomy (length before) (normalOf t) ≡ true → WriteClaim (count t) l o before after answer
-      → (answer ≡ Octets (length (normalOf t))) × (after ≡ sets before 0 (normalOf t))
+  pub tableless-written : (before after : List ℕ) (answer : WriteAnswer) → roomy (sizeOf before) (normalOf t) ≡ true → WriteClaim (count t) l o before after answer
+      → (answer ≡ Octets (sizeOf (normalOf t))) × (after ≡ sets before 0 (normalOf t))
   unfolding writeAnswer writeOctets
   tableless-written before after answer r c =
       let m : means [] t ≡ meaningOf t = object-means o t h (count t) l e t tableless-given in
-      let fit : roomy (length before) (encode (means [] t)) ≡ true = rw m r in
+      let fit : roomy (sizeOf before) (encode (means [] t)) ≡ true = rw m r in
       (c .answers ∙ rw (tableless-given, fit, m), c .leaves ∙ rw (tableless-given, fit, m))

@@ -9,6 +9,8 @@ use native.Mathlib.Nat.{min-le-left, min-le-right, le-min}
 use lib.Dec.{eqb, leb, ltb}
 use lib.ListN.{length}
 use borrow.Author.Tests.{leb-true, lt-leb, le-leb, eqb-true, eqb-false, ltb-true, ltb-false}
+use Rattle.octets.specs.declared.counts.Octets.{Octets as OctetCount}
+use Rattle.octets.specs.Counts.{asOctets, sizeOf}
 use Rattle.octets.proofs.Tests.{and-right}
 use Rattle.format.specs.declared.Record.{Record}
 use Rattle.format.specs.declared.WriteAnswer.{WriteAnswer}
@@ -133,11 +135,11 @@ module _ (n : ℕ) (l : Lists) (lent : List ℕ) (t : Items) (e : treeGiven n l 
   too-many : (room : List ℕ) → min (length room) 32_768 < length (encode (means [] t)) → WriteClaim n l lent room room (NotWritten (refusal 15 0))
   unfolding writeAnswer writeOctets roomy
   too-many room h =
-      let no : roomy (length room) (encode (means [] t)) ≡ false = lt-leb (length (encode (means [] t))) (min (length room) 32_768) h in
+      let no : roomy (sizeOf room) (encode (means [] t)) ≡ false = lt-leb (length (encode (means [] t))) (min (length room) 32_768) h in
       record { answers = rw (e, no); leaves = rw (e, no) }
 
   -- all fits, so that all can be written, and the answer is how much
-  module _ (room : List ℕ) (fit : roomy (length room) (encode (means [] t)) ≡ true) where
+  module _ (room : List ℕ) (fit : roomy (sizeOf room) (encode (means [] t)) ≡ true) where
     pub tree-fits : Fitting (laterOctets 0 (itemsFrom (fourIn l) n lent 1 0 .0)) 0 (length room)
     unfolding roomy
     tree-fits =
@@ -146,24 +148,24 @@ module _ (n : ℕ) (l : Lists) (lent : List ℕ) (t : Items) (e : treeGiven n l 
         let b = min-le-right (length room) 32_768 in
         rw tree-octets (record { inRoom = omega (arith, k, a); inObject = omega (arith, k, b) })
 
-    pub tree-written : (after : List ℕ) (r : Reached) → Emits (itemsFrom (fourIn l) n lent 1 0) 0 0 room after r → WriteClaim n l lent room after (Octets (r .end))
+    pub tree-written : (after : List ℕ) (r : Reached) → Emits (itemsFrom (fourIn l) n lent 1 0) 0 0 room after r → WriteClaim n l lent room after (Octets (asOctets (r .end)))
     unfolding writeAnswer writeOctets
     tree-written after r g =
         let laid : Lays (encode (means [] t)) 0 room after (r .end) = rw tree-octets at (g .lays) in
-        record { answers = rw (e, fit) (ap Octets (laid .ends ∙ omega arith)); leaves = rw (e, fit) (laid .leaves) }
+        record { answers = rw (e, fit) (ap (λ size. Octets (asOctets size)) (laid .ends ∙ omega arith)); leaves = rw (e, fit) (laid .leaves) }
 
   module _ (v : Sized) (ve : v ≡ sizedFrom (fourIn l) n lent 0 1 0) where
     over-claim : v ≡ Over → (room : List ℕ) → WriteClaim n l lent room room (NotWritten (refusal 15 0))
     over-claim q room = too-many room (omega (arith, size-over (fourIn l) n lent 0 1 0 v ve q, tree-size, min-le-right (length room) 32_768))
 
-    module _ (total next : ℕ) (q : v ≡ Size total next) (room : List ℕ) where
-      length-is : length (encode (means [] t)) ≡ total
+    module _ (total : OctetCount) (next : ℕ) (q : v ≡ Size total next) (room : List ℕ) where
+      length-is : length (encode (means [] t)) ≡ total .0
       length-is = sym tree-size ∙ size-told (fourIn l) n lent 0 1 0 v ve total next q .0
 
-      room-claim : length room < total → WriteClaim n l lent room room (NotWritten (refusal 15 0))
+      room-claim : length room < total .0 → WriteClaim n l lent room room (NotWritten (refusal 15 0))
       room-claim h = too-many room (omega (arith, length-is, min-le-left (length room) 32_768))
 
-      whole-fit : total ≤ length room → roomy (length room) (encode (means [] t)) ≡ true
+      whole-fit : total .0 ≤ length room → roomy (sizeOf room) (encode (means [] t)) ≡ true
       unfolding roomy
       whole-fit h =
           let k = size-told (fourIn l) n lent 0 1 0 v ve total next q .2 in
@@ -198,12 +200,12 @@ module _ (n : ℕ) (l : Lists) (lent : List ℕ) (b : Bool) (be : b ≡ isGiven 
       pub given-over : v ≡ Over → (room : List ℕ) (a : WriteAnswer) → a ≡ NotWritten (refusal 15 0) → WriteClaim n l lent room room a
       given-over f room a ae = rw ae (over-claim n l lent (given-some .0) (given-some .1) v ve f room)
 
-      module _ (total next : ℕ) (f : v ≡ Size total next) (room : List ℕ) where
-        pub given-more : length room < total → (a : WriteAnswer) → a ≡ NotWritten (refusal 15 0) → WriteClaim n l lent room room a
+      module _ (total : OctetCount) (next : ℕ) (f : v ≡ Size total next) (room : List ℕ) where
+        pub given-more : length room < total .0 → (a : WriteAnswer) → a ≡ NotWritten (refusal 15 0) → WriteClaim n l lent room room a
         given-more h a ae = rw ae (room-claim n l lent (given-some .0) (given-some .1) v ve total next f room h)
 
-        pub given-fits : total ≤ length room → Fitting (laterOctets 0 (itemsFrom (fourIn l) n lent 1 0 .0)) 0 (length room)
+        pub given-fits : total .0 ≤ length room → Fitting (laterOctets 0 (itemsFrom (fourIn l) n lent 1 0 .0)) 0 (length room)
         given-fits h = tree-fits n l lent (given-some .0) (given-some .1) room (whole-fit n l lent (given-some .0) (given-some .1) v ve total next f room h)
 
-        pub given-written : total ≤ length room → (after : List ℕ) (r : Reached) → Emits (itemsFrom (fourIn l) n lent 1 0) 0 0 room after r → WriteClaim n l lent room after (Octets (r .end))
+        pub given-written : total .0 ≤ length room → (after : List ℕ) (r : Reached) → Emits (itemsFrom (fourIn l) n lent 1 0) 0 0 room after r → WriteClaim n l lent room after (Octets (asOctets (r .end)))
         given-written h after r g = tree-written n l lent (given-some .0) (given-some .1) room (whole-fit n l lent (given-some .0) (given-some .1) v ve total next f room h) after r g

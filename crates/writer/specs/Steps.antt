@@ -8,6 +8,7 @@ use lib.Dec.{eqb, leb, ltb}
 use lib.ListN.{length, take, drop, getD}
 use lib.Seq.{sets}
 use denote.Ref.{RefT}
+use Rattle.octets.specs.Counts.{asOctets, sizeOf}
 use Rattle.octets.specs.Header.{framed}
 use Rattle.values.specs.Table.{attribute}
 use Rattle.format.specs.declared.Record.{Record}
@@ -47,14 +48,14 @@ pub record Holding (n : ℕ) (l : Lists) (lent : List ℕ) : Type 0 where
 
 -- what a record adds to the size of an element's items: it holds items, or has a size of its own, or is none of them
 unfoldable pub partOf : (parent tag : ℕ) → List ℕ → Part
-partOf parent tag body = cond (opens tag) (Holds tag) (Single (length (itemOctets parent tag body)))
+partOf parent tag body = cond (opens tag) (Holds tag) (Single (sizeOf (itemOctets parent tag body)))
 
 unfoldable pub partAt : (parent depth : ℕ) → List ℕ → Record → Part
 partAt parent depth lent r = cond (eqb (r .depth) depth) (partOf parent (r .tag) (bodyIn lent r)) Past
 
 -- a size that an object may have, and where the items end; no size above 32,768 is told
 unfoldable pub sizedOf : ℕ → ℕ → Sized
-sizedOf total next = cond (leb total 32_768) (Size total next) Over
+sizedOf total next = cond (leb total 32_768) (Size (asOctets total) next) Over
 
 unfoldable pub sizedFrom : Lists → ℕ → List ℕ → (parent depth i : ℕ) → Sized
 sizedFrom l n lent parent depth i = sizedOf (normalSize parent (itemsFrom l n lent depth i .0)) (itemsFrom l n lent depth i .1)

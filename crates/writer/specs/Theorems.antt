@@ -6,6 +6,7 @@ use mathlib.Core.List.{List, []}
 use Prim.Native.Nat.{ℕ}
 use lib.Dec.{eqb}
 use lib.ListN.{take, drop}
+use Rattle.octets.specs.declared.counts.Octets.{Octets}
 use Rattle.format.specs.Tree.{Items}
 use Rattle.format.specs.Tree.Items.{end, item}
 use Rattle.format.specs.Meaning.{means, encode, meaning}
@@ -18,9 +19,9 @@ tableless (item tag at body inside after) = not (eqb tag 4) && tableless inside 
 
 -- k octets were written from records: they are the normal form of the records' tree, they are accepted and mean what that tree means, and behind them the room
 -- is as before
-pub record Delivered (n : ℕ) (lists : Lists) (lent before after : List ℕ) (k : ℕ) : Type 0 where
+pub record Delivered (n : ℕ) (lists : Lists) (lent before after : List ℕ) (k : Octets) : Type 0 where
   pub tree : Items
   pub given : treeGiven n lists lent ≡ some tree
-  pub octets : take k after ≡ encode (means [] tree)
-  pub meant : meaning (take k after) ≡ some (means [] tree)
-  pub rest : drop k after ≡ drop k before
+  pub octets : take (k .0) after ≡ encode (means [] tree)
+  pub meant : meaning (take (k .0) after) ≡ some (means [] tree)
+  pub rest : drop (k .0) after ≡ drop (k .0) before

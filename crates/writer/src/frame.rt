@@ -6,6 +6,7 @@ ghost use lib.Seq.{sets};
 ghost use Rattle.octets.specs.Header.{framed};
 ghost use Rattle.writer.specs.Steps.{between, Framable, Lays};
 use crate::item::put_header;
+use octets::Octets;
 
 // What lies from a place up to another, two places higher. It goes from the last octet down, so that none is lost.
 fn move_up(room: &mut [u8], from: usize, end: usize)
@@ -25,10 +26,10 @@ pub fn put_frame(room: &mut [u8], to: usize, tag: u8, end: usize) -> usize
     ensures { λ r. ⌜ Lays (framed tag (between (to + 2) end (now (room .entry)))) to (now (room .entry)) (now (room .exit)) r ⌝ }
 {
     let from = to + 2;
-    let size = end - from;
-    if octets::header_size(size) > 2 {
+    let size = Octets(end - from);
+    if octets::header_size(size).0 > 2 {
         move_up(room, from, end);
-        return put_header(room, to, tag, size) + size;
+        return put_header(room, to, tag, size) + size.0;
     }
-    put_header(room, to, tag, size) + size
+    put_header(room, to, tag, size) + size.0
 }

@@ -10,6 +10,7 @@ ghost use Rattle.format.specs.Judge.{isItems};
 ghost use Rattle.format.specs.Meaning.{opens};
 ghost use Rattle.survey.specs.Normal.{framedSize, valueOctets};
 ghost use Rattle.writer.specs.Steps.{Lays, Fitting};
+use octets::Octets;
 use values::Kind;
 use values::KnownKind;
 use values::NormalSize;
@@ -54,27 +55,28 @@ pub fn holds_items(tag: u8) -> bool
     }
 }
 
-pub fn value_size(kind: Kind, body: &[u8]) -> usize
-    ensures { λ r. ⌜ r ≡ length (valueOctets kind (now (body .entry))) ⌝ }
+pub fn value_size(kind: Kind, body: &[u8]) -> Octets
+    ensures { λ r. ⌜ r .0 ≡ length (valueOctets kind (now (body .entry))) ⌝ }
 {
     match normal_size(kind, body) {
         NormalSize::Octets(size) => size,
-        NormalSize::NoValue => 0,
+        NormalSize::NoValue => Octets(0),
     }
 }
 
 // An item whose body has `n` octets.
-pub fn framed_size(n: usize) -> usize
-    requires { ⌜ n < 131072 ⌝ }
-    ensures { λ r. ⌜ r ≡ framedSize n ⌝ }
+pub fn framed_size(n: Octets) -> Octets
+    requires { ⌜ n .0 < 131072 ⌝ }
+    ensures { λ r. ⌜ r .0 ≡ framedSize (n .0) ⌝ }
 {
-    octets::header_size(n) + n
+    let size = octets::header_size(n).0 + n.0;
+    Octets(size)
 }
 
-pub fn put_header(room: &mut [u8], to: usize, tag: u8, n: usize) -> usize
-    requires { ⌜ n ≤ 32768 ⌝ }
-    requires { ⌜ Fitting (tag ∷ lengthField n) to (length (now room)) ⌝ }
-    ensures { λ r. ⌜ Lays (tag ∷ lengthField n) to (now (room .entry)) (now (room .exit)) r ⌝ }
+pub fn put_header(room: &mut [u8], to: usize, tag: u8, n: Octets) -> usize
+    requires { ⌜ n .0 ≤ 32768 ⌝ }
+    requires { ⌜ Fitting (tag ∷ lengthField (n .0)) to (length (now room)) ⌝ }
+    ensures { λ r. ⌜ Lays (tag ∷ lengthField (n .0)) to (now (room .entry)) (now (room .exit)) r ⌝ }
 {
     match octets::write_header(room, to, tag, n) {
         octets::Put::Done(end) => end,
@@ -108,6 +110,6 @@ pub fn put_stored(room: &mut [u8], to: usize, tag: u8, body: &[u8]) -> usize
     requires { ⌜ Fitting (framed tag (now body)) to (length (now room)) ⌝ }
     ensures { λ r. ⌜ Lays (framed tag (now (body .entry))) to (now (room .entry)) (now (room .exit)) r ⌝ }
 {
-    let at = put_header(room, to, tag, body.len());
+    let at = put_header(room, to, tag, Octets(body.len()));
     put_value(room, at, Kind::HoldsPlain, body)
 }

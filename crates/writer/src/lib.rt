@@ -2,7 +2,7 @@
 // checked, then measured, and only what is known to fit the room is written. An object has one normal form with all objects that mean the same: it is loaded as
 // records that are known to be well formed and to fit, so they are written without being looked at before.
 ghost use mathlib.Core.Path.{_≡_};
-ghost use Rattle.format.specs.declared.WriteAnswer.the-variants.{NotWritten, Octets};
+ghost use Rattle.format.specs.declared.WriteAnswer.the-variants.{NotWritten, Octets as Handed};
 ghost use Rattle.format.specs.Answers.{refusal};
 ghost use Rattle.format.specs.Judge.{judge};
 ghost use Rattle.format.specs.Calls.{lentBy, WriteClaim, NormaliseClaim};
@@ -23,6 +23,7 @@ use crate::size::Sized;
 use crate::size::size_items;
 use format::Refusal;
 use format::WriteAnswer;
+use octets::Octets;
 use reader::places;
 use records::is_well_formed;
 use survey::Standing;
@@ -55,7 +56,7 @@ pub fn write(
                 return refused(15);
             }
             Sized::Size { total, next: _ } => {
-                if total > room.len() {
+                if total.0 > room.len() {
                     return refused(15);
                 }
                 let reached = emit_items(
@@ -72,7 +73,7 @@ pub fn write(
                     0,
                     false,
                 );
-                return WriteAnswer::Octets(reached.end);
+                return WriteAnswer::Octets(Octets(reached.end));
             }
         }
     }
@@ -90,9 +91,9 @@ fn write_normal(
     sizes: &mut [u16],
     store: &mut [u8],
     room: &mut [u8],
-) -> usize
+) -> Octets
     requires { ⌜ surveyed (lentBy (lent tags kinds depths parents starts sizes) (now store) (now room)) (judge (now object)) ≡ Fits ⌝ }
-    ensures { λ r. ⌜ NormaliseClaim (now (object .entry)) (lent (tags .entry) (kinds .entry) (depths .entry) (parents .entry) (starts .entry) (sizes .entry)) (lent (tags .exit) (kinds .exit) (depths .exit) (parents .exit) (starts .exit) (sizes .exit)) (now (store .entry)) (now (store .exit)) (now (room .entry)) (now (room .exit)) (Octets r) ⌝ }
+    ensures { λ r. ⌜ NormaliseClaim (now (object .entry)) (lent (tags .entry) (kinds .entry) (depths .entry) (parents .entry) (starts .entry) (sizes .entry)) (lent (tags .exit) (kinds .exit) (depths .exit) (parents .exit) (starts .exit) (sizes .exit)) (now (store .entry)) (now (store .exit)) (now (room .entry)) (now (room .exit)) (Handed r) ⌝ }
 {
     let count = lay(object, tags, kinds, depths, parents, starts, sizes, store);
     let reached = emit_items(
@@ -109,7 +110,7 @@ fn write_normal(
         0,
         true,
     );
-    reached.end
+    Octets(reached.end)
 }
 
 // The normal form of an object, written to `room`. The lists and the store then hold the loaded tree. On a refusal (1 to 13 of the object, 14, 15) all that is
@@ -128,7 +129,7 @@ pub fn normalise(
     ensures { λ r. ⌜ NormaliseClaim (now (object .entry)) (lent (tags .entry) (kinds .entry) (depths .entry) (parents .entry) (starts .entry) (sizes .entry)) (lent (tags .exit) (kinds .exit) (depths .exit) (parents .exit) (starts .exit) (sizes .exit)) (now (store .entry)) (now (store .exit)) (now (room .entry)) (now (room .exit)) r ⌝ }
 {
     let most = places(tags, kinds, depths, parents, starts, sizes);
-    match survey(object, most, store.len(), room.len()) {
+    match survey(object, most, Octets(store.len()), Octets(room.len())) {
         Standing::Bad(refusal) => WriteAnswer::NotWritten(refusal),
         Standing::Misfit(refusal) => WriteAnswer::NotWritten(refusal),
         Standing::Fits => {

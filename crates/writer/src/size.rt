@@ -11,6 +11,7 @@ use crate::item::is_holder;
 use crate::item::value_size;
 use crate::item::wide;
 use crate::item::wide16;
+use octets::Octets;
 use survey::written_as;
 use values::KnownKind;
 
@@ -18,13 +19,13 @@ use values::KnownKind;
 pub enum Part {
     Past,
     Holds(u8),
-    Single(usize),
+    Single(Octets),
 }
 
 // The size of the items of an element, and the number of the first record past them. Over: above 32,768.
 pub enum Sized {
     Over,
-    Size { total: usize, next: usize },
+    Size { total: Octets, next: usize },
 }
 
 // One lookup tells whether an item is written and whether it holds items: what holds items in one element holds them in all.
@@ -33,7 +34,7 @@ fn part_of(parent: u8, tag: u8, body: &[u8]) -> Part
     ensures { λ r. ⌜ r ≡ partOf parent tag (now (body .entry)) ⌝ }
 {
     match written_as(parent, tag) {
-        KnownKind::Unknown => Part::Single(0),
+        KnownKind::Unknown => Part::Single(Octets(0)),
         KnownKind::Known(kind) => {
             if is_holder(kind) {
                 return Part::Holds(tag);
@@ -84,10 +85,13 @@ pub fn size_items(
     while i < n {
         match part_at(tags, depths, starts, sizes, octets, i, depth, parent) {
             Part::Past => {
-                return Sized::Size { total, next: i };
+                return Sized::Size {
+                    total: Octets(total),
+                    next: i,
+                };
             }
             Part::Single(size) => {
-                let sum = total + size;
+                let sum = total + size.0;
                 if sum > 32768 {
                     return Sized::Over;
                 }
@@ -110,7 +114,7 @@ pub fn size_items(
                         return Sized::Over;
                     }
                     Sized::Size { total: inner, next } => {
-                        let sum = total + framed_size(inner);
+                        let sum = total + framed_size(inner).0;
                         if sum > 32768 {
                             return Sized::Over;
                         }
@@ -121,5 +125,8 @@ pub fn size_items(
             }
         }
     }
-    Sized::Size { total, next: i }
+    Sized::Size {
+        total: Octets(total),
+        next: i,
+    }
 }

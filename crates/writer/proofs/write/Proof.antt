@@ -31,18 +31,18 @@ refused-requires-2 c κs = search needs
 
 returns-2 : tie.Need-returns-2
 returns-2 c =
-    given-more _ (lent ((c .before .before .before .before .before .before .before .before .before .before .before .before .before .before .before .before .args) .tags) ((c .before .before .before .before .before .before .before .before .before .before .before .before .before .before .before .before .args) .kinds) ((c .before .before .before .before .before .before .before .before .before .before .before .before .before .before .before .before .args) .depths) ((c .before .before .before .before .before .before .before .before .before .before .before .before .before .before .before .before .args) .parents) ((c .before .before .before .before .before .before .before .before .before .before .before .before .before .before .before .before .args) .starts) ((c .before .before .before .before .before .before .before .before .before .before .before .before .before .before .before .before .args) .sizes)) _ _ ((c .before .before .before .before .before .before .before .is-well-formed) .ensures) ((c .before .before .before .before .before .before .if1) .taken) _ ((c .before .before .before .before .before .size-items) .ensures) _ _ ((c .before .before .before .total) .given .1) _ ((c .before .if2) .taken) _ ((c .refused2) .ensures)
+    given-more _ (lent ((c .before .before .before .before .before .before .before .before .before .before .before .before .before .before .before .before .before .args) .tags) ((c .before .before .before .before .before .before .before .before .before .before .before .before .before .before .before .before .before .args) .kinds) ((c .before .before .before .before .before .before .before .before .before .before .before .before .before .before .before .before .before .args) .depths) ((c .before .before .before .before .before .before .before .before .before .before .before .before .before .before .before .before .before .args) .parents) ((c .before .before .before .before .before .before .before .before .before .before .before .before .before .before .before .before .before .args) .starts) ((c .before .before .before .before .before .before .before .before .before .before .before .before .before .before .before .before .before .args) .sizes)) _ _ ((c .before .before .before .before .before .before .before .before .is-well-formed) .ensures) ((c .before .before .before .before .before .before .before .if1) .taken) _ ((c .before .before .before .before .before .before .size-items) .ensures) _ _ ((c .before .before .before .before .total) .given .1) _ ((c .before .if2) .taken) _ ((c .refused2) .ensures)
 
 emit-items-requires : tie.Need-emit-items-requires
 emit-items-requires c κs =
-    ((given-holding _ (lent ((c .before .before .before .before .before .before .before .before .before .before .before .before .before .before .before .before .args) .tags) ((c .before .before .before .before .before .before .before .before .before .before .before .before .before .before .before .before .args) .kinds) ((c .before .before .before .before .before .before .before .before .before .before .before .before .before .before .before .before .args) .depths) ((c .before .before .before .before .before .before .before .before .before .before .before .before .before .before .before .before .args) .parents) ((c .before .before .before .before .before .before .before .before .before .before .before .before .before .before .before .before .args) .starts) ((c .before .before .before .before .before .before .before .before .before .before .before .before .before .before .before .before .args) .sizes)) _ _ ((c .before .before .before .before .before .before .before .is-well-formed) .ensures) ((c .before .before .before .before .before .before .if1) .taken), given-ordered _ (lent ((c .before .before .before .before .before .before .before .before .before .before .before .before .before .before .before .before .args) .tags) ((c .before .before .before .before .before .before .before .before .before .before .before .before .before .before .before .before .args) .kinds) ((c .before .before .before .before .before .before .before .before .before .before .before .before .before .before .before .before .args) .depths) ((c .before .before .before .before .before .before .before .before .before .before .before .before .before .before .before .before .args) .parents) ((c .before .before .before .before .before .before .before .before .before .before .before .before .before .before .before .before .args) .starts) ((c .before .before .before .before .before .before .before .before .before .before .before .before .before .before .before .before .args) .sizes)) _ _ ((c .before .before .before .before .before .before .before .is-well-formed) .ensures) ((c .before .before .before .before .before .before .if1) .taken), omega arith, omega arith), ((λ q. absurd (false≢true q)), given-fits _ (lent ((c .before .before .before .before .before .before .before .before .before .before .before .before .before .before .before .before .args) .tags) ((c .before .before .before .before .before .before .before .before .before .before .before .before .before .before .before .before .args) .kinds) ((c .before .before .before .before .before .before .before .before .before .before .before .before .before .before .before .before .args) .depths) ((c .before .before .before .before .before .before .before .before .before .before .before .before .before .before .before .before .args) .parents) ((c .before .before .before .before .before .before .before .before .before .before .before .before .before .before .before .before .args) .starts) ((c .before .before .before .before .before .before .before .before .before .before .before .before .before .before .before .before .args) .sizes)) _ _ ((c .before .before .before .before .before .before .before .is-well-formed) .ensures) ((c .before .before .before .before .before .before .if1) .taken) _ ((c .before .before .before .before .before .size-items) .ensures) _ _ ((c .before .before .before .total) .given .1) ((c .before .before .before .before .before .before .before .before .before .before .before .before .before .before .before .before .args) .room .now) ((c .before .if2) .left)))
+    ((given-holding _ (lent ((c .before .before .before .before .before .before .before .before .before .before .before .before .before .before .before .before .before .args) .tags) ((c .before .before .before .before .before .before .before .before .before .before .before .before .before .before .before .before .before .args) .kinds) ((c .before .before .before .before .before .before .before .before .before .before .before .before .before .before .before .before .before .args) .depths) ((c .before .before .before .before .before .before .before .before .before .before .before .before .before .before .before .before .before .args) .parents) ((c .before .before .before .before .before .before .before .before .before .before .before .before .before .before .before .before .before .args) .starts) ((c .before .before .before .before .before .before .before .before .before .before .before .before .before .before .before .before .before .args) .sizes)) _ _ ((c .before .before .before .before .before .before .before .before .is-well-formed) .ensures) ((c .before .before .before .before .before .before .before .if1) .taken), given-ordered _ (lent ((c .before .before .before .before .before .before .before .before .before .before .before .before .before .before .before .before .before .args) .tags) ((c .before .before .before .before .before .before .before .before .before .before .before .before .before .before .before .before .before .args) .kinds) ((c .before .before .before .before .before .before .before .before .before .before .before .before .before .before .before .before .before .args) .depths) ((c .before .before .before .before .before .before .before .before .before .before .before .before .before .before .before .before .before .args) .parents) ((c .before .before .before .before .before .before .before .before .before .before .before .before .before .before .before .before .before .args) .starts) ((c .before .before .before .before .before .before .before .before .before .before .before .before .before .before .before .before .before .args) .sizes)) _ _ ((c .before .before .before .before .before .before .before .before .is-well-formed) .ensures) ((c .before .before .before .before .before .before .before .if1) .taken), omega arith, omega arith), ((λ q. absurd (false≢true q)), given-fits _ (lent ((c .before .before .before .before .before .before .before .before .before .before .before .before .before .before .before .before .before .args) .tags) ((c .before .before .before .before .before .before .before .before .before .before .before .before .before .before .before .before .before .args) .kinds) ((c .before .before .before .before .before .before .before .before .before .before .before .before .before .before .before .before .before .args) .depths) ((c .before .before .before .before .before .before .before .before .before .before .before .before .before .before .before .before .before .args) .parents) ((c .before .before .before .before .before .before .before .before .before .before .before .before .before .before .before .before .before .args) .starts) ((c .before .before .before .before .before .before .before .before .before .before .before .before .before .before .before .before .before .args) .sizes)) _ _ ((c .before .before .before .before .before .before .before .before .is-well-formed) .ensures) ((c .before .before .before .before .before .before .before .if1) .taken) _ ((c .before .before .before .before .before .before .size-items) .ensures) _ _ ((c .before .before .before .before .total) .given .1) ((c .before .before .before .before .before .before .before .before .before .before .before .before .before .before .before .before .before .args) .room .now) ((c .before .if2) .left)))
 
 same-length : tie.Need-same-length
 same-length c = search needs
 
 returns-3 : tie.Need-returns-3
 returns-3 c =
-    given-written _ (lent ((c .before .before .before .before .before .before .before .before .before .before .before .before .before .before .before .before .before .before .before .args) .tags) ((c .before .before .before .before .before .before .before .before .before .before .before .before .before .before .before .before .before .before .before .args) .kinds) ((c .before .before .before .before .before .before .before .before .before .before .before .before .before .before .before .before .before .before .before .args) .depths) ((c .before .before .before .before .before .before .before .before .before .before .before .before .before .before .before .before .before .before .before .args) .parents) ((c .before .before .before .before .before .before .before .before .before .before .before .before .before .before .before .before .before .before .before .args) .starts) ((c .before .before .before .before .before .before .before .before .before .before .before .before .before .before .before .before .before .before .before .args) .sizes)) _ _ ((c .before .before .before .before .before .before .before .before .before .before .is-well-formed) .ensures) ((c .before .before .before .before .before .before .before .before .before .if1) .taken) _ ((c .before .before .before .before .before .before .before .before .size-items) .ensures) _ _ ((c .before .before .before .before .before .before .total) .given .1) _ ((c .before .before .before .before .if2) .left) _ _ ((c .before .before .emit-items) .ensures)
+    given-written _ (lent ((c .before .before .before .before .before .before .before .before .before .before .before .before .before .before .before .before .before .before .before .before .args) .tags) ((c .before .before .before .before .before .before .before .before .before .before .before .before .before .before .before .before .before .before .before .before .args) .kinds) ((c .before .before .before .before .before .before .before .before .before .before .before .before .before .before .before .before .before .before .before .before .args) .depths) ((c .before .before .before .before .before .before .before .before .before .before .before .before .before .before .before .before .before .before .before .before .args) .parents) ((c .before .before .before .before .before .before .before .before .before .before .before .before .before .before .before .before .before .before .before .before .args) .starts) ((c .before .before .before .before .before .before .before .before .before .before .before .before .before .before .before .before .before .before .before .before .args) .sizes)) _ _ ((c .before .before .before .before .before .before .before .before .before .before .before .is-well-formed) .ensures) ((c .before .before .before .before .before .before .before .before .before .before .if1) .taken) _ ((c .before .before .before .before .before .before .before .before .before .size-items) .ensures) _ _ ((c .before .before .before .before .before .before .before .total) .given .1) _ ((c .before .before .before .before .if2) .left) _ _ ((c .before .before .emit-items) .ensures)
 
 refused-requires-3 : tie.Need-refused-requires-3
 refused-requires-3 c κs = search needs

@@ -11,22 +11,22 @@ use Rattle.writer.proofs.item.put_header.Reads as put-header-reads
 add-from : tie.Need-add-from
 add-from c = search needs
 
-sub-size : tie.Need-sub-size
-sub-size c = search needs
+sub-result : tie.Need-sub-result
+sub-result c = search needs
 
 header-size-requires : tie.Need-header-size-requires
 header-size-requires c κs = search needs
 
 move-up-requires : tie.Need-move-up-requires
 move-up-requires c κs =
-    frame-room _ _ _ _ (c .before .before .before .before .pre) _ refl _ ((c .before .before .header-size) .ensures) ((c .before .if1) .taken)
+    frame-room _ _ _ _ (c .before .before .before .before .before .pre) _ refl _ ((c .before .before .before .header-size) .ensures) ((c .before .if1) .taken)
 
 put-header-requires : tie.Need-put-header-requires
 put-header-requires c κs = search (frame-ways, needs)
 
 add-result : tie.Need-add-result
 add-result c =
-    let b = frame-behind _ _ _ _ (c .before .before .before .before .before .before .before .before .before .before .before .pre) _ refl _ _ _ ((c .before .before .put-header) .ensures) in record { fits = omega (arith, b) }
+    let b = frame-behind _ _ _ _ (c .before .before .before .before .before .before .before .before .before .before .before .before .before .pre) _ refl _ _ _ ((c .before .before .before .put-header) .ensures) in record { fits = omega (arith, b) }
 
 same-length : tie.Need-same-length
 same-length c = search needs
@@ -38,7 +38,8 @@ put-header-requires-2 : tie.Need-put-header-requires-2
 put-header-requires-2 c κs = search (frame-ways, needs)
 
 add-result-2 : tie.Need-add-result-2
-add-result-2 c = search needs
+add-result-2 c =
+    let b = frame-behind _ _ _ _ (c .before .before .before .before .before .before .before .before .before .pre) _ refl _ _ _ ((c .before .before .before .put-header2) .ensures) in record { fits = omega (arith, b) }
 
 same-length-2 : tie.Need-same-length-2
 same-length-2 c = search needs
@@ -51,7 +52,7 @@ put-frame-spec =
     tie.close
     (tie.spec
     add-from
-    sub-size
+    sub-result
     header-size-requires
     move-up-requires
     put-header-requires

@@ -6,13 +6,13 @@ use Rattle.writer.proofs.item.framed_size.Tie as tie
 header-size-requires : tie.Need-header-size-requires
 header-size-requires c κs = search needs
 
-add-result : tie.Need-add-result
-add-result c =
-    framed-fits _ _ ((c .before .pre)) ((c .header-size) .ensures)
+add-size : tie.Need-add-size
+add-size c =
+    framed-fits _ _ ((c .before .before .header-size) .ensures) (c .before .before .before .pre)
 
 returns : tie.Need-returns
 returns c =
-    framed-is _ _ ((c .header-size) .ensures)
+    framed-is _ _ ((c .before .before .header-size) .ensures)
 
 pub framed-size-spec : {M : Type 1} → statement M
-framed-size-spec = tie.close (tie.spec header-size-requires add-result returns)
+framed-size-spec = tie.close (tie.spec header-size-requires add-size returns)

@@ -97,7 +97,7 @@ size-items-add-sum : (t : ℕ) → size-items-lts.Need-add-sum (
   framed-size-reads.Learnt,
 ) (size-items-at t) size-items.Post size-items-Inv-loop size-items-μ-loop
 size-items-add-sum t c =
-    single-fits _ _ _ _ _ _ _ _ ((c .before .before .before .before .before .loop) .inv) ((c .before .before .before .before .loop-test) .taken) _ ((c .before .before .before .part-at) .ensures) _ ((c .before .size) .given .1) ((c .before .before .before .before .before .before .before .shared-slice-known4) .given ((c .before .before .before .before .before .loop) .i))
+    single-fits _ _ _ _ _ _ _ _ ((c .before .before .before .before .before .before .loop) .inv) ((c .before .before .before .before .before .loop-test) .taken) _ ((c .before .before .before .before .part-at) .ensures) _ ((c .before .before .size) .given .1) ((c .before .before .before .before .before .before .before .before .shared-slice-known4) .given ((c .before .before .before .before .before .before .loop) .i))
 
 size-items-returns-2 : (t : ℕ) → size-items-lts.Need-returns-2 (
   part-at-reads.Asked,
@@ -108,7 +108,7 @@ size-items-returns-2 : (t : ℕ) → size-items-lts.Need-returns-2 (
   framed-size-reads.Learnt,
 ) (size-items-at t) size-items.Post size-items-Inv-loop size-items-μ-loop
 size-items-returns-2 t c =
-    single-over _ _ _ _ _ _ _ _ ((c .before .before .before .before .before .before .loop) .inv) ((c .before .before .before .before .before .loop-test) .taken) _ ((c .before .before .before .before .part-at) .ensures) _ ((c .before .before .size) .given .1) ((c .if1) .taken)
+    single-over _ _ _ _ _ _ _ _ ((c .before .before .before .before .before .before .before .loop) .inv) ((c .before .before .before .before .before .before .loop-test) .taken) _ ((c .before .before .before .before .before .part-at) .ensures) _ ((c .before .before .before .size) .given .1) ((c .if1) .taken)
 
 size-items-add-i : (t : ℕ) → size-items-lts.Need-add-i (
   part-at-reads.Asked,
@@ -141,7 +141,7 @@ size-items-loop-again : (t : ℕ) → size-items-lts.Need-loop-again (
   framed-size-reads.Learnt,
 ) (size-items-at t) size-items.Post size-items-Inv-loop size-items-μ-loop
 size-items-loop-again t c =
-    single-next _ _ _ _ _ _ _ _ ((c .before .before .before .before .before .before .loop) .inv) ((c .before .before .before .before .before .loop-test) .taken) _ ((c .before .before .before .before .part-at) .ensures) _ ((c .before .before .size) .given .1) ((c .if1) .left)
+    single-next _ _ _ _ _ _ _ _ ((c .before .before .before .before .before .before .before .loop) .inv) ((c .before .before .before .before .before .before .loop-test) .taken) _ ((c .before .before .before .before .before .part-at) .ensures) _ ((c .before .before .before .size) .given .1) ((c .if1) .left)
 
 size-items-enum-known-tag : (t : ℕ) → size-items-lts.Need-enum-known-tag (
   part-at-reads.Asked,
@@ -240,7 +240,7 @@ size-items-add-sum-2 : (t : ℕ) → size-items-lts.Need-add-sum-2 (
   framed-size-reads.Learnt,
 ) (size-items-at t) size-items.Post size-items-Inv-loop size-items-μ-loop
 size-items-add-sum-2 t c =
-    inner-fits _ _ _ _ _ _ _ _ ((c .before .before .before .before .before .before .before .before .before .before .loop) .inv) ((c .before .before .before .before .before .before .before .before .before .loop-test) .taken) _ ((c .before .before .before .before .before .before .before .before .part-at) .ensures) _ ((c .before .before .before .before .before .before .tag) .given .1) _ ((c .before .before .before .before .size-items) .ensures) _ _ ((c .before .before .inner) .given .1) _ ((c .framed-size) .ensures)
+    inner-fits _ _ _ _ _ _ _ _ ((c .before .before .before .before .before .before .before .before .before .before .before .loop) .inv) ((c .before .before .before .before .before .before .before .before .before .before .loop-test) .taken) _ ((c .before .before .before .before .before .before .before .before .before .part-at) .ensures) _ ((c .before .before .before .before .before .before .before .tag) .given .1) _ ((c .before .before .before .before .before .size-items) .ensures) _ _ ((c .before .before .before .inner) .given .1) _ ((c .before .framed-size) .ensures)
 
 size-items-returns-4 : (t : ℕ) → size-items-lts.Need-returns-4 (
   part-at-reads.Asked,
@@ -251,7 +251,7 @@ size-items-returns-4 : (t : ℕ) → size-items-lts.Need-returns-4 (
   framed-size-reads.Learnt,
 ) (size-items-at t) size-items.Post size-items-Inv-loop size-items-μ-loop
 size-items-returns-4 t c =
-    inner-over _ _ _ _ _ _ _ _ ((c .before .before .before .before .before .before .before .before .before .before .before .loop) .inv) ((c .before .before .before .before .before .before .before .before .before .before .loop-test) .taken) _ ((c .before .before .before .before .before .before .before .before .before .part-at) .ensures) _ ((c .before .before .before .before .before .before .before .tag) .given .1) _ ((c .before .before .before .before .before .size-items) .ensures) _ _ ((c .before .before .before .inner) .given .1) _ ((c .before .framed-size) .ensures) ((c .if2) .taken)
+    inner-over _ _ _ _ _ _ _ _ ((c .before .before .before .before .before .before .before .before .before .before .before .before .loop) .inv) ((c .before .before .before .before .before .before .before .before .before .before .before .loop-test) .taken) _ ((c .before .before .before .before .before .before .before .before .before .before .part-at) .ensures) _ ((c .before .before .before .before .before .before .before .before .tag) .given .1) _ ((c .before .before .before .before .before .before .size-items) .ensures) _ _ ((c .before .before .before .before .inner) .given .1) _ ((c .before .before .framed-size) .ensures) ((c .if2) .taken)
 
 size-items-loop-less-2 : (t : ℕ) → size-items-lts.Need-loop-less-2 (
   part-at-reads.Asked,
@@ -262,7 +262,7 @@ size-items-loop-less-2 : (t : ℕ) → size-items-lts.Need-loop-less-2 (
   framed-size-reads.Learnt,
 ) (size-items-at t) size-items.Post size-items-Inv-loop size-items-μ-loop
 size-items-loop-less-2 t c =
-    holds-less _ _ _ _ _ _ _ _ ((c .before .before .before .before .before .before .before .before .before .before .before .loop) .inv) ((c .before .before .before .before .before .before .before .before .before .before .loop-test) .taken) _ ((c .before .before .before .before .before .before .before .before .before .part-at) .ensures) _ ((c .before .before .before .before .before .before .before .tag) .given .1) _ ((c .before .before .before .before .before .size-items) .ensures) _ _ ((c .before .before .before .inner) .given .1)
+    holds-less _ _ _ _ _ _ _ _ ((c .before .before .before .before .before .before .before .before .before .before .before .before .loop) .inv) ((c .before .before .before .before .before .before .before .before .before .before .before .loop-test) .taken) _ ((c .before .before .before .before .before .before .before .before .before .before .part-at) .ensures) _ ((c .before .before .before .before .before .before .before .before .tag) .given .1) _ ((c .before .before .before .before .before .before .size-items) .ensures) _ _ ((c .before .before .before .before .inner) .given .1)
 
 size-items-loop-again-2 : (t : ℕ) → size-items-lts.Need-loop-again-2 (
   part-at-reads.Asked,
@@ -273,7 +273,7 @@ size-items-loop-again-2 : (t : ℕ) → size-items-lts.Need-loop-again-2 (
   framed-size-reads.Learnt,
 ) (size-items-at t) size-items.Post size-items-Inv-loop size-items-μ-loop
 size-items-loop-again-2 t c =
-    inner-next _ _ _ _ _ _ _ _ ((c .before .before .before .before .before .before .before .before .before .before .before .loop) .inv) ((c .before .before .before .before .before .before .before .before .before .before .loop-test) .taken) _ ((c .before .before .before .before .before .before .before .before .before .part-at) .ensures) _ ((c .before .before .before .before .before .before .before .tag) .given .1) _ ((c .before .before .before .before .before .size-items) .ensures) _ _ ((c .before .before .before .inner) .given .1) _ ((c .before .framed-size) .ensures) ((c .if2) .left)
+    inner-next _ _ _ _ _ _ _ _ ((c .before .before .before .before .before .before .before .before .before .before .before .before .loop) .inv) ((c .before .before .before .before .before .before .before .before .before .before .before .loop-test) .taken) _ ((c .before .before .before .before .before .before .before .before .before .before .part-at) .ensures) _ ((c .before .before .before .before .before .before .before .before .tag) .given .1) _ ((c .before .before .before .before .before .before .size-items) .ensures) _ _ ((c .before .before .before .before .inner) .given .1) _ ((c .before .before .framed-size) .ensures) ((c .if2) .left)
 
 size-items-returns-5 : (t : ℕ) → size-items-lts.Need-returns-5 (
   part-at-reads.Asked,
