@@ -11,6 +11,8 @@ use lib.ListN.{length, take, drop, getD, length-append, length-drop, length-take
 use lib.Seq.{sets-eq, take-at}
 use borrow.Author.Tests.{eqb-true, eq-eqb, ne-eqb, le-leb}
 use Rattle.octets.specs.Numbers.{Octets}
+use Rattle.octets.specs.declared.counts.Octets.{Octets as OctetCount}
+use Rattle.octets.specs.Counts.{asOctets}
 use Rattle.octets.specs.Header.{headerSize, bodySize, lengthField}
 use Rattle.octets.proofs.Frames.{header-two}
 use Rattle.octets.proofs.Tests.{and-left, and-false}
@@ -303,20 +305,23 @@ module _ (p : ℕ) (part : List ℕ) where
             inv .same ∙ shaped-at p last s some-left
             ∙ rw (le-leb (headerSize s + bodySize s) (length s) (here .inside), tag-is here (inv .inside), body-is here (inv .inside), later-is here (inv .inside))
 
-        module _ (n : ℕ) (ne : n ≡ suc (length (lengthField (to - from)))) where
+        module _ (n : OctetCount) (ne : n ≡ asOctets (suc (length (lengthField (to - from))))) where
           size-is : to - from ≡ bodySize s
           size-is = omega (arith, here .begins, here .ends)
 
-          pub shapes-long : (from - at ≡ n → ⊥) → false ≡ shaped p 0x7F part
+          header-is : n .0 ≡ suc (length (lengthField (bodySize s)))
+          header-is = ap (λ m. m .0) ne ∙ ap (λ z. suc (length (lengthField z))) size-is
+
+          pub shapes-long : (from - at ≡ n .0 → ⊥) → false ≡ shaped p 0x7F part
           unfolding isShortest
           shapes-long d =
-              let m : headerSize s ≡ suc (length (lengthField (bodySize s))) → ⊥ = λ e. d (omega (arith, here .begins, ap (λ z. suc (length (lengthField z))) size-is)) in
+              let m : headerSize s ≡ suc (length (lengthField (bodySize s))) → ⊥ = λ e. d (omega (arith, here .begins, header-is)) in
               sym (step ∙ rw (ne-eqb (headerSize s) (suc (length (lengthField (bodySize s)))) m))
 
-          module _ (d : from - at ≡ n) where
+          module _ (d : from - at ≡ n .0) where
             short : isShortest s ≡ true
             unfolding isShortest
-            short = eq-eqb (headerSize s) (suc (length (lengthField (bodySize s)))) (omega (arith, here .begins, ap (λ z. suc (length (lengthField z))) size-is))
+            short = eq-eqb (headerSize s) (suc (length (lengthField (bodySize s)))) (omega (arith, here .begins, header-is))
 
             module _ (b : Bool) (be : b ≡ isRising last tag) where
               pub shapes-falling : b ≡ false → false ≡ shaped p 0x7F part

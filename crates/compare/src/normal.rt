@@ -13,6 +13,7 @@ ghost use Rattle.format.specs.Same.{sameOctets};
 ghost use Rattle.survey.specs.Normal.{writtenAs};
 ghost use Rattle.compare.specs.Normal.{isRising, shapedBody, shaped};
 use crate::bodies::same_octets;
+use octets::Octets;
 use octets::header_size;
 use survey::Lies;
 use survey::item_at;
@@ -93,7 +94,8 @@ pub fn are_items_normal(parent: u8, part: &[u8]) -> bool
             return false;
         };
         let tag = part[at];
-        if from - at != header_size(to - from) {
+        let size = Octets(to - from);
+        if from - at != header_size(size).0 {
             return false;
         }
         if !is_rising(last, tag) {

@@ -165,7 +165,7 @@ are-items-normal-sub-if1 : (t : ℕ) → are-items-normal-lts.Need-sub-if1 (
 ) (are-items-normal-at t) are-items-normal.Post are-items-normal-Inv-loop are-items-normal-μ-loop
 are-items-normal-sub-if1 t c = search (shapes-ways, not-true, not-false, needs)
 
-are-items-normal-sub-header-size : (t : ℕ) → are-items-normal-lts.Need-sub-header-size (
+are-items-normal-sub-if1-2 : (t : ℕ) → are-items-normal-lts.Need-sub-if1-2 (
   item-at-reads.Asked,
   item-at-reads.Learnt,
   header-size-reads.Asked,
@@ -177,7 +177,7 @@ are-items-normal-sub-header-size : (t : ℕ) → are-items-normal-lts.Need-sub-h
   later-tag-reads.Asked,
   later-tag-reads.Learnt,
 ) (are-items-normal-at t) are-items-normal.Post are-items-normal-Inv-loop are-items-normal-μ-loop
-are-items-normal-sub-header-size t c = search (shapes-ways, not-true, not-false, needs)
+are-items-normal-sub-if1-2 t c = search (shapes-ways, not-true, not-false, needs)
 
 are-items-normal-header-size-requires : (t : ℕ) → are-items-normal-lts.Need-header-size-requires (
   item-at-reads.Asked,
@@ -305,7 +305,7 @@ are-items-normal-is-item-normal-requires :
     are-items-normal-Inv-loop
     are-items-normal-μ-loop
 are-items-normal-is-item-normal-requires t c κs =
-    (omega (arith, c .before .before .before .before .before .before .before .before .before .before .before .before .before .pre .0, shapes-less _ _ _ _ (c .before .before .before .before .before .before .before .before .before .before .before .loop .inv) (c .before .before .before .before .before .before .before .before .before .before .loop-test .taken) _ (c .before .before .before .before .before .before .before .before .before .item-at .ensures) _ _ (c .before .before .before .before .before .before .before .from .given .1)), tt)
+    (omega (arith, c .before .before .before .before .before .before .before .before .before .before .before .before .before .before .pre .0, shapes-less _ _ _ _ (c .before .before .before .before .before .before .before .before .before .before .before .before .loop .inv) (c .before .before .before .before .before .before .before .before .before .before .before .loop-test .taken) _ (c .before .before .before .before .before .before .before .before .before .before .item-at .ensures) _ _ (c .before .before .before .before .before .before .before .before .from .given .1)), tt)
 
 are-items-normal-returns-4 : (t : ℕ) → are-items-normal-lts.Need-returns-4 (
   item-at-reads.Asked,
@@ -669,7 +669,7 @@ pub +are-items-normal+is-item-normal-spec : {M : Type 1} → statement M
     (are-items-normal-returns t)
     (are-items-normal-shared-slice-read-tag t)
     (are-items-normal-sub-if1 t)
-    (are-items-normal-sub-header-size t)
+    (are-items-normal-sub-if1-2 t)
     (are-items-normal-header-size-requires t)
     (are-items-normal-returns-2 t)
     (are-items-normal-is-rising-requires t)
