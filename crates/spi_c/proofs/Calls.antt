@@ -6,6 +6,7 @@ use Prim.Native.Nat.{ℕ, _+_, _<_, min}
 use native.Mathlib.Omega.{arith}
 use lib.Dec.{leb, ltb}
 use lib.ListN.{length, getD}
+use Rattle.octets.specs.Counts.{sizeOf}
 use Rattle.format.specs.declared.Outcome.{Outcome}
 use Rattle.format.specs.declared.SameOutcome.{SameOutcome}
 use Rattle.format.specs.declared.Span.{Span}
@@ -40,7 +41,7 @@ module _ (object : List ℕ) (before after : Lists) (answer : ReadAnswer) (claim
 
 module _ (n : ℕ) (lists : Lists) (lent before after : List ℕ) (answer : WriteAnswer) (claim : WriteClaim n lists lent before after answer) (o : Outcome) (told : o ≡ writeOutcome answer) where
   pub write-small : Small o
-  write-small = outcome-is writeOutcome _ _ (claim .answers) o told Small (told-small (write-told (length before) (treeGiven n lists lent)))
+  write-small = outcome-is writeOutcome _ _ (claim .answers) o told Small (told-small (write-told (sizeOf before) (treeGiven n lists lent)))
 
   pub write-says : (a : ℕ) → a ≡ packedOutcome o → WritesC n lists lent before after a
   write-says a h = record { answers = outcome-packed writeOutcome _ _ (claim .answers) o told packedOutcome a h; leaves = record { answers = refl; leaves = claim .leaves } }

@@ -8,6 +8,8 @@ use native.Mathlib.Omega.{arith}
 use lib.Dec.{eqb, leb}
 use lib.ListN.{length}
 use borrow.Author.Tests.{ne-eqb, leb-true}
+use Rattle.octets.specs.declared.counts.Octets.{Octets as OctetCount}
+use Rattle.octets.specs.Counts.{sizeOf}
 use Rattle.octets.proofs.Tests.{and-left, and-right}
 use Rattle.format.specs.declared.Refusal.{Refusal}
 use Rattle.format.specs.declared.Outcome.{Outcome}
@@ -122,16 +124,16 @@ pub read-told : (n : ℕ) (o : List ℕ) → Told (readOutcome (readAnswer n (ju
 read-told n o = read-cases n o (judge o) refl
 
 -- ---- write
-roomy-small : (room : ℕ) (o : List ℕ) → roomy room o ≡ true → length o ≤ 32_768
+roomy-small : (room : OctetCount) (o : List ℕ) → roomy room o ≡ true → length o ≤ 32_768
 unfolding roomy
-roomy-small room o h = omega (arith, leb-true (length o) (min room 32_768) h)
+roomy-small room o h = omega (arith, leb-true (length o) (min (room .0) 32_768) h)
 
-pub write-told : (room : ℕ) (t : Option Items) → Told (writeOutcome (writeAnswer room t))
+pub write-told : (room : OctetCount) (t : Option Items) → Told (writeOutcome (writeAnswer room t))
 unfolding writeAnswer
 write-told room none = refuses (refusal 16 0) (late-refusal 16 (omega arith) (omega arith))
 write-told room (some t) = go (roomy room (encode (means [] t))) refl
   where
-    go : (b : Bool) → roomy room (encode (means [] t)) ≡ b → Told (writeOutcome (cond b (Octets (length (encode (means [] t)))) (NotWritten (refusal 15 0))))
+    go : (b : Bool) → roomy room (encode (means [] t)) ≡ b → Told (writeOutcome (cond b (Octets (sizeOf (encode (means [] t)))) (NotWritten (refusal 15 0))))
     go true e = counts (length (encode (means [] t))) (roomy-small room (encode (means [] t)) e)
     go false e = refuses (refusal 15 0) (late-refusal 15 (omega arith) (omega arith))
 
@@ -147,7 +149,7 @@ misfit-told lent t = go (leb (count t) (lent .records))
 fits-small : (lent : Lent) (t : Items) → fitsLent lent t ≡ true → length (normalOf t) ≤ 32_768
 unfolding fitsLent storedWithin
 fits-small lent t h =
-    let a = leb (length (storeOf t)) (lent .store) in
+    let a = leb (length (storeOf t)) (lent .store .0) in
     let b = roomy (lent .room) (normalOf t) in
     roomy-small (lent .room) (normalOf t) (and-right a b (and-right (leb (count t) (lent .records)) (a && b) h))
 
@@ -156,7 +158,7 @@ unfolding normalAnswer
 normal-cases lent o (refused r) h = refuses r (judged-kept o r h)
 normal-cases lent o (accepted t) h = go (fitsLent lent t) refl
   where
-    go : (b : Bool) → fitsLent lent t ≡ b → Told (writeOutcome (cond b (Octets (length (normalOf t))) (misfit lent t)))
+    go : (b : Bool) → fitsLent lent t ≡ b → Told (writeOutcome (cond b (Octets (sizeOf (normalOf t))) (misfit lent t)))
     go true e = counts (length (normalOf t)) (fits-small lent t e)
     go false e = misfit-told lent t
 

@@ -4,7 +4,8 @@ use mathlib.Core.Path.{_≡_, refl, ap, _∙_}
 use mathlib.Core.List.{List}
 use Prim.Native.Nat.{ℕ, _<_}
 use native.Mathlib.Omega.{arith}
-use lib.ListN.{length, getD}
+use lib.ListN.{getD}
+use Rattle.octets.specs.Counts.{sizeOf}
 use Rattle.format.specs.declared.ReadAnswer.the-variants.{Records, NotRead}
 use Rattle.format.specs.declared.SameAnswer.the-variants.{Same, Different, FirstRefused, SecondRefused}
 use Rattle.format.specs.Answers.{refusal, readOutcome, writeOutcome, sameOutcome}
@@ -25,8 +26,8 @@ pub span-back-of : (object starts sizes : List ℕ) (i a : ℕ) → getD starts 
 span-back-of object starts sizes i a f g c = ap spanIn (c .answers) ∙ span-back (spanOf object starts sizes i) (span-small object starts sizes i f g (spanOf object starts sizes i) refl)
 
 pub write-back : (n : ℕ) (lists : Lists) (lent before after : List ℕ) (a : ℕ) → WritesC n lists lent before after a
-    → outcomeIn a ≡ writeOutcome (writeAnswer (length before) (treeGiven n lists lent))
-write-back n lists lent before after a c = ap outcomeIn (c .answers) ∙ told-back (write-told (length before) (treeGiven n lists lent))
+    → outcomeIn a ≡ writeOutcome (writeAnswer (sizeOf before) (treeGiven n lists lent))
+write-back n lists lent before after a c = ap outcomeIn (c .answers) ∙ told-back (write-told (sizeOf before) (treeGiven n lists lent))
 
 pub normalise-back : (object : List ℕ) (lists lists′ : Lists) (store store′ room room′ : List ℕ) (a : ℕ) → NormalisesC object lists lists′ store store′ room room′ a
     → outcomeIn a ≡ writeOutcome (normalAnswer (lentBy lists store room) (judge object))

@@ -2,7 +2,7 @@
 use mathlib.Core.Path.{_≡_}
 use mathlib.Core.List.{List}
 use Prim.Native.Nat.{ℕ}
-use lib.ListN.{length}
+use Rattle.octets.specs.Counts.{sizeOf}
 use Rattle.format.specs.Answers.{readOutcome, writeOutcome, sameOutcome}
 use Rattle.format.specs.Judge.{judge}
 use Rattle.format.specs.Calls.{Lists, places, readAnswer, ReadClaim, spanOf, treeGiven, writeAnswer, WriteClaim, lentBy, normalAnswer, NormaliseClaim}
@@ -17,8 +17,8 @@ pub record SpansC (object starts sizes : List ℕ) (number a : ℕ) : Type 0 whe
   pub answers : a ≡ packedSpan (spanOf object starts sizes number)
 
 pub record WritesC (n : ℕ) (lists : Lists) (lent before after : List ℕ) (a : ℕ) : Type 0 where
-  pub answers : a ≡ packedOutcome (writeOutcome (writeAnswer (length before) (treeGiven n lists lent)))
-  pub leaves : WriteClaim n lists lent before after (writeAnswer (length before) (treeGiven n lists lent))
+  pub answers : a ≡ packedOutcome (writeOutcome (writeAnswer (sizeOf before) (treeGiven n lists lent)))
+  pub leaves : WriteClaim n lists lent before after (writeAnswer (sizeOf before) (treeGiven n lists lent))
 
 pub record NormalisesC (object : List ℕ) (lists lists′ : Lists) (store store′ room room′ : List ℕ) (a : ℕ) : Type 0 where
   pub answers : a ≡ packedOutcome (writeOutcome (normalAnswer (lentBy lists store room) (judge object)))
