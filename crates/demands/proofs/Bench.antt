@@ -33,7 +33,7 @@ pub the-listing : Listing
 the-listing = listed-is
 
 -- what the table says of an object is its judgement
-table-refused : (object : List ℕ) (r : Refusal) → outcome true object ≡ refuses r → judge object ≡ refused r
+pub table-refused : (object : List ℕ) (r : Refusal) → outcome true object ≡ refuses r → judge object ≡ refused r
 unfolding outcome reported
 table-refused object r e = go (judge object) refl e
   where

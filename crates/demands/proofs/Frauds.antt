@@ -5,6 +5,7 @@ use mathlib.Core.List.{List, []}
 use Prim.Native.Nat.{_+_}
 use native.Mathlib.Omega.{arith}
 use lib.ListN.{getD}
+use Rattle.octets.specs.Counts.{asOctets}
 use Rattle.format.specs.declared.ReadAnswer.the-variants.{NotRead}
 use Rattle.format.specs.Answers.{refusal}
 use Rattle.format.specs.Meaning.{means}
@@ -43,7 +44,7 @@ input-back lists lists′ store store′ room room′ n c e = let g = bench-norm
 
 pub writes-nothing : WritesNothing
 writes-nothing n lists lent before after os c =
-    let d = delivered n lists lent before after os 0 c in
+    let d = delivered n lists lent before after os (asOctets 0) c in
     let m = has-meaning [] (means [] (d .tree)) (d .meant) in
     never (let p = m .1 in let q = empty-refused in cc)
 

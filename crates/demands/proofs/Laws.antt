@@ -49,22 +49,22 @@ module _ (lent : Lent) (t : Items) where
   pub suffices-fits : Suffices lent t → fitsLent lent t ≡ true
   unfolding fitsLent storedWithin roomy
   suffices-fits s =
-      let least : length (normalOf t) ≤ min (lent .room) 32_768 = le-min (s .room) (s .object) in
+      let least : length (normalOf t) ≤ min (lent .room .0) 32_768 = le-min (s .room) (s .object) in
       and-true (leb (count t) (lent .records)) _ (le-leb (count t) (lent .records) (s .records))
-      (and-true (leb (length (storeOf t)) (lent .store)) _ (le-leb (length (storeOf t)) (lent .store) (s .store)) (le-leb (length (normalOf t)) (min (lent .room) 32_768) least))
+      (and-true (leb (length (storeOf t)) (lent .store .0)) _ (le-leb (length (storeOf t)) (lent .store .0) (s .store)) (le-leb (length (normalOf t)) (min (lent .room .0) 32_768) least))
 
   pub fits-suffices : fitsLent lent t ≡ true → Suffices lent t
   unfolding fitsLent storedWithin roomy
   fits-suffices h =
       let a = leb (count t) (lent .records) in
-      let b = leb (length (storeOf t)) (lent .store) in
-      let c = leb (length (normalOf t)) (min (lent .room) 32_768) in
-      let least = leb-true (length (normalOf t)) (min (lent .room) 32_768) (and-right b c (and-right a (b && c) h)) in
+      let b = leb (length (storeOf t)) (lent .store .0) in
+      let c = leb (length (normalOf t)) (min (lent .room .0) 32_768) in
+      let least = leb-true (length (normalOf t)) (min (lent .room .0) 32_768) (and-right b c (and-right a (b && c) h)) in
       record {
         records = leb-true (count t) (lent .records) (and-left a (b && c) h);
-        store = leb-true (length (storeOf t)) (lent .store) (and-left b c (and-right a (b && c) h));
-        room = omega (arith, min-le-left (lent .room) 32_768);
-        object = omega (arith, min-le-right (lent .room) 32_768);
+        store = leb-true (length (storeOf t)) (lent .store .0) (and-left b c (and-right a (b && c) h));
+        room = omega (arith, min-le-left (lent .room .0) 32_768);
+        object = omega (arith, min-le-right (lent .room .0) 32_768);
       }
 
 -- a body that lies in octets is a part of them, in the words of format

@@ -10,6 +10,8 @@ use lib.Dec.{leb}
 use lib.ListN.{length, drop}
 use lib.Seq.{sets}
 use borrow.Author.Tests.{leb-true, leb-false, lt-leb}
+use Rattle.octets.specs.declared.counts.Octets.{Octets as OctetCount}
+use Rattle.octets.specs.Counts.{asOctets, sizeOf}
 use Rattle.octets.specs.Numbers.{among}
 use Rattle.octets.proofs.Lists.{sets-none}
 use Rattle.octets.proofs.Tests.{and-false}
@@ -92,13 +94,13 @@ write-ends n lists lent before after answer c =
     subst (λ x. Ends (OfCall (15 ∷ 16 ∷ [])) (after ≡ before) (writeOutcome x)) (sym (c .answers)) (go (treeGiven n lists lent) (c .leaves))
   where
     one : (t : Items) (b : Bool) → after ≡ sets before 0 (cond b (encode (means [] t)) [])
-        → Ends (OfCall (15 ∷ 16 ∷ [])) (after ≡ before) (writeOutcome (cond b (Octets (length (encode (means [] t)))) (NotWritten (refusal 15 0))))
+        → Ends (OfCall (15 ∷ 16 ∷ [])) (after ≡ before) (writeOutcome (cond b (Octets (sizeOf (encode (means [] t)))) (NotWritten (refusal 15 0))))
     one t true e = answered (length (encode (means [] t)))
     one t false e = refusedAt 15 0 (ofCall 15 refl) (e ∙ sets-none before 0)
 
-    go : (o : Option Items) → after ≡ sets before 0 (writeOctets (length before) o) → Ends (OfCall (15 ∷ 16 ∷ [])) (after ≡ before) (writeOutcome (writeAnswer (length before) o))
+    go : (o : Option Items) → after ≡ sets before 0 (writeOctets (sizeOf before) o) → Ends (OfCall (15 ∷ 16 ∷ [])) (after ≡ before) (writeOutcome (writeAnswer (sizeOf before) o))
     go none e = refusedAt 16 0 (ofCall 16 refl) (e ∙ sets-none before 0)
-    go (some t) e = one t (roomy (length before) (encode (means [] t))) e
+    go (some t) e = one t (roomy (sizeOf before) (encode (means [] t))) e
 
 -- nothing is handed out of an object with a refusal
 nothing-handed : {A : Type 0} (lent : Lent) (f : Items → List A) (j : Judged) (r : Refusal) → normalAnswer lent j ≡ NotWritten r → handed lent f j ≡ []
@@ -106,7 +108,7 @@ unfolding normalAnswer handed
 nothing-handed lent f (refused q) r h = refl
 nothing-handed lent f (accepted t) r h = go (fitsLent lent t) h
   where
-    go : (b : Bool) → cond b (Octets (length (normalOf t))) (misfit lent t) ≡ NotWritten r → cond b (f t) [] ≡ []
+    go : (b : Bool) → cond b (Octets (sizeOf (normalOf t))) (misfit lent t) ≡ NotWritten r → cond b (f t) [] ≡ []
     go true e = never (cc)
     go false e = refl
 
@@ -129,7 +131,7 @@ lack-told object lent t r (fifteen l s) = forCall 15 0 (ofCall 15 refl)
 data Normal (lent : Lent) : Judged → Type 0 where
   bad : {r : Refusal} → normalAnswer lent (refused r) ≡ NotWritten r → Normal lent (refused r)
   lacking : {t : Items} (r : Refusal) → normalAnswer lent (accepted t) ≡ NotWritten r → Lacks lent t r → Normal lent (accepted t)
-  good : {t : Items} → normalAnswer lent (accepted t) ≡ Octets (length (normalOf t)) → Suffices lent t → Normal lent (accepted t)
+  good : {t : Items} → normalAnswer lent (accepted t) ≡ Octets (sizeOf (normalOf t)) → Suffices lent t → Normal lent (accepted t)
 
 normal : (lent : Lent) (j : Judged) → Normal lent j
 unfolding normalAnswer
@@ -227,7 +229,7 @@ read-at-most-in-order object most before after answer c = read-order (judge obje
 pub read-records-in-order : ReadRecordsInOrder
 read-records-in-order object before after slice slice′ answer c = read-order (judge object) (min (length slice) (places before)) answer (λ r h. of-object object r h .most) (c .answers)
 
-module _ (n : ℕ) (lists : Lists) (lent : List ℕ) (room : ℕ) (answer : WriteAnswer) where
+module _ (n : ℕ) (lists : Lists) (lent : List ℕ) (room : OctetCount) (answer : WriteAnswer) where
   -- two trees of the same records are one
   one-given : (t u : Items) → treeGiven n lists lent ≡ some t → GivenTree n lists lent u → u ≡ t
   one-given t u h g = Option·some-injective u t (sym (tree-given n lists lent u g) ∙ h)
@@ -251,33 +253,33 @@ module _ (n : ℕ) (lists : Lists) (lent : List ℕ) (room : ℕ) (answer : Writ
             octets = λ k. ((λ q. never (cc)), (λ q. absurd (lost (q .0) (q .1))));
           }
 
-      no-room : (t : Items) → treeGiven n lists lent ≡ some t → min room 32_768 < size t → answer ≡ NotWritten (refusal 15 0) → WriteOrder n lists lent room answer
+      no-room : (t : Items) → treeGiven n lists lent ≡ some t → min (room .0) 32_768 < size t → answer ≡ NotWritten (refusal 15 0) → WriteOrder n lists lent room answer
       no-room t h l e = record {
         sixteen = ((λ q. absurd (apart (sym q ∙ e))), (λ q. absurd (q t (given-tree n lists lent t h))));
         fifteen = ((λ q. (t, given-tree n lists lent t h, l)), (λ q. e));
-        octets = λ k. ((λ q. never (cc)), (λ q. absurd (omega (arith, l, q .2, q .3, ap size (one-given t (q .0) h (q .1))))));
+        octets = λ k. ((λ q. never (cc)), (λ q. absurd (omega (arith, l, ap (λ m. m .0) (q .2), q .3, ap size (one-given t (q .0) h (q .1))))));
       }
 
-      written : (t : Items) → treeGiven n lists lent ≡ some t → size t ≤ min room 32_768 → answer ≡ Octets (size t) → WriteOrder n lists lent room answer
+      written : (t : Items) → treeGiven n lists lent ≡ some t → size t ≤ min (room .0) 32_768 → answer ≡ Octets (asOctets (size t)) → WriteOrder n lists lent room answer
       written t h l e = record {
         sixteen = ((λ q. never (cc)), (λ q. absurd (q t (given-tree n lists lent t h))));
         fifteen = ((λ q. never (cc)), (λ q. absurd (omega (arith, l, q .2, ap size (one-given t (q .0) h (q .1))))));
         octets = λ k. (
-          (λ q. let p : k ≡ size t = cc in (t, given-tree n lists lent t h, p, omega arith)),
-          (λ q. e ∙ ap Octets (ap size (sym (one-given t (q .0) h (q .1))) ∙ sym (q .2))),
+          (λ q. let p : k .0 ≡ size t = cc in (t, given-tree n lists lent t h, ap asOctets p, omega arith)),
+          (λ q. e ∙ ap Octets (ap (λ u. asOctets (size u)) (sym (one-given t (q .0) h (q .1))) ∙ sym (q .2))),
         );
       }
 
       go : (o : Option Items) → treeGiven n lists lent ≡ o → answer ≡ writeAnswer room o → WriteOrder n lists lent room answer
       go none h e = none-given h e
-      go (some t) h e = one (leb (size t) (min room 32_768)) refl e
+      go (some t) h e = one (leb (size t) (min (room .0) 32_768)) refl e
         where
-          one : (b : Bool) → leb (size t) (min room 32_768) ≡ b → answer ≡ cond b (Octets (size t)) (NotWritten (refusal 15 0)) → WriteOrder n lists lent room answer
-          one true q e = written t h (leb-true (size t) (min room 32_768) q) e
-          one false q e = no-room t h (leb-false (size t) (min room 32_768) q) e
+          one : (b : Bool) → leb (size t) (min (room .0) 32_768) ≡ b → answer ≡ cond b (Octets (asOctets (size t))) (NotWritten (refusal 15 0)) → WriteOrder n lists lent room answer
+          one true q e = written t h (leb-true (size t) (min (room .0) 32_768) q) e
+          one false q e = no-room t h (leb-false (size t) (min (room .0) 32_768) q) e
 
 pub write-in-order : WriteInOrder
-write-in-order n lists lent before after answer c = write-order n lists lent (length before) answer (c .answers)
+write-in-order n lists lent before after answer c = write-order n lists lent (sizeOf before) answer (c .answers)
 
 -- what is lacking has one number, 14 or 15, and nothing suffices then
 lack-one : (lent : Lent) (t : Items) (r s : Refusal) → Lacks lent t r → Lacks lent t s → r ≡ s
@@ -315,13 +317,13 @@ module _ (j : Judged) (lent : Lent) (answer : WriteAnswer) where
         octets = λ k. ((λ q. never (cc)), (λ q. let p : q .0 ≡ t = (let z = q .1 in cc) in absurd (lack-short lent t s l (subst (Suffices lent) p (q .3)))));
       }
 
-      fine : (t : Items) → j ≡ accepted t → Suffices lent t → answer ≡ Octets (length (normalOf t)) → NormaliseOrder j lent answer
+      fine : (t : Items) → j ≡ accepted t → Suffices lent t → answer ≡ Octets (sizeOf (normalOf t)) → NormaliseOrder j lent answer
       fine t h s e = record {
         ofObject = λ r m. ((λ q. never (cc)), (λ q. never (cc)));
         lacking = λ r m. ((λ q. never (cc)), (λ q. let p : q .0 ≡ t = (let z = q .1 in cc) in absurd (lack-short lent t r (subst (λ x. Lacks lent x r) p (q .2)) s)));
         octets = λ k. (
-          (λ q. let p : k ≡ length (normalOf t) = cc in (t, h, p, s)),
-          (λ q. let p : q .0 ≡ t = (let z = q .1 in cc) in e ∙ ap Octets (ap (λ x. length (normalOf x)) (sym p) ∙ sym (q .2))),
+          (λ q. let p : k .0 ≡ length (normalOf t) = cc in (t, h, ap asOctets p, s)),
+          (λ q. let p : q .0 ≡ t = (let z = q .1 in cc) in e ∙ ap Octets (ap (λ x. sizeOf (normalOf x)) (sym p) ∙ sym (q .2))),
         );
       }
 

@@ -1,6 +1,6 @@
 -- Only one answer: each claim gives an equation for the answer and one for each lent thing, and two things that equal a third are equal.
 use mathlib.Core.Path.{sym, _∙_}
-use Rattle.demands.specs.Only.{OneAnswer, OneRead, OneReadAtMost, OneReadRecords, OneWrite, OneNormalise, OneOctetsPut, OneMarks, OneWidths, OneIndex, OneExpand, OneValuePut, OneShowPut, OneReadC, OneSpanC, OneWriteC, OneNormaliseC, OneSameC}
+use Rattle.demands.specs.Only.{OneAnswer, OneRead, OneReadAtMost, OneReadRecords, OneWrite, OneNormalise, OneOctetsPut, OneMarks, OneWidths, OneShows, OneIndex, OneExpand, OneValuePut, OneShowPut, OneReadC, OneSpanC, OneWriteC, OneNormaliseC, OneSameC}
 use Rattle.text.proofs.Index.{one-index as index-alone}
 use Rattle.text.proofs.WeighLaws.{marks-one, widths-one}
 
@@ -39,6 +39,9 @@ one-marks octets one other c d = marks-one one other octets c d
 
 pub one-widths : OneWidths
 one-widths = widths-one
+
+pub one-shows : OneShows
+one-shows = widths-one
 
 pub one-index : OneIndex
 one-index = index-alone

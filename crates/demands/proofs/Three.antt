@@ -8,6 +8,8 @@ use Prim.Native.Nat.{ℕ}
 use native.Mathlib.Omega.{arith}
 use lib.ListN.{length, take, drop}
 use lib.Seq.{sets}
+use Rattle.octets.specs.declared.counts.Octets.{Octets as OctetCount}
+use Rattle.octets.specs.Counts.{asOctets}
 use Rattle.octets.specs.Numbers.{Octets}
 use Rattle.octets.proofs.Lists.{part-of-sets, drop-sets}
 use Rattle.format.specs.declared.WriteAnswer.the-variants.{Octets as Written}
@@ -31,28 +33,29 @@ use Rattle.demands.proofs.Laws.{never, suffices-fits, has-meaning, acce
 use Rattle.demands.proofs.One.{normalise-in-order}
 
 -- what a call of normalise that gives octets leaves in its room
-pub record Normalised (object : List ℕ) (lent : Lent) (room room′ : List ℕ) (n : ℕ) : Type 0 where
+pub record Normalised (object : List ℕ) (lent : Lent) (room room′ : List ℕ) (n : OctetCount) : Type 0 where
   pub tree : Items
   pub is : judge object ≡ accepted tree
-  pub octets : take n room′ ≡ normalOf tree
-  pub many : n ≡ length (normalOf tree)
+  pub octets : take (n .0) room′ ≡ normalOf tree
+  pub many : n .0 ≡ length (normalOf tree)
   pub suffices : Suffices lent tree
-  pub behind : drop n room′ ≡ drop n room
+  pub behind : drop (n .0) room′ ≡ drop (n .0) room
 
-pub normalised : (object : List ℕ) (lists lists′ : Lists) (store store′ room room′ : List ℕ) (n : ℕ) → NormaliseClaim object lists lists′ store store′ room room′ (Written n)
+pub normalised : (object : List ℕ) (lists lists′ : Lists) (store store′ room room′ : List ℕ) (n : OctetCount) → NormaliseClaim object lists lists′ store store′ room room′ (Written n)
     → Normalised object (lentBy lists store room) room room′ n
 unfolding handed
 normalised object lists lists′ store store′ room room′ n c =
     let f = normalise-in-order object lists lists′ store store′ room room′ (Written n) c .octets n .0 refl in
     let t = f .0 in
+    let many : n .0 ≡ length (normalOf t) = ap (λ m. m .0) (f .2) in
     let laid : room′ ≡ sets room 0 (normalOf t) = c .leavesRoom ∙ rw (f .1, suffices-fits (lentBy lists store room) t (f .3)) in
     record {
       tree = t;
       is = f .1;
-      octets = ap₂ take (f .2) laid ∙ part-of-sets room 0 (normalOf t) (omega (arith, f .3 .room));
-      many = f .2;
+      octets = ap₂ take many laid ∙ part-of-sets room 0 (normalOf t) (omega (arith, f .3 .room));
+      many = many;
       suffices = f .3;
-      behind = ap (drop n) laid ∙ drop-sets n room 0 (normalOf t) (omega (arith, f .2));
+      behind = ap (drop (n .0)) laid ∙ drop-sets (n .0) room 0 (normalOf t) (omega (arith, many));
     }
 
 pub same-normal-forms : SameNormalForms
@@ -67,17 +70,17 @@ same-normal-forms a b os ps listsA listsA′ storeA storeA′ roomA roomA′ n c
     )
 
 -- the octets of a normal form mean what the object means
-form-means : (object : List ℕ) → Octets object → (lent : Lent) (room room′ : List ℕ) (n : ℕ) (f : Normalised object lent room room′ n) → meaning (take n room′) ≡ some (meaningOf (f .tree))
+form-means : (object : List ℕ) → Octets object → (lent : Lent) (room room′ : List ℕ) (n : OctetCount) (f : Normalised object lent room room′ n) → meaning (take (n .0) room′) ≡ some (meaningOf (f .tree))
 form-means object os lent room room′ n f = ap meaning (f .octets) ∙ normal-means object os (meaningOf (f .tree)) (accepted-means object (f .tree) (f .is)) (f .suffices .object)
 
 pub normal-accepted : NormalAccepted
 normal-accepted object os lists lists′ store store′ room room′ n c =
     let f = normalised object lists lists′ store store′ room room′ n c in
     let e = form-means object os (lentBy lists store room) room room′ n f in
-    let m = has-meaning (take n room′) (meaningOf (f .tree)) e in
+    let m = has-meaning (take (n .0) room′) (meaningOf (f .tree)) e in
     record {
       again = m .0;
-      accepts = complete (take n room′) (m .0) (subst Octets (sym (f .octets)) (normal-octets object (f .tree) os (f .is) (f .suffices .object))) (m .1);
+      accepts = complete (take (n .0) room′) (m .0) (subst Octets (sym (f .octets)) (normal-octets object (f .tree) os (f .is) (f .suffices .object))) (m .1);
       means-same = e ∙ sym (accepted-means object (f .tree) (f .is));
       behind = f .behind;
     }
@@ -93,32 +96,32 @@ normal-takes-no-more object os t h l =
     record { again = m .0; accepts = m .1; records = omega arith; store = omega arith; octets = ap encode (m .2) }
 
 -- the tree of a normal form has that normal form
-form-again : (object : List ℕ) → Octets object → (lent : Lent) (room room′ : List ℕ) (n : ℕ) → Normalised object lent room room′ n → (u : Items) → judge (take n room′) ≡ accepted u
-    → normalOf u ≡ take n room′
+form-again : (object : List ℕ) → Octets object → (lent : Lent) (room room′ : List ℕ) (n : OctetCount) → Normalised object lent room room′ n → (u : Items) → judge (take (n .0) room′) ≡ accepted u
+    → normalOf u ≡ take (n .0) room′
 form-again object os lent room room′ n f u h =
     let e = form-means object os lent room room′ n f in
-    ap encode (Option·some-injective (meaningOf u) (meaningOf (f .tree)) (sym (accepted-means (take n room′) u h) ∙ e)) ∙ sym (f .octets)
+    ap encode (Option·some-injective (meaningOf u) (meaningOf (f .tree)) (sym (accepted-means (take (n .0) room′) u h) ∙ e)) ∙ sym (f .octets)
 
 pub normal-again-if-any : NormalAgainIfAny
 normal-again-if-any object os lists lists′ store store′ room room′ n c again again′ store₂ store₂′ room₂ room₂′ m d =
     let f = normalised object lists lists′ store store′ room room′ n c in
-    let g = normalised (take n room′) again again′ store₂ store₂′ room₂ room₂′ m d in
-    let same : normalOf (g .tree) ≡ take n room′ = form-again object os (lentBy lists store room) room room′ n f (g .tree) (g .is) in
-    (g .many ∙ ap length (same ∙ f .octets) ∙ sym (f .many), g .octets ∙ same)
+    let g = normalised (take (n .0) room′) again again′ store₂ store₂′ room₂ room₂′ m d in
+    let same : normalOf (g .tree) ≡ take (n .0) room′ = form-again object os (lentBy lists store room) room room′ n f (g .tree) (g .is) in
+    (ap asOctets (g .many ∙ ap length (same ∙ f .octets) ∙ sym (f .many)), g .octets ∙ same)
 
 pub normal-again : NormalAgain
 normal-again object os lists lists′ store store′ room room′ n c again again′ store₂ store₂′ room₂ room₂′ answer d places-more store-more room-enough =
     let f = normalised object lists lists′ store store′ room room′ n c in
     let u = normal-takes-no-more object os (f .tree) (f .is) (f .suffices .object) in
-    let long : n ≡ length (normalOf (u .again)) = f .many ∙ ap length (sym (u .octets)) in
+    let long : n .0 ≡ length (normalOf (u .again)) = f .many ∙ ap length (sym (u .octets)) in
     let enough : Suffices (lentBy again store₂ room₂) (u .again) = record {
       records = omega (arith, u .records, f .suffices .records);
       store = omega (arith, u .store, f .suffices .store);
       room = omega arith;
       object = omega (arith, f .many, f .suffices .object);
     } in
-    let written : answer ≡ Written n = normalise-in-order (take n room′) again again′ store₂ store₂′ room₂ room₂′ answer d .octets n .1 (u .again, ap judge (f .octets) ∙ u .accepts, long, enough) in
-    let given = subst (NormaliseClaim (take n room′) again again′ store₂ store₂′ room₂ room₂′) written d in
+    let written : answer ≡ Written n = normalise-in-order (take (n .0) room′) again again′ store₂ store₂′ room₂ room₂′ answer d .octets n .1 (u .again, ap judge (f .octets) ∙ u .accepts, ap asOctets long, enough) in
+    let given = subst (NormaliseClaim (take (n .0) room′) again again′ store₂ store₂′ room₂ room₂′) written d in
     (written, normal-again-if-any object os lists lists′ store store′ room room′ n c again again′ store₂ store₂′ room₂ room₂′ n given .1)
 
 -- ---- comparing

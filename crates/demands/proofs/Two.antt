@@ -6,6 +6,7 @@ use native.Mathlib.Nat.{zero-add, min-le-right, le-min}
 use native.Mathlib.Omega.{arith}
 use lib.ListN.{length, take, drop, getD}
 use borrow.Author.Tests.{le-leb}
+use Rattle.octets.specs.Counts.{sizeOf}
 use Rattle.octets.proofs.Numbers.{octets-take}
 use Rattle.format.specs.declared.Refusal.{Refusal}
 use Rattle.format.specs.declared.Counts.{Counts}
@@ -133,17 +134,17 @@ slice-handed-out object os before after slice slice′ n c t a =
 
 pub written-reads-back : WrittenReadsBack
 written-reads-back n lists lent before after answer os out c t g room object =
-    let k = length (encode (means [] t)) in
+    let k = sizeOf (encode (means [] t)) in
     let e : answer ≡ Written k = write-in-order n lists lent before after answer c .octets k .1 (t, g, refl, le-min room object) in
     let d = delivered n lists lent before after os k (subst (WriteClaim n lists lent before after) e c) in
     let same : d .tree ≡ t = (let p = d .given in let q = tree-given n lists lent t g in cc) in
-    let m = has-meaning (take k after) (means [] (d .tree)) (d .meant) in (
+    let m = has-meaning (take (k .0) after) (means [] (d .tree)) (d .meant) in (
       k,
       e,
       record {
         octets = d .octets ∙ ap (λ x. encode (means [] x)) same;
         again = m .0;
-        accepts = complete (take k after) (m .0) (octets-take k after out) (m .1);
+        accepts = complete (take (k .0) after) (m .0) (octets-take (k .0) after out) (m .1);
         means-same = m .2 ∙ ap (means []) same;
         behind = d .rest;
       },

@@ -4,6 +4,7 @@ use mathlib.Core.Bool.{true}
 use mathlib.Core.List.{List, [], _∷_, map}
 use Prim.Native.Nat.{ℕ, _≤_}
 use lib.ListN.{take}
+use Rattle.octets.specs.declared.counts.Octets.{Octets as OctetCount}
 use Rattle.format.specs.declared.Record.{Record}
 use Rattle.format.specs.declared.Refusal.{Refusal}
 use Rattle.format.specs.declared.ReadAnswer.{ReadAnswer}
@@ -20,7 +21,8 @@ use Rattle.format.specs.Bench.Outcome.{refuses, normally}
 abbrev pub BenchTable : Type 0
 BenchTable = map (λ c. outcome (c .0) (c .1)) cases ≡ map (λ c. c .2) cases
 
--- the slips: a name judged before its tokens are replaced, a child held against the object's end, a late 12, attributes in falling order
+-- the slips: a name judged before its tokens are replaced, a child held against the object's end, a late 12, attributes in falling order, and names counted in
+-- octets
 abbrev pub Slips : Type 0
 Slips = map (λ c. outcome true (c .0)) slips ≡ map (λ c. c .1) slips
 
@@ -46,8 +48,8 @@ BenchRead = (object : List ℕ) (before after : Lists) (answer : ReadAnswer) →
 -- the octets of normalise are those that the table says
 abbrev pub BenchNormalise : Type 0
 BenchNormalise =
-    (object : List ℕ) (lists lists′ : Lists) (store store′ room room′ : List ℕ) (n : ℕ) → NormaliseClaim object lists lists′ store store′ room room′ (Written n)
-    → (k : ℕ) (o : List ℕ) → outcome true object ≡ normally k o → take n room′ ≡ o
+    (object : List ℕ) (lists lists′ : Lists) (store store′ room room′ : List ℕ) (n : OctetCount) → NormaliseClaim object lists lists′ store store′ room room′ (Written n)
+    → (k : ℕ) (o : List ℕ) → outcome true object ≡ normally k o → take (n .0) room′ ≡ o
 
 -- read with two places or more puts the listing's records into the lists
 abbrev pub ListingRead : Type 0

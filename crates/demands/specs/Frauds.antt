@@ -4,6 +4,8 @@ use mathlib.Core.Path.{_≡_}
 use mathlib.Core.List.{List, [], _∷_}
 use Prim.Native.Nat.{ℕ, _≤_, _<_}
 use lib.ListN.{take, getD}
+use Rattle.octets.specs.declared.counts.Octets.{Octets as OctetCount}
+use Rattle.octets.specs.Counts.{asOctets}
 use Rattle.octets.specs.Numbers.{Octets}
 use Rattle.format.specs.declared.Record.{Record}
 use Rattle.format.specs.declared.Refusal.{Refusal}
@@ -27,18 +29,18 @@ RefusesAll = (before after : Lists) (r : Refusal) → 1 ≤ places before → Re
 -- a normaliser with one fixed output: P9 and P10 have two
 abbrev pub OneOutput : Type 0
 OneOutput =
-    (listsA listsA′ : Lists) (storeA storeA′ roomA roomA′ : List ℕ) (n : ℕ) → NormaliseClaim p9 listsA listsA′ storeA storeA′ roomA roomA′ (Written n)
-    → (listsB listsB′ : Lists) (storeB storeB′ roomB roomB′ : List ℕ) (m : ℕ) → NormaliseClaim p10 listsB listsB′ storeB storeB′ roomB roomB′ (Written m)
-    → take n roomA′ ≡ take m roomB′ → ⊥
+    (listsA listsA′ : Lists) (storeA storeA′ roomA roomA′ : List ℕ) (n : OctetCount) → NormaliseClaim p9 listsA listsA′ storeA storeA′ roomA roomA′ (Written n)
+    → (listsB listsB′ : Lists) (storeB storeB′ roomB roomB′ : List ℕ) (m : OctetCount) → NormaliseClaim p10 listsB listsB′ storeB storeB′ roomB roomB′ (Written m)
+    → take (n .0) roomA′ ≡ take (m .0) roomB′ → ⊥
 
 -- one that hands its input back: P10 has another normal form
 abbrev pub InputBack : Type 0
 InputBack =
-    (lists lists′ : Lists) (store store′ room room′ : List ℕ) (n : ℕ) → NormaliseClaim p10 lists lists′ store store′ room room′ (Written n) → take n room′ ≡ p10 → ⊥
+    (lists lists′ : Lists) (store store′ room room′ : List ℕ) (n : OctetCount) → NormaliseClaim p10 lists lists′ store store′ room room′ (Written n) → take (n .0) room′ ≡ p10 → ⊥
 
 -- a writer that writes nothing
 abbrev pub WritesNothing : Type 0
-WritesNothing = (n : ℕ) (lists : Lists) (lent before after : List ℕ) → Octets lent → WriteClaim n lists lent before after (Written 0) → ⊥
+WritesNothing = (n : ℕ) (lists : Lists) (lent before after : List ℕ) → Octets lent → WriteClaim n lists lent before after (Written (asOctets 0)) → ⊥
 
 -- a reader that reads the first child and invents the rest: a record that isn't the one of its number in the object's tree
 abbrev pub InventsRecord : Type 0

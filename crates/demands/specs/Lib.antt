@@ -4,3 +4,4 @@ pub mod Three
 pub mod Only
 pub mod Bench
 pub mod Frauds
+pub mod Requests

@@ -9,6 +9,8 @@ use mathlib.Core.List.{List, [], _∷_}
 use Prim.Native.Nat.{ℕ, _+_, _≤_, _<_, min}
 use lib.ListN.{length, take, drop}
 use lib.Seq.{sets}
+use Rattle.octets.specs.declared.counts.Octets.{Octets as OctetCount}
+use Rattle.octets.specs.Counts.{sizeOf}
 use Rattle.octets.specs.Numbers.{among}
 use Rattle.octets.specs.declared.Put.{Put as OctetsPut}
 use Rattle.octets.specs.Calls.{Puts as OctetsPuts}
@@ -154,20 +156,20 @@ pub record GivenTree (n : ℕ) (lists : Lists) (lent : List ℕ) (t : Items) : T
   pub rules : ruled atTop t ≡ true
 
 -- write: 16 exactly when the records aren't a well-formed tree; 15 exactly when they are and its normal form is above the room or above 32,768; else its octets
-pub record WriteOrder (n : ℕ) (lists : Lists) (lent : List ℕ) (room : ℕ) (answer : WriteAnswer) : Type 0 where
+pub record WriteOrder (n : ℕ) (lists : Lists) (lent : List ℕ) (room : OctetCount) (answer : WriteAnswer) : Type 0 where
   pub sixteen : (answer ≡ NotWritten (refusal 16 0)) ↔ ((t : Items) → GivenTree n lists lent t → ⊥)
-  pub fifteen : (answer ≡ NotWritten (refusal 15 0)) ↔ ((t : Items) × GivenTree n lists lent t × (min room 32_768 < length (encode (means [] t))))
-  pub octets : (k : ℕ) → (answer ≡ Octets k) ↔ ((t : Items) × GivenTree n lists lent t × (k ≡ length (encode (means [] t))) × (k ≤ min room 32_768))
+  pub fifteen : (answer ≡ NotWritten (refusal 15 0)) ↔ ((t : Items) × GivenTree n lists lent t × (min (room .0) 32_768 < length (encode (means [] t))))
+  pub octets : (k : OctetCount) → (answer ≡ Octets k) ↔ ((t : Items) × GivenTree n lists lent t × (k ≡ sizeOf (encode (means [] t))) × (k .0 ≤ min (room .0) 32_768))
 
 abbrev pub WriteInOrder : Type 0
 WriteInOrder =
-    (n : ℕ) (lists : Lists) (lent before after : List ℕ) (answer : WriteAnswer) → WriteClaim n lists lent before after answer → WriteOrder n lists lent (length before) answer
+    (n : ℕ) (lists : Lists) (lent before after : List ℕ) (answer : WriteAnswer) → WriteClaim n lists lent before after answer → WriteOrder n lists lent (sizeOf before) answer
 
 -- what is lent suffices for an accepted object: places for its records, a store for its texts and values, a room for its normal form, which isn't above 32,768
 pub record Suffices (lent : Lent) (t : Items) : Type 0 where
   pub records : count t ≤ lent .records
-  pub store : length (storeOf t) ≤ lent .store
-  pub room : length (normalOf t) ≤ lent .room
+  pub store : length (storeOf t) ≤ lent .store .0
+  pub room : length (normalOf t) ≤ lent .room .0
   pub object : length (normalOf t) ≤ 32_768
 
 -- else 14 where the places don't suffice, and 15 where they do and something else doesn't
@@ -179,7 +181,7 @@ pub data Lacks (lent : Lent) (t : Items) : Refusal → Type 0 where
 pub record NormaliseOrder (judged : Judged) (lent : Lent) (answer : WriteAnswer) : Type 0 where
   pub ofObject : (r : Refusal) → r .number ≤ 13 → (answer ≡ NotWritten r) ↔ (judged ≡ refused r)
   pub lacking : (r : Refusal) → 14 ≤ r .number → (answer ≡ NotWritten r) ↔ ((t : Items) × (judged ≡ accepted t) × Lacks lent t r)
-  pub octets : (k : ℕ) → (answer ≡ Octets k) ↔ ((t : Items) × (judged ≡ accepted t) × (k ≡ length (normalOf t)) × Suffices lent t)
+  pub octets : (k : OctetCount) → (answer ≡ Octets k) ↔ ((t : Items) × (judged ≡ accepted t) × (k ≡ sizeOf (normalOf t)) × Suffices lent t)
 
 abbrev pub NormaliseInOrder : Type 0
 NormaliseInOrder =

@@ -10,7 +10,7 @@ use Rattle.text.specs.Tokens.{Entries}
 use Rattle.text.specs.declared.Expanded.{Expanded}
 use Rattle.text.specs.Calls.{ExpandClaim}
 use Rattle.text.specs.Index.{Indexes}
-use Rattle.text.specs.Weighing.{Marks, Widths}
+use Rattle.text.specs.Weighing.{Marks, Widths, Shows}
 use Rattle.values.specs.declared.Put.{Put as ValuesPut}
 use Rattle.values.specs.Calls.{Puts as ValuesPuts}
 use Rattle.format.specs.declared.Record.{Record}
@@ -80,6 +80,10 @@ OneMarks = (octets : List ℕ) (one other : ℕ) → Marks one octets → Marks 
 -- widths_of: an equation for each of the 32 places
 abbrev pub OneWidths : Type 0
 OneWidths = (entries : Entries) (one other : List ℕ) → Widths 32 entries one → Widths 32 entries other → one ≡ other
+
+-- characters_of: likewise
+abbrev pub OneShows : Type 0
+OneShows = (entries : Entries) (one other : List ℕ) → Shows 32 entries one → Shows 32 entries other → one ≡ other
 
 -- index_of
 abbrev pub OneIndex : Type 0

@@ -11,6 +11,7 @@ use mathlib.Core.Option.{some}
 use mathlib.Core.List.{List}
 use Prim.Native.Nat.{ℕ, _≤_}
 use lib.ListN.{length, take, drop}
+use Rattle.octets.specs.declared.counts.Octets.{Octets as OctetCount}
 use Rattle.octets.specs.Numbers.{Octets}
 use Rattle.format.specs.declared.WriteAnswer.{WriteAnswer}
 use Rattle.format.specs.declared.WriteAnswer.the-variants.{Octets as Written}
@@ -29,20 +30,20 @@ use Rattle.grammar.specs.Grammar.{Accepts}
 abbrev pub SameNormalForms : Type 0
 SameNormalForms =
     (a b : List ℕ) → Octets a → Octets b
-    → (listsA listsA′ : Lists) (storeA storeA′ roomA roomA′ : List ℕ) (n : ℕ) → NormaliseClaim a listsA listsA′ storeA storeA′ roomA roomA′ (Written n)
-    → (listsB listsB′ : Lists) (storeB storeB′ roomB roomB′ : List ℕ) (m : ℕ) → NormaliseClaim b listsB listsB′ storeB storeB′ roomB roomB′ (Written m)
-    → (take n roomA′ ≡ take m roomB′) ↔ (meaning a ≡ meaning b)
+    → (listsA listsA′ : Lists) (storeA storeA′ roomA roomA′ : List ℕ) (n : OctetCount) → NormaliseClaim a listsA listsA′ storeA storeA′ roomA roomA′ (Written n)
+    → (listsB listsB′ : Lists) (storeB storeB′ roomB roomB′ : List ℕ) (m : OctetCount) → NormaliseClaim b listsB listsB′ storeB storeB′ roomB roomB′ (Written m)
+    → (take (n .0) roomA′ ≡ take (m .0) roomB′) ↔ (meaning a ≡ meaning b)
 
 -- a normal form is accepted and means what its source meant; behind it the room is as before
-pub record NormalForm (object room room′ : List ℕ) (n : ℕ) : Type 0 where
+pub record NormalForm (object room room′ : List ℕ) (n : OctetCount) : Type 0 where
   pub again : Items
-  pub accepts : Accepts (take n room′) again
-  pub means-same : meaning (take n room′) ≡ meaning object
-  pub behind : drop n room′ ≡ drop n room
+  pub accepts : Accepts (take (n .0) room′) again
+  pub means-same : meaning (take (n .0) room′) ≡ meaning object
+  pub behind : drop (n .0) room′ ≡ drop (n .0) room
 
 abbrev pub NormalAccepted : Type 0
 NormalAccepted =
-    (object : List ℕ) → Octets object → (lists lists′ : Lists) (store store′ room room′ : List ℕ) (n : ℕ)
+    (object : List ℕ) → Octets object → (lists lists′ : Lists) (store store′ room room′ : List ℕ) (n : OctetCount)
     → NormaliseClaim object lists lists′ store store′ room room′ (Written n) → NormalForm object room room′ n
 
 -- the normal form of an accepted object with a tree, taken as an object: it is accepted, takes no more places and no more of a store than its source, and is its
@@ -62,18 +63,18 @@ NormalTakesNoMore = (object : List ℕ) → Octets object → (t : Items) → ju
 abbrev pub NormalAgain : Type 0
 NormalAgain =
     (object : List ℕ) → Octets object
-    → (lists lists′ : Lists) (store store′ room room′ : List ℕ) (n : ℕ) → NormaliseClaim object lists lists′ store store′ room room′ (Written n)
-    → (again again′ : Lists) (store₂ store₂′ room₂ room₂′ : List ℕ) (answer : WriteAnswer) → NormaliseClaim (take n room′) again again′ store₂ store₂′ room₂ room₂′ answer
-    → places lists ≤ places again → length store ≤ length store₂ → n ≤ length room₂
-    → (answer ≡ Written n) × (take n room₂′ ≡ take n room′)
+    → (lists lists′ : Lists) (store store′ room room′ : List ℕ) (n : OctetCount) → NormaliseClaim object lists lists′ store store′ room room′ (Written n)
+    → (again again′ : Lists) (store₂ store₂′ room₂ room₂′ : List ℕ) (answer : WriteAnswer) → NormaliseClaim (take (n .0) room′) again again′ store₂ store₂′ room₂ room₂′ answer
+    → places lists ≤ places again → length store ≤ length store₂ → n .0 ≤ length room₂
+    → (answer ≡ Written n) × (take (n .0) room₂′ ≡ take (n .0) room′)
 
 -- and whatever is lent to the second call, its octets are the same wherever it gives any
 abbrev pub NormalAgainIfAny : Type 0
 NormalAgainIfAny =
     (object : List ℕ) → Octets object
-    → (lists lists′ : Lists) (store store′ room room′ : List ℕ) (n : ℕ) → NormaliseClaim object lists lists′ store store′ room room′ (Written n)
-    → (again again′ : Lists) (store₂ store₂′ room₂ room₂′ : List ℕ) (m : ℕ) → NormaliseClaim (take n room′) again again′ store₂ store₂′ room₂ room₂′ (Written m)
-    → (m ≡ n) × (take m room₂′ ≡ take n room′)
+    → (lists lists′ : Lists) (store store′ room room′ : List ℕ) (n : OctetCount) → NormaliseClaim object lists lists′ store store′ room room′ (Written n)
+    → (again again′ : Lists) (store₂ store₂′ room₂ room₂′ : List ℕ) (m : OctetCount) → NormaliseClaim (take (n .0) room′) again again′ store₂ store₂′ room₂ room₂′ (Written m)
+    → (m ≡ n) × (take (m .0) room₂′ ≡ take (n .0) room′)
 
 -- two accepted objects
 pub record BothAccepted (a b : List ℕ) : Type 0 where

@@ -8,6 +8,7 @@ use mathlib.Core.Logic.{_↔_}
 use mathlib.Core.List.{List, [], _++_}
 use Prim.Native.Nat.{ℕ, suc, _≤_, _<_}
 use lib.ListN.{length, take, drop, getD}
+use Rattle.octets.specs.declared.counts.Octets.{Octets as OctetCount}
 use Rattle.octets.specs.Numbers.{Octets}
 use Rattle.format.specs.declared.Record.{Record}
 use Rattle.format.specs.declared.Refusal.{Refusal}
@@ -83,15 +84,15 @@ SliceHandedOut =
 
 -- k octets at the front of the room are the normal form of a tree; read, they are an object of the grammar that means what the tree means; behind them the room is
 -- as before
-pub record ReadsBack (t : Items) (before after : List ℕ) (k : ℕ) : Type 0 where
-  pub octets : take k after ≡ encode (means [] t)
+pub record ReadsBack (t : Items) (before after : List ℕ) (k : OctetCount) : Type 0 where
+  pub octets : take (k .0) after ≡ encode (means [] t)
   pub again : Items
-  pub accepts : Accepts (take k after) again
+  pub accepts : Accepts (take (k .0) after) again
   pub means-same : meaningOf again ≡ means [] t
-  pub behind : drop k after ≡ drop k before
+  pub behind : drop (k .0) after ≡ drop (k .0) before
 
 abbrev pub WrittenReadsBack : Type 0
 WrittenReadsBack =
     (n : ℕ) (lists : Lists) (lent before after : List ℕ) (answer : WriteAnswer) → Octets lent → Octets after → WriteClaim n lists lent before after answer
     → (t : Items) → GivenTree n lists lent t → length (encode (means [] t)) ≤ length before → length (encode (means [] t)) ≤ 32_768
-    → (k : ℕ) × (answer ≡ Written k) × ReadsBack t before after k
+    → (k : OctetCount) × (answer ≡ Written k) × ReadsBack t before after k

@@ -1,0 +1,43 @@
+-- The cases that change requests name, as what the calls answer.
+use mathlib.Core.Path.{_≡_}
+use mathlib.Core.List.{List, [], _∷_}
+use Prim.Native.Nat.{ℕ, _+_, _*_, _≤_}
+use lib.ListN.{take}
+use Rattle.octets.specs.declared.counts.Octets.{Octets as OctetCount}
+use Rattle.format.specs.declared.ReadAnswer.{ReadAnswer}
+use Rattle.format.specs.declared.ReadAnswer.the-variants.{Records, NotRead}
+use Rattle.format.specs.declared.WriteAnswer.{WriteAnswer}
+use Rattle.format.specs.declared.WriteAnswer.the-variants.{Octets as Written, NotWritten}
+use Rattle.format.specs.Answers.{refusal}
+use Rattle.format.specs.Calls.{Lists, places, ReadClaim, WriteClaim, NormaliseClaim}
+use Rattle.format.specs.Bench.{accented}
+
+-- 2026-01: shown text is counted in characters. A top with a short name of so many letters of two octets each, as an object
+abbrev pub named : ℕ → List ℕ
+named n = 0x03 ∷ (2 * n + 4) ∷ 0x10 ∷ (2 * n + 2) ∷ 0x01 ∷ (2 * n) ∷ accented n
+
+-- and as records for the writer, over the octets of that name
+abbrev pub namedRecords : ℕ → Lists
+namedRecords n = record {
+  tags = 0x03 ∷ 0x10 ∷ 0x01 ∷ [];
+  kinds = 0 ∷ 0 ∷ 2 ∷ [];
+  depths = 1 ∷ 2 ∷ 3 ∷ [];
+  parents = 0 ∷ 0 ∷ 1 ∷ [];
+  starts = 0 ∷ 0 ∷ 0 ∷ [];
+  sizes = 0 ∷ 0 ∷ (2 * n) ∷ [];
+}
+
+-- eight pass: read gives the three records where there are places, normalise gives these octets again, and write doesn't find the records ill-formed
+pub record EightPass : Type 0 where
+  pub read : (before after : Lists) (answer : ReadAnswer) → ReadClaim (named 8) before after answer → 3 ≤ places before → answer ≡ Records (record { records = 3 })
+  pub normalised :
+      (lists lists′ : Lists) (store store′ room room′ : List ℕ) (n : OctetCount) → NormaliseClaim (named 8) lists lists′ store store′ room room′ (Written n) → take (n .0) room′ ≡ named 8
+  pub written : (before after : List ℕ) → WriteClaim 3 (namedRecords 8) (accented 8) before after (NotWritten (refusal 16 0)) → ⊥
+
+-- nine fail: 13 at the name's CDATA, and 16 of its records, whatever is lent
+pub record NineFail : Type 0 where
+  pub read : (before after : Lists) (answer : ReadAnswer) → ReadClaim (named 9) before after answer → answer ≡ NotRead (refusal 13 4)
+  pub normalised :
+      (lists lists′ : Lists) (store store′ room room′ : List ℕ) (answer : WriteAnswer) → NormaliseClaim (named 9) lists lists′ store store′ room room′ answer
+      → answer ≡ NotWritten (refusal 13 4)
+  pub written : (before after : List ℕ) (answer : WriteAnswer) → WriteClaim 3 (namedRecords 9) (accented 9) before after answer → answer ≡ NotWritten (refusal 16 0)
