@@ -1,5 +1,5 @@
 -- The ways through the program's functions that aren't arithmetic alone: where octets first differ, and a normal form within its room.
-use mathlib.Core.Path.{_≡_, refl, ap}
+use mathlib.Core.Path.{_≡_, refl}
 use mathlib.Core.Bool.{false}
 use mathlib.Core.List.{List}
 use Prim.Native.Nat.{ℕ, suc, _+_, _≤_, _<_}
@@ -12,13 +12,13 @@ use borrow.Author.Tests.{eq-eqb, ne-eqb}
 use Rattle.octets.proofs.Lists.{drop-next}
 use Rattle.io.specs.Counts.{Counts}
 use Rattle.io.proofs.Counting.{counts}
-use Rattle.format.specs.declared.Outcome.{Outcome}
 use Rattle.format.specs.declared.WriteAnswer.{WriteAnswer}
 use Rattle.format.specs.declared.WriteAnswer.the-variants.{Octets, NotWritten}
 use Rattle.format.specs.Answers.{writeOutcome}
 use Rattle.format.specs.Calls.{Lists, NormaliseClaim}
 use Rattle.writer.proofs.Normalised.{written-inside}
 use Rattle.spi.specs.Common.{common}
+use Rattle.spi.specs.declared.objects.Made.{Made}
 
 -- ---- octets compared
 
@@ -62,10 +62,10 @@ pub ruleset shared-ways = (shared-begin, shared-first, shared-second, shared-dif
 
 -- what is handed out lies in the room
 pub normal-within : (o : List ℕ) (l l′ : Lists) (store store′ room room′ : List ℕ) (answer : WriteAnswer) → NormaliseClaim o l l′ store store′ room room′ answer
-    → length room′ ≡ length room → (r : Outcome) → r ≡ writeOutcome answer → Counts (r .count) room′
+    → length room′ ≡ length room → (r : Made) → r .size .0 ≡ writeOutcome answer .count → Counts (r .size .0) room′
 normal-within o l l′ store store′ room room′ (Octets n) c e r q =
-    counts (r .count) room′ (omega (arith, ap (λ x. x .count) q, written-inside o l l′ store store′ room room′ (Octets n) c n refl))
-normal-within o l l′ store store′ room room′ (NotWritten r₁) c e r q = counts (r .count) room′ (omega (arith, ap (λ x. x .count) q))
+    counts (r .size .0) room′ (omega (arith, q, written-inside o l l′ store store′ room room′ (Octets n) c n refl))
+normal-within o l l′ store store′ room room′ (NotWritten r₁) c e r q = counts (r .size .0) room′ (omega (arith, q))
 
 -- ---- a number that isn't negative
 

@@ -10,6 +10,7 @@ use crate::status::GOOD;
 use crate::status::worse;
 use crate::words::shared;
 use format::Outcome;
+use octets::Octets;
 
 fn say_difference(a: &[u8], b: &[u8]) {
     say(b"the normal forms first differ at ");
@@ -36,14 +37,14 @@ fn report(
     } else {
         say(b"different\n")
     }
-    say_sizes(first, a.len(), first_records, made_a);
-    say_sizes(second, b.len(), second_records, made_b);
+    say_sizes(first, Octets(a.len()), first_records, made_a);
+    say_sizes(second, Octets(b.len()), second_records, made_b);
     if same {
         return GOOD;
     }
     if (made_a.number == 0) & (made_b.number == 0) {
-        let n = made_a.count;
-        let m = made_b.count;
+        let n = made_a.size.0;
+        let m = made_b.size.0;
         say_difference(&room_a[..n], &room_b[..m]);
     }
     BAD

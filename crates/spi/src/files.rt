@@ -1,5 +1,6 @@
 // Files read and written whole. What fails is said on standard error, in the system's words, just after it failed.
 use crate::lines::end_of;
+use octets::Octets;
 ghost use Prim.Native.Nat.{_+_, _≤_};
 ghost use lib.ListN.{length};
 ghost use Rattle.io.specs.Counts.{Counts};
@@ -10,31 +11,31 @@ const LONGEST: usize = 4_000;
 // How many octets were read, where nothing failed.
 struct Got {
     whole: bool,
-    size: usize,
+    size: Octets,
 }
 
-// An argument and the file that it names.
+// How many octets an argument has, and the file that it names.
 pub struct Named {
     pub whole: bool,
-    pub name: usize,
-    pub size: usize,
+    pub name: Octets,
+    pub size: Octets,
 }
 
 fn read_some(fd: i32, buf: &mut [u8], at: usize) -> Got
     requires { ⌜ at ≤ length (now buf) ⌝ }
-    ensures { λ r. ⌜ at + r .size ≤ length (now (buf .exit)) ⌝ }
+    ensures { λ r. ⌜ at + r .size .0 ≤ length (now (buf .exit)) ⌝ }
 {
     let part = &mut buf[at..];
     let got = libc::read(fd, part);
     Got {
         whole: got >= 0,
-        size: io::count(got, part),
+        size: Octets(io::count(got, part)),
     }
 }
 
 // Reads until the buffer is full or the file ends.
 fn read_all(fd: i32, path: &[u8], buf: &mut [u8]) -> Got
-    ensures { λ r. ⌜ Counts (r .size) (now (buf .exit)) ⌝ }
+    ensures { λ r. ⌜ Counts (r .size .0) (now (buf .exit)) ⌝ }
 {
     let mut to: usize = 0;
     while to < buf.len() {
@@ -43,32 +44,32 @@ fn read_all(fd: i32, path: &[u8], buf: &mut [u8]) -> Got
             os::fail(path);
             return Got {
                 whole: false,
-                size: 0,
+                size: Octets(0),
             };
         }
-        if more.size == 0 {
+        if more.size.0 == 0 {
             return Got {
                 whole: true,
-                size: to,
+                size: Octets(to),
             };
         }
-        to = to + more.size;
+        to = to + more.size.0;
     }
     Got {
         whole: true,
-        size: to,
+        size: Octets(to),
     }
 }
 
 fn load(path: &[u8], buf: &mut [u8]) -> Got
-    ensures { λ r. ⌜ Counts (r .size) (now (buf .exit)) ⌝ }
+    ensures { λ r. ⌜ Counts (r .size .0) (now (buf .exit)) ⌝ }
 {
     let fd = os::open_read(path);
     if fd < 0 {
         os::fail(path);
         return Got {
             whole: false,
-            size: 0,
+            size: Octets(0),
         };
     }
     let got = read_all(fd, path, buf);
@@ -77,23 +78,24 @@ fn load(path: &[u8], buf: &mut [u8]) -> Got
 }
 
 pub fn load_argument(i: usize, path: &mut [u8], buf: &mut [u8]) -> Named
-    ensures { λ r. ⌜ Counts (r .name) (now (path .exit)) ⌝ }
-    ensures { λ r. ⌜ Counts (r .size) (now (buf .exit)) ⌝ }
+    ensures { λ r. ⌜ Counts (r .name .0) (now (path .exit)) ⌝ }
+    ensures { λ r. ⌜ Counts (r .size .0) (now (buf .exit)) ⌝ }
 {
     let name = os::arg(i, path);
     if os::errno() != 0 {
         os::fail(b"spi: a file's name");
         return Named {
             whole: false,
-            name: 0,
-            size: 0,
+            name: Octets(0),
+            size: Octets(0),
         };
     }
     let got = load(&path[..name], buf);
+    let size = got.size;
     Named {
         whole: got.whole,
-        name,
-        size: got.size,
+        name: Octets(name),
+        size,
     }
 }
 

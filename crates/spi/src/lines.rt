@@ -1,8 +1,9 @@
 // What is said on standard output. The script that runs the program sees whether it got there.
+use crate::objects::Made;
 use crate::status::BAD;
-use format::Outcome;
 use format::Record;
 use libc::STDOUT_FILENO;
+use octets::Octets;
 use show::Put;
 ghost use Rattle.io.specs.Counts.{Counts};
 
@@ -15,6 +16,11 @@ pub fn say(text: &[u8]) {
 
 pub fn say_number(n: usize) {
     io::print_decimal(STDOUT_FILENO, n as u64);
+}
+
+fn say_octets(n: Octets) {
+    say_number(n.0);
+    say(b" octets");
 }
 
 // Where a text ended that was put into a line. `show` ends it within the line; to ask once more spares each caller a proof.
@@ -64,42 +70,42 @@ pub fn say_refused(path: &[u8], number: u8, place: usize) -> u8 {
     BAD
 }
 
-pub fn say_accepted(path: &[u8], records: usize, octets: usize) {
+pub fn say_accepted(path: &[u8], records: usize, size: Octets) {
     say(path);
     say(b": ok, ");
     say_number(records);
     say(b" records, ");
-    say_number(octets);
-    say(b" octets\n");
+    say_octets(size);
+    say(b"\n");
 }
 
-pub fn say_saved(path: &[u8], octets: usize, out: &[u8], normal: usize) {
+pub fn say_saved(path: &[u8], size: Octets, out: &[u8], normal: Octets) {
     say(path);
     say(b": ");
-    say_number(octets);
-    say(b" octets; normal form: ");
-    say_number(normal);
-    say(b" octets, written to ");
+    say_octets(size);
+    say(b"; normal form: ");
+    say_octets(normal);
+    say(b", written to ");
     say(out);
     say(b"\n");
 }
 
 // How many octets a normal form has. What is refused of an accepted object, to which all the memory is lent that it can need, has more than an object may have.
-fn say_normal(made: Outcome) {
+fn say_normal(made: Made) {
     if made.number > 0 {
-        say(b"above 32768");
+        say(b"above 32768 octets");
         return;
     }
-    say_number(made.count)
+    say_octets(made.size)
 }
 
-pub fn say_sizes(path: &[u8], octets: usize, records: usize, made: Outcome) {
+pub fn say_sizes(path: &[u8], size: Octets, records: usize, made: Made) {
     say(path);
     say(b": ");
-    say_number(octets);
-    say(b" octets, ");
+    say_octets(size);
+    say(b", ");
     say_number(records);
     say(b" records, normal form ");
     say_normal(made);
-    say(b" octets\n");
+    say(b"\n");
 }

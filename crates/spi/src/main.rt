@@ -28,6 +28,7 @@ use crate::status::GOOD;
 use crate::status::worse;
 use crate::words::is_word;
 use libc::STDERR_FILENO;
+use octets::Octets;
 
 // What is to be done with a file.
 enum Task {
@@ -64,11 +65,11 @@ fn save_normal(path: &[u8], object: &[u8]) -> u8 {
     }
     let mut out = io::buffer();
     let name = os::arg(3, &mut out);
-    let size = made.count;
+    let size = made.size.0;
     if !save(&out[..name], &normal[..size]) {
         return FAILED;
     }
-    say_saved(path, object.len(), &out[..name], size);
+    say_saved(path, Octets(object.len()), &out[..name], made.size);
     GOOD
 }
 
@@ -80,8 +81,8 @@ fn compare_with(first: &[u8], a: &[u8]) -> u8 {
     if !got.whole {
         return FAILED;
     }
-    let name = got.name;
-    let size = got.size;
+    let name = got.name.0;
+    let size = got.size.0;
     compare(first, a, &path[..name], &object[..size])
 }
 
@@ -102,8 +103,8 @@ fn treat_argument(task: Task, i: usize) -> u8 {
     if !got.whole {
         return FAILED;
     }
-    let name = got.name;
-    let size = got.size;
+    let name = got.name.0;
+    let size = got.size.0;
     treat(task, &path[..name], &object[..size])
 }
 

@@ -8,16 +8,26 @@ use crate::memory::number_places;
 use crate::memory::octet_places;
 use crate::memory::room;
 use crate::status::GOOD;
-use format::Outcome;
 use format::Record;
+use format::WriteAnswer;
+use octets::Octets;
+ghost use mathlib.Core.Path.{_≡_};
+ghost use Rattle.format.specs.Answers.{writeOutcome};
 ghost use Rattle.io.specs.Counts.{Counts};
+
+// A normal form in a lent room: how many octets it has. Where there is none, the number and the place of the refusal, and no octets.
+pub struct Made {
+    pub number: u8,
+    pub place: usize,
+    pub size: Octets,
+}
 
 pub fn check(path: &[u8], object: &[u8]) -> u8 {
     let judged = judge::judge(object).outcome();
     if judged.number > 0 {
         return say_refused(path, judged.number, judged.place);
     }
-    say_accepted(path, judged.count, object.len());
+    say_accepted(path, judged.count, Octets(object.len()));
     GOOD
 }
 
@@ -98,9 +108,26 @@ pub fn list(path: &[u8], object: &[u8]) -> u8 {
     GOOD
 }
 
-// The normal form of an object in a lent room: how many octets it has, or why there is none.
-pub fn normal_form(object: &[u8], lent: &mut [u8]) -> Outcome
-    ensures { λ r. ⌜ Counts (r .count) (now (lent .exit)) ⌝ }
+fn as_made(answer: WriteAnswer) -> Made
+    ensures { λ r. ⌜ r .size .0 ≡ writeOutcome answer .count ⌝ }
+{
+    match answer {
+        WriteAnswer::Octets(size) => Made {
+            number: 0,
+            place: 0,
+            size,
+        },
+        WriteAnswer::NotWritten(refusal) => Made {
+            number: refusal.number,
+            place: refusal.place,
+            size: Octets(0),
+        },
+    }
+}
+
+// The normal form of an object in a lent room.
+pub fn normal_form(object: &[u8], lent: &mut [u8]) -> Made
+    ensures { λ r. ⌜ Counts (r .size .0) (now (lent .exit)) ⌝ }
 {
     let mut tags = octet_places();
     let mut kinds = octet_places();
@@ -120,5 +147,5 @@ pub fn normal_form(object: &[u8], lent: &mut [u8]) -> Outcome
         &mut store,
         lent,
     );
-    answer.outcome()
+    as_made(answer)
 }

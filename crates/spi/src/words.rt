@@ -2,7 +2,7 @@
 ghost use mathlib.Core.Path.{_≡_};
 ghost use Rattle.spi.specs.Common.{common};
 
-// How many octets at their start two slices share: the place where they first differ.
+// The place where two slices first differ, or where the first of them ends.
 pub fn shared(a: &[u8], b: &[u8]) -> usize
     ensures { λ r. ⌜ r ≡ common (now (a .entry)) (now (b .entry)) ⌝ }
 {

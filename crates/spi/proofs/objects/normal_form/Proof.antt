@@ -48,8 +48,8 @@ slice-aggregate-normalise-7 c = search needs
 normalise-requires : tie.Need-normalise-requires
 normalise-requires c κs = search needs
 
-outcome-requires : tie.Need-outcome-requires
-outcome-requires c κs = search needs
+as-made-requires : tie.Need-as-made-requires
+as-made-requires c κs = search needs
 
 same-length : tie.Need-same-length
 same-length c = search needs
@@ -76,6 +76,6 @@ normal-form-spec =
     slice-aggregate-normalise-6
     slice-aggregate-normalise-7
     normalise-requires
-    outcome-requires
+    as-made-requires
     same-length
     returns)
