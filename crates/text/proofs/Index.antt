@@ -306,6 +306,20 @@ module _ (index table : List ℕ) where
       go true = here (getD index b 0) (getD table (getD index b 0 - 1) 0) (usable index table (getD index b 0) (getD table (getD index b 0 - 1) 0)) refl
       go false = tt
 
+  -- and the octet before it is its length
+  Told : Found → Type 0
+  Told (At start size) = size ≡ getD table (start - 1) 0
+  Told Nothing = Unit {0}
+
+  told-by : (b : ℕ) → Told (placeBy index table b)
+  unfolding placeBy placeAt Told
+  told-by b = go (token b) (usable index table (getD index b 0) (getD table (getD index b 0 - 1) 0))
+    where
+      go : (t u : Bool) → Told (cond t (cond u (At (getD index b 0) (getD table (getD index b 0 - 1) 0)) Nothing) Nothing)
+      go true true = refl
+      go true false = tt
+      go false u = tt
+
   module _ (b : ℕ) (f : Found) (e : f ≡ placeBy index table b) where
     pub self-by : f ≡ Nothing → stands (entriesBy index table) b ≡ b ∷ []
     unfolding orItself foundIn
@@ -337,6 +351,10 @@ module _ (index table : List ℕ) where
       pub short-by : size ≤ getD index 0 0
       unfolding usable
       short-by = leb-true size (getD index 0 0) (and-right (ltb 0 start && leb start (length table) && leb size (length table - start)) (leb size (getD index 0 0)) fine)
+
+      pub octet-by : size ≡ getD table (start - 1) 0
+      unfolding Told
+      octet-by = subst Told (sym e ∙ q) (told-by b)
 
       pub width-by : size ≡ length (stands (entriesBy index table) b)
       width-by = sym (ap length part-by ∙ length-take-le size (drop start table) (omega (arith, inside-by, length-drop start table)))
@@ -510,7 +528,7 @@ module _ (table index : List ℕ) (made : Indexes (entries table) index) where
       go true e = placed-own b e (found 0 (entries table) b) refl
       go false e = refl
 
-  stands-own : (b : ℕ) → stands (entriesBy index table) b ≡ stands (entries table) b
+  pub stands-own : (b : ℕ) → stands (entriesBy index table) b ≡ stands (entries table) b
   stands-own b = stands-by index table b ∙ ap (λ f. orItself (foundIn table f) b) (placed b) ∙ sym (stands-is table b)
 
   pub indexed-expanded : (s : List ℕ) → expanded (entriesBy index table) s ≡ expanded (entries table) s

@@ -6,6 +6,7 @@ pub mod Masks
 pub mod Entries
 pub mod Widths
 pub mod Index
+pub mod ShownLaws
 pub mod Replaced
 pub mod Laws
 pub mod RunLaws

@@ -17,12 +17,11 @@ use Rattle.octets.specs.Numbers.{among}
 use Rattle.octets.proofs.Tests.{and-left, and-right, and-true, or-elim, or-left, or-true}
 use Rattle.text.specs.Text.{token}
 use Rattle.octets.specs.declared.counts.Octets.{Octets}
-use Rattle.octets.specs.declared.counts.Characters.{Characters}
-use Rattle.octets.specs.Counts.{asOctets, charactersWithin}
-use Rattle.text.specs.Tokens.{Entries, entry, stands, expanded, present, covers, covered, shownLength, expandedSize}
+use Rattle.octets.specs.Counts.{asOctets}
+use Rattle.text.specs.Tokens.{Entries, entry, stands, expanded, present, covers, covered, expandedSize}
 use Rattle.text.specs.Calls.{expandFits, expandAnswer, expandOut}
 use Rattle.text.specs.Leaves.{tokenBit}
-use Rattle.text.specs.Weighing.{bit, Marks, tags, Shows, widthAt, weight, shownAt, shownBy}
+use Rattle.text.specs.Weighing.{bit, Marks, tags, widthAt, weight}
 use Rattle.text.specs.Index.{placeBy, entriesBy}
 use Rattle.text.specs.Runs.{UntokenedTo}
 use Rattle.text.specs.declared.Expanded.the-variants.{Done, NoRoom}
@@ -31,7 +30,7 @@ use Rattle.text.specs.declared.expanding.Found.the-variants.{At, Nothing
 use Rattle.octets.proofs.Lists.{drop-next, sets-append}
 use Rattle.text.proofs.Masks.{bit-none, kept-within, within-kept, Marking, mark-begin, mark-done, mark-more}
 use Rattle.text.proofs.Index.{self-by, part-by, inside-by, width-by}
-use Rattle.text.proofs.Widths.{width-none, width-next, width-eight, shown-none, shown-next, shown-is}
+use Rattle.text.proofs.Widths.{width-none, width-next, width-eight}
 use Rattle.text.proofs.RunLaws.{run-length, expanded-run, expanded-length-run, weight-run}
 
 -- ---- the loop of `tokens_in`
@@ -119,40 +118,6 @@ module _ (es : Entries) (s : List ℕ) (used : ℕ) (m : Marks used s) where
           w .bits t ∙ and-true (token t) (among t (tags es)) k (all-covered es s q t k (and-right (token t) (among t s) both)))))
 
 pub ruleset covered-ways = (covered-none, covered-some)
-
--- ---- the loop of `shows_within`: `left` of the limit is left for what is left of the text
-leb-left : (n m l : ℕ) → n ≤ l → leb (n + m) l ≡ leb m (l - n)
-leb-left n m l h = go (leb m (l - n)) refl
-  where
-    go : (b : Bool) → leb m (l - n) ≡ b → leb (n + m) l ≡ b
-    go true e = le-leb (n + m) l (omega (arith, leb-true m (l - n) e))
-    go false e = lt-leb (n + m) l (omega (arith, leb-false m (l - n) e))
-
-pub record Fitting (w s : List ℕ) (limit left at : ℕ) : Type 0 where
-  pub within : at ≤ length s
-  pub same : leb (shownBy w s) limit ≡ leb (shownBy w (drop at s)) left
-
-module _ (w s : List ℕ) (limit : ℕ) where
-  pub fit-begin : Fitting w s limit limit 0
-  fit-begin = record { within = omega arith; same = refl }
-
-  module _ (left at : ℕ) (inv : Fitting w s limit left at) where
-    pub fit-done : length s ≤ at → true ≡ leb (shownBy w s) limit
-    fit-done h = sym (inv .same ∙ le-leb (shownBy w (drop at s)) left (omega (arith, shown-none w s at h)))
-
-    module _ (h : at < length s) (size : ℕ) (e : size ≡ shownAt w (getD s at 0)) where
-      pub fit-stop : left < size → false ≡ leb (shownBy w s) limit
-      fit-stop g = sym (inv .same ∙ lt-leb (shownBy w (drop at s)) left (omega (arith, shown-next w s at h size e)))
-
-      pub fit-again : size ≤ left → Fitting w s limit (left - size) (at + 1)
-      fit-again g = record { within = omega arith; same = inv .same ∙ rw (shown-next w s at h size e) (leb-left size (shownBy w (drop (at + 1) s)) left g) }
-
-pub ruleset fit-ways = (fit-begin, fit-done, fit-stop, fit-again)
-
--- ---- `is_shown`
-pub shown-fits : (es : Entries) (w s : List ℕ) (limit : Characters) → Shows 32 es w → (r : Bool) → r ≡ leb (shownBy w s) (limit .0) → r ≡ charactersWithin (shownLength es s) limit
-unfolding shownLength
-shown-fits es w s limit counts r e = e ∙ ap (λ n. leb n (limit .0)) (shown-is es w counts s)
 
 -- ---- the loops of `size_singly` and `size_from`: what is added up so far, and the width of what is left of the text
 pub record Sizing (w s : List ℕ) (whole most total at : ℕ) : Type 0 where

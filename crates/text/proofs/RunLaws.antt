@@ -15,7 +15,8 @@ use Rattle.text.specs.Tokens.{Entries, expanded, covered}
 use Rattle.text.specs.Leaves.{onward, Steps}
 use Rattle.text.specs.Runs.{within, allWithin, RunTo, PlainTo, UntokenedTo}
 use Rattle.text.specs.Weighing.{weight, shownBy}
-use Rattle.text.proofs.Widths.{width-high, shown-on, shown-first}
+use Rattle.text.proofs.Widths.{width-high}
+use Rattle.text.proofs.ShownLaws.{shown-on, shown-first}
 use Rattle.text.proofs.Words.{high-octet, covered-cons}
 use Rattle.text.proofs.Laws.{ascii-text, expanded-append, bare-expanded}
 

@@ -21,13 +21,12 @@ use Rattle.text.specs.Text.{token, text}
 use Rattle.text.specs.Tokens.{Entries, entry, present, covers, covered, shownLength}
 use Rattle.text.specs.Leaves.{tokenBit, Steps}
 use Rattle.text.specs.Runs.{within, allWithin, PlainTo}
-use Rattle.text.specs.Weighing.{bit, tags, Marks, WidthsBy, Shows, marked, coveredBy, shownAt, shownBy, weighedBy}
-use Rattle.text.specs.declared.tables.Measure.{Measure}
+use Rattle.text.specs.Weighing.{bit, tags, Marks, Widths, Shows, marked, coveredBy, shownAt, shownBy, weighedBy}
 use Rattle.text.specs.declared.Weighed.{Weighed}
 use Rattle.text.specs.declared.Weighed.the-variants.{NoText, Text}
 use Rattle.text.proofs.Words.{high-octet}
 use Rattle.text.proofs.Masks.{bit-none, mark-one, kept-within, within-kept}
-use Rattle.text.proofs.Widths.{shown-is}
+use Rattle.text.proofs.ShownLaws.{shown-is}
 use Rattle.text.proofs.Replaced.{tag-present}
 use Rattle.text.proofs.RunLaws.{and-assoc, run-split, run-length, run-shown, tail-shown, bounds, Holds, check-done, check-stop, check-again, behind}
 
@@ -260,6 +259,10 @@ same-places [] (y ∷ b) e f = absurd (omega arith)
 same-places (x ∷ a) [] e f = absurd (omega arith)
 same-places (x ∷ a) (y ∷ b) e f = ap₂ (λ (h : ℕ) t. h ∷ t) (f 0 (omega arith)) (same-places a b (omega arith) (λ i h. f (suc i) (omega arith)))
 
-pub widths-one : {measure : Measure} (es : Entries) (a b : List ℕ) → WidthsBy measure 32 es a → WidthsBy measure 32 es b → a ≡ b
+pub widths-one : (es : Entries) (a b : List ℕ) → Widths 32 es a → Widths 32 es b → a ≡ b
 widths-one es a b p q =
+    same-places a b (p .long ∙ sym (q .long)) (λ i h. p .each i (omega (arith, p .long)) ∙ sym (q .each i (omega (arith, p .long))))
+
+pub shows-one : (es : Entries) (a b : List ℕ) → Shows 32 es a → Shows 32 es b → a ≡ b
+shows-one es a b p q =
     same-places a b (p .long ∙ sym (q .long)) (λ i h. p .each i (omega (arith, p .long)) ∙ sym (q .each i (omega (arith, p .long))))

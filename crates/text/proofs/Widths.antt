@@ -1,5 +1,5 @@
--- How many octets, and how many characters, stand for each octet: what `entry_widths` knows on its walk over the table, and a text measured by its answer.
-use Prim.Native.Nat.{ℕ, suc, _+_, _-_, _/_, _^_, _≤_, _<_}
+-- How many octets stand for each octet: what `entry_widths` knows on its walk over the table, and a text measured by its answer.
+use Prim.Native.Nat.{ℕ, _+_, _-_, _/_, _^_, _≤_, _<_}
 use mathlib.Core.Path.{_≡_, refl, sym, ap, ap₂, subst, _∙_}
 use mathlib.Core.List.{List, [], _∷_, _++_}
 use mathlib.Core.Bool.{Bool, true, false, cond, not, _&&_, _||_}
@@ -8,17 +8,13 @@ use lib.Seq.{drop-drop, getD-set-same, getD-set-other}
 use lib.Dec.{eqb, ltb}
 use lib.Bits.{bitOr, bitAnd}
 use native.Mathlib.Omega.{arith}
-use mir.Syntax.{w8}
-use mir.Val.{Fits}
-use borrow.Author.Tests.{eqb-true, eqb-false, ne-eqb, eq-eqb, lt-ltb, le-ltb, ltb-true, ltb-false}
+use borrow.Author.Tests.{eqb-true, eqb-false, ne-eqb, lt-ltb, le-ltb, ltb-true, ltb-false}
 use Rattle.octets.proofs.Tests.{and-false, cond-same}
 use Rattle.octets.proofs.Lists.{part-to-end, drop-next}
 use Rattle.text.specs.Text.{token}
-use Rattle.text.specs.Tokens.{Entries, entries, cut, entry, orItself, stands, expanded, starts}
+use Rattle.text.specs.Tokens.{Entries, entries, cut, entry, orItself, stands, expanded}
 use Rattle.text.specs.Leaves.{ahead, tokenBit, placeOf}
-use Rattle.text.specs.Weighing.{bit, sizeBy, WidthsBy, Widths, Shows, widthAt, weight, shownAt, shownBy}
-use Rattle.text.specs.declared.tables.Measure.{Measure}
-use Rattle.text.specs.declared.tables.Measure.the-variants.{InOctets, InCharacters}
+use Rattle.text.specs.Weighing.{bit, Widths, widthAt, weight}
 use Rattle.text.specs.declared.tables.Piece.{Piece}
 use Rattle.text.specs.declared.tables.Piece.the-variants.{Past, Entry}
 use Rattle.text.proofs.Words.{high-octet}
@@ -59,14 +55,14 @@ module _ (seen t : ℕ) (r : Bool) (k : r ≡ token t) where
 pub ruleset place-ways = (place-plain, place-seen, place-new)
 
 -- ---- what an octet stands for with one entry more before the others
-plain-stands : (es : Entries) (k : ℕ) → token k ≡ false → stands es k ≡ k ∷ []
+pub plain-stands : (es : Entries) (k : ℕ) → token k ≡ false → stands es k ≡ k ∷ []
 unfolding stands
 plain-stands es k e = rw e
 
 pub high-width : (es : Entries) (b : ℕ) → 0x13 < b → length (stands es b) ≡ 1
 high-width es b h = ap length (plain-stands es b (high-octet b h))
 
-no-entry : (k : ℕ) → stands [] k ≡ k ∷ []
+pub no-entry : (k : ℕ) → stands [] k ≡ k ∷ []
 unfolding stands entry orItself
 no-entry k = cond-same (token k) (k ∷ [])
 
@@ -82,20 +78,14 @@ module _ (t : ℕ) (text : List ℕ) (es : Entries) (k : ℕ) where
 -- ---- the loop of `entry_widths`
 -- what is known of an octet with so many entries left: where it is a token of an entry before, its width; else it still has the width 1, and the entries
 -- left tell what it stands for
-unfoldable pub Known : Measure → Entries → Entries → ℕ → ℕ → Bool → Type 0
-Known measure es left k width true = width ≡ sizeBy measure (stands es k)
-Known measure es left k width false = (width ≡ 1) × (stands es k ≡ stands left k)
+unfoldable pub Known : Entries → Entries → ℕ → ℕ → Bool → Type 0
+Known es left k width true = width ≡ length (stands es k)
+Known es left k width false = (width ≡ 1) × (stands es k ≡ stands left k)
 
-pub record Measuring (measure : Measure) (table widths : List ℕ) (seen at : ℕ) : Type 0 where
+pub record Measuring (table widths : List ℕ) (seen at : ℕ) : Type 0 where
   pub within : at ≤ length table
   pub long : length widths ≡ 32
-  pub each : (k : ℕ) → k < 31 → Known measure (entries table) (entries (drop at table)) k (getD widths k 0) (bit seen k)
-
--- an octet below 0x80 is one character, and one octet
-size-one : (measure : Measure) (k : ℕ) → k < 0x80 → sizeBy measure (k ∷ []) ≡ 1
-unfolding starts
-size-one InOctets k h = refl
-size-one InCharacters k h = rw (ne-eqb (k / 64) 2 (λ e. omega arith))
+  pub each : (k : ℕ) → k < 31 → Known (entries table) (entries (drop at table)) k (getD widths k 0) (bit seen k)
 
 -- the store leaves the width of an octet as it is, but for a token that has its first entry here
 module _ (w : List ℕ) (seen t n k : ℕ) (h : k < 31) where
@@ -132,35 +122,27 @@ module _ (w : List ℕ) (seen t n k : ℕ) (h : k < 31) where
   stored l s p q = rw (own-place s p q) (getD-set-same w k n 0 (omega arith))
 
 -- one entry goes from those left to those before
-module _ (measure : Measure) (es left : Entries) (t : ℕ) (text w : List ℕ) (seen n : ℕ) (size : sizeBy measure text ≡ n) (long : length w ≡ 32) (k : ℕ) (h : k < 31) where
-  known-by : (a b e : Bool) → bit seen k ≡ a → token k ≡ b → eqb k t ≡ e → Known measure es ((t, text) ∷ left) k (getD w k 0) a
-      → Known measure es left k (getD (set w (placeOf seen t) n) k 0) (a || b && e)
+module _ (es left : Entries) (t : ℕ) (text w : List ℕ) (seen n : ℕ) (size : length text ≡ n) (long : length w ≡ 32) (k : ℕ) (h : k < 31) where
+  known-by : (a b e : Bool) → bit seen k ≡ a → token k ≡ b → eqb k t ≡ e → Known es ((t, text) ∷ left) k (getD w k 0) a
+      → Known es left k (getD (set w (placeOf seen t) n) k 0) (a || b && e)
   unfolding Known
   known-by true b e p s q g = stays-met w seen t n k h p ∙ g
-  known-by false true true p s q g = stored w seen t n k h long s p q ∙ sym (ap (sizeBy measure) (g .1 ∙ own-entry t text left k s q) ∙ size)
+  known-by false true true p s q g = stored w seen t n k h long s p q ∙ sym (ap length (g .1 ∙ own-entry t text left k s q) ∙ size)
   known-by false true false p s q g = (stays-other w seen t n k h q ∙ g .0, g .1 ∙ other-entry t text left k q)
   known-by false false e p s q g = (stays-plain w seen t n k h s ∙ g .0, g .1 ∙ plain-stands ((t, text) ∷ left) k s ∙ sym (plain-stands left k s))
 
-  known-more : Known measure es ((t, text) ∷ left) k (getD w k 0) (bit seen k)
-      → Known measure es left k (getD (set w (placeOf seen t) n) k 0) (bit (bitOr seen (tokenBit t)) k)
+  known-more : Known es ((t, text) ∷ left) k (getD w k 0) (bit seen k)
+      → Known es left k (getD (set w (placeOf seen t) n) k 0) (bit (bitOr seen (tokenBit t)) k)
   known-more g = rw (mark-one seen t k) (known-by (bit seen k) (token k) (eqb k t) refl refl refl g)
 
 -- with none left, each octet's width is known
-known-last : (measure : Measure) (es left : Entries) → left ≡ [] → (k width : ℕ) → k < 31 → (met : Bool) → Known measure es left k width met → width ≡ sizeBy measure (stands es k)
+known-last : (es left : Entries) → left ≡ [] → (k width : ℕ) (met : Bool) → Known es left k width met → width ≡ length (stands es k)
 unfolding Known
-known-last measure es left e k width h true g = g
-known-last measure es left e k width h false g = g .0 ∙ sym (ap (sizeBy measure) (g .1 ∙ ap (λ q. stands q k) e ∙ no-entry k) ∙ size-one measure k (omega arith))
+known-last es left e k width true g = g
+known-last es left e k width false g = g .0 ∙ sym (ap length (g .1 ∙ ap (λ q. stands q k) e ∙ no-entry k))
 
--- the text of an entry, as the code cuts it out of the table, is no longer than an octet says
-part-is : (table : List ℕ) (at n : ℕ) → take (at + 2 + n - (at + 2)) (drop (at + 2) table) ≡ take n (drop 2 (drop at table))
-part-is table at n = let k : at + 2 + n - (at + 2) ≡ n = omega arith in rw (k, drop-drop 2 at table)
-
-pub part-short : (table : List ℕ) (at : ℕ) → at < length table → (p : Piece) → p ≡ ahead (entries (take (length table - at) (drop at table))) → (t n : ℕ) → p ≡ Entry t n
-    → getD table (at + 1) 0 < 256 → length (take (at + 2 + n - (at + 2)) (drop (at + 2) table)) < 256
-part-short table at h p e t n f l = omega (arith, length-octet table at h p e t n f, ap length (part-is table at n) ∙ text-length table at h p e t n f)
-
-module _ (measure : Measure) (table : List ℕ) where
-  pub measure-begin : Measuring measure table (replicate 32 1) 0 0
+module _ (table : List ℕ) where
+  pub measure-begin : Measuring table (replicate 32 1) 0 0
   unfolding Known
   measure-begin =
       record {
@@ -169,42 +151,41 @@ module _ (measure : Measure) (table : List ℕ) where
         each = λ k h. rw (bit-none k) (getD-replicate 32 k 1 0 (omega arith), refl);
       }
 
-  module _ (widths : List ℕ) (seen at : ℕ) (inv : Measuring measure table widths seen at) where
-    none-left : entries (drop at table) ≡ [] → WidthsBy measure 31 (entries table) widths
-    none-left q = record { long = inv .long; each = λ k h. known-last measure (entries table) (entries (drop at table)) q k (getD widths k 0) h (bit seen k) (inv .each k h) }
+  module _ (widths : List ℕ) (seen at : ℕ) (inv : Measuring table widths seen at) where
+    none-left : entries (drop at table) ≡ [] → Widths 31 (entries table) widths
+    none-left q = record { long = inv .long; each = λ k h. known-last (entries table) (entries (drop at table)) q k (getD widths k 0) (bit seen k) (inv .each k h) }
 
-    pub measure-done : length table ≤ at → WidthsBy measure 31 (entries table) widths
+    pub measure-done : length table ≤ at → Widths 31 (entries table) widths
     unfolding entries cut
     measure-done h = none-left (ap entries (drop-of-length-le table h))
 
     module _ (h : at < length table) (p : Piece) (e : p ≡ ahead (entries (take (length table - at) (drop at table)))) where
-      pub measure-past : p ≡ Past → WidthsBy measure 31 (entries table) widths
+      pub measure-past : p ≡ Past → Widths 31 (entries table) widths
       measure-past f = none-left (no-more table at h p e f)
 
-      module _ (t n : ℕ) (f : p ≡ Entry t n) where
-        pub measure-again : (width : ℕ) → width ≡ sizeBy measure (take (at + 2 + n - (at + 2)) (drop (at + 2) table)) → (place : ℕ) → place ≡ placeOf seen t → (r : ℕ) → r ≡ tokenBit t
-            → Measuring measure table (set widths place width) (bitOr seen r) (at + 2 + n)
-        measure-again width s place q r z =
-            rw (q, z)
-            record {
-              within = room table at h p e t n f;
-              long = length-set widths (placeOf seen t) width ∙ inv .long;
-              each = λ k l.
-                  known-more measure (entries table) (entries (drop (at + 2 + n) table)) t (take n (drop 2 (drop at table))) widths seen width (sym (s ∙ ap (sizeBy measure) (part-is table at n))) (inv .long) k l
-                  (subst (λ es. Known measure (entries table) es k (getD widths k 0) (bit seen k)) (next-names table at h p e t n f) (inv .each k l));
-            }
+      pub measure-again : (t n : ℕ) → p ≡ Entry t n → (place : ℕ) → place ≡ placeOf seen t → (r : ℕ) → r ≡ tokenBit t
+          → Measuring table (set widths place (getD table (at + 1) 0)) (bitOr seen r) (at + 2 + n)
+      measure-again t n f place q r z =
+          rw (q, z, length-octet table at h p e t n f)
+          record {
+            within = room table at h p e t n f;
+            long = length-set widths (placeOf seen t) n ∙ inv .long;
+            each = λ k l.
+                known-more (entries table) (entries (drop (at + 2 + n) table)) t (take n (drop 2 (drop at table))) widths seen n (text-length table at h p e t n f) (inv .long) k l
+                (subst (λ es. Known (entries table) es k (getD widths k 0) (bit seen k)) (next-names table at h p e t n f) (inv .each k l));
+          }
 
 -- ---- `widths_of`: the place that entries without a place were kept at gets the width of its octet
-pub whole-widths : (measure : Measure) (es : Entries) (w : List ℕ) → WidthsBy measure 31 es w → WidthsBy measure 32 es (set w 31 1)
-whole-widths measure es w known = record { long = length-set w 31 1 ∙ known .long; each = λ b h. go b h (eqb b 31) refl }
+pub whole-widths : (es : Entries) (w : List ℕ) → Widths 31 es w → Widths 32 es (set w 31 1)
+whole-widths es w known = record { long = length-set w 31 1 ∙ known .long; each = λ b h. go b h (eqb b 31) refl }
   where
-    go : (b : ℕ) → b < 32 → (e : Bool) → eqb b 31 ≡ e → getD (set w 31 1) b 0 ≡ sizeBy measure (stands es b)
-    go b h true e = rw (eqb-true b 31 e) (getD-set-same w 31 1 0 (omega (arith, known .long)) ∙ sym (ap (sizeBy measure) (plain-stands es 31 (high-octet 31 (omega arith))) ∙ size-one measure 31 (omega arith)))
+    go : (b : ℕ) → b < 32 → (e : Bool) → eqb b 31 ≡ e → getD (set w 31 1) b 0 ≡ length (stands es b)
+    go b h true e = rw (eqb-true b 31 e) (getD-set-same w 31 1 0 (omega (arith, known .long)) ∙ sym (high-width es 31 (omega arith)))
     go b h false e = getD-set-other w 31 b 1 0 (eqb-false b 31 e) ∙ known .each b (omega (arith, eqb-false b 31 e))
 
 pub ruleset measure-ways = (measure-begin, measure-done, measure-past, measure-again, place-inside, length-inside, next-fits, next-fits-2)
 
--- ---- `width_by` and `shown_at`
+-- ---- `width_by`
 module _ (w : List ℕ) (b : ℕ) where
   pub width-low : b < 0x14 → (place r : ℕ) → place ≡ b → r ≡ getD w place 0 → r ≡ widthAt w b
   unfolding widthAt
@@ -213,22 +194,6 @@ module _ (w : List ℕ) (b : ℕ) where
   pub width-high : 0x14 ≤ b → 1 ≡ widthAt w b
   unfolding widthAt
   width-high h = rw (le-ltb b 0x14 h)
-
-  pub shown-low : b < 0x14 → (place r : ℕ) → place ≡ b → r ≡ getD w place 0 → r ≡ shownAt w b
-  unfolding shownAt
-  shown-low h place r e f = f ∙ rw (e, lt-ltb b 0x14 h)
-
-  pub shown-high : 0x14 ≤ b → (r : ℕ) → r ≡ cond (eqb (b / 64) 2) 0 1 → r ≡ shownAt w b
-  unfolding shownAt
-  shown-high h r e = e ∙ rw (le-ltb b 0x14 h)
-
-  pub shown-on : 0x14 ≤ b → b / 64 ≡ 2 → 0 ≡ shownAt w b
-  unfolding shownAt
-  shown-on h e = rw (le-ltb b 0x14 h, eq-eqb (b / 64) 2 e)
-
-  pub shown-first : 0x14 ≤ b → (b / 64 ≡ 2 → ⊥) → 1 ≡ shownAt w b
-  unfolding shownAt
-  shown-first h e = rw (le-ltb b 0x14 h, ne-eqb (b / 64) 2 e)
 
 -- ---- `width_of_eight`
 pub eight-widths : (w s : List ℕ) → 8 ≤ length s → (a b c d : ℕ)
@@ -277,81 +242,3 @@ weight-is es w known (b ∷ s) =
     one : (l : Bool) → ltb b 0x14 ≡ l → widthAt w b ≡ length (stands es b)
     one true e = rw e (known .each b (omega (arith, ltb-true b 0x14 e)))
     one false e = rw e (sym (high-width es b (omega (arith, ltb-false b 0x14 e))))
-
--- ---- what is shown of a text
-pub starts-append : (a b : List ℕ) → starts (a ++ b) ≡ starts a + starts b
-unfolding starts
-starts-append [] b = omega arith
-starts-append (x ∷ a) b = omega (arith, starts-append a b)
-
-module _ (w s : List ℕ) (at : ℕ) where
-  pub shown-none : length s ≤ at → shownBy w (drop at s) ≡ 0
-  unfolding shownBy
-  shown-none h = ap (shownBy w) (drop-of-length-le s h)
-
-  pub shown-next : at < length s → (size : ℕ) → size ≡ shownAt w (getD s at 0) → shownBy w (drop at s) ≡ size + shownBy w (drop (at + 1) s)
-  unfolding shownBy
-  shown-next h size e = ap (shownBy w) (drop-next s at 0 h) ∙ rw e
-
-pub shown-is : (es : Entries) (w : List ℕ) → Shows 32 es w → (s : List ℕ) → shownBy w s ≡ starts (expanded es s)
-unfolding shownBy shownAt expanded starts
-shown-is es w known [] = refl
-shown-is es w known (b ∷ s) =
-    ap₂ (λ (m n : ℕ). m + n) (one (ltb b 0x14) refl) (shown-is es w known s) ∙ sym (starts-append (stands es b) (expanded es s))
-  where
-    one : (l : Bool) → ltb b 0x14 ≡ l → shownAt w b ≡ starts (stands es b)
-    one true e = rw e (known .each b (omega (arith, ltb-true b 0x14 e)))
-    one false e = rw (e, plain-stands es b (high-octet b (omega (arith, ltb-false b 0x14 e)))) (omega arith)
-
--- ---- `begun`
-pub begun-none : (b : ℕ) → b / 64 ≡ 2 → _≡_ {A = ℕ} 0 (cond (eqb (b / 64) 2) 0 1)
-begun-none b e = rw (eq-eqb (b / 64) 2 e)
-
-pub begun-one : (b : ℕ) → (b / 64 ≡ 2 → ⊥) → _≡_ {A = ℕ} 1 (cond (eqb (b / 64) 2) 0 1)
-begun-one b e = rw (ne-eqb (b / 64) 2 e)
-
--- ---- the loop of `starts_of`: what is counted so far, and the characters of what is left
-pub record Counting (part : List ℕ) (n i : ℕ) : Type 0 where
-  pub within : i ≤ length part
-  pub few : n ≤ i
-  pub same : n + starts (drop i part) ≡ starts part
-
-module _ (part : List ℕ) where
-  pub count-begin : Counting part 0 0
-  count-begin = record { within = omega arith; few = omega arith; same = omega arith }
-
-  module _ (n i : ℕ) (inv : Counting part n i) where
-    pub count-done : length part ≤ i → n ≡ starts part
-    unfolding starts
-    count-done h = let none : starts (drop i part) ≡ 0 = ap starts (drop-of-length-le part h) in omega (arith, inv .same)
-
-    pub count-again : i < length part → (k : ℕ) → k ≡ cond (eqb (getD part i 0 / 64) 2) 0 1 → k ≤ 1 → Counting part (n + k) (i + 1)
-    unfolding starts
-    count-again h k e l =
-        let next : starts (drop i part) ≡ k + starts (drop (i + 1) part) = ap starts (drop-next part i 0 h) ∙ rw (← e) in
-        record { within = omega arith; few = omega (arith, inv .few); same = omega (arith, inv .same) }
-
-pub ruleset count-ways = (count-begin, count-done, count-again)
-
--- ---- `measured`
-pub starts-few : (o : List ℕ) → starts o ≤ length o
-unfolding starts
-starts-few [] = omega arith
-starts-few (b ∷ o) = go (eqb (b / 64) 2) (starts-few o)
-  where
-    go : (e : Bool) → starts o ≤ length o → cond e 0 1 + starts o ≤ suc (length o)
-    go true h = omega arith
-    go false h = omega arith
-
-module _ (measure : Measure) (part : List ℕ) where
-  pub measured-octets : measure ≡ InOctets → length part ≡ sizeBy measure part
-  measured-octets e = rw e
-
-  module _ (n : ℕ) (q : n ≡ starts part) where
-    pub measured-fits : length part < 256 → Fits w8 n
-    measured-fits h = record { fits = omega (arith, starts-few part) }
-
-    pub measured-characters : measure ≡ InCharacters → n ≡ sizeBy measure part
-    measured-characters e = rw e q
-
-pub ruleset measured-ways = (measured-octets, measured-fits, measured-characters)

@@ -11,8 +11,6 @@ use Rattle.octets.specs.Counts.{asCharacters}
 use Rattle.octets.specs.Numbers.{among}
 use Rattle.text.specs.Text.{token, text}
 use Rattle.text.specs.Tokens.{Entries, stands, starts}
-use Rattle.text.specs.declared.tables.Measure.{Measure}
-use Rattle.text.specs.declared.tables.Measure.the-variants.{InOctets, InCharacters}
 use Rattle.text.specs.declared.Weighed.{Weighed}
 use Rattle.text.specs.declared.Weighed.the-variants.{NoText, Text}
 
@@ -29,22 +27,15 @@ unfoldable pub tags : Entries → List ℕ
 tags [] = []
 tags (e ∷ es) = e .0 ∷ tags es
 
--- how much octets are, by what a list counts
-abbrev pub sizeBy : Measure → List ℕ → ℕ
-sizeBy InOctets o = length o
-sizeBy InCharacters o = starts o
+-- how many octets stand for each octet below a bound, in a list of 32 places
+pub record Widths (bound : ℕ) (es : Entries) (widths : List ℕ) : Type 0 where
+  pub long : length widths ≡ 32
+  pub each : (b : ℕ) → b < bound → getD widths b 0 ≡ length (stands es b)
 
--- how much stands for each octet below a bound, in a list of 32 places
-pub record WidthsBy (measure : Measure) (bound : ℕ) (es : Entries) (list : List ℕ) : Type 0 where
-  pub long : length list ≡ 32
-  pub each : (b : ℕ) → b < bound → getD list b 0 ≡ sizeBy measure (stands es b)
-
--- the widths, which are octets, and the counts, which are characters
-abbrev pub Widths : ℕ → Entries → List ℕ → Type 0
-Widths bound es widths = WidthsBy InOctets bound es widths
-
-abbrev pub Shows : ℕ → Entries → List ℕ → Type 0
-Shows bound es counts = WidthsBy InCharacters bound es counts
+-- and how many characters
+pub record Shows (bound : ℕ) (es : Entries) (counts : List ℕ) : Type 0 where
+  pub long : length counts ≡ 32
+  pub each : (b : ℕ) → b < bound → getD counts b 0 ≡ starts (stands es b)
 
 -- an octet that wants no entry, or has one by a mask
 unfoldable pub marked : ℕ → ℕ → Bool

@@ -4,23 +4,19 @@
 // An expansion is measured before it is written only where it could be too long for its room. Whether each token has an entry is asked of all of them at once.
 ghost use mathlib.Core.Path.{_≡_};
 ghost use Prim.Native.Nat.{_+_, _^_, _≤_, _<_, min};
-ghost use lib.Dec.{leb};
 ghost use lib.ListN.{length, take, drop};
 ghost use lib.Seq.{sets};
-ghost use Rattle.octets.specs.Counts.{asOctets, octetsWithin, charactersWithin};
-ghost use Rattle.text.specs.Tokens.{entries, stands, expanded, covered, shownLength, expandedSize};
+ghost use Rattle.octets.specs.Counts.{asOctets, octetsWithin};
+ghost use Rattle.text.specs.Tokens.{entries, stands, expanded, covered, expandedSize};
 ghost use Rattle.text.specs.Calls.{ExpandClaim};
-ghost use Rattle.text.specs.Weighing.{Marks, widthAt, weight, shownBy};
+ghost use Rattle.text.specs.Weighing.{Marks, widthAt, weight};
 ghost use Rattle.text.specs.Index.{placeBy, entriesBy, Bounds};
 use crate::Expanded;
 use crate::characters::is_token;
 use crate::characters::token_bit;
 use crate::runs::untokened_end;
-use crate::tables::characters_of;
 use crate::tables::size_of;
 use crate::tables::tokens_of;
-use crate::weighing::shown_at;
-use octets::Characters;
 use octets::Octets;
 
 // The tokens of a text, a bit each. Nothing is decided between two octets, so that the compiler takes eight at a time.
@@ -77,32 +73,6 @@ fn width_of_eight(widths: &[u8; 32], s: &[u8]) -> Octets
         + width_of_two(widths, s[4], s[5]).0
         + width_of_two(widths, s[6], s[7]).0;
     Octets(sum)
-}
-
-// What is shown of a text keeps to a limit, by the counts of a table and octet by octet. It counts down from the limit, so that no sum can be too large, and
-// stops where the text passes it.
-fn shows_within(counts: &[u8; 32], s: &[u8], limit: Characters) -> bool
-    ensures { λ r. ⌜ r ≡ leb (shownBy (now (counts .entry)) (now (s .entry))) (limit .0) ⌝ }
-{
-    let mut left = limit.0;
-    let mut at: usize = 0;
-    while at < s.len() {
-        let more = shown_at(counts, s[at]);
-        if more.0 > left {
-            return false;
-        }
-        left -= more.0;
-        at += 1;
-    }
-    true
-}
-
-// What is shown of a text keeps to a limit of characters (rule 13).
-pub fn is_shown(table: &[u8], s: &[u8], limit: Characters) -> bool
-    ensures { λ r. ⌜ r ≡ charactersWithin (shownLength (entries (now (table .entry))) (now (s .entry))) limit ⌝ }
-{
-    let counts = characters_of(table);
-    shows_within(&counts, s, limit)
 }
 
 // A width before a place and that of the octets from there on, by the widths of a table and octet by octet, or `most` where that is less: there it
@@ -176,14 +146,14 @@ fn copy(part: &[u8], out: &mut [u8], at: usize)
 }
 
 // Where the text of an entry begins in its table, and how long it is.
-enum Found {
+pub enum Found {
     At { start: usize, size: usize },
     Nothing,
 }
 
 // Where in the table the text lies that stands for an octet, by an index. Nothing: the octet stands for itself. Any index and any table may be given: an
 // entry that doesn't lie in the table, or is longer than the longest of the index, counts as none. The octet before a text is its length.
-fn replacement(index: &[usize; 32], table: &[u8], b: u8) -> Found
+pub fn replacement(index: &[usize; 32], table: &[u8], b: u8) -> Found
     ensures { λ r. ⌜ r ≡ placeBy (now (index .entry)) (now (table .entry)) b ⌝ }
 {
     if !is_token(b) {

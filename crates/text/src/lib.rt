@@ -3,6 +3,7 @@
 mod characters;
 mod expanding;
 mod runs;
+mod shown;
 mod tables;
 mod weighing;
 
@@ -11,9 +12,9 @@ pub use characters::is_token;
 pub use expanding::expand;
 pub use expanding::expanded_size;
 pub use expanding::is_covered;
-pub use expanding::is_shown;
 use octets::Characters;
-pub use tables::characters_of;
+pub use shown::characters_of;
+pub use shown::is_shown;
 pub use tables::index_of;
 pub use tables::is_table;
 pub use tables::tokens_of;

@@ -1,24 +1,15 @@
 // The token table, an entry at a time.
 ghost use mathlib.Core.Path.{_≡_};
 ghost use Prim.Native.Nat.{_<_, max};
-ghost use lib.ListN.{length};
-ghost use Rattle.text.specs.Tokens.{entries, isTable, starts};
+ghost use Rattle.text.specs.Tokens.{entries, isTable};
 ghost use Rattle.text.specs.Leaves.{ahead, placeOf, RatedBy};
-ghost use Rattle.text.specs.Weighing.{tags, Marks, sizeBy, WidthsBy, Widths, Shows};
+ghost use Rattle.text.specs.Weighing.{tags, Marks, Widths};
 ghost use Rattle.text.specs.Index.{noted, Indexes};
-use crate::characters::begun;
 use crate::characters::check;
 use crate::characters::is_token;
 use crate::characters::token_bit;
 use crate::characters::wide;
-use octets::Characters;
 use octets::Octets;
-
-// What a list made of a table counts.
-enum Measure {
-    InOctets,
-    InCharacters,
-}
 
 // The entry with which a part of a table begins: its tag, and the size of its text, which lies inside that part.
 enum Piece {
@@ -81,36 +72,10 @@ fn place_of(tag: u8, seen: u32) -> usize
     size_of(tag)
 }
 
-// How many characters octets of text are: as many as don't begin with the bits 10.
-fn starts_of(part: &[u8]) -> Characters
-    ensures { λ r. ⌜ r .0 ≡ starts (now (part .entry)) ⌝ }
-{
-    let mut n: usize = 0;
-    let mut i: usize = 0;
-    while i < part.len() {
-        n += begun(part[i]).0;
-        i += 1;
-    }
-    Characters(n)
-}
-
-// How much the text of an entry is, as an octet of a list: no entry has more than 255 octets, and so no more characters.
-fn measured(part: &[u8], measure: Measure) -> u8
-    requires { ⌜ length (now part) < 256 ⌝ }
-    ensures { λ r. ⌜ r ≡ sizeBy measure (now (part .entry)) ⌝ }
-{
-    match measure {
-        Measure::InOctets => part.len() as u8,
-        Measure::InCharacters => {
-            let count = starts_of(part);
-            count.0 as u8
-        }
-    }
-}
-
-// How much stands for each octet below 31, by one walk over the table: for a token the text of its first entry, and for any other octet itself.
-fn entry_widths(table: &[u8], measure: Measure) -> [u8; 32]
-    ensures { λ r. ⌜ WidthsBy measure 31 (entries (now (table .entry))) r ⌝ }
+// How many octets stand for each octet below 31, by one walk over the table: for a token those of its first entry, and for any other octet
+// itself. The octet behind an entry's tag is the length of its text.
+fn entry_widths(table: &[u8]) -> [u8; 32]
+    ensures { λ r. ⌜ Widths 31 (entries (now (table .entry))) r ⌝ }
 {
     let mut widths: [u8; 32] = [1; 32];
     let mut seen: u32 = 0;
@@ -121,34 +86,22 @@ fn entry_widths(table: &[u8], measure: Measure) -> [u8; 32]
                 return widths;
             }
             Piece::Entry { tag, size } => {
-                let start = at + 2;
-                let end = start + size;
-                let width = measured(&table[start..end], measure);
-                widths[place_of(tag, seen)] = width;
+                widths[place_of(tag, seen)] = table[at + 1];
                 seen = seen | token_bit(tag);
-                at = end;
+                at = at + 2 + size;
             }
         }
     }
     widths
 }
 
-// The same for each octet below 32, in octets: the last place, where entries without a place of their own were kept, gets the width of its octet.
+// The same for each octet below 32: the last place, where entries without a place of their own were kept, gets the width of its octet.
 pub fn widths_of(table: &[u8]) -> [u8; 32]
     ensures { λ r. ⌜ Widths 32 (entries (now (table .entry))) r ⌝ }
 {
-    let mut widths = entry_widths(table, Measure::InOctets);
+    let mut widths = entry_widths(table);
     widths[31] = 1;
     widths
-}
-
-// And in characters, by which `weigh` counts what is shown.
-pub fn characters_of(table: &[u8]) -> [u8; 32]
-    ensures { λ r. ⌜ Shows 32 (entries (now (table .entry))) r ⌝ }
-{
-    let mut counts = entry_widths(table, Measure::InCharacters);
-    counts[31] = 1;
-    counts
 }
 
 // An entry goes into an index: where its tag is a token that has no entry there, the token's place gets where the entry's text begins.
@@ -174,7 +127,7 @@ fn longer(a: Octets, b: Octets) -> Octets
     a
 }
 
-// A table gone through once, so that `expand` finds an entry without a search. At the place of a token stands where the text of its first entry begins
+// A table gone through once, so that an entry is found without a search. At the place of a token stands where the text of its first entry begins
 // in the table, or 0 where it has no entry: no text begins there. At the place of 0, which is no token, stands how many octets the longest text has.
 // It takes a step for each entry, and a table that passes `is_table` has at most 16 (proofs/Sixteen, sixteen).
 pub fn index_of(table: &[u8]) -> [usize; 32]

@@ -1,14 +1,13 @@
 // A text looked at once: whether it is text, whether each of its tokens has an entry, and how many characters are shown of it, by the marks and counts of
 // a table, which is gone through for them once and not once a text. Runs of octets that stand for themselves are passed over as `check` does.
 ghost use mathlib.Core.Path.{_≡_};
-ghost use Prim.Native.Nat.{_+_, _≤_, _<_, min};
-ghost use Rattle.text.specs.Weighing.{marked, shownAt, weighedBy};
+ghost use Prim.Native.Nat.{_+_, _≤_, min};
+ghost use Rattle.text.specs.Weighing.{marked, weighedBy};
 use crate::Weighed;
-use crate::characters::begun;
 use crate::characters::sequence;
 use crate::characters::token_bit;
 use crate::runs::plain_end;
-use crate::tables::size_of;
+use crate::shown::shown_at;
 use octets::Characters;
 
 // An octet that wants no entry, or has one. Nothing is decided here, so that a processor has nothing to guess.
@@ -17,17 +16,6 @@ fn is_marked(marks: u32, b: u8) -> bool
 {
     let own = token_bit(b);
     own & marks == own
-}
-
-// How many characters are shown for an octet: as many as its token stands for; 1 where it begins a character, and 0 where it goes on with one.
-pub fn shown_at(counts: &[u8; 32], b: u8) -> Characters
-    ensures { λ r. ⌜ r .0 ≡ shownAt (now (counts .entry)) b ⌝ }
-    ensures { λ r. ⌜ r .0 < 256 ⌝ }
-{
-    if b < 0x14 {
-        return Characters(size_of(counts[size_of(b)]));
-    }
-    begun(b)
 }
 
 // A sum that stops at `most`, so that none is too large.

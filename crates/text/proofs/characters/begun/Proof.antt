@@ -1,5 +1,4 @@
-use native.Mathlib.Omega.{arith}
-use Rattle.text.proofs.Widths.{begun-none, begun-one}
+use Rattle.text.proofs.ShownLaws.{begun-none, begun-one}
 use borrow.Author.Needs.{needs}
 use Rattle.text.proofs.characters.begun.Statement.{statement}
 use Rattle.text.proofs.characters.begun.Tie as tie

@@ -1,7 +1,7 @@
-use Rattle.text.proofs.Replaced.{shown-fits}
+use Rattle.text.proofs.ShownLaws.{shown-fits}
 use borrow.Author.Needs.{needs}
-use Rattle.text.proofs.expanding.is_shown.Statement.{statement}
-use Rattle.text.proofs.expanding.is_shown.Tie as tie
+use Rattle.text.proofs.shown.is_shown.Statement.{statement}
+use Rattle.text.proofs.shown.is_shown.Tie as tie
 
 characters-of-requires : tie.Need-characters-of-requires
 characters-of-requires c κs = search needs

@@ -1,7 +1,7 @@
-use Rattle.text.proofs.Widths.{shown-low, shown-high}
+use Rattle.text.proofs.ShownLaws.{shown-low, shown-high}
 use borrow.Author.Needs.{needs}
-use Rattle.text.proofs.weighing.shown_at.Statement.{statement}
-use Rattle.text.proofs.weighing.shown_at.Tie as tie
+use Rattle.text.proofs.shown.shown_at.Statement.{statement}
+use Rattle.text.proofs.shown.shown_at.Tie as tie
 
 size-of-requires : tie.Need-size-of-requires
 size-of-requires c κs = search needs

@@ -1,9 +1,9 @@
 use Prim.Native.Nat.{_-_}
 use lib.ListN.{length}
-use Rattle.text.proofs.Replaced.{Fitting, fit-ways}
+use Rattle.text.proofs.ShownLaws.{Fitting, fit-ways}
 use borrow.Author.Needs.{needs}
-use Rattle.text.proofs.expanding.shows_within.Statement.{statement}
-use Rattle.text.proofs.expanding.shows_within.Tie as tie
+use Rattle.text.proofs.shown.shows_within.Statement.{statement}
+use Rattle.text.proofs.shown.shows_within.Tie as tie
 
 abbrev Inv-loop : tie.InvT-loop
 Inv-loop counts s left₀ at₀ left at = Fitting counts s left₀ left at

@@ -1,9 +1,9 @@
 use Prim.Native.Nat.{_-_}
 use lib.ListN.{length}
-use Rattle.text.proofs.Widths.{Counting, count-ways}
+use Rattle.text.proofs.ShownLaws.{Counting, count-ways}
 use borrow.Author.Needs.{needs}
-use Rattle.text.proofs.tables.starts_of.Statement.{statement}
-use Rattle.text.proofs.tables.starts_of.Tie as tie
+use Rattle.text.proofs.shown.starts_of.Statement.{statement}
+use Rattle.text.proofs.shown.starts_of.Tie as tie
 
 abbrev Inv-loop : tie.InvT-loop
 Inv-loop part n₀ i₀ n i = Counting part n i

@@ -1,0 +1,58 @@
+use Prim.Native.Nat.{_-_}
+use Rattle.text.proofs.ShownLaws.{Filling, fill-ways}
+use borrow.Author.Needs.{needs}
+use Rattle.text.proofs.shown.characters_of.Statement.{statement}
+use Rattle.text.proofs.shown.characters_of.Tie as tie
+
+abbrev Inv-loop : tie.InvT-loop
+Inv-loop table counts₀ index b₀ counts b = Filling table counts b
+
+abbrev μ-loop : tie.MeasureT-loop
+μ-loop table counts₀ index b₀ counts b = 0x14 - b
+
+returns : tie.Need-returns Inv-loop μ-loop
+returns c = search (fill-ways, needs)
+
+index-of-requires : tie.Need-index-of-requires Inv-loop μ-loop
+index-of-requires c κs = search needs
+
+loop-holds : tie.Need-loop-holds Inv-loop μ-loop
+loop-holds c = search (fill-ways, needs)
+
+count-of-requires : tie.Need-count-of-requires Inv-loop μ-loop
+count-of-requires c κs = search needs
+
+size-of-requires : tie.Need-size-of-requires Inv-loop μ-loop
+size-of-requires c κs = search needs
+
+array-write-counts : tie.Need-array-write-counts Inv-loop μ-loop
+array-write-counts c = search needs
+
+add-b : tie.Need-add-b Inv-loop μ-loop
+add-b c = search needs
+
+loop-less : tie.Need-loop-less Inv-loop μ-loop
+loop-less c = search needs
+
+loop-again : tie.Need-loop-again Inv-loop μ-loop
+loop-again c = search (fill-ways, needs)
+
+returns-2 : tie.Need-returns-2 Inv-loop μ-loop
+returns-2 c = search (fill-ways, needs)
+
+pub characters-of-spec : {M : Type 1} → statement M
+characters-of-spec =
+    tie.close
+    (tie.spec
+    Inv-loop
+    μ-loop
+    returns
+    index-of-requires
+    loop-holds
+    count-of-requires
+    size-of-requires
+    array-write-counts
+    add-b
+    loop-less
+    loop-again
+    returns-2)

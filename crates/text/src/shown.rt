@@ -1,0 +1,98 @@
+// How many characters are shown: of the entries of a table, and of a text. A character is counted by its first octet, which alone doesn't begin with the bits 10.
+ghost use mathlib.Core.Path.{_≡_};
+ghost use Prim.Native.Nat.{_<_};
+ghost use lib.Dec.{leb};
+ghost use Rattle.octets.specs.Counts.{charactersWithin};
+ghost use Rattle.text.specs.Tokens.{entries, stands, starts, shownLength};
+ghost use Rattle.text.specs.Weighing.{Shows, shownAt, shownBy};
+ghost use Rattle.text.specs.Index.{Indexes};
+use crate::characters::begun;
+use crate::expanding::Found;
+use crate::expanding::replacement;
+use crate::tables::index_of;
+use crate::tables::size_of;
+use octets::Characters;
+
+// How many characters octets of text are.
+fn starts_of(part: &[u8]) -> Characters
+    ensures { λ r. ⌜ r .0 ≡ starts (now (part .entry)) ⌝ }
+{
+    let mut n: usize = 0;
+    let mut i: usize = 0;
+    while i < part.len() {
+        n += begun(part[i]).0;
+        i += 1;
+    }
+    Characters(n)
+}
+
+// How many characters stand for an octet that could be a token, by the index of the table. No entry has more octets than an octet can say, and so no more
+// characters.
+fn count_of(index: &[usize; 32], table: &[u8], b: u8) -> u8
+    requires { ⌜ Indexes (entries (now table)) (now index) ⌝ }
+    requires { ⌜ b < 0x14 ⌝ }
+    ensures { λ r. ⌜ r ≡ starts (stands (entries (now (table .entry))) b) ⌝ }
+{
+    match replacement(index, table, b) {
+        Found::Nothing => 1,
+        Found::At { start, size } => {
+            let end = start + size;
+            let count = starts_of(&table[start..end]);
+            count.0 as u8
+        }
+    }
+}
+
+// How many characters stand for each octet below 32: for a token those of its first entry, and for any other octet itself. By these `weigh` counts what is shown.
+pub fn characters_of(table: &[u8]) -> [u8; 32]
+    ensures { λ r. ⌜ Shows 32 (entries (now (table .entry))) r ⌝ }
+{
+    let mut counts: [u8; 32] = [1; 32];
+    if table.len() == 0 {
+        return counts;
+    }
+    let index = index_of(table);
+    let mut b: u8 = 0;
+    while b < 0x14 {
+        counts[size_of(b)] = count_of(&index, table, b);
+        b += 1;
+    }
+    counts
+}
+
+// How many characters are shown for an octet of a text: as many as its token stands for; 1 where it begins a character, and 0 where it goes on with one.
+pub fn shown_at(counts: &[u8; 32], b: u8) -> Characters
+    ensures { λ r. ⌜ r .0 ≡ shownAt (now (counts .entry)) b ⌝ }
+    ensures { λ r. ⌜ r .0 < 256 ⌝ }
+{
+    if b < 0x14 {
+        return Characters(size_of(counts[size_of(b)]));
+    }
+    begun(b)
+}
+
+// What is shown of a text keeps to a limit, by the counts of a table and octet by octet. It counts down from the limit, so that no sum can be too large, and
+// stops where the text passes it.
+fn shows_within(counts: &[u8; 32], s: &[u8], limit: Characters) -> bool
+    ensures { λ r. ⌜ r ≡ leb (shownBy (now (counts .entry)) (now (s .entry))) (limit .0) ⌝ }
+{
+    let mut left = limit.0;
+    let mut at: usize = 0;
+    while at < s.len() {
+        let more = shown_at(counts, s[at]);
+        if more.0 > left {
+            return false;
+        }
+        left -= more.0;
+        at += 1;
+    }
+    true
+}
+
+// What is shown of a text keeps to a limit of characters (rule 13).
+pub fn is_shown(table: &[u8], s: &[u8], limit: Characters) -> bool
+    ensures { λ r. ⌜ r ≡ charactersWithin (shownLength (entries (now (table .entry))) (now (s .entry))) limit ⌝ }
+{
+    let counts = characters_of(table);
+    shows_within(&counts, s, limit)
+}
