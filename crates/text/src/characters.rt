@@ -136,26 +136,26 @@ fn leading_ones(first: u8) -> Octets
     Octets(ones)
 }
 
-// How many octets the character has with which s begins, and 0 where it begins with none.
-pub fn sequence(s: &[u8], tokens: bool) -> Octets
+// The place behind the character with which s begins, and 0 where it begins with none.
+pub fn sequence(s: &[u8], tokens: bool) -> usize
     requires { ⌜ 0 < length (now s) ⌝ }
-    ensures { λ r. ⌜ Steps tokens (now (s .entry)) (r .0) ⌝ }
+    ensures { λ r. ⌜ Steps tokens (now (s .entry)) r ⌝ }
 {
     let first = s[0];
     if first < 0x80 {
         if single_ok(first, tokens) {
-            return Octets(1);
+            return 1;
         }
-        return Octets(0);
+        return 0;
     }
-    let n = leading_ones(first).0;
-    if n > s.len() {
-        return Octets(0);
+    let end = leading_ones(first).0;
+    if end > s.len() {
+        return 0;
     }
-    if several_ok(first, &s[1..n]) {
-        return Octets(n);
+    if several_ok(first, &s[1..end]) {
+        return end;
     }
-    Octets(0)
+    0
 }
 
 // Valid text, in which token octets may stand or not. It passes over runs of octets that stand by themselves, and looks at what stands
@@ -169,11 +169,11 @@ pub fn check(s: &[u8], tokens: bool) -> bool
         if from == s.len() {
             return true;
         }
-        let n = sequence(&s[from..], tokens);
-        if n.0 == 0 {
+        let end = sequence(&s[from..], tokens);
+        if end == 0 {
             return false;
         }
-        at = from + n.0;
+        at = from + end;
     }
     true
 }

@@ -49,14 +49,14 @@ pub fn weigh(marks: u32, counts: &[u8; 32], s: &[u8], most: Characters) -> Weigh
                 shown: before,
             };
         }
-        let n = sequence(&s[from..], true);
-        if n.0 == 0 {
+        let end = sequence(&s[from..], true);
+        if end == 0 {
             return Weighed::NoText;
         }
         let b = s[from];
         covered = covered & is_marked(marks, b);
         shown = capped(before, shown_at(counts, b), most);
-        at = from + n.0;
+        at = from + end;
     }
     Weighed::Text { covered, shown }
 }

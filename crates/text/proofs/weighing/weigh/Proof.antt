@@ -55,7 +55,7 @@ capped-requires-2 c κs = search needs
 
 add-at : tie.Need-add-at Inv-loop μ-loop
 add-at c =
-    let stepped = c .before .before .before .before .before .before .before in
+    let stepped = c .before .before .before .before .before in
     let ran = stepped .before .before .before .before in
     step-fits (ran .before .before .before .before .args .s .now) _ _ (ran .plain-end .ensures) _ (stepped .sequence .ensures) (search needs)
 
@@ -64,14 +64,14 @@ loop-less c = search (step-less, needs)
 
 loop-again : tie.Need-loop-again Inv-loop μ-loop
 loop-again c =
-    let looked = c .before .before .before in
-    let stepped = looked .before .before .before .before in
+    let looked = c .before .before in
+    let stepped = looked .before .before .before in
     let run = stepped .before .before .before in
     let ran = run .before in
     let args = ran .before .before .before .before .args in
     weigh-again (args .marks) (args .counts .now) (args .s .now) (args .most) _ _ _ (ran .before .before .loop .inv) _ (ran .plain-end .ensures) _ (run .capped .ensures .0)
     (run .capped .ensures .1) _ (stepped .sequence .ensures) (stepped .before .before .if1 .left) (looked .before .before .if2 .left) _ (looked .is-marked .ensures) _
-    (c .before .before .shown-at .ensures .0) _ (c .before .capped2 .ensures .0) (c .before .capped2 .ensures .1)
+    (c .before .shown-at .ensures .0) _ (c .capped2 .ensures .0) (c .capped2 .ensures .1)
 
 returns-3 : tie.Need-returns-3 Inv-loop μ-loop
 returns-3 c = search (weigh-ways, needs)
