@@ -77,7 +77,7 @@ fn opened(index: &[usize; 32], table: &[u8], s: &[u8], rest: Rest) -> Rest
     r
 }
 
-// A rest behind its next octets, all of the table or all of the text.
+// A rest from a place in its next octets on, which are all of the table or all of the text.
 fn beyond(r: Rest, n: usize) -> Rest
     requires { ⌜ r .from + n < 2 ^ 64 ⌝ }
     requires { ⌜ r .at + n < 2 ^ 64 ⌝ }
@@ -107,7 +107,7 @@ fn is_over(s: &[u8], r: Rest) -> bool
     r.at >= s.len()
 }
 
-// An octet is in common that could be a token (below 0x14): it counts where it is the first, which is known to stand for itself.
+// The place of an octet in common that could be a token (below 0x14), or the place behind it where it is the first, which is known to stand for itself.
 fn or_one(n: usize) -> usize
     ensures { λ r. ⌜ r ≡ orOne n ⌝ }
 {
@@ -140,7 +140,7 @@ fn are_eight_shared(a: &[u8], b: &[u8]) -> bool
         & is_shared(a[7], b[7])
 }
 
-// How many octets two pieces share at their beginnings, by eights alone.
+// How far two pieces share their octets from the beginning on, by eights alone: a place in both.
 fn eights(a: &[u8], b: &[u8]) -> usize
     ensures { λ r. ⌜ Shared (now (a .entry)) (now (b .entry)) r ⌝ }
 {
@@ -157,8 +157,8 @@ fn eights(a: &[u8], b: &[u8]) -> usize
     n
 }
 
-// How many octets two pieces have in common at their beginnings, up to the second or a later one that could be a token: by eights as far as they go, then by
-// single octets.
+// How far two pieces are the same from the beginning on, up to the second or a later octet that could be a token: by eights as far as they go, then by single
+// octets. Where they part is a place in both.
 fn common(a: &[u8], b: &[u8]) -> usize
     ensures { λ r. ⌜ Common (now (a .entry)) (now (b .entry)) r ⌝ }
 {
@@ -178,7 +178,7 @@ fn common(a: &[u8], b: &[u8]) -> usize
     n
 }
 
-// How many octets a piece and what comes next in a rest have in common.
+// How far a piece and what comes next in a rest are the same.
 fn common_with(x: &[u8], table: &[u8], s: &[u8], r: Rest) -> usize
     requires { ⌜ Inside (now table) (now s) r ⌝ }
     ensures { λ n. ⌜ Common (now (x .entry)) (ahead (now (table .entry)) (now (s .entry)) r) n ⌝ }
@@ -192,7 +192,7 @@ fn common_with(x: &[u8], table: &[u8], s: &[u8], r: Rest) -> usize
     common(x, &s[at..])
 }
 
-// How many octets come next in both of two rests.
+// How far what comes next in two rests is the same.
 fn common_ahead(table_a: &[u8], a: &[u8], p: Rest, table_b: &[u8], b: &[u8], q: Rest) -> usize
     requires { ⌜ Inside (now «table_a») (now a) p ⌝ }
     requires { ⌜ Inside (now «table_b») (now b) q ⌝ }
