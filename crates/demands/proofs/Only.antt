@@ -2,7 +2,7 @@
 use mathlib.Core.Path.{sym, _∙_}
 use Rattle.demands.specs.Only.{OneAnswer, OneRead, OneReadAtMost, OneReadRecords, OneWrite, OneNormalise, OneOctetsPut, OneMarks, OneWidths, OneShows, OneIndex, OneExpand, OneValuePut, OneShowPut, OneReadC, OneSpanC, OneWriteC, OneNormaliseC, OneSameC}
 use Rattle.text.proofs.Index.{one-index as index-alone}
-use Rattle.text.proofs.WeighLaws.{marks-one, widths-one}
+use Rattle.text.proofs.WeighLaws.{marks-one, widths-one, shows-one}
 
 pub one-answer : OneAnswer
 one-answer A claimed one other e f = e ∙ sym f
@@ -41,7 +41,7 @@ pub one-widths : OneWidths
 one-widths = widths-one
 
 pub one-shows : OneShows
-one-shows = widths-one
+one-shows = shows-one
 
 pub one-index : OneIndex
 one-index = index-alone
