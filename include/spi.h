@@ -49,7 +49,7 @@ enum spi_refusal {
     SPI_BAD_TEXT = 10,            /* octets that are no text */
     SPI_BAD_TOKEN_TABLE = 11,     /* octets that are no token table */
     SPI_TOKEN_WITHOUT_ENTRY = 12, /* a token that the table has no entry for */
-    SPI_TEXT_TOO_LONG = 13,       /* a shown text above its limit */
+    SPI_TEXT_TOO_LONG = 13,       /* a shown text above its limit of characters */
     SPI_TOO_FEW_PLACES = 14,      /* fewer places for records than there are records */
     SPI_TOO_LARGE = 15,           /* a room or store too small, or octets above 32,768 */
     SPI_NOT_WELL_FORMED = 16      /* records that are no well-formed tree */
