@@ -3,8 +3,9 @@
  *
  * Reads a stream of cases on standard input and prints one answer for each: the listing of a
  * binary SPI object (L), its normal form (N), the octets that records stand for (W), and whether
- * two objects mean the same (S).  Written from document 01 (the rules) and from document 002,
- * TS 102 371 V3.2.1 (the layouts) alone, so that it can be held against the proved program.
+ * two objects mean the same (S).  Written from document 01 (the rules), 02 (the requests that amend
+ * them) and 002, TS 102 371 V3.2.1 (the layouts), alone, so that it can be held against the proved
+ * program.
  *
  * All memory is fixed; nothing is allocated.  Each octet of an object is looked at once while it is
  * judged and once more while its normal form is written or its meaning compared.
@@ -53,6 +54,18 @@ struct verdict {
 };
 
 static const struct verdict accepted = {ACCEPTED, 0};
+
+/* The two counts of a text, each of a type of its own, so that neither passes for the other (02,
+ * 2026-01): the octets that it takes, by which lengths, store and room go, and the characters that it
+ * shows, by which refusal 13 goes alone.  No text of an object takes more than 255 times 32,768 octets.
+ * Sizes that can only be of octets are plain numbers. */
+struct octet_count {
+    uint32_t octets;
+};
+
+struct character_count {
+    uint32_t characters;
+};
 
 /* ---- Tags (002, annexes D and E) --------------------------------------------------------------- */
 
@@ -188,14 +201,14 @@ static const uint8_t attribute_body[ELEMENT_TAGS][ATTRIBUTE_TAGS] = {
     [ACQUISITION_TIME] = {TIME, TIME}
 };
 
-/* Octets that the CDATA of an element may have once its tokens are replaced (01, "Lengths of shown
- * text"); 0 where there is no limit. */
-static const uint16_t shown_limit[ELEMENT_TAGS] = {
-    [SHORT_NAME] = 8,
-    [MEDIUM_NAME] = 16,
-    [LONG_NAME] = 128,
-    [SHORT_DESCRIPTION] = 180,
-    [LONG_DESCRIPTION] = 1200
+/* Characters that the CDATA of an element may have once its tokens are replaced (01, "Lengths of shown
+ * text", as 2026-01 amends it); 0 where there is no limit. */
+static const struct character_count shown_limit[ELEMENT_TAGS] = {
+    [SHORT_NAME] = {8},
+    [MEDIUM_NAME] = {16},
+    [LONG_NAME] = {128},
+    [SHORT_DESCRIPTION] = {180},
+    [LONG_DESCRIPTION] = {1200}
 };
 
 static bool is_attribute(uint8_t tag)
@@ -233,15 +246,17 @@ static uint8_t body_of_item(uint8_t parent_tag, uint8_t tag)
 
 struct token_table {
     uint32_t present; /* a bit for each tag that has an entry */
-    uint8_t length[TOKEN_TAGS];
+    struct octet_count length[TOKEN_TAGS];
+    struct character_count shown[TOKEN_TAGS];
     const uint8_t *text[TOKEN_TAGS];
 };
 
 static const struct token_table no_tokens = {0};
 
 struct text_facts {
-    uint32_t tokens;   /* the token octets in it, one bit each */
-    uint64_t expanded; /* its size once they are replaced */
+    uint32_t tokens;              /* the token octets in it, one bit each */
+    struct octet_count expanded;  /* what it takes once they are replaced */
+    struct character_count shown; /* what it shows then */
 };
 
 /* How many octets, in whole groups of eight, are printable ASCII at the start of a text. */
@@ -284,23 +299,23 @@ static size_t wide_character(const uint8_t *text, size_t left)
 }
 
 /* Whether a text is good, and what is to be known of it; token octets may stand in it whether they
- * have an entry or not. */
+ * have an entry or not.  Both counts begin as if each octet were a character that stands for itself. */
 static bool scan_text(const uint8_t *text, size_t length, const struct token_table *table,
                       struct text_facts *facts)
 {
+    struct text_facts found = {.expanded = {(uint32_t)length}, .shown = {(uint32_t)length}};
     size_t at = 0;
 
-    facts->tokens = 0;
-    facts->expanded = length;
     for (;;) {
         at += printable_run(text + at, length - at);
         if (at == length)
-            return true;
+            break;
         uint8_t octet = text[at];
         if (octet >= 0x80) {
             size_t size = wide_character(text + at, length - at);
             if (size == 0)
                 return false;
+            found.shown.characters -= (uint32_t)size - 1;
             at += size;
             continue;
         }
@@ -309,13 +324,17 @@ static bool scan_text(const uint8_t *text, size_t length, const struct token_tab
             continue;
         uint32_t bit = UINT32_C(1) << octet;
         if ((bit & TOKEN_OCTETS) != 0) {
-            facts->tokens |= bit;
-            facts->expanded += table->length[octet];
-            facts->expanded--;
+            found.tokens |= bit;
+            found.expanded.octets += table->length[octet].octets;
+            found.expanded.octets--;
+            found.shown.characters += table->shown[octet].characters;
+            found.shown.characters--;
         } else if ((bit & SPACING_OCTETS) == 0) {
             return false;
         }
     }
+    *facts = found;
+    return true;
 }
 
 /* Reads the entries of a token table: a tag that is a token octet and new, a length octet that is
@@ -339,7 +358,8 @@ static int read_token_table(const uint8_t *body, size_t length, struct token_tab
         if (!scan_text(text, size, &no_tokens, &facts) || facts.tokens != 0)
             return BAD_TOKEN_TABLE;
         table->present |= UINT32_C(1) << tag;
-        table->length[tag] = size;
+        table->length[tag] = facts.expanded;
+        table->shown[tag] = facts.shown;
         table->text[tag] = text;
         at += 2 + (size_t)size;
     }
@@ -358,8 +378,8 @@ static uint8_t *write_expanded(uint8_t *out, const uint8_t *text, size_t length,
     for (size_t at = 0; at < length; at++) {
         uint8_t octet = text[at];
         if (has_entry(table, octet)) {
-            memcpy(out, table->text[octet], table->length[octet]);
-            out += table->length[octet];
+            memcpy(out, table->text[octet], table->length[octet].octets);
+            out += table->length[octet].octets;
         } else {
             *out++ = octet;
         }
@@ -565,15 +585,16 @@ static int judge_placement(struct open_element *parent, uint8_t tag, uint8_t bod
 /* Refusals 10, 12 and 13 of a text. */
 static int judge_text(const struct tree *tree, struct node *node, uint8_t parent_tag)
 {
+    struct character_count limit = shown_limit[parent_tag];
     struct text_facts facts;
 
     if (!scan_text(body_octets(tree, node), node->length, &tree->table, &facts))
         return BAD_TEXT;
     node->has_tokens = facts.tokens != 0;
-    node->normal_size = facts.expanded;
+    node->normal_size = facts.expanded.octets;
     if ((facts.tokens & ~tree->table.present) != 0)
         return TOKEN_WITHOUT_ENTRY;
-    if (node->tag == CDATA && shown_limit[parent_tag] != 0 && facts.expanded > shown_limit[parent_tag])
+    if (node->tag == CDATA && limit.characters != 0 && facts.shown.characters > limit.characters)
         return SHOWN_TEXT_TOO_LONG;
     return ACCEPTED;
 }
@@ -974,7 +995,7 @@ static void next_run(struct reading *reading)
         size_t taken = 1;
         if (has_entry(reading->table, octet)) {
             reading->run = reading->table->text[octet];
-            reading->run_left = reading->table->length[octet];
+            reading->run_left = reading->table->length[octet].octets;
         } else {
             while (taken < reading->rest_left && !has_entry(reading->table, reading->rest[taken]))
                 taken++;
