@@ -4,6 +4,7 @@
 For random trees, of which the maker knows the meaning: each way to write a tree has the tree's normal
 form, its number of records and just its needs in store and room; a normal form is its own normal form
 and is listed; the writer makes it of the tree's records; and both ways to write a tree mean the same.
+Where a text of the tree has too many characters, its normal form is refused there, and its records too.
 Beside each tree, a pair of meanings.py that is known to mean the same or not; the ways to make one take turns, so
 COUNT is at least the number of ways.  At last such pairs whose normal forms are no objects, since they are too large.
 """
@@ -21,15 +22,47 @@ def pair_law(rng, answer, way, draw=random_tree):
     return f"{answer}: {way}", case_s(first.octets(), second.octets()), answer
 
 
+def place_over(node, start=0):
+    """Where the first text with too many characters stands in the normal form of an item, whose own place is `start`."""
+    parts = node.ordered()
+    at = start + len(node.normal()) - sum(len(part.normal()) for part in parts)
+    for part in parts:
+        if node.is_over(part):
+            return at
+        if part.too_long():
+            return place_over(part, at)
+        at += len(part.normal())
+    raise ValueError("no text in it is too long")
+
+
+def records_of(rng, tree):
+    pool, records = bytearray(), []
+    make_records(rng, tree, 1, 0, pool, records)
+    return records, bytes(pool)
+
+
+def over_laws(rng, tree):
+    """The same for a tree with such a text, whatever is lent."""
+    normal, place = tree.normal(), place_over(tree)
+    records, pool = records_of(rng, tree)
+    yield case_l(rng.choice([0, 65535]), normal), f"refused 13 at {place}"
+    yield case_n(rng.choice([0, 65535]), 65536, 65536, normal), f"refused 13 at {place}"
+    yield case_w(len(records), records, rng.choice([0, 65536]), pool), "refused 16 at 0"
+    yield case_s(normal, normal), f"refused 13 at {place} in first"
+    yield case_s(b"\x03\x00", normal), f"refused 13 at {place} in second"
+
+
 def tree_laws(rng):
     """Pairs of a case and the last line that its answer must have."""
     while True:
         maker, tree, raw = random_raw(rng)
         normal, octets, again = tree.normal(), raw.octets(), Encoder(maker, 0.3).raw(tree).octets()
-        if max(len(normal), len(again)) <= OBJECT_LIMIT and not tree.too_long():
+        if max(len(normal), len(again)) > OBJECT_LIMIT:
+            continue
+        if not tree.too_long():
             break
-    pool, records = bytearray(), []
-    make_records(rng, tree, 1, 0, pool, records)
+        yield from over_laws(rng, tree)
+    records, pool = records_of(rng, tree)
     count, store, room = tree.records(), tree.store(), len(normal)
     yield case_l(count, octets), f"records {count}"
     yield case_l(count, normal), f"records {count}"
@@ -40,8 +73,8 @@ def tree_laws(rng):
     yield case_n(count, store, room - 1, octets), "refused 15 at 0"
     if store > 0:
         yield case_n(count, store - 1, room, octets), "refused 15 at 0"
-    yield case_w(count, records, room, bytes(pool)), f"written {normal.hex()}"
-    yield case_w(count, records, room - 1, bytes(pool)), "refused 15 at 0"
+    yield case_w(count, records, room, pool), f"written {normal.hex()}"
+    yield case_w(count, records, room - 1, pool), "refused 15 at 0"
     yield case_s(octets, again), "same"
     yield case_s(normal, octets), "same"
 

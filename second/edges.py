@@ -152,18 +152,51 @@ def token_tables():
         yield from both(top(item(0x04, body), item(0x06, b"e\x01n"), name))
 
 
+def shown_texts(count):
+    """Texts of so many characters: letters of one to four octets, by turns, an accent behind a letter, and all but the first or the last plain."""
+    for letters in ("n", "é", "€", "𝄞", "né", "€n", "n𝄞", "né€𝄞", "𝄞€én", "e\u0301"):
+        yield (letters * count)[:count]
+    for wide in "é€𝄞":
+        yield wide + "n" * (count - 1)
+        yield "n" * (count - 1) + wide
+
+
+def shown_in_tokens(count):
+    """A token's entry, and a text of so many characters once the token is replaced: before letters, behind them, between them."""
+    for word in ("tt", "é", "é€", "abcdefgé", "𝄞" * 8, "é" * 127):
+        uses, rest = divmod(count, len(word))
+        yield word, "\2" * uses + "é" * rest
+        yield word, ("né" * rest)[:rest] + "\2" * uses
+        around = count - len(word)
+        if around > 0:
+            yield word, "é" * (around // 2) + "\2" + "€" * (around - around // 2)
+
+
 def shown_lengths():
+    def name(tag, text):
+        return item(tag, item(0x01, text.encode()))
     for tag, limit in SHOWN.items():
-        for size in (0, limit - 1, limit, limit + 1):
-            yield from both(top(item(tag, item(0x01, b"n" * size))))
-            tokens = b"\x02" * (size // 2) + b"\x03" * 1300 + b"n" * (size % 2)
-            yield from both(top(item(0x04, entry(0x02, b"tt") + entry(0x03)), item(tag, item(0x01, tokens))))
-        yield from both(top(item(tag, item(0x80, b"n" * (limit + 1)))))
-        yield from both(top(item(tag, item(0x20, item(0x01, b"n" * (limit + 1))))))
-        yield from both(top(item(0x04, entry(0x02, b"t" * 255)), item(tag, item(0x01, b"\x02\x02" + b"a" * limit))))
-        wide = "é".encode() * (limit // 2)
-        yield from both(top(item(tag, item(0x01, wide))))
-        yield from both(top(item(tag, item(0x01, wide + b"e"))))
+        yield from both(top(name(tag, "")))
+        for count in (limit - 1, limit, limit + 1):
+            for text in shown_texts(count):
+                yield from both(top(name(tag, text)))
+            for word, text in shown_in_tokens(count):
+                table = item(0x04, entry(0x02, word.encode()) + entry(0x03))
+                folded, plain = top(table, name(tag, text)), text.replace("\2", word)
+                yield from both(folded)
+                yield from both(top(table, name(tag, text + "\3" * 1300)))
+                for other in (plain, plain[:-1] + "z", plain[1:]):
+                    yield case_s(folded, top(name(tag, other)))
+                    yield case_s(top(name(tag, other)), folded)
+        for text in shown_texts(limit + 1):
+            yield from both(top(item(tag, item(0x80, text.encode()))))
+            yield from both(top(item(tag, name(0x20, text))))
+        yield from both(top(item(0x04, entry(0x02, b"t" * 255)), name(tag, "\2\2" + "a" * limit)))
+        # as many octets as the limit has characters, and one more
+        for wide, octets in (("é", 2), ("€", 3), ("𝄞", 4)):
+            text = wide * (limit // octets) + "e" * (limit % octets)
+            yield from both(top(name(tag, text)))
+            yield from both(top(name(tag, text + "e")))
 
 
 def time_octets(date=50000, reserved=0, offset=None, seconds=None, hours=12, minutes=30, low=0):
@@ -245,7 +278,7 @@ FAULTS = (
     + each("820100 | 0601FF | 010180 | 82020100 | 010201FF")
     + each("040101 | 04020900 | 040401000100 | 0403010102 | 04020101")
     + each("820101 | 830102 | 060101 | 010105")
-    + each("100B 0109 6E6E6E6E6E6E6E6E6E")
+    + each("100B 0109 6E6E6E6E6E6E6E6E6E | 1014 0112 C3A9C3A9C3A9C3A9C3A9C3A9C3A9C3A9C3A9")
 )
 GOOD = each("|900101|820178|0400|0403010174|04020200|0602656E|1000|070101|010163")
 
@@ -337,8 +370,11 @@ def written():
         for tag, kind in ((0x01, 2), (0x06, 0), (0x82, 1)):
             yield case_w(2, [head, [tag, kind, 2, 0, 0, len(text)]], 65536, text)
     for tag, limit in SHOWN.items():
-        for size in (limit, limit + 1):
-            yield case_w(3, [head, [tag, 0, 2, 0, 0, 0], [0x01, 2, 3, 1, 0, size]], 65536, b"n" * 1300)
+        for count in (limit - 1, limit, limit + 1):
+            for octets in (text.encode() for text in shown_texts(count)):
+                name, size = [head, [tag, 0, 2, 0, 0, 0], [0x01, 2, 3, 1, 0, len(octets)]], len(top(item(tag, item(0x01, octets))))
+                for room in (size - 1, size, 65536):
+                    yield case_w(3, name, room, octets + "é€".encode())
     for size in (253, 254, 32759, 32760, 32761, 65535):
         for room in (size + 5, size + 6, size + 8, 65536):
             yield case_w(2, [head, [0x01, 2, 2, 0, 0, size]], min(65536, room), b"n" * 65535)

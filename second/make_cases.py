@@ -6,7 +6,7 @@
 
 A random case begins as a tree of known items with its meaning.  From the tree come its octets (in
 any of the many forms that mean the same), its normal form, its records and what has to be lent;
-about half of the cases are then damaged.  Written from documents 01 and 002 alone.
+about half of the cases are then damaged.  Written from documents 01, 02 and 002 alone.
 """
 import argparse
 import random
@@ -56,11 +56,14 @@ ATTRIBUTES = {
 HOLDERS = [tag for tag in ATTRIBUTES if tag > 0x03]  # elements that hold items, the tops apart
 COORDINATES = [0x34, 0x35]
 UNKNOWN_ELEMENTS = [t for t in range(0x05, 0x80) if t != 0x06 and t not in ATTRIBUTES and t not in COORDINATES]
-SHOWN = {0x10: 8, 0x11: 16, 0x12: 128, 0x1A: 180, 0x1B: 1200}
+SHOWN = {0x10: 8, 0x11: 16, 0x12: 128, 0x1A: 180, 0x1B: 1200}  # the most characters of each one's CDATA (2026-01)
+CHILDREN = HOLDERS + list(SHOWN)  # these stand in trees more often
 TOKEN_TAGS = [t for t in range(0x01, 0x14) if t not in (0x09, 0x0A, 0x0D)]
 ELEMENT, ATTRIBUTE, CDATA = 0, 1, 2
 OBJECT_LIMIT = 32768
 FIELD_LIMIT = 65536
+# code points by the octets that each takes
+LETTERS = {1: range(0x20, 0x80), 2: (0x80, 0xE9, 0x301, 0x7FF), 3: (0x800, 0x20AC, 0xD7FF, 0xF900, 0xFFFD, 0xFFFF), 4: (0x10000, 0x1F4FB, 0x10FFFF)}
 
 
 # ---- Cases -------------------------------------------------------------------------------------
@@ -136,6 +139,11 @@ class Raw:
 
 # ---- Values and their meaning ------------------------------------------------------------------
 
+def characters_in(text):
+    """How many characters a text without tokens has: code points, whatever octets they take."""
+    return len(text.decode())
+
+
 class Fixed:
     """Octets that are kept as they stand."""
 
@@ -207,11 +215,12 @@ class Node:
     def items(self):
         return self.attributes + self.children
 
+    def ordered(self):
+        """Its items as they stand in the normal form."""
+        return sorted(self.attributes, key=lambda a: a.tag) + self.children
+
     def normal(self):
-        if self.value is not None:
-            return item(self.tag, self.value.normal)
-        ordered = sorted(self.attributes, key=lambda a: a.tag) + self.children
-        return item(self.tag, b"".join(part.normal() for part in ordered))
+        return item(self.tag, b"".join(part.normal() for part in self.ordered()) if self.value is None else self.value.normal)
 
     def walk(self):
         yield self
@@ -224,10 +233,12 @@ class Node:
     def store(self):
         return sum(len(node.value.normal) for node in self.walk() if node.value is not None)
 
+    def is_over(self, part):
+        """Whether an item of it is a text with more characters than may be shown."""
+        return part.tag == 0x01 and characters_in(part.value.normal) > SHOWN.get(self.tag, FIELD_LIMIT)
+
     def too_long(self):
-        """Whether a text in it is longer than may be shown."""
-        return any(part.tag == 0x01 and len(part.value.normal) > SHOWN.get(node.tag, FIELD_LIMIT)
-                   for node in self.walk() for part in node.children)
+        return any(node.is_over(part) for node in self.walk() for part in node.children)
 
     def copy(self):
         twin = Node(self.tag, self.value)
@@ -244,7 +255,10 @@ class Maker:
         self.table = {}
         if rng.random() < 0.4:
             for tag in rng.sample(TOKEN_TAGS, rng.choice([0, 1, 2, 3, 5, 16])):
-                self.table[tag] = self.letters(rng.choice([0, 1, 1, 2, 3, 5, 8, 20, 255]))
+                if rng.random() < 0.4:
+                    self.table[tag] = self.characters(rng.choice([1, 2, 4, 7, 8, 16]))
+                else:
+                    self.table[tag] = self.letters(rng.choice([0, 1, 1, 2, 3, 5, 8, 20, 255]))
 
     def letters(self, size):
         """Good text of at most `size` octets, most often of exactly that many."""
@@ -253,36 +267,42 @@ class Maker:
             if rng.random() < 0.85:
                 out += bytes(rng.randint(0x20, 0x7F) for _ in range(min(rng.randint(1, 12), size - len(out))))
             else:
-                code = rng.choice([0x09, 0x0A, 0x0D, 0x80, 0xE9, 0x7FF, 0x800, 0x20AC, 0xD7FF, 0xF900, 0xFFFD, 0xFFFF,
-                                   0x10000, 0x1F4FB, 0x10FFFF, rng.randint(0x80, 0xD7FF)])
+                code = rng.choice([0x09, 0x0A, 0x0D, *LETTERS[2], *LETTERS[3], *LETTERS[4], rng.randint(0x80, 0xD7FF)])
                 wide = chr(code).encode()
                 if len(out) + len(wide) <= size:
                     out += wide
         return out
 
-    def text(self, limit=None):
-        rng, pieces, total = self.rng, [], 0
-        sizes = [0, 1, 2, 3, 5, 8, 8, 12, 16, 30] if rng.random() < 0.97 else [100, 253, 254, 300]
-        size = rng.choice(sizes)
-        if limit is not None:
-            size = min(size, limit)
-            if rng.random() < 0.15:
-                size = limit
-        while total < size:
+    def characters(self, count):
+        """Good text of just so many characters: letters of one width, or of several."""
+        rng = self.rng
+        widths = rng.choice([[2], [2], [3], [4], [1, 2], [1, 1, 1, 2], [1, 2, 3, 4]])
+        return "".join(chr(rng.choice(LETTERS[rng.choice(widths)])) for _ in range(count)).encode()
+
+    def pieces(self, size, letters, measure):
+        """Text that measures just so much, as `letters` makes it, in pieces of which some are entries of the table."""
+        rng, pieces, left = self.rng, [], size
+        while left > 0:
             token = rng.choice(list(self.table)) if self.table and rng.random() < 0.4 else 0
-            octets = self.table[token] if token else self.letters(rng.randint(1, size - total))
-            if token and total + len(octets) > size:
-                octets, token = self.letters(size - total), 0
+            octets = self.table[token] if token else letters(rng.randint(1, left))
+            if measure(octets) > left:
+                octets, token = letters(left), 0
             pieces.append((octets, token))
-            total += len(octets)
+            left -= measure(octets)
         return Text(pieces)
 
+    def text(self, limit=FIELD_LIMIT):
+        """Text of at most `limit` octets."""
+        sizes = [0, 1, 2, 3, 5, 8, 8, 12, 16, 30] if self.rng.random() < 0.97 else [100, 253, 254, 300]
+        return self.pieces(min(self.rng.choice(sizes), limit), self.letters, len)
+
     def shown_text(self, tag):
-        """Text for the CDATA of an element; now and then one octet more than may be shown."""
+        """Text for the CDATA of an element; where that has a limit, every other text comes to it or within one of it, in letters of any width."""
         limit = SHOWN.get(tag)
-        if limit is not None and self.rng.random() < 0.03:
-            return Text([(self.letters(limit), 0), (b"x", 0)])
-        return self.text(limit)
+        if limit is None or self.rng.random() < 0.5:
+            return self.text(limit or FIELD_LIMIT)
+        count = limit + self.rng.choice([-1, 0, 0, 0, 1, 1])
+        return self.pieces(count, *self.rng.choice([(self.characters, characters_in), (self.letters, len)]))
 
     def time(self):
         rng = self.rng
@@ -323,7 +343,7 @@ class Maker:
             if rng.random() < 0.06:
                 node.children.append(Node(rng.choice(COORDINATES), self.value(PLAIN)))
             else:
-                node.children.append(self.fill(Node(rng.choice(HOLDERS)), depth + 1, share - 1))
+                node.children.append(self.fill(Node(rng.choice(CHILDREN)), depth + 1, share - 1))
         if rng.random() < (0.8 if node.tag in SHOWN else 0.2):
             node.children.append(Node(0x01, self.shown_text(node.tag)))
         return node

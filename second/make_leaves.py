@@ -96,7 +96,7 @@ def random_octets(rng, letter):
         return bytes([rng.choice([0, rng.randrange(0x40), rng.randrange(256)]), rng.randrange(256)])
     maker = Maker(rng)
     if letter == "U":
-        text = maker.letters(rng.choice([0, 1, 2, 7, 8, 9, 15, 16, 17, 31, 33, 60]))
+        text = rng.choice([maker.letters, maker.characters])(rng.choice([0, 1, 2, 7, 8, 9, 15, 16, 17, 31, 33, 60]))
         at = rng.randint(0, len(text))
         return rng.choice([b"\0", b"\1"]) + text[:at] + rng.choice(BAD_OCTETS + [b""] * len(BAD_OCTETS)) + text[at:]
     octets = (maker.bearer() if letter == "B" else maker.time()).encoded(rng)

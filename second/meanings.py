@@ -1,4 +1,4 @@
-"""Pairs of objects that are known to mean the same, or to mean different things, from documents 01 and 002 alone.
+"""Pairs of objects that are known to mean the same, or to mean different things, from documents 01, 02 and 002 alone.
 
 `meaning` is document 01's definition, over the trees of make_cases.py.  DIFFERENT has ways to change a tree's meaning in one
 point, SAME ways to change only how it is written; known_pair makes a pair of objects in one of these ways.
@@ -110,11 +110,11 @@ def text_changed(change, *kinds):
     return value_changed(kinds, changed)
 
 
-def other_letter(rng, text):
+def other_letter(rng, text, letters="aZ 0~"):
     if not text:
         return None
     at = rng.randrange(len(text))
-    return text[:at] + rng.choice([letter for letter in "aZ 0~" if letter != text[at]]) + text[at + 1:]
+    return text[:at] + rng.choice([letter for letter in letters if letter != text[at]]) + text[at + 1:]
 
 
 def other_case(rng, text):
@@ -255,6 +255,7 @@ DIFFERENT = {
     "a letter of CDATA": text_changed(other_letter, CDATA),
     "a letter of an attribute": text_changed(other_letter, TEXT),
     "a letter of the language": text_changed(other_letter, LANGUAGE),
+    "a wide letter, as many characters": text_changed(lambda rng, text: other_letter(rng, text, "é€𝄞"), CDATA, TEXT, LANGUAGE),
     "capital or small": text_changed(other_case, CDATA, TEXT, LANGUAGE),
     "the order of two letters": text_changed(other_order, CDATA, TEXT, LANGUAGE),
     "a blank behind a text": text_changed(lambda _, text: text + " ", CDATA, TEXT, LANGUAGE),
@@ -291,7 +292,7 @@ DIFFERENT = {
 
 def written(node):
     """The items of a tree's normal form, each with the item of the tree that it writes."""
-    body = node.value.normal if node.value is not None else [written(part) for part in sorted(node.attributes, key=lambda a: a.tag) + node.children]
+    body = node.value.normal if node.value is not None else [written(part) for part in node.ordered()]
     raw = Raw(node.tag, body)
     raw.node = node
     return raw
