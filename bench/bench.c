@@ -1,15 +1,17 @@
 /*
  * bench FOLDER: times the library against the second program, in one process, on the objects that make_objects.py
- * wrote to the folder.  Answers are compared before anything is timed.  A time is the least of many
- * short runs on the clock of the process, in which the two programs and all sizes take turns, so that a processor
- * that changes its pace does so for all of them.  A run goes over all objects of a size, of which there are the
- * more the smaller they are.
+ * wrote to the folder, and its check of text against two plain ones as well.  Answers are compared before anything
+ * is timed.  A time is the least of many short runs on the clock of the process, in which all programs and all sizes
+ * take turns, so that a processor that changes its pace does so for all of them.  A run goes over all objects of a
+ * size, of which there are the more the smaller they are.
  */
+#define _POSIX_C_SOURCE 199309L /* clock_gettime */
 #define main second_main
 #include "../second/second.c"
 #undef main
 
 #include "spi.h"
+#include "text_checks.h"
 
 #include <stdlib.h>
 #include <time.h>
@@ -26,6 +28,12 @@ struct set {
     size_t count, texts, text_starts[PLACES], text_sizes[PLACES];
     struct file objects[MOST_OBJECTS], others[MOST_OBJECTS], words;
 };
+
+#ifdef __clang__
+#define COMPILER __VERSION__
+#else
+#define COMPILER "gcc " __VERSION__
+#endif
 
 static const int kilos[] = {1, 4, 16, 32};
 enum { SIZES = sizeof kilos / sizeof kilos[0] };
@@ -47,7 +55,7 @@ static void stop(const char *why)
     exit(2);
 }
 
-/* ---- What is timed; each answers by a number that both programs share ---------------------------- */
+/* ---- What is timed; each answers by a number that all programs share ----------------------------- */
 
 /* A call on each object of a size, and the sum of its answers. */
 #define ON_EACH(name, one)                                                                                             \
@@ -107,26 +115,47 @@ ON_EACH(second_normalise, normalise_by_second)
 ON_EACH(library_same, same_by_library)
 ON_EACH(second_same, same_by_second)
 
-static uint64_t library_text(void)
+static bool check_by_library(const uint8_t *text, size_t size, bool tokens)
 {
-    uint64_t good = 0;
-    for (size_t i = 0; i < set->texts; i++)
-        good += spi_check_text(set->words.octets + set->text_starts[i], set->text_sizes[i], true);
-    return good;
+    return spi_check_text(text, size, tokens);
 }
 
-static uint64_t second_text(void)
+static bool check_by_second(const uint8_t *text, size_t size, bool tokens)
 {
-    uint64_t good = 0;
     struct text_facts facts;
-    for (size_t i = 0; i < set->texts; i++)
-        good += scan_text(set->words.octets + set->text_starts[i], set->text_sizes[i], &no_tokens, &facts);
-    return good;
+    return scan_text(text, size, &no_tokens, &facts) && (tokens || facts.tokens == 0);
 }
 
-/* ---- Timing ------------------------------------------------------------------------------------- */
+/* A check of each text of a size, and how many are good. */
+#define ON_EACH_TEXT(name, check)                                                                                      \
+    static uint64_t name(void)                                                                                         \
+    {                                                                                                                  \
+        uint64_t good = 0;                                                                                             \
+        for (size_t i = 0; i < set->texts; i++)                                                                        \
+            good += check(set->words.octets + set->text_starts[i], set->text_sizes[i], true);                          \
+        return good;                                                                                                   \
+    }
+
+ON_EACH_TEXT(library_text, check_by_library)
+ON_EACH_TEXT(second_text, check_by_second)
+ON_EACH_TEXT(octet_text, check_by_octet)
+ON_EACH_TEXT(table_text, check_by_table)
 
 typedef uint64_t (*call)(void);
+
+/* The library's call, then those of the programs that it is held to. */
+enum { MOST_PROGRAMS = 4 };
+struct calls {
+    size_t count;
+    call by[MOST_PROGRAMS];
+};
+
+static const struct calls reading = {2, {library_read, second_read}};
+static const struct calls normalising = {2, {library_normalise, second_normalise}};
+static const struct calls comparing = {2, {library_same, second_same}};
+static const struct calls checking = {4, {library_text, second_text, octet_text, table_text}};
+
+/* ---- Timing ------------------------------------------------------------------------------------- */
 
 static volatile uint64_t kept;
 static double greatest_ratio, greatest_growth;
@@ -146,56 +175,80 @@ static double time_runs(call called, unsigned runs)
     return (now() - start) / runs;
 }
 
-/* A row: objects and their octets, ns an octet of both programs, their ratio, and how the library's cost an octet grew
- * from the size before. */
-static void print_row(const char *name, size_t octets, const double least[2], double before)
+static void print_header(void)
 {
-    double each = least[0] / (double)octets, ratio = least[0] / least[1];
-    printf("%-22s %3zu * %5zu %9.3f %9.3f %7.2f", name, set->count, octets / set->count, each, least[1] / (double)octets, ratio);
-    greatest_ratio = ratio > greatest_ratio ? ratio : greatest_ratio;
+    printf("%-22s %11s %9s %8s %9s %6s %9s %6s %9s %6s\n", "ns an octet", "octets", "library", "growth", "second", "ratio",
+           "by octet", "ratio", "by table", "ratio");
+}
+
+/* A row: objects and their octets, the library's ns an octet and how they grew from the size before, and each other
+ * program's with the ratio of the library's to it. */
+static void print_row(const char *name, size_t octets, const double *least, size_t programs, double before)
+{
+    double each = least[0] / (double)octets;
+    printf("%-22s %3zu * %5zu %9.3f", name, set->count, octets / set->count, each);
     if (before != 0) {
         printf(" %8.2f", each / before);
         greatest_growth = each / before > greatest_growth ? each / before : greatest_growth;
+    } else {
+        printf(" %8s", "");
+    }
+    for (size_t p = 1; p < programs; p++) {
+        double ratio = least[0] / least[p];
+        printf(" %9.3f %6.2f", least[p] / (double)octets, ratio);
+        greatest_ratio = ratio > greatest_ratio ? ratio : greatest_ratio;
     }
     printf("\n");
 }
 
-static void compare(const char *name, size_t (*octets)(void), call library, call other_program)
+static void compare(const char *name, size_t (*octets)(void), const struct calls *calls)
 {
-    unsigned runs[SIZES];
-    double least[SIZES][2];
+    unsigned runs[SIZES][MOST_PROGRAMS];
+    double least[SIZES][MOST_PROGRAMS];
     for (size_t k = 0; k < SIZES; k++) {
         set = &sets[k];
-        if (library() != other_program())
-            stop("the two answer differently");
-        double once = time_runs(library, 3);
-        runs[k] = once < RUN_NANOSECONDS ? (unsigned)(RUN_NANOSECONDS / once) + 1 : 1;
-        least[k][0] = least[k][1] = 1e18;
+        uint64_t answer = calls->by[0]();
+        for (size_t p = 0; p < calls->count; p++) {
+            if (calls->by[p]() != answer)
+                stop("the programs answer differently");
+            double once = time_runs(calls->by[p], 3);
+            runs[k][p] = once < RUN_NANOSECONDS ? (unsigned)(RUN_NANOSECONDS / once) + 1 : 1;
+            least[k][p] = 1e18;
+        }
     }
     for (int turn = 0; turn < TURNS; turn++)
         for (size_t k = 0; k < SIZES; k++) {
             set = &sets[k];
-            double mine = time_runs(library, runs[k]), its = time_runs(other_program, runs[k]);
-            least[k][0] = mine < least[k][0] ? mine : least[k][0];
-            least[k][1] = its < least[k][1] ? its : least[k][1];
+            for (size_t p = 0; p < calls->count; p++) {
+                double time = time_runs(calls->by[p], runs[k][p]);
+                least[k][p] = time < least[k][p] ? time : least[k][p];
+            }
         }
     double before = 0;
     for (size_t k = 0; k < SIZES; k++) {
         set = &sets[k];
-        print_row(name, octets(), least[k], before);
+        print_row(name, octets(), least[k], calls->count, before);
         before = least[k][0] / (double)octets();
     }
 }
 
 /* ---- Objects and texts -------------------------------------------------------------------------- */
 
-static void load(struct file *file, const char *folder, const char *name, int kilo, size_t i)
+static FILE *opened(const char *folder, const char *name)
 {
     char path[4096];
-    snprintf(path, sizeof path, "%s/%s-%d-%zu.spi", folder, name, kilo, i);
+    snprintf(path, sizeof path, "%s/%s", folder, name);
     FILE *stream = fopen(path, "rb");
     if (stream == NULL)
-        stop("make_objects.py has not written the objects");
+        stop("make_objects.py has not written the objects and texts");
+    return stream;
+}
+
+static void load(struct file *file, const char *folder, const char *name, int kilo, size_t i)
+{
+    char whole_name[64];
+    snprintf(whole_name, sizeof whole_name, "%s-%d-%zu.spi", name, kilo, i);
+    FILE *stream = opened(folder, whole_name);
     file->size = fread(file->octets, 1, sizeof file->octets, stream);
     fclose(stream);
 }
@@ -272,6 +325,31 @@ static void object_texts(void)
     }
 }
 
+/* All checks are held against each other before any is timed, on the texts of a file: for each two octets of size, one
+ * that says whether tokens may stand in it, and its own. */
+static void compare_checks(const char *folder)
+{
+    static uint8_t text[UINT16_MAX];
+    uint8_t head[3];
+    size_t count[2] = {0, 0};
+    FILE *stream = opened(folder, "texts");
+    while (fread(head, 1, sizeof head, stream) == sizeof head) {
+        size_t size = (size_t)head[0] << 8 | head[1];
+        bool tokens = head[2] != 0;
+        if (fread(text, 1, size, stream) != size)
+            stop("the last of the texts is cut");
+        bool good = check_by_second(text, size, tokens);
+        if (check_by_library(text, size, tokens) != good || check_by_octet(text, size, tokens) != good ||
+            check_by_table(text, size, tokens) != good)
+            stop("the checks of text differ");
+        count[good]++;
+    }
+    fclose(stream);
+    if (count[true] == 0 || count[false] == 0)
+        stop("the texts are not both good and bad");
+    printf("checks agree on %zu good texts and %zu bad ones\n", count[true], count[false]);
+}
+
 /* Normal forms are held against each other before anything is timed. */
 static void compare_normal_forms(void)
 {
@@ -289,11 +367,11 @@ static void compare_calls(const char *folder, const char *name, const char *twin
 {
     load_all(folder, name, twin);
     compare_normal_forms();
-    compare(labels[0], object_octets, library_read, second_read);
-    compare(labels[1], object_octets, library_normalise, second_normalise);
-    compare(labels[2], both_octets, library_same, second_same);
+    compare(labels[0], object_octets, &reading);
+    compare(labels[1], object_octets, &normalising);
+    compare(labels[2], both_octets, &comparing);
     object_texts();
-    compare(labels[3], text_octets, library_text, second_text);
+    compare(labels[3], text_octets, &checking);
 }
 
 /* One call alone on an object of 32 KB, many times, for a profiler to look at: bench FOLDER CALL OBJECT RUNS. */
@@ -321,15 +399,16 @@ int main(int count, char **arguments)
         stop("the folder of the objects is its one word");
     const char *folder = arguments[1];
     (void)second_main;
-    printf("%-22s %11s %9s %9s %7s %8s\n", "", "octets", "library", "second", "ratio", "growth");
-    printf("%-22s %11s %9s %9s %7s %8s\n", "", "", "ns/octet", "ns/octet", "", "");
+    printf("compiled by %s\n", COMPILER);
+    compare_checks(folder);
+    print_header();
     compare_calls(folder, "day", "other", (const char *[]){"read day", "normalise day", "same day", "texts of the day"});
     compare_calls(folder, "small", "twin",
                   (const char *[]){"read small", "normalise small", "same small", "texts of small items"});
     repeat_text("The news at one, and then the weather for the coast. ");
-    compare("text English", text_octets, library_text, second_text);
+    compare("text English", text_octets, &checking);
     repeat_text("Le café de São João à Łódź, avec Jürgen. ");
-    compare("text accented", text_octets, library_text, second_text);
+    compare("text accented", text_octets, &checking);
     printf("greatest ratio %.2f (goal 1.50), greatest growth %.2f (goal 1.20)\n", greatest_ratio, greatest_growth);
     return 0;
 }

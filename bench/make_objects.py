@@ -9,11 +9,16 @@
 N is 1, 4, 16 and 32: the object and its normal form have as many octets as fit N * 1024. I counts the objects of a size, 32 / N of
 them, so that a round over those of one size is as many octets as over those of another: a processor that has learnt the branches of one
 small object by heart would make small objects look cheap.
+
+    texts           texts on which all checks of text have to agree: those that the leaves are asked about, every way that a sequence can
+                    begin, and random ones; for each its size in two octets, an octet that says whether tokens may stand in it, and its own
 """
 import random
 import sys
+from itertools import product
 from pathlib import Path
 
+import make_leaves
 from make_cases import Bearer, Fixed, Node, Text, Time, item
 
 KILO = 1024
@@ -114,8 +119,22 @@ def grown(make, limit, number_of, form):
     raise ValueError("the programmes never fill the object")
 
 
+def texts():
+    """Texts with an octet before each that says whether tokens may stand in it."""
+    yield from (question[2:] for question in make_leaves.texts())
+    some = 0x7F, 0x80, 0x8F, 0x90, 0x9F, 0xA0, 0xA3, 0xA4, 0xBF, 0xC0
+    starts = [[range(0x100)] * 2, [range(0xE0, 0xF0), range(0x100), some], [range(0xF0, 0x100), range(0x100), some, (0x80, 0xC0)]]
+    for start in starts:
+        yield from (b"\1plain text " + bytes(octets) for octets in product(*start))
+    rng = random.Random("texts")
+    for number_of in range(20000):
+        flag, *octets = make_leaves.random_octets(rng, "U")
+        yield bytes([flag]) + bytes(octets) * (1 if number_of % 20 else rng.randint(1, 50))
+
+
 def main():
     folder = Path(sys.argv[1])
+    (folder / "texts").write_bytes(b"".join((len(text) - 1).to_bytes(2, "big") + text for text in texts()))
     for kilo in (1, 4, 16, 32):
         for i in range(32 // kilo):
             day, other = grown(programme, kilo * KILO, i, 2)
