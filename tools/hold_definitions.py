@@ -30,6 +30,7 @@ ANSWERS = """-- What the definitions answer to a case of the stream.
 use mathlib.Core.Bool.{Bool, true, false, cond}
 use mathlib.Core.List.{List, [], _∷_, map}
 use Prim.Native.Nat.{ℕ}
+use Rattle.octets.specs.Counts.{asOctets}
 use Rattle.format.specs.declared.Record.{Record}
 use Rattle.format.specs.declared.ReadAnswer.{ReadAnswer}
 use Rattle.format.specs.declared.ReadAnswer.the-variants.{Records, NotRead}
@@ -44,7 +45,7 @@ use Rattle.format.specs.Same.{sameAnswer}
 
 pub data Case : Type 0 where
   list : ℕ → List ℕ → Case
-  normalise : Lent → List ℕ → Case
+  normalise : (places store room : ℕ) → List ℕ → Case
   write : ℕ → Lists → ℕ → List ℕ → Case
   compare : List ℕ → List ℕ → Case
 
@@ -72,10 +73,14 @@ afterSame Different = different
 afterSame (FirstRefused r) = refusedFirst (r .number) (r .place)
 afterSame (SecondRefused r) = refusedSecond (r .number) (r .place)
 
+-- of a case's numbers, those of a store and of a room are counts of octets
+abbrev pub lentOf : (places store room : ℕ) → Lent
+lentOf places store room = record { records = places; store = asOctets store; room = asOctets room }
+
 abbrev pub answer : Case → Answer
 answer (list places o) = afterRead (readAnswer places (judge o)) (readRecords places (judge o))
-answer (normalise lent o) = afterWrite (normalAnswer lent (judge o)) (handed lent normalOf (judge o))
-answer (write n lists room o) = afterWrite (writeAnswer room (treeGiven n lists o)) (writeOctets room (treeGiven n lists o))
+answer (normalise p s r o) = afterWrite (normalAnswer (lentOf p s r) (judge o)) (handed (lentOf p s r) normalOf (judge o))
+answer (write n lists room o) = afterWrite (writeAnswer (asOctets room) (treeGiven n lists o)) (writeOctets (asOctets room) (treeGiven n lists o))
 answer (compare a b) = afterSame (sameAnswer (judge a) (judge b))
 """
 
@@ -121,8 +126,7 @@ def case_term(case):
     if letter == "L":
         return f"list {case['places']} ({numbers(case['parts'][0])})"
     if letter == "N":
-        lent = f"record {{ records = {case['places']}; store = {case['store']}; room = {case['room']} }}"
-        return f"normalise ({lent}) ({numbers(case['parts'][0])})"
+        return f"normalise {case['places']} {case['store']} {case['room']} ({numbers(case['parts'][0])})"
     if letter == "S":
         return f"compare ({numbers(case['parts'][0])}) ({numbers(case['parts'][1])})"
     names = ("tags", "kinds", "depths", "parents", "starts", "sizes")
