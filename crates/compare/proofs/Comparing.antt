@@ -26,11 +26,12 @@ use Rattle.format.specs.Meaning.Meaning.{nothing, element, leaf}
 use Rattle.format.specs.WellFormed.{WellFormed}
 use Rattle.format.specs.Same.{sameOctets, sameMaybe, sameAttributes, sameMeaning}
 use Rattle.reader.specs.Filling.{Accepts}
+use Rattle.survey.specs.Places.{between, bodyOfTag}
 use Rattle.compare.specs.declared.walks.Child.{Child}
 use Rattle.compare.specs.declared.walks.Child.the-variants.{End, Found}
 use Rattle.compare.specs.declared.items.Content.{Content}
 use Rattle.compare.specs.declared.items.Content.the-variants.{Items as InItems, Text as InText, Octets as InOctets}
-use Rattle.compare.specs.Walks.{between, bodyOfTag, childrenIn, ChildFound, Children}
+use Rattle.compare.specs.Walks.{childrenIn, ChildFound, Children}
 use Rattle.compare.specs.Items.{sameSets, sameText, sameEach, sameElement, sameChildren, contentOf, isEnded}
 use Rattle.format.proofs.Same.{meaning-exactly}
 use Rattle.compare.proofs.Walking.{Told, children-told}

@@ -19,7 +19,7 @@ use Rattle.format.specs.Same.{sameOctets}
 use Rattle.survey.specs.declared.Lies.{Lies}
 use Rattle.survey.specs.declared.Lies.the-variants.{Outside, Between}
 use Rattle.compare.specs.declared.texts.Rest.{Rest}
-use Rattle.compare.specs.Walks.{between}
+use Rattle.survey.specs.Places.{between}
 use Rattle.compare.specs.Bodies.{allBy}
 use Rattle.compare.specs.Texts.{Entry, Standing, left, Inside, Opened, ahead, beyond, isOver, orOne, shared, Shared, Common}
 

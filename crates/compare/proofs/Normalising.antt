@@ -41,7 +41,7 @@ use Rattle.survey.proofs.Found.{not-attribute}
 use Rattle.survey.proofs.Rising.{rising-none, rising-same}
 use Rattle.compare.specs.Normal.{isShortest, isWritten, isRising, shaped}
 use Rattle.format.proofs.Same.{octets-same, same-octets}
-use Rattle.compare.proofs.Walking.{behind-attributes, stage-behind}
+use Rattle.survey.proofs.Seeking.{behind-attributes, stage-behind}
 use Rattle.compare.proofs.Shaping.{ownShape, shaped-item, shaped-end, stands-written}
 use Rattle.compare.proofs.Frames.{framing, framed-back, rising-first, First, first-of}
 use Rattle.compare.proofs.Frames.First.{missing, found}

@@ -25,10 +25,10 @@ use Rattle.reader.specs.Filling.{Accepts}
 use Rattle.survey.specs.declared.Lies.{Lies}
 use Rattle.survey.specs.declared.Lies.the-variants.{Outside, Between}
 use Rattle.survey.proofs.Rising.{known-few}
+use Rattle.survey.specs.Places.{between, spanOfTag, bodyBy, bodyOfTag}
 use Rattle.compare.specs.Bodies.{sameBody}
-use Rattle.compare.specs.Walks.{between, spanOfTag, bodyBy, bodyOfTag}
 use Rattle.compare.specs.Items.{isAbsent, sameFound, sameFrom, sameSets, sameText}
-use Rattle.compare.proofs.Walking.{SoughtFound, Sought, span-says}
+use Rattle.survey.proofs.Seeking.{SoughtFound, Sought, span-says}
 
 pub absent-yes : (r : Lies) → r ≡ Outside → true ≡ isAbsent r
 unfolding isAbsent

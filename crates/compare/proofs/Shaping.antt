@@ -33,11 +33,10 @@ use Rattle.format.specs.Judge.{isItems}
 use Rattle.format.specs.Same.{sameOctets}
 use Rattle.survey.specs.declared.Lies.{Lies}
 use Rattle.survey.specs.declared.Lies.the-variants.{Outside, Between}
-use Rattle.survey.specs.Places.{isWhole, firstBody, afterFirst, liesAt}
+use Rattle.survey.specs.Places.{isWhole, firstBody, afterFirst, liesAt, between}
 use Rattle.survey.specs.Normal.{writtenAs}
 use Rattle.survey.proofs.Places.{Lying, lying, not-whole, bounds, body-is, later-is, tag-is}
 use Rattle.survey.proofs.WrittenAs.{written-some, written-none}
-use Rattle.compare.specs.Walks.{between}
 use Rattle.compare.specs.Normal.{isShortest, isWritten, isRising, shapedWithin, shaped, shapedBody}
 use Rattle.format.proofs.Same.{octets-same, same-octets}
 

@@ -19,18 +19,17 @@ use Rattle.values.proofs.Laws.{known-kind, unknown-kind}
 use Rattle.format.specs.Same.{sameMaybe}
 use Rattle.survey.specs.declared.Lies.{Lies}
 use Rattle.survey.specs.declared.Lies.the-variants.{Outside, Between}
-use Rattle.survey.specs.Places.{liesAt}
+use Rattle.survey.specs.Places.{liesAt, between, spanOfTag, bodyOfTag}
 use Rattle.survey.proofs.Places.{lying, bounds}
 use Rattle.survey.proofs.Rising.{known-few}
+use Rattle.survey.proofs.Seeking.{Spans, span-begin, span-ended, span-behind, span-found, span-again}
 use Rattle.compare.specs.declared.steps.Due.{Due}
 use Rattle.compare.specs.declared.steps.Due.the-variants.{None, Lost, Found}
 use Rattle.compare.specs.declared.steps.InStep.{InStep}
 use Rattle.compare.specs.declared.steps.InStep.the-variants.{Same, Different, Astray}
 use Rattle.compare.specs.Bodies.{sameBody}
-use Rattle.compare.specs.Walks.{between, spanOfTag, bodyOfTag}
 use Rattle.compare.specs.Items.{sameFound, sameFrom, sameSets}
 use Rattle.compare.specs.Steps.{attributeAt, dueAs, dueAt, itemOf, endsBy, Walked}
-use Rattle.compare.proofs.Walking.{Spans, span-begin, span-ended, span-behind, span-found, span-again}
 use Rattle.compare.proofs.Sets.{body-none, body-some}
 
 -- ---- is_due, due, item_of

@@ -20,9 +20,9 @@ use Rattle.format.specs.Answers.{refusal}
 use Rattle.format.specs.Judge.{isKnown, isItems, judge}
 use Rattle.format.specs.Meaning.{opens, isChild}
 use Rattle.format.specs.Same.{sameOctets, sameValue, sameMaybe, sameAnswer, isNormal}
-use Rattle.survey.specs.declared.Lies.the-variants.{Outside, Between}
+use Rattle.survey.specs.Places.{spanWithin, spanOfTag, bodyBy, bodyOfTag}
 use Rattle.compare.specs.Bodies.{sameBody}
-use Rattle.compare.specs.Walks.{spanWithin, spanOfTag, bodyBy, bodyOfTag, childrenWithin, childrenIn}
+use Rattle.compare.specs.Walks.{childrenWithin, childrenIn}
 use Rattle.compare.specs.Items.{sameFound, sameFrom, sameSets, sameText, sameEach, sameElement, sameChildren}
 use Rattle.compare.proofs.Examples.{rising-order, falling-minus-zero, no-cdata, empty-cdata, top, cut-short, language, computed}
 
@@ -85,15 +85,6 @@ shorter-passes h = false≢true h
 pub last-unseen : sameOctets (0x61 ∷ 0x62 ∷ []) (0x61 ∷ 0x63 ∷ []) ≡ true → ⊥
 unfolding sameOctets
 last-unseen h = false≢true h
-
--- `find_item`: an item inside another one found; an attribute found behind an element
-pub inner-found : spanOfTag 0x29 (0x28 ∷ 0x02 ∷ 0x29 ∷ 0x00 ∷ []) ≡ Between 4 4 → ⊥
-unfolding spanOfTag spanWithin attribute headerSize bodySize
-inner-found h = let z : Outside ≡ Between 4 4 = h in let z : _≡_ {A = ℕ} 0 1 = cc in omega arith
-
-pub late-found : spanOfTag 0x80 (0x10 ∷ 0x00 ∷ 0x80 ∷ 0x01 ∷ 0x61 ∷ []) ≡ Between 4 5 → ⊥
-unfolding spanOfTag spanWithin attribute headerSize bodySize
-late-found h = let z : Outside ≡ Between 4 5 = h in let z : _≡_ {A = ℕ} 0 1 = cc in omega arith
 
 -- `same_attribute`, the version of serviceInformation: absent in one told as the same; an unknown attribute before it told as a difference
 pub absent-passes : (es fs : Entries) → sameFound es fs (known 0x03 0x80) (bodyOfTag 0x80 []) (bodyOfTag 0x80 (0x80 ∷ 0x02 ∷ 0x00 ∷ 0x01 ∷ [])) ≡ true → ⊥

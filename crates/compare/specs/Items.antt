@@ -18,12 +18,13 @@ use Rattle.format.specs.Meaning.{opens, leafOctets, meaningOf}
 use Rattle.format.specs.Same.{sameOctets, sameMaybe, sameMeaning}
 use Rattle.survey.specs.declared.Lies.{Lies}
 use Rattle.survey.specs.declared.Lies.the-variants.{Outside, Between}
+use Rattle.survey.specs.Places.{bodyOfTag}
 use Rattle.compare.specs.declared.walks.Child.{Child}
 use Rattle.compare.specs.declared.walks.Child.the-variants.{End, Found}
 use Rattle.compare.specs.declared.items.Content.{Content}
 use Rattle.compare.specs.declared.items.Content.the-variants.{Items as InItems, Text as InText, Octets as InOctets}
 use Rattle.compare.specs.Bodies.{sameBody}
-use Rattle.compare.specs.Walks.{bodyOfTag, childrenIn}
+use Rattle.compare.specs.Walks.{childrenIn}
 
 -- the bodies under one tag in two elements: both absent, or both present and of one meaning by the kind that the tag has there; one that isn't known says
 -- nothing

@@ -9,7 +9,7 @@ use Rattle.text.specs.Tokens.{Entries, stands, expanded}
 use Rattle.survey.specs.declared.Lies.{Lies}
 use Rattle.survey.specs.declared.Lies.the-variants.{Outside, Between}
 use Rattle.compare.specs.declared.texts.Rest.{Rest}
-use Rattle.compare.specs.Walks.{between}
+use Rattle.survey.specs.Places.{between}
 
 -- what stands for an octet: itself, or an entry that lies in the table
 pub record Entry (es : Entries) (table : List ℕ) (b from to : ℕ) : Type 0 where

@@ -27,7 +27,6 @@ use judge::judge;
 use survey::table_of;
 use text::index_of;
 pub use texts::same_texts;
-pub use walks::find_item;
 
 // Two objects that are accepted. Each stands for the items of an element with the tag 0, whose one item is the top, at depth 1 of 16.
 fn compare_accepted(a: &[u8], b: &[u8]) -> SameAnswer

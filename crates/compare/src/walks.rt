@@ -1,9 +1,8 @@
-// Where the items of an element lie that have a meaning: child elements in order, an item by its tag. From item to item the walks go by `item_at`.
+// Where the child elements of an element lie that have a meaning, in order. From item to item the walk goes by `item_at`.
 ghost use mathlib.Core.Path.{_≡_};
-ghost use mathlib.Core.Bool.{not, _&&_};
-ghost use Rattle.values.specs.Table.{known, attribute};
+ghost use Rattle.values.specs.Table.{known};
 ghost use Rattle.format.specs.Judge.{isKnown};
-ghost use Rattle.compare.specs.Walks.{isMeant, Children, spanOfTag};
+ghost use Rattle.compare.specs.Walks.{isMeant, Children};
 use survey::Lies;
 use survey::item_at;
 use values::KnownKind;
@@ -56,34 +55,4 @@ pub fn next_child(part: &[u8], at: usize) -> Child
         i = to;
     }
     Child::End
-}
-
-// An attribute that is sought isn't to be found from here on: attributes come first (document 01, Framing). So a search ends with the attributes.
-fn is_behind(sought: u8, met: u8) -> bool
-    ensures { λ r. ⌜ r ≡ attribute sought && not (attribute met) ⌝ }
-{
-    if is_attribute(sought) {
-        return !is_attribute(met);
-    }
-    false
-}
-
-// Where the body of the first item of a tag lies, in any octets.
-pub fn find_item(part: &[u8], tag: u8) -> Lies
-    ensures { λ r. ⌜ r ≡ spanOfTag tag (now (part .entry)) ⌝ }
-{
-    let mut at: usize = 0;
-    while at < part.len() {
-        if is_behind(tag, part[at]) {
-            return Lies::Outside;
-        }
-        let Lies::Between { from, to } = item_at(part, at) else {
-            return Lies::Outside;
-        };
-        if part[at] == tag {
-            return Lies::Between { from, to };
-        }
-        at = to;
-    }
-    Lies::Outside
 }

@@ -5,6 +5,10 @@ pub mod Found
 pub mod Sizes
 pub mod Places
 pub mod Tables
+pub mod Seeking
+pub mod First
+pub mod Once
+pub mod Looking
 pub mod Parts
 pub mod Adding
 pub mod Measuring

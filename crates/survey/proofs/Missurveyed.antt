@@ -19,7 +19,7 @@ use Rattle.survey.specs.declared.Standing.the-variants.{Bad, Misfit, Fit
 use Rattle.survey.specs.declared.Lies.the-variants.{Outside, Between}
 use Rattle.survey.specs.Normal.{writtenAs}
 use Rattle.survey.specs.Survey.{surveyed}
-use Rattle.survey.specs.Places.{liesIn, liesAt, tableWithin, firstTable, tableBody}
+use Rattle.survey.specs.Places.{liesIn, liesAt, tableWithin, firstTable, tableBody, spanWithin, spanOfTag}
 
 -- ---- survey
 
@@ -47,6 +47,18 @@ past-lies h = let w : Outside ≡ Between 2 4 = h in let z : _≡_ {A = ℕ} 0 1
 pub counted-from-item : liesAt (0x10 ∷ 0x00 ∷ 0x06 ∷ 0x01 ∷ 0x65 ∷ []) 2 ≡ Between 2 3 → ⊥
 unfolding liesAt liesIn headerSize bodySize
 counted-from-item h = let w : Between 4 5 ≡ Between 2 3 = h in let z : _≡_ {A = ℕ} 4 2 = cc in omega arith
+
+-- ---- find_item
+
+-- an item inside another one found
+pub inner-found : spanOfTag 0x29 (0x28 ∷ 0x02 ∷ 0x29 ∷ 0x00 ∷ []) ≡ Between 4 4 → ⊥
+unfolding spanOfTag spanWithin attribute headerSize bodySize
+inner-found h = let z : Outside ≡ Between 4 4 = h in let z : _≡_ {A = ℕ} 0 1 = cc in omega arith
+
+-- an attribute found behind an element
+pub late-found : spanOfTag 0x80 (0x10 ∷ 0x00 ∷ 0x80 ∷ 0x01 ∷ 0x61 ∷ []) ≡ Between 4 5 → ⊥
+unfolding spanOfTag spanWithin attribute headerSize bodySize
+late-found h = let z : Outside ≡ Between 4 5 = h in let z : _≡_ {A = ℕ} 0 1 = cc in omega arith
 
 -- ---- table_of
 

@@ -1,11 +1,13 @@
--- Where items lie in octets, and which octets are the token table of an object. Told of all octets, also of such as are no accepted object; what it says of an accepted
--- one is proved (proofs/Places, proofs/Tables).
-use mathlib.Core.Bool.{Bool, cond}
+-- Where items lie in octets, one by its tag too, and which octets are the token table of an object. Told of all octets, also of such as are no accepted object; what it
+-- says of an accepted one is proved (proofs/Places, proofs/Tables, and proofs/Seeking, span-says).
+use mathlib.Core.Bool.{Bool, cond, not, _&&_}
+use mathlib.Core.Option.{Option, none, some}
 use mathlib.Core.List.{List, []}
-use Prim.Native.Nat.{ℕ, zero, suc, _+_}
+use Prim.Native.Nat.{ℕ, zero, suc, _+_, _-_}
 use lib.Dec.{eqb, leb}
 use lib.ListN.{length, take, drop, getD}
 use Rattle.octets.specs.Header.{headerSize, bodySize}
+use Rattle.values.specs.Table.{attribute}
 use Rattle.survey.specs.declared.Lies.{Lies}
 use Rattle.survey.specs.declared.Lies.the-variants.{Outside, Between}
 
@@ -39,3 +41,28 @@ firstTable s = tableWithin (length s) s
 -- the token table of an object stands among the items of its top, which is its first item (document 01, Values: Tokens)
 unfoldable pub tableBody : List ℕ → List ℕ
 tableBody o = cond (isWhole o) (firstTable (firstBody o)) []
+
+-- the octets between two places
+abbrev pub between : List ℕ → ℕ → ℕ → List ℕ
+between part from to = take (to - from) (drop from part)
+
+-- where the body of the first item of a tag lies among items that lie one behind the other, the first of them at a place. Nowhere, where an item on the way
+-- runs past the end, or, of an attribute, where another item comes first (document 01, Framing: attributes, then child elements, then CDATA). Each item has
+-- octets, so it is found in no more steps than there are octets
+unfoldable pub spanWithin : (steps at tag : ℕ) → List ℕ → Lies
+spanWithin zero at tag s = Outside
+spanWithin (suc n) at tag s =
+    let later = spanWithin n (at + headerSize s + bodySize s) tag (afterFirst s) in
+    let here = cond (eqb (getD s 0 0) tag) (Between (at + headerSize s) (at + headerSize s + bodySize s)) later in
+    cond (attribute tag && not (attribute (getD s 0 0))) Outside (cond (isWhole s) here Outside)
+
+unfoldable pub spanOfTag : ℕ → List ℕ → Lies
+spanOfTag tag s = spanWithin (length s) 0 tag s
+
+-- the body there
+unfoldable pub bodyBy : List ℕ → Lies → Option (List ℕ)
+bodyBy part Outside = none
+bodyBy part (Between from to) = some (between part from to)
+
+unfoldable pub bodyOfTag : ℕ → List ℕ → Option (List ℕ)
+bodyOfTag tag part = bodyBy part (spanOfTag tag part)

@@ -4,12 +4,14 @@ ghost use mathlib.Core.Path.{_≡_};
 ghost use Rattle.format.specs.Judge.{judge};
 ghost use Rattle.survey.specs.Survey.{sufficient, surveyed};
 
+mod find;
 mod measure;
 mod table;
 mod written;
 
 use crate::measure::Measured;
 use crate::measure::measure;
+pub use find::find_item;
 use format::ReadAnswer;
 use format::Refusal;
 use judge::judge;
@@ -29,6 +31,19 @@ pub enum Standing {
 pub enum Lies {
     Outside,
     Between { from: usize, to: usize },
+}
+
+// Where the tag of an item lies that is looked for, if there is one.
+pub enum Place {
+    Nowhere,
+    At(usize),
+}
+
+// What is to be done with an item where one is looked for: it is passed over, looked into, or it is the one.
+pub enum Step {
+    Past,
+    Into,
+    Picked,
 }
 
 fn is_sufficient(needs: Measured, store: Octets, room: Octets) -> bool
