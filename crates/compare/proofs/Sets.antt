@@ -28,7 +28,7 @@ use Rattle.survey.proofs.Rising.{known-few}
 use Rattle.survey.specs.Places.{between, spanOfTag, bodyBy, bodyOfTag}
 use Rattle.compare.specs.Bodies.{sameBody}
 use Rattle.compare.specs.Items.{isAbsent, sameFound, sameFrom, sameSets, sameText}
-use Rattle.survey.proofs.Seeking.{SoughtFound, Sought, span-says}
+use Rattle.survey.proofs.Seeking.{Sought, sought, sought-ordered, sought-inside, missing, span-says}
 
 pub absent-yes : (r : Lies) → r ≡ Outside → true ≡ isAbsent r
 unfolding isAbsent
@@ -54,24 +54,6 @@ SameAttribute parent tag es a fs b r =
 -- the CDATA
 unfoldable pub SameData : Entries → List ℕ → Entries → List ℕ → Bool → Type 0
 SameData es a fs b r = (p q : ℕ) → Both p q a b (λ t u. r ≡ sameMaybe sameOctets (cdataIn es t) (cdataIn fs u))
-
--- ---- what is found
-
-module _ (part : List ℕ) (tag : ℕ) (r : Lies) (s : Sought part tag r) where
-  module _ (from to : ℕ) (q : r ≡ Between from to) where
-    sought : SoughtFound part tag from to
-    unfolding Sought
-    sought = subst (Sought part tag) q s
-
-    pub sought-ordered : from ≤ to
-    sought-ordered = sought .ordered
-
-    pub sought-inside : to ≤ length part
-    sought-inside = sought .inside
-
-  missing : r ≡ Outside → (p depth offset : ℕ) (t : Items) → Accepts p depth offset part t → find tag t ≡ none
-  unfolding Sought
-  missing q = subst (Sought part tag) q s
 
 -- ---- one attribute
 

@@ -151,10 +151,10 @@ one-more o P parent tag at from body u v inner later e f g = go (isItems (known 
 abbrev Says : (o : List ℕ) (P : ℕ → ℕ → Bool) (k parent at : ℕ) → List ℕ → Items → Type 0
 Says o P k parent at s t = firstIn P parent t ≡ asItem o (placeIn k P parent at s)
 
-shorter-body : (s : List ℕ) (k : ℕ) → headerSize s + bodySize s ≤ length s → length s < suc k → length (bodyOf s) < k
+pub shorter-body : (s : List ℕ) (k : ℕ) → headerSize s + bodySize s ≤ length s → length s < suc k → length (bodyOf s) < k
 shorter-body s k h l = simp (length-take, length-drop) (omega (arith, header-two s))
 
-shorter-later : (s : List ℕ) (k : ℕ) → headerSize s + bodySize s ≤ length s → length s < suc k → length (laterOf s) < k
+pub shorter-later : (s : List ℕ) (k : ℕ) → headerSize s + bodySize s ≤ length s → length s < suc k → length (laterOf s) < k
 shorter-later s k h l = simp length-drop (omega (arith, header-two s))
 
 says : (o : List ℕ) (P : ℕ → ℕ → Bool) (k parent depth at : ℕ) (s : List ℕ) (t : Items) → length s < k → Lain o at s → Accepts parent depth at s t → Says o P k parent at s t

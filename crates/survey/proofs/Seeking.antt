@@ -36,7 +36,7 @@ module _ (sought met : ℕ) (a : Bool) (ae : a ≡ attribute sought) where
 
 pub ruleset behind-ways = (behind-no, behind-by)
 
-opposite : (b : Bool) → not b ≡ true → b ≡ false
+pub opposite : (b : Bool) → not b ≡ true → b ≡ false
 opposite true h = absurd (false≢true h)
 opposite false h = refl
 
@@ -114,6 +114,23 @@ pub record SoughtFound (part : List ℕ) (tag from to : ℕ) : Type 0 where
 unfoldable pub Sought : List ℕ → ℕ → Lies → Type 0
 Sought part tag Outside = (p depth offset : ℕ) (t : Items) → Accepts p depth offset part t → find tag t ≡ none
 Sought part tag (Between from to) = SoughtFound part tag from to
+
+-- what is found, in the words of code
+module _ (part : List ℕ) (tag : ℕ) (r : Lies) (s : Sought part tag r) where
+  module _ (from to : ℕ) (q : r ≡ Between from to) where
+    pub sought : SoughtFound part tag from to
+    unfolding Sought
+    sought = subst (Sought part tag) q s
+
+    pub sought-ordered : from ≤ to
+    sought-ordered = sought .ordered
+
+    pub sought-inside : to ≤ length part
+    sought-inside = sought .inside
+
+  pub missing : r ≡ Outside → (p depth offset : ℕ) (t : Items) → Accepts p depth offset part t → find tag t ≡ none
+  unfolding Sought
+  missing q = subst (Sought part tag) q s
 
 -- what is sought is not among the items before a place
 pub record Passed (part : List ℕ) (tag p depth offset at : ℕ) (t : Items) : Type 0 where

@@ -61,17 +61,17 @@ pub record Pieced (s : List ℕ) (tag n : ℕ) : Type 0 where
   pub names : entries s ≡ (tag, take n (drop 2 s)) ∷ entries (drop n (drop 2 s))
   pub fills : (seen : List ℕ) → filledAfter seen s ≡ token tag && not (among tag seen) && text false (take n (drop 2 s)) && filledAfter (tag ∷ seen) (drop n (drop 2 s))
 
-ended-long : (t n : ℕ) (o : List ℕ) → leb n (length o) ≡ false → Ended (t ∷ n ∷ o)
+pub ended-long : (t n : ℕ) (o : List ℕ) → leb n (length o) ≡ false → Ended (t ∷ n ∷ o)
 unfolding entries cut filled filledAfter
 ended-long t n o e = record { names = rw e; fills = λ h seen. rw e }
 
-ended-short : (s : List ℕ) → length s < 2 → Ended s
+pub ended-short : (s : List ℕ) → length s < 2 → Ended s
 unfolding entries cut filled filledAfter
 ended-short [] h = record { names = refl; fills = λ g. absurd (omega arith) }
 ended-short (t ∷ []) h = record { names = refl; fills = λ g seen. refl }
 ended-short (t ∷ n ∷ o) h = absurd (omega arith)
 
-pieced-entry : (t n : ℕ) (o : List ℕ) → leb n (length o) ≡ true → Pieced (t ∷ n ∷ o) t n
+pub pieced-entry : (t n : ℕ) (o : List ℕ) → leb n (length o) ≡ true → Pieced (t ∷ n ∷ o) t n
 unfolding entries cut filled filledAfter
 pieced-entry t n o e =
     let k = suc (suc (length o)) in

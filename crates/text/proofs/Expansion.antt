@@ -45,7 +45,7 @@ pub table-sound : (o : List ℕ) → isTable o ≡ true → Sound (entries o)
 unfolding isTable entries
 table-sound o h = sound-all (suc (length o)) [] o h
 
-utf8-append : (s r : List ℕ) (more c least : ℕ) → utf8 false more c least s ≡ true → utf8 false 0 0 0 r ≡ true → utf8 false more c least (s ++ r) ≡ true
+pub utf8-append : (s r : List ℕ) (more c least : ℕ) → utf8 false more c least s ≡ true → utf8 false 0 0 0 r ≡ true → utf8 false more c least (s ++ r) ≡ true
 unfolding utf8 text
 utf8-append [] r zero c least h g = utf8-zero r false c least ∙ g
 utf8-append [] r (suc more) c least h g = absurd (false≢true h)

@@ -20,7 +20,7 @@ use Rattle.xml.specs.declared.calendar.Part.{Part}
 use Rattle.xml.specs.Dates.{isLeap, yearDays, monthDays, yearFrom, monthFrom, dateOf, daysTo, localDate, padded, between, dateText, clock, timeText}
 use Rattle.xml.specs.Steps.{Puts, YearIs, MonthIs, LocalDay}
 use Rattle.xml.specs.Steps.LocalDay.{dayBefore, dayOnward}
-use Rattle.xml.proofs.Dates.{year-size, month-size, month-some, year-here, year-later, month-here, month-later, monthsDays, months-year, YearFound, year-found, MonthFound, month-found, minutes-few, days-told, timed, time-told}
+use Rattle.xml.proofs.Dates.{year-size, month-size, month-some, year-here, year-later, month-here, month-later, monthsDays, months-year, YearFound, year-found, MonthFound, month-found, minutes-few, days-told}
 use Rattle.xml.proofs.Putting.{then, reworded}
 
 -- ---- leap years

@@ -20,7 +20,8 @@ use Rattle.show.specs.Lines.{ascii, line, kindName, headerLine, recordLine, rec
 use Rattle.xml.specs.Names.{names, words, nameIn, name, wordIn, orHex, word}
 use Rattle.xml.specs.Dates.{isLeap, yearDays, monthDays, yearFrom, monthFrom, dateOf, daysTo, localDate, padded, between, dateText, clock, timeText}
 use Rattle.xml.specs.Xml.{escape, escaped, numberText, ensembleFields, bearerText, valueText, attributeXml, attributesXml, tagged, cdataXml, xml}
-use Rattle.xml.specs.Named.{isPlain, orElse, plainIn, plainAt}
+use Rattle.survey.specs.First.{orElse, picks, placeIn, placeAt}
+use Rattle.xml.specs.Named.{isPlain, plainHere, plainAt}
 use Rattle.xml.specs.Export.{unlessPlain, exportOf, exportAnswer, exportOctets}
 
 -- 50,000 is 10 October 1995 (002, clause 4.7.4); the first and the last day that a legal time can have
@@ -38,25 +39,25 @@ day-after = refl
 
 -- a language, and a top with no attribute
 pub case-1 : exportOf (0x03 ∷ 0x04 ∷ 0x06 ∷ 0x02 ∷ 0x65 ∷ 0x6E ∷ []) (judge (0x03 ∷ 0x04 ∷ 0x06 ∷ 0x02 ∷ 0x65 ∷ 0x6E ∷ [])) ≡ shows (ascii "<serviceInformation><defaultLanguage>en</defaultLanguage></serviceInformation>")
-unfolding among value digits headerSize bodySize lengthField framed layout token character single goesOn utf8 text cut entries filled isTable entry orItself stands expanded present covers covered shownLength expandedSize rows attribute kindIn known bits longFlag offsetFlag offsetOctet timeOf inRange isTime canonical sign timeOctets localMinutes localOf ensembleFlag longSidFlag ensembleOf bearerOf isBearer ensembleBit ensembleOctets bearerOctets width fits meant octetsOf find kindOf count records isKnown isItems isTokens isText isValue isTop allowed latest stageAfter limit notAbove shown ofTop rule first kindRules itemRules own late lateBefore lateAfter broken within waits next unless followed joined byKind items outermost judge opens isChild valueIn attributesIn cdataIn leafOctets means tableIn tableOf ifAccepted meaning maybe rising encode normal tens decimal told hexDigit twoDigits hexLower ascii line kindName headerLine recordLine recordsLine refusalLine touchedLine reasons refusalWords names words nameIn name wordIn orHex word isLeap yearDays monthDays yearFrom monthFrom dateOf daysTo localDate padded between dateText clock timeText escape escaped numberText ensembleFields bearerText valueText attributeXml attributesXml tagged cdataXml xml isPlain orElse plainIn plainAt unlessPlain exportOf exportAnswer exportOctets
+unfolding among value digits headerSize bodySize lengthField framed layout token character single goesOn utf8 text cut entries filled isTable entry orItself stands expanded present covers covered shownLength expandedSize rows attribute kindIn known bits longFlag offsetFlag offsetOctet timeOf inRange isTime canonical sign timeOctets localMinutes localOf ensembleFlag longSidFlag ensembleOf bearerOf isBearer ensembleBit ensembleOctets bearerOctets width fits meant octetsOf find kindOf count records isKnown isItems isTokens isText isValue isTop allowed latest stageAfter limit notAbove shown ofTop rule first kindRules itemRules own late lateBefore lateAfter broken within waits next unless followed joined byKind items outermost judge opens isChild valueIn attributesIn cdataIn leafOctets means tableIn tableOf ifAccepted meaning maybe rising encode normal tens decimal told hexDigit twoDigits hexLower ascii line kindName headerLine recordLine recordsLine refusalLine touchedLine reasons refusalWords names words nameIn name wordIn orHex word isLeap yearDays monthDays yearFrom monthFrom dateOf daysTo localDate padded between dateText clock timeText escape escaped numberText ensembleFields bearerText valueText attributeXml attributesXml tagged cdataXml xml isPlain orElse picks placeIn placeAt plainHere plainAt unlessPlain exportOf exportAnswer exportOctets
 case-1 = refl
 
 -- empty CDATA, no CDATA, and a token that stands for nothing
 pub case-2 : exportOf (0x03 ∷ 0x0F ∷ 0x04 ∷ 0x02 ∷ 0x01 ∷ 0x00 ∷ 0x10 ∷ 0x02 ∷ 0x01 ∷ 0x00 ∷ 0x11 ∷ 0x00 ∷ 0x12 ∷ 0x03 ∷ 0x01 ∷ 0x01 ∷ 0x01 ∷ []) (judge (0x03 ∷ 0x0F ∷ 0x04 ∷ 0x02 ∷ 0x01 ∷ 0x00 ∷ 0x10 ∷ 0x02 ∷ 0x01 ∷ 0x00 ∷ 0x11 ∷ 0x00 ∷ 0x12 ∷ 0x03 ∷ 0x01 ∷ 0x01 ∷ 0x01 ∷ [])) ≡ shows (ascii "<serviceInformation><shortName><![CDATA[]]></shortName><mediumName/><longName><![CDATA[]]></longName></serviceInformation>")
-unfolding among value digits headerSize bodySize lengthField framed layout token character single goesOn utf8 text cut entries filled isTable entry orItself stands expanded present covers covered shownLength expandedSize rows attribute kindIn known bits longFlag offsetFlag offsetOctet timeOf inRange isTime canonical sign timeOctets localMinutes localOf ensembleFlag longSidFlag ensembleOf bearerOf isBearer ensembleBit ensembleOctets bearerOctets width fits meant octetsOf find kindOf count records isKnown isItems isTokens isText isValue isTop allowed latest stageAfter limit notAbove shown ofTop rule first kindRules itemRules own late lateBefore lateAfter broken within waits next unless followed joined byKind items outermost judge opens isChild valueIn attributesIn cdataIn leafOctets means tableIn tableOf ifAccepted meaning maybe rising encode normal tens decimal told hexDigit twoDigits hexLower ascii line kindName headerLine recordLine recordsLine refusalLine touchedLine reasons refusalWords names words nameIn name wordIn orHex word isLeap yearDays monthDays yearFrom monthFrom dateOf daysTo localDate padded between dateText clock timeText escape escaped numberText ensembleFields bearerText valueText attributeXml attributesXml tagged cdataXml xml isPlain orElse plainIn plainAt unlessPlain exportOf exportAnswer exportOctets
+unfolding among value digits headerSize bodySize lengthField framed layout token character single goesOn utf8 text cut entries filled isTable entry orItself stands expanded present covers covered shownLength expandedSize rows attribute kindIn known bits longFlag offsetFlag offsetOctet timeOf inRange isTime canonical sign timeOctets localMinutes localOf ensembleFlag longSidFlag ensembleOf bearerOf isBearer ensembleBit ensembleOctets bearerOctets width fits meant octetsOf find kindOf count records isKnown isItems isTokens isText isValue isTop allowed latest stageAfter limit notAbove shown ofTop rule first kindRules itemRules own late lateBefore lateAfter broken within waits next unless followed joined byKind items outermost judge opens isChild valueIn attributesIn cdataIn leafOctets means tableIn tableOf ifAccepted meaning maybe rising encode normal tens decimal told hexDigit twoDigits hexLower ascii line kindName headerLine recordLine recordsLine refusalLine touchedLine reasons refusalWords names words nameIn name wordIn orHex word isLeap yearDays monthDays yearFrom monthFrom dateOf daysTo localDate padded between dateText clock timeText escape escaped numberText ensembleFields bearerText valueText attributeXml attributesXml tagged cdataXml xml isPlain orElse picks placeIn placeAt plainHere plainAt unlessPlain exportOf exportAnswer exportOctets
 case-2 = refl
 
 -- attributes by rising tag: a version, a time with its offset, a text with marks
 pub case-3 : exportOf (0x03 ∷ 0x11 ∷ 0x82 ∷ 0x04 ∷ 0x61 ∷ 0x22 ∷ 0x3C ∷ 0x62 ∷ 0x81 ∷ 0x05 ∷ 0x30 ∷ 0xD4 ∷ 0x13 ∷ 0x1E ∷ 0x03 ∷ 0x80 ∷ 0x02 ∷ 0x00 ∷ 0x07 ∷ []) (judge (0x03 ∷ 0x11 ∷ 0x82 ∷ 0x04 ∷ 0x61 ∷ 0x22 ∷ 0x3C ∷ 0x62 ∷ 0x81 ∷ 0x05 ∷ 0x30 ∷ 0xD4 ∷ 0x13 ∷ 0x1E ∷ 0x03 ∷ 0x80 ∷ 0x02 ∷ 0x00 ∷ 0x07 ∷ [])) ≡ shows (ascii "<serviceInformation version=\"7\" creationTime=\"1995-10-10T14:00:00+01:30\" originator=\"a&quot;&lt;b\"/>")
-unfolding among value digits headerSize bodySize lengthField framed layout token character single goesOn utf8 text cut entries filled isTable entry orItself stands expanded present covers covered shownLength expandedSize rows attribute kindIn known bits longFlag offsetFlag offsetOctet timeOf inRange isTime canonical sign timeOctets localMinutes localOf ensembleFlag longSidFlag ensembleOf bearerOf isBearer ensembleBit ensembleOctets bearerOctets width fits meant octetsOf find kindOf count records isKnown isItems isTokens isText isValue isTop allowed latest stageAfter limit notAbove shown ofTop rule first kindRules itemRules own late lateBefore lateAfter broken within waits next unless followed joined byKind items outermost judge opens isChild valueIn attributesIn cdataIn leafOctets means tableIn tableOf ifAccepted meaning maybe rising encode normal tens decimal told hexDigit twoDigits hexLower ascii line kindName headerLine recordLine recordsLine refusalLine touchedLine reasons refusalWords names words nameIn name wordIn orHex word isLeap yearDays monthDays yearFrom monthFrom dateOf daysTo localDate padded between dateText clock timeText escape escaped numberText ensembleFields bearerText valueText attributeXml attributesXml tagged cdataXml xml isPlain orElse plainIn plainAt unlessPlain exportOf exportAnswer exportOctets
+unfolding among value digits headerSize bodySize lengthField framed layout token character single goesOn utf8 text cut entries filled isTable entry orItself stands expanded present covers covered shownLength expandedSize rows attribute kindIn known bits longFlag offsetFlag offsetOctet timeOf inRange isTime canonical sign timeOctets localMinutes localOf ensembleFlag longSidFlag ensembleOf bearerOf isBearer ensembleBit ensembleOctets bearerOctets width fits meant octetsOf find kindOf count records isKnown isItems isTokens isText isValue isTop allowed latest stageAfter limit notAbove shown ofTop rule first kindRules itemRules own late lateBefore lateAfter broken within waits next unless followed joined byKind items outermost judge opens isChild valueIn attributesIn cdataIn leafOctets means tableIn tableOf ifAccepted meaning maybe rising encode normal tens decimal told hexDigit twoDigits hexLower ascii line kindName headerLine recordLine recordsLine refusalLine touchedLine reasons refusalWords names words nameIn name wordIn orHex word isLeap yearDays monthDays yearFrom monthFrom dateOf daysTo localDate padded between dateText clock timeText escape escaped numberText ensembleFields bearerText valueText attributeXml attributesXml tagged cdataXml xml isPlain orElse picks placeIn placeAt plainHere plainAt unlessPlain exportOf exportAnswer exportOctets
 case-3 = refl
 
 -- bearers, of which the code tells the names apart; an enumerated octet with a name of annex F and one without; a duration
 pub case-4 : exportOf (0x02 ∷ 0x21 ∷ 0x29 ∷ 0x05 ∷ 0x80 ∷ 0x03 ∷ 0x02 ∷ 0xD1 ∷ 0x23 ∷ 0x2D ∷ 0x0A ∷ 0x80 ∷ 0x08 ∷ 0x50 ∷ 0xE1 ∷ 0xC1 ∷ 0x85 ∷ 0xE1 ∷ 0xC0 ∷ 0xFF ∷ 0xEE ∷ 0x1C ∷ 0x06 ∷ 0x83 ∷ 0x01 ∷ 0x02 ∷ 0x84 ∷ 0x01 ∷ 0x0A ∷ 0x2C ∷ 0x04 ∷ 0x81 ∷ 0x02 ∷ 0x0E ∷ 0x10 ∷ []) (judge (0x02 ∷ 0x21 ∷ 0x29 ∷ 0x05 ∷ 0x80 ∷ 0x03 ∷ 0x02 ∷ 0xD1 ∷ 0x23 ∷ 0x2D ∷ 0x0A ∷ 0x80 ∷ 0x08 ∷ 0x50 ∷ 0xE1 ∷ 0xC1 ∷ 0x85 ∷ 0xE1 ∷ 0xC0 ∷ 0xFF ∷ 0xEE ∷ 0x1C ∷ 0x06 ∷ 0x83 ∷ 0x01 ∷ 0x02 ∷ 0x84 ∷ 0x01 ∷ 0x0A ∷ 0x2C ∷ 0x04 ∷ 0x81 ∷ 0x02 ∷ 0x0E ∷ 0x10 ∷ [])) ≡ shows (ascii "<epg><bearer.29 id=\"..d123.2\"/><bearer.2d id=\"e1.c185.e1c0ffee.0\"/><programme recommendation=\"yes\" broadcast=\"0a\"/><time duration=\"PT3600S\"/></epg>")
-unfolding among value digits headerSize bodySize lengthField framed layout token character single goesOn utf8 text cut entries filled isTable entry orItself stands expanded present covers covered shownLength expandedSize rows attribute kindIn known bits longFlag offsetFlag offsetOctet timeOf inRange isTime canonical sign timeOctets localMinutes localOf ensembleFlag longSidFlag ensembleOf bearerOf isBearer ensembleBit ensembleOctets bearerOctets width fits meant octetsOf find kindOf count records isKnown isItems isTokens isText isValue isTop allowed latest stageAfter limit notAbove shown ofTop rule first kindRules itemRules own late lateBefore lateAfter broken within waits next unless followed joined byKind items outermost judge opens isChild valueIn attributesIn cdataIn leafOctets means tableIn tableOf ifAccepted meaning maybe rising encode normal tens decimal told hexDigit twoDigits hexLower ascii line kindName headerLine recordLine recordsLine refusalLine touchedLine reasons refusalWords names words nameIn name wordIn orHex word isLeap yearDays monthDays yearFrom monthFrom dateOf daysTo localDate padded between dateText clock timeText escape escaped numberText ensembleFields bearerText valueText attributeXml attributesXml tagged cdataXml xml isPlain orElse plainIn plainAt unlessPlain exportOf exportAnswer exportOctets
+unfolding among value digits headerSize bodySize lengthField framed layout token character single goesOn utf8 text cut entries filled isTable entry orItself stands expanded present covers covered shownLength expandedSize rows attribute kindIn known bits longFlag offsetFlag offsetOctet timeOf inRange isTime canonical sign timeOctets localMinutes localOf ensembleFlag longSidFlag ensembleOf bearerOf isBearer ensembleBit ensembleOctets bearerOctets width fits meant octetsOf find kindOf count records isKnown isItems isTokens isText isValue isTop allowed latest stageAfter limit notAbove shown ofTop rule first kindRules itemRules own late lateBefore lateAfter broken within waits next unless followed joined byKind items outermost judge opens isChild valueIn attributesIn cdataIn leafOctets means tableIn tableOf ifAccepted meaning maybe rising encode normal tens decimal told hexDigit twoDigits hexLower ascii line kindName headerLine recordLine recordsLine refusalLine touchedLine reasons refusalWords names words nameIn name wordIn orHex word isLeap yearDays monthDays yearFrom monthFrom dateOf daysTo localDate padded between dateText clock timeText escape escaped numberText ensembleFields bearerText valueText attributeXml attributesXml tagged cdataXml xml isPlain orElse picks placeIn placeAt plainHere plainAt unlessPlain exportOf exportAnswer exportOctets
 case-4 = refl
 
 -- plain octets, at the tag of the first item that has some; the room says nothing then
 pub case-5 : exportOf (0x03 ∷ 0x07 ∷ 0x28 ∷ 0x00 ∷ 0x26 ∷ 0x03 ∷ 0x80 ∷ 0x01 ∷ 0x01 ∷ []) (judge (0x03 ∷ 0x07 ∷ 0x28 ∷ 0x00 ∷ 0x26 ∷ 0x03 ∷ 0x80 ∷ 0x01 ∷ 0x01 ∷ [])) ≡ refuses (refusal 17 6)
-unfolding among value digits headerSize bodySize lengthField framed layout token character single goesOn utf8 text cut entries filled isTable entry orItself stands expanded present covers covered shownLength expandedSize rows attribute kindIn known bits longFlag offsetFlag offsetOctet timeOf inRange isTime canonical sign timeOctets localMinutes localOf ensembleFlag longSidFlag ensembleOf bearerOf isBearer ensembleBit ensembleOctets bearerOctets width fits meant octetsOf find kindOf count records isKnown isItems isTokens isText isValue isTop allowed latest stageAfter limit notAbove shown ofTop rule first kindRules itemRules own late lateBefore lateAfter broken within waits next unless followed joined byKind items outermost judge opens isChild valueIn attributesIn cdataIn leafOctets means tableIn tableOf ifAccepted meaning maybe rising encode normal tens decimal told hexDigit twoDigits hexLower ascii line kindName headerLine recordLine recordsLine refusalLine touchedLine reasons refusalWords names words nameIn name wordIn orHex word isLeap yearDays monthDays yearFrom monthFrom dateOf daysTo localDate padded between dateText clock timeText escape escaped numberText ensembleFields bearerText valueText attributeXml attributesXml tagged cdataXml xml isPlain orElse plainIn plainAt unlessPlain exportOf exportAnswer exportOctets
+unfolding among value digits headerSize bodySize lengthField framed layout token character single goesOn utf8 text cut entries filled isTable entry orItself stands expanded present covers covered shownLength expandedSize rows attribute kindIn known bits longFlag offsetFlag offsetOctet timeOf inRange isTime canonical sign timeOctets localMinutes localOf ensembleFlag longSidFlag ensembleOf bearerOf isBearer ensembleBit ensembleOctets bearerOctets width fits meant octetsOf find kindOf count records isKnown isItems isTokens isText isValue isTop allowed latest stageAfter limit notAbove shown ofTop rule first kindRules itemRules own late lateBefore lateAfter broken within waits next unless followed joined byKind items outermost judge opens isChild valueIn attributesIn cdataIn leafOctets means tableIn tableOf ifAccepted meaning maybe rising encode normal tens decimal told hexDigit twoDigits hexLower ascii line kindName headerLine recordLine recordsLine refusalLine touchedLine reasons refusalWords names words nameIn name wordIn orHex word isLeap yearDays monthDays yearFrom monthFrom dateOf daysTo localDate padded between dateText clock timeText escape escaped numberText ensembleFields bearerText valueText attributeXml attributesXml tagged cdataXml xml isPlain orElse picks placeIn placeAt plainHere plainAt unlessPlain exportOf exportAnswer exportOctets
 case-5 = refl

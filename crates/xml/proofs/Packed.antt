@@ -1,26 +1,27 @@
 -- The tables of rows in the code hold the names of the definition.
-use mathlib.Core.Path.{_≡_, refl, sym, ap, ap₂, _∙_}
-use mathlib.Core.Bool.{Bool, true, false, cond, _&&_, _||_, false≢true}
+use mathlib.Core.Path.{_≡_, refl, sym, ap, _∙_}
+use mathlib.Core.Bool.{Bool, true, false, cond, _&&_, _||_}
 use mathlib.Core.Option.{some}
 use mathlib.Core.List.{List, [], _∷_}
 use Prim.Native.Nat.{ℕ, _<_}
 use Prim.Native.String.{String}
 use lib.Dec.{eqb, ltb}
 use lib.ListN.{length}
-use borrow.Author.Tests.{eqb-true, eq-eqb, ne-eqb, ltb-true, le-ltb}
-use Rattle.octets.proofs.Tests.{and-left, and-right, cond-same}
+use borrow.Author.Tests.{eq-eqb, ne-eqb, ltb-true, le-ltb}
+use Rattle.octets.proofs.Tests.{cond-same}
 use Rattle.text.specs.Tokens.{Entries, cut, entries, entry}
 use Rattle.values.specs.declared.Kind.{Kind}
 use Rattle.values.specs.declared.Kind.the-variants.{HoldsItems, HoldsTokens, HoldsText, HoldsPlain, HoldsTime, HoldsBearer, HoldsNumber}
 use Rattle.values.specs.declared.NumberKind.the-variants.{Duration, ShortId, Enumerated, Integer}
+use Rattle.text.proofs.Sequences.{allBelow, below}
 use Rattle.values.specs.Table.{rows, known, attribute}
 use Rattle.values.proofs.Known.{every, row-holds}
 use Rattle.format.specs.Same.{sameOctets}
+use Rattle.format.proofs.Same.{same-octets}
 use Rattle.show.specs.Digits.{hexDigit, twoDigits}
 use Rattle.show.specs.Lines.{ascii}
 use Rattle.xml.specs.Names.{names, words, nameIn, name, wordIn, orHex, word}
 use Rattle.xml.specs.Steps.{Puts, orNothing, entryText, NamePut, WordPut}
-use Rattle.xml.proofs.Parts.{upTo, below}
 use Rattle.xml.proofs.Putting.{reworded}
 
 abbrev pub elementTable : List ℕ
@@ -89,13 +90,6 @@ wordTable =
     99 ∷ 111 ∷ 108 ∷ 111 ∷ 117 ∷ 114 ∷ 95 ∷ 114 ∷ 101 ∷ 99 ∷ 116 ∷ 97 ∷ 110 ∷ 103 ∷ 108 ∷ 101 ∷ 46 ∷ 30 ∷ 131 ∷ 9 ∷ 1 ∷ 2 ∷ 110 ∷ 111 ∷ 2 ∷ 3 ∷ 121 ∷
     101 ∷ 115 ∷ 132 ∷ 17 ∷ 1 ∷ 6 ∷ 111 ∷ 110 ∷ 45 ∷ 97 ∷ 105 ∷ 114 ∷ 2 ∷ 7 ∷ 111 ∷ 102 ∷ 102 ∷ 45 ∷ 97 ∷ 105 ∷ 114 ∷ []
 
-same-octets : (a b : List ℕ) → sameOctets a b ≡ true → a ≡ b
-unfolding sameOctets
-same-octets [] [] h = refl
-same-octets [] (b ∷ bs) h = absurd (false≢true h)
-same-octets (a ∷ more) [] h = absurd (false≢true h)
-same-octets (a ∷ more) (b ∷ bs) h = ap₂ _∷_ (eqb-true a b (and-left (eqb a b) (sameOctets more bs) h)) (same-octets more bs (and-right (eqb a b) (sameOctets more bs) h))
-
 -- ---- elements
 
 elementsIn : List (ℕ × ℕ × String) → Entries
@@ -159,11 +153,11 @@ wordRow e t HoldsTime = true
 wordRow e t HoldsBearer = true
 wordRow e t (HoldsNumber Duration) = true
 wordRow e t (HoldsNumber ShortId) = true
-wordRow e t (HoldsNumber Enumerated) = upTo 256 (listed e t)
+wordRow e t (HoldsNumber Enumerated) = allBelow (listed e t) 256
 wordRow e t (HoldsNumber Integer) = true
 
 words-listed : every wordRow rows ≡ true
-unfolding rows words word wordIn orHex ascii sameOctets entryText orNothing entry entries cut upTo twoDigits hexDigit
+unfolding rows words word wordIn orHex ascii sameOctets entryText orNothing entry entries cut allBelow twoDigits hexDigit
 words-listed = refl
 
 pub word-is : (parent tag n : ℕ) → attribute tag ≡ true → known parent tag ≡ some (HoldsNumber Enumerated) → n < 256
@@ -171,7 +165,7 @@ pub word-is : (parent tag n : ℕ) → attribute tag ≡ true → known parent t
 unfolding known
 word-is parent tag n a h l =
     same-octets (orDigits (entryText (entryText (entryText wordTable parent) tag) n) n) (word parent tag n)
-    (below 256 (listed parent tag) n (row-holds wordRow parent tag (HoldsNumber Enumerated) rows words-listed (rw a at h)) l)
+    (below (listed parent tag) 256 (row-holds wordRow parent tag (HoldsNumber Enumerated) rows words-listed (rw a at h)) n l)
 
 -- ---- as the code puts them
 

@@ -1,4 +1,4 @@
--- The texts of times and bearers: no two have one, and none holds a double quote.
+-- The texts of times and bearers: no two have one, and none holds a strange octet.
 use mathlib.Core.Path.{_≡_, refl, sym, ap, ap₂, _∙_}
 use mathlib.Core.Bool.{Bool, true, false, cond, false≢true}
 use mathlib.Core.List.{List, [], _∷_, _++_}
@@ -8,19 +8,20 @@ use lib.Arith.{digits-div, digits-mod}
 use lib.ListN.{length, length-append}
 use Rattle.octets.specs.Numbers.{digits}
 use Rattle.octets.proofs.Numbers.{length-digits}
+use Rattle.text.specs.Runs.{within}
 use Rattle.values.specs.declared.Time.{Time}
 use Rattle.values.specs.declared.Ensemble.{Ensemble}
 use Rattle.values.specs.declared.Ensemble.the-variants.{Absent, Present}
 use Rattle.values.specs.declared.Bearer.{Bearer}
-use Rattle.values.specs.Times.{localOf}
 use Rattle.values.specs.Proper.{TimeOk, EnsembleOk, SidOk, BearerOk}
 use Rattle.values.proofs.Times.{Bounds, bounds, minutesInRange}
 use Rattle.show.specs.Digits.{hexDigit, twoDigits, hexLower}
-use Rattle.xml.specs.Dates.{Date, dateOf, localDate, padded, between, dateText, clock, timeText}
+use Rattle.show.proofs.Writing.{length-hex}
+use Rattle.xml.specs.Dates.{Date, dateOf, padded, between, dateText, clock, timeText}
 use Rattle.xml.specs.Xml.{ensembleFields, bearerText}
-use Rattle.xml.proofs.Parts.{lacks, lacks-append, lacks-cons, split, head-one, tail-one}
+use Rattle.xml.proofs.Parts.{strange, lacks, lacks-append, lacks-cons, split, head-one, tail-one}
 use Rattle.xml.proofs.Dates.{InCalendar, date-one, date-within, minutes-few, timed, time-told}
-use Rattle.xml.proofs.Texts.{quote, rejoin, padded-lacks, padded-first, padded-injective, length-padded, hex-digit-one, hex-digit-no, hex-digit-quote, hex-lacks, hex-injective, two-digits-one, length-hex}
+use Rattle.xml.proofs.Texts.{rejoin, padded-sober, padded-first, padded-injective, length-padded, hex-digit-one, hex-digit-no, hex-digit-sober, two-sober, hex-sober, hex-injective, two-digits-one}
 
 -- ---- times
 
@@ -146,29 +147,42 @@ time-injective t u p q e =
     let c = calendar-one (t .day) (t .hour) (t .minute) (u .day) (u .hour) (u .minute) (d .hour) (f .hour) (d .minute) (f .minute) utc in
     λ z. record { day = c .0 z; hour = c .1 z; minute = c .2 z; second = x .seconds z; minus = minus z; halves = halves z }
 
-clock-lacks : (n : ℕ) (ns : List ℕ) → lacks quote (between 0x3A (clock (n ∷ ns))) ≡ true
-unfolding between clock
-clock-lacks n [] = padded-lacks 2 n
-clock-lacks n (m ∷ ns) = lacks-append quote (padded 2 n) (0x3A ∷ between 0x3A (clock (m ∷ ns))) (padded-lacks 2 n) (lacks-cons quote 0x3A (between 0x3A (clock (m ∷ ns))) refl (clock-lacks m ns))
+clock-sober : (n : ℕ) (ns : List ℕ) → Two (n ∷ ns) → lacks strange (between 0x3A (clock (n ∷ ns))) ≡ true
+unfolding between clock within
+clock-sober n [] h = padded-sober 2 n (h .0)
+clock-sober n (m ∷ ns) h =
+    lacks-append strange (padded 2 n) (0x3A ∷ between 0x3A (clock (m ∷ ns))) (padded-sober 2 n (h .0)) (lacks-cons strange 0x3A (between 0x3A (clock (m ∷ ns))) refl (clock-sober m ns (h .1)))
 
-sign-quote : (b : Bool) → quote (cond b 0x2D 0x2B) ≡ false
-sign-quote true = refl
-sign-quote false = refl
+sign-sober : (b : Bool) → strange (cond b 0x2D 0x2B) ≡ false
+unfolding within
+sign-sober true = refl
+sign-sober false = refl
 
-pub time-lacks : (t : Time) → lacks quote (timeText t) ≡ true
-unfolding timeText dateText between
-time-lacks t =
-    let d = localDate t in
-    let clocks = between 0x3A (clock (localOf t .hour ∷ localOf t .minute ∷ t .second ∷ [])) in
-    let off = between 0x3A (clock (t .halves / 2 ∷ t .halves % 2 * 30 ∷ [])) in
-    let sign : ℕ = cond (t .minus) 0x2D 0x2B in
-    lacks-append quote (dateText d) (0x54 ∷ (clocks ++ (sign ∷ off)))
-    (lacks-append quote (padded 4 (d .year)) (0x2D ∷ (padded 2 (d .month) ++ (0x2D ∷ padded 2 (d .day)))) (padded-lacks 4 (d .year))
-    (lacks-cons quote 0x2D (padded 2 (d .month) ++ (0x2D ∷ padded 2 (d .day))) refl
-    (lacks-append quote (padded 2 (d .month)) (0x2D ∷ padded 2 (d .day)) (padded-lacks 2 (d .month)) (lacks-cons quote 0x2D (padded 2 (d .day)) refl (padded-lacks 2 (d .day))))))
-    (lacks-cons quote 0x54 (clocks ++ (sign ∷ off)) refl
-    (lacks-append quote clocks (sign ∷ off) (clock-lacks (localOf t .hour) (localOf t .minute ∷ t .second ∷ []))
-    (lacks-cons quote sign off (sign-quote (t .minus)) (clock-lacks (t .halves / 2) (t .halves % 2 * 30 ∷ [])))))
+date-sober : (d : Date) → InCalendar d → lacks strange (dateText d) ≡ true
+unfolding dateText between within
+date-sober d c =
+    let months : List ℕ = padded 2 (d .month) ++ (0x2D ∷ padded 2 (d .day)) in
+    lacks-append strange (padded 4 (d .year)) (0x2D ∷ months) (padded-sober 4 (d .year) (omega (arith, c .late)))
+    (lacks-cons strange 0x2D months refl
+    (lacks-append strange (padded 2 (d .month)) (0x2D ∷ padded 2 (d .day)) (padded-sober 2 (d .month) (omega (arith, c .months)))
+    (lacks-cons strange 0x2D (padded 2 (d .day)) refl (padded-sober 2 (d .day) (omega (arith, c .days))))))
+
+pub time-sober : (t : Time) → TimeOk t → lacks strange (timeText t) ≡ true
+unfolding within
+time-sober t ok = rw (time-told t (ok .range)) (go (minutesInRange t) (bounds t (ok .range)) (minutes-few t (bounds t (ok .range))))
+  where
+    go : (n : ℕ) → Bounds t → n < 1440 * 100_002 → lacks strange (timed t n) ≡ true
+    go n b few =
+        let clocks = between 0x3A (clock (n / 60 % 24 ∷ n % 60 ∷ t .second ∷ [])) in
+        let off = between 0x3A (clock (t .halves / 2 ∷ t .halves % 2 * 30 ∷ [])) in
+        let sign : ℕ = cond (t .minus) 0x2D 0x2B in
+        let day = dateOf (319 + n / 1440) in
+        let s = b .second in
+        let h = b .halves in
+        lacks-append strange (dateText day) (0x54 ∷ (clocks ++ (sign ∷ off))) (date-sober day (date-within (319 + n / 1440) (omega arith)))
+        (lacks-cons strange 0x54 (clocks ++ (sign ∷ off)) refl
+        (lacks-append strange clocks (sign ∷ off) (clock-sober (n / 60 % 24) (n % 60 ∷ t .second ∷ []) (omega arith, (omega arith, (omega arith, tt))))
+        (lacks-cons strange sign off (sign-sober (t .minus)) (clock-sober (t .halves / 2) (t .halves % 2 * 30 ∷ []) (omega arith, (omega arith, tt))))))
 
 -- ---- bearers
 
@@ -224,21 +238,25 @@ bearer-injective b c p q h =
     let d = hex-digit-one (b .scids) (c .scids) (p .scids) (q .scids) (s .1) in
     λ z. record { ensemble = e .0 z; long = long z; sid = s .0 z; scids = d z }
 
-fields-lack : (e : Ensemble) → (lacks quote (ensembleFields e .0) ≡ true) × (lacks quote (ensembleFields e .1) ≡ true)
-unfolding ensembleFields lacks
-fields-lack Absent = (refl, refl)
-fields-lack (Present c i) = (hex-lacks (c ∷ []), hex-lacks (digits 2 i))
+fields-sober : (e : Ensemble) → EnsembleOk e → (lacks strange (ensembleFields e .0) ≡ true) × (lacks strange (ensembleFields e .1) ≡ true)
+unfolding ensembleFields lacks hexLower
+fields-sober Absent ok = (refl, refl)
+fields-sober (Present c i) ok = (two-sober c [] (ok .0) refl, hex-sober 2 i (ok .1))
 
-pub bearer-lacks : (b : Bearer) → lacks quote (bearerText b) ≡ true
-unfolding bearerText between lacks
-bearer-lacks b =
-    let e = fields-lack (b .ensemble) in
+sid-sober : (long : Bool) (sid : ℕ) → SidOk long sid → lacks strange (hexLower (digits (cond long 4 2) sid)) ≡ true
+sid-sober true sid ok = hex-sober 4 sid ok
+sid-sober false sid ok = hex-sober 2 sid ok
+
+pub bearer-sober : (b : Bearer) → BearerOk b → lacks strange (bearerText b) ≡ true
+unfolding bearerText between lacks within
+bearer-sober b ok =
+    let e = fields-sober (b .ensemble) (ok .ensemble) in
     let sid = hexLower (digits (cond (b .long) 4 2) (b .sid)) in
     let last = hexDigit 97 (b .scids) ∷ [] in
     let two = ensembleFields (b .ensemble) .1 in
-    lacks-append quote (ensembleFields (b .ensemble) .0) (0x2E ∷ (two ++ (0x2E ∷ (sid ++ (0x2E ∷ last))))) (e .0)
-    (lacks-cons quote 0x2E (two ++ (0x2E ∷ (sid ++ (0x2E ∷ last)))) refl
-    (lacks-append quote two (0x2E ∷ (sid ++ (0x2E ∷ last))) (e .1)
-    (lacks-cons quote 0x2E (sid ++ (0x2E ∷ last)) refl
-    (lacks-append quote sid (0x2E ∷ last) (hex-lacks (digits (cond (b .long) 4 2) (b .sid)))
-    (lacks-cons quote 0x2E last refl (lacks-cons quote (hexDigit 97 (b .scids)) [] (hex-digit-quote (b .scids)) refl))))))
+    lacks-append strange (ensembleFields (b .ensemble) .0) (0x2E ∷ (two ++ (0x2E ∷ (sid ++ (0x2E ∷ last))))) (e .0)
+    (lacks-cons strange 0x2E (two ++ (0x2E ∷ (sid ++ (0x2E ∷ last)))) refl
+    (lacks-append strange two (0x2E ∷ (sid ++ (0x2E ∷ last))) (e .1)
+    (lacks-cons strange 0x2E (sid ++ (0x2E ∷ last)) refl
+    (lacks-append strange sid (0x2E ∷ last) (sid-sober (b .long) (b .sid) (ok .sid))
+    (lacks-cons strange 0x2E last refl (lacks-cons strange (hexDigit 97 (b .scids)) [] (hex-digit-sober (b .scids) (ok .scids)) refl))))))
