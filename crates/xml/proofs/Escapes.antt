@@ -1,6 +1,6 @@
 -- Escaped text: a reader of XML gets the text back, and finds no tag and no end of a value in it.
 use mathlib.Core.Path.{_≡_, refl, sym, ap, _∙_}
-use mathlib.Core.Bool.{Bool, true, false, cond, not, _&&_, _||_, false≢true}
+use mathlib.Core.Bool.{Bool, true, false, cond, not, _&&_, _||_}
 use mathlib.Core.List.{List, [], _∷_, _++_}
 use Prim.Native.Nat.{ℕ, zero, suc, _+_, _*_, _/_, _%_, _≤_}
 use native.Mathlib.Omega.{arith}
@@ -15,7 +15,7 @@ use Rattle.show.specs.Lines.{ascii}
 use Rattle.survey.proofs.Seeking.{opposite}
 use Rattle.xml.specs.Xml.{escape, escaped}
 use Rattle.xml.specs.Reading.{references, startsWith, reference, referenceAt, octetOr, sizeIn, readFrom, unescaped, inert}
-use Rattle.xml.proofs.Parts.{quote, less, lacks, lacks-cons}
+use Rattle.xml.proofs.Parts.{quote, less, lacks, other-than, lacks-cons}
 
 -- the six ways in which an octet is escaped
 abbrev escapeBy : (b : ℕ) (a c d e f : Bool) → List ℕ
@@ -83,16 +83,13 @@ inert-lacks p h (b ∷ s) i =
     lacks-cons p b s (h b (opposite mark first)) (inert-lacks p h s (and-right (not mark && begun) (inert s) i))
 
 -- a double quote, and an opening angle bracket
-other-than : (mark : ℕ) → among mark (0x3C ∷ 0x3E ∷ 0x22 ∷ 0x27 ∷ []) ≡ true → (b : ℕ) → among b (0x3C ∷ 0x3E ∷ 0x22 ∷ 0x27 ∷ []) ≡ false → eqb b mark ≡ false
-other-than mark m b h = ne-eqb b mark (λ e. false≢true (sym h ∙ ap (λ x. among x (0x3C ∷ 0x3E ∷ 0x22 ∷ 0x27 ∷ [])) e ∙ m))
-
 pub escaped-quote : (o : List ℕ) → lacks quote (escaped o) ≡ true
 unfolding among
-escaped-quote o = inert-lacks quote (other-than 0x22 refl) (escaped o) (escaped-inert o)
+escaped-quote o = inert-lacks quote (λ b. other-than (0x3C ∷ 0x3E ∷ 0x22 ∷ 0x27 ∷ []) 0x22 b refl) (escaped o) (escaped-inert o)
 
 pub escaped-less : (o : List ℕ) → lacks less (escaped o) ≡ true
 unfolding among
-escaped-less o = inert-lacks less (other-than 0x3C refl) (escaped o) (escaped-inert o)
+escaped-less o = inert-lacks less (λ b. other-than (0x3C ∷ 0x3E ∷ 0x22 ∷ 0x27 ∷ []) 0x3C b refl) (escaped o) (escaped-inert o)
 
 -- ---- it is valid text where the text is
 

@@ -2,11 +2,12 @@
 -- which nothing fits. So texts follow one another with no branch, and whether all fit is seen at the end. Where nothing is to be written (`emit` is false) the same walk
 -- only counts.
 use mathlib.Core.Path.{_≡_}
-use mathlib.Core.Bool.{Bool, true, false, cond}
+use mathlib.Core.Bool.{Bool, true, false, cond, not, _&&_}
 use mathlib.Core.Option.{Option, none, some}
-use mathlib.Core.List.{List, [], _++_}
+use mathlib.Core.List.{List, [], _∷_, _++_}
 use Prim.Native.Nat.{ℕ, suc, _+_, _-_, _≤_, min}
 use lib.IntN.{ℤ, pos, negsuc}
+use lib.Dec.{eqb, leb}
 use lib.ListN.{length, take, drop}
 use lib.Seq.{sets}
 use Rattle.text.specs.Tokens.{Entries, entries, entry}
@@ -17,8 +18,8 @@ use Rattle.values.specs.declared.Kind.{Kind}
 use Rattle.values.specs.declared.Kind.the-variants.{HoldsNumber}
 use Rattle.values.specs.declared.NumberKind.the-variants.{Enumerated}
 use Rattle.values.specs.Table.{known, attribute}
-use Rattle.octets.specs.Numbers.{value, Octets}
-use Rattle.show.specs.Digits.{decimal}
+use Rattle.octets.specs.Numbers.{among, value, Octets}
+use Rattle.show.specs.Digits.{decimal, twoDigits}
 use Rattle.show.specs.Lines.{ascii}
 use Rattle.values.specs.declared.NumberKind.{NumberKind}
 use Rattle.values.specs.Times.{timeOf, isTime}
@@ -33,6 +34,20 @@ pub record Puts (emit : Bool) (text : List ℕ) (at : ℕ) (before after : List 
   pub holds : at + length text ≤ length before → after ≡ cond emit (sets before at text) before
   pub quiet : emit ≡ false → after ≡ before
   pub long : length after ≡ length before
+
+-- an octet that stands for itself in every text: it is no token, and XML has no escape for it
+unfoldable pub steady : ℕ → Bool
+steady b = leb 0x14 b && not (among b (0x22 ∷ 0x26 ∷ 0x27 ∷ 0x3C ∷ 0x3E ∷ []))
+
+unfoldable pub allSteady : List ℕ → Bool
+allSteady [] = true
+allSteady (b ∷ bs) = steady b && allSteady bs
+
+-- the octets from a place up to another all are such
+pub record SteadyTo (s : List ℕ) (at end : ℕ) : Type 0 where
+  pub onward : at ≤ end
+  pub inside : end ≤ length s
+  pub all : allSteady (take (end - at) (drop at s)) ≡ true
 
 -- the year of a day and the days after its 1 January, and the month of a day of a year and the day in it
 pub record YearIs (days : ℕ) (r : Part) : Type 0 where
@@ -60,6 +75,10 @@ orNothing (some o) = o
 -- its octets
 unfoldable pub entryText : List ℕ → ℕ → List ℕ
 entryText table key = orNothing (entry (entries table) key)
+
+-- the name of an enumerated octet, or its two digits where it has none
+unfoldable pub orDigits : List ℕ → ℕ → List ℕ
+orDigits name n = cond (eqb (length name) 0) (twoDigits 97 n) name
 
 -- the name of a known attribute, and the text of an enumerated one's octet
 unfoldable pub NamePut : (emit : Bool) (parent tag at : ℕ) (before after : List ℕ) (to : ℕ) → Type 0

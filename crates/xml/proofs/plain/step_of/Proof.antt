@@ -1,81 +1,59 @@
 use borrow.Author.Needs.{needs}
 use Rattle.xml.proofs.Plainly.{step-ways}
-use borrow.Author.Needs.{needs}
 use Rattle.xml.proofs.plain.step_of.Statement.{statement}
 use Rattle.xml.proofs.plain.step_of.Tie as tie
-use Rattle.xml.proofs.plain.step_of.Reads as reads
-use Rattle.xml.proofs.plain.step_of.Lts as lts
-use Rattle.values.proofs.known_kind.Reads as known-kind-reads
 
--- src/plain.rt:18:11
 known-kind-requires : tie.Need-known-kind-requires
 known-kind-requires c κs = search needs
 
--- src/plain.rt:19:31
 enum-told : tie.Need-enum-told
 enum-told c = search needs
 
--- src/plain.rt:20:26
 enum-known-kind : tie.Need-enum-known-kind
 enum-known-kind c = search needs
 
--- src/plain.rt:21:33
 enum-told-2 : tie.Need-enum-told-2
 enum-told-2 c = search needs
 
--- src/plain.rt:22:34
 enum-told-3 : tie.Need-enum-told-3
 enum-told-3 c = search needs
 
--- src/plain.rt:23:32
 enum-told-4 : tie.Need-enum-told-4
 enum-told-4 c = search needs
 
--- src/plain.rt:24:33
 enum-told-5 : tie.Need-enum-told-5
 enum-told-5 c = search needs
 
--- src/plain.rt:25:32
 enum-told-6 : tie.Need-enum-told-6
 enum-told-6 c = search needs
 
--- src/plain.rt:26:34
 enum-told-7 : tie.Need-enum-told-7
 enum-told-7 c = search needs
 
--- src/plain.rt:27:37
 enum-told-8 : tie.Need-enum-told-8
 enum-told-8 c = search needs
 
--- src/plain.rt:15:1
 returns : tie.Need-returns
 returns c = search (step-ways, needs)
 
--- src/plain.rt:15:1
 returns-2 : tie.Need-returns-2
 returns-2 c = search (step-ways, needs)
 
--- src/plain.rt:15:1
 returns-3 : tie.Need-returns-3
 returns-3 c = search (step-ways, needs)
 
--- src/plain.rt:15:1
 returns-4 : tie.Need-returns-4
 returns-4 c = search (step-ways, needs)
 
--- src/plain.rt:15:1
 returns-5 : tie.Need-returns-5
 returns-5 c = search (step-ways, needs)
 
--- src/plain.rt:15:1
 returns-6 : tie.Need-returns-6
 returns-6 c = search (step-ways, needs)
 
--- src/plain.rt:15:1
 returns-7 : tie.Need-returns-7
 returns-7 c = search (step-ways, needs)
 
--- src/plain.rt:15:1
 returns-8 : tie.Need-returns-8
 returns-8 c = search (step-ways, needs)
 
