@@ -1,7 +1,8 @@
--- Days and their dates, and XML, at closed inputs.
+-- Times and objects with their texts, computed. The texts were written by hand, from the request and the documents.
 use mathlib.Core.Path.{_≡_, refl}
 use mathlib.Core.Bool.{true, false}
-use mathlib.Core.List.{[], _∷_}
+use mathlib.Core.List.{List, [], _∷_}
+use Prim.Native.Nat.{ℕ}
 use Rattle.format.specs.Answers.{refusal}
 use Rattle.xml.specs.Export.Exported.{refuses, shows}
 use Rattle.octets.specs.Numbers.{among, value, digits}
@@ -22,42 +23,69 @@ use Rattle.xml.specs.Dates.{isLeap, yearDays, monthDays, yearFrom, month
 use Rattle.xml.specs.Xml.{escape, escaped, numberText, ensembleFields, bearerText, valueText, attributeXml, attributesXml, tagged, cdataXml, xml}
 use Rattle.survey.specs.First.{orElse, picks, placeIn, placeAt}
 use Rattle.xml.specs.Named.{isPlain, plainHere, plainAt}
-use Rattle.xml.specs.Export.{unlessPlain, exportOf, exportAnswer, exportOctets}
+use Rattle.xml.specs.Export.{Exported, unlessPlain, exportOf, exportAnswer, exportOctets}
 
--- 50,000 is 10 October 1995 (002, clause 4.7.4); the first and the last day that a legal time can have
-pub day-50000 : timeText (record { day = 50_000; hour = 12; minute = 30; second = 5; minus = true; halves = 3 }) ≡ ascii "1995-10-10T11:00:05-01:30"
+-- 50,000 is 10 October 1995 (002, clause 4.7.4); the first and the last day that a legal time can have; a leap day
+pub record Times : Type 0 where
+  named : timeText (record { day = 50_000; hour = 12; minute = 30; second = 5; minus = true; halves = 3 }) ≡ ascii "1995-10-10T11:00:05-01:30"
+  first : timeText (record { day = 0; hour = 0; minute = 0; second = 0; minus = true; halves = 31 }) ≡ ascii "1858-11-16T08:30:00-15:30"
+  last : timeText (record { day = 99_999; hour = 23; minute = 59; second = 59; minus = false; halves = 31 }) ≡ ascii "2132-09-01T15:29:59+15:30"
+  leap : timeText (record { day = 51_603; hour = 23; minute = 30; second = 0; minus = false; halves = 1 }) ≡ ascii "2000-03-01T00:00:00+00:30"
+
+pub times : Times
 unfolding timeText dateText daysTo localDate dateOf yearFrom monthFrom yearDays monthDays isLeap padded between clock localMinutes localOf ascii among
-day-50000 = refl
+times = record { named = refl; first = refl; last = refl; leap = refl }
 
-pub day-before : timeText (record { day = 0; hour = 0; minute = 0; second = 0; minus = true; halves = 31 }) ≡ ascii "1858-11-16T08:30:00-15:30"
-unfolding timeText dateText daysTo localDate dateOf yearFrom monthFrom yearDays monthDays isLeap padded between clock localMinutes localOf ascii among
-day-before = refl
+-- a language, in a top with no attribute
+abbrev pub language : List ℕ
+language = 0x03 ∷ 0x04 ∷ 0x06 ∷ 0x02 ∷ 0x65 ∷ 0x6E ∷ []
 
-pub day-after : timeText (record { day = 99_999; hour = 23; minute = 59; second = 59; minus = false; halves = 31 }) ≡ ascii "2132-09-01T15:29:59+15:30"
-unfolding timeText dateText daysTo localDate dateOf yearFrom monthFrom yearDays monthDays isLeap padded between clock localMinutes localOf ascii among
-day-after = refl
-
--- a language, and a top with no attribute
-pub case-1 : exportOf (0x03 ∷ 0x04 ∷ 0x06 ∷ 0x02 ∷ 0x65 ∷ 0x6E ∷ []) (judge (0x03 ∷ 0x04 ∷ 0x06 ∷ 0x02 ∷ 0x65 ∷ 0x6E ∷ [])) ≡ shows (ascii "<serviceInformation><defaultLanguage>en</defaultLanguage></serviceInformation>")
-unfolding among value digits headerSize bodySize lengthField framed layout token character single goesOn utf8 text cut entries filled isTable entry orItself stands expanded present covers covered shownLength expandedSize rows attribute kindIn known bits longFlag offsetFlag offsetOctet timeOf inRange isTime canonical sign timeOctets localMinutes localOf ensembleFlag longSidFlag ensembleOf bearerOf isBearer ensembleBit ensembleOctets bearerOctets width fits meant octetsOf find kindOf count records isKnown isItems isTokens isText isValue isTop allowed latest stageAfter limit notAbove shown ofTop rule first kindRules itemRules own late lateBefore lateAfter broken within waits next unless followed joined byKind items outermost judge opens isChild valueIn attributesIn cdataIn leafOctets means tableIn tableOf ifAccepted meaning maybe rising encode normal tens decimal told hexDigit twoDigits hexLower ascii line kindName headerLine recordLine recordsLine refusalLine touchedLine reasons refusalWords names words nameIn name wordIn orHex word isLeap yearDays monthDays yearFrom monthFrom dateOf daysTo localDate padded between dateText clock timeText escape escaped numberText ensembleFields bearerText valueText attributeXml attributesXml tagged cdataXml xml isPlain orElse picks placeIn placeAt plainHere plainAt unlessPlain exportOf exportAnswer exportOctets
-case-1 = refl
+-- an empty one
+abbrev pub no-language : List ℕ
+no-language = 0x02 ∷ 0x02 ∷ 0x06 ∷ 0x00 ∷ []
 
 -- empty CDATA, no CDATA, and a token that stands for nothing
-pub case-2 : exportOf (0x03 ∷ 0x0F ∷ 0x04 ∷ 0x02 ∷ 0x01 ∷ 0x00 ∷ 0x10 ∷ 0x02 ∷ 0x01 ∷ 0x00 ∷ 0x11 ∷ 0x00 ∷ 0x12 ∷ 0x03 ∷ 0x01 ∷ 0x01 ∷ 0x01 ∷ []) (judge (0x03 ∷ 0x0F ∷ 0x04 ∷ 0x02 ∷ 0x01 ∷ 0x00 ∷ 0x10 ∷ 0x02 ∷ 0x01 ∷ 0x00 ∷ 0x11 ∷ 0x00 ∷ 0x12 ∷ 0x03 ∷ 0x01 ∷ 0x01 ∷ 0x01 ∷ [])) ≡ shows (ascii "<serviceInformation><shortName><![CDATA[]]></shortName><mediumName/><longName><![CDATA[]]></longName></serviceInformation>")
-unfolding among value digits headerSize bodySize lengthField framed layout token character single goesOn utf8 text cut entries filled isTable entry orItself stands expanded present covers covered shownLength expandedSize rows attribute kindIn known bits longFlag offsetFlag offsetOctet timeOf inRange isTime canonical sign timeOctets localMinutes localOf ensembleFlag longSidFlag ensembleOf bearerOf isBearer ensembleBit ensembleOctets bearerOctets width fits meant octetsOf find kindOf count records isKnown isItems isTokens isText isValue isTop allowed latest stageAfter limit notAbove shown ofTop rule first kindRules itemRules own late lateBefore lateAfter broken within waits next unless followed joined byKind items outermost judge opens isChild valueIn attributesIn cdataIn leafOctets means tableIn tableOf ifAccepted meaning maybe rising encode normal tens decimal told hexDigit twoDigits hexLower ascii line kindName headerLine recordLine recordsLine refusalLine touchedLine reasons refusalWords names words nameIn name wordIn orHex word isLeap yearDays monthDays yearFrom monthFrom dateOf daysTo localDate padded between dateText clock timeText escape escaped numberText ensembleFields bearerText valueText attributeXml attributesXml tagged cdataXml xml isPlain orElse picks placeIn placeAt plainHere plainAt unlessPlain exportOf exportAnswer exportOctets
-case-2 = refl
+abbrev pub empty-names : List ℕ
+empty-names = 0x03 ∷ 0x0F ∷ 0x04 ∷ 0x02 ∷ 0x01 ∷ 0x00 ∷ 0x10 ∷ 0x02 ∷ 0x01 ∷ 0x00 ∷ 0x11 ∷ 0x00 ∷ 0x12 ∷ 0x03 ∷ 0x01 ∷ 0x01 ∷ 0x01 ∷ []
 
--- attributes by rising tag: a version, a time with its offset, a text with marks
-pub case-3 : exportOf (0x03 ∷ 0x11 ∷ 0x82 ∷ 0x04 ∷ 0x61 ∷ 0x22 ∷ 0x3C ∷ 0x62 ∷ 0x81 ∷ 0x05 ∷ 0x30 ∷ 0xD4 ∷ 0x13 ∷ 0x1E ∷ 0x03 ∷ 0x80 ∷ 0x02 ∷ 0x00 ∷ 0x07 ∷ []) (judge (0x03 ∷ 0x11 ∷ 0x82 ∷ 0x04 ∷ 0x61 ∷ 0x22 ∷ 0x3C ∷ 0x62 ∷ 0x81 ∷ 0x05 ∷ 0x30 ∷ 0xD4 ∷ 0x13 ∷ 0x1E ∷ 0x03 ∷ 0x80 ∷ 0x02 ∷ 0x00 ∷ 0x07 ∷ [])) ≡ shows (ascii "<serviceInformation version=\"7\" creationTime=\"1995-10-10T14:00:00+01:30\" originator=\"a&quot;&lt;b\"/>")
-unfolding among value digits headerSize bodySize lengthField framed layout token character single goesOn utf8 text cut entries filled isTable entry orItself stands expanded present covers covered shownLength expandedSize rows attribute kindIn known bits longFlag offsetFlag offsetOctet timeOf inRange isTime canonical sign timeOctets localMinutes localOf ensembleFlag longSidFlag ensembleOf bearerOf isBearer ensembleBit ensembleOctets bearerOctets width fits meant octetsOf find kindOf count records isKnown isItems isTokens isText isValue isTop allowed latest stageAfter limit notAbove shown ofTop rule first kindRules itemRules own late lateBefore lateAfter broken within waits next unless followed joined byKind items outermost judge opens isChild valueIn attributesIn cdataIn leafOctets means tableIn tableOf ifAccepted meaning maybe rising encode normal tens decimal told hexDigit twoDigits hexLower ascii line kindName headerLine recordLine recordsLine refusalLine touchedLine reasons refusalWords names words nameIn name wordIn orHex word isLeap yearDays monthDays yearFrom monthFrom dateOf daysTo localDate padded between dateText clock timeText escape escaped numberText ensembleFields bearerText valueText attributeXml attributesXml tagged cdataXml xml isPlain orElse picks placeIn placeAt plainHere plainAt unlessPlain exportOf exportAnswer exportOctets
-case-3 = refl
+-- attributes out of order: a text with marks, a time with its offset, a version
+abbrev pub marked : List ℕ
+marked = 0x03 ∷ 0x11 ∷ 0x82 ∷ 0x04 ∷ 0x61 ∷ 0x22 ∷ 0x3C ∷ 0x62 ∷ 0x81 ∷ 0x05 ∷ 0x30 ∷ 0xD4 ∷ 0x13 ∷ 0x1E ∷ 0x03 ∷ 0x80 ∷ 0x02 ∷ 0x00 ∷ 0x07 ∷ []
 
--- bearers, of which the code tells the names apart; an enumerated octet with a name of annex F and one without; a duration
-pub case-4 : exportOf (0x02 ∷ 0x21 ∷ 0x29 ∷ 0x05 ∷ 0x80 ∷ 0x03 ∷ 0x02 ∷ 0xD1 ∷ 0x23 ∷ 0x2D ∷ 0x0A ∷ 0x80 ∷ 0x08 ∷ 0x50 ∷ 0xE1 ∷ 0xC1 ∷ 0x85 ∷ 0xE1 ∷ 0xC0 ∷ 0xFF ∷ 0xEE ∷ 0x1C ∷ 0x06 ∷ 0x83 ∷ 0x01 ∷ 0x02 ∷ 0x84 ∷ 0x01 ∷ 0x0A ∷ 0x2C ∷ 0x04 ∷ 0x81 ∷ 0x02 ∷ 0x0E ∷ 0x10 ∷ []) (judge (0x02 ∷ 0x21 ∷ 0x29 ∷ 0x05 ∷ 0x80 ∷ 0x03 ∷ 0x02 ∷ 0xD1 ∷ 0x23 ∷ 0x2D ∷ 0x0A ∷ 0x80 ∷ 0x08 ∷ 0x50 ∷ 0xE1 ∷ 0xC1 ∷ 0x85 ∷ 0xE1 ∷ 0xC0 ∷ 0xFF ∷ 0xEE ∷ 0x1C ∷ 0x06 ∷ 0x83 ∷ 0x01 ∷ 0x02 ∷ 0x84 ∷ 0x01 ∷ 0x0A ∷ 0x2C ∷ 0x04 ∷ 0x81 ∷ 0x02 ∷ 0x0E ∷ 0x10 ∷ [])) ≡ shows (ascii "<epg><bearer.29 id=\"..d123.2\"/><bearer.2d id=\"e1.c185.e1c0ffee.0\"/><programme recommendation=\"yes\" broadcast=\"0a\"/><time duration=\"PT3600S\"/></epg>")
-unfolding among value digits headerSize bodySize lengthField framed layout token character single goesOn utf8 text cut entries filled isTable entry orItself stands expanded present covers covered shownLength expandedSize rows attribute kindIn known bits longFlag offsetFlag offsetOctet timeOf inRange isTime canonical sign timeOctets localMinutes localOf ensembleFlag longSidFlag ensembleOf bearerOf isBearer ensembleBit ensembleOctets bearerOctets width fits meant octetsOf find kindOf count records isKnown isItems isTokens isText isValue isTop allowed latest stageAfter limit notAbove shown ofTop rule first kindRules itemRules own late lateBefore lateAfter broken within waits next unless followed joined byKind items outermost judge opens isChild valueIn attributesIn cdataIn leafOctets means tableIn tableOf ifAccepted meaning maybe rising encode normal tens decimal told hexDigit twoDigits hexLower ascii line kindName headerLine recordLine recordsLine refusalLine touchedLine reasons refusalWords names words nameIn name wordIn orHex word isLeap yearDays monthDays yearFrom monthFrom dateOf daysTo localDate padded between dateText clock timeText escape escaped numberText ensembleFields bearerText valueText attributeXml attributesXml tagged cdataXml xml isPlain orElse picks placeIn placeAt plainHere plainAt unlessPlain exportOf exportAnswer exportOctets
-case-4 = refl
+-- a time whose offset is minus 0
+abbrev pub minus-zero : List ℕ
+minus-zero = 0x03 ∷ 0x07 ∷ 0x81 ∷ 0x05 ∷ 0x30 ∷ 0xD4 ∷ 0x10 ∷ 0x00 ∷ 0x20 ∷ []
 
--- plain octets, at the tag of the first item that has some; the room says nothing then
-pub case-5 : exportOf (0x03 ∷ 0x07 ∷ 0x28 ∷ 0x00 ∷ 0x26 ∷ 0x03 ∷ 0x80 ∷ 0x01 ∷ 0x01 ∷ []) (judge (0x03 ∷ 0x07 ∷ 0x28 ∷ 0x00 ∷ 0x26 ∷ 0x03 ∷ 0x80 ∷ 0x01 ∷ 0x01 ∷ [])) ≡ refuses (refusal 17 6)
+-- bearers, whose names their codes tell apart; an enumerated octet with a name of annex F and one without; a duration
+abbrev pub guide : List ℕ
+guide = 0x02 ∷ 0x21 ∷ 0x29 ∷ 0x05 ∷ 0x80 ∷ 0x03 ∷ 0x02 ∷ 0xD1 ∷ 0x23 ∷ 0x2D ∷ 0x0A ∷ 0x80 ∷ 0x08 ∷ 0x50 ∷ 0xE1 ∷ 0xC1 ∷ 0x85 ∷ 0xE1 ∷ 0xC0 ∷ 0xFF ∷ 0xEE ∷ 0x1C ∷ 0x06 ∷ 0x83 ∷ 0x01 ∷ 0x02 ∷ 0x84 ∷ 0x01 ∷ 0x0A ∷ 0x2C ∷ 0x04 ∷ 0x81 ∷ 0x02 ∷ 0x0E ∷ 0x10 ∷ []
+
+-- an enumerated octet whose name another one shares
+abbrev pub picture : List ℕ
+picture = 0x03 ∷ 0x05 ∷ 0x2B ∷ 0x03 ∷ 0x83 ∷ 0x01 ∷ 0x05 ∷ []
+
+-- children, and CDATA behind them
+abbrev pub described : List ℕ
+described = 0x03 ∷ 0x0D ∷ 0x13 ∷ 0x0B ∷ 0x1A ∷ 0x06 ∷ 0x80 ∷ 0x02 ∷ 0x66 ∷ 0x72 ∷ 0x01 ∷ 0x00 ∷ 0x01 ∷ 0x01 ∷ 0x78 ∷ []
+
+-- plain octets, in the id of an ensemble behind a service
+abbrev pub plain-id : List ℕ
+plain-id = 0x03 ∷ 0x07 ∷ 0x28 ∷ 0x00 ∷ 0x26 ∷ 0x03 ∷ 0x80 ∷ 0x01 ∷ 0x01 ∷ []
+
+abbrev pub shownAs : List ℕ → Exported
+shownAs o = exportOf o (judge o)
+
+pub record Computed : Type 0 where
+  pub of-language : shownAs language ≡ shows (ascii "<serviceInformation><defaultLanguage>en</defaultLanguage></serviceInformation>")
+  pub of-no-language : shownAs no-language ≡ shows (ascii "<epg><defaultLanguage/></epg>")
+  pub of-empty-names : shownAs empty-names ≡ shows (ascii "<serviceInformation><shortName><![CDATA[]]></shortName><mediumName/><longName><![CDATA[]]></longName></serviceInformation>")
+  pub of-marked : shownAs marked ≡ shows (ascii "<serviceInformation version=\"7\" creationTime=\"1995-10-10T14:00:00+01:30\" originator=\"a&quot;&lt;b\"/>")
+  pub of-minus-zero : shownAs minus-zero ≡ shows (ascii "<serviceInformation creationTime=\"1995-10-10T00:00:00+00:00\"/>")
+  pub of-guide : shownAs guide ≡ shows (ascii "<epg><bearer.29 id=\"..d123.2\"/><bearer.2d id=\"e1.c185.e1c0ffee.0\"/><programme recommendation=\"yes\" broadcast=\"0a\"/><time duration=\"PT3600S\"/></epg>")
+  pub of-picture : shownAs picture ≡ shows (ascii "<serviceInformation><multimedia type=\"Not used.05\"/></serviceInformation>")
+  pub of-described : shownAs described ≡ shows (ascii "<serviceInformation><mediaDescription><shortDescription xml:lang=\"fr\"><![CDATA[]]></shortDescription>x</mediaDescription></serviceInformation>")
+  pub of-plain-id : shownAs plain-id ≡ refuses (refusal 17 6)
+
+pub computed : Computed
 unfolding among value digits headerSize bodySize lengthField framed layout token character single goesOn utf8 text cut entries filled isTable entry orItself stands expanded present covers covered shownLength expandedSize rows attribute kindIn known bits longFlag offsetFlag offsetOctet timeOf inRange isTime canonical sign timeOctets localMinutes localOf ensembleFlag longSidFlag ensembleOf bearerOf isBearer ensembleBit ensembleOctets bearerOctets width fits meant octetsOf find kindOf count records isKnown isItems isTokens isText isValue isTop allowed latest stageAfter limit notAbove shown ofTop rule first kindRules itemRules own late lateBefore lateAfter broken within waits next unless followed joined byKind items outermost judge opens isChild valueIn attributesIn cdataIn leafOctets means tableIn tableOf ifAccepted meaning maybe rising encode normal tens decimal told hexDigit twoDigits hexLower ascii line kindName headerLine recordLine recordsLine refusalLine touchedLine reasons refusalWords names words nameIn name wordIn orHex word isLeap yearDays monthDays yearFrom monthFrom dateOf daysTo localDate padded between dateText clock timeText escape escaped numberText ensembleFields bearerText valueText attributeXml attributesXml tagged cdataXml xml isPlain orElse picks placeIn placeAt plainHere plainAt unlessPlain exportOf exportAnswer exportOctets
-case-5 = refl
+computed = record { of-language = refl; of-no-language = refl; of-empty-names = refl; of-marked = refl; of-minus-zero = refl; of-guide = refl; of-picture = refl; of-described = refl; of-plain-id = refl }

@@ -1,4 +1,4 @@
--- The date of a day, by counting years and months (Gregorian calendar), and a time as TS 102 818 writes it (clause 5.2.12; request 2026-02).
+-- The date of a day, by counting years and months of the Gregorian calendar, and a time as TS 102 818 writes it (003, clause 5.2.12; request 2026-02).
 use mathlib.Core.Bool.{Bool, cond, not, _&&_, _||_}
 use mathlib.Core.List.{List, [], _∷_, _++_}
 use Prim.Native.Nat.{ℕ, zero, suc, _+_, _-_, _*_, _/_, _%_, _^_}
@@ -32,7 +32,7 @@ pub record Date : Type 0 where
   pub month : ℕ
   pub day : ℕ
 
--- the date so many days after 1 January 1858. No date of a time lies past the 275 years from there on (proofs/Dates)
+-- the date so many days after 1 January 1858. The local date of a legal time lies within the 275 years from there on (proofs/Dates, local-within)
 unfoldable pub dateOf : ℕ → Date
 dateOf n =
     let y = yearFrom 275 1858 n in
@@ -66,7 +66,7 @@ unfoldable pub clock : List ℕ → List (List ℕ)
 clock [] = []
 clock (n ∷ ns) = padded 2 n ∷ clock ns
 
--- YYYY-MM-DDThh:mm:ss and the offset, +hh:mm or -hh:mm: local time
+-- local time, YYYY-MM-DDThh:mm:ss, and its offset, +hh:mm or -hh:mm: seconds always, +00:00 where the offset is 0, and never a Z
 unfoldable pub timeText : Time → List ℕ
 timeText t =
     dateText (localDate t)
