@@ -78,6 +78,10 @@ tree-words : refusalWords 16 ≡ ascii "the records are not a well-formed tree"
 unfolding refusalWords reasons ascii
 tree-words = refl
 
+plain-words : refusalWords 17 ≡ ascii "an item holds plain octets, which have no XML"
+unfolding refusalWords reasons ascii
+plain-words = refl
+
 -- two answers that no call of this crate may give, whatever its text is: that a text was put which doesn't stand there, and that there is no room where a part of
 -- it was left
 not-put : (text : List ℕ) (at : ℕ) (out : List ℕ) (n : ℕ) → (take (length text) (drop at out) ≡ text → ⊥) → Puts text at out out (Put.Done n) → ⊥

@@ -440,6 +440,6 @@ above {k} n h f = go (leb (suc k) n) refl
     go true e = leb-true (suc k) n e
     go false e = let same : n ≡ k = omega (arith, leb-false (suc k) n e) in absurd (f same)
 
-pub words-other : (n : ℕ) → 17 ≤ n → refusalWords n ≡ ascii "no such refusal"
+pub words-other : (n : ℕ) → 18 ≤ n → refusalWords n ≡ ascii "no such refusal"
 unfolding refusalWords reasons
 words-other n h = ap ascii (List·getD-eq-default reasons "no such refusal" h)

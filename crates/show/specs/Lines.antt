@@ -41,7 +41,7 @@ refusalLine r = line (ascii "refused" ∷ decimal (r .number) ∷ ascii "at" ∷
 unfoldable pub touchedLine : List ℕ
 touchedLine = line (ascii "touched" ∷ [])
 
--- why an object, a request or a list of records is refused, by the refusal's number (document 01, Refusal numbers)
+-- why an object, a request or a list of records is refused, by the refusal's number (document 01, Refusal numbers; 17: request 2026-02)
 unfoldable pub reasons : List String
 reasons =
     "nothing is refused"
@@ -61,6 +61,7 @@ reasons =
     ∷ "there are more records than places"
     ∷ "a room or store is too small, or the output has more than 32768 octets"
     ∷ "the records are not a well-formed tree"
+    ∷ "an item holds plain octets, which have no XML"
     ∷ []
 
 unfoldable pub refusalWords : ℕ → List ℕ

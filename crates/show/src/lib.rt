@@ -330,6 +330,7 @@ pub fn put_refusal_words(out: &mut [u8], at: usize, number: u8) -> Put
             b"a room or store is too small, or the output has more than 32768 octets",
         ),
         16 => put_bytes(out, at, b"the records are not a well-formed tree"),
+        17 => put_bytes(out, at, b"an item holds plain octets, which have no XML"),
         _ => put_bytes(out, at, b"no such refusal"),
     }
 }

@@ -4,9 +4,6 @@ use Prim.Native.Nat.{zero-le}
 use borrow.Author.Needs.{needs}
 use Rattle.show.proofs.put_refusal_words.Statement.{statement}
 use Rattle.show.proofs.put_refusal_words.Tie as tie
-use Rattle.show.proofs.put_refusal_words.Reads as reads
-use Rattle.show.proofs.put_refusal_words.Lts as lts
-use Rattle.show.proofs.put_bytes.Reads as put-bytes-reads
 
 slice-aggregate-put-bytes : tie.Need-slice-aggregate-put-bytes
 slice-aggregate-put-bytes c = search needs
@@ -115,6 +112,12 @@ slice-aggregate-put-bytes-18 c = search needs
 
 put-bytes-requires-18 : tie.Need-put-bytes-requires-18
 put-bytes-requires-18 c κs = search needs
+
+slice-aggregate-put-bytes-19 : tie.Need-slice-aggregate-put-bytes-19
+slice-aggregate-put-bytes-19 c = search needs
+
+put-bytes-requires-19 : tie.Need-put-bytes-requires-19
+put-bytes-requires-19 c κs = search needs
 
 same-length : tie.Need-same-length
 same-length c = search needs
@@ -240,7 +243,14 @@ same-length-18 c = search needs
 
 returns-18 : tie.Need-returns-18
 unfolding ascii reasons refusalWords
-returns-18 c = puts-same _ _ (words-other _ (above _ (above _ (above _ (above _ (above _ (above _ (above _ (above _ (above _ (above _ (above _ (above _ (above _ (above _ (above _ (above _ (above _ zero-le (c .before .before .before .before .before .match .rest .0 .0 .0 .0 .0 .0 .0 .0 .0 .0 .0 .0 .0 .0 .0 .0 .1)) (c .before .before .before .before .before .match .rest .0 .0 .0 .0 .0 .0 .0 .0 .0 .0 .0 .0 .0 .0 .0 .1)) (c .before .before .before .before .before .match .rest .0 .0 .0 .0 .0 .0 .0 .0 .0 .0 .0 .0 .0 .0 .1)) (c .before .before .before .before .before .match .rest .0 .0 .0 .0 .0 .0 .0 .0 .0 .0 .0 .0 .0 .1)) (c .before .before .before .before .before .match .rest .0 .0 .0 .0 .0 .0 .0 .0 .0 .0 .0 .0 .1)) (c .before .before .before .before .before .match .rest .0 .0 .0 .0 .0 .0 .0 .0 .0 .0 .0 .1)) (c .before .before .before .before .before .match .rest .0 .0 .0 .0 .0 .0 .0 .0 .0 .0 .1)) (c .before .before .before .before .before .match .rest .0 .0 .0 .0 .0 .0 .0 .0 .0 .1)) (c .before .before .before .before .before .match .rest .0 .0 .0 .0 .0 .0 .0 .0 .1)) (c .before .before .before .before .before .match .rest .0 .0 .0 .0 .0 .0 .0 .1)) (c .before .before .before .before .before .match .rest .0 .0 .0 .0 .0 .0 .1)) (c .before .before .before .before .before .match .rest .0 .0 .0 .0 .0 .1)) (c .before .before .before .before .before .match .rest .0 .0 .0 .0 .1)) (c .before .before .before .before .before .match .rest .0 .0 .0 .1)) (c .before .before .before .before .before .match .rest .0 .0 .1)) (c .before .before .before .before .before .match .rest .0 .1)) (c .before .before .before .before .before .match .rest .1))) _ _ _ _ (c .before .before .put-bytes18 .ensures)
+returns-18 c = words-same _ 17 (c .before .before .before .before .before .match .keys18) _ _ _ _ (c .before .before .put-bytes18 .ensures)
+
+same-length-19 : tie.Need-same-length-19
+same-length-19 c = search needs
+
+returns-19 : tie.Need-returns-19
+unfolding ascii reasons refusalWords
+returns-19 c = puts-same _ _ (words-other _ (above _ (above _ (above _ (above _ (above _ (above _ (above _ (above _ (above _ (above _ (above _ (above _ (above _ (above _ (above _ (above _ (above _ (above _ zero-le (c .before .before .before .before .before .match .rest .0 .0 .0 .0 .0 .0 .0 .0 .0 .0 .0 .0 .0 .0 .0 .0 .0 .1)) (c .before .before .before .before .before .match .rest .0 .0 .0 .0 .0 .0 .0 .0 .0 .0 .0 .0 .0 .0 .0 .0 .1)) (c .before .before .before .before .before .match .rest .0 .0 .0 .0 .0 .0 .0 .0 .0 .0 .0 .0 .0 .0 .0 .1)) (c .before .before .before .before .before .match .rest .0 .0 .0 .0 .0 .0 .0 .0 .0 .0 .0 .0 .0 .0 .1)) (c .before .before .before .before .before .match .rest .0 .0 .0 .0 .0 .0 .0 .0 .0 .0 .0 .0 .0 .1)) (c .before .before .before .before .before .match .rest .0 .0 .0 .0 .0 .0 .0 .0 .0 .0 .0 .0 .1)) (c .before .before .before .before .before .match .rest .0 .0 .0 .0 .0 .0 .0 .0 .0 .0 .0 .1)) (c .before .before .before .before .before .match .rest .0 .0 .0 .0 .0 .0 .0 .0 .0 .0 .1)) (c .before .before .before .before .before .match .rest .0 .0 .0 .0 .0 .0 .0 .0 .0 .1)) (c .before .before .before .before .before .match .rest .0 .0 .0 .0 .0 .0 .0 .0 .1)) (c .before .before .before .before .before .match .rest .0 .0 .0 .0 .0 .0 .0 .1)) (c .before .before .before .before .before .match .rest .0 .0 .0 .0 .0 .0 .1)) (c .before .before .before .before .before .match .rest .0 .0 .0 .0 .0 .1)) (c .before .before .before .before .before .match .rest .0 .0 .0 .0 .1)) (c .before .before .before .before .before .match .rest .0 .0 .0 .1)) (c .before .before .before .before .before .match .rest .0 .0 .1)) (c .before .before .before .before .before .match .rest .0 .1)) (c .before .before .before .before .before .match .rest .1))) _ _ _ _ (c .before .before .put-bytes19 .ensures)
 
 pub put-refusal-words-spec : {M : Type 1} → statement M
 put-refusal-words-spec =
@@ -282,6 +292,8 @@ put-refusal-words-spec =
     put-bytes-requires-17
     slice-aggregate-put-bytes-18
     put-bytes-requires-18
+    slice-aggregate-put-bytes-19
+    put-bytes-requires-19
     same-length
     returns
     same-length-2
@@ -317,4 +329,6 @@ put-refusal-words-spec =
     same-length-17
     returns-17
     same-length-18
-    returns-18)
+    returns-18
+    same-length-19
+    returns-19)
