@@ -8,7 +8,7 @@ use Rattle.xml.specs.Export.Exported.{refuses, shows}
 use Rattle.octets.specs.Numbers.{among, value, digits}
 use Rattle.octets.specs.Header.{headerSize, bodySize, lengthField, framed}
 use Rattle.text.specs.Text.{layout, token, character, single, goesOn, utf8, text}
-use Rattle.text.specs.Tokens.{cut, entries, filled, isTable, entry, orItself, stands, expanded, present, covers, covered, shownLength, expandedSize}
+use Rattle.text.specs.Tokens.{cut, entries, filled, isTable, entry, orItself, stands, expanded, present, covers, covered, starts, shownLength, expandedSize}
 use Rattle.values.specs.Table.{rows, attribute, kindIn, known}
 use Rattle.values.specs.Times.{bits, longFlag, offsetFlag, offsetOctet, timeOf, inRange, isTime, canonical, sign, timeOctets, localMinutes, localOf}
 use Rattle.values.specs.Bearers.{ensembleFlag, longSidFlag, ensembleOf, bearerOf, isBearer, ensembleBit, ensembleOctets, bearerOctets}
@@ -87,5 +87,5 @@ pub record Computed : Type 0 where
   pub of-plain-id : shownAs plain-id ≡ refuses (refusal 17 6)
 
 pub computed : Computed
-unfolding among value digits headerSize bodySize lengthField framed layout token character single goesOn utf8 text cut entries filled isTable entry orItself stands expanded present covers covered shownLength expandedSize rows attribute kindIn known bits longFlag offsetFlag offsetOctet timeOf inRange isTime canonical sign timeOctets localMinutes localOf ensembleFlag longSidFlag ensembleOf bearerOf isBearer ensembleBit ensembleOctets bearerOctets width fits meant octetsOf find kindOf count records isKnown isItems isTokens isText isValue isTop allowed latest stageAfter limit notAbove shown ofTop rule first kindRules itemRules own late lateBefore lateAfter broken within waits next unless followed joined byKind items outermost judge opens isChild valueIn attributesIn cdataIn leafOctets means tableIn tableOf ifAccepted meaning maybe rising encode normal tens decimal told hexDigit twoDigits hexLower ascii line kindName headerLine recordLine recordsLine refusalLine touchedLine reasons refusalWords names words nameIn name wordIn orHex word isLeap yearDays monthDays yearFrom monthFrom dateOf daysTo localDate padded between dateText clock timeText escape escaped numberText ensembleFields bearerText valueText attributeXml attributesXml tagged cdataXml xml isPlain orElse picks placeIn placeAt plainHere plainAt unlessPlain exportOf exportAnswer exportOctets
+unfolding among value digits headerSize bodySize lengthField framed layout token character single goesOn utf8 text cut entries filled isTable entry orItself stands expanded present covers covered starts shownLength expandedSize rows attribute kindIn known bits longFlag offsetFlag offsetOctet timeOf inRange isTime canonical sign timeOctets localMinutes localOf ensembleFlag longSidFlag ensembleOf bearerOf isBearer ensembleBit ensembleOctets bearerOctets width fits meant octetsOf find kindOf count records isKnown isItems isTokens isText isValue isTop allowed latest stageAfter limit notAbove shown ofTop rule first kindRules itemRules own late lateBefore lateAfter broken within waits next unless followed joined byKind items outermost judge opens isChild valueIn attributesIn cdataIn leafOctets means tableIn tableOf ifAccepted meaning maybe rising encode normal tens decimal told hexDigit twoDigits hexLower ascii line kindName headerLine recordLine recordsLine refusalLine touchedLine reasons refusalWords names words nameIn name wordIn orHex word isLeap yearDays monthDays yearFrom monthFrom dateOf daysTo localDate padded between dateText clock timeText escape escaped numberText ensembleFields bearerText valueText attributeXml attributesXml tagged cdataXml xml isPlain orElse picks placeIn placeAt plainHere plainAt unlessPlain exportOf exportAnswer exportOctets
 computed = record { of-language = refl; of-no-language = refl; of-empty-names = refl; of-marked = refl; of-minus-zero = refl; of-guide = refl; of-picture = refl; of-described = refl; of-plain-id = refl }

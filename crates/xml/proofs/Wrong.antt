@@ -4,6 +4,7 @@ use mathlib.Core.List.{List, []}
 use Prim.Native.Nat.{ℕ}
 use native.Mathlib.Omega.{arith}
 use lib.ListN.{length, getD}
+use Rattle.octets.specs.declared.counts.Octets.{Octets as OctetCount}
 use Rattle.format.specs.declared.WriteAnswer.the-variants.{Octets as Handed, NotWritten}
 use Rattle.format.specs.Answers.{refusal}
 use Rattle.show.specs.Lines.{ascii}
@@ -13,7 +14,7 @@ use Rattle.xml.proofs.Examples.{shownAs, plain-id, marked, minus-zero, 
 
 module _ (before after : List ℕ) where
   -- a text, though plain octets are present
-  pub plain-shown : (n : ℕ) → ExportClaim plain-id before after (Handed n) → ⊥
+  pub plain-shown : (n : OctetCount) → ExportClaim plain-id before after (Handed n) → ⊥
   unfolding exportAnswer
   plain-shown n c =
       let w : Handed n ≡ NotWritten (refusal 17 6) = c .answers ∙ ap (exportAnswer _) (computed .of-plain-id) in
