@@ -1,12 +1,14 @@
 -- From the claims of the library's calls to those of the calls for C.
 use mathlib.Core.Path.{_≡_, refl, sym, ap, subst, _∙_}
 use mathlib.Core.Bool.{Bool, true, false, cond, _&&_}
-use mathlib.Core.List.{List}
-use Prim.Native.Nat.{ℕ, _+_, _<_, min}
+use mathlib.Core.List.{List, [], _++_}
+use Prim.Native.Nat.{ℕ, _+_, _-_, _≤_, _<_, min}
 use native.Mathlib.Omega.{arith}
 use lib.Dec.{leb, ltb}
-use lib.ListN.{length, getD}
-use Rattle.octets.specs.Counts.{sizeOf}
+use borrow.Author.Tests.{leb-true}
+use lib.ListN.{length, take, drop, getD, take-append-drop}
+use lib.Seq.{sets, length-take-le}
+use Rattle.octets.specs.Counts.{asOctets, sizeOf}
 use Rattle.format.specs.declared.Outcome.{Outcome}
 use Rattle.format.specs.declared.SameOutcome.{SameOutcome}
 use Rattle.format.specs.declared.Span.{Span}
@@ -18,8 +20,11 @@ use Rattle.format.specs.Calls.{Lists, places, ReadClaim, spanOf, treeGiven, Wri
 use Rattle.format.specs.Judge.{judge}
 use Rattle.format.specs.Same.{sameAnswer}
 use Rattle.spi_c.specs.Packed.{packedOutcome, packedSame, Small, SmallSame, SmallSpan}
-use Rattle.spi_c.specs.Claims.{ReadsC, WritesC, NormalisesC, SameC}
-use Rattle.spi_c.proofs.Told.{told-small, told-same-small, read-told, write-told, normal-told, same-told}
+use Rattle.octets.proofs.Lists.{sets-left}
+use Rattle.xml.specs.Export.{Exported, exportOf, exportAnswer, exportOctets, ExportClaim}
+use Rattle.xml.specs.Export.Exported.{refuses, shows}
+use Rattle.spi_c.specs.Claims.{ReadsC, WritesC, NormalisesC, SameC, roomFor, ExportsC}
+use Rattle.spi_c.proofs.Told.{told-small, told-same-small, read-told, write-told, normal-told, same-told, export-told}
 
 -- an answer is known, and with it its outcome and the number
 module _ {A O : Type 0} (outcome : A → O) (answer known : A) (e : answer ≡ known) (o : O) (told : o ≡ outcome answer) where
@@ -64,6 +69,38 @@ module _ (a b : List ℕ) (answer : SameAnswer) (claim : answer ≡ sameAnswer (
 
   pub same-says : (n : ℕ) → n ≡ packedSame o → SameC a b n
   same-says n h = record { answers = outcome-packed sameOutcome _ _ claim o told packedSame n h }
+
+module _ (object before : List ℕ) (most : ℕ) (m : most ≡ min (length before) 0xFFFF_FFFF_FFFF) (part : List ℕ) (answer : WriteAnswer)
+    (claim : ExportClaim object (take (most - 0) (drop 0 before)) part answer) (o : Outcome) (told : o ≡ writeOutcome answer) where
+  room-is : sizeOf (take (most - 0) (drop 0 before)) ≡ roomFor before
+  room-is = ap asOctets (length-take-le (most - 0) (drop 0 before) (omega arith) ∙ (let z : most - 0 ≡ roomFor before .0 = omega arith in z))
+
+  answer-is : answer ≡ exportAnswer (roomFor before) (exportOf object (judge object))
+  answer-is = claim .answers ∙ ap (λ n. exportAnswer n (exportOf object (judge object))) room-is
+
+  pub export-small : Small o
+  export-small = outcome-is writeOutcome _ _ answer-is o told Small (told-small (export-told object (roomFor before) (omega arith)))
+
+  octets-fit : (s : Exported) → length (exportOctets (roomFor before) s) ≤ roomFor before .0
+  unfolding exportOctets
+  octets-fit (refuses r) = omega arith
+  octets-fit (shows x) = go (leb (length x) (roomFor before .0)) refl
+    where
+      go : (b : Bool) → leb (length x) (roomFor before .0) ≡ b → length (cond b x []) ≤ roomFor before .0
+      go true e = leb-true (length x) (roomFor before .0) e
+      go false e = omega arith
+
+  -- what the part holds, before what lies behind it
+  room-holds : part ++ drop (most - 0) (drop 0 before) ≡ sets before 0 (exportOctets (roomFor before) (exportOf object (judge object)))
+  room-holds =
+      let x = exportOctets (roomFor before) (exportOf object (judge object)) in
+      let p : part ≡ sets (take (most - 0) before) 0 x = claim .leaves ∙ ap (λ n. sets (take (most - 0) before) 0 (exportOctets n (exportOf object (judge object)))) room-is in
+      ap (λ u. u ++ drop (most - 0) before) p
+      ∙ sym (sets-left (take (most - 0) before) (drop (most - 0) before) 0 x (omega (arith, octets-fit (exportOf object (judge object)), ap (λ n. n .0) room-is)))
+      ∙ ap (λ l. sets l 0 x) (take-append-drop (most - 0) before)
+
+  pub export-says : (a : ℕ) → a ≡ packedOutcome o → ExportsC object before (part ++ drop (most - 0) (drop 0 before)) a
+  export-says a h = record { answers = outcome-packed writeOutcome _ _ answer-is o told packedOutcome a h; leaves = room-holds }
 
 -- numbers of 16 bits make a small span
 pub span-small : (object starts sizes : List ℕ) (i : ℕ) → getD starts i 0 < 0x1_0000 → getD sizes i 0 < 0x1_0000 → (s : Span) → s ≡ spanOf object starts sizes i → SmallSpan s

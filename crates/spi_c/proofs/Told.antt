@@ -27,18 +27,22 @@ use Rattle.format.specs.Calls.{readAnswer, roomy, writeAnswer, Lent, storedWith
 use Rattle.format.specs.Same.{sameMeaning, sameAnswer}
 use Rattle.format.proofs.Induction.{few}
 use Rattle.format.proofs.Refusals.{refusal-inside}
+use Rattle.xml.specs.Xml.{xml}
+use Rattle.xml.specs.Named.{plainAt}
+use Rattle.xml.specs.Export.{unlessPlain, exportOf, exportAnswer}
+use Rattle.xml.proofs.NamedOnly.{plain-inside}
 use Rattle.spi_c.specs.Packed.{packed, packedOutcome, outcomeIn, packedSame, sameIn, Small, SmallSame}
 use Rattle.spi_c.proofs.Packing.{packed-number, packed-object, packed-value}
 
 -- what every refusal of a call is
 pub record Kept (r : Refusal) : Type 0 where
   pub least : 1 ≤ r .number
-  pub most : r .number ≤ 16
+  pub most : r .number ≤ 17
   pub place : r .place ≤ 32_768
 
 -- the outcomes that calls have: a count and no refusal, or a refusal and no count
 pub data Told : Outcome → Type 0 where
-  counts : (n : ℕ) → n ≤ 32_768 → Told (record { number = 0; place = 0; count = n })
+  counts : (n : ℕ) → n < 0x1_0000_0000_0000 → Told (record { number = 0; place = 0; count = n })
   refuses : (r : Refusal) → Kept r → Told (record { number = r .number; place = r .place; count = 0 })
 
 pub told-small : {o : Outcome} → Told o → Small o
@@ -99,16 +103,19 @@ module _ (o : List ℕ) where
       go true e q = inside e
       go false e q = let p : refusal 1 0 ≡ r = cc in subst (λ x. Kept x) p (record { least = omega arith; most = omega arith; place = omega arith })
 
-  accepted-few : (t : Items) → judge o ≡ accepted t → count t ≤ 32_768
+  accepted-sized : (t : Items) → judge o ≡ accepted t → length o ≤ 32_768
   unfolding judge rule unless
-  accepted-few t h = go sized refl h
+  accepted-sized t h = go sized refl h
     where
-      go : (b : Bool) → sized ≡ b → unless (rule 1 0 b) (read outermost 0 o) ≡ accepted t → count t ≤ 32_768
-      go true e q = omega (arith, leb-true (length o) 32_768 (and-right (leb 1 (length o)) (leb (length o) 32_768) e), few o t h)
+      go : (b : Bool) → sized ≡ b → unless (rule 1 0 b) (read outermost 0 o) ≡ accepted t → length o ≤ 32_768
+      go true e q = leb-true (length o) 32_768 (and-right (leb 1 (length o)) (leb (length o) 32_768) e)
       go false e q = let z : _≡_ {A = ℕ} 0 1 = cc in absurd (omega arith)
 
+  accepted-few : (t : Items) → judge o ≡ accepted t → count t ≤ 32_768
+  accepted-few t h = omega (arith, accepted-sized t h, few o t h)
+
 late-refusal : (n : ℕ) → 1 ≤ n → n ≤ 16 → Kept (refusal n 0)
-late-refusal n l m = record { least = l; most = m; place = omega arith }
+late-refusal n l m = record { least = l; most = omega arith; place = omega arith }
 
 -- ---- read
 read-cases : (n : ℕ) (o : List ℕ) (j : Judged) → judge o ≡ j → Told (readOutcome (readAnswer n j))
@@ -117,7 +124,7 @@ read-cases n o (refused r) h = refuses r (judged-kept o r h)
 read-cases n o (accepted t) h = go (leb (count t) n)
   where
     go : (b : Bool) → Told (readOutcome (cond b (Records (record { records = count t })) (NotRead (refusal 14 0))))
-    go true = counts (count t) (accepted-few o t h)
+    go true = counts (count t) (omega (arith, accepted-few o t h))
     go false = refuses (refusal 14 0) (late-refusal 14 (omega arith) (omega arith))
 
 pub read-told : (n : ℕ) (o : List ℕ) → Told (readOutcome (readAnswer n (judge o)))
@@ -134,7 +141,7 @@ write-told room none = refuses (refusal 16 0) (late-refusal 16 (omega arith) (om
 write-told room (some t) = go (roomy room (encode (means [] t))) refl
   where
     go : (b : Bool) → roomy room (encode (means [] t)) ≡ b → Told (writeOutcome (cond b (Octets (sizeOf (encode (means [] t)))) (NotWritten (refusal 15 0))))
-    go true e = counts (length (encode (means [] t))) (roomy-small room (encode (means [] t)) e)
+    go true e = counts (length (encode (means [] t))) (omega (arith, roomy-small room (encode (means [] t)) e))
     go false e = refuses (refusal 15 0) (late-refusal 15 (omega arith) (omega arith))
 
 -- ---- normalise
@@ -159,7 +166,7 @@ normal-cases lent o (refused r) h = refuses r (judged-kept o r h)
 normal-cases lent o (accepted t) h = go (fitsLent lent t) refl
   where
     go : (b : Bool) → fitsLent lent t ≡ b → Told (writeOutcome (cond b (Octets (sizeOf (normalOf t))) (misfit lent t)))
-    go true e = counts (length (normalOf t)) (fits-small lent t e)
+    go true e = counts (length (normalOf t)) (omega (arith, fits-small lent t e))
     go false e = misfit-told lent t
 
 pub normal-told : (lent : Lent) (o : List ℕ) → Told (writeOutcome (normalAnswer lent (judge o)))
@@ -178,3 +185,20 @@ same-cases o p (accepted t) (accepted u) h g = decided (sameMeaning (meaningOf t
 
 pub same-told : (o p : List ℕ) → ToldSame (sameOutcome (sameAnswer (judge o) (judge p)))
 same-told o p = same-cases o p (judge o) (judge p) refl refl
+
+-- ---- export
+export-cases : (o : List ℕ) (room : OctetCount) → room .0 < 0x1_0000_0000_0000 → (j : Judged) → judge o ≡ j → Told (writeOutcome (exportAnswer room (exportOf o j)))
+unfolding exportOf exportAnswer unlessPlain
+export-cases o room l (refused r) h = refuses r (judged-kept o r h)
+export-cases o room l (accepted t) h = plain (plainAt o) refl
+  where
+    fits : (x : List ℕ) (b : Bool) → leb (length x) (room .0) ≡ b → Told (writeOutcome (cond b (Octets (sizeOf x)) (NotWritten (refusal 15 0))))
+    fits x true e = counts (length x) (omega (arith, leb-true (length x) (room .0) e))
+    fits x false e = refuses (refusal 15 0) (late-refusal 15 (omega arith) (omega arith))
+
+    plain : (p : Option ℕ) → plainAt o ≡ p → Told (writeOutcome (exportAnswer room (unlessPlain p (xml (meaningOf t)))))
+    plain none e = fits (xml (meaningOf t)) (leb (length (xml (meaningOf t))) (room .0)) refl
+    plain (some place) e = refuses (refusal 17 place) (record { least = omega arith; most = omega arith; place = omega (arith, plain-inside o place e, accepted-sized o t h) })
+
+pub export-told : (o : List ℕ) (room : OctetCount) → room .0 < 0x1_0000_0000_0000 → Told (writeOutcome (exportAnswer room (exportOf o (judge o))))
+export-told o room l = export-cases o room l (judge o) refl

@@ -12,10 +12,11 @@ use Rattle.format.specs.Answers.{refusal, readOutcome, writeOutcome, sameOutcom
 use Rattle.format.specs.Judge.{judge}
 use Rattle.format.specs.Calls.{Lists, places, readAnswer, spanOf, treeGiven, writeAnswer, lentBy, normalAnswer}
 use Rattle.format.specs.Same.{sameAnswer}
+use Rattle.xml.specs.Export.{exportOf, exportAnswer}
 use Rattle.spi_c.specs.Packed.{packed, packedOutcome, outcomeIn, packedSame, sameIn, packedSpan, spanIn}
-use Rattle.spi_c.specs.Claims.{ReadsC, SpansC, WritesC, NormalisesC, SameC}
+use Rattle.spi_c.specs.Claims.{ReadsC, SpansC, WritesC, NormalisesC, SameC, roomFor, ExportsC}
 use Rattle.spi_c.proofs.Packing.{span-back}
-use Rattle.spi_c.proofs.Told.{told-back, told-same-back, read-told, write-told, normal-told, same-told}
+use Rattle.spi_c.proofs.Told.{told-back, told-same-back, read-told, write-told, normal-told, same-told, export-told}
 use Rattle.spi_c.proofs.Calls.{span-small}
 
 -- ---- each call's number, read back
@@ -35,6 +36,9 @@ normalise-back object lists lists′ store store′ room room′ a c = ap outcom
 
 pub same-back : (a b : List ℕ) (n : ℕ) → SameC a b n → sameIn n ≡ sameOutcome (sameAnswer (judge a) (judge b))
 same-back a b n c = ap sameIn (c .answers) ∙ told-same-back (same-told a b)
+
+pub export-back : (object before after : List ℕ) (a : ℕ) → ExportsC object before after a → outcomeIn a ≡ writeOutcome (exportAnswer (roomFor before) (exportOf object (judge object)))
+export-back object before after a c = ap outcomeIn (c .answers) ∙ told-back (export-told object (roomFor before) (omega arith))
 
 -- ---- a refusal told by its place alone, as if it were a count; a count told as a refusal
 pub refusal-unnumbered : packedOutcome (readOutcome (NotRead (refusal 13 412))) ≡ 412 → ⊥

@@ -1,12 +1,16 @@
 -- What each call for C answers, and what each lent list then holds: the claims of format's calls, with the answer as one number.
 use mathlib.Core.Path.{_≡_}
 use mathlib.Core.List.{List}
-use Prim.Native.Nat.{ℕ}
-use Rattle.octets.specs.Counts.{sizeOf}
+use Prim.Native.Nat.{ℕ, min}
+use lib.ListN.{length}
+use lib.Seq.{sets}
+use Rattle.octets.specs.declared.counts.Octets.{Octets as OctetCount}
+use Rattle.octets.specs.Counts.{asOctets, sizeOf}
 use Rattle.format.specs.Answers.{readOutcome, writeOutcome, sameOutcome}
 use Rattle.format.specs.Judge.{judge}
 use Rattle.format.specs.Calls.{Lists, places, readAnswer, ReadClaim, spanOf, treeGiven, writeAnswer, WriteClaim, lentBy, normalAnswer, NormaliseClaim}
 use Rattle.format.specs.Same.{sameAnswer}
+use Rattle.xml.specs.Export.{exportOf, exportAnswer, exportOctets}
 use Rattle.spi_c.specs.Packed.{packedOutcome, packedSame, packedSpan}
 
 pub record ReadsC (object : List ℕ) (before after : Lists) (a : ℕ) : Type 0 where
@@ -26,3 +30,11 @@ pub record NormalisesC (object : List ℕ) (lists lists′ : Lists) (store store
 
 pub record SameC (a b : List ℕ) (answer : ℕ) : Type 0 where
   pub answers : answer ≡ packedSame (sameOutcome (sameAnswer (judge a) (judge b)))
+
+-- of the room for XML, which has no limit of its own, as many octets count as an answer can tell: 2^48 less one, which no process has
+abbrev pub roomFor : List ℕ → OctetCount
+roomFor room = asOctets (min (length room) 0xFFFF_FFFF_FFFF)
+
+pub record ExportsC (object before after : List ℕ) (a : ℕ) : Type 0 where
+  pub answers : a ≡ packedOutcome (writeOutcome (exportAnswer (roomFor before) (exportOf object (judge object))))
+  pub leaves : after ≡ sets before 0 (exportOctets (roomFor before) (exportOf object (judge object)))

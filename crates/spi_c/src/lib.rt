@@ -1,13 +1,14 @@
 // The library for programs in C: each call answers by one number of 64 bits, so that no slot for an answer is lent. include/spi.h declares it.
 ghost use mathlib.Core.Path.{_≡_};
-ghost use Prim.Native.Nat.{_<_};
+ghost use Prim.Native.Nat.{_<_, min};
 ghost use Rattle.text.specs.Text.{text};
 ghost use Rattle.format.specs.Lent.{lent};
 ghost use Rattle.spi_c.specs.Packed.{packed, packedOutcome, packedSame, packedSpan, Small, SmallSame, SmallSpan};
-ghost use Rattle.spi_c.specs.Claims.{ReadsC, SpansC, WritesC, NormalisesC, SameC};
+ghost use Rattle.spi_c.specs.Claims.{ReadsC, SpansC, WritesC, NormalisesC, SameC, ExportsC};
 use format::Outcome;
 use format::SameOutcome;
 use format::Span;
+use octets::Octets;
 
 fn packed(number: u8, object: u8, value: usize) -> u64
     requires { ⌜ value < 0x1_0000_0000_0000 ⌝ }
@@ -136,6 +137,26 @@ pub extern "C" fn spi_same(a: &[u8], b: &[u8]) -> u64
 {
     let answer = compare::same(a, b);
     packed_same(answer.outcome())
+}
+
+// As many octets as an answer can tell.
+fn at_most(size: Octets) -> Octets
+    ensures { λ r. ⌜ r .0 ≡ min (size .0) 0xFFFF_FFFF_FFFF ⌝ }
+{
+    if size.0 > 0xFFFF_FFFF_FFFF {
+        return Octets(0xFFFF_FFFF_FFFF);
+    }
+    size
+}
+
+// The XML of an object's meaning, into `room`.
+#[no_mangle]
+pub extern "C" fn spi_export(object: &[u8], room: &mut [u8]) -> u64
+    ensures { λ r. ⌜ ExportsC (now (object .entry)) (now (room .entry)) (now (room .exit)) r ⌝ }
+{
+    let most = at_most(Octets(room.len())).0;
+    let answer = xml::export(object, &mut room[0..most]);
+    packed_outcome(answer.outcome())
 }
 
 // Whether octets are text, in which token octets may stand or not.
