@@ -3,6 +3,7 @@ pub mod Laws
 pub mod One
 pub mod Two
 pub mod Three
+pub mod Xml
 pub mod Only
 pub mod Bench
 pub mod Frauds

@@ -1,6 +1,6 @@
 -- Only one answer: each claim gives an equation for the answer and one for each lent thing, and two things that equal a third are equal.
 use mathlib.Core.Path.{sym, _∙_}
-use Rattle.demands.specs.Only.{OneAnswer, OneRead, OneReadAtMost, OneReadRecords, OneWrite, OneNormalise, OneOctetsPut, OneMarks, OneWidths, OneShows, OneIndex, OneExpand, OneValuePut, OneShowPut, OneReadC, OneSpanC, OneWriteC, OneNormaliseC, OneSameC}
+use Rattle.demands.specs.Only.{OneAnswer, OneRead, OneReadAtMost, OneReadRecords, OneWrite, OneNormalise, OneExport, OneOctetsPut, OneMarks, OneWidths, OneShows, OneIndex, OneExpand, OneValuePut, OneShowPut, OneReadC, OneSpanC, OneWriteC, OneNormaliseC, OneSameC, OneExportC}
 use Rattle.text.proofs.Index.{one-index as index-alone}
 use Rattle.text.proofs.WeighLaws.{marks-one, widths-one, shows-one}
 
@@ -30,6 +30,9 @@ one-normalise object lists oneLists otherLists store oneStore otherStore room on
   one-answer _ _ oneStore otherStore (c .leavesStore) (d .leavesStore),
   one-answer _ _ oneRoom otherRoom (c .leavesRoom) (d .leavesRoom),
 )
+
+pub one-export : OneExport
+one-export object before one other answer answer′ c d = (one-answer _ _ answer answer′ (c .answers) (d .answers), one-answer _ _ one other (c .leaves) (d .leaves))
 
 pub one-octets-put : OneOctetsPut
 one-octets-put exists octets at before one other answer answer′ c d = (one-answer _ _ answer answer′ (c .answers) (d .answers), one-answer _ _ one other (c .leaves) (d .leaves))
@@ -76,3 +79,6 @@ one-normalise-c object lists oneLists otherLists store oneStore otherStore room 
 
 pub one-same-c : OneSameC
 one-same-c a b answer answer′ c d = one-answer _ _ answer answer′ (c .answers) (d .answers)
+
+pub one-export-c : OneExportC
+one-export-c object before one other answer answer′ c d = (one-answer _ _ answer answer′ (c .answers) (d .answers), one-answer _ _ one other (c .leaves) (d .leaves))

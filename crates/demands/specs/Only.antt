@@ -18,8 +18,9 @@ use Rattle.format.specs.declared.ReadAnswer.{ReadAnswer}
 use Rattle.format.specs.declared.WriteAnswer.{WriteAnswer}
 use Rattle.format.specs.Calls.{Lists, ReadClaim, ReadAtMostClaim, ReadRecordsClaim, WriteClaim, NormaliseClaim}
 use Rattle.show.specs.declared.Put.{Put as ShowPut}
+use Rattle.xml.specs.Export.{ExportClaim}
 use Rattle.show.specs.Calls.{Puts as ShowPuts}
-use Rattle.spi_c.specs.Claims.{ReadsC, SpansC, WritesC, NormalisesC, SameC}
+use Rattle.spi_c.specs.Claims.{ReadsC, SpansC, WritesC, NormalisesC, SameC, ExportsC}
 
 -- every call whose claim is one equation for its answer; none of them is lent anything to write.
 -- octets: read_header, header_size, read_number. text: check, is_token, is_table, is_covered, is_shown, weigh, expanded_size. values: is_attribute, known_kind,
@@ -66,6 +67,13 @@ OneNormalise =
     → NormaliseClaim object lists oneLists store oneStore room oneRoom answer → NormaliseClaim object lists otherLists store otherStore room otherRoom answer′
     → (answer ≡ answer′) × (oneLists ≡ otherLists) × (oneStore ≡ otherStore) × (oneRoom ≡ otherRoom)
 
+-- export
+abbrev pub OneExport : Type 0
+OneExport =
+    (object before one other : List ℕ) (answer answer′ : WriteAnswer)
+    → ExportClaim object before one answer → ExportClaim object before other answer′
+    → (answer ≡ answer′) × (one ≡ other)
+
 -- write_header, put_number, copy_into
 abbrev pub OneOctetsPut : Type 0
 OneOctetsPut =
@@ -110,7 +118,7 @@ OneShowPut =
     → ShowPuts text at before one answer → ShowPuts text at before other answer′
     → (answer ≡ answer′) × (one ≡ other)
 
--- spi_read, spi_span, spi_write, spi_normalise, spi_same: the one number that each answers, and what is lent as above
+-- spi_read, spi_span, spi_write, spi_normalise, spi_same, spi_export: the one number that each answers, and what is lent as above
 abbrev pub OneReadC : Type 0
 OneReadC =
     (object : List ℕ) (before one other : Lists) (answer answer′ : ℕ) → ReadsC object before one answer → ReadsC object before other answer′
@@ -133,3 +141,8 @@ OneNormaliseC =
 
 abbrev pub OneSameC : Type 0
 OneSameC = (a b : List ℕ) (answer answer′ : ℕ) → SameC a b answer → SameC a b answer′ → answer ≡ answer′
+
+abbrev pub OneExportC : Type 0
+OneExportC =
+    (object before one other : List ℕ) (answer answer′ : ℕ) → ExportsC object before one answer → ExportsC object before other answer′
+    → (answer ≡ answer′) × (one ≡ other)

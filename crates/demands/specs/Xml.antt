@@ -1,0 +1,81 @@
+-- Request 2026-02: guide text for the web team. `export` answers the XML of an accepted object's meaning, or one numbered refusal. Of these statements only `XmlExactly`,
+-- `ExportInOrder` and `XmlText` have a premise beside the call's claim: that what is given are octets, which a lent slice of octets always is.
+use mathlib.Core.Path.{_≡_}
+use mathlib.Core.Bool.{true, false}
+use mathlib.Core.Logic.{_↔_}
+use mathlib.Core.Option.{some}
+use mathlib.Core.List.{List, [], _∷_}
+use Prim.Native.Nat.{ℕ, _≤_, _<_}
+use lib.ListN.{length, take, drop}
+use Rattle.octets.specs.Numbers.{Octets}
+use Rattle.text.specs.Text.{text}
+use Rattle.values.specs.declared.Time.{Time}
+use Rattle.values.specs.Times.{inRange}
+use Rattle.format.specs.declared.Refusal.{Refusal}
+use Rattle.format.specs.declared.WriteAnswer.{WriteAnswer}
+use Rattle.format.specs.declared.WriteAnswer.the-variants.{Octets as Written, NotWritten}
+use Rattle.format.specs.Answers.{refusal, writeOutcome}
+use Rattle.format.specs.Tree.{Items}
+use Rattle.format.specs.Judge.{Judged, judge}
+use Rattle.format.specs.Judge.Judged.{refused, accepted}
+use Rattle.format.specs.Meaning.{meaningOf}
+use Rattle.survey.specs.First.{firstIn, itemAt}
+use Rattle.xml.specs.Dates.{localDate}
+use Rattle.xml.specs.Xml.{escaped, xml}
+use Rattle.xml.specs.Reading.{unescaped, inert}
+use Rattle.xml.specs.Named.{plainHere, Named}
+use Rattle.xml.specs.Export.{ExportClaim}
+use Rattle.demands.specs.One.{Refuses, Ends}
+
+-- ---- how it ends, and in which order it refuses
+
+-- 1 to 13 for what stands in the object, 17 at an octet of the object, or 15
+pub data ExportRefuses (object : List ℕ) : ℕ → ℕ → Type 0 where
+  asOthers : (number place : ℕ) → Refuses object (15 ∷ []) number place → ExportRefuses object number place
+  forPlain : (place : ℕ) → place < length object → ExportRefuses object 17 place
+
+abbrev pub ExportEnds : Type 0
+ExportEnds =
+    (object before after : List ℕ) (answer : WriteAnswer) → ExportClaim object before after answer
+    → Ends (ExportRefuses object) (after ≡ before) (writeOutcome answer)
+
+-- 1 to 13 exactly when the object is refused so; 17 at a place exactly when it is accepted and the item whose tag lies there is the first of plain octets in reading order;
+-- 15 exactly when it is accepted, holds only named kinds, and its XML is above the room; else its octets
+pub record ExportOrder (object : List ℕ) (judged : Judged) (room : ℕ) (answer : WriteAnswer) : Type 0 where
+  pub ofObject : (r : Refusal) → r .number ≤ 13 → (answer ≡ NotWritten r) ↔ (judged ≡ refused r)
+  pub seventeen : (place : ℕ) → (answer ≡ NotWritten (refusal 17 place)) ↔ ((t : Items) × (judged ≡ accepted t) × (firstIn plainHere 0 t ≡ some (itemAt object place)))
+  pub fifteen : (answer ≡ NotWritten (refusal 15 0)) ↔ ((t : Items) × (judged ≡ accepted t) × Named (meaningOf t) × (room < length (xml (meaningOf t))))
+  pub octets : (k : ℕ) → (answer ≡ Written k) ↔ ((t : Items) × (judged ≡ accepted t) × Named (meaningOf t) × (k ≡ length (xml (meaningOf t))) × (k ≤ room))
+
+abbrev pub ExportInOrder : Type 0
+ExportInOrder =
+    (object : List ℕ) → Octets object → (before after : List ℕ) (answer : WriteAnswer) → ExportClaim object before after answer
+    → ExportOrder object (judge object) (length before) answer
+
+-- ---- what it hands out
+
+-- two calls hand out one text
+abbrev pub OneText : (answerA : WriteAnswer) (roomA : List ℕ) (answerB : WriteAnswer) (roomB : List ℕ) → Type 0
+OneText answerA roomA answerB roomB = (n : ℕ) × (answerA ≡ Written n) × (answerB ≡ Written n) × (take n roomA ≡ take n roomB)
+
+-- two accepted objects give the same XML exactly when they mean the same and hold only kinds that document 01 names, wherever both calls have room enough
+abbrev pub XmlExactly : Type 0
+XmlExactly =
+    (a b : List ℕ) → Octets a → Octets b → (t u : Items) → judge a ≡ accepted t → judge b ≡ accepted u
+    → (roomA roomA′ : List ℕ) (answerA : WriteAnswer) → ExportClaim a roomA roomA′ answerA → (answerA ≡ NotWritten (refusal 15 0) → ⊥)
+    → (roomB roomB′ : List ℕ) (answerB : WriteAnswer) → ExportClaim b roomB roomB′ answerB → (answerB ≡ NotWritten (refusal 15 0) → ⊥)
+    → OneText answerA roomA′ answerB roomB′ ↔ ((meaningOf t ≡ meaningOf u) × Named (meaningOf t))
+
+-- what is handed out is valid text, UTF-8 without control octets but tab, line feed and carriage return; behind it the room is as before
+abbrev pub XmlText : Type 0
+XmlText =
+    (object : List ℕ) → Octets object → (before after : List ℕ) (n : ℕ) → ExportClaim object before after (Written n)
+    → (text false (take n after) ≡ true) × (drop n after ≡ drop n before)
+
+-- a text of the object stands in the XML escaped (`escaped`, xml/specs/Xml): so it opens no tag and ends no value, and whoever undoes the escapes reads the text itself
+abbrev pub XmlReadBack : Type 0
+XmlReadBack = (s : List ℕ) → (inert (escaped s) ≡ true) × (unescaped (escaped s) ≡ s)
+
+-- a local year outside 1 to 9999 can't arise from a legal time
+abbrev pub LocalYears : Type 0
+LocalYears = (t : Time) → inRange t ≡ true → (1 ≤ localDate t .year) × (localDate t .year ≤ 9999)
