@@ -52,7 +52,8 @@ enum spi_refusal {
     SPI_TEXT_TOO_LONG = 13,       /* a shown text above its limit of characters */
     SPI_TOO_FEW_PLACES = 14,      /* fewer places for records than there are records */
     SPI_TOO_LARGE = 15,           /* a room or store too small, or octets above 32,768 */
-    SPI_NOT_WELL_FORMED = 16      /* records that are no well-formed tree */
+    SPI_NOT_WELL_FORMED = 16,     /* records that are no well-formed tree */
+    SPI_PLAIN_OCTETS = 17         /* an item of plain octets, which have no XML */
 };
 
 static inline enum spi_refusal spi_refused(uint64_t answer)
@@ -148,6 +149,11 @@ uint64_t spi_normalise(const uint8_t *object, size_t octets,
  * normal form has more octets than an object may are compared like all others. */
 uint64_t spi_same(const uint8_t *first, size_t first_octets,
                   const uint8_t *second, size_t second_octets);
+
+/* Writes the XML of an object's meaning to the room: UTF-8, with no zero behind it.  Refused by 1 to 13; then by
+ * 17, at the tag of the first item of plain octets; then by 15, where the room is too small.  The text is no
+ * object, so SPI_MOST_OCTETS is no limit of it.  The count is that of the octets. */
+uint64_t spi_export(const uint8_t *object, size_t octets, uint8_t *room, size_t room_count);
 
 /* Whether octets are text; `tokens` says whether token octets may stand in it. */
 bool spi_check_text(const uint8_t *text, size_t octets, bool tokens);

@@ -237,6 +237,11 @@ static uint64_t call_same(void)
     return spi_same(OCTETS(FIRST), OCTETS(SECOND));
 }
 
+static uint64_t call_export(void)
+{
+    return spi_export(OCTETS(FIRST), OCTETS(ROOM));
+}
+
 /* ---- What is printed where nothing is refused; each says what was handed out --------------------- */
 
 /* A line of the listing.  Where the body lies is asked of the library once more, and CDATA has to be text. */
@@ -297,6 +302,11 @@ static void print_written(size_t octets)
     print_room("written", octets);
 }
 
+static void print_xml(size_t octets)
+{
+    print_room("xml", octets);
+}
+
 static void print_same(size_t same)
 {
     printf(same == 1 ? "same\n" : "different\n");
@@ -325,6 +335,7 @@ static const struct letter letters[] = {
     {'N', {take_places, take_store, take_room, take_object}, call_normalise, print_normal},
     {'W', {take_count, take_records, take_room, take_object}, call_write, print_written},
     {'S', {take_object, take_second_object}, call_same, print_same},
+    {'X', {take_room, take_object}, call_export, print_xml},
 };
 
 static const struct letter *find_letter(int letter)
