@@ -10,6 +10,8 @@ use lib.Dec.{leb}
 use lib.ListN.{length, drop}
 use lib.Seq.{sets}
 use borrow.Author.Tests.{leb-true, leb-false}
+use Rattle.octets.specs.declared.counts.Octets.{Octets as OctetCount}
+use Rattle.octets.specs.Counts.{sizeOf}
 use Rattle.octets.specs.Numbers.{among, Octets}
 use Rattle.octets.proofs.Lists.{sets-none, drop-sets}
 use Rattle.format.specs.declared.Refusal.{Refusal}
@@ -40,13 +42,13 @@ use Rattle.demands.proofs.Laws.{never, of-object}
 
 -- ---- the four ways in which a call ends
 
-data Exports (object : List ℕ) (room : ℕ) : Judged → WriteAnswer → List ℕ → Type 0 where
+data Exports (object : List ℕ) (room : OctetCount) : Judged → WriteAnswer → List ℕ → Type 0 where
   bad : {r : Refusal} → Exports object room (refused r) (NotWritten r) []
   plain : {t : Items} (place : ℕ) → plainAt object ≡ some place → Exports object room (accepted t) (NotWritten (refusal 17 place)) []
-  large : {t : Items} → plainAt object ≡ none → room < length (xml (meaningOf t)) → Exports object room (accepted t) (NotWritten (refusal 15 0)) []
-  good : {t : Items} → plainAt object ≡ none → length (xml (meaningOf t)) ≤ room → Exports object room (accepted t) (Written (length (xml (meaningOf t)))) (xml (meaningOf t))
+  large : {t : Items} → plainAt object ≡ none → room .0 < length (xml (meaningOf t)) → Exports object room (accepted t) (NotWritten (refusal 15 0)) []
+  good : {t : Items} → plainAt object ≡ none → length (xml (meaningOf t)) ≤ room .0 → Exports object room (accepted t) (Written (sizeOf (xml (meaningOf t)))) (xml (meaningOf t))
 
-exports : (object : List ℕ) (room : ℕ) (j : Judged) → Exports object room j (exportAnswer room (exportOf object j)) (exportOctets room (exportOf object j))
+exports : (object : List ℕ) (room : OctetCount) (j : Judged) → Exports object room j (exportAnswer room (exportOf object j)) (exportOctets room (exportOf object j))
 unfolding exportOf unlessPlain exportAnswer exportOctets
 exports object room (refused r) = bad
 exports object room (accepted t) = go (plainAt object) refl
@@ -54,12 +56,12 @@ exports object room (accepted t) = go (plainAt object) refl
     x : List ℕ
     x = xml (meaningOf t)
 
-    fits : plainAt object ≡ none → (b : Bool) → leb (length x) room ≡ b → Exports object room (accepted t) (cond b (Written (length x)) (NotWritten (refusal 15 0))) (cond b x [])
-    fits p true e = good p (leb-true (length x) room e)
-    fits p false e = large p (leb-false (length x) room e)
+    fits : plainAt object ≡ none → (b : Bool) → leb (length x) (room .0) ≡ b → Exports object room (accepted t) (cond b (Written (sizeOf x)) (NotWritten (refusal 15 0))) (cond b x [])
+    fits p true e = good p (leb-true (length x) (room .0) e)
+    fits p false e = large p (leb-false (length x) (room .0) e)
 
     go : (p : Option ℕ) → plainAt object ≡ p → Exports object room (accepted t) (exportAnswer room (unlessPlain p x)) (exportOctets room (unlessPlain p x))
-    go none e = fits e (leb (length x) room) refl
+    go none e = fits e (leb (length x) (room .0)) refl
     go (some place) e = plain place e
 
 -- ---- how it ends
@@ -67,12 +69,12 @@ exports object room (accepted t) = go (plainAt object) refl
 pub export-ends : ExportEnds
 unfolding among
 export-ends object before after answer c =
-    subst (λ a. Ends (ExportRefuses object) (after ≡ before) (writeOutcome a)) (sym (c .answers)) (go (judge object) refl _ _ (exports object (length before) (judge object)) (c .leaves))
+    subst (λ a. Ends (ExportRefuses object) (after ≡ before) (writeOutcome a)) (sym (c .answers)) (go (judge object) refl _ _ (exports object (sizeOf before) (judge object)) (c .leaves))
   where
     kept : (o : List ℕ) → o ≡ [] → after ≡ sets before 0 o → after ≡ before
     kept o e l = l ∙ ap (sets before 0) e ∙ sets-none before 0
 
-    go : (j : Judged) → judge object ≡ j → (a : WriteAnswer) (o : List ℕ) → Exports object (length before) j a o → after ≡ sets before 0 o → Ends (ExportRefuses object) (after ≡ before) (writeOutcome a)
+    go : (j : Judged) → judge object ≡ j → (a : WriteAnswer) (o : List ℕ) → Exports object (sizeOf before) j a o → after ≡ sets before 0 o → Ends (ExportRefuses object) (after ≡ before) (writeOutcome a)
     go (refused r) h a o bad l = refusedAt (r .number) (r .place) (asOthers (r .number) (r .place) (forObject (r .number) (r .place) (of-object object r h))) (kept [] refl l)
     go (accepted t) h a o (plain place p) l = refusedAt 17 place (forPlain place (plain-inside object place p)) (kept [] refl l)
     go (accepted t) h a o (large p q) l = refusedAt 15 0 (asOthers 15 0 (forCall 15 0 (ofCall 15 refl))) (kept [] refl l)
@@ -95,7 +97,7 @@ first-place object os t h place = (
         let same : itemAt object p ≡ itemAt object place = Option·some-injective _ _ (sym (ap (asItem object) q) ∙ e) in
         q ∙ ap some (place-one object os p place same (s .tagged) (s .fits))
 
-module _ (object : List ℕ) (os : Octets object) (room : ℕ) (j : Judged) (judged : judge object ≡ j) (answer : WriteAnswer) where
+module _ (object : List ℕ) (os : Octets object) (room : OctetCount) (j : Judged) (judged : judge object ≡ j) (answer : WriteAnswer) where
   refusing : (s : Refusal) → j ≡ refused s → s .number ≤ 13 → answer ≡ NotWritten s → ExportOrder object j room answer
   refusing s h low e = record {
     ofObject = λ r l. ((λ q. cc), (λ q. cc));
@@ -130,22 +132,22 @@ module _ (object : List ℕ) (os : Octets object) (room : ℕ) (j : Judged) (jud
     nowhere : plainAt object ≡ none → (place : ℕ) (u : Items) → j ≡ accepted u → firstIn plainHere 0 u ≡ some (itemAt object place) → ⊥
     nowhere p place u g f = Option·none-ne-some place (sym p ∙ first-place object os t tree place .1 (subst (λ x. firstIn plainHere 0 x ≡ some (itemAt object place)) (same-tree u g) f))
 
-    longer : plainAt object ≡ none → room < length (xml (meaningOf t)) → answer ≡ NotWritten (refusal 15 0) → ExportOrder object j room answer
+    longer : plainAt object ≡ none → room .0 < length (xml (meaningOf t)) → answer ≡ NotWritten (refusal 15 0) → ExportOrder object j room answer
     longer p l e = record {
       ofObject = λ r m. ((λ q. let w : refusal 15 0 ≡ r = cc in absurd (omega (arith, ap (λ x. x .number) w))), (λ q. never (cc)));
       seventeen = λ place. ((λ q. let w : refusal 15 0 ≡ refusal 17 place = cc in absurd (omega (arith, ap (λ x. x .number) w))), (λ q. absurd (nowhere p place (q .0) (q .1) (q .2))));
       fifteen = ((λ q. (t, h, named-exactly object t tree .0 p, l)), (λ q. e));
-      octets = λ k. ((λ q. never (cc)), (λ q. let w = ap (λ x. length (xml (meaningOf x))) (same-tree (q .0) (q .1)) in absurd (omega (arith, q .3, q .4))));
+      octets = λ k. ((λ q. never (cc)), (λ q. let w = ap (λ x. length (xml (meaningOf x))) (same-tree (q .0) (q .1)) in absurd (omega (arith, ap (λ n. n .0) (q .3), q .4))));
     }
 
-    fitting : plainAt object ≡ none → length (xml (meaningOf t)) ≤ room → answer ≡ Written (length (xml (meaningOf t))) → ExportOrder object j room answer
+    fitting : plainAt object ≡ none → length (xml (meaningOf t)) ≤ room .0 → answer ≡ Written (sizeOf (xml (meaningOf t))) → ExportOrder object j room answer
     fitting p l e = record {
       ofObject = λ r m. ((λ q. never (cc)), (λ q. never (cc)));
       seventeen = λ place. ((λ q. never (cc)), (λ q. absurd (nowhere p place (q .0) (q .1) (q .2))));
       fifteen = ((λ q. never (cc)), (λ q. let w = ap (λ x. length (xml (meaningOf x))) (same-tree (q .0) (q .1)) in absurd (omega (arith, q .3))));
       octets = λ k. (
-        (λ q. let w : k ≡ length (xml (meaningOf t)) = cc in (t, h, named-exactly object t tree .0 p, w, omega arith)),
-        (λ q. e ∙ ap Written (ap (λ x. length (xml (meaningOf x))) (sym (same-tree (q .0) (q .1))) ∙ sym (q .3))),
+        (λ q. let w : k ≡ sizeOf (xml (meaningOf t)) = cc in (t, h, named-exactly object t tree .0 p, w, omega (arith, ap (λ n. n .0) w))),
+        (λ q. e ∙ ap Written (ap (λ x. sizeOf (xml (meaningOf x))) (sym (same-tree (q .0) (q .1))) ∙ sym (q .3))),
       );
     }
 
@@ -157,7 +159,7 @@ module _ (object : List ℕ) (os : Octets object) (room : ℕ) (j : Judged) (jud
 
 pub export-in-order : ExportInOrder
 export-in-order object os before after answer c =
-    ordered object os (length before) (judge object) refl answer (judge object) refl _ (c .answers) _ (exports object (length before) (judge object))
+    ordered object os (sizeOf before) (judge object) refl answer (judge object) refl _ (c .answers) _ (exports object (sizeOf before) (judge object))
 
 -- ---- what it hands out
 
@@ -166,13 +168,13 @@ xml-exactly a b oa ob t u h g roomA roomA′ answerA c enoughA roomB roomB′ an
     exports-exactly a b t u oa ob h g roomA roomA′ roomB roomB′ answerA answerB c d enoughA enoughB
 
 pub xml-text : XmlText
-xml-text object os before after n c = (export-text object os before after n c, go (judge object) (exportAnswer (length before) (exportOf object (judge object))) _ (exports object (length before) (judge object)) (c .answers) (c .leaves))
+xml-text object os before after n c = (export-text object os before after n c, go (judge object) (exportAnswer (sizeOf before) (exportOf object (judge object))) _ (exports object (sizeOf before) (judge object)) (c .answers) (c .leaves))
   where
-    go : (j : Judged) (a : WriteAnswer) (o : List ℕ) → Exports object (length before) j a o → Written n ≡ a → after ≡ sets before 0 o → drop n after ≡ drop n before
+    go : (j : Judged) (a : WriteAnswer) (o : List ℕ) → Exports object (sizeOf before) j a o → Written n ≡ a → after ≡ sets before 0 o → drop (n .0) after ≡ drop (n .0) before
     go (refused r) a o bad e l = never (cc)
     go (accepted t) a o (plain place p) e l = never (cc)
     go (accepted t) a o (large p q) e l = never (cc)
-    go (accepted t) a o (good p q) e l = let z : n ≡ length (xml (meaningOf t)) = cc in ap (drop n) l ∙ drop-sets n before 0 (xml (meaningOf t)) (omega arith)
+    go (accepted t) a o (good p q) e l = let w : n ≡ sizeOf (xml (meaningOf t)) = cc in let z : n .0 ≡ length (xml (meaningOf t)) = ap (λ k. k .0) w in ap (drop (n .0)) l ∙ drop-sets (n .0) before 0 (xml (meaningOf t)) (omega arith)
 
 pub xml-read-back : XmlReadBack
 xml-read-back s = (escaped-inert s, read-back s)

@@ -7,6 +7,8 @@ use mathlib.Core.Option.{some}
 use mathlib.Core.List.{List, [], _∷_}
 use Prim.Native.Nat.{ℕ, _≤_, _<_}
 use lib.ListN.{length, take, drop}
+use Rattle.octets.specs.declared.counts.Octets.{Octets as OctetCount}
+use Rattle.octets.specs.Counts.{sizeOf}
 use Rattle.octets.specs.Numbers.{Octets}
 use Rattle.text.specs.Text.{text}
 use Rattle.values.specs.declared.Time.{Time}
@@ -41,22 +43,22 @@ ExportEnds =
 
 -- 1 to 13 exactly when the object is refused so; 17 at a place exactly when it is accepted and the item whose tag lies there is the first of plain octets in reading order;
 -- 15 exactly when it is accepted, holds only named kinds, and its XML is above the room; else its octets
-pub record ExportOrder (object : List ℕ) (judged : Judged) (room : ℕ) (answer : WriteAnswer) : Type 0 where
+pub record ExportOrder (object : List ℕ) (judged : Judged) (room : OctetCount) (answer : WriteAnswer) : Type 0 where
   pub ofObject : (r : Refusal) → r .number ≤ 13 → (answer ≡ NotWritten r) ↔ (judged ≡ refused r)
   pub seventeen : (place : ℕ) → (answer ≡ NotWritten (refusal 17 place)) ↔ ((t : Items) × (judged ≡ accepted t) × (firstIn plainHere 0 t ≡ some (itemAt object place)))
-  pub fifteen : (answer ≡ NotWritten (refusal 15 0)) ↔ ((t : Items) × (judged ≡ accepted t) × Named (meaningOf t) × (room < length (xml (meaningOf t))))
-  pub octets : (k : ℕ) → (answer ≡ Written k) ↔ ((t : Items) × (judged ≡ accepted t) × Named (meaningOf t) × (k ≡ length (xml (meaningOf t))) × (k ≤ room))
+  pub fifteen : (answer ≡ NotWritten (refusal 15 0)) ↔ ((t : Items) × (judged ≡ accepted t) × Named (meaningOf t) × (room .0 < length (xml (meaningOf t))))
+  pub octets : (k : OctetCount) → (answer ≡ Written k) ↔ ((t : Items) × (judged ≡ accepted t) × Named (meaningOf t) × (k ≡ sizeOf (xml (meaningOf t))) × (k .0 ≤ room .0))
 
 abbrev pub ExportInOrder : Type 0
 ExportInOrder =
     (object : List ℕ) → Octets object → (before after : List ℕ) (answer : WriteAnswer) → ExportClaim object before after answer
-    → ExportOrder object (judge object) (length before) answer
+    → ExportOrder object (judge object) (sizeOf before) answer
 
 -- ---- what it hands out
 
 -- two calls hand out one text
 abbrev pub OneText : (answerA : WriteAnswer) (roomA : List ℕ) (answerB : WriteAnswer) (roomB : List ℕ) → Type 0
-OneText answerA roomA answerB roomB = (n : ℕ) × (answerA ≡ Written n) × (answerB ≡ Written n) × (take n roomA ≡ take n roomB)
+OneText answerA roomA answerB roomB = (n : OctetCount) × (answerA ≡ Written n) × (answerB ≡ Written n) × (take (n .0) roomA ≡ take (n .0) roomB)
 
 -- two accepted objects give the same XML exactly when they mean the same and hold only kinds that document 01 names, wherever both calls have room enough
 abbrev pub XmlExactly : Type 0
@@ -69,8 +71,8 @@ XmlExactly =
 -- what is handed out is valid text, UTF-8 without control octets but tab, line feed and carriage return; behind it the room is as before
 abbrev pub XmlText : Type 0
 XmlText =
-    (object : List ℕ) → Octets object → (before after : List ℕ) (n : ℕ) → ExportClaim object before after (Written n)
-    → (text false (take n after) ≡ true) × (drop n after ≡ drop n before)
+    (object : List ℕ) → Octets object → (before after : List ℕ) (n : OctetCount) → ExportClaim object before after (Written n)
+    → (text false (take (n .0) after) ≡ true) × (drop (n .0) after ≡ drop (n .0) before)
 
 -- a text of the object stands in the XML escaped (`escaped`, xml/specs/Xml): so it opens no tag and ends no value, and whoever undoes the escapes reads the text itself
 abbrev pub XmlReadBack : Type 0
