@@ -3,15 +3,14 @@
  *
  * Reads questions on standard input, each a letter, a size octet and so many octets, and prints a line
  * for each: K the kind of an element and tag, U whether octets are text, T a time, O a time's local
- * time, B a bearer.  The functions that answer are those of second.c; only local time, which that
- * program never needs, is worked out here.
+ * time, B a bearer.  The functions that answer are those of second.c.
  */
 #define main second_main
 #include "second.c"
 #undef main
 
 static const char *const body_names[] = {"unknown", "items", "tokens", "plain", "text", "time", "bearer",
-                                          "number 1", "number 2", "number 3"};
+                                          "number 1", "number 2", "number 3", "number 2"};
 
 static void put_hex(const uint8_t *octets, size_t size)
 {
@@ -57,13 +56,12 @@ static void answer_time(const uint8_t *octets, size_t size)
     put_field(time.hours);
     put_field(time.minutes);
     put_field(time.seconds);
-    put_string((time.offset & 0x20) != 0 ? " minus" : " plus");
+    put_string((time.offset & MINUS) != 0 ? " minus" : " plus");
     put_field(time.offset & HALF_HOURS);
     put_string(" normal ");
     put_hex(normal, (size_t)(write_time(normal, &time) - normal));
 }
 
-/* Local time is UTC moved by the offset; the day may be the one before day 0. */
 static void answer_local(const uint8_t *octets, size_t size)
 {
     struct time_value time;
@@ -72,17 +70,12 @@ static void answer_local(const uint8_t *octets, size_t size)
         put_string("local none");
         return;
     }
-    int64_t moved = 30 * (int64_t)(time.offset & HALF_HOURS);
-    int64_t minutes = ((int64_t)time.date * 24 + time.hours) * 60 + time.minutes;
-    minutes += (time.offset & 0x20) != 0 ? -moved : moved;
-    bool before = minutes < 0;
-    if (before)
-        minutes += 1440; /* at most 15 and a half hours are taken away */
-    put_string(before ? "local -1" : "local");
-    if (!before)
-        put_field((uint64_t)(minutes / 1440));
-    put_field((uint64_t)(minutes / 60 % 24));
-    put_field((uint64_t)(minutes % 60));
+    struct local_time local = local_time(&time);
+    put_string(local.day < 0 ? "local -1" : "local");
+    if (local.day >= 0)
+        put_field((uint64_t)local.day);
+    put_field(local.hours);
+    put_field(local.minutes);
     put_field(time.seconds);
 }
 

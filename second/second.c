@@ -2,13 +2,13 @@
  * second.c - the second program of Drangosk.
  *
  * Reads a stream of cases on standard input and prints one answer for each: the listing of a
- * binary SPI object (L), its normal form (N), the octets that records stand for (W), and whether
- * two objects mean the same (S).  Written from document 01 (the rules), 02 (the requests that amend
- * them) and 002, TS 102 371 V3.2.1 (the layouts), alone, so that it can be held against the proved
- * program.
+ * binary SPI object (L), its normal form (N), the octets that records stand for (W), whether two
+ * objects mean the same (S), and the XML of an object (X).  Written from documents 01 (the rules)
+ * and 02 (the requests that amend them), from 002, TS 102 371 V3.2.1 (the layouts), and for the XML from
+ * document 003, TS 102 818, alone, so that it can be held against the proved program.
  *
  * All memory is fixed; nothing is allocated.  Each octet of an object is looked at once while it is
- * judged and once more while its normal form is written or its meaning compared.
+ * judged and once more while its normal form is written or its meaning compared; twice more for its XML.
  */
 #include <stdbool.h>
 #include <stdint.h>
@@ -45,7 +45,8 @@ enum {
     SHOWN_TEXT_TOO_LONG = 13,
     TOO_FEW_PLACES = 14,
     OUTPUT_TOO_LARGE = 15,
-    NOT_WELL_FORMED = 16
+    NOT_WELL_FORMED = 16,
+    PLAIN_OCTETS = 17 /* of document 02, request 2026-02 */
 };
 
 struct verdict {
@@ -120,8 +121,9 @@ enum {
     TIME,       /* clause 4.7.4 */
     BEARER,     /* clause 4.7.6.1 */
     ENUMERATED, /* one octet (clause 4.6) */
-    NUMBER,     /* two octets (durations, clause 4.7.5, and clauses 4.8.2 to 4.8.5) */
-    SHORT_ID    /* three octets (clause 4.7.2) */
+    NUMBER,     /* two octets (clauses 4.8.2 to 4.8.5) */
+    SHORT_ID,   /* three octets (clause 4.7.2) */
+    DURATION    /* two octets, seconds (clause 4.7.5) */
 };
 
 /* Annex D: every element that is in use, with what its body is. */
@@ -194,10 +196,10 @@ static const uint8_t attribute_body[ELEMENT_TAGS][ATTRIBUTE_TAGS] = {
     [SERVICE_SCOPE] = {BEARER},
     [PROGRAMME] = {TEXT, SHORT_ID, NUMBER, ENUMERATED, ENUMERATED, UNKNOWN, TEXT},
     [PROGRAMME_EVENT] = {TEXT, SHORT_ID, NUMBER, ENUMERATED, ENUMERATED, UNKNOWN, TEXT},
-    [TIME_ELEMENT] = {TIME, NUMBER, TIME, NUMBER},
-    [RELATIVE_TIME] = {NUMBER, NUMBER, NUMBER, NUMBER},
+    [TIME_ELEMENT] = {TIME, DURATION, TIME, DURATION},
+    [RELATIVE_TIME] = {DURATION, DURATION, DURATION, DURATION},
     [MEMBER_OF] = {TEXT, SHORT_ID, NUMBER},
-    [PRESENTATION_TIME] = {TIME, TIME, NUMBER},
+    [PRESENTATION_TIME] = {TIME, TIME, DURATION},
     [ACQUISITION_TIME] = {TIME, TIME}
 };
 
@@ -399,6 +401,7 @@ enum {
     OFFSET_FLAG = 1 << 12,
     LONG_FLAG = 1 << 11,
     OFFSET_BITS = 0x3F,
+    MINUS = 0x20,
     HALF_HOURS = 0x1F
 };
 
@@ -443,6 +446,29 @@ static uint8_t *write_time(uint8_t *out, const struct time_value *time)
     return out;
 }
 
+/* A time moved by its offset, which is less than a day; the day may be the one before day 0. */
+struct local_time {
+    int64_t day;
+    uint32_t hours, minutes;
+};
+
+static struct local_time local_time(const struct time_value *time)
+{
+    int64_t moved = 30 * (time->offset & HALF_HOURS);
+    int64_t day = time->date;
+    int64_t minutes = 60 * time->hours + time->minutes;
+
+    minutes += (time->offset & MINUS) != 0 ? -moved : moved;
+    if (minutes < 0) {
+        minutes += 24 * 60;
+        day--;
+    } else if (minutes >= 24 * 60) {
+        minutes -= 24 * 60;
+        day++;
+    }
+    return (struct local_time){day, (uint32_t)minutes / 60, (uint32_t)minutes % 60};
+}
+
 /* ---- Bearers (01, "DAB bearer"; 002, clause 4.7.6.1) ------------------------------------------- */
 
 enum {
@@ -485,6 +511,7 @@ struct tree {
     struct token_table table;
     size_t waiting_count;
     struct waiting waiting[ATTRIBUTE_TAGS];
+    uint32_t first_plain; /* the place of the first item of plain octets; 0, the top's own, for none */
     size_t count;
     struct node nodes[LIST_LIMIT];
 };
@@ -494,6 +521,7 @@ static void clear_tree(struct tree *tree, const uint8_t *octets)
     tree->octets = octets;
     tree->table = no_tokens;
     tree->waiting_count = 0;
+    tree->first_plain = 0;
     tree->count = 0;
 }
 
@@ -627,6 +655,7 @@ static int judge_body(const struct tree *tree, struct node *node, uint8_t parent
     case ENUMERATED:
         return node->length == 1 ? ACCEPTED : BAD_VALUE;
     case NUMBER:
+    case DURATION:
         return node->length == 2 ? ACCEPTED : BAD_VALUE;
     case SHORT_ID:
         return node->length == 3 ? ACCEPTED : BAD_VALUE;
@@ -692,6 +721,8 @@ static struct node *add_node(struct tree *tree, const struct open_element *paren
                           .tag = item->tag,
                           .depth = (uint8_t)(parent->depth + 1),
                           .body = body};
+    if (body == PLAIN && tree->first_plain == 0)
+        tree->first_plain = item->place;
     return node;
 }
 
@@ -1103,6 +1134,542 @@ static bool same_meaning(const struct tree *first, const struct tree *second)
     return first->count == second->count;
 }
 
+/* ---- XML: names (02, request 2026-02; 002, annexes D, E and F) ---------------------------------- */
+
+struct name {
+    size_t length;
+    const char *letters;
+};
+
+#define NAME(letters) {sizeof letters - 1, letters}
+
+/* Annex D.  The two codes that share a name have a dot and the code behind it.  What is never written has
+ * none: the token table, and the elements of plain octets, which refusal 17 is for. */
+static const struct name element_names[ELEMENT_TAGS] = {
+    [EPG] = NAME("epg"),
+    [SERVICE_INFORMATION] = NAME("serviceInformation"),
+    [DEFAULT_LANGUAGE] = NAME("defaultLanguage"),
+    [SHORT_NAME] = NAME("shortName"),
+    [MEDIUM_NAME] = NAME("mediumName"),
+    [LONG_NAME] = NAME("longName"),
+    [MEDIA_DESCRIPTION] = NAME("mediaDescription"),
+    [GENRE] = NAME("genre"),
+    [KEYWORDS] = NAME("keywords"),
+    [MEMBER_OF] = NAME("memberOf"),
+    [LINK] = NAME("link"),
+    [LOCATION] = NAME("location"),
+    [SHORT_DESCRIPTION] = NAME("shortDescription"),
+    [LONG_DESCRIPTION] = NAME("longDescription"),
+    [PROGRAMME] = NAME("programme"),
+    [PROGRAMME_GROUPS] = NAME("programmeGroups"),
+    [SCHEDULE] = NAME("schedule"),
+    [PROGRAMME_GROUP] = NAME("programmeGroup"),
+    [SCOPE] = NAME("scope"),
+    [SERVICE_SCOPE] = NAME("serviceScope"),
+    [ENSEMBLE] = NAME("ensemble"),
+    [SERVICE] = NAME("service"),
+    [SERVICE_BEARER] = NAME("bearer.29"),
+    [MULTIMEDIA] = NAME("multimedia"),
+    [TIME_ELEMENT] = NAME("time"),
+    [LOCATION_BEARER] = NAME("bearer.2d"),
+    [PROGRAMME_EVENT] = NAME("programmeEvent"),
+    [RELATIVE_TIME] = NAME("relativeTime"),
+    [RADIODNS] = NAME("radiodns"),
+    [GEOLOCATION] = NAME("geolocation"),
+    [COUNTRY] = NAME("country"),
+    [ON_DEMAND] = NAME("onDemand"),
+    [PRESENTATION_TIME] = NAME("presentationTime"),
+    [ACQUISITION_TIME] = NAME("acquisitionTime")
+};
+
+/* Annex E: the names of an element's attributes 0x80, 0x81 and so on; no element has a name twice. */
+static const struct name attribute_names[ELEMENT_TAGS][ATTRIBUTE_TAGS] = {
+    /* table E.1 */
+    [GENRE] = {[1] = NAME("type")},
+    [KEYWORDS] = {NAME("xml:lang")},
+    [LINK] = {NAME("uri"), NAME("mimeValue"), NAME("xml:lang"), NAME("description"), NAME("expiryTime")},
+    [SHORT_NAME] = {NAME("xml:lang")},
+    [MEDIUM_NAME] = {NAME("xml:lang")},
+    [LONG_NAME] = {NAME("xml:lang")},
+    [SHORT_DESCRIPTION] = {NAME("xml:lang")},
+    [LONG_DESCRIPTION] = {NAME("xml:lang")},
+    [MULTIMEDIA] = {NAME("mimeValue"), NAME("xml:lang"), NAME("url"), NAME("type"), NAME("width"),
+                    NAME("height")},
+    [SERVICE_BEARER] = {NAME("id"), [2] = NAME("url")},
+    [LOCATION_BEARER] = {NAME("id"), [2] = NAME("url")},
+    [GEOLOCATION] = {NAME("xml:id"), NAME("ref")},
+    /* table E.2 */
+    [SERVICE_INFORMATION] = {NAME("version"), NAME("creationTime"), NAME("originator"),
+                             NAME("serviceProvider")},
+    [SERVICE] = {NAME("version")},
+    [RADIODNS] = {NAME("fqdn"), NAME("serviceIdentifier")},
+    /* table E.3 */
+    [PROGRAMME_GROUPS] = {NAME("version"), NAME("creationTime"), NAME("originator")},
+    [PROGRAMME_GROUP] = {NAME("id"), NAME("shortId"), NAME("version"), NAME("type"), NAME("numOfItems")},
+    [SCHEDULE] = {NAME("version"), NAME("creationTime"), NAME("originator")},
+    [SCOPE] = {NAME("startTime"), NAME("stopTime")},
+    [SERVICE_SCOPE] = {NAME("id")},
+    [PROGRAMME] = {NAME("id"), NAME("shortId"), NAME("version"), NAME("recommendation"),
+                   NAME("broadcast"), [6] = NAME("xml:lang")},
+    [PROGRAMME_EVENT] = {NAME("id"), NAME("shortId"), NAME("version"), NAME("recommendation"),
+                         NAME("broadcast"), [6] = NAME("xml:lang")},
+    [TIME_ELEMENT] = {NAME("time"), NAME("duration"), NAME("actualTime"), NAME("actualDuration")},
+    [RELATIVE_TIME] = {NAME("time"), NAME("duration"), NAME("actualTime"), NAME("actualDuration")},
+    [MEMBER_OF] = {NAME("id"), NAME("shortId"), NAME("index")},
+    [PRESENTATION_TIME] = {NAME("start"), NAME("end"), NAME("duration")},
+    [ACQUISITION_TIME] = {NAME("start"), NAME("end")}
+};
+
+/* Annex F: the names of octets, those that share one with a dot and the code.  Of broadcast our copy of
+ * 002 has lost the row of 0x01, which is always the default's; 003, clause 5.3.13, says which that is. */
+enum { NAMED_OCTETS = 10 };
+
+static const struct name group_types[NAMED_OCTETS] = {
+    [0x02] = NAME("series"),
+    [0x03] = NAME("show"),
+    [0x04] = NAME("programConcept"),
+    [0x05] = NAME("magazine"),
+    [0x06] = NAME("programCompilation"),
+    [0x07] = NAME("otherCollection"),
+    [0x08] = NAME("otherChoice"),
+    [0x09] = NAME("topic")
+};
+
+static const struct name broadcasts[NAMED_OCTETS] = {
+    [0x01] = NAME("on-air"),
+    [0x02] = NAME("off-air")
+};
+
+static const struct name recommendations[NAMED_OCTETS] = {
+    [0x01] = NAME("no"),
+    [0x02] = NAME("yes")
+};
+
+static const struct name multimedia_types[NAMED_OCTETS] = {
+    [0x02] = NAME("logo_unrestricted"),
+    [0x03] = NAME("Not used.03"),
+    [0x04] = NAME("logo_colour_square"),
+    [0x05] = NAME("Not used.05"),
+    [0x06] = NAME("logo_colour_rectangle")
+};
+
+static const struct name genre_types[NAMED_OCTETS] = {
+    [0x01] = NAME("main"),
+    [0x02] = NAME("secondary"),
+    [0x03] = NAME("other")
+};
+
+/* The names of each enumerated attribute's octets. */
+static const struct name *const octet_names[ELEMENT_TAGS][ATTRIBUTE_TAGS] = {
+    [PROGRAMME_GROUP] = {[3] = group_types},
+    [PROGRAMME] = {[3] = recommendations, [4] = broadcasts},
+    [PROGRAMME_EVENT] = {[3] = recommendations, [4] = broadcasts},
+    [MULTIMEDIA] = {[3] = multimedia_types},
+    [GENRE] = {[1] = genre_types}
+};
+
+static const struct name empty_section = NAME("<![CDATA[]]>");
+
+/* What is escaped, and how; the length of all other octets' names is 0. */
+enum { ESCAPES = '>' + 1 };
+
+static const struct name escapes[ESCAPES] = {
+    ['&'] = NAME("&amp;"),
+    ['<'] = NAME("&lt;"),
+    ['>'] = NAME("&gt;"),
+    ['"'] = NAME("&quot;"),
+    ['\''] = NAME("&apos;")
+};
+
+/* ---- XML: its size ------------------------------------------------------------------------------ */
+
+/* Of each octet of a text, how many it becomes: one, but for escapes and tokens. */
+struct widths {
+    uint16_t of[256];
+};
+
+static struct widths widths_under(const struct token_table *table)
+{
+    struct widths widths;
+
+    for (size_t octet = 0; octet < 256; octet++)
+        widths.of[octet] = 1;
+    for (size_t octet = 0; octet < ESCAPES; octet++)
+        if (escapes[octet].length != 0)
+            widths.of[octet] = (uint16_t)escapes[octet].length;
+    for (uint8_t tag = 0; tag < TOKEN_TAGS; tag++) {
+        if (!has_entry(table, tag))
+            continue;
+        widths.of[tag] = 0;
+        for (size_t at = 0; at < table->length[tag].octets; at++)
+            widths.of[tag] += widths.of[table->text[tag][at]];
+    }
+    return widths;
+}
+
+enum {
+    TIME_LETTERS = 25,   /* YYYY-MM-DDThh:mm:ss+hh:mm */
+    DURATION_LETTERS = 3 /* PT and S */
+};
+
+static uint32_t number_in(const uint8_t *octets, size_t length)
+{
+    uint32_t number = 0;
+
+    for (size_t i = 0; i < length; i++)
+        number = number << 8 | octets[i];
+    return number;
+}
+
+static size_t decimal_size(uint32_t number)
+{
+    size_t size = 1;
+
+    for (uint32_t above = 10; number >= above; above *= 10) /* at most 24 bits */
+        size++;
+    return size;
+}
+
+/* How many octets at the start of a text, in whole groups of eight, stand in the XML as they do there: none
+ * is below 0x20, as tokens are, and none is escaped.  & and ' differ in one bit, and so do < and >. */
+static size_t copied_run(const uint8_t *text, size_t length)
+{
+    const uint64_t ones = UINT64_C(0x0101010101010101);
+    const uint64_t tops = UINT64_C(0x8080808080808080);
+    size_t at = 0;
+
+    while (length - at >= 8) {
+        uint64_t group;
+        memcpy(&group, text + at, sizeof group);
+        uint64_t quote = group ^ '"' * ones;
+        uint64_t first_pair = (group | ('&' ^ '\'') * ones) ^ ('&' | '\'') * ones;
+        uint64_t second_pair = (group | ('<' ^ '>') * ones) ^ ('<' | '>') * ones;
+        uint64_t found = ((group - 0x20 * ones) & ~group) | ((quote - ones) & ~quote) |
+                         ((first_pair - ones) & ~first_pair) | ((second_pair - ones) & ~second_pair);
+        if ((found & tops) != 0)
+            break;
+        at += 8;
+    }
+    return at;
+}
+
+static uint64_t text_size(const uint8_t *text, size_t length, const struct widths *widths)
+{
+    uint64_t size = 0;
+    size_t at = 0;
+
+    while (at < length) {
+        size_t run = copied_run(text + at, length - at);
+        size += run;
+        at += run;
+        for (size_t end = length - at < 8 ? length : at + 8; at < end; at++)
+            size += widths->of[text[at]];
+    }
+    return size;
+}
+
+/* Annex F's name of an enumerated value, or NULL where it has none. */
+static const struct name *octet_name(const struct tree *tree, const struct node *node)
+{
+    uint8_t octet = body_octets(tree, node)[0];
+    const struct name *names = octet_names[tree->nodes[node->parent].tag][node->tag - FIRST_ATTRIBUTE];
+
+    return octet < NAMED_OCTETS && names[octet].length != 0 ? &names[octet] : NULL;
+}
+
+static uint64_t value_size(const struct tree *tree, const struct node *node, const struct widths *widths)
+{
+    const uint8_t *body = body_octets(tree, node);
+
+    switch (node->body) {
+    case TEXT:
+        return text_size(body, node->length, widths);
+    case TIME:
+        return TIME_LETTERS;
+    case BEARER: /* two digits an octet but for the first, of which one is left, and three dots */
+        return 2 * (node->length - 1) + 4;
+    case ENUMERATED: {
+        const struct name *name = octet_name(tree, node);
+        return name != NULL ? name->length : 2;
+    }
+    case DURATION:
+        return DURATION_LETTERS + decimal_size(number_in(body, node->length));
+    default: /* NUMBER and SHORT_ID */
+        return decimal_size(number_in(body, node->length));
+    }
+}
+
+/* Whether an element has CDATA, children or, as the default language, text, so that an end tag follows. */
+static bool has_content(const struct tree *tree, size_t index)
+{
+    const struct node *node = &tree->nodes[index];
+
+    if (node->body == TEXT)
+        return node->normal_size != 0;
+    do
+        index++;
+    while (index < tree->count && is_attribute(tree->nodes[index].tag));
+    return index < tree->count && tree->nodes[index].depth > node->depth;
+}
+
+/* The octets that an item adds to the XML beside those of the items in it: with a name and a value stand a
+ * blank, an equals sign and two quotes, with an element's name or names the brackets and a slash. */
+static uint64_t own_size(const struct tree *tree, size_t index, const struct widths *widths)
+{
+    const struct node *node = &tree->nodes[index];
+
+    if (is_attribute(node->tag)) {
+        uint8_t element = tree->nodes[node->parent].tag;
+        size_t name = attribute_names[element][node->tag - FIRST_ATTRIBUTE].length;
+        return name + 4 + value_size(tree, node, widths);
+    }
+    if (node->tag == CDATA && node->normal_size == 0)
+        return empty_section.length;
+    uint64_t text = node->body == TEXT ? value_size(tree, node, widths) : 0;
+    if (node->tag == CDATA)
+        return text;
+    size_t name = element_names[node->tag].length;
+    return has_content(tree, index) ? 2 * name + 5 + text : name + 3;
+}
+
+static uint64_t xml_size(const struct tree *tree)
+{
+    struct widths widths = widths_under(&tree->table);
+    uint64_t size = 0;
+
+    for (size_t i = 0; i < tree->count; i++)
+        size += own_size(tree, i, &widths);
+    return size;
+}
+
+/* ---- XML: its octets ---------------------------------------------------------------------------- */
+
+static const char lower_digits[] = "0123456789abcdef";
+
+static uint8_t *write_name(uint8_t *out, const struct name *name)
+{
+    memcpy(out, name->letters, name->length);
+    return out + name->length;
+}
+
+static uint8_t *write_hex(uint8_t *out, const uint8_t *octets, size_t size)
+{
+    for (size_t i = 0; i < size; i++) {
+        *out++ = (uint8_t)lower_digits[octets[i] >> 4];
+        *out++ = (uint8_t)lower_digits[octets[i] & 0xF];
+    }
+    return out;
+}
+
+/* Writes a number in so many decimal digits, leading zeros among them. */
+static uint8_t *write_digits(uint8_t *out, uint32_t number, size_t digits)
+{
+    for (size_t i = digits; i > 0; number /= 10)
+        out[--i] = (uint8_t)('0' + number % 10);
+    return out + digits;
+}
+
+static uint8_t *write_decimal(uint8_t *out, uint32_t number)
+{
+    return write_digits(out, number, decimal_size(number));
+}
+
+/* Writes a text escaped, with each token replaced by its entry, in which there are no tokens. */
+static uint8_t *write_escaped(uint8_t *out, const uint8_t *text, size_t length,
+                              const struct token_table *table)
+{
+    size_t at = 0;
+
+    while (at < length) {
+        size_t run = copied_run(text + at, length - at);
+        memcpy(out, text + at, run);
+        out += run;
+        at += run;
+        for (size_t end = length - at < 8 ? length : at + 8; at < end; at++) {
+            uint8_t octet = text[at];
+            if (octet < ESCAPES && escapes[octet].length != 0)
+                out = write_name(out, &escapes[octet]);
+            else if (has_entry(table, octet))
+                out = write_escaped(out, table->text[octet], table->length[octet].octets, &no_tokens);
+            else
+                *out++ = octet;
+        }
+    }
+    return out;
+}
+
+static uint8_t *write_xml_text(uint8_t *out, struct place text)
+{
+    return write_escaped(out, body_octets(text.tree, text.node), text.node->length, &text.tree->table);
+}
+
+static uint8_t *write_xml_cdata(uint8_t *out, struct place cdata)
+{
+    return cdata.node->normal_size != 0 ? write_xml_text(out, cdata) : write_name(out, &empty_section);
+}
+
+struct date {
+    uint32_t year, month, day;
+};
+
+/* The date of a day of 002's count, in the calendar in which each fourth year has a leap day but for three in
+ * 400 years.  Years begin in March here, so that a leap day ends its year, its four years and its 400. */
+static struct date date_of(int64_t day)
+{
+    uint32_t left = (uint32_t)(day + 678881); /* since 1 March of the year 0; day 0 is 17 November 1858 */
+    uint32_t spans = left / 146097;
+    left %= 146097;
+    uint32_t centuries = left / 36524 < 4 ? left / 36524 : 3;
+    left -= centuries * 36524;
+    uint32_t fours = left / 1461;
+    left %= 1461;
+    uint32_t years = left / 365 < 4 ? left / 365 : 3;
+    left -= years * 365;
+    uint32_t months = (5 * left + 2) / 153; /* from March on, five months have 153 days */
+    bool next_year = months >= 10;
+
+    return (struct date){.year = 400 * spans + 100 * centuries + 4 * fours + years + next_year,
+                         .month = next_year ? months - 9 : months + 3,
+                         .day = left - (153 * months + 2) / 5 + 1};
+}
+
+/* 003, clause 5.2.12: local time and its difference from UTC, here with seconds and difference always.  Days
+ * from -1 to 100,000 lie in the years 1858 to 2132, so four digits do. */
+static uint8_t *write_xml_time(uint8_t *out, const struct time_value *time)
+{
+    struct local_time local = local_time(time);
+    struct date date = date_of(local.day);
+    uint32_t half_hours = time->offset & HALF_HOURS;
+
+    out = write_digits(out, date.year, 4);
+    *out++ = '-';
+    out = write_digits(out, date.month, 2);
+    *out++ = '-';
+    out = write_digits(out, date.day, 2);
+    *out++ = 'T';
+    out = write_digits(out, local.hours, 2);
+    *out++ = ':';
+    out = write_digits(out, local.minutes, 2);
+    *out++ = ':';
+    out = write_digits(out, time->seconds, 2);
+    *out++ = (time->offset & MINUS) != 0 ? '-' : '+';
+    out = write_digits(out, half_hours / 2, 2);
+    *out++ = ':';
+    return write_digits(out, half_hours % 2 * 30, 2);
+}
+
+/* ECC, EId, SId and SCIdS; without an ensemble the first two are empty.  No field more: 002's third bit
+ * brings none. */
+static uint8_t *write_xml_bearer(uint8_t *out, const uint8_t *body, size_t length)
+{
+    size_t ensemble_octets = (body[0] & ENSEMBLE_FLAG) != 0 ? 3 : 0;
+    const uint8_t *sid = body + 1 + ensemble_octets;
+
+    if (ensemble_octets != 0)
+        out = write_hex(out, body + 1, 1);
+    *out++ = '.';
+    if (ensemble_octets != 0)
+        out = write_hex(out, body + 2, 2);
+    *out++ = '.';
+    out = write_hex(out, sid, length - 1 - ensemble_octets);
+    *out++ = '.';
+    *out++ = (uint8_t)lower_digits[body[0] & 0xF];
+    return out;
+}
+
+static uint8_t *write_xml_value(uint8_t *out, const struct tree *tree, const struct node *node)
+{
+    const uint8_t *body = body_octets(tree, node);
+
+    switch (node->body) {
+    case TEXT:
+        return write_xml_text(out, (struct place){tree, node});
+    case TIME: {
+        struct time_value time;
+        read_time(body, node->length, &time);
+        return write_xml_time(out, &time);
+    }
+    case BEARER:
+        return write_xml_bearer(out, body, node->length);
+    case ENUMERATED: {
+        const struct name *name = octet_name(tree, node);
+        return name != NULL ? write_name(out, name) : write_hex(out, body, 1);
+    }
+    case DURATION:
+        *out++ = 'P';
+        *out++ = 'T';
+        out = write_decimal(out, number_in(body, node->length));
+        *out++ = 'S';
+        return out;
+    default: /* NUMBER and SHORT_ID */
+        return write_decimal(out, number_in(body, node->length));
+    }
+}
+
+/* Writes an element's attributes by rising tag; `*index` is left behind the last. */
+static uint8_t *write_xml_attributes(uint8_t *out, const struct tree *tree, uint8_t element, size_t *index)
+{
+    struct attributes attributes = attributes_at(tree, *index);
+
+    for (size_t i = 0; i < ATTRIBUTE_TAGS; i++) {
+        if (attributes.by_tag[i] == NULL)
+            continue;
+        *out++ = ' ';
+        out = write_name(out, &attribute_names[element][i]);
+        *out++ = '=';
+        *out++ = '"';
+        out = write_xml_value(out, tree, attributes.by_tag[i]);
+        *out++ = '"';
+    }
+    *index = attributes.end;
+    return out;
+}
+
+/* Writes the element at `*index` with all in it; `*index` is left behind them. */
+static uint8_t *write_xml_element(uint8_t *out, const struct tree *tree, size_t *index)
+{
+    const struct node *node = &tree->nodes[*index];
+    const struct name *name = &element_names[node->tag];
+    bool is_open = has_content(tree, *index);
+
+    *out++ = '<';
+    out = write_name(out, name);
+    ++*index;
+    if (*index < tree->count && is_attribute(tree->nodes[*index].tag))
+        out = write_xml_attributes(out, tree, node->tag, index);
+    if (!is_open)
+        *out++ = '/';
+    *out++ = '>';
+    if (!is_open)
+        return out;
+    if (node->body == TEXT)
+        out = write_xml_text(out, (struct place){tree, node});
+    while (*index < tree->count && tree->nodes[*index].depth > node->depth) {
+        if (tree->nodes[*index].tag == CDATA)
+            out = write_xml_cdata(out, (struct place){tree, &tree->nodes[(*index)++]});
+        else
+            out = write_xml_element(out, tree, index);
+    }
+    *out++ = '<';
+    *out++ = '/';
+    out = write_name(out, name);
+    *out++ = '>';
+    return out;
+}
+
+/* Writes the XML of an accepted object, or refuses it by 17 or 15 and writes nothing. */
+static struct verdict export_xml(const struct tree *tree, uint32_t room, uint8_t *out, size_t *size)
+{
+    size_t index = 0;
+
+    if (tree->first_plain != 0)
+        return (struct verdict){PLAIN_OCTETS, tree->first_plain};
+    if (xml_size(tree) > room)
+        return (struct verdict){OUTPUT_TOO_LARGE, 0};
+    *size = (size_t)(write_xml_element(out, tree, &index) - out);
+    return accepted;
+}
+
 /* ---- The stream of cases ----------------------------------------------------------------------- */
 
 static struct {
@@ -1262,6 +1829,7 @@ static struct tree first_tree, second_tree;
 static struct object first_object, second_object;
 static uint8_t normal_form[OBJECT_LIMIT];
 static uint8_t lent_records[LIST_LIMIT * RECORD_OCTETS];
+static uint8_t xml_octets[FIELD_LIMIT];
 
 /* Writes the normal form of an accepted object, or answers 14 or 15 and writes nothing. */
 static int normalise(struct tree *tree, uint32_t places, uint32_t store, uint32_t room, uint8_t *out,
@@ -1359,6 +1927,23 @@ static bool answer_same(void)
     return true;
 }
 
+static bool answer_xml(void)
+{
+    uint32_t room;
+    size_t size = 0;
+
+    if (!take_bounded(&room) || !take_object(&first_object))
+        return false;
+    struct verdict verdict = read_object(&first_tree, first_object.octets, first_object.size);
+    if (verdict.number == ACCEPTED)
+        verdict = export_xml(&first_tree, room, xml_octets, &size);
+    if (verdict.number != ACCEPTED)
+        put_refusal(verdict);
+    else
+        put_octets("xml ", xml_octets, size);
+    return true;
+}
+
 static bool answer_case(uint8_t letter)
 {
     switch (letter) {
@@ -1370,6 +1955,8 @@ static bool answer_case(uint8_t letter)
         return answer_written();
     case 'S':
         return answer_same();
+    case 'X':
+        return answer_xml();
     default:
         return false;
     }
