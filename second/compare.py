@@ -1,5 +1,5 @@
 #!/usr/bin/env python3
-"""Compares the answers of two programs:  compare.py PROGRAM_A PROGRAM_B SEED COUNT [--letters LNWS]
+"""Compares the answers of two programs:  compare.py PROGRAM_A PROGRAM_B SEED COUNT [--letters LNWSX]
 
 Both get the fixed edge cases, then COUNT random cases of the seed.  The first three differences are
 printed; the last line is `compared N cases of seed S: equal` or `...: DIFFERENT`, N counting both
@@ -10,7 +10,7 @@ import sys
 from itertools import zip_longest
 
 from edges import edge_cases
-from make_cases import random_cases
+from make_cases import CASE_LETTERS, random_cases
 from streams import run, split_answers
 
 SHOWN_DIFFERENCES = 3
@@ -46,7 +46,7 @@ def main():
     parser.add_argument("program_b")
     parser.add_argument("seed")
     parser.add_argument("count", type=int)
-    parser.add_argument("--letters", default="LNWS")
+    parser.add_argument("--letters", default=CASE_LETTERS)
     options = parser.parse_args()
     edges = [case for case in edge_cases() if chr(case[0]) in options.letters]
     randoms = list(random_cases(options.seed, options.count, options.letters))

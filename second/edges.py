@@ -1,5 +1,8 @@
 """The fixed edge cases (make_cases.py --edges): every pair, every limit, each refusal, pairs of them."""
-from make_cases import HOLDERS, SHOWN, TOKEN_TAGS, case_l, case_n, case_s, case_w, item
+from datetime import date
+
+from make_cases import (ATTRIBUTES, BEARER, ENUM, HOLDERS, NUMBER, PLAIN, SHORT_ID, SHOWN, TEXT, TIME, TOKEN_TAGS, case_l, case_n, case_s,
+                        case_w, case_x, item)
 
 ANNEX_C = bytes.fromhex(
     "02 52 21 50 24 16 80 04 33 BF C4 40 81 04 33 BF C4 80 25 08 80 06 40 E1 CE 15 C2 24"
@@ -423,12 +426,163 @@ def sameness():
             yield case_s(first, second)
 
 
+# ---- XML ---------------------------------------------------------------------------------------
+
+def whole_xml(octets):
+    """The XML with the largest room that a case may lend."""
+    return case_x(65536, octets)
+
+
+def xml_names():
+    """Every element with nothing, empty CDATA, text, a child or both in it; every attribute, alone and with all others in two orders."""
+    bodies = [b"", item(0x01), item(0x01, b"t"), item(0x10), item(0x10) + item(0x01), item(0x10, item(0x01, b"t")) + item(0x01, b"u")]
+    good = {TEXT: b"t", NUMBER: b"\x01\x02", SHORT_ID: b"\x01\x02\x03", ENUM: b"\x02", TIME: time_octets(), BEARER: bytes.fromhex("40E1CE15C224")}
+    for tag in [0x02, 0x03] + HOLDERS:
+        attributes = [item(attribute, good[kind]) for attribute, kind in ATTRIBUTES[tag].items() if kind != PLAIN]
+        sets = [[]] + [[one] for one in attributes] + [attributes, attributes[::-1]]
+        for chosen in sets:
+            for body in bodies if len(chosen) != 1 else bodies[:1]:
+                element = item(tag, b"".join(chosen) + body)
+                yield whole_xml(element if tag < 0x04 else top(element))
+    for text in (b"", b"en", b"\x01", b"\x02"):
+        yield whole_xml(top(item(0x04, entry(1) + entry(2, b"fr")), item(0x06, text), item(0x10)))
+    for depth in (2, 16):
+        for inner in (b"", item(0x01), item(0x01, b"t"), item(0x82, b"t")):
+            yield whole_xml(nest(depth, inner))
+    unknown = item(0x90, b"?"), item(0x07, item(0x34, b"?")), item(0x22)
+    yield whole_xml(top(*unknown))
+    yield whole_xml(top(item(0x2E, item(0x85) + item(0x80, b"t") + item(0x87)), *unknown[1:], item(0x01)))
+
+
+def xml_numbers():
+    """Numbers around every count of digits, and each octet of the enumerated attributes."""
+    for tag, known in ATTRIBUTES.items():
+        wrap = top if tag > 0x03 else bytes
+        for attribute, kind in known.items():
+            octets = {NUMBER: 2, SHORT_ID: 3, ENUM: 1}.get(kind, 0)
+            values = range(256) if kind == ENUM else [n + step for n in [10 ** digits for digits in range(8)] + [1 << 8 * octets] for step in (-1, 0)]
+            for value in values:
+                if octets and value < 1 << 8 * octets:
+                    yield whole_xml(wrap(item(tag, item(attribute, value.to_bytes(octets, "big")))))
+
+
+def day_of(*when):
+    return date(*when).toordinal() - date(1858, 11, 17).toordinal()
+
+
+def xml_times():
+    """Offsets of all kinds, at both ends of the dates and of the day; ends of months and years, leap days, and where there is none."""
+    def wrapped(**fields):
+        return whole_xml(top(item(0x81, time_octets(**fields))))
+    for offset in range(256):
+        for fields in ({"date": 0, "hours": 0, "minutes": 0}, {"date": 99999, "hours": 23, "minutes": 59, "seconds": 59}, {}):
+            yield wrapped(offset=offset, **fields)
+    for hours in range(24):
+        for minutes in (0, 29, 30, 59):
+            for offset in (None, 1, 0x21, 16, 0x30, 31, 0x3F):
+                yield wrapped(hours=hours, minutes=minutes, offset=offset)
+    days = [0, 1, 99998, 99999, day_of(1858, 12, 31), day_of(1859, 1, 1), day_of(2132, 2, 29), day_of(2132, 8, 31)]
+    for year in (1860, 1899, 1900, 1901, 1999, 2000, 2001, 2004, 2099, 2100, 2101, 2104):
+        for month in range(1, 13):
+            days += [day_of(year, month, 1), day_of(year, month, 1) - 1, day_of(year, month, 1) - 2]
+    for day in days:
+        yield wrapped(date=day)
+        yield wrapped(date=day, hours=0, minutes=29, seconds=1, offset=0x21)
+        yield wrapped(date=day, hours=23, minutes=30, seconds=59, offset=1)
+    for seconds in range(60):
+        yield wrapped(seconds=seconds, minutes=seconds, low=0x3FF, reserved=0x80002000)
+
+
+def xml_bearers():
+    for first in range(256):
+        size = (3 if first & 0x40 else 0) + (4 if first & 0x10 else 2)
+        for tag in (0x25, 0x29, 0x2D):
+            for octets in (bytes(size), bytes([0xFF] * size), bytes.fromhex("0A1B2C3D4E5F6A")[:size]):
+                yield whole_xml(top(item(tag, item(0x80, bytes([first]) + octets))))
+
+
+def xml_texts():
+    """Each octet and the borders of UTF-8 as a text, as a token and beside one; what is escaped at every place among plain letters."""
+    samples = [bytes([octet]) for octet in range(256)]
+    samples += [chr(code).encode() for code in (0x80, 0x7FF, 0x800, 0x2028, 0xD7FF, 0xF900, 0xFFFD, 0xFFFE, 0xFFFF, 0x10000, 0x10FFFF)]
+    samples += [b"<>&'\"", b"]]>", b"<![CDATA[]]>", b"&amp;", b"&&&&&&&&&", b"\r\n\t ", b" t ", b"\r\r\n", "\u0085\xe9\U0001f4fb".encode()]
+    for text in samples:
+        yield whole_xml(top(item(0x01, text)))
+        yield whole_xml(top(item(0x82, text)))
+        yield whole_xml(top(item(0x06, text)))
+        yield whole_xml(top(item(0x82, b"a\x01"), item(0x04, entry(1, text)), item(0x06, b"\x01"), item(0x10, item(0x01, b"\x01b"))))
+        yield whole_xml(top(item(0x04, entry(1, b"t")), item(0x33, item(0x01, b"\x01" + text + b"\x01"))))
+    for size in (7, 8, 9, 16, 17, 24):
+        for at in range(size):
+            for octet in b"<>&'\"\t\x01\x7f":
+                text = bytearray(b"abcdefghijklmnopqrstuvwx"[:size])
+                text[at] = octet
+                yield whole_xml(top(item(0x82, bytes(text)), item(0x04, entry(1, b"<>")), item(0x01, bytes(text))))
+    for tag in TOKEN_TAGS:
+        yield whole_xml(top(item(0x04, entry(tag, b"'")), item(0x01, bytes([tag]))))
+        yield whole_xml(top(item(0x04, entry(tag)), item(0x06, bytes([tag])), item(0x10, item(0x80, bytes([tag])) + item(0x01, bytes([tag, tag])))))
+
+
+# Items of plain octets, in elements that may stand in a top's list.
+PLAIN_ITEMS = [item(0x14, item(0x80)), item(0x14, item(0x81, b"\x01") + item(0x80, b"\x03", 1)), item(0x14, item(0x80, b"\x03", 2) + item(0x81, b"\x01")),
+               item(0x26, item(0x80, bytes.fromhex("E1CE15")), 1), item(0x26, item(0x10) + item(0x34)), item(0x34), item(0x35, bytes(12), 2)]
+
+
+def xml_plain():
+    """Refusal 17: where the first of them stands, behind 1 to 13 of any item, before 15; octets that only look like plain ones."""
+    for plain in PLAIN_ITEMS:
+        for good in GOOD:
+            if good[:1] != b"\x01":
+                yield whole_xml(top(good, plain))
+            yield whole_xml(top(plain, good))
+        for fault in FAULTS:
+            yield whole_xml(top(plain, fault))
+            yield whole_xml(top(fault, plain))
+            yield whole_xml(top(plain, item(0x21, fault)))
+        for other in PLAIN_ITEMS:
+            yield whole_xml(top(plain, other, tag=0x02))
+        for room in (0, 1, 64):
+            yield case_x(room, top(plain))
+        yield whole_xml(top(plain) + b"\x00")
+        yield whole_xml(top(item(0x82, b"\x01"), plain))
+        yield whole_xml(top(item(0x82, b"\x01"), item(0x04, entry(1)), plain))
+        yield whole_xml(top(item(0x07, plain)))
+        for depth in (3, 15, 16):
+            yield whole_xml(nest(depth, plain))
+    for octets in each("2602 8100 | 1402 8200 | 2804 80020001 | 3400 1000 | 1000 3500 | 2F02 8000"):
+        yield whole_xml(top(octets))
+
+
+def xml_rooms():
+    """All rooms up to what small objects need; XML of 65,536 octets and one more, far more, and the same through tokens."""
+    for octets, size in ((top(), 21), (ANNEX_C, 339), (top(item(0x04, entry(1, b"<&>")), item(0x06, b"\x01"), item(0x01)), 101)):
+        for room in list(range(size + 3)) + [32767, 32768, 65535, 65536]:
+            yield case_x(room, octets)
+    for extra in (-1, 0, 1, 2):
+        text = b"&" * 13098 + b"a" * (5 + extra)
+        for room in (0, 32768, 65534, 65535, 65536):
+            yield case_x(room, top(item(0x01, text)))
+            yield case_x(room, top(item(0x04, entry(1, b"&" * 37)), item(0x01, b"\x01" * 354 + b"a" * (5 + extra))))
+    table = item(0x04, entry(1, b"'" * 255) + entry(2))
+    for uses in (42, 43, 6000, 32000):
+        yield whole_xml(top(table, item(0x01, b"\x01" * uses)))
+        yield whole_xml(top(table, item(0x01, b"\x02" * uses)))
+    for count in (5457, 5458, 16382):
+        yield whole_xml(top(b"\x10\x00" * count))
+    for octets in (b"", bytes(65536), top(item(0x01, b"a" * 32760)), top(item(0x01, b"a" * 32761))):
+        yield case_x(0, octets)
+        yield whole_xml(octets)
+
+
 def edge_cases():
     for group in (sizes, pairs, texts, token_tables, shown_lengths, times, bearers, depths, order, faults,
-                  late_twelve, lent_memory, written, sameness):
+                  late_twelve, lent_memory, written, sameness, xml_names, xml_numbers, xml_times, xml_bearers,
+                  xml_texts, xml_plain, xml_rooms):
         yield from group()
     for octets in [ANNEX_C] + [ANNEX_C[:size] for size in range(84)]:
         yield from both(octets)
     for at in range(84):
         for change in (0x01, 0x80, 0xFF):
-            yield from both(ANNEX_C[:at] + bytes([ANNEX_C[at] ^ change]) + ANNEX_C[at + 1:])
+            changed = ANNEX_C[:at] + bytes([ANNEX_C[at] ^ change]) + ANNEX_C[at + 1:]
+            yield from both(changed)
+            yield whole_xml(changed)

@@ -1,8 +1,8 @@
 #!/usr/bin/env python3
 """Makes streams of test cases for the two programs (docs/STREAM.md).
 
-    make_cases.py SEED COUNT [--letters LNWS]     COUNT random cases, the same for the same seed
-    make_cases.py --edges [--letters LNWS]        the fixed edge cases of edges.py
+    make_cases.py SEED COUNT [--letters LNWSX]     COUNT random cases, the same for the same seed
+    make_cases.py --edges [--letters LNWSX]        the fixed edge cases of edges.py
 
 A random case begins as a tree of known items with its meaning.  From the tree come its octets (in
 any of the many forms that mean the same), its normal form, its records and what has to be lent;
@@ -98,6 +98,10 @@ def case_w(count, records, room, octets):
 
 def case_s(first, second):
     return b"S" + sized(first) + sized(second)
+
+
+def case_x(room, octets):
+    return b"X" + bounded(room) + sized(octets)
 
 
 # ---- Items as they stand in octets -------------------------------------------------------------
@@ -240,6 +244,13 @@ class Node:
     def too_long(self):
         return any(node.is_over(part) for node in self.walk() for part in node.children)
 
+    def leave_plain_out(self):
+        """Takes all items of plain octets out of it: no XML can be made of these."""
+        self.attributes = [part for part in self.attributes if ATTRIBUTES[self.tag][part.tag] != PLAIN]
+        self.children = [part for part in self.children if part.tag not in COORDINATES]
+        for part in self.children:
+            part.leave_plain_out()
+
     def copy(self):
         twin = Node(self.tag, self.value)
         twin.attributes = [part.copy() for part in self.attributes]
@@ -327,6 +338,8 @@ class Maker:
             return self.time()
         if kind == BEARER:
             return self.bearer()
+        if kind == ENUM:
+            return Fixed(bytes([rng.randrange(rng.choice([10, 256]))]))  # annex F names octets below 10 alone
         return Fixed(rng.randbytes(SIZES[kind] if kind in SIZES else rng.choice([0, 1, 2, 3, 4, 6, 12])))
 
     def fill(self, node, depth, budget):
@@ -541,11 +554,11 @@ def random_tree(maker):
     return maker.deep_tree() if roll < 0.06 else maker.large_tree() if roll < 0.10 else maker.tree()
 
 
-def random_raw(rng):
+def random_raw(rng, draw=random_tree):
     """A tree and one of the ways to write it, in bounds."""
     while True:
         maker = Maker(rng)
-        tree = random_tree(maker)
+        tree = draw(maker)
         raw = Encoder(maker, rng.choice([0, 0.05, 0.2])).raw(tree)
         if len(raw.octets()) <= OBJECT_LIMIT:
             return maker, tree, raw
@@ -565,9 +578,9 @@ def pad(rng, raw):
     attribute.body = bytes(max(0, OBJECT_LIMIT + rng.choice([-1, 0, 0, 1, 9]) - len(raw.octets())))
 
 
-def random_object(rng):
+def random_object(rng, draw=random_tree):
     """A tree and octets for it, damaged so often that about half of them are refused."""
-    _, tree, raw = random_raw(rng)
+    _, tree, raw = random_raw(rng, draw)
     if rng.random() < 0.01:
         pad(rng, raw)
     return tree, damage(rng, raw)[:FIELD_LIMIT] if rng.random() < 0.7 else raw.octets()
@@ -679,10 +692,25 @@ def random_s(rng):
     return case_s(first[:FIELD_LIMIT], second[:FIELD_LIMIT])
 
 
-RANDOM = {"L": random_l, "N": random_n, "W": random_w, "S": random_s}
+def named_tree(maker):
+    """A tree without plain octets."""
+    tree = random_tree(maker)
+    tree.leave_plain_out()
+    return tree
 
 
-def random_cases(seed, count, letters="LNWS"):
+def random_x(rng):
+    """Now and then an object with plain octets; often a room that just does, or doesn't."""
+    from as_xml import has_plain, xml  # which stands on the trees of this file
+    tree, octets = random_object(rng, random_tree if rng.random() < 0.2 else named_tree)
+    return case_x(lent(rng, FIELD_LIMIT if has_plain(tree) else len(xml(tree)), FIELD_LIMIT), octets)
+
+
+RANDOM = {"L": random_l, "N": random_n, "W": random_w, "S": random_s, "X": random_x}
+CASE_LETTERS = "".join(RANDOM)
+
+
+def random_cases(seed, count, letters=CASE_LETTERS):
     """Yields `count` cases; each has a generator of its own, so that cases can be found again."""
     for index in range(count):
         rng = random.Random(f"drangosk {seed} {index}")
@@ -693,11 +721,11 @@ def main():
     parser = argparse.ArgumentParser(description="Makes a stream of test cases on standard output.")
     parser.add_argument("seed", nargs="?")
     parser.add_argument("count", nargs="?", type=int)
-    parser.add_argument("--letters", default="LNWS")
+    parser.add_argument("--letters", default=CASE_LETTERS)
     parser.add_argument("--edges", action="store_true", help="the fixed edge cases instead of random ones")
     options = parser.parse_args()
     if not options.letters or set(options.letters) - set(RANDOM):
-        parser.error("letters are of LNWS")
+        parser.error(f"letters are of {CASE_LETTERS}")
     if options.edges:
         from edges import edge_cases
         cases = (case for case in edge_cases() if chr(case[0]) in options.letters)

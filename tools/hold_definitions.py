@@ -20,6 +20,7 @@ from edges import edge_cases  # noqa: E402
 from make_cases import random_cases  # noqa: E402
 from streams import LISTING, run, split_answers  # noqa: E402
 
+LETTERS = "LNWS"  # of the cases that are taken
 LONGEST = 160  # octets in a case: the prover computes some milliseconds for each element
 CHUNK = 20     # cases under one claim
 KINDS = {"element": 0, "attribute": 1, "cdata": 2}
@@ -187,8 +188,8 @@ def write(path, text):
 
 def main():
     program, seed, count = sys.argv[1], sys.argv[2], int(sys.argv[3])
-    edges = [case for case in edge_cases() if len(case) <= LONGEST]
-    randoms = [case for case in random_cases(seed, 2 * count) if len(case) <= LONGEST]
+    edges = [case for case in edge_cases() if chr(case[0]) in LETTERS and len(case) <= LONGEST]
+    randoms = [case for case in random_cases(seed, 2 * count, LETTERS) if len(case) <= LONGEST]
     drawn = random.Random(seed).sample(edges, min(len(edges), count - count // 2))
     stream = drawn + randoms[:count // 2]
     cases = [parsed(case) for case in stream]
