@@ -8,10 +8,10 @@ import os
 import re
 import sys
 
-from make_cases import case_l, case_n, case_s, case_w
+from make_cases import case_l, case_n, case_s, case_w, case_x
 from streams import run, split_answers
 
-HEX_PART = re.compile(r'\s*(?:"([^"]*)"|([0-9A-Fa-f]{2})|\(([^()]*)\)|(-))(?:\*(\d+))?(?=\s|$)')
+HEX_PART = re.compile(r'''\s*(?:(["'])((?:(?!\1).)*)\1|([0-9A-Fa-f]{2})|\(([^()]*)\)|(-))(?:\*(\d+))?(?=\s|$)''')
 
 
 def octets_of(text):
@@ -21,7 +21,7 @@ def octets_of(text):
         part = HEX_PART.match(text, at)
         if part is None:
             raise ValueError(f"not octets: {text[at:]}")
-        quoted, octet, group, _, times = part.groups()
+        _, quoted, octet, group, _, times = part.groups()
         piece = quoted.encode() if quoted is not None else bytes.fromhex(octet) if octet else octets_of(group or "")
         out += piece * int(times or 1)
         at = part.end()
@@ -30,7 +30,7 @@ def octets_of(text):
 
 def answer_line(text):
     word, _, rest = text.partition(" ")
-    return f"{word} {octets_of(rest).hex()}" if word in ("normal", "written") else text
+    return f"{word} {octets_of(rest).hex()}" if word in ("normal", "written", "xml") else text
 
 
 class Named:
@@ -63,6 +63,8 @@ class Named:
             return case_w(numbers[0], self.records, numbers[1], *self.octets)
         if letter == "S":
             return case_s(*self.octets)
+        if letter == "X":
+            return case_x(*numbers, *self.octets)
         if letter == "stream":
             return b"".join(self.octets)
         raise ValueError(f"in case {self.name}: letter {letter}")
