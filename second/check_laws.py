@@ -6,14 +6,23 @@ form, its number of records and just its needs in store and room; a normal form 
 and is listed; the writer makes it of the tree's records; and both ways to write a tree mean the same.
 Where a text of the tree has too many characters, its normal form is refused there, and its records too.
 Beside each tree, a pair of meanings.py that is known to mean the same or not; the ways to make one take turns, so
-COUNT is at least the number of ways.  At last such pairs whose normal forms are no objects, since they are too large.
+COUNT is at least the number of ways.  Then such pairs whose normal forms are no objects, since they are too large.
+
+Of XML: a tree without plain octets has the XML that the maker makes of it, however it is written, in just its room; with
+plain octets it is refused at the first of them.  Two objects of a pair without plain octets have the same XML exactly where
+they mean the same, and that is UTF-8 and well-formed, by Python's own parser.
 """
 import random
 import sys
+from xml.parsers import expat
 
-from make_cases import Encoder, Maker, OBJECT_LIMIT, case_l, case_n, case_s, case_w, make_records, random_raw
-from meanings import SWOLLEN_WAYS, WAYS, known_pair, random_tree
+from as_xml import KINDS, has_plain, xml
+from make_cases import (COORDINATES, FIELD_LIMIT, OBJECT_LIMIT, PLAIN, Encoder, Maker, case_l, case_n, case_s, case_w, case_x, make_records,
+                        named_tree, random_raw)
+from meanings import NAMED_WAYS, SWOLLEN_WAYS, WAYS, known_pair, random_tree
 from streams import run, split_answers
+
+TOO_LARGE = "refused 15 at 0"
 
 
 def pair_law(rng, answer, way, draw=random_tree):
@@ -79,6 +88,35 @@ def tree_laws(rng):
     yield case_s(normal, octets), "same"
 
 
+def first_plain(raw, at=0):
+    """The place of the first item of plain octets in an element that holds items, or None."""
+    at += len(raw.octets()) - sum(len(part.octets()) for part in raw.body)
+    for part in raw.body:
+        if part.tag in COORDINATES or KINDS.get((raw.tag, part.tag)) == PLAIN:
+            return at
+        found = first_plain(part, at) if isinstance(part.body, list) else None
+        if found is not None:
+            return found
+        at += len(part.octets())
+    return None
+
+
+def xml_laws(rng, draw):
+    """The XML of a tree in two of its forms, in just its room; or the refusal, whatever the room."""
+    while True:
+        maker, tree, raw = random_raw(rng, draw)
+        again = Encoder(maker, 0.3).raw(tree)
+        if len(again.octets()) <= OBJECT_LIMIT and not tree.too_long() and (has_plain(tree) or len(xml(tree)) <= FIELD_LIMIT):
+            break
+    for form in (raw, again):
+        if has_plain(tree):
+            yield case_x(rng.choice([0, FIELD_LIMIT]), form.octets()), f"refused 17 at {first_plain(form)}"
+        else:
+            octets = xml(tree)
+            yield case_x(len(octets), form.octets()), f"xml {octets.hex()}"
+            yield case_x(len(octets) - 1, form.octets()), TOO_LARGE
+
+
 def laws(seed, count):
     """What is tried, the case and the last line of its answer."""
     for index in range(count):
@@ -86,23 +124,65 @@ def laws(seed, count):
         for case, must in tree_laws(rng):
             yield "a tree", case, must
         yield pair_law(rng, *WAYS[index % len(WAYS)])
+        for case, must in xml_laws(rng, rng.choice([named_tree, named_tree, random_tree])):
+            yield "XML of a tree", case, must
     for answer, way in SWOLLEN_WAYS:
         yield pair_law(random.Random(f"swollen {seed} {way}"), answer, way, Maker.swollen_tree)
+
+
+def xml_pairs(seed, count):
+    """What is tried, the answer to S, and two cases of X."""
+    for index in range(count):
+        answer, way = NAMED_WAYS[index % len(NAMED_WAYS)]
+        pair = known_pair(random.Random(f"xml {seed} {index}"), answer, way, named_tree)
+        yield f"XML, {answer}: {way}", answer, [case_x(FIELD_LIMIT, raw.octets()) for raw in pair]
+
+
+def parse_error(line):
+    """What is wrong with an answer's XML, or None.  U+FFFE and U+FFFF are text for document 01 and for no XML reader, so
+    other characters stand in for them."""
+    try:
+        text = bytes.fromhex(line.removeprefix("xml ")).decode()
+        expat.ParserCreate().Parse(text.replace("\ufffe", "?").replace("\uffff", "?"), True)
+    except (ValueError, expat.ExpatError) as error:
+        return str(error)
+    return None
+
+
+def broken_pair(answer, first, second):
+    """What is wrong with the XML of two objects, or None.  Where neither fits the room, nothing is known of it."""
+    if first == second == TOO_LARGE:
+        return None
+    if (first == second) != (answer == "same"):
+        return "the XML is the same" if first == second else "the XML differs"
+    for line in (first, second):
+        wrong = None if line == TOO_LARGE else parse_error(line)
+        if wrong is not None:
+            return f"{wrong}: {line[:200]}"
+    return None
 
 
 def main():
     if len(sys.argv) != 4 or int(sys.argv[3]) < len(WAYS):
         sys.exit(f"usage: check_laws.py PROGRAM SEED COUNT, COUNT at least {len(WAYS)}")
     program, seed, count = sys.argv[1], sys.argv[2], int(sys.argv[3])
-    tried = list(laws(seed, count))
-    lines, status = run(program, b"".join(case for _, case, _ in tried))
-    answers = split_answers(lines)
-    broken = [(what, case, must, answer[-1]) for (what, case, must), answer in zip(tried, answers) if answer[-1] != must]
-    for what, case, must, answer in broken[:3]:
-        print(f"{what}: {chr(case[0])} {case.hex()[:200]}\n  must be: {must[:200]}\n  answered: {answer[:200]}")
-    good = not broken and status == 0 and len(answers) == len(tried)
+    tried, tried_pairs = list(laws(seed, count)), list(xml_pairs(seed, count))
+    cases = [case for _, case, _ in tried] + [case for _, _, pair in tried_pairs for case in pair]
+    lines, status = run(program, b"".join(cases))
+    answers = [answer[-1] for answer in split_answers(lines)]
+    broken = [f"{what}: {chr(case[0])} {case.hex()[:200]}\n  must be: {must[:200]}\n  answered: {answer[:200]}"
+              for (what, case, must), answer in zip(tried, answers) if answer != must]
+    of_pairs = answers[len(tried):]
+    for (what, answer, pair), first, second in zip(tried_pairs, of_pairs[::2], of_pairs[1::2]):
+        wrong = broken_pair(answer, first, second)
+        if wrong is not None:
+            broken.append(f"{what}: {pair[0].hex()[:200]} {pair[1].hex()[:200]}\n  {wrong}")
+    for what in broken[:3]:
+        print(what)
+    good = not broken and status == 0 and len(answers) == len(cases) and of_pairs.count(TOO_LARGE) * 10 < len(of_pairs)
     pairs = count + len(SWOLLEN_WAYS)
-    print(f"laws: {len(tried)} answers of seed {seed}, {pairs} of pairs in {len(WAYS)} ways: {'all hold' if good else 'NOT ALL HOLD'}")
+    print(f"laws: {len(tried)} answers of seed {seed}, {pairs} of pairs in {len(WAYS)} ways, XML of {len(tried_pairs)} pairs in {len(NAMED_WAYS)} ways: "
+          f"{'all hold' if good else 'NOT ALL HOLD'}")
     sys.exit(0 if good else 1)
 
 

@@ -413,6 +413,9 @@ SWOLLEN_WAYS = [("different", way) for way in DIFFERENT] + [WRITTEN_TWICE]
 
 WAYS = SWOLLEN_WAYS + [("same", way) for way in SAME]
 
+# The ways that trees without plain octets can be changed in.
+NAMED_WAYS = [(answer, way) for answer, way in WAYS if way not in ("plain octets", "one plain octet more", "the tag of coordinates")]
+
 
 # ---- Pairs ---------------------------------------------------------------------------------------------
 
