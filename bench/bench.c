@@ -16,7 +16,14 @@
 #include <stdlib.h>
 #include <time.h>
 
-enum { TURNS = 250, RUN_NANOSECONDS = 1000000, PLACES = SPI_MOST_RECORDS, ROOM = SPI_MOST_OCTETS, MOST_OBJECTS = 32 };
+enum {
+    TURNS = 250,
+    RUN_NANOSECONDS = 1000000,
+    PLACES = SPI_MOST_RECORDS,
+    ROOM = SPI_MOST_OCTETS,
+    XML_ROOM = 8 * ROOM, /* the XML of small items has about five octets for one of theirs */
+    MOST_OBJECTS = 32
+};
 
 struct file {
     size_t size;
@@ -44,6 +51,7 @@ static struct {
     uint16_t parents[PLACES], starts[PLACES], sizes[PLACES];
 } lists;
 static uint8_t store[ROOM], room[ROOM];
+static uint8_t xml_by_library[XML_ROOM], xml_by_second[XML_ROOM];
 
 #define SIX_LISTS                                                                                                      \
     lists.tags, PLACES, lists.kinds, PLACES, lists.depths, PLACES, lists.parents, PLACES, lists.starts, PLACES,        \
@@ -108,12 +116,30 @@ static uint64_t same_by_second(const struct file *object, const struct file *oth
     return first.number == ACCEPTED && second.number == ACCEPTED && same_meaning(&first_tree, &second_tree);
 }
 
+static uint64_t export_by_library(const struct file *object, const struct file *other)
+{
+    (void)other;
+    return spi_export(object->octets, object->size, xml_by_library, XML_ROOM);
+}
+
+static uint64_t export_by_second(const struct file *object, const struct file *other)
+{
+    (void)other;
+    size_t size = 0;
+    struct verdict verdict = read_object(&first_tree, object->octets, (uint32_t)object->size);
+    if (verdict.number != ACCEPTED || export_xml(&first_tree, XML_ROOM, xml_by_second, &size).number != ACCEPTED)
+        return UINT64_MAX;
+    return size;
+}
+
 ON_EACH(library_read, read_by_library)
 ON_EACH(second_read, read_by_second)
 ON_EACH(library_normalise, normalise_by_library)
 ON_EACH(second_normalise, normalise_by_second)
 ON_EACH(library_same, same_by_library)
 ON_EACH(second_same, same_by_second)
+ON_EACH(library_export, export_by_library)
+ON_EACH(second_export, export_by_second)
 
 static bool check_by_library(const uint8_t *text, size_t size, bool tokens)
 {
@@ -153,6 +179,7 @@ struct calls {
 static const struct calls reading = {2, {library_read, second_read}};
 static const struct calls normalising = {2, {library_normalise, second_normalise}};
 static const struct calls comparing = {2, {library_same, second_same}};
+static const struct calls exporting = {2, {library_export, second_export}};
 static const struct calls checking = {4, {library_text, second_text, octet_text, table_text}};
 
 /* ---- Timing ------------------------------------------------------------------------------------- */
@@ -374,6 +401,20 @@ static void compare_calls(const char *folder, const char *name, const char *twin
     compare(labels[3], text_octets, &checking);
 }
 
+/* The XML of objects that can have one, held against each other before it is timed. */
+static void compare_export(const char *folder, const char *name, const char *label)
+{
+    load_all(folder, name, name);
+    for (size_t k = 0; k < SIZES; k++)
+        for (size_t i = 0; i < sets[k].count; i++) {
+            const struct file *object = &sets[k].objects[i];
+            uint64_t size = export_by_library(object, object);
+            if (size != export_by_second(object, object) || memcmp(xml_by_library, xml_by_second, size) != 0)
+                stop("the XML differs");
+        }
+    compare(label, object_octets, &exporting);
+}
+
 /* One call alone on an object of 32 KB, many times, for a profiler to look at: bench FOLDER CALL OBJECT RUNS. */
 static void repeat_call(const char *folder, const char *name, const char *of, unsigned runs)
 {
@@ -381,8 +422,9 @@ static void repeat_call(const char *folder, const char *name, const char *of, un
         const char *name;
         call called;
     } calls[] = {{"library_read", library_read}, {"second_read", second_read}, {"library_normalise", library_normalise},
-                 {"second_normalise", second_normalise}, {"library_same", library_same}, {"second_same", second_same}};
-    load_all(folder, of, strcmp(of, "day") == 0 ? "other" : "twin");
+                 {"second_normalise", second_normalise}, {"library_same", library_same}, {"second_same", second_same},
+                 {"library_export", library_export}, {"second_export", second_export}};
+    load_all(folder, of, strcmp(of, "day") == 0 ? "other" : strcmp(of, "small") == 0 ? "twin" : of);
     set = &sets[SIZES - 1];
     for (size_t i = 0; i < sizeof calls / sizeof calls[0]; i++)
         if (strcmp(calls[i].name, name) == 0)
@@ -405,6 +447,8 @@ int main(int count, char **arguments)
     compare_calls(folder, "day", "other", (const char *[]){"read day", "normalise day", "same day", "texts of the day"});
     compare_calls(folder, "small", "twin",
                   (const char *[]){"read small", "normalise small", "same small", "texts of small items"});
+    compare_export(folder, "named", "export day");
+    compare_export(folder, "numbers", "export small");
     repeat_text("The news at one, and then the weather for the coast. ");
     compare("text English", text_octets, &checking);
     repeat_text("Le café de São João à Łódź, avec Jürgen. ");

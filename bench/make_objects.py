@@ -5,6 +5,8 @@
     other-N-I.spi   the day again in its longest forms, without tokens: other octets, the same meaning
     small-N-I.spi   many small items: numbers, times and short names
     twin-N-I.spi    the small items again without tokens
+    named-N-I.spi   the day without its items of plain octets, so that it has an XML
+    numbers-N-I.spi the small items likewise
 
 N is 1, 4, 16 and 32: the object and its normal form have as many octets as fit N * 1024. I counts the objects of a size, 32 / N of
 them, so that a round over those of one size is as many octets as over those of another: a processor that has learnt the branches of one
@@ -104,7 +106,7 @@ def whole(rng, schedule, form, tokens):
 
 
 def grown(make, limit, number_of, form):
-    """As many programmes as fit the limit: their octets with tokens and without, the latter with lengths of a form."""
+    """As many programmes as fit the limit: their octets with tokens and without, the latter with lengths of a form; and with tokens, but no plain octets."""
     rng = random.Random(f"{make.__name__} {limit} {number_of}")
     schedule = element(0x21, number(rng, 0x80, 2), time(rng, 0x81, 0), Node(0x82, text(rng, 20, 40)),
                        element(0x24, time(rng, 0x80, 0), time(rng, 0x81, MINUTES - 1), element(0x25, bearer(0x80))))
@@ -113,7 +115,9 @@ def grown(make, limit, number_of, form):
         seed = f"{limit} {number_of} {count}"
         forms = whole(random.Random(seed), schedule, 0, True), whole(random.Random(seed), schedule, form, False)
         if max(map(len, forms)) > limit:
-            return kept
+            schedule.children.pop()
+            schedule.leave_plain_out()
+            return *kept, whole(random.Random(seed), schedule, 0, True)
         kept = forms
         schedule.children.append(make(rng, 5 * count % MINUTES))
     raise ValueError("the programmes never fill the object")
@@ -137,12 +141,14 @@ def main():
     (folder / "texts").write_bytes(b"".join((len(text) - 1).to_bytes(2, "big") + text for text in texts()))
     for kilo in (1, 4, 16, 32):
         for i in range(32 // kilo):
-            day, other = grown(programme, kilo * KILO, i, 2)
+            day, other, named = grown(programme, kilo * KILO, i, 2)
             (folder / f"day-{kilo}-{i}.spi").write_bytes(day)
             (folder / f"other-{kilo}-{i}.spi").write_bytes(other)
-            items, twin = grown(small, kilo * KILO, i, 0)
+            (folder / f"named-{kilo}-{i}.spi").write_bytes(named)
+            items, twin, numbers = grown(small, kilo * KILO, i, 0)
             (folder / f"small-{kilo}-{i}.spi").write_bytes(items)
             (folder / f"twin-{kilo}-{i}.spi").write_bytes(twin)
+            (folder / f"numbers-{kilo}-{i}.spi").write_bytes(numbers)
 
 
 if __name__ == "__main__":
