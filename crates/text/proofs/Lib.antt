@@ -10,6 +10,7 @@ pub mod ShownLaws
 pub mod Replaced
 pub mod Laws
 pub mod RunLaws
+pub mod LinkLaws
 pub mod WeighLaws
 pub mod Sixteen
 pub mod Wrong

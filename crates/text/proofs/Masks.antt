@@ -112,7 +112,7 @@ within-kept a =
     a
 
 -- ---- the tokens among octets as a mask: what a loop over them knows with so many octets left
-or-false : (a : Bool) → a || false ≡ a
+pub or-false : (a : Bool) → a || false ≡ a
 or-false true = refl
 or-false false = refl
 

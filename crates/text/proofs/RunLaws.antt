@@ -14,6 +14,7 @@ use Rattle.text.specs.Text.{utf8, text}
 use Rattle.text.specs.Tokens.{Entries, expanded, covered}
 use Rattle.text.specs.Leaves.{onward, Steps}
 use Rattle.text.specs.Runs.{within, allWithin, RunTo, PlainTo, UntokenedTo}
+use Rattle.text.specs.Links.{PassedTo}
 use Rattle.text.specs.Weighing.{weight, shownBy}
 use Rattle.text.proofs.Widths.{width-high}
 use Rattle.text.proofs.ShownLaws.{shown-on, shown-first}
@@ -61,6 +62,11 @@ module _ (least most : ℕ) where
       and-true (within least most x) (allWithin least most (a ++ b)) (and-left (within least most x) (allWithin least most a) h)
       (all-append a b (and-right (within least most x) (allWithin least most a) h) g)
 
+  all-right : (a b : List ℕ) → allWithin least most (a ++ b) ≡ true → allWithin least most b ≡ true
+  unfolding allWithin
+  all-right [] b h = h
+  all-right (x ∷ a) b h = all-right a b (and-right (within least most x) (allWithin least most (a ++ b)) h)
+
   module _ (s : List ℕ) (at : ℕ) where
     pub run-begin : at < length s → RunTo least most s at at
     unfolding allWithin
@@ -81,6 +87,22 @@ module _ (least most : ℕ) where
           → RunTo least most s at (end + 8)
       run-eight h r e y = run-more 8 (omega (arith, run .inside)) (ap (λ q. allWithin least most (take 8 q)) (sym (part-to-end s end)) ∙ sym e ∙ y)
 
+      -- the last sixteen octets of the text, of which the run has the first already
+      pub run-last : 16 ≤ length s → length s - end < 16 → (r : Bool)
+          → r ≡ allWithin least most (take 16 (take (length s - (length s - 16)) (drop (length s - 16) s))) → r ≡ true → RunTo least most s at (length s)
+      run-last l h r e y =
+          let last = length s - 16 in
+          let old = 16 - (length s - end) in
+          let left = length s - end in
+          let whole : allWithin least most (take 16 (drop last s)) ≡ true = ap (λ q. allWithin least most (take 16 q)) (sym (part-to-end s last)) ∙ sym e ∙ y in
+          let sum : old + left ≡ 16 = omega arith in
+          let place : last + old ≡ end = omega (arith, run .inside) in
+          let to : end + left ≡ length s = omega (arith, run .inside) in
+          let split : take 16 (drop last s) ≡ take old (drop last s) ++ take left (drop end s) =
+          ap (λ (n : ℕ). take n (drop last s)) (sym sum) ∙ part-split s last old left ∙ ap (λ (i : ℕ). take old (drop last s) ++ take left (drop i s)) place in
+          let rest = all-right (take old (drop last s)) (take left (drop end s)) (ap (allWithin least most) (sym split) ∙ whole) in
+          subst (λ (n : ℕ). RunTo least most s at n) to (run-more left (omega (arith, run .inside)) rest)
+
       pub run-sixteen : 16 ≤ length s - end → (r : Bool) → r ≡ allWithin least most (take 16 (take (length s - end) (drop end s))) → r ≡ true
           → RunTo least most s at (end + 16)
       run-sixteen h r e y = run-more 16 (omega (arith, run .inside)) (ap (λ q. allWithin least most (take 16 q)) (sym (part-to-end s end)) ∙ sym e ∙ y)
@@ -96,7 +118,7 @@ module _ (least most : ℕ) where
 
 pub ruleset run-ways = (run-begin, run-eight, run-one)
 
-pub ruleset sixteen-ways = (run-begin, run-sixteen)
+pub ruleset sixteen-ways = (run-begin, run-sixteen, run-last)
 
 -- ---- what `are_sixteen_plain` answers
 all-both : (least most : ℕ) (a b : List ℕ) → allWithin least most (a ++ b) ≡ allWithin least most a && allWithin least most b
@@ -111,11 +133,14 @@ two-eights s a b p q =
     ∙ sym (ap (allWithin 0x20 0x7F) (part-split s 0 8 8) ∙ all-both 0x20 0x7F (take 8 s) (take 8 (drop 8 s)))
 
 -- ---- a text at a run: the octets of the run, and what comes behind it
+pub split-at : (s : List ℕ) (at end : ℕ) → at ≤ end → drop at s ≡ take (end - at) (drop at s) ++ drop end s
+split-at s at end h =
+    let place : at + (end - at) ≡ end = omega arith in
+    sym (take-append-drop (end - at) (drop at s)) ∙ ap (λ q. take (end - at) (drop at s) ++ q) (drop-drop (end - at) at s ∙ ap (λ (n : ℕ). drop n s) place)
+
 module _ (least most : ℕ) (s : List ℕ) (at end : ℕ) (run : RunTo least most s at end) where
   pub run-split : drop at s ≡ take (end - at) (drop at s) ++ drop end s
-  run-split =
-      let place : at + (end - at) ≡ end = omega (arith, run .onward) in
-      sym (take-append-drop (end - at) (drop at s)) ∙ ap (λ q. take (end - at) (drop at s) ++ q) (drop-drop (end - at) at s ∙ ap (λ (n : ℕ). drop n s) place)
+  run-split = split-at s at end (run .onward)
 
   pub run-length : length (take (end - at) (drop at s)) ≡ end - at
   run-length = length-part s at (end - at) (omega (arith, run .onward, run .inside))
@@ -132,8 +157,23 @@ plain-octets t (b ∷ p) r h =
     let w = bounds 0x20 0x7F b (and-left (within 0x20 0x7F b) (allWithin 0x20 0x7F p) h) in
     ascii-text t b (p ++ r) (w .0) (omega arith) ∙ plain-octets t p r (and-right (within 0x20 0x7F b) (allWithin 0x20 0x7F p) h)
 
-plain-run : (t : Bool) (s : List ℕ) (at end : ℕ) → PlainTo s at end → text t (drop at s) ≡ text t (drop end s)
-plain-run t s at end run = ap (text t) (run-split 0x20 0x7F s at end run) ∙ plain-octets t (take (end - at) (drop at s)) (drop end s) (run .all)
+pub plain-passed : (t : Bool) (s : List ℕ) (at end : ℕ) → PlainTo s at end → PassedTo t s at end
+plain-passed t s at end run =
+    record {
+      onward = run .onward;
+      inside = run .inside;
+      same = ap (text t) (run-split 0x20 0x7F s at end run) ∙ plain-octets t (take (end - at) (drop at s)) (drop end s) (run .all);
+    }
+
+-- nothing is passed over, or one part after another
+pub passed-none : (t : Bool) (s : List ℕ) (at : ℕ) → at < length s → PassedTo t s at at
+passed-none t s at h = record { onward = omega arith; inside = omega arith; same = refl }
+
+pub passed-join : (t : Bool) (s : List ℕ) (at from end : ℕ) → PassedTo t s at from → PassedTo t s from end → PassedTo t s at end
+passed-join t s at from end p q = record { onward = omega (arith, p .onward, q .onward); inside = q .inside; same = p .same ∙ q .same }
+
+pub passed-plain : (t : Bool) (s : List ℕ) (at from end : ℕ) → PassedTo t s at from → PlainTo s from end → PassedTo t s at end
+passed-plain t s at from end p q = passed-join t s at from end p (plain-passed t s from end q)
 
 -- octets above those of tokens: they need no table and stand for themselves
 no-tokens : (p : List ℕ) → allWithin 0x14 0xFF p ≡ true → covered [] p ≡ true
@@ -204,9 +244,9 @@ module _ (t : Bool) (s : List ℕ) where
   unfolding text utf8
   check-done at inv h = sym (inv .same ∙ ap (text t) (drop-of-length-le s h))
 
-  module _ (at from : ℕ) (inv : Holds t s at) (run : PlainTo s at from) where
+  module _ (at from : ℕ) (inv : Holds t s at) (run : PassedTo t s at from) where
     pub behind : Holds t s from
-    behind = record { within = run .inside; same = inv .same ∙ plain-run t s at from run }
+    behind = record { within = run .inside; same = inv .same ∙ run .same }
 
     pub check-end : from ≡ length s → true ≡ text t s
     check-end e = check-done from behind (omega arith)

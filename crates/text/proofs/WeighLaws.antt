@@ -28,7 +28,7 @@ use Rattle.text.proofs.Words.{high-octet}
 use Rattle.text.proofs.Masks.{bit-none, mark-one, kept-within, within-kept}
 use Rattle.text.proofs.ShownLaws.{shown-is}
 use Rattle.text.proofs.Replaced.{tag-present}
-use Rattle.text.proofs.RunLaws.{and-assoc, run-split, run-length, run-shown, tail-shown, bounds, Holds, check-done, check-stop, check-again, behind}
+use Rattle.text.proofs.RunLaws.{and-assoc, run-split, run-length, run-shown, tail-shown, bounds, plain-passed, Holds, check-done, check-stop, check-again, behind}
 
 -- ---- `is_marked`
 own-bit : (b t : ℕ) → bit (tokenBit b) t ≡ token t && eqb t b
@@ -154,7 +154,7 @@ module _ (marks : ℕ) (w s : List ℕ) (lim : Characters) where
           omega (arith, ap (shownBy w) split ∙ run-shown w part (drop from s) (run .all), run-length 0x20 0x7F s at from run) in
           record {
             within = run .inside;
-            same = behind true s at from (in-text at covers shown inv) run .same;
+            same = behind true s at from (in-text at covers shown inv) (plain-passed true s at from run) .same;
             short = g;
             covering =
                 inv .covering
@@ -170,7 +170,7 @@ module _ (marks : ℕ) (w s : List ℕ) (lim : Characters) where
       module _ (n : ℕ) (step : Steps true (take (length s - from) (drop from s)) n) where
         pub weigh-stop : n ≡ 0 → NoText ≡ weighedBy marks w s lim
         unfolding weighedBy
-        weigh-stop z = rw (← check-stop true s at from (in-text at covers shown inv) run n step z)
+        weigh-stop z = rw (← check-stop true s at from (in-text at covers shown inv) (plain-passed true s at from run) n step z)
 
         module _ (q : from ≡ length s → ⊥) (z : n ≡ 0 → ⊥) where
           some-left : 0 < length (drop from s)
@@ -187,7 +187,7 @@ module _ (marks : ℕ) (w s : List ℕ) (lim : Characters) where
           weigh-again m f more d k l j =
               record {
                 within = step-inside s at from run n step;
-                same = check-again true s at from (in-text at covers shown inv) run n step z .same;
+                same = check-again true s at from (in-text at covers shown inv) (plain-passed true s at from run) n step z .same;
                 short = j;
                 covering =
                     weigh-behind .covering

@@ -6,7 +6,7 @@ ghost use lib.Dec.{eqb};
 ghost use lib.ListN.{length};
 ghost use Rattle.text.specs.Text.{layout, token, character, single, text};
 ghost use Rattle.text.specs.Leaves.{following, several, tokenBit, Lead, Steps};
-use crate::runs::long_plain_end;
+use crate::links::passed_end;
 use octets::Characters;
 use octets::Octets;
 
@@ -158,14 +158,14 @@ pub fn sequence(s: &[u8], tokens: bool) -> usize
     0
 }
 
-// Valid text, in which token octets may stand or not. It passes over runs of octets that stand by themselves, and looks at what stands
-// between them a character at a time.
+// Valid text, in which token octets may stand or not. It passes over sixteen octets at a time as far as that goes, and looks at what stops it a character at a
+// time.
 pub fn check(s: &[u8], tokens: bool) -> bool
     ensures { λ r. ⌜ r ≡ text tokens (now (s .entry)) ⌝ }
 {
     let mut at: usize = 0;
     while at < s.len() {
-        let from = long_plain_end(s, at);
+        let from = passed_end(s, at, tokens);
         if from == s.len() {
             return true;
         }

@@ -2,6 +2,7 @@
 // table, gets the answer that the definition gives.
 mod characters;
 mod expanding;
+mod links;
 mod runs;
 mod shown;
 mod tables;

@@ -5,7 +5,7 @@ ghost use lib.ListN.{length, take};
 ghost use Rattle.text.specs.Runs.{within, allWithin, RunTo, PlainTo, UntokenedTo};
 
 // An octet between two bounds, both included.
-fn is_within(b: u8, least: u8, most: u8) -> bool
+pub fn is_within(b: u8, least: u8, most: u8) -> bool
     ensures { λ r. ⌜ r ≡ within least most b ⌝ }
 {
     (b >= least) & (b <= most)
@@ -78,8 +78,9 @@ fn are_sixteen_plain(s: &[u8]) -> bool
     are_eight_within(s, 0x20, 0x7F) & are_eight_within(&s[8..], 0x20, 0x7F)
 }
 
-// How far the run of such octets goes that begins at a place, by sixteens alone.
-fn sixteens_end(s: &[u8], at: usize) -> usize
+// How far the run of such octets goes that begins at a place, by sixteens alone. The last sixteen of the text may take in some that were passed already.
+pub fn sixteens_end(s: &[u8], at: usize) -> usize
+    requires { ⌜ 16 ≤ length (now s) ⌝ }
     requires { ⌜ at < length (now s) ⌝ }
     ensures { λ r. ⌜ PlainTo (now (s .entry)) at r ⌝ }
 {
@@ -90,19 +91,10 @@ fn sixteens_end(s: &[u8], at: usize) -> usize
         }
         end += 16;
     }
-    end
-}
-
-// As `plain_end`, for a text in which such runs are long. In texts with tokens and accents they end too soon for sixteens to pay.
-pub fn long_plain_end(s: &[u8], at: usize) -> usize
-    requires { ⌜ at < length (now s) ⌝ }
-    ensures { λ r. ⌜ PlainTo (now (s .entry)) at r ⌝ }
-{
-    let from = sixteens_end(s, at);
-    if from == s.len() {
-        return from;
+    if are_sixteen_plain(&s[s.len() - 16..]) {
+        return s.len();
     }
-    plain_end(s, from)
+    end
 }
 
 // The end of the run of octets above the last token.

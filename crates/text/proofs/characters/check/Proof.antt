@@ -14,8 +14,8 @@ abbrev μ-loop : tie.MeasureT-loop
 loop-holds : tie.Need-loop-holds Inv-loop μ-loop
 loop-holds c = search (check-ways, needs)
 
-long-plain-end-requires : tie.Need-long-plain-end-requires Inv-loop μ-loop
-long-plain-end-requires c κs = search needs
+passed-end-requires : tie.Need-passed-end-requires Inv-loop μ-loop
+passed-end-requires c κs = search needs
 
 returns : tie.Need-returns Inv-loop μ-loop
 returns c = search (check-ways, needs)
@@ -54,7 +54,7 @@ check-spec =
     Inv-loop
     μ-loop
     loop-holds
-    long-plain-end-requires
+    passed-end-requires
     returns
     sub-sequence
     part-sequence-start

@@ -1,9 +1,9 @@
+use borrow.Author.Needs.{needs}
 use Prim.Native.Nat.{_-_}
 use lib.ListN.{length}
 use borrow.Author.Tests.{not-false}
 use Rattle.text.specs.Runs.{PlainTo}
 use Rattle.text.proofs.RunLaws.{sixteen-ways}
-use borrow.Author.Needs.{needs}
 use Rattle.text.proofs.runs.sixteens_end.Statement.{statement}
 use Rattle.text.proofs.runs.sixteens_end.Tie as tie
 
@@ -43,8 +43,26 @@ loop-less c = search needs
 loop-again : tie.Need-loop-again Inv-loop μ-loop
 loop-again c = search (sixteen-ways, not-false, needs)
 
+sub-are-sixteen-plain-2 : tie.Need-sub-are-sixteen-plain-2 Inv-loop μ-loop
+sub-are-sixteen-plain-2 c = search needs
+
+sub-are-sixteen-plain-3 : tie.Need-sub-are-sixteen-plain-3 Inv-loop μ-loop
+sub-are-sixteen-plain-3 c = search needs
+
+part-are-sixteen-plain-start-2 : tie.Need-part-are-sixteen-plain-start-2 Inv-loop μ-loop
+part-are-sixteen-plain-start-2 c = search needs
+
+part-are-sixteen-plain-end-2 : tie.Need-part-are-sixteen-plain-end-2 Inv-loop μ-loop
+part-are-sixteen-plain-end-2 c = search needs
+
+are-sixteen-plain-requires-2 : tie.Need-are-sixteen-plain-requires-2 Inv-loop μ-loop
+are-sixteen-plain-requires-2 c κs = search (sixteen-ways, needs)
+
 returns-2 : tie.Need-returns-2 Inv-loop μ-loop
-returns-2 c = search needs
+returns-2 c = search (sixteen-ways, needs)
+
+returns-3 : tie.Need-returns-3 Inv-loop μ-loop
+returns-3 c = search needs
 
 pub sixteens-end-spec : {M : Type 1} → statement M
 sixteens-end-spec =
@@ -62,4 +80,10 @@ sixteens-end-spec =
     add-end
     loop-less
     loop-again
-    returns-2)
+    sub-are-sixteen-plain-2
+    sub-are-sixteen-plain-3
+    part-are-sixteen-plain-start-2
+    part-are-sixteen-plain-end-2
+    are-sixteen-plain-requires-2
+    returns-2
+    returns-3)
