@@ -1,4 +1,4 @@
--- The ways through the program's functions that aren't arithmetic alone: where octets first differ, and a normal form within its room.
+-- The ways through the program's functions that aren't arithmetic alone: where octets first differ, a normal form and an XML within their room.
 use mathlib.Core.Path.{_≡_, refl}
 use mathlib.Core.Bool.{false}
 use mathlib.Core.List.{List}
@@ -16,6 +16,8 @@ use Rattle.format.specs.declared.WriteAnswer.{WriteAnswer}
 use Rattle.format.specs.declared.WriteAnswer.the-variants.{Octets, NotWritten}
 use Rattle.format.specs.Answers.{writeOutcome}
 use Rattle.format.specs.Calls.{Lists, NormaliseClaim}
+use Rattle.xml.specs.Export.{ExportClaim}
+use Rattle.xml.proofs.Objects.{export-inside}
 use Rattle.writer.proofs.Normalised.{written-inside}
 use Rattle.spi.specs.Common.{common}
 use Rattle.spi.specs.declared.objects.Made.{Made}
@@ -58,7 +60,7 @@ module _ (a b : List ℕ) (i : ℕ) (v : Shared a b i) where
 
 pub ruleset shared-ways = (shared-begin, shared-first, shared-second, shared-differ, shared-again)
 
--- ---- a normal form
+-- ---- a normal form, and an XML
 
 -- what is handed out lies in the room
 pub normal-within : (o : List ℕ) (l l′ : Lists) (store store′ room room′ : List ℕ) (answer : WriteAnswer) → NormaliseClaim o l l′ store store′ room room′ answer
@@ -66,6 +68,11 @@ pub normal-within : (o : List ℕ) (l l′ : Lists) (store store′ room room′
 normal-within o l l′ store store′ room room′ (Octets n) c e r q =
     counts (r .size .0) room′ (omega (arith, q, written-inside o l l′ store store′ room room′ (Octets n) c n refl))
 normal-within o l l′ store store′ room room′ (NotWritten r₁) c e r q = counts (r .size .0) room′ (omega (arith, q))
+
+pub xml-within : (o room room′ : List ℕ) (answer : WriteAnswer) → ExportClaim o room room′ answer → length room′ ≡ length room
+    → (r : Made) → r .size .0 ≡ writeOutcome answer .count → Counts (r .size .0) room′
+xml-within o room room′ (Octets n) c e r q = counts (r .size .0) room′ (omega (arith, q, export-inside o room room′ n c))
+xml-within o room room′ (NotWritten r₁) c e r q = counts (r .size .0) room′ (omega (arith, q))
 
 -- ---- a number that isn't negative
 

@@ -79,12 +79,15 @@ pub fn say_accepted(path: &[u8], records: usize, size: Octets) {
     say(b"\n");
 }
 
-pub fn say_saved(path: &[u8], size: Octets, out: &[u8], normal: Octets) {
+// What was made of an object and where it was written.
+pub fn say_saved(path: &[u8], size: Octets, made: &[u8], made_size: Octets, out: &[u8]) {
     say(path);
     say(b": ");
     say_octets(size);
-    say(b"; normal form: ");
-    say_octets(normal);
+    say(b"; ");
+    say(made);
+    say(b": ");
+    say_octets(made_size);
     say(b", written to ");
     say(out);
     say(b"\n");

@@ -1,7 +1,7 @@
-// The command for people: checks objects in files, lists their records, writes their normal form, compares two. The script ./spi builds it and runs it, once a
+// The command for people: checks objects in files, lists their records, writes their normal form or XML, compares two. The script ./spi builds it and runs it, once a
 // pair of files where two folders are compared.
 //
-// What is said of an object is proved where it is found, in `judge`, `reader`, `compare`, `writer` and `show`; here every function is safe and ends. A program has no exit
+// What is said of an object is proved where it is found, in `judge`, `reader`, `compare`, `writer`, `xml` and `show`; here every function is safe and ends. A program has no exit
 // status, so the last line on standard output is a status of its own, which the script takes away and ends with.
 mod comparing;
 mod files;
@@ -20,9 +20,11 @@ use crate::lines::say_refused;
 use crate::lines::say_saved;
 use crate::memory::file_buffer;
 use crate::memory::room;
+use crate::memory::text_room;
 use crate::objects::check;
 use crate::objects::list;
 use crate::objects::normal_form;
+use crate::objects::xml_text;
 use crate::status::FAILED;
 use crate::status::GOOD;
 use crate::status::worse;
@@ -35,6 +37,7 @@ enum Task {
     Check,
     List,
     Normal,
+    Xml,
     Compare,
 }
 
@@ -45,10 +48,15 @@ fn usage(text: &[u8]) -> u8 {
     FAILED
 }
 
+fn usage_of_all() -> u8 {
+    usage(b"check | list | normal | xml | compare | help")
+}
+
 fn help() -> u8 {
     say(b"spi check FILE..        for each file: ok, or why it is refused and where\n");
     say(b"spi list FILE           the records of an object\n");
     say(b"spi normal FILE OUT     writes an object's normal form to the file OUT\n");
+    say(b"spi xml FILE OUT        writes an object's XML to the file OUT\n");
     say(b"spi compare FILE FILE   whether two objects mean the same\n");
     say(b"spi compare DIR DIR     the same of the objects in two folders, by file name\n");
     say(b"spi help                these lines\n");
@@ -56,21 +64,41 @@ fn help() -> u8 {
     GOOD
 }
 
-// An object's normal form to the file that the third argument names.
+// What was made of an object to the file that the third argument names.
+fn save_made(path: &[u8], object: &[u8], words: &[u8], made: &[u8]) -> u8 {
+    let mut out = io::buffer();
+    let name = os::arg(3, &mut out);
+    if !save(&out[..name], made) {
+        return FAILED;
+    }
+    say_saved(
+        path,
+        Octets(object.len()),
+        words,
+        Octets(made.len()),
+        &out[..name],
+    );
+    GOOD
+}
+
 fn save_normal(path: &[u8], object: &[u8]) -> u8 {
     let mut normal = room();
     let made = normal_form(object, &mut normal);
     if made.number > 0 {
         return say_refused(path, made.number, made.place);
     }
-    let mut out = io::buffer();
-    let name = os::arg(3, &mut out);
     let size = made.size.0;
-    if !save(&out[..name], &normal[..size]) {
-        return FAILED;
+    save_made(path, object, b"normal form", &normal[..size])
+}
+
+fn save_xml(path: &[u8], object: &[u8]) -> u8 {
+    let mut text = text_room();
+    let made = xml_text(object, &mut text);
+    if made.number > 0 {
+        return say_refused(path, made.number, made.place);
     }
-    say_saved(path, Octets(object.len()), &out[..name], made.size);
-    GOOD
+    let size = made.size.0;
+    save_made(path, object, b"XML", &text[..size])
 }
 
 // An object compared with that in the file that the third argument names.
@@ -91,6 +119,7 @@ fn treat(task: Task, path: &[u8], object: &[u8]) -> u8 {
         Task::Check => check(path, object),
         Task::List => list(path, object),
         Task::Normal => save_normal(path, object),
+        Task::Xml => save_xml(path, object),
         Task::Compare => compare_with(path, object),
     }
 }
@@ -122,7 +151,7 @@ fn no_such_command(command: &[u8]) -> u8 {
     io::write_all(STDERR_FILENO, b"spi: no such command: ");
     io::write_all(STDERR_FILENO, command);
     io::write_all(STDERR_FILENO, b"\n");
-    usage(b"check | list | normal | compare | help")
+    usage_of_all()
 }
 
 // A task on a command's first file, where the command has all its words.
@@ -148,6 +177,9 @@ fn obey(command: &[u8], count: usize) -> u8 {
     if is_word(command, b"normal") {
         return treat_first(Task::Normal, count == 4, b"normal FILE OUT");
     }
+    if is_word(command, b"xml") {
+        return treat_first(Task::Xml, count == 4, b"xml FILE OUT");
+    }
     if is_word(command, b"compare") {
         return treat_first(Task::Compare, count == 4, b"compare FILE FILE, or DIR DIR");
     }
@@ -160,7 +192,7 @@ fn obey(command: &[u8], count: usize) -> u8 {
 fn run() -> u8 {
     let count = os::arg_count();
     if count < 2 {
-        return usage(b"check | list | normal | compare | help");
+        return usage_of_all();
     }
     let mut command = io::buffer();
     let n = os::arg(1, &mut command);

@@ -8,6 +8,9 @@ const OBJECT: usize = 32_768;
 // One more octet than an object has, so that a larger file shows.
 const FILE: usize = 32_769;
 
+// An object without tokens has no longer an XML: its longest names, as an element within an element, write 37 octets for 2 of the object.
+const TEXT: usize = 655_360;
+
 const PLACES: usize = 16_384;
 
 pub fn file_buffer() -> [u8; FILE]
@@ -20,6 +23,12 @@ pub fn room() -> [u8; OBJECT]
     ensures { λ r. ⌜ 32_768 ≡ length r ⌝ }
 {
     [0; OBJECT]
+}
+
+pub fn text_room() -> [u8; TEXT]
+    ensures { λ r. ⌜ 655_360 ≡ length r ⌝ }
+{
+    [0; TEXT]
 }
 
 pub fn octet_places() -> [u8; PLACES]

@@ -15,7 +15,7 @@ ghost use mathlib.Core.Path.{_≡_};
 ghost use Rattle.format.specs.Answers.{writeOutcome};
 ghost use Rattle.io.specs.Counts.{Counts};
 
-// A normal form in a lent room: how many octets it has. Where there is none, the number and the place of the refusal, and no octets.
+// A normal form or an XML in a lent room: how many octets it has. Where there is none, the number and the place of the refusal, and no octets.
 pub struct Made {
     pub number: u8,
     pub place: usize,
@@ -148,4 +148,11 @@ pub fn normal_form(object: &[u8], lent: &mut [u8]) -> Made
         lent,
     );
     as_made(answer)
+}
+
+// The XML of an object in a lent room, likewise.
+pub fn xml_text(object: &[u8], lent: &mut [u8]) -> Made
+    ensures { λ r. ⌜ Counts (r .size .0) (now (lent .exit)) ⌝ }
+{
+    as_made(xml::export(object, lent))
 }

@@ -39,7 +39,7 @@ placeIn (suc k) P parent at (tag ∷ rest) =
 unfoldable pub placeAt : (ℕ → ℕ → Bool) → List ℕ → Option ℕ
 placeAt P o = placeIn (suc (length o)) P 0 0 o
 
--- the item whose tag lies at a place of the object, told as above: this ties the two walks together (proofs/Places, first-told)
+-- the item whose tag lies at a place of the object, told as above: this ties the two walks together (proofs/First, first-told)
 abbrev pub itemAt : List ℕ → ℕ → ℕ × ℕ × ℕ
 itemAt o place = (getD o place 0, place + headerSize (drop place o), bodySize (drop place o))
 
