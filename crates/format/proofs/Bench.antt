@@ -27,7 +27,7 @@ bench = refl
 -- the listing of 03 04 06 02 65 6E: an element at depth 1 with a body of 4 octets at 2, and one inside it of 2 octets at 4
 pub listing : listed (judge (0x03 ∷ 0x04 ∷ 0x06 ∷ 0x02 ∷ 0x65 ∷ 0x6E ∷ []))
     ≡ record { tag = 0x03; kind = 0; depth = 1; parent = 0; start = 2; size = 4 } ∷ record { tag = 0x06; kind = 0; depth = 2; parent = 0; start = 4; size = 2 } ∷ []
-unfolding among value digits headerSize bodySize layout token character single goesOn utf8 text cut entries filled isTable entry orItself stands expanded present covers covered starts shownLength rows kindIn known attribute fits find kindOf count records isKnown isItems isTokens isText isValue isTop allowed latest stageAfter limit notAbove shown ofTop rule first kindRules itemRules own late lateBefore lateAfter broken within waits next unless followed joined byKind items outermost judge listed
+unfolding among value digits headerSize bodySize layout token character single goesOn utf8 text cut entries filled isTable entry orItself stands expanded present covers covered starts shownLength rows kindIn known attribute fits find kindOf count records isKnown isItems isTokens isText isValue wrongIn isTop allowed latest stageAfter limit notAbove shown ofTop rule valueRule first kindRules itemRules own late lateBefore lateAfter broken within waits next unless followed joined byKind items outermost judge listed
 listing = refl
 
 -- the slips, each with the answer that the rules give
@@ -38,5 +38,5 @@ slipped = refl
 -- to the writer one top is a well-formed tree and two are not, a letter is a text and a token octet is not
 pub to-writer : (rebuilt twoTops 1 [] ≡ some (item 0x03 0 [] end end)) × (rebuilt twoTops 2 [] ≡ none)
     × (rebuilt topWithCdata 2 (0x61 ∷ []) ≡ some (item 0x03 0 [] (item 0x01 0 (0x61 ∷ []) end end) end)) × (rebuilt topWithCdata 2 (0x01 ∷ []) ≡ none)
-unfolding among layout token character single goesOn utf8 text stands expanded starts shownLength entry orItself rows kindIn known attribute fits kindOf isKnown isItems isTokens isText isValue isTop allowed latest stageAfter limit notAbove shown below past atTop placed bodyKeeps keeps bodyIn good here onward walk tree toEnd rebuilt opens twoTops topWithCdata
+unfolding among layout token character single goesOn utf8 text stands expanded starts shownLength entry orItself rows kindIn known attribute fits kindOf isKnown isItems isTokens isText isValue wrongIn isTop allowed latest stageAfter limit notAbove shown below past atTop placed bodyKeeps keeps bodyIn good here onward walk tree toEnd rebuilt opens twoTops topWithCdata
 to-writer = (refl, refl, refl, refl)

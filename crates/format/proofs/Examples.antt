@@ -20,5 +20,5 @@ write-outcomes = (refl, refl)
 
 -- which object was refused is told, and a refusal is not told as two meanings
 pub same-outcomes : (sameOutcome (SecondRefused (refusal 2 0)) ≡ sameOutcome (FirstRefused (refusal 2 0)) → ⊥)
-    × (sameOutcome (SecondRefused (refusal 2 0)) ≡ record { same = false; which = 0; number = 0; place = 0 } → ⊥)
+    × (sameOutcome (SecondRefused (refusal 2 0)) ≡ record { same = false; which = 0; number = 0; place = 0; field = 0 } → ⊥)
 same-outcomes = ((λ e. let z : _≡_ {A = ℕ} 2 1 = ap (λ x. x .which) e in omega arith), (λ e. let z : _≡_ {A = ℕ} 2 0 = ap (λ x. x .number) e in omega arith))

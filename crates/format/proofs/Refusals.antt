@@ -16,16 +16,19 @@ use Rattle.values.specs.Table.{known, attribute}
 use Rattle.format.specs.declared.Refusal.{Refusal}
 use Rattle.format.specs.Tree.{Items}
 use Rattle.format.specs.Tree.Items.{end, item}
-use Rattle.format.specs.Judge.{Judged, isKnown, isItems, isText, Context, ofTop, rule, first, kindRules, itemRules, own, late, lateBefore, lateAfter, broken, within, waits, next, unless, followed, joined, byKind, items, outermost, judge}
+use Rattle.format.specs.Judge.{Judged, isKnown, isItems, isText, isValue, wrongIn, Context, ofTop, rule, valueRule, first, kindRules, itemRules, own, late, lateBefore, lateAfter, broken, within, waits, next, unless, followed, joined, byKind, items, outermost, judge}
 use Rattle.format.specs.Judge.Judged.{refused, accepted}
+use Rattle.values.proofs.Fields.{field-few}
 use Rattle.format.proofs.Rules.{fitting}
 use Rattle.format.proofs.Induction.{bodyOf, laterOf, shorter}
 
--- a refusal inside an object of a size
+-- a refusal inside an object of a size; only 9 names a field, one of five
 pub record Inside (size : ℕ) (r : Refusal) : Type 0 where
   pub least : 1 ≤ r .number
   pub most : r .number ≤ 13
   pub place : r .place < size
+  pub field : r .field ≤ 5
+  pub nine : (r .number ≡ 9 → ⊥) → r .field ≡ 0
 
 abbrev Sited : ℕ → Option Refusal → Type 0
 Sited size none = Unit {0}
@@ -38,7 +41,17 @@ Answered size (accepted t) = Unit {0}
 sited-rule : (size n place : ℕ) (b : Bool) → 1 ≤ n → n ≤ 13 → (b ≡ false → place < size) → Sited size (rule n place b)
 unfolding rule
 sited-rule size n place true l m h = tt
-sited-rule size n place false l m h = record { least = l; most = m; place = h refl }
+sited-rule size n place false l m h = record { least = l; most = m; place = h refl; field = omega arith; nine = λ e. refl }
+
+sited-value : (size place field : ℕ) (b : Bool) → place < size → field ≤ 5 → Sited size (valueRule place field b)
+unfolding valueRule
+sited-value size place field true l m = tt
+sited-value size place field false l m = record { least = omega arith; most = omega arith; place = l; field = m; nine = λ e. absurd (e refl) }
+
+field-few-in : (k : Option Kind) (o : List ℕ) → wrongIn k o ≤ 5
+unfolding wrongIn
+field-few-in none o = omega arith
+field-few-in (some k) o = field-few k o
 
 sited-first : (size : ℕ) (x : Option Refusal) (xs : List (Option Refusal)) → Sited size x → Sited size (first xs) → Sited size (first (x ∷ xs))
 unfolding first
@@ -85,7 +98,7 @@ module _ (size : ℕ) (c : Context) (at tag : ℕ) (body : List ℕ) (l : at < s
   sited-kind : (k : Option Kind) → Sited size (kindRules c at tag body k)
   unfolding kindRules
   sited-kind k =
-      here 9 _ _ (omega arith) (omega arith) (here 10 _ _ (omega arith) (omega arith) (here 11 _ _ (omega arith) (omega arith) (here 12 _ _ (omega arith) (omega arith)
+      sited-first size _ _ (sited-value size at (wrongIn k body) (isValue k body) l (field-few-in k body)) (here 10 _ _ (omega arith) (omega arith) (here 11 _ _ (omega arith) (omega arith) (here 12 _ _ (omega arith) (omega arith)
       (last 13 _ (omega arith) (omega arith)))))
 
   sited-item : Sited size (itemRules c at tag body)

@@ -15,7 +15,7 @@ use Rattle.values.specs.Table.{known, attribute}
 use Rattle.format.specs.declared.Refusal.{Refusal}
 use Rattle.format.specs.Answers.{refusal}
 use Rattle.format.specs.Tree.{Items}
-use Rattle.format.specs.Judge.{Judged, isKnown, isTokens, isText, isValue, Context, allowed, latest, shown, ofTop, rule, first, kindRules, itemRules, own, lateBefore, lateAfter, broken, unless}
+use Rattle.format.specs.Judge.{Judged, isKnown, isTokens, isText, isValue, wrongIn, Context, allowed, latest, shown, ofTop, rule, valueRule, first, kindRules, itemRules, own, lateBefore, lateAfter, broken, unless}
 use Rattle.format.specs.Judge.Judged.{refused, accepted}
 
 pub first-head : (x : Option Refusal) (xs : List (Option Refusal)) → first (x ∷ xs) ≡ none → x ≡ none
@@ -37,6 +37,11 @@ pub rule-true : (n place : ℕ) (b : Bool) → rule n place b ≡ none → b ≡
 unfolding rule
 rule-true n place true h = refl
 rule-true n place false h = absurd (Option·some-ne-none (refusal n place) h)
+
+pub value-true : (place field : ℕ) (b : Bool) → valueRule place field b ≡ none → b ≡ true
+unfolding valueRule
+value-true place field true h = refl
+value-true place field false h = absurd (Option·some-ne-none (record { number = 9; place = place; field = field }) h)
 
 pub unless-none : (b : Option Refusal) (a : Judged) (t : Items) → unless b a ≡ accepted t → b ≡ none
 unfolding unless
@@ -70,7 +75,7 @@ kind-held c at tag body k q9 =
     let q12 = first-tail _ _ q11 in
     let q13 = first-tail _ _ q12 in
     record {
-      value = rule-true 9 at _ (first-head _ _ q9);
+      value = value-true at (wrongIn k body) _ (first-head _ _ q9);
       valid = rule-true 10 at _ (first-head _ _ q10);
       table = rule-true 11 at _ (first-head _ _ q11);
       covers = rule-true 12 at _ (first-head _ _ q12);
@@ -78,7 +83,7 @@ kind-held c at tag body k q9 =
     }
 
 pub held-kind : (c : Context) (at tag : ℕ) (body : List ℕ) (k : Option Kind) → KindHeld c tag body k → kindRules c at tag body k ≡ none
-unfolding kindRules first rule
+unfolding kindRules first rule valueRule
 held-kind c at tag body k h = rw (h .value, h .valid, h .table, h .covers, h .short)
 
 -- rules 6 to 13

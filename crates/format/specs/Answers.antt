@@ -11,9 +11,9 @@ use Rattle.format.specs.declared.SameAnswer.the-variants.{Same, Differen
 use Rattle.format.specs.declared.Outcome.{Outcome}
 use Rattle.format.specs.declared.SameOutcome.{SameOutcome}
 
--- a refusal of a number at a place
+-- a refusal of a number at a place that names no field of a time; only 9 can name one (change request 2026-04)
 abbrev pub refusal : ℕ → ℕ → Refusal
-refusal number place = record { number = number; place = place }
+refusal number place = record { number = number; place = place; field = 0 }
 
 -- number and place of a refusal, 0 and 0 where there is none; the count, of records or of octets, 0 after a refusal
 abbrev pub readOutcome : ReadAnswer → Outcome
@@ -26,7 +26,7 @@ writeOutcome (NotWritten r) = record { number = r .number; place = r .place; cou
 
 -- the same, with the object that was refused: 1 the first, 2 the second, 0 none
 abbrev pub sameOutcome : SameAnswer → SameOutcome
-sameOutcome Same = record { same = true; which = 0; number = 0; place = 0 }
-sameOutcome Different = record { same = false; which = 0; number = 0; place = 0 }
-sameOutcome (FirstRefused r) = record { same = false; which = 1; number = r .number; place = r .place }
-sameOutcome (SecondRefused r) = record { same = false; which = 2; number = r .number; place = r .place }
+sameOutcome Same = record { same = true; which = 0; number = 0; place = 0; field = 0 }
+sameOutcome Different = record { same = false; which = 0; number = 0; place = 0; field = 0 }
+sameOutcome (FirstRefused r) = record { same = false; which = 1; number = r .number; place = r .place; field = r .field }
+sameOutcome (SecondRefused r) = record { same = false; which = 2; number = r .number; place = r .place; field = r .field }

@@ -14,7 +14,7 @@ use Rattle.text.specs.Tokens.{Entries, entries, isTable, covered, shownLength}
 use Rattle.values.specs.declared.Kind.{Kind}
 use Rattle.values.specs.declared.Kind.the-variants.{HoldsItems, HoldsTokens, HoldsText, HoldsPlain, HoldsTime, HoldsBearer, HoldsNumber}
 use Rattle.values.specs.Table.{known, attribute}
-use Rattle.values.specs.Values.{fits}
+use Rattle.values.specs.Values.{fits, wrongField}
 use Rattle.format.specs.declared.Refusal.{Refusal}
 use Rattle.format.specs.Answers.{refusal}
 use Rattle.format.specs.Tree.{Items}
@@ -62,6 +62,10 @@ isText (some (HoldsNumber n)) = false
 unfoldable pub isValue : Option Kind → List ℕ → Bool
 isValue none o = true
 isValue (some k) o = fits k o
+
+unfoldable pub wrongIn : Option Kind → List ℕ → ℕ
+wrongIn none o = 0
+wrongIn (some k) o = wrongField k o
 
 -- where an item stands: the tag of its element (0 for the top, which has none), its depth, how far the order of that element has come, the tags of the items
 -- before it in that element, the entries of the token table so far, and the texts of the top's own attributes, with their places, that wait for the table
@@ -115,6 +119,11 @@ unfoldable pub rule : ℕ → ℕ → Bool → Option Refusal
 rule n place true = none
 rule n place false = some (refusal n place)
 
+-- rule 9 gives besides the field of a time that is wrong (change request 2026-04)
+unfoldable pub valueRule : (place field : ℕ) → Bool → Option Refusal
+valueRule place field true = none
+valueRule place field false = some (record { number = 9; place = place; field = field })
+
 -- of rules in the order in which they are judged, the first that is broken
 unfoldable pub first : List (Option Refusal) → Option Refusal
 first [] = none
@@ -125,7 +134,7 @@ first (some r ∷ rs) = some r
 -- attributes are excused from 12 here: they are held against the table later
 unfoldable pub kindRules : Context → ℕ → ℕ → List ℕ → Option Kind → Option Refusal
 kindRules c at tag body k =
-    first (rule 9 at (isValue k body)
+    first (valueRule at (wrongIn k body) (isValue k body)
     ∷ rule 10 at (not (isText k) || text true body)
     ∷ rule 11 at (not (isTokens k) || isTable body)
     ∷ rule 12 at (not (isText k) || (ofTop c tag || covered (c .table) body))

@@ -26,10 +26,12 @@ pub fn kind_of(tag: u8) -> u8
     if tag == 1 { 2 } else { 0 }
 }
 
-// A refusal: its number in document 01's table, and the offset that goes with it.
+// A refusal: its number in document 01's table, the offset that goes with it, and for 9 the field of a time that is wrong: 1 length, 2 date, 3 hours, 4 minutes,
+// 5 seconds. The field is 0 for other kinds and other refusals (change request 2026-04).
 pub struct Refusal {
     pub number: u8,
     pub place: usize,
+    pub field: u8,
 }
 
 // What reading counts.
@@ -67,6 +69,7 @@ pub struct Span {
 pub struct Outcome {
     pub number: u8,
     pub place: usize,
+    pub field: u8,
     pub count: usize,
 }
 
@@ -76,6 +79,7 @@ pub struct SameOutcome {
     pub which: u8,
     pub number: u8,
     pub place: usize,
+    pub field: u8,
 }
 
 impl ReadAnswer {
@@ -86,11 +90,13 @@ impl ReadAnswer {
             ReadAnswer::Records(counts) => Outcome {
                 number: 0,
                 place: 0,
+                field: 0,
                 count: counts.records,
             },
             ReadAnswer::NotRead(refusal) => Outcome {
                 number: refusal.number,
                 place: refusal.place,
+                field: refusal.field,
                 count: 0,
             },
         }
@@ -110,6 +116,7 @@ impl WriteAnswer {
             WriteAnswer::NotWritten(refusal) => Outcome {
                 number: refusal.number,
                 place: refusal.place,
+                field: refusal.field,
                 count: 0,
             },
         }
@@ -126,24 +133,28 @@ impl SameAnswer {
                 which: 0,
                 number: 0,
                 place: 0,
+                field: 0,
             },
             SameAnswer::Different => SameOutcome {
                 same: false,
                 which: 0,
                 number: 0,
                 place: 0,
+                field: 0,
             },
             SameAnswer::FirstRefused(refusal) => SameOutcome {
                 same: false,
                 which: 1,
                 number: refusal.number,
                 place: refusal.place,
+                field: refusal.field,
             },
             SameAnswer::SecondRefused(refusal) => SameOutcome {
                 same: false,
                 which: 2,
                 number: refusal.number,
                 place: refusal.place,
+                field: refusal.field,
             },
         }
     }

@@ -1,4 +1,4 @@
--- Times and bearers, computed: minus 0, local time over the first and the last day, the widths of a service id. Modules are checked by their names, so a wrong
+-- Times and bearers, computed: minus 0, the field that is wrong, local time over the first and the last day, the widths of a service id. Modules are checked by their names, so a wrong
 -- definition falls here first.
 use mathlib.Core.Path.{_≡_, refl}
 use mathlib.Core.Bool.{true, false}
@@ -6,7 +6,7 @@ use mathlib.Core.List.{[], _∷_}
 use lib.IntN.{pos, subℕ}
 use Rattle.octets.specs.Numbers.{value, digits}
 use Rattle.values.specs.declared.Ensemble.the-variants.{Absent, Present}
-use Rattle.values.specs.Times.{bits, longFlag, offsetFlag, offsetOctet, timeOf, inRange, isTime, localMinutes, localOf}
+use Rattle.values.specs.Times.{bits, longFlag, offsetFlag, offsetOctet, timeOf, inRange, isTime, wrongPart, wrongTime, localMinutes, localOf}
 use Rattle.values.specs.Bearers.{ensembleBit, ensembleOctets, bearerOctets}
 
 -- minus 0 is 0 (document 01, P14)
@@ -18,6 +18,13 @@ minus-zero = refl
 pub last-date : (isTime (0x61 ∷ 0xA7 ∷ 0xC0 ∷ 0x00 ∷ []) ≡ true) × (isTime (0x61 ∷ 0xA8 ∷ 0x00 ∷ 0x00 ∷ []) ≡ false)
 unfolding value bits longFlag offsetFlag offsetOctet timeOf inRange isTime
 last-date = (refl, refl)
+
+-- the field that is wrong (document 02, request 2026-04): a length hides all others, then the lowest of those that are out of range; minute 60 and second 60
+pub wrong-fields : (wrongTime (0x61 ∷ 0xA8 ∷ 0x06 ∷ 0x3C ∷ 0x00 ∷ []) ≡ 1) × (wrongTime (0x61 ∷ 0xA8 ∷ 0x0E ∷ 0x3C ∷ 0xF0 ∷ 0x00 ∷ []) ≡ 2)
+    × (wrongTime (0x30 ∷ 0xD4 ∷ 0x0E ∷ 0x3C ∷ 0xF0 ∷ 0x00 ∷ []) ≡ 3) × (wrongTime (0x30 ∷ 0xD4 ∷ 0x0D ∷ 0xFC ∷ 0xF0 ∷ 0x00 ∷ []) ≡ 4)
+    × (wrongTime (0x30 ∷ 0xD4 ∷ 0x0D ∷ 0xFB ∷ 0xF0 ∷ 0x00 ∷ []) ≡ 5) × (wrongTime (0x30 ∷ 0xD4 ∷ 0x0D ∷ 0xFB ∷ 0xEC ∷ 0x00 ∷ []) ≡ 0)
+unfolding value bits longFlag offsetFlag offsetOctet timeOf wrongPart wrongTime
+wrong-fields = (refl, refl, refl, refl, refl, refl)
 
 -- half an hour before the start of day 0 is on day -1, and an hour and a half after the end of day 99,999 on day 100,000
 pub day-before : localOf (record { day = 0; hour = 0; minute = 10; second = 5; minus = true; halves = 1 }) ≡ record { day = subℕ 0 1; hour = 23; minute = 40; second = 5 }

@@ -34,7 +34,7 @@ use Rattle.values.specs.declared.Put.the-variants.{Done, NoRoom, Invalid
 use Rattle.values.specs.declared.NormalSize.{NormalSize}
 use Rattle.values.specs.declared.NormalSize.the-variants as sized
 use Rattle.values.specs.Table.{known}
-use Rattle.values.specs.Times.{bits, longFlag, offsetFlag, offsetOctet, timeOf, inRange, isTime, canonical, sign, timeOctets}
+use Rattle.values.specs.Times.{bits, longFlag, offsetFlag, offsetOctet, timeOf, inRange, isTime, wrongTime, canonical, sign, timeOctets}
 use Rattle.values.specs.Bearers.{ensembleFlag, longSidFlag, ensembleOf, bearerOf, isBearer, ensembleOctets, bearerOctets}
 use Rattle.values.specs.Values.{width, fits, meant, octetsOf}
 use Rattle.values.specs.Values.Value.{octets, number, time, bearer}
@@ -71,17 +71,25 @@ module _ (s : List ℕ) (r : TakenTime) (e : r ≡ takenTime s) where
   unfolding takenTime
   time-taken t g = go (isTime s) refl (sym g ∙ e)
     where
-      go : (b : Bool) → isTime s ≡ b → ofTime.Good t ≡ cond b (ofTime.Good (timeOf s)) ofTime.Bad → TimeTaken s t
+      go : (b : Bool) → isTime s ≡ b → ofTime.Good t ≡ cond b (ofTime.Good (timeOf s)) (ofTime.Bad (wrongTime s)) → TimeTaken s t
       go true f q = record { fit = f; means = cc }
       go false f q = let z : _≡_ {A = ℕ} 0 1 = cc in absurd (omega arith)
 
-  pub time-refused : r ≡ ofTime.Bad → isTime s ≡ false
+  pub time-refused : (n : ℕ) → r ≡ ofTime.Bad n → isTime s ≡ false
   unfolding takenTime
-  time-refused g = go (isTime s) refl (sym g ∙ e)
+  time-refused n g = go (isTime s) refl (sym g ∙ e)
     where
-      go : (b : Bool) → isTime s ≡ b → ofTime.Bad ≡ cond b (ofTime.Good (timeOf s)) ofTime.Bad → b ≡ false
+      go : (b : Bool) → isTime s ≡ b → ofTime.Bad n ≡ cond b (ofTime.Good (timeOf s)) (ofTime.Bad (wrongTime s)) → b ≡ false
       go true f q = let z : _≡_ {A = ℕ} 0 1 = cc in absurd (omega arith)
       go false f q = refl
+
+  pub time-wrong : (n : ℕ) → r ≡ ofTime.Bad n → n ≡ wrongTime s
+  unfolding takenTime
+  time-wrong n g = go (isTime s) (sym g ∙ e)
+    where
+      go : (b : Bool) → ofTime.Bad n ≡ cond b (ofTime.Good (timeOf s)) (ofTime.Bad (wrongTime s)) → n ≡ wrongTime s
+      go true q = let z : _≡_ {A = ℕ} 0 1 = cc in absurd (omega arith)
+      go false q = cc
 
 -- the same of bearers
 pub record BearerTaken (s : List ℕ) (b : Bearer) : Type 0 where

@@ -1,5 +1,6 @@
 pub mod Shifts
 pub mod Times
+pub mod Fields
 pub mod TimeForm
 pub mod Bearers
 pub mod BearerForm

@@ -23,7 +23,7 @@ use Rattle.octets.proofs.Tests.{and-false}
 use Rattle.values.specs.declared.Time.{Time}
 use Rattle.values.specs.declared.Local.{Local}
 use Rattle.values.specs.declared.TakenTime.the-variants.{Good, Bad}
-use Rattle.values.specs.Times.{bits, longFlag, offsetFlag, offsetOctet, timeOf, inRange, isTime, canonical, sign, timeOctets, localMinutes, localOf}
+use Rattle.values.specs.Times.{bits, longFlag, offsetFlag, offsetOctet, timeOf, inRange, isTime, canonical, sign, timeOctets, localMinutes, localOf, wrongPart, wrongTime}
 use Rattle.values.specs.Layout.{firstBits, secondOctets, offsetOctets}
 use Rattle.values.specs.Calls.{takenTime}
 use Rattle.values.proofs.Shifts.{sets-append}
@@ -137,8 +137,8 @@ module _ (t : Time) where
 pub ruleset canonical-ways = (canonical-same, canonical-zero)
 
 -- a time taken from octets
-pub taken-short : (s : List ℕ) → length s < 4 → Bad ≡ takenTime s
-unfolding takenTime isTime
+pub taken-short : (s : List ℕ) → length s < 4 → Bad 1 ≡ takenTime s
+unfolding takenTime isTime wrongTime
 taken-short s h = rw (ne-eqb (length s) (4 + 2 * longFlag s + offsetFlag s) (λ e. omega arith)) refl
 
 module _ (s : List ℕ) (w : ℕ) (e : w ≡ value (take 4 s)) where
@@ -154,8 +154,8 @@ module _ (s : List ℕ) (w : ℕ) (e : w ≡ value (take 4 s)) where
   unfolding offsetFlag
   offset-flag = flag 12
 
-  pub taken-size : (length s ≡ 4 + 2 * bitAnd (w / 2 ^ 11) 1 + bitAnd (w / 2 ^ 12) 1 → ⊥) → Bad ≡ takenTime s
-  unfolding takenTime isTime
+  pub taken-size : (length s ≡ 4 + 2 * bitAnd (w / 2 ^ 11) 1 + bitAnd (w / 2 ^ 12) 1 → ⊥) → Bad 1 ≡ takenTime s
+  unfolding takenTime isTime wrongTime
   taken-size g = rw (ne-eqb (length s) (4 + 2 * longFlag s + offsetFlag s) (λ q. g (q ∙ ap₂ (λ x y. 4 + 2 * x + y) (sym long-flag) (sym offset-flag)))) refl
 
   module _ (second offset : ℕ) (minus : Bool)
@@ -188,9 +188,9 @@ module _ (s : List ℕ) (w : ℕ) (e : w ≡ value (take 4 s)) where
       unfolding takenTime isTime
       taken-good y = rw (size-is, ap inRange (sym made-is) ∙ sym v ∙ y) (ap Good made-is)
 
-      pub taken-bad : r ≡ false → Bad ≡ takenTime s
-      unfolding takenTime isTime
-      taken-bad y = rw (size-is, ap inRange (sym made-is) ∙ sym v ∙ y) refl
+      pub taken-bad : r ≡ false → (n : ℕ) → n ≡ wrongPart made → Bad n ≡ takenTime s
+      unfolding takenTime isTime wrongTime
+      taken-bad y n q = rw (size-is, ap inRange (sym made-is) ∙ sym v ∙ y) (ap Bad (q ∙ ap wrongPart made-is))
 
 pub ruleset take-ways = (taken-short, taken-size, taken-good, taken-bad)
 

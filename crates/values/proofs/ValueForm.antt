@@ -26,12 +26,13 @@ use Rattle.values.specs.declared.Put.{Put}
 use Rattle.values.specs.declared.Put.the-variants.{Done, NoRoom, Invalid}
 use Rattle.values.specs.declared.NormalSize.{NormalSize}
 use Rattle.values.specs.declared.NormalSize.the-variants as sized
-use Rattle.values.specs.Times.{timeOf, inRange, isTime, timeOctets}
+use Rattle.values.specs.Times.{timeOf, inRange, isTime, timeOctets, wrongTime}
 use Rattle.values.specs.Bearers.{bearerOf, isBearer, bearerOctets}
 use Rattle.values.specs.Values.{width, fits, meant, octetsOf}
 use Rattle.values.specs.Calls.{takenTime, takenBearer, bearerInRange, putAnswer, putOut, Puts, normalOctets, normalSize}
 use Rattle.values.proofs.Shifts.{put-no-room, put-done, put-room}
-use Rattle.values.proofs.Laws.{time-taken, time-refused, bearer-taken, bearer-refused, asItStands, stands-fits, stands-normal}
+use Rattle.values.proofs.Fields.{field-good}
+use Rattle.values.proofs.Laws.{time-taken, time-refused, bearer-taken, bearer-refused, asItStands, stands-fits, stands-normal, time-wrong}
 use Rattle.values.proofs.Times.{time-ok}
 use Rattle.values.proofs.Bearers.{bearer-ok}
 use Rattle.values.proofs.BearerForm.{ok-valid}
@@ -67,8 +68,8 @@ module _ (s : List ℕ) (r : TakenTime) (e : r ≡ takenTime s) where
   pub is-time : (t : Time) → r ≡ ofTime.Good t → true ≡ isTime s
   is-time t g = sym (time-taken s r e t g .fit)
 
-  pub no-time : r ≡ ofTime.Bad → false ≡ isTime s
-  no-time g = sym (time-refused s r e g)
+  pub no-time : (n : ℕ) → r ≡ ofTime.Bad n → false ≡ isTime s
+  no-time n g = sym (time-refused s r e n g)
 
   pub time-sized : (t : Time) (n : OctetCount) → r ≡ ofTime.Good t → n ≡ sizeOf (timeOctets t) → sized.Octets n ≡ normalSize HoldsTime s
   unfolding normalSize normalOctets fits meant octetsOf
@@ -76,9 +77,9 @@ module _ (s : List ℕ) (r : TakenTime) (e : r ≡ takenTime s) where
       let k = time-taken s r e t g in
       rw (k .fit) (ap sized.Octets (q ∙ ap (λ u. sizeOf (timeOctets u)) (k .means)))
 
-  pub time-not-sized : r ≡ ofTime.Bad → sized.NoValue ≡ normalSize HoldsTime s
+  pub time-not-sized : (n : ℕ) → r ≡ ofTime.Bad n → sized.NoValue ≡ normalSize HoldsTime s
   unfolding normalSize fits
-  time-not-sized g = rw (time-refused s r e g) refl
+  time-not-sized n g = rw (time-refused s r e n g) refl
 
   module _ (out : List ℕ) (at : ℕ) where
     pub time-put : (t : Time) (a : Put) (after : List ℕ) → r ≡ ofTime.Good t → Puts (inRange t) (timeOctets t) out at a after
@@ -90,11 +91,18 @@ module _ (s : List ℕ) (r : TakenTime) (e : r ≡ takenTime s) where
         let o : timeOctets t ≡ timeOctets (timeOf s) = ap timeOctets (k .means) in
         record { answered = p .answered ∙ ap₂ (λ x y. putAnswer x y out at) v o; holds = p .holds ∙ ap₂ (λ x y. putOut x y out at) v o }
 
-    pub time-not-put : r ≡ ofTime.Bad → Puts (fits HoldsTime s) (normalOctets HoldsTime s) out at Invalid out
+    pub time-not-put : (n : ℕ) → r ≡ ofTime.Bad n → Puts (fits HoldsTime s) (normalOctets HoldsTime s) out at Invalid out
     unfolding fits putAnswer putOut
-    time-not-put g = record { answered = rw (time-refused s r e g) refl; holds = rw (time-refused s r e g) refl }
+    time-not-put n g = record { answered = rw (time-refused s r e n g) refl; holds = rw (time-refused s r e n g) refl }
 
-pub ruleset time-ways = (is-time, no-time, time-sized, time-not-sized, time-put, time-not-put)
+  -- the field that is wrong
+  pub field-of-good : (t : Time) → r ≡ ofTime.Good t → 0 ≡ wrongTime s
+  field-of-good t g = field-good s (time-taken s r e t g .fit)
+
+  pub field-of-bad : (n : ℕ) → r ≡ ofTime.Bad n → n ≡ wrongTime s
+  field-of-bad n g = time-wrong s r e n g
+
+pub ruleset time-ways = (field-of-good, field-of-bad, is-time, no-time, time-sized, time-not-sized, time-put, time-not-put)
 
 -- a bearer that was taken, or not
 module _ (s : List ℕ) (r : TakenBearer) (e : r ≡ takenBearer s) where

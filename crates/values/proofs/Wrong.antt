@@ -21,9 +21,9 @@ use Rattle.values.specs.declared.Put.the-variants.{Done, NoRoom}
 use Rattle.values.specs.declared.NormalSize.{NormalSize}
 use Rattle.values.specs.declared.NormalSize.the-variants.{Octets, NoValue}
 use Rattle.values.specs.Table.{rows, kindIn, known, attribute}
-use Rattle.values.specs.Times.{bits, longFlag, offsetFlag, offsetOctet, timeOf, inRange, isTime, canonical, sign, timeOctets, localMinutes, localOf}
+use Rattle.values.specs.Times.{bits, longFlag, offsetFlag, offsetOctet, timeOf, inRange, isTime, wrongPart, wrongTime, canonical, sign, timeOctets, localMinutes, localOf}
 use Rattle.values.specs.Bearers.{ensembleFlag, longSidFlag, ensembleOf, bearerOf, isBearer, ensembleBit, ensembleOctets, bearerOctets}
-use Rattle.values.specs.Values.{width, fits, meant, octetsOf}
+use Rattle.values.specs.Values.{width, fits, wrongField, meant, octetsOf}
 use Rattle.values.specs.Calls.{asKnown, knownKind, takenTime, takenBearer, bearerInRange, putAnswer, putOut, Puts, normalOctets, normalSize}
 
 -- `is_attribute`: off by one on either side
@@ -48,13 +48,14 @@ pub attribute-anywhere : knownKind 0x02 0x80 ≡ knownKind 0x03 0x80 → ⊥
 unfolding knownKind asKnown known attribute kindIn rows
 attribute-anywhere h = let z : _≡_ {A = ℕ} 0 1 = cc in omega arith
 
--- `Time::take`: minus 0 kept apart from 0; date 100,000 taken; seconds made of the offset of a short time; reserved bits taken for date; a spare octet ignored
+-- `Time::take`: minus 0 kept apart from 0; date 100,000 taken; seconds made of the offset of a short time; reserved bits taken for date; a spare octet ignored;
+-- the date told where the length is wrong; of two fields the last
 abbrev at : ℕ → ℕ → Time
 at day second = record { day = day; hour = 0; minute = 0; second = second; minus = false; halves = 0 }
 
 abbrev minusOf : TakenTime → Bool
 minusOf (ofTime.Good t) = t .minus
-minusOf ofTime.Bad = false
+minusOf (ofTime.Bad n) = false
 
 pub minus-zero-kept : takenTime (0x30 ∷ 0xD4 ∷ 0x10 ∷ 0x00 ∷ 0x20 ∷ []) ≡ ofTime.Good (record { day = 50_000; hour = 0; minute = 0; second = 0; minus = true; halves = 0 }) → ⊥
 unfolding takenTime isTime inRange timeOf bits longFlag offsetFlag offsetOctet value
@@ -68,13 +69,21 @@ pub short-time-seconds : takenTime (0x30 ∷ 0xD4 ∷ 0x10 ∷ 0x00 ∷ 0x1F ∷
 unfolding takenTime isTime inRange timeOf bits longFlag offsetFlag offsetOctet value
 short-time-seconds h = let z : _≡_ {A = ℕ} 0 7 = cc in omega arith
 
-pub reserved-bit-dated : takenTime (0xB0 ∷ 0xD4 ∷ 0x00 ∷ 0x00 ∷ []) ≡ ofTime.Bad → ⊥
+pub reserved-bit-dated : (n : ℕ) → takenTime (0xB0 ∷ 0xD4 ∷ 0x00 ∷ 0x00 ∷ []) ≡ ofTime.Bad n → ⊥
 unfolding takenTime isTime inRange timeOf bits longFlag offsetFlag offsetOctet value
-reserved-bit-dated h = let z : _≡_ {A = ℕ} 0 1 = cc in omega arith
+reserved-bit-dated n h = let z : _≡_ {A = ℕ} 0 1 = cc in omega arith
 
 pub spare-octet-taken : takenTime (0x30 ∷ 0xD4 ∷ 0x00 ∷ 0x00 ∷ 0x00 ∷ []) ≡ ofTime.Good (at 50_000 0) → ⊥
 unfolding takenTime isTime inRange timeOf bits longFlag offsetFlag offsetOctet value
 spare-octet-taken h = let z : _≡_ {A = ℕ} 0 1 = cc in omega arith
+
+pub length-passed-over : takenTime (0x61 ∷ 0xA8 ∷ 0x00 ∷ 0x00 ∷ 0x00 ∷ []) ≡ ofTime.Bad 2 → ⊥
+unfolding takenTime isTime inRange timeOf wrongPart wrongTime bits longFlag offsetFlag offsetOctet value
+length-passed-over h = let z : _≡_ {A = ℕ} 1 2 = cc in omega arith
+
+pub last-field-told : takenTime (0x30 ∷ 0xD4 ∷ 0x06 ∷ 0x3C ∷ []) ≡ ofTime.Bad 4 → ⊥
+unfolding takenTime isTime inRange timeOf wrongPart wrongTime bits longFlag offsetFlag offsetOctet value
+last-field-told h = let z : _≡_ {A = ℕ} 3 4 = cc in omega arith
 
 -- `Time::valid`: date 100,000; second 60; 32 half hours; the last date refused
 pub late-date-valid : inRange (at 100_000 0) ≡ true → ⊥
@@ -202,6 +211,15 @@ empty-plain-refused h = true≢false h
 abbrev sizeIn : NormalSize → ℕ
 sizeIn (Octets n) = n .0
 sizeIn NoValue = 0
+
+-- `wrong_field`: a duration whose octets would be a time of a late date; a time without its field
+pub field-of-duration : wrongField (HoldsNumber Duration) (0x61 ∷ 0xA8 ∷ 0x00 ∷ 0x00 ∷ []) ≡ 2 → ⊥
+unfolding wrongField
+field-of-duration h = let z : _≡_ {A = ℕ} 0 2 = h in omega arith
+
+pub field-left-out : wrongField HoldsTime (0x61 ∷ 0xA8 ∷ 0x00 ∷ 0x00 ∷ []) ≡ 0 → ⊥
+unfolding wrongField wrongTime wrongPart timeOf bits longFlag offsetFlag offsetOctet value
+field-left-out h = let z : _≡_ {A = ℕ} 2 0 = h in omega arith
 
 -- `normal_size`: the octet of minus 0 counted; the size of octets that are no value
 pub minus-zero-counted : normalSize HoldsTime (0x30 ∷ 0xD4 ∷ 0x10 ∷ 0x00 ∷ 0x20 ∷ []) ≡ Octets (asOctets 5) → ⊥

@@ -21,7 +21,7 @@ use Rattle.values.specs.declared.Put.the-variants.{Done, NoRoom, Invalid
 use Rattle.values.specs.declared.NormalSize.{NormalSize}
 use Rattle.values.specs.declared.NormalSize.the-variants.{Octets, NoValue}
 use Rattle.values.specs.Table.{known}
-use Rattle.values.specs.Times.{timeOf, isTime}
+use Rattle.values.specs.Times.{timeOf, isTime, wrongTime}
 use Rattle.values.specs.Bearers.{bearerOf, isBearer}
 use Rattle.values.specs.Values.{fits, meant, octetsOf}
 
@@ -33,9 +33,9 @@ asKnown (some k) = Known k
 unfoldable pub knownKind : ℕ → ℕ → KnownKind
 knownKind parent tag = asKnown (known parent tag)
 
--- octets that keep rule 9 for a time give the time that they mean
+-- octets that keep rule 9 for a time give the time that they mean, and others the field of them that is wrong (change request 2026-04)
 unfoldable pub takenTime : List ℕ → TakenTime
-takenTime o = cond (isTime o) (ofTime.Good (timeOf o)) ofTime.Bad
+takenTime o = cond (isTime o) (ofTime.Good (timeOf o)) (ofTime.Bad (wrongTime o))
 
 -- octets that keep rule 9 for a bearer give the bearer that they mean
 unfoldable pub takenBearer : List ℕ → TakenBearer

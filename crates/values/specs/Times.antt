@@ -45,6 +45,15 @@ inRange t = leb (t .day) 99_999 && leb (t .hour) 23 && leb (t .minute) 59 && leb
 unfoldable pub isTime : List ℕ → Bool
 isTime o = eqb (length o) (4 + 2 * longFlag o + offsetFlag o) && inRange (timeOf o)
 
+-- the field of a time that is out of range: 2 date, 3 hours, 4 minutes, 5 seconds, the lowest that applies; 0 where none is (document 02, request 2026-04)
+unfoldable pub wrongPart : Time → ℕ
+wrongPart t = cond (leb (t .day) 99_999) (cond (leb (t .hour) 23) (cond (leb (t .minute) 59) (cond (leb (t .second) 59) 0 5) 4) 3) 2
+
+-- the field that is wrong in octets that should be a time: 1 where their length isn't what the flags say, which hides all others, or else that which is out of
+-- range. It is 0 exactly where rule 9 holds (proofs/Fields, `field-none`)
+unfoldable pub wrongTime : List ℕ → ℕ
+wrongTime o = cond (eqb (length o) (4 + 2 * longFlag o + offsetFlag o)) (wrongPart (timeOf o)) 1
+
 -- the time of the same meaning that reading octets gives: no minus at offset 0
 unfoldable pub canonical : Time → Time
 canonical t =

@@ -12,7 +12,7 @@ use Rattle.values.specs.declared.NumberKind.{NumberKind}
 use Rattle.values.specs.declared.NumberKind.the-variants.{Duration, ShortId, Enumerated, Integer}
 use Rattle.values.specs.declared.Time.{Time}
 use Rattle.values.specs.declared.Bearer.{Bearer}
-use Rattle.values.specs.Times.{timeOf, isTime, timeOctets}
+use Rattle.values.specs.Times.{timeOf, isTime, wrongTime, timeOctets}
 use Rattle.values.specs.Bearers.{bearerOf, isBearer, bearerOctets}
 
 -- how many octets a number has: a duration 2, in seconds (002, clause 4.7.5), a short id 3 (4.7.2), an enumerated value 1 (4.6), and index, version, numOfItems,
@@ -32,6 +32,16 @@ fits HoldsPlain o = true
 fits HoldsTime o = isTime o
 fits HoldsBearer o = isBearer o
 fits (HoldsNumber n) o = eqb (length o) (width n)
+
+-- the field that refusal 9 carries: of a time the one that is wrong, 0 of other kinds (change request 2026-04)
+unfoldable pub wrongField : Kind → List ℕ → ℕ
+wrongField HoldsItems o = 0
+wrongField HoldsTokens o = 0
+wrongField HoldsText o = 0
+wrongField HoldsPlain o = 0
+wrongField HoldsTime o = wrongTime o
+wrongField HoldsBearer o = 0
+wrongField (HoldsNumber n) o = 0
 
 -- what an attribute means: octets, expanded where they are text; a number in so many octets; a time; a bearer
 pub data Value : Type 0 where

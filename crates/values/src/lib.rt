@@ -13,6 +13,7 @@ pub use table::known_kind;
 pub use value_form::fits_kind;
 pub use value_form::normal_size;
 pub use value_form::put_normal;
+pub use value_form::wrong_field;
 
 // The kinds of number that document 01 names; each has a width of its own.
 pub enum NumberKind {
@@ -71,10 +72,10 @@ pub enum KnownKind {
     Known(Kind),
 }
 
-// The time that octets hold, if they hold one.
+// The time that octets hold, if they hold one, or else the field of them that is wrong: 1 length, 2 date, 3 hours, 4 minutes, 5 seconds.
 pub enum TakenTime {
     Good(Time),
-    Bad,
+    Bad(u8),
 }
 
 // The bearer that octets hold, if they hold one.

@@ -6,7 +6,7 @@ ghost use lib.Dec.{eqb};
 ghost use lib.ListN.{length, getD};
 ghost use lib.Seq.{sets};
 ghost use Rattle.octets.specs.Counts.{sizeOf};
-ghost use Rattle.values.specs.Times.{inRange, canonical, sign, timeOctets, localMinutes, localOf};
+ghost use Rattle.values.specs.Times.{inRange, wrongPart, canonical, sign, timeOctets, localMinutes, localOf};
 ghost use Rattle.values.specs.Layout.{firstBits, secondOctets, offsetOctets};
 ghost use Rattle.values.specs.Calls.{takenTime, Puts};
 use crate::Local;
@@ -26,14 +26,14 @@ impl Time {
         ensures { λ r. ⌜ r ≡ takenTime (now (s .entry)) ⌝ }
     {
         if s.len() < 4 {
-            return TakenTime::Bad;
+            return TakenTime::Bad(1);
         }
         let w = four_at(s, 0);
         let moved = (w >> 12) & 0x1;
         let long = (w >> 11) & 0x1;
         let size = (4 + 2 * long + moved) as usize;
         if s.len() != size {
-            return TakenTime::Bad;
+            return TakenTime::Bad(1);
         }
         let second = second_at(s, long);
         let offset = offset_at(s, long, moved);
@@ -49,7 +49,23 @@ impl Time {
         if t.valid() {
             return TakenTime::Good(t);
         }
-        TakenTime::Bad
+        TakenTime::Bad(t.wrong())
+    }
+
+    // The number of the lowest field that is out of range: 2 date, 3 hours, 4 minutes, 5 seconds; 0 where none is.
+    fn wrong(self) -> u8
+        ensures { λ r. ⌜ r ≡ wrongPart self ⌝ }
+    {
+        if self.day > 99_999 {
+            return 2;
+        }
+        if self.hour > 23 {
+            return 3;
+        }
+        if self.minute > 59 {
+            return 4;
+        }
+        if self.second > 59 { 5 } else { 0 }
     }
 
     // Date 0 to 99,999, hours to 23, minutes and seconds to 59, half hours to 31.

@@ -5,9 +5,9 @@ ghost use Prim.Native.Nat.{_+_, _≤_};
 ghost use lib.ListN.{length};
 ghost use lib.Seq.{sets};
 ghost use Rattle.values.specs.declared.Kind.the-variants.{HoldsTime, HoldsBearer, HoldsNumber};
-ghost use Rattle.values.specs.Times.{isTime};
+ghost use Rattle.values.specs.Times.{isTime, wrongTime};
 ghost use Rattle.values.specs.Bearers.{isBearer};
-ghost use Rattle.values.specs.Values.{width, fits};
+ghost use Rattle.values.specs.Values.{width, fits, wrongField};
 ghost use Rattle.values.specs.Calls.{normalOctets, normalSize, Puts};
 use crate::Bearer;
 use crate::Kind;
@@ -32,6 +32,30 @@ pub fn fits_kind(kind: Kind, s: &[u8]) -> bool
         Kind::HoldsTime => is_time(s),
         Kind::HoldsBearer => is_bearer(s),
         Kind::HoldsNumber(n) => has_width(n, s),
+    }
+}
+
+// The field that refusal 9 carries: of a time the one that is wrong, and 0 of other kinds (change request 2026-04).
+pub fn wrong_field(kind: Kind, s: &[u8]) -> u8
+    ensures { λ r. ⌜ r ≡ wrongField kind (now (s .entry)) ⌝ }
+{
+    match kind {
+        Kind::HoldsItems => 0,
+        Kind::HoldsTokens => 0,
+        Kind::HoldsText => 0,
+        Kind::HoldsPlain => 0,
+        Kind::HoldsTime => time_field(s),
+        Kind::HoldsBearer => 0,
+        Kind::HoldsNumber(_) => 0,
+    }
+}
+
+fn time_field(s: &[u8]) -> u8
+    ensures { λ r. ⌜ r ≡ wrongTime (now (s .entry)) ⌝ }
+{
+    match Time::take(s) {
+        TakenTime::Good(_) => 0,
+        TakenTime::Bad(field) => field,
     }
 }
 
@@ -70,7 +94,7 @@ fn is_time(s: &[u8]) -> bool
 {
     match Time::take(s) {
         TakenTime::Good(_) => true,
-        TakenTime::Bad => false,
+        TakenTime::Bad(_) => false,
     }
 }
 
@@ -106,7 +130,7 @@ fn time_size(s: &[u8]) -> NormalSize
 {
     match Time::take(s) {
         TakenTime::Good(t) => NormalSize::Octets(t.size()),
-        TakenTime::Bad => NormalSize::NoValue,
+        TakenTime::Bad(_) => NormalSize::NoValue,
     }
 }
 
@@ -133,7 +157,7 @@ fn put_time(s: &[u8], out: &mut [u8], at: usize) -> Put
 {
     match Time::take(s) {
         TakenTime::Good(t) => t.put(out, at),
-        TakenTime::Bad => Put::Invalid,
+        TakenTime::Bad(_) => Put::Invalid,
     }
 }
 

@@ -40,6 +40,9 @@ valid-requires c κs = search needs
 returns-3 : tie.Need-returns-3
 returns-3 c = search (take-ways, needs)
 
+wrong-requires : tie.Need-wrong-requires
+wrong-requires c κs = search needs
+
 returns-4 : tie.Need-returns-4
 returns-4 c = search (take-ways, needs)
 
@@ -59,4 +62,5 @@ take-spec =
     is-minus-requires
     valid-requires
     returns-3
+    wrong-requires
     returns-4)
