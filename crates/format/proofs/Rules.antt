@@ -13,7 +13,7 @@ use Rattle.text.specs.Tokens.{isTable, covered, shownLength}
 use Rattle.values.specs.declared.Kind.{Kind}
 use Rattle.values.specs.Table.{known, attribute}
 use Rattle.format.specs.declared.Refusal.{Refusal}
-use Rattle.format.specs.Answers.{refusal}
+use Rattle.format.specs.Answers.{refusal, wrongValue}
 use Rattle.format.specs.Tree.{Items}
 use Rattle.format.specs.Judge.{Judged, isKnown, isTokens, isText, isValue, wrongIn, Context, allowed, latest, shown, ofTop, rule, valueRule, first, kindRules, itemRules, own, lateBefore, lateAfter, broken, unless}
 use Rattle.format.specs.Judge.Judged.{refused, accepted}
@@ -41,7 +41,7 @@ rule-true n place false h = absurd (Option·some-ne-none (refusal n place) h)
 pub value-true : (place field : ℕ) (b : Bool) → valueRule place field b ≡ none → b ≡ true
 unfolding valueRule
 value-true place field true h = refl
-value-true place field false h = absurd (Option·some-ne-none (record { number = 9; place = place; field = field }) h)
+value-true place field false h = absurd (Option·some-ne-none (wrongValue place field) h)
 
 pub unless-none : (b : Option Refusal) (a : Judged) (t : Items) → unless b a ≡ accepted t → b ≡ none
 unfolding unless

@@ -11,18 +11,22 @@ use Rattle.format.specs.declared.SameAnswer.the-variants.{Same, Differen
 use Rattle.format.specs.declared.Outcome.{Outcome}
 use Rattle.format.specs.declared.SameOutcome.{SameOutcome}
 
--- a refusal of a number at a place that names no field of a time; only 9 can name one (change request 2026-04)
+-- a refusal of a number at a place, with no field
 abbrev pub refusal : ℕ → ℕ → Refusal
 refusal number place = record { number = number; place = place; field = 0 }
 
--- number and place of a refusal, 0 and 0 where there is none; the count, of records or of octets, 0 after a refusal
+-- refusal 9 at a place, with the field of a time that is wrong, 0 of a value of another kind (change request 2026-04)
+abbrev pub wrongValue : ℕ → ℕ → Refusal
+wrongValue place field = record { number = 9; place = place; field = field }
+
+-- number, place and field of a refusal, all 0 where there is none; the count, of records or of octets, 0 after a refusal
 abbrev pub readOutcome : ReadAnswer → Outcome
-readOutcome (Records counts) = record { number = 0; place = 0; count = counts .records }
-readOutcome (NotRead r) = record { number = r .number; place = r .place; count = 0 }
+readOutcome (Records counts) = record { number = 0; place = 0; field = 0; count = counts .records }
+readOutcome (NotRead r) = record { number = r .number; place = r .place; field = r .field; count = 0 }
 
 abbrev pub writeOutcome : WriteAnswer → Outcome
-writeOutcome (Octets n) = record { number = 0; place = 0; count = n .0 }
-writeOutcome (NotWritten r) = record { number = r .number; place = r .place; count = 0 }
+writeOutcome (Octets n) = record { number = 0; place = 0; field = 0; count = n .0 }
+writeOutcome (NotWritten r) = record { number = r .number; place = r .place; field = r .field; count = 0 }
 
 -- the same, with the object that was refused: 1 the first, 2 the second, 0 none
 abbrev pub sameOutcome : SameAnswer → SameOutcome

@@ -9,7 +9,7 @@ use Rattle.values.specs.Times.{timeOctets}
 use Rattle.values.specs.Calls.{takenTime}
 use Rattle.format.specs.declared.Record.{Record}
 use Rattle.format.specs.declared.Refusal.{Refusal}
-use Rattle.format.specs.Answers.{refusal}
+use Rattle.format.specs.Answers.{refusal, wrongValue}
 use Rattle.format.specs.Tree.{recordsOf, count}
 use Rattle.format.specs.Judge.{Judged, judge}
 use Rattle.format.specs.Judge.Judged.{refused, accepted}
@@ -28,7 +28,7 @@ reported (accepted t) = normally (count t) (normalOf t)
 
 unfoldable pub reportedTime : TakenTime → Outcome
 reportedTime (Good t) = timed t (timeOctets t)
-reportedTime Bad = noTime
+reportedTime (Bad field) = noTime
 
 -- what the definitions say of an object (true), or of octets taken as a time (false): both say whether it is accepted
 unfoldable pub outcome : Bool → List ℕ → Outcome
@@ -65,7 +65,8 @@ accented (suc n) = 0xC3 ∷ 0xA9 ∷ accented n
 -- what other encoders got wrong (document 01, Slips), and the rules beside them: a name of one token that expands to nine letters; a child that runs past its
 -- parent but not past the object; a token octet without an entry in an attribute of the top, before a broken item and before a table that has another entry;
 -- attributes in falling order; and the cases of change request 2026-01: a short name of eight letters of two octets passes and one of nine doesn't, and one of a
--- token that expands to eight letters in nine octets passes
+-- token that expands to eight letters in nine octets passes; and those of 2026-04: a time of wrong length, whose date, hours and minutes would be wrong too, one with
+-- a wrong date and all behind it, with wrong hours, with wrong minutes and with wrong seconds, and a number of wrong length, which has no field
 unfoldable pub slips : List (List ℕ × Outcome)
 slips =
     (0x03 ∷ 0x12 ∷ 0x04 ∷ 0x0B ∷ 0x01 ∷ 0x09 ∷ 0x61 ∷ 0x61 ∷ 0x61 ∷ 0x61 ∷ 0x61 ∷ 0x61 ∷ 0x61 ∷ 0x61 ∷ 0x61 ∷ 0x10 ∷ 0x03 ∷ 0x01 ∷ 0x01 ∷ 0x01 ∷ [], refuses (refusal 13 17))
@@ -76,6 +77,12 @@ slips =
     ∷ (0x03 ∷ 0x14 ∷ 0x10 ∷ 0x12 ∷ 0x01 ∷ 0x10 ∷ accented 8, normally 3 (0x03 ∷ 0x14 ∷ 0x10 ∷ 0x12 ∷ 0x01 ∷ 0x10 ∷ accented 8))
     ∷ (0x03 ∷ 0x16 ∷ 0x10 ∷ 0x14 ∷ 0x01 ∷ 0x12 ∷ accented 9, refuses (refusal 13 4))
     ∷ (0x03 ∷ 0x12 ∷ 0x04 ∷ 0x0B ∷ 0x01 ∷ 0x09 ∷ 0xC3 ∷ 0xA9 ∷ 0x61 ∷ 0x61 ∷ 0x61 ∷ 0x61 ∷ 0x61 ∷ 0x61 ∷ 0x61 ∷ 0x10 ∷ 0x03 ∷ 0x01 ∷ 0x01 ∷ 0x01 ∷ [], normally 3 (0x03 ∷ 0x0D ∷ 0x10 ∷ 0x0B ∷ 0x01 ∷ 0x09 ∷ 0xC3 ∷ 0xA9 ∷ 0x61 ∷ 0x61 ∷ 0x61 ∷ 0x61 ∷ 0x61 ∷ 0x61 ∷ 0x61 ∷ []))
+    ∷ (0x03 ∷ 0x07 ∷ 0x81 ∷ 0x05 ∷ 0x61 ∷ 0xA8 ∷ 0x06 ∷ 0x3C ∷ 0x00 ∷ [], refuses (wrongValue 2 1))
+    ∷ (0x03 ∷ 0x08 ∷ 0x81 ∷ 0x06 ∷ 0x61 ∷ 0xA8 ∷ 0x0E ∷ 0x3C ∷ 0xF0 ∷ 0x00 ∷ [], refuses (wrongValue 2 2))
+    ∷ (0x03 ∷ 0x08 ∷ 0x81 ∷ 0x06 ∷ 0x61 ∷ 0xA7 ∷ 0xCE ∷ 0x3C ∷ 0xF0 ∷ 0x00 ∷ [], refuses (wrongValue 2 3))
+    ∷ (0x03 ∷ 0x08 ∷ 0x81 ∷ 0x06 ∷ 0x61 ∷ 0xA7 ∷ 0xCD ∷ 0xFC ∷ 0xF0 ∷ 0x00 ∷ [], refuses (wrongValue 2 4))
+    ∷ (0x03 ∷ 0x08 ∷ 0x81 ∷ 0x06 ∷ 0x61 ∷ 0xA7 ∷ 0xCD ∷ 0xFB ∷ 0xF0 ∷ 0x00 ∷ [], refuses (wrongValue 2 5))
+    ∷ (0x03 ∷ 0x03 ∷ 0x80 ∷ 0x01 ∷ 0x00 ∷ [], refuses (wrongValue 2 0))
     ∷ []
 
 -- two tops, as records over no octets

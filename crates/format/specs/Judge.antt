@@ -16,7 +16,7 @@ use Rattle.values.specs.declared.Kind.the-variants.{HoldsItems, HoldsTokens, Ho
 use Rattle.values.specs.Table.{known, attribute}
 use Rattle.values.specs.Values.{fits, wrongField}
 use Rattle.format.specs.declared.Refusal.{Refusal}
-use Rattle.format.specs.Answers.{refusal}
+use Rattle.format.specs.Answers.{refusal, wrongValue}
 use Rattle.format.specs.Tree.{Items}
 use Rattle.format.specs.Tree.Items.{end, item}
 
@@ -63,6 +63,7 @@ unfoldable pub isValue : Option Kind → List ℕ → Bool
 isValue none o = true
 isValue (some k) o = fits k o
 
+-- which field of them is wrong, where they are none
 unfoldable pub wrongIn : Option Kind → List ℕ → ℕ
 wrongIn none o = 0
 wrongIn (some k) o = wrongField k o
@@ -119,10 +120,10 @@ unfoldable pub rule : ℕ → ℕ → Bool → Option Refusal
 rule n place true = none
 rule n place false = some (refusal n place)
 
--- rule 9 gives besides the field of a time that is wrong (change request 2026-04)
+-- rule 9 gives the field besides (change request 2026-04)
 unfoldable pub valueRule : (place field : ℕ) → Bool → Option Refusal
 valueRule place field true = none
-valueRule place field false = some (record { number = 9; place = place; field = field })
+valueRule place field false = some (wrongValue place field)
 
 -- of rules in the order in which they are judged, the first that is broken
 unfoldable pub first : List (Option Refusal) → Option Refusal

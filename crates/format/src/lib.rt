@@ -1,7 +1,7 @@
 // What the calls of the library share: records, refusals, counts, and the answers as enums. The rules are in specs/, the theorems in proofs/.
 ghost use mathlib.Core.Path.{_≡_};
 ghost use Rattle.format.specs.Tree.{kindOf};
-ghost use Rattle.format.specs.Answers.{readOutcome, writeOutcome, sameOutcome};
+ghost use Rattle.format.specs.Answers.{refusal, readOutcome, writeOutcome, sameOutcome};
 use octets::Octets;
 use values::is_attribute;
 
@@ -27,11 +27,22 @@ pub fn kind_of(tag: u8) -> u8
 }
 
 // A refusal: its number in document 01's table, the offset that goes with it, and for 9 the field of a time that is wrong: 1 length, 2 date, 3 hours, 4 minutes,
-// 5 seconds. The field is 0 for other kinds and other refusals (change request 2026-04).
+// 5 seconds. The field is 0 for values of other kinds and for other numbers (change request 2026-04).
 pub struct Refusal {
     pub number: u8,
     pub place: usize,
     pub field: u8,
+}
+
+// A refusal with no field, which all but that of a time have.
+pub fn refuse(number: u8, place: usize) -> Refusal
+    ensures { λ r. ⌜ r ≡ refusal number place ⌝ }
+{
+    Refusal {
+        number,
+        place,
+        field: 0,
+    }
 }
 
 // What reading counts.
@@ -65,7 +76,7 @@ pub struct Span {
     pub size: usize,
 }
 
-// Document 01's numbers for an answer: the refusal's number, 0 where there is none, its place, and the count, of records or of octets, 0 after a refusal.
+// Document 01's numbers for an answer: the refusal's number, 0 where there is none, its place and field, and the count, of records or of octets, 0 after a refusal.
 pub struct Outcome {
     pub number: u8,
     pub place: usize,
@@ -111,6 +122,7 @@ impl WriteAnswer {
             WriteAnswer::Octets(size) => Outcome {
                 number: 0,
                 place: 0,
+                field: 0,
                 count: size.0,
             },
             WriteAnswer::NotWritten(refusal) => Outcome {
