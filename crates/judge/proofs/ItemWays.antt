@@ -25,10 +25,10 @@ use Rattle.values.specs.declared.Kind.{Kind}
 use Rattle.values.proofs.Kind.{the-type}
 use Rattle.values.specs.declared.Kind.the-variants.{HoldsItems, HoldsTokens, HoldsText, HoldsPlain, HoldsTime, HoldsBearer, HoldsNumber}
 use Rattle.values.specs.Table.{known, attribute}
-use Rattle.values.specs.Values.{fits}
+use Rattle.values.specs.Values.{fits, wrongField}
 use Rattle.format.specs.declared.Refusal.{Refusal}
-use Rattle.format.specs.Answers.{refusal}
-use Rattle.format.specs.Judge.{isTop, isKnown, isText, isTokens, isValue, latest, limit, notAbove, shown, ofTop, rule, first, kindRules, itemRules}
+use Rattle.format.specs.Answers.{refusal, wrongValue}
+use Rattle.format.specs.Judge.{isTop, isKnown, isText, isTokens, isValue, wrongIn, latest, limit, notAbove, shown, ofTop, rule, valueRule, first, kindRules, itemRules}
 use Rattle.format.proofs.Rules.{first-one}
 use Rattle.values.specs.Calls.{asKnown, knownKind}
 use Rattle.values.specs.declared.KnownKind.{KnownKind}
@@ -101,9 +101,9 @@ module _ (parent tag place : ℕ) (table body : List ℕ) (marks : ℕ) (shows :
   abbrev Ruled : Option Refusal
   Ruled = kindRules (bare parent (entries table)) place tag body (some HoldsText)
 
-  pub text-bad : r ≡ NoText → checked (Broken (refusal 10 place)) ≡ Ruled
-  unfolding kindRules first rule checked isValue isText isTokens fits
-  text-bad f = rw (weighed-none (entries table) marks shows (told .marking) (told .showing) body (asCharacters 32_769) r e f)
+  pub text-bad : r ≡ NoText → (x : Refusal) → x ≡ refusal 10 place → checked (Broken x) ≡ Ruled
+  unfolding kindRules first rule valueRule checked isValue isText isTokens fits
+  text-bad f x m = rw (m, weighed-none (entries table) marks shows (told .marking) (told .showing) body (asCharacters 32_769) r e f)
 
   module _ (holds : Bool) (count : Characters) (f : r ≡ Text holds count) (t : Bool) (g : t ≡ ((attribute tag && isTop parent) || holds)) where
     is-text : text true body ≡ true
@@ -113,9 +113,9 @@ module _ (parent tag place : ℕ) (table body : List ℕ) (marks : ℕ) (shows :
     is-held =
         ap (λ b. (attribute tag && isTop parent) || b) (sym (weighed-covered (entries table) marks shows (told .marking) (told .showing) body (asCharacters 32_769) r e holds count f)) ∙ sym g
 
-    pub text-uncovered : t ≡ false → checked (Broken (refusal 12 place)) ≡ Ruled
-    unfolding kindRules first rule checked isValue isText isTokens fits ofTop
-    text-uncovered h = rw (is-text, is-held ∙ h)
+    pub text-uncovered : t ≡ false → (x : Refusal) → x ≡ refusal 12 place → checked (Broken x) ≡ Ruled
+    unfolding kindRules first rule valueRule checked isValue isText isTokens fits ofTop
+    text-uncovered h x m = rw (m, is-text, is-held ∙ h)
 
     module _ (h : t ≡ true) (u : Bool) (i : u ≡ shown parent tag count) where
       is-shown : shown parent tag (shownLength (entries table) body) ≡ u
@@ -123,12 +123,12 @@ module _ (parent tag place : ℕ) (table body : List ℕ) (marks : ℕ) (shows :
           sym (capped-shown parent tag (shownLength (entries table) body))
           ∙ ap (shown parent tag) (sym (weighed-shown (entries table) marks shows (told .marking) (told .showing) body (asCharacters 32_769) r e holds count f)) ∙ sym i
 
-      pub text-long : u ≡ false → checked (Broken (refusal 13 place)) ≡ Ruled
-      unfolding kindRules first rule checked isValue isText isTokens fits ofTop
-      text-long j = rw (is-text, is-held ∙ h, is-shown ∙ j)
+      pub text-long : u ≡ false → (x : Refusal) → x ≡ refusal 13 place → checked (Broken x) ≡ Ruled
+      unfolding kindRules first rule valueRule checked isValue isText isTokens fits ofTop
+      text-long j x m = rw (m, is-text, is-held ∙ h, is-shown ∙ j)
 
       pub text-good : u ≡ true → checked Kept ≡ Ruled
-      unfolding kindRules first rule checked isValue isText isTokens fits ofTop
+      unfolding kindRules first rule valueRule checked isValue isText isTokens fits ofTop
       text-good j = rw (is-text, is-held ∙ h, is-shown ∙ j)
 
 pub ruleset text-ways = (text-bad, text-uncovered, text-long, text-good)
@@ -139,31 +139,31 @@ module _ (parent tag place : ℕ) (table body : List ℕ) (k : Kind) where
   Kinds = kindRules (bare parent (entries table)) place tag body
 
   pub kind-items : k ≡ HoldsItems → checked Kept ≡ Kinds (some k)
-  unfolding kindRules first rule checked isValue isText isTokens fits
+  unfolding kindRules first rule valueRule checked isValue isText isTokens fits
   kind-items q = rw q
 
   pub kind-plain : k ≡ HoldsPlain → checked Kept ≡ Kinds (some k)
-  unfolding kindRules first rule checked isValue isText isTokens fits
+  unfolding kindRules first rule valueRule checked isValue isText isTokens fits
   kind-plain q = rw q
 
   pub kind-text : k ≡ HoldsText → (r : Check) → checked r ≡ Kinds (some HoldsText) → checked r ≡ Kinds (some k)
   kind-text q r h = rw q h
 
   pub kind-table : k ≡ HoldsTokens → (t : Bool) → t ≡ isTable body → t ≡ true → checked Kept ≡ Kinds (some k)
-  unfolding kindRules first rule checked isValue isText isTokens fits
+  unfolding kindRules first rule valueRule checked isValue isText isTokens fits
   kind-table q t g h = rw (q, sym g ∙ h)
 
-  pub kind-no-table : k ≡ HoldsTokens → (t : Bool) → t ≡ isTable body → t ≡ false → checked (Broken (refusal 11 place)) ≡ Kinds (some k)
-  unfolding kindRules first rule checked isValue isText isTokens fits
-  kind-no-table q t g h = rw (q, sym g ∙ h)
+  pub kind-no-table : k ≡ HoldsTokens → (t : Bool) → t ≡ isTable body → t ≡ false → (x : Refusal) → x ≡ refusal 11 place → checked (Broken x) ≡ Kinds (some k)
+  unfolding kindRules first rule valueRule checked isValue isText isTokens fits
+  kind-no-table q t g h x m = rw (m, q, sym g ∙ h)
 
   module _ (b : Bool) (e : b ≡ fits k body) where
-    pub kind-misfit : b ≡ false → checked (Broken (refusal 9 place)) ≡ Kinds (some k)
-    unfolding kindRules first rule checked isValue
-    kind-misfit f = rw (sym e ∙ f)
+    pub kind-misfit : b ≡ false → (n : ℕ) → n ≡ wrongField k body → checked (Broken (wrongValue place n)) ≡ Kinds (some k)
+    unfolding kindRules first valueRule checked isValue wrongIn
+    kind-misfit f n q = rw (sym e ∙ f, q)
 
     value-kind : b ≡ true → isText (some k) ≡ false → isTokens (some k) ≡ false → checked Kept ≡ Kinds (some k)
-    unfolding kindRules first rule checked isValue
+    unfolding kindRules first rule valueRule checked isValue
     value-kind f x y = rw (sym e ∙ f, x, y)
 
 -- the arm `_` of a match on an enum knows which variants are left: their numbers, in the order in which the enum declares them
@@ -258,7 +258,7 @@ pub ruleset is-text-ways = (text-is, text-isnt, text-unknown)
 -- rules 9 to 13, and rule 8, for what the lookup answers
 module _ (known : KnownKind) where
   pub body-unknown : (parent tag place : ℕ) (table body : List ℕ) → known ≡ Unknown → checked Kept ≡ kindRules (bare parent (entries table)) place tag body (asKind known)
-  unfolding kindRules first rule checked isValue isText isTokens asKind
+  unfolding kindRules first rule valueRule checked isValue isText isTokens asKind
   body-unknown parent tag place table body e = rw e
 
   pub body-known : (parent tag place : ℕ) (table body : List ℕ) (k : Kind) → known ≡ Known k → (r : Check)
@@ -280,22 +280,22 @@ pub ruleset twice-ways = (twice-unknown, twice-known)
 
 -- rules 6 to 13
 module _ (parent tag left : ℕ) (progress : Progress) (place : ℕ) (table body : List ℕ) (l : ℕ) (e : l ≡ latest tag) where
-  pub item-late : l < progress .stage → ItemSays parent tag left progress place table body (Broken (refusal 6 place))
+  pub item-late : l < progress .stage → (x : Refusal) → x ≡ refusal 6 place → ItemSays parent tag left progress place table body (Broken x)
   unfolding ItemSays itemRules first rule checked
-  item-late h seen waiting s = rw (lt-leb (progress .stage) (latest tag) (rw e at h))
+  item-late h x m seen waiting s = rw (m, lt-leb (progress .stage) (latest tag) (rw e at h))
 
   module _ (h : progress .stage ≤ l) (d : Bool) (f : d ≡ withinDepth tag (depthOf left)) where
-    pub item-deep : d ≡ false → ItemSays parent tag left progress place table body (Broken (refusal 7 place))
+    pub item-deep : d ≡ false → (x : Refusal) → x ≡ refusal 7 place → ItemSays parent tag left progress place table body (Broken x)
     unfolding ItemSays itemRules first rule checked
-    item-deep g seen waiting s = rw (le-leb (progress .stage) (latest tag) (rw e at h), sym f ∙ g)
+    item-deep g x m seen waiting s = rw (m, le-leb (progress .stage) (latest tag) (rw e at h), sym f ∙ g)
 
     module _ (g : d ≡ true) (k : KnownKind) (ke : k ≡ knownKind parent tag) (t : Bool) (i : t ≡ (isKnown (asKind k) && hasBit (progress .mask) tag)) where
       twice : (seen : List ℕ) → Seen parent (progress .mask) seen → (attribute tag && isKnown (known parent tag) && among tag seen) ≡ t
       twice seen s = twice-is parent (progress .mask) tag seen s ∙ ap (λ (o : Option Kind). isKnown o && hasBit (progress .mask) tag) (sym (kind-known k parent tag ke)) ∙ sym i
 
-      pub item-twice : t ≡ true → ItemSays parent tag left progress place table body (Broken (refusal 8 place))
+      pub item-twice : t ≡ true → (x : Refusal) → x ≡ refusal 8 place → ItemSays parent tag left progress place table body (Broken x)
       unfolding ItemSays itemRules first rule checked
-      item-twice j seen waiting s = rw (le-leb (progress .stage) (latest tag) (rw e at h), sym f ∙ g, twice seen s ∙ j)
+      item-twice j x m seen waiting s = rw (m, le-leb (progress .stage) (latest tag) (rw e at h), sym f ∙ g, twice seen s ∙ j)
 
       pub item-kind : t ≡ false → (r : Check) → checked r ≡ kindRules (bare parent (entries table)) place tag body (asKind k) → ItemSays parent tag left progress place table body r
       unfolding ItemSays itemRules first rule kindRules ofTop

@@ -17,6 +17,7 @@ use Rattle.octets.proofs.Lists.{part-to-end}
 use Rattle.text.specs.Tokens.{Entries, entries, covered}
 use Rattle.values.specs.declared.Kind.{Kind}
 use Rattle.values.specs.Table.{known}
+use Rattle.format.specs.declared.Refusal.{Refusal}
 use Rattle.format.specs.Answers.{refusal}
 use Rattle.format.specs.Judge.{isText, rule, first, late, waits}
 use Rattle.format.proofs.Rules.{first-one}
@@ -172,9 +173,9 @@ module _ (part : List ℕ) (run parent base : ℕ) (table : List ℕ) where
                 ∙ late-waits (entries table) (known parent (getD (drop at part) 0 0)) (base + at) (take size (drop start (drop at part))) (nx (q .later) (q .there) .later)
                 ∙ ap (λ (x : Bool). first (rule 12 (base + at) x ∷ late (entries table) (nx (q .later) (q .there) .later) ∷ [])) tested
 
-            pub late-found : b ≡ false → LateSays true part run parent base table (Broken (refusal 12 (base + at)))
+            pub late-found : b ≡ false → (x : Refusal) → x ≡ refusal 12 (base + at) → LateSays true part run parent base table (Broken x)
             unfolding first rule checked
-            late-found i = concluded (Broken (refusal 12 (base + at))) (λ ws q. stepped ws q ∙ rw i)
+            late-found i x m = concluded (Broken x) (λ ws q. stepped ws q ∙ rw (i, m))
 
             pub late-next : b ≡ true → Scans part run parent base table (at + start + size)
             unfolding first rule

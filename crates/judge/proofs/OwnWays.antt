@@ -56,17 +56,17 @@ module _ (parent left : ℕ) (progress : Progress) (table : List ℕ) (place : �
   abbrev R : Option Refusal → Type 0
   R = OwnIs parent left progress table place s
 
-  pub own-2 : (r : Header) → r ≡ headerOf s → r ≡ Past → Says R parent progress s (Bad (refusal 2 place))
+  pub own-2 : (r : Header) → r ≡ headerOf s → r ≡ Past → (x : Refusal) → x ≡ refusal 2 place → Says R parent progress s (Bad x)
   unfolding Says OwnIs ownOf own first rule
-  own-2 r e f seen waiting z = rw (lt-leb (headerSize s) (length s) (header-past s r e f))
+  own-2 r e f x m seen waiting z = rw (m, lt-leb (headerSize s) (length s) (header-past s r e f))
 
   module _ (start size : ℕ) (fr : Framed s start size) where
     head-in : leb (headerSize s) (length s) ≡ true
     head-in = le-leb (headerSize s) (length s) (omega arith)
 
-    pub own-3 : length s - start < size → Says R parent progress s (Bad (refusal 3 place))
+    pub own-3 : length s - start < size → (x : Refusal) → x ≡ refusal 3 place → Says R parent progress s (Bad x)
     unfolding Says OwnIs ownOf own first rule
-    own-3 h seen waiting z = rw (head-in, lt-leb (headerSize s + bodySize s) (length s) (omega arith))
+    own-3 h x m seen waiting z = rw (m, head-in, lt-leb (headerSize s + bodySize s) (length s) (omega arith))
 
     pub own-octet : 0 < length s
     own-octet = omega (arith, header-two s)
@@ -79,9 +79,9 @@ module _ (parent left : ℕ) (progress : Progress) (table : List ℕ) (place : �
         body-in : leb (headerSize s + bodySize s) (length s) ≡ true
         body-in = le-leb (headerSize s + bodySize s) (length s) (omega arith)
 
-        pub own-4 : a ≡ false → Says R parent progress s (Bad (refusal 4 place))
+        pub own-4 : a ≡ false → (x : Refusal) → x ≡ refusal 4 place → Says R parent progress s (Bad x)
         unfolding Says OwnIs ownOf own first rule
-        own-4 i seen waiting z = rw (head-in, body-in, ap (allowed parent) (sym t) ∙ sym b ∙ i)
+        own-4 i x m seen waiting z = rw (m, head-in, body-in, ap (allowed parent) (sym t) ∙ sym b ∙ i)
 
         module _ (i : a ≡ true) (v : Bool) (j : v ≡ (eqb parent 0 && ltb (start + size) (length s))) where
           five : (not (eqb parent 0) || leb (length s) (headerSize s + bodySize s)) ≡ not v
@@ -90,9 +90,9 @@ module _ (parent left : ℕ) (progress : Progress) (table : List ℕ) (place : �
           whole-at : place + headerSize s + bodySize s ≡ place + (start + size)
           whole-at = omega arith
 
-          pub own-5 : v ≡ true → Says R parent progress s (Bad (refusal 5 (place + (start + size))))
+          pub own-5 : v ≡ true → (x : Refusal) → x ≡ refusal 5 (place + (start + size)) → Says R parent progress s (Bad x)
           unfolding Says OwnIs ownOf own first rule
-          own-5 k seen waiting z = rw (head-in, body-in, ap (allowed parent) (sym t) ∙ sym b ∙ i, five ∙ ap not k) (ap (λ (x : ℕ). some (refusal 5 x)) whole-at)
+          own-5 k x m seen waiting z = rw (m, head-in, body-in, ap (allowed parent) (sym t) ∙ sym b ∙ i, five ∙ ap not k) (ap (λ (y : ℕ). some (refusal 5 y)) whole-at)
 
           module _ (k : v ≡ false) (w : Check) (l : ItemSays parent tag left progress place table (take (start + size - start) (drop start s)) w) where
             all : R (checked w)

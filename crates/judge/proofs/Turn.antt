@@ -392,13 +392,13 @@ part-most part base from to (Records n) h g b = omega (arith, length-take (to - 
 part-most part base from to (NotRead r) h g b = tt
 
 -- the object
-pub judge-empty : (o : List ℕ) → length o ≡ 0 → NotRead (refusal 1 0) ≡ judgeAnswer (judge o)
+pub judge-empty : (o : List ℕ) → length o ≡ 0 → (x : Refusal) → x ≡ refusal 1 0 → NotRead x ≡ judgeAnswer (judge o)
 unfolding judge unless rule judgeAnswer
-judge-empty o h = rw h
+judge-empty o h x m = rw (m, h)
 
-pub judge-large : (o : List ℕ) → 32_768 < length o → NotRead (refusal 1 0) ≡ judgeAnswer (judge o)
+pub judge-large : (o : List ℕ) → 32_768 < length o → (x : Refusal) → x ≡ refusal 1 0 → NotRead x ≡ judgeAnswer (judge o)
 unfolding judge unless rule judgeAnswer
-judge-large o h = rw (le-leb 1 (length o) (omega arith), lt-leb (length o) 32_768 h)
+judge-large o h x m = rw (m, le-leb 1 (length o) (omega arith), lt-leb (length o) 32_768 h)
 
 -- counting from nothing
 from-nothing : (a : Judged) → counted (record { records = 0 }) a ≡ judgeAnswer a

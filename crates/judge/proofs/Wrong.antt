@@ -1,5 +1,5 @@
 -- Wrong answers of `judge`, each refuted at a closed object by what its contract says.
-use mathlib.Core.Path.{_≡_, refl, sym, _∙_}
+use mathlib.Core.Path.{_≡_, refl, sym, ap, _∙_}
 use mathlib.Core.List.{List, [], _∷_}
 use Prim.Native.Nat.{ℕ}
 use native.Mathlib.Omega.{arith}
@@ -8,13 +8,15 @@ use Rattle.octets.specs.Header.{headerSize, bodySize}
 use Rattle.text.specs.Text.{layout, token, character, single, goesOn, utf8, text}
 use Rattle.text.specs.Tokens.{cut, entries, filled, isTable, entry, orItself, stands, expanded, present, covers, covered, starts, shownLength}
 use Rattle.values.specs.Table.{rows, kindIn, known, attribute}
-use Rattle.values.specs.Values.{width, fits}
+use Rattle.values.specs.Times.{bits, longFlag, offsetFlag, offsetOctet, timeOf, inRange, isTime, wrongPart, wrongTime}
+use Rattle.values.specs.Values.{width, fits, wrongField}
 use Rattle.format.specs.declared.Refusal.{Refusal}
 use Rattle.format.specs.declared.Counts.{Counts}
+use Rattle.format.specs.declared.ReadAnswer.{ReadAnswer}
 use Rattle.format.specs.declared.ReadAnswer.the-variants.{Records, NotRead}
-use Rattle.format.specs.Answers.{refusal}
+use Rattle.format.specs.Answers.{refusal, wrongValue}
 use Rattle.format.specs.Tree.{count}
-use Rattle.format.specs.Judge.{isKnown, isItems, isTokens, isText, isValue, isTop, allowed, latest, stageAfter, limit, notAbove, shown, ofTop, rule, first, kindRules, itemRules, own, late, lateBefore, lateAfter, broken, within, waits, next, unless, followed, joined, byKind, items, outermost, judge}
+use Rattle.format.specs.Judge.{isKnown, isItems, isTokens, isText, isValue, wrongIn, isTop, allowed, latest, stageAfter, limit, notAbove, shown, ofTop, rule, valueRule, first, kindRules, itemRules, own, late, lateBefore, lateAfter, broken, within, waits, next, unless, followed, joined, byKind, items, outermost, judge}
 use Rattle.format.specs.Calls.{judgeAnswer}
 
 -- the top alone
@@ -33,15 +35,20 @@ passing = 0x03 ∷ 0x06 ∷ 0x28 ∷ 0x02 ∷ 0x80 ∷ 0x02 ∷ 0x00 ∷ 0x01 �
 abbrev waiting : List ℕ
 waiting = 0x03 ∷ 0x07 ∷ 0x82 ∷ 0x01 ∷ 0x01 ∷ 0x04 ∷ 0x02 ∷ 0x02 ∷ 0x00 ∷ []
 
+-- a creation time with wrong hours and minutes
+abbrev mistimed : List ℕ
+mistimed = 0x03 ∷ 0x06 ∷ 0x81 ∷ 0x04 ∷ 0x30 ∷ 0xD4 ∷ 0x06 ∷ 0x3C ∷ []
+
 record Answers : Type 0 where
   ofTop : judgeAnswer (judge top) ≡ Records (record { records = 1 })
   ofTabled : judgeAnswer (judge tabled) ≡ Records (record { records = 2 })
   ofPassing : judgeAnswer (judge passing) ≡ NotRead (refusal 3 4)
   ofWaiting : judgeAnswer (judge waiting) ≡ NotRead (refusal 12 2)
+  ofMistimed : judgeAnswer (judge mistimed) ≡ NotRead (wrongValue 2 3)
 
 answers : Answers
-unfolding among value headerSize bodySize layout token character single goesOn utf8 text cut entries filled isTable entry orItself stands expanded present covers covered starts shownLength rows kindIn known attribute width fits count isKnown isItems isTokens isText isValue isTop allowed latest stageAfter limit notAbove shown ofTop rule first kindRules itemRules own late lateBefore lateAfter broken within waits next unless followed joined byKind items outermost judge judgeAnswer
-answers = record { ofTop = refl; ofTabled = refl; ofPassing = refl; ofWaiting = refl }
+unfolding among value headerSize bodySize layout token character single goesOn utf8 text cut entries filled isTable entry orItself stands expanded present covers covered starts shownLength rows kindIn known attribute bits longFlag offsetFlag offsetOctet timeOf inRange isTime wrongPart wrongTime width fits wrongField count isKnown isItems isTokens isText isValue wrongIn isTop allowed latest stageAfter limit notAbove shown ofTop rule valueRule first kindRules itemRules own late lateBefore lateAfter broken within waits next unless followed joined byKind items outermost judge judgeAnswer
+answers = record { ofTop = refl; ofTabled = refl; ofPassing = refl; ofWaiting = refl; ofMistimed = refl }
 
 differ : (r : Refusal) (c : Counts) → NotRead r ≡ Records c → ⊥
 differ r c h = let z : _≡_ {A = ℕ} 0 1 = cc in omega arith
@@ -67,3 +74,14 @@ child-passes c h = differ (refusal 3 4) c (sym (h ∙ answers .ofPassing))
 -- the late rule is forgotten
 pub late-forgotten : (c : Counts) → Records c ≡ judgeAnswer (judge waiting) → ⊥
 late-forgotten c h = differ (refusal 12 2) c (sym (h ∙ answers .ofWaiting))
+
+-- the field is forgotten, or the last that is wrong is told
+abbrev fieldOf : ReadAnswer → ℕ
+fieldOf (Records c) = 0
+fieldOf (NotRead r) = r .field
+
+pub field-forgotten : NotRead (refusal 9 2) ≡ judgeAnswer (judge mistimed) → ⊥
+field-forgotten h = let z : _≡_ {A = ℕ} 0 3 = ap fieldOf (h ∙ answers .ofMistimed) in omega arith
+
+pub last-field-told : NotRead (wrongValue 2 4) ≡ judgeAnswer (judge mistimed) → ⊥
+last-field-told h = let z : _≡_ {A = ℕ} 4 3 = ap fieldOf (h ∙ answers .ofMistimed) in omega arith

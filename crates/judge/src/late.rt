@@ -10,7 +10,7 @@ ghost use Rattle.values.specs.Table.{known, attribute};
 ghost use Rattle.format.specs.Judge.{isTop, isText};
 ghost use Rattle.judge.specs.Says.{asKind, LateSays};
 use crate::Check;
-use format::Refusal;
+use format::refuse;
 use octets::Header;
 use octets::read_header;
 use tags::is_top;
@@ -86,10 +86,7 @@ pub fn hold_attributes(part: &[u8], run: usize, parent: u8, base: usize, table: 
                 if is_settled(parent, part[at], table, &part[from..to]) {
                     at = to;
                 } else {
-                    return Check::Broken(Refusal {
-                        number: 12,
-                        place: base + at,
-                    });
+                    return Check::Broken(refuse(12, base + at));
                 }
             }
         }

@@ -10,6 +10,7 @@ mod rules;
 use format::Counts;
 use format::ReadAnswer;
 use format::Refusal;
+use format::refuse;
 use items::read_items;
 use text::characters_of;
 use text::tokens_of;
@@ -41,21 +42,15 @@ enum Item {
     Good(Sort, usize, usize, Progress),
 }
 
-// The whole judgement of an object: the refusal of document 01's table, with its place, or how many records the object has. Nothing is written.
+// The whole judgement of an object: the refusal of document 01's table, with its place and field, or how many records the object has. Nothing is written.
 pub fn judge(object: &[u8]) -> ReadAnswer
     ensures { λ r. ⌜ r ≡ judgeAnswer (judge (now (object .entry))) ⌝ }
 {
     if object.len() == 0 {
-        return ReadAnswer::NotRead(Refusal {
-            number: 1,
-            place: 0,
-        });
+        return ReadAnswer::NotRead(refuse(1, 0));
     }
     if object.len() > 32_768 {
-        return ReadAnswer::NotRead(Refusal {
-            number: 1,
-            place: 0,
-        });
+        return ReadAnswer::NotRead(refuse(1, 0));
     }
     let none = &object[0..0];
     let marks = tokens_of(none);

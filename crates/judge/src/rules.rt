@@ -18,6 +18,7 @@ use crate::Item;
 use crate::Progress;
 use crate::Sort;
 use format::Refusal;
+use format::refuse;
 use octets::Characters;
 use octets::Header;
 use octets::read_header;
@@ -38,6 +39,7 @@ use values::KnownKind;
 use values::fits_kind;
 use values::is_attribute;
 use values::known_kind;
+use values::wrong_field;
 
 // Rule 5: octets after the top.
 fn trails(parent: u8, whole: usize, room: usize) -> bool
@@ -106,13 +108,13 @@ fn check_text(
     ensures { λ r. ⌜ checked r ≡ kindRules (bare parent (entries (now (table .entry)))) place tag (now (body .entry)) (some HoldsText) ⌝ }
 {
     match weigh(marks, shows, body, Characters(32_769)) {
-        Weighed::NoText => Check::Broken(Refusal { number: 10, place }),
+        Weighed::NoText => Check::Broken(refuse(10, place)),
         Weighed::Text { covered, shown } => {
             if !is_held(parent, tag, covered) {
-                return Check::Broken(Refusal { number: 12, place });
+                return Check::Broken(refuse(12, place));
             }
             if !is_short(parent, tag, shown) {
-                return Check::Broken(Refusal { number: 13, place });
+                return Check::Broken(refuse(13, place));
             }
             Check::Kept
         }
@@ -139,7 +141,7 @@ fn check_kind(
             if is_table(body) {
                 return Check::Kept;
             }
-            Check::Broken(Refusal { number: 11, place })
+            Check::Broken(refuse(11, place))
         }
         Kind::HoldsText => check_text(parent, tag, place, table, marks, shows, body),
         Kind::HoldsPlain => Check::Kept,
@@ -147,7 +149,11 @@ fn check_kind(
             if fits_kind(kind, body) {
                 return Check::Kept;
             }
-            Check::Broken(Refusal { number: 9, place })
+            Check::Broken(Refusal {
+                number: 9,
+                place,
+                field: wrong_field(kind, body),
+            })
         }
     }
 }
@@ -200,13 +206,13 @@ fn check_item(
     ensures { λ r. ⌜ ItemSays parent tag left progress place (now (table .entry)) (now (body .entry)) r ⌝ }
 {
     if latest_of(tag) < progress.stage {
-        return Check::Broken(Refusal { number: 6, place });
+        return Check::Broken(refuse(6, place));
     }
     if !has_level(tag, left) {
-        return Check::Broken(Refusal { number: 7, place });
+        return Check::Broken(refuse(7, place));
     }
     if is_twice(known, tag, progress.mask) {
-        return Check::Broken(Refusal { number: 8, place });
+        return Check::Broken(refuse(8, place));
     }
     check_body(known, parent, tag, place, table, marks, shows, body)
 }
@@ -251,18 +257,15 @@ fn judge_framed(
     ensures { λ r. ⌜ Says (OwnIs parent left progress (now (table .entry)) place (now (rest .entry))) parent progress (now (rest .entry)) r ⌝ }
 {
     if rest.len() - start < size {
-        return Item::Bad(Refusal { number: 3, place });
+        return Item::Bad(refuse(3, place));
     }
     let tag = rest[0];
     if !is_allowed(parent, tag) {
-        return Item::Bad(Refusal { number: 4, place });
+        return Item::Bad(refuse(4, place));
     }
     let to = start + size;
     if trails(parent, to, rest.len()) {
-        return Item::Bad(Refusal {
-            number: 5,
-            place: place + to,
-        });
+        return Item::Bad(refuse(5, place + to));
     }
     let known = known_kind(parent, tag);
     match check_item(
@@ -298,7 +301,7 @@ pub fn judge_own(
     ensures { λ r. ⌜ Says (OwnIs parent left progress (now (table .entry)) place (now (rest .entry))) parent progress (now (rest .entry)) r ⌝ }
 {
     match read_header(rest) {
-        Header::Past => Item::Bad(Refusal { number: 2, place }),
+        Header::Past => Item::Bad(refuse(2, place)),
         Header::Found { start, size } => judge_framed(
             rest,
             start,

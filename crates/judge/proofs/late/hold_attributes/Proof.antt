@@ -72,12 +72,15 @@ loop-less c = search (late-ways, needs)
 loop-again : tie.Need-loop-again Inv-loop μ-loop
 loop-again c = search (late-ways, needs)
 
-add-t27 : tie.Need-add-t27 Inv-loop μ-loop
-add-t27 c = search (late-ways, needs)
+add-refuse : tie.Need-add-refuse Inv-loop μ-loop
+add-refuse c = search (late-ways, needs)
+
+refuse-requires : tie.Need-refuse-requires Inv-loop μ-loop
+refuse-requires c κs = search needs
 
 returns-3 : tie.Need-returns-3 Inv-loop μ-loop
 returns-3 c =
-    late-found _ _ _ _ _ _ ((c .before .before .before .before .before .before .before .before .before .before .before .loop) .inv) ((c .before .before .before .before .before .before .before .before .before .before .loop-test) .taken) _ ((c .before .before .before .before .before .before .before .before .read-header) .ensures) _ _ ((c .before .before .before .before .before .before .start) .given .1) ((c .before .before .before .before .if1) .left) _ ((c .before .is-settled) .ensures) ((c .if2) .left)
+    late-found _ _ _ _ _ _ ((c .before .before .before .before .before .before .before .before .before .before .before .before .loop) .inv) ((c .before .before .before .before .before .before .before .before .before .before .before .loop-test) .taken) _ ((c .before .before .before .before .before .before .before .before .before .read-header) .ensures) _ _ ((c .before .before .before .before .before .before .before .start) .given .1) ((c .before .before .before .before .before .if1) .left) _ ((c .before .before .is-settled) .ensures) ((c .before .if2) .left) _ ((c .refuse) .ensures)
 
 returns-4 : tie.Need-returns-4 Inv-loop μ-loop
 returns-4 c = search (late-ways, needs)
@@ -108,6 +111,6 @@ hold-attributes-spec =
     is-settled-requires
     loop-less
     loop-again
-    add-t27
-    returns-3
+    add-refuse
+    refuse-requires returns-3
     returns-4)

@@ -15,6 +15,9 @@ is-table-requires c κs = search needs
 returns : tie.Need-returns
 returns c = search (kind-ways, needs)
 
+refuse-requires : tie.Need-refuse-requires
+refuse-requires c κs = search needs
+
 enum-told-3 : tie.Need-enum-told-3
 enum-told-3 c = search needs
 
@@ -29,6 +32,9 @@ fits-kind-requires c κs = search needs
 
 returns-2 : tie.Need-returns-2
 returns-2 c = search (kind-ways, needs)
+
+wrong-field-requires : tie.Need-wrong-field-requires
+wrong-field-requires c κs = search needs
 
 returns-3 : tie.Need-returns-3
 returns-3 c = search (kind-ways, needs)
@@ -53,12 +59,12 @@ check-kind-spec =
     enum-told-2
     is-table-requires
     returns
-    enum-told-3
+    refuse-requires enum-told-3
     check-text-requires
     enum-told-4
     fits-kind-requires
     returns-2
-    returns-3
+    wrong-field-requires returns-3
     returns-4
     returns-5
     returns-6

@@ -10,17 +10,26 @@ weigh-requires c κs = search needs
 enum-told : tie.Need-enum-told
 enum-told c = search needs
 
+refuse-requires : tie.Need-refuse-requires
+refuse-requires c κs = search needs
+
 enum-known-covered : tie.Need-enum-known-covered
 enum-known-covered c = search needs
 
 is-held-requires : tie.Need-is-held-requires
 is-held-requires c κs = search needs
 
+refuse-requires-2 : tie.Need-refuse-requires-2
+refuse-requires-2 c κs = search needs
+
 returns : tie.Need-returns
 returns c = search (text-ways, not-true, needs)
 
 is-short-requires : tie.Need-is-short-requires
 is-short-requires c κs = search needs
+
+refuse-requires-3 : tie.Need-refuse-requires-3
+refuse-requires-3 c κs = search needs
 
 returns-2 : tie.Need-returns-2
 returns-2 c = search (text-ways, not-true, not-false, needs)
@@ -37,10 +46,10 @@ check-text-spec =
     (tie.spec
     weigh-requires
     enum-told
-    enum-known-covered
+    refuse-requires enum-known-covered
     is-held-requires
-    returns
+    refuse-requires-2 returns
     is-short-requires
-    returns-2
+    refuse-requires-3 returns-2
     returns-3
     returns-4)

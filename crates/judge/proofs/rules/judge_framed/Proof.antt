@@ -8,6 +8,9 @@ use Rattle.judge.proofs.rules.judge_framed.Tie as tie
 sub-if1 : tie.Need-sub-if1
 sub-if1 c = search needs
 
+refuse-requires : tie.Need-refuse-requires
+refuse-requires c κs = search needs
+
 returns : tie.Need-returns
 returns c = search (own-ways, needs)
 
@@ -16,6 +19,9 @@ shared-slice-read-tag c = search (own-ways, needs)
 
 is-allowed-requires : tie.Need-is-allowed-requires
 is-allowed-requires c κs = search needs
+
+refuse-requires-2 : tie.Need-refuse-requires-2
+refuse-requires-2 c κs = search needs
 
 returns-2 : tie.Need-returns-2
 returns-2 c = search (own-ways, not-true, needs)
@@ -26,8 +32,11 @@ add-to c = search needs
 trails-requires : tie.Need-trails-requires
 trails-requires c κs = search needs
 
-add-t24 : tie.Need-add-t24
-add-t24 c = search needs
+add-refuse : tie.Need-add-refuse
+add-refuse c = search needs
+
+refuse-requires-3 : tie.Need-refuse-requires-3
+refuse-requires-3 c κs = search needs
 
 returns-3 : tie.Need-returns-3
 returns-3 c = search (own-ways, not-false, needs)
@@ -70,14 +79,14 @@ judge-framed-spec =
     tie.close
     (tie.spec
     sub-if1
-    returns
+    refuse-requires returns
     shared-slice-read-tag
     is-allowed-requires
-    returns-2
+    refuse-requires-2 returns-2
     add-to
     trails-requires
-    add-t24
-    returns-3
+    add-refuse
+    refuse-requires-3 returns-3
     known-kind-requires
     sub-check-item
     part-check-item-start

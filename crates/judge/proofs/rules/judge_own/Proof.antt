@@ -9,6 +9,9 @@ read-header-requires c κs = search needs
 enum-told : tie.Need-enum-told
 enum-told c = search needs
 
+refuse-requires : tie.Need-refuse-requires
+refuse-requires c κs = search needs
+
 enum-known-start : tie.Need-enum-known-start
 enum-known-start c = search needs
 
@@ -27,7 +30,7 @@ judge-own-spec =
     (tie.spec
     read-header-requires
     enum-told
-    enum-known-start
+    refuse-requires enum-known-start
     judge-framed-requires
     returns
     returns-2)
