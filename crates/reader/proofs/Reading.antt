@@ -61,11 +61,11 @@ module _ (o : List ℕ) (most : ℕ) (l : Lists) (v : ReadAnswer) (e : v ≡ jud
     taken = was-accepted (judge o) c (sym f ∙ e)
 
     module _ (there n : ℕ) (et : there ≡ places l) (en : n ≡ min most there) where
-      pub read-full : n < c .records → ReadAtMostClaim o most l l (NotRead (refusal 14 0))
+      pub read-full : n < c .records → (x : Refusal) → x ≡ refusal 14 0 → ReadAtMostClaim o most l l (NotRead x)
       unfolding readAnswer readRecords lay
-      read-full h =
+      read-full h x m =
           let k : leb (count (taken .tree)) (min most (places l)) ≡ false = lt-leb (count (taken .tree)) (min most (places l)) (omega (arith, taken .many)) in
-          record { answers = rw (taken .is, k); leaves = rw (taken .is, k) }
+          record { answers = rw (m, taken .is, k); leaves = rw (taken .is, k) }
 
       module _ (h : c .records ≤ n) where
         pub read-can : Fillable top o l

@@ -9,15 +9,16 @@ use Rattle.octets.specs.Header.{headerSize, bodySize}
 use Rattle.text.specs.Text.{layout, token, character, single, goesOn, utf8, text}
 use Rattle.text.specs.Tokens.{entry, orItself, stands, expanded, present, covers, covered, shownLength}
 use Rattle.values.specs.Table.{rows, kindIn, known, attribute}
-use Rattle.values.specs.Values.{fits}
+use Rattle.values.specs.Times.{bits, longFlag, offsetFlag, timeOf, inRange, isTime, wrongPart, wrongTime}
+use Rattle.values.specs.Values.{fits, wrongField}
 use Rattle.format.specs.declared.Record.{Record}
 use Rattle.format.specs.declared.ReadAnswer.{ReadAnswer}
 use Rattle.format.specs.declared.ReadAnswer.the-variants.{Records, NotRead}
-use Rattle.format.specs.Answers.{refusal, readOutcome}
+use Rattle.format.specs.Answers.{refusal, wrongValue, readOutcome}
 use Rattle.format.specs.Tree.{Items, kindOf, count, records}
 use Rattle.format.specs.Tree.Items.{end, item}
-use Rattle.format.specs.Judge.{isKnown, isItems, isTokens, isText, isValue, isTop, allowed, latest, stageAfter, limit, notAbove, shown, ofTop, rule, first, kindRules, itemRules, own, late, lateBefore, lateAfter, broken, within, waits, next, unless, followed, joined, byKind, items, outermost, judge}
-use Rattle.format.specs.Judge.Judged.{accepted}
+use Rattle.format.specs.Judge.{isKnown, isItems, isTokens, isText, isValue, wrongIn, isTop, allowed, latest, stageAfter, limit, notAbove, shown, ofTop, rule, valueRule, first, kindRules, itemRules, own, late, lateBefore, lateAfter, broken, within, waits, next, unless, followed, joined, byKind, items, outermost, judge}
+use Rattle.format.specs.Judge.Judged.{refused, accepted}
 use Rattle.format.specs.Calls.{Lists, places, put, lay, readAnswer, readRecords, ReadClaim, ReadAtMostClaim, spanOf, bodyAt}
 use Rattle.format.specs.Lent.{six}
 
@@ -29,8 +30,16 @@ abbrev pub tree : Items
 tree = item 0x03 2 (0x06 ∷ 0x02 ∷ 0x65 ∷ 0x6E ∷ []) (item 0x06 4 (0x65 ∷ 0x6E ∷ []) end end) end
 
 pub judged : judge object ≡ accepted tree
-unfolding among value headerSize bodySize layout token character single goesOn utf8 text entry orItself stands expanded present covers covered shownLength rows kindIn known attribute fits isKnown isItems isTokens isText isValue isTop allowed latest stageAfter limit notAbove shown ofTop rule first kindRules itemRules own late lateBefore lateAfter broken within waits next unless followed joined byKind items outermost judge
+unfolding among value headerSize bodySize layout token character single goesOn utf8 text entry orItself stands expanded present covers covered shownLength rows kindIn known attribute fits isKnown isItems isTokens isText isValue wrongIn isTop allowed latest stageAfter limit notAbove shown ofTop rule valueRule first kindRules itemRules own late lateBefore lateAfter broken within waits next unless followed joined byKind items outermost judge
 judged = refl
+
+-- a creation time with wrong hours and minutes
+abbrev mistimed : List ℕ
+mistimed = 0x03 ∷ 0x06 ∷ 0x81 ∷ 0x04 ∷ 0x30 ∷ 0xD4 ∷ 0x06 ∷ 0x3C ∷ []
+
+mistimed-judged : judge mistimed ≡ refused (wrongValue 2 3)
+unfolding among value headerSize bodySize rows kindIn known attribute bits longFlag offsetFlag timeOf inRange isTime wrongPart wrongTime fits wrongField isKnown isItems isTokens isText isValue wrongIn isTop allowed latest stageAfter rule valueRule first kindRules itemRules own late lateBefore lateAfter broken within waits next unless followed joined byKind items outermost judge
+mistimed-judged = refl
 
 -- six lists of so many places, and a last one that may be shorter
 abbrev ones : List ℕ
@@ -91,6 +100,14 @@ read-refused-at-end after c = let z : _≡_ {A = ℕ} 6 0 = ap (λ a. readOutcom
 
 pub read-begun : (r : ReadAnswer) → ReadClaim object one (put 0 top one) r → ⊥
 read-begun r c = let z : _≡_ {A = ℕ} 3 9 = ap (λ l. getD (l .tags) 0 0) (with-one (put 0 top one) r c .1) in omega arith
+
+-- the field of a time left out
+pub read-without-field : (after : Lists) → ReadClaim mistimed two after (NotRead (refusal 9 2)) → ⊥
+unfolding readAnswer
+read-without-field after c =
+    let h : NotRead (refusal 9 2) ≡ NotRead (wrongValue 2 3) = rw mistimed-judged at (c .answers) in
+    let z : _≡_ {A = ℕ} 0 3 = ap (λ a. readOutcome a .field) h in
+    omega arith
 
 -- the top alone, in the count or in the lists; the place of the tag for the start; the number of the record itself for its parent; a place behind the records
 -- that is cleared

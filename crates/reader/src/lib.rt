@@ -11,8 +11,8 @@ use filling::fill_items;
 use filling::least;
 pub use filling::places;
 use format::ReadAnswer;
-use format::Refusal;
 use format::Span;
+use format::refuse;
 use judge::judge;
 
 // The records of an object in reading order, the first at number 0, into no more places than the caller says. Nothing is written before
@@ -37,10 +37,7 @@ pub fn read_at_most<'o, 'l>(
             let many = counts.records;
             let there = places(tags, kinds, depths, parents, starts, sizes);
             if least(most, there) < many {
-                return ReadAnswer::NotRead(Refusal {
-                    number: 14,
-                    place: 0,
-                });
+                return ReadAnswer::NotRead(refuse(14, 0));
             }
             let top = Place {
                 element: 0,

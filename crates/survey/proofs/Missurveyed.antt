@@ -11,7 +11,7 @@ use Rattle.values.specs.declared.KnownKind.the-variants.{Unknown, Known}
 use Rattle.values.specs.Table.{rows, kindIn, known, attribute}
 use Rattle.values.specs.Calls.{asKnown}
 use Rattle.format.specs.declared.Refusal.{Refusal}
-use Rattle.format.specs.Answers.{refusal}
+use Rattle.format.specs.Answers.{refusal, wrongValue}
 use Rattle.format.specs.Tree.{Items, count}
 use Rattle.format.specs.Judge.Judged.{refused, accepted}
 use Rattle.format.specs.Calls.{Lent}
@@ -27,6 +27,14 @@ use Rattle.survey.specs.Places.{liesIn, liesAt, tableWithin, firstTable,
 pub fits-refused : (lent : Lent) (r : Refusal) → surveyed lent (refused r) ≡ Fits → ⊥
 unfolding surveyed
 fits-refused lent r h = let w : Bad r ≡ Fits = h in let z : _≡_ {A = ℕ} 0 1 = cc in absurd (omega arith)
+
+-- the refusal of a time without its field
+pub field-left-out : (lent : Lent) (place field : ℕ) → 0 < field → surveyed lent (refused (wrongValue place field)) ≡ Bad (refusal 9 place) → ⊥
+unfolding surveyed
+field-left-out lent place field h e =
+    let w : Bad (wrongValue place field) ≡ Bad (refusal 9 place) = e in
+    let y : wrongValue place field ≡ refusal 9 place = cc in
+    absurd (omega (arith, ap (λ x. x .field) y))
 
 -- 15 where the places don't suffice: 14 comes before it
 pub store-before-places : (lent : Lent) (t : Items) → lent .records < count t → surveyed lent (accepted t) ≡ Misfit (refusal 15 0) → ⊥

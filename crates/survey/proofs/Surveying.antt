@@ -81,18 +81,18 @@ module _ (o : List ℕ) (v : ReadAnswer) (e : v ≡ judgeAnswer (judge o)) (lent
             let d : c ≡ record { records = count t } = cc in
             record { tree = t; judged = j; many = ap (λ x. x .records) d }
 
-    pub survey-full : lent .records < c .records → Misfit (refusal 14 0) ≡ surveyed lent (judge o)
+    pub survey-full : lent .records < c .records → (x : Refusal) → x ≡ refusal 14 0 → Misfit x ≡ surveyed lent (judge o)
     unfolding surveyed
-    survey-full h = rw (so .judged, lt-leb (count (so .tree)) (lent .records) (omega (arith, so .many)))
+    survey-full h x m = rw (m, so .judged, lt-leb (count (so .tree)) (lent .records) (omega (arith, so .many)))
 
     module _ (h : c .records ≤ lent .records) (m : Measured) (g : Measures o m) (b : Bool) (d : b ≡ sufficient m (lent .store) (lent .room)) where
       pub survey-fits : b ≡ true → Fits ≡ surveyed lent (judge o)
       unfolding surveyed
       survey-fits q = rw (so .judged, le-leb (count (so .tree)) (lent .records) (omega (arith, so .many)), sym (measured o m g b lent d (so .tree) (so .judged)), q)
 
-      pub survey-small : b ≡ false → Misfit (refusal 15 0) ≡ surveyed lent (judge o)
+      pub survey-small : b ≡ false → (x : Refusal) → x ≡ refusal 15 0 → Misfit x ≡ surveyed lent (judge o)
       unfolding surveyed
-      survey-small q = rw (so .judged, le-leb (count (so .tree)) (lent .records) (omega (arith, so .many)), sym (measured o m g b lent d (so .tree) (so .judged)), q)
+      survey-small q x y = rw (y, so .judged, le-leb (count (so .tree)) (lent .records) (omega (arith, so .many)), sym (measured o m g b lent d (so .tree) (so .judged)), q)
 
 -- ---- is_sufficient
 

@@ -14,6 +14,7 @@ use crate::measure::measure;
 pub use find::find_item;
 use format::ReadAnswer;
 use format::Refusal;
+use format::refuse;
 use judge::judge;
 use octets::Octets;
 pub use table::item_at;
@@ -71,18 +72,12 @@ pub fn survey(object: &[u8], places: usize, store: Octets, room: Octets) -> Stan
         ReadAnswer::NotRead(refusal) => Standing::Bad(refusal),
         ReadAnswer::Records(counts) => {
             if counts.records > places {
-                return Standing::Misfit(Refusal {
-                    number: 14,
-                    place: 0,
-                });
+                return Standing::Misfit(refuse(14, 0));
             }
             if is_sufficient(measure(object), store, room) {
                 return Standing::Fits;
             }
-            Standing::Misfit(Refusal {
-                number: 15,
-                place: 0,
-            })
+            Standing::Misfit(refuse(15, 0))
         }
     }
 }

@@ -18,6 +18,9 @@ places-requires c κs = search needs
 least-requires : tie.Need-least-requires
 least-requires c κs = search needs
 
+refuse-requires : tie.Need-refuse-requires
+refuse-requires c κs = search needs
+
 same-length : tie.Need-same-length
 same-length c = search needs
 
@@ -38,7 +41,7 @@ same-length-6 c = search needs
 
 returns : tie.Need-returns
 returns c =
-    read-full _ _ _ _ ((c .before .before .before .before .before .before .before .before .before .before .before .before .judge) .ensures) _ ((c .before .before .before .before .before .before .before .before .before .before .answer2) .given .1) _ _ ((c .before .before .places) .ensures) ((c .before .least) .ensures) ((c .if1) .taken)
+    read-full _ _ _ _ ((c .before .before .before .before .before .before .before .before .before .before .before .before .before .judge) .ensures) _ ((c .before .before .before .before .before .before .before .before .before .before .before .answer2) .given .1) _ _ ((c .before .before .before .places) .ensures) ((c .before .before .least) .ensures) ((c .before .if1) .taken) _ ((c .refuse) .ensures)
 
 fill-items-requires : tie.Need-fill-items-requires
 fill-items-requires c κs =
@@ -79,6 +82,7 @@ read-at-most-spec =
     enum-known-answer-2
     places-requires
     least-requires
+    refuse-requires
     same-length
     same-length-2
     same-length-3

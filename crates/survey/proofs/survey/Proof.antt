@@ -17,6 +17,9 @@ enum-known-refusal c = search needs
 enum-known-counts : tie.Need-enum-known-counts
 enum-known-counts c = search needs
 
+refuse-requires : tie.Need-refuse-requires
+refuse-requires c κs = search needs
+
 returns : tie.Need-returns
 returns c = search (survey-ways, needs)
 
@@ -28,6 +31,9 @@ is-sufficient-requires c κs = search needs
 
 returns-2 : tie.Need-returns-2
 returns-2 c = search (survey-ways, needs)
+
+refuse-requires-2 : tie.Need-refuse-requires-2
+refuse-requires-2 c κs = search needs
 
 returns-3 : tie.Need-returns-3
 returns-3 c = search (survey-ways, needs)
@@ -42,9 +48,11 @@ survey-spec =
     judge-requires
     enum-known-refusal
     enum-known-counts
+    refuse-requires
     returns
     measure-requires
     is-sufficient-requires
     returns-2
+    refuse-requires-2
     returns-3
     returns-4)
