@@ -9,11 +9,11 @@ use lib.ListN.{length, take, drop, getD}
 use lib.Seq.{sets}
 use borrow.Author.Tests.{leb-true}
 use Rattle.octets.proofs.Lists.{part-of-sets}
-use Rattle.format.specs.Answers.{refusal}
+use Rattle.format.specs.Answers.{refusal, wrongValue}
 use Rattle.format.specs.declared.Record.{Record}
 use Rattle.show.specs.declared.Put.{Put}
 use Rattle.show.specs.Digits.{tens, decimal, hexDigit, twoDigits, hexLower, hexUpper}
-use Rattle.show.specs.Lines.{ascii, line, kindName, headerLine, recordLine, recordsLine, refusalLine, reasons, refusalWords}
+use Rattle.show.specs.Lines.{ascii, line, kindName, headerLine, recordLine, recordsLine, fieldOf, refusalLine, fieldReasons, fieldReason, reasons, refusalWords}
 use Rattle.show.specs.Calls.{putAnswer, putLeaves, Puts}
 
 -- the listing of 03 04 06 02 65 6E
@@ -28,8 +28,17 @@ unfolding top language headerLine recordLine recordsLine line ascii kindName dec
 listing = refl
 
 refused : refusalLine (refusal 12 32768) ≡ ascii "refused 12 at 32768\n"
-unfolding refusalLine line ascii decimal tens
+unfolding refusalLine fieldOf line ascii decimal tens
 refused = refl
+
+-- every 9 has its field behind it, also where it is 0
+refused-hours : refusalLine (wrongValue 412 3) ≡ ascii "refused 9 at 412 field 3\n"
+unfolding refusalLine fieldOf line ascii decimal tens
+refused-hours = refl
+
+refused-value : refusalLine (wrongValue 2 0) ≡ ascii "refused 9 at 2 field 0\n"
+unfolding refusalLine fieldOf line ascii decimal tens
+refused-value = refl
 
 -- a number is written as it is, without a digit more
 zeros : List ℕ
@@ -66,21 +75,29 @@ unfolding zeros putAnswer putLeaves twoDigits hexDigit
 tag-swapped p = let z : _≡_ {A = ℕ} 67 49 = ap (λ o. getD o 0 0) (p .leaves) in omega arith
 
 -- each refusal has words of its own
-body-words : refusalWords 3 ≡ ascii "a body is longer than what holds it"
+body-words : refusalWords 0 3 ≡ ascii "a body is longer than what holds it"
 unfolding refusalWords reasons ascii
 body-words = refl
 
-room-words : refusalWords 15 ≡ ascii "a room or store is too small, or the output has more than 32768 octets"
+room-words : refusalWords 0 15 ≡ ascii "a room or store is too small, or the output has more than 32768 octets"
 unfolding refusalWords reasons ascii
 room-words = refl
 
-tree-words : refusalWords 16 ≡ ascii "the records are not a well-formed tree"
+tree-words : refusalWords 0 16 ≡ ascii "the records are not a well-formed tree"
 unfolding refusalWords reasons ascii
 tree-words = refl
 
-plain-words : refusalWords 17 ≡ ascii "an item holds plain octets, which have no XML"
+plain-words : refusalWords 0 17 ≡ ascii "an item holds plain octets, which have no XML"
 unfolding refusalWords reasons ascii
 plain-words = refl
+
+hours-words : refusalWords 3 9 ≡ ascii "hours of a time out of range"
+unfolding refusalWords reasons fieldReasons fieldReason ascii
+hours-words = refl
+
+value-words : refusalWords 0 9 ≡ ascii "a value has a wrong length"
+unfolding refusalWords reasons fieldReasons fieldReason ascii
+value-words = refl
 
 -- two answers that no call of this crate may give, whatever its text is: that a text was put which doesn't stand there, and that there is no room where a part of
 -- it was left

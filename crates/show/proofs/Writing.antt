@@ -10,12 +10,12 @@ use lib.ListN.{length, drop, getD, set, length-append, length-set, drop-of-lengt
 use lib.Seq.{sets, length-sets, append-snoc}
 use mir.Syntax.{w8, w64}
 use mir.Val.{Fits}
-use borrow.Author.Tests.{le-leb, lt-leb, leb-true, leb-false, lt-ltb, le-ltb}
+use borrow.Author.Tests.{le-leb, lt-leb, leb-true, leb-false, lt-ltb, le-ltb, ne-eqb}
 use Rattle.show.specs.Digits.{decimal, hexDigit, twoDigits, hexLower, hexUpper}
 use Rattle.octets.proofs.Lists.{sets-append, set-sets, drop-next}
 use Rattle.format.specs.declared.Record.{Record}
 use Rattle.format.specs.declared.Refusal.{Refusal}
-use Rattle.show.specs.Lines.{ascii, line, kindName, recordLine, recordsLine, refusalLine, reasons, refusalWords}
+use Rattle.show.specs.Lines.{ascii, line, kindName, recordLine, recordsLine, fieldOf, refusalLine, fieldReasons, fieldReason, reasons, refusalWords}
 use Rattle.show.specs.Calls.{putAnswer, putLeaves, Puts, Wrote, Few}
 use Rattle.show.specs.declared.Put.{Put}
 use Rattle.show.proofs.Digits.{decimal-one, decimal-more, length-more, decimal-some, decimal-few}
@@ -411,27 +411,71 @@ module _ (n : ℕ) where
   records-length d f = omega (arith, f .exact, length-line (ascii "records") (decimal n) [], length-end (decimal n))
 
 module _ (r : Refusal) where
-  pub refusal-room : (at : ℕ) (out : List ℕ) → at + length (refusalLine r) ≤ length out → Room (ascii "refused" ∷ decimal (r .number) ∷ ascii "at" ∷ decimal (r .place) ∷ []) at out
+  pub refusal-room : (at : ℕ) (out : List ℕ) → at + length (refusalLine r) ≤ length out → Room (ascii "refused" ∷ decimal (r .number) ∷ ascii "at" ∷ decimal (r .place) ∷ fieldOf r) at out
   unfolding refusalLine
   refusal-room at out h = record { fits = h }
 
-  pub refusal-length : (n p : ℕ) → Few (r .number) n → Few (r .place) p → 13 + n + p ≡ length (refusalLine r)
+  -- its head is that of every refusal
+  head-length : (n : ℕ) → Few (r .number) n → length (refusalLine r) ≡ 12 + n + length (line (decimal (r .place) ∷ fieldOf r))
   unfolding refusalLine ascii
-  refusal-length n p fn fp =
+  head-length n fn =
       omega (
         arith,
         fn .exact,
-        fp .exact,
-        length-line (ascii "refused") (decimal (r .number)) (ascii "at" ∷ decimal (r .place) ∷ []),
-        length-line (decimal (r .number)) (ascii "at") (decimal (r .place) ∷ []),
-        length-line (ascii "at") (decimal (r .place)) [],
-        length-end (decimal (r .place)),
+        length-line (ascii "refused") (decimal (r .number)) (ascii "at" ∷ decimal (r .place) ∷ fieldOf r),
+        length-line (decimal (r .number)) (ascii "at") (decimal (r .place) ∷ fieldOf r),
+        length-line (ascii "at") (decimal (r .place)) (fieldOf r),
       )
 
--- ---- a refusal in words, by its number
+  -- of 9 the field is behind the place, and of all others the place is the end
+  module _ (e : r .number ≡ 9) where
+    field-words : fieldOf r ≡ ascii "field" ∷ decimal (r .field) ∷ []
+    unfolding fieldOf
+    field-words = rw e
 
-pub words-same : (n k : ℕ) → n ≡ k → (at : ℕ) (out out′ : List ℕ) (r : Put) → Puts (refusalWords k) at out out′ r → Puts (refusalWords n) at out out′ r
-words-same n k e at out out′ r p = rw e p
+    pub place-room : (at : ℕ) (out : List ℕ) → at + length (line (decimal (r .place) ∷ fieldOf r)) ≤ length out → Room (decimal (r .place) ∷ ascii "field" ∷ decimal (r .field) ∷ []) at out
+    place-room at out h = record { fits = rw field-words at h }
+
+    pub place-more : (at : ℕ) (out o : List ℕ) (t : ℕ) → Wrote (line (decimal (r .place) ∷ ascii "field" ∷ decimal (r .field) ∷ [])) at out o t → Wrote (line (decimal (r .place) ∷ fieldOf r)) at out o t
+    place-more at out o t k = rw field-words k
+
+    pub refusal-field-length : (n p f : ℕ) → Few (r .number) n → Few (r .place) p → Few (r .field) f → 13 + n + p + 7 + f ≡ length (refusalLine r)
+    unfolding ascii
+    refusal-field-length n p f fn fp ff =
+        omega (
+          arith,
+          fp .exact,
+          ff .exact,
+          head-length n fn,
+          ap (λ ws. length (line (decimal (r .place) ∷ ws))) field-words,
+          length-line (decimal (r .place)) (ascii "field") (decimal (r .field) ∷ []),
+          length-line (ascii "field") (decimal (r .field)) [],
+          length-end (decimal (r .field)),
+        )
+
+  module _ (e : r .number ≡ 9 → ⊥) where
+    no-field : fieldOf r ≡ []
+    unfolding fieldOf
+    no-field = rw (ne-eqb (r .number) 9 e)
+
+    pub place-room-last : (at : ℕ) (out : List ℕ) → at + length (line (decimal (r .place) ∷ fieldOf r)) ≤ length out → Room (decimal (r .place) ∷ []) at out
+    place-room-last at out h = record { fits = rw no-field at h }
+
+    pub place-last : (at : ℕ) (out o : List ℕ) (t : ℕ) → Wrote (line (decimal (r .place) ∷ [])) at out o t → Wrote (line (decimal (r .place) ∷ fieldOf r)) at out o t
+    place-last at out o t k = rw no-field k
+
+    pub refusal-length : (n p : ℕ) → Few (r .number) n → Few (r .place) p → 13 + n + p ≡ length (refusalLine r)
+    refusal-length n p fn fp =
+        omega (arith, fp .exact, head-length n fn, ap (λ ws. length (line (decimal (r .place) ∷ ws))) no-field, length-end (decimal (r .place)))
+
+pub ruleset place-ways = (place-room, place-more, place-room-last, place-last)
+
+pub ruleset refusal-size-ways = (refusal-field-length, refusal-length)
+
+-- ---- a refusal in words, by its number, and 9 by its field
+
+pub words-same : (words : ℕ → List ℕ) (n k : ℕ) → n ≡ k → (at : ℕ) (out out′ : List ℕ) (r : Put) → Puts (words k) at out out′ r → Puts (words n) at out out′ r
+words-same words n k e at out out′ r p = rw e p
 
 pub above : {k : ℕ} (n : ℕ) → k ≤ n → (n ≡ k → ⊥) → suc k ≤ n
 above {k} n h f = go (leb (suc k) n) refl
@@ -440,6 +484,10 @@ above {k} n h f = go (leb (suc k) n) refl
     go true e = leb-true (suc k) n e
     go false e = let same : n ≡ k = omega (arith, leb-false (suc k) n e) in absurd (f same)
 
-pub words-other : (n : ℕ) → 18 ≤ n → refusalWords n ≡ ascii "no such refusal"
+pub words-other : (field n : ℕ) → 18 ≤ n → refusalWords field n ≡ ascii "no such refusal"
 unfolding refusalWords reasons
-words-other n h = ap ascii (List·getD-eq-default reasons "no such refusal" h)
+words-other field n h = ap ascii (List·getD-eq-default (reasons field) "no such refusal" h)
+
+pub fields-other : (n : ℕ) → 6 ≤ n → ascii (fieldReason n) ≡ ascii "no such field"
+unfolding fieldReason fieldReasons
+fields-other n h = ap ascii (List·getD-eq-default fieldReasons "no such field" h)

@@ -1,8 +1,10 @@
 -- The lines of answers (document 01, Bench cases, has a listing whole), and a refusal in words.
+use mathlib.Core.Bool.{cond}
 use mathlib.Core.List.{List, [], _∷_, _++_}
 use Prim.Native.Nat.{ℕ}
 use Prim.Native.Char.{code}
 use Prim.Native.String.{String}
+use lib.Dec.{eqb}
 use lib.ListN.{getD}
 use Rattle.format.specs.declared.Record.{Record}
 use Rattle.format.specs.declared.Refusal.{Refusal}
@@ -33,17 +35,34 @@ recordLine r = line (decimal (r .depth) ∷ hexUpper (r .tag) ∷ kindName (r .k
 unfoldable pub recordsLine : ℕ → List ℕ
 recordsLine n = line (ascii "records" ∷ decimal n ∷ [])
 
--- a refusal: its number and its place (document 01, Refusal numbers)
+-- a refusal: its number and its place (document 01, Refusal numbers), and behind every 9, and no other number, the field (change request 2026-04)
+unfoldable pub fieldOf : Refusal → List (List ℕ)
+fieldOf r = cond (eqb (r .number) 9) (ascii "field" ∷ decimal (r .field) ∷ []) []
+
 unfoldable pub refusalLine : Refusal → List ℕ
-refusalLine r = line (ascii "refused" ∷ decimal (r .number) ∷ ascii "at" ∷ decimal (r .place) ∷ [])
+refusalLine r = line (ascii "refused" ∷ decimal (r .number) ∷ ascii "at" ∷ decimal (r .place) ∷ fieldOf r)
 
 -- lent memory that isn't as it was
 unfoldable pub touchedLine : List ℕ
 touchedLine = line (ascii "touched" ∷ [])
 
--- why an object, a request or a list of records is refused, by the refusal's number (document 01, Refusal numbers; 17: request 2026-02)
-unfoldable pub reasons : List String
-reasons =
+-- why a value is refused: of a time by the field that is wrong (change request 2026-04). Only a time has fields with a range, so any other value has a wrong length
+unfoldable pub fieldReasons : List String
+fieldReasons =
+    "a value has a wrong length"
+    ∷ "length of a time wrong"
+    ∷ "date of a time out of range"
+    ∷ "hours of a time out of range"
+    ∷ "minutes of a time out of range"
+    ∷ "seconds of a time out of range"
+    ∷ []
+
+unfoldable pub fieldReason : ℕ → String
+fieldReason field = getD fieldReasons field "no such field"
+
+-- why an object, a request or a list of records is refused, by the refusal's number (document 01, Refusal numbers; 17: request 2026-02); of 9 the field says more
+unfoldable pub reasons : ℕ → List String
+reasons field =
     "nothing is refused"
     ∷ "the object has no octets or more than 32768"
     ∷ "a tag or a length field is cut off"
@@ -53,7 +72,7 @@ reasons =
     ∷ "the items are out of order, or one is there twice"
     ∷ "an element lies deeper than 16"
     ∷ "an attribute is there twice"
-    ∷ "a value has a wrong length or is out of range"
+    ∷ fieldReason field
     ∷ "a text is not valid"
     ∷ "the token table is not valid"
     ∷ "a token has no entry in the table"
@@ -64,5 +83,5 @@ reasons =
     ∷ "an item holds plain octets, which have no XML"
     ∷ []
 
-unfoldable pub refusalWords : ℕ → List ℕ
-refusalWords number = ascii (getD reasons number "no such refusal")
+unfoldable pub refusalWords : (field number : ℕ) → List ℕ
+refusalWords field number = ascii (getD (reasons field) number "no such refusal")

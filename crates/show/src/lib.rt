@@ -11,7 +11,7 @@ ghost use Prim.Native.Nat.{_+_, _≤_, _<_};
 ghost use lib.Dec.{leb};
 ghost use lib.ListN.{length};
 ghost use Rattle.show.specs.Digits.{decimal, hexDigit, twoDigits, hexLower, hexUpper};
-ghost use Rattle.show.specs.Lines.{kindName, headerLine, recordLine, recordsLine, refusalLine, touchedLine, refusalWords};
+ghost use Rattle.show.specs.Lines.{ascii, line, kindName, headerLine, recordLine, recordsLine, fieldOf, refusalLine, touchedLine, fieldReason, refusalWords};
 ghost use Rattle.show.specs.Calls.{Puts, Wrote, Few};
 
 // Text put into a lent slice. Done: the place behind its last character.
@@ -277,6 +277,19 @@ pub fn put_records(out: &mut [u8], at: usize, n: usize) -> Put
     Put::Done(store_records(out, at, n))
 }
 
+// The place ends the line of all refusals but 9, where the field comes behind it.
+fn store_place(out: &mut [u8], at: usize, r: Refusal) -> usize
+    requires { ⌜ at + length (line (decimal (r .place) ∷ fieldOf r)) ≤ length (now out) ⌝ }
+    ensures { λ end. ⌜ Wrote (line (decimal (r .place) ∷ fieldOf r)) at (now (out .entry)) (now (out .exit)) end ⌝ }
+{
+    if r.number != 9 {
+        return number_word(out, at, r.place, NEWLINE);
+    }
+    let word = number_word(out, at, r.place, SPACE);
+    let field = octets_word(out, word, b"field", SPACE);
+    number_word(out, field, r.field as usize, NEWLINE)
+}
+
 fn store_refusal(out: &mut [u8], at: usize, r: Refusal) -> usize
     requires { ⌜ at + length (refusalLine r) ≤ length (now out) ⌝ }
     ensures { λ end. ⌜ Wrote (refusalLine r) at (now (out .entry)) (now (out .exit)) end ⌝ }
@@ -284,16 +297,28 @@ fn store_refusal(out: &mut [u8], at: usize, r: Refusal) -> usize
     let number = octets_word(out, at, b"refused", SPACE);
     let word = number_word(out, number, r.number as usize, SPACE);
     let place = octets_word(out, word, b"at", SPACE);
-    number_word(out, place, r.place, NEWLINE)
+    store_place(out, place, r)
+}
+
+// Two words, three spaces and a newline beside what is measured; of 9 a word and two spaces more.
+fn refusal_size(r: Refusal) -> Octets
+    ensures { λ size. ⌜ size .0 ≡ length (refusalLine r) ⌝ }
+{
+    let number = decimal_size(r.number as usize);
+    let place = decimal_size(r.place);
+    let plain = 13 + number.0 + place.0;
+    if r.number != 9 {
+        return Octets(plain);
+    }
+    let field = decimal_size(r.field as usize);
+    let all = plain + 7 + field.0;
+    Octets(all)
 }
 
 pub fn put_refusal(out: &mut [u8], at: usize, r: Refusal) -> Put
     ensures { λ put. ⌜ Puts (refusalLine r) at (now (out .entry)) (now (out .exit)) put ⌝ }
 {
-    let number = decimal_size(r.number as usize);
-    let place = decimal_size(r.place);
-    let size = 13 + number.0 + place.0;
-    if !has_room(Octets(out.len()), at, Octets(size)) {
+    if !has_room(Octets(out.len()), at, refusal_size(r)) {
         return Put::NoRoom;
     }
     Put::Done(store_refusal(out, at, r))
@@ -301,8 +326,23 @@ pub fn put_refusal(out: &mut [u8], at: usize, r: Refusal) -> Put
 
 // ---- a refusal in words
 
-pub fn put_refusal_words(out: &mut [u8], at: usize, number: u8) -> Put
-    ensures { λ r. ⌜ Puts (refusalWords number) at (now (out .entry)) (now (out .exit)) r ⌝ }
+// Refusal 9, by the field that goes with it.
+fn put_field_words(out: &mut [u8], at: usize, field: u8) -> Put
+    ensures { λ r. ⌜ Puts (ascii (fieldReason field)) at (now (out .entry)) (now (out .exit)) r ⌝ }
+{
+    match field {
+        0 => put_bytes(out, at, b"a value has a wrong length"),
+        1 => put_bytes(out, at, b"length of a time wrong"),
+        2 => put_bytes(out, at, b"date of a time out of range"),
+        3 => put_bytes(out, at, b"hours of a time out of range"),
+        4 => put_bytes(out, at, b"minutes of a time out of range"),
+        5 => put_bytes(out, at, b"seconds of a time out of range"),
+        _ => put_bytes(out, at, b"no such field"),
+    }
+}
+
+pub fn put_refusal_words(out: &mut [u8], at: usize, number: u8, field: u8) -> Put
+    ensures { λ r. ⌜ Puts (refusalWords field number) at (now (out .entry)) (now (out .exit)) r ⌝ }
 {
     match number {
         0 => put_bytes(out, at, b"nothing is refused"),
@@ -318,7 +358,7 @@ pub fn put_refusal_words(out: &mut [u8], at: usize, number: u8) -> Put
         ),
         7 => put_bytes(out, at, b"an element lies deeper than 16"),
         8 => put_bytes(out, at, b"an attribute is there twice"),
-        9 => put_bytes(out, at, b"a value has a wrong length or is out of range"),
+        9 => put_field_words(out, at, field),
         10 => put_bytes(out, at, b"a text is not valid"),
         11 => put_bytes(out, at, b"the token table is not valid"),
         12 => put_bytes(out, at, b"a token has no entry in the table"),

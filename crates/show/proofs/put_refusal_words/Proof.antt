@@ -4,6 +4,9 @@ use Prim.Native.Nat.{zero-le}
 use borrow.Author.Needs.{needs}
 use Rattle.show.proofs.put_refusal_words.Statement.{statement}
 use Rattle.show.proofs.put_refusal_words.Tie as tie
+use Rattle.show.proofs.put_refusal_words.Reads as reads
+use Rattle.show.proofs.put_refusal_words.Lts as lts
+use Rattle.show.proofs.put_bytes.Reads as put-bytes-reads
 
 slice-aggregate-put-bytes : tie.Need-slice-aggregate-put-bytes
 slice-aggregate-put-bytes c = search needs
@@ -59,6 +62,9 @@ slice-aggregate-put-bytes-9 c = search needs
 put-bytes-requires-9 : tie.Need-put-bytes-requires-9
 put-bytes-requires-9 c κs = search needs
 
+put-field-words-requires : tie.Need-put-field-words-requires
+put-field-words-requires c κs = search needs
+
 slice-aggregate-put-bytes-10 : tie.Need-slice-aggregate-put-bytes-10
 slice-aggregate-put-bytes-10 c = search needs
 
@@ -113,144 +119,138 @@ slice-aggregate-put-bytes-18 c = search needs
 put-bytes-requires-18 : tie.Need-put-bytes-requires-18
 put-bytes-requires-18 c κs = search needs
 
-slice-aggregate-put-bytes-19 : tie.Need-slice-aggregate-put-bytes-19
-slice-aggregate-put-bytes-19 c = search needs
-
-put-bytes-requires-19 : tie.Need-put-bytes-requires-19
-put-bytes-requires-19 c κs = search needs
-
 same-length : tie.Need-same-length
 same-length c = search needs
 
 returns : tie.Need-returns
 unfolding ascii reasons refusalWords
-returns c = words-same _ 0 (c .before .before .before .before .before .match .keys1) _ _ _ _ (c .before .before .put-bytes .ensures)
+returns c = words-same (refusalWords _) _ 0 (c .before .before .before .before .before .match .keys1) _ _ _ _ (c .before .before .put-bytes .ensures)
 
 same-length-2 : tie.Need-same-length-2
 same-length-2 c = search needs
 
 returns-2 : tie.Need-returns-2
 unfolding ascii reasons refusalWords
-returns-2 c = words-same _ 1 (c .before .before .before .before .before .match .keys2) _ _ _ _ (c .before .before .put-bytes2 .ensures)
+returns-2 c = words-same (refusalWords _) _ 1 (c .before .before .before .before .before .match .keys2) _ _ _ _ (c .before .before .put-bytes2 .ensures)
 
 same-length-3 : tie.Need-same-length-3
 same-length-3 c = search needs
 
 returns-3 : tie.Need-returns-3
 unfolding ascii reasons refusalWords
-returns-3 c = words-same _ 2 (c .before .before .before .before .before .match .keys3) _ _ _ _ (c .before .before .put-bytes3 .ensures)
+returns-3 c = words-same (refusalWords _) _ 2 (c .before .before .before .before .before .match .keys3) _ _ _ _ (c .before .before .put-bytes3 .ensures)
 
 same-length-4 : tie.Need-same-length-4
 same-length-4 c = search needs
 
 returns-4 : tie.Need-returns-4
 unfolding ascii reasons refusalWords
-returns-4 c = words-same _ 3 (c .before .before .before .before .before .match .keys4) _ _ _ _ (c .before .before .put-bytes4 .ensures)
+returns-4 c = words-same (refusalWords _) _ 3 (c .before .before .before .before .before .match .keys4) _ _ _ _ (c .before .before .put-bytes4 .ensures)
 
 same-length-5 : tie.Need-same-length-5
 same-length-5 c = search needs
 
 returns-5 : tie.Need-returns-5
 unfolding ascii reasons refusalWords
-returns-5 c = words-same _ 4 (c .before .before .before .before .before .match .keys5) _ _ _ _ (c .before .before .put-bytes5 .ensures)
+returns-5 c = words-same (refusalWords _) _ 4 (c .before .before .before .before .before .match .keys5) _ _ _ _ (c .before .before .put-bytes5 .ensures)
 
 same-length-6 : tie.Need-same-length-6
 same-length-6 c = search needs
 
 returns-6 : tie.Need-returns-6
 unfolding ascii reasons refusalWords
-returns-6 c = words-same _ 5 (c .before .before .before .before .before .match .keys6) _ _ _ _ (c .before .before .put-bytes6 .ensures)
+returns-6 c = words-same (refusalWords _) _ 5 (c .before .before .before .before .before .match .keys6) _ _ _ _ (c .before .before .put-bytes6 .ensures)
 
 same-length-7 : tie.Need-same-length-7
 same-length-7 c = search needs
 
 returns-7 : tie.Need-returns-7
 unfolding ascii reasons refusalWords
-returns-7 c = words-same _ 6 (c .before .before .before .before .before .match .keys7) _ _ _ _ (c .before .before .put-bytes7 .ensures)
+returns-7 c = words-same (refusalWords _) _ 6 (c .before .before .before .before .before .match .keys7) _ _ _ _ (c .before .before .put-bytes7 .ensures)
 
 same-length-8 : tie.Need-same-length-8
 same-length-8 c = search needs
 
 returns-8 : tie.Need-returns-8
 unfolding ascii reasons refusalWords
-returns-8 c = words-same _ 7 (c .before .before .before .before .before .match .keys8) _ _ _ _ (c .before .before .put-bytes8 .ensures)
+returns-8 c = words-same (refusalWords _) _ 7 (c .before .before .before .before .before .match .keys8) _ _ _ _ (c .before .before .put-bytes8 .ensures)
 
 same-length-9 : tie.Need-same-length-9
 same-length-9 c = search needs
 
 returns-9 : tie.Need-returns-9
 unfolding ascii reasons refusalWords
-returns-9 c = words-same _ 8 (c .before .before .before .before .before .match .keys9) _ _ _ _ (c .before .before .put-bytes9 .ensures)
+returns-9 c = words-same (refusalWords _) _ 8 (c .before .before .before .before .before .match .keys9) _ _ _ _ (c .before .before .put-bytes9 .ensures)
 
 same-length-10 : tie.Need-same-length-10
 same-length-10 c = search needs
 
 returns-10 : tie.Need-returns-10
 unfolding ascii reasons refusalWords
-returns-10 c = words-same _ 9 (c .before .before .before .before .before .match .keys10) _ _ _ _ (c .before .before .put-bytes10 .ensures)
+returns-10 c = words-same (refusalWords _) _ 9 (c .before .before .before .before .match .keys10) _ _ _ _ (c .before .before .put-field-words .ensures)
 
 same-length-11 : tie.Need-same-length-11
 same-length-11 c = search needs
 
 returns-11 : tie.Need-returns-11
 unfolding ascii reasons refusalWords
-returns-11 c = words-same _ 10 (c .before .before .before .before .before .match .keys11) _ _ _ _ (c .before .before .put-bytes11 .ensures)
+returns-11 c = words-same (refusalWords _) _ 10 (c .before .before .before .before .before .match .keys11) _ _ _ _ (c .before .before .put-bytes10 .ensures)
 
 same-length-12 : tie.Need-same-length-12
 same-length-12 c = search needs
 
 returns-12 : tie.Need-returns-12
 unfolding ascii reasons refusalWords
-returns-12 c = words-same _ 11 (c .before .before .before .before .before .match .keys12) _ _ _ _ (c .before .before .put-bytes12 .ensures)
+returns-12 c = words-same (refusalWords _) _ 11 (c .before .before .before .before .before .match .keys12) _ _ _ _ (c .before .before .put-bytes11 .ensures)
 
 same-length-13 : tie.Need-same-length-13
 same-length-13 c = search needs
 
 returns-13 : tie.Need-returns-13
 unfolding ascii reasons refusalWords
-returns-13 c = words-same _ 12 (c .before .before .before .before .before .match .keys13) _ _ _ _ (c .before .before .put-bytes13 .ensures)
+returns-13 c = words-same (refusalWords _) _ 12 (c .before .before .before .before .before .match .keys13) _ _ _ _ (c .before .before .put-bytes12 .ensures)
 
 same-length-14 : tie.Need-same-length-14
 same-length-14 c = search needs
 
 returns-14 : tie.Need-returns-14
 unfolding ascii reasons refusalWords
-returns-14 c = words-same _ 13 (c .before .before .before .before .before .match .keys14) _ _ _ _ (c .before .before .put-bytes14 .ensures)
+returns-14 c = words-same (refusalWords _) _ 13 (c .before .before .before .before .before .match .keys14) _ _ _ _ (c .before .before .put-bytes13 .ensures)
 
 same-length-15 : tie.Need-same-length-15
 same-length-15 c = search needs
 
 returns-15 : tie.Need-returns-15
 unfolding ascii reasons refusalWords
-returns-15 c = words-same _ 14 (c .before .before .before .before .before .match .keys15) _ _ _ _ (c .before .before .put-bytes15 .ensures)
+returns-15 c = words-same (refusalWords _) _ 14 (c .before .before .before .before .before .match .keys15) _ _ _ _ (c .before .before .put-bytes14 .ensures)
 
 same-length-16 : tie.Need-same-length-16
 same-length-16 c = search needs
 
 returns-16 : tie.Need-returns-16
 unfolding ascii reasons refusalWords
-returns-16 c = words-same _ 15 (c .before .before .before .before .before .match .keys16) _ _ _ _ (c .before .before .put-bytes16 .ensures)
+returns-16 c = words-same (refusalWords _) _ 15 (c .before .before .before .before .before .match .keys16) _ _ _ _ (c .before .before .put-bytes15 .ensures)
 
 same-length-17 : tie.Need-same-length-17
 same-length-17 c = search needs
 
 returns-17 : tie.Need-returns-17
 unfolding ascii reasons refusalWords
-returns-17 c = words-same _ 16 (c .before .before .before .before .before .match .keys17) _ _ _ _ (c .before .before .put-bytes17 .ensures)
+returns-17 c = words-same (refusalWords _) _ 16 (c .before .before .before .before .before .match .keys17) _ _ _ _ (c .before .before .put-bytes16 .ensures)
 
 same-length-18 : tie.Need-same-length-18
 same-length-18 c = search needs
 
 returns-18 : tie.Need-returns-18
 unfolding ascii reasons refusalWords
-returns-18 c = words-same _ 17 (c .before .before .before .before .before .match .keys18) _ _ _ _ (c .before .before .put-bytes18 .ensures)
+returns-18 c = words-same (refusalWords _) _ 17 (c .before .before .before .before .before .match .keys18) _ _ _ _ (c .before .before .put-bytes17 .ensures)
 
 same-length-19 : tie.Need-same-length-19
 same-length-19 c = search needs
 
 returns-19 : tie.Need-returns-19
 unfolding ascii reasons refusalWords
-returns-19 c = puts-same _ _ (words-other _ (above _ (above _ (above _ (above _ (above _ (above _ (above _ (above _ (above _ (above _ (above _ (above _ (above _ (above _ (above _ (above _ (above _ (above _ zero-le (c .before .before .before .before .before .match .rest .0 .0 .0 .0 .0 .0 .0 .0 .0 .0 .0 .0 .0 .0 .0 .0 .0 .1)) (c .before .before .before .before .before .match .rest .0 .0 .0 .0 .0 .0 .0 .0 .0 .0 .0 .0 .0 .0 .0 .0 .1)) (c .before .before .before .before .before .match .rest .0 .0 .0 .0 .0 .0 .0 .0 .0 .0 .0 .0 .0 .0 .0 .1)) (c .before .before .before .before .before .match .rest .0 .0 .0 .0 .0 .0 .0 .0 .0 .0 .0 .0 .0 .0 .1)) (c .before .before .before .before .before .match .rest .0 .0 .0 .0 .0 .0 .0 .0 .0 .0 .0 .0 .0 .1)) (c .before .before .before .before .before .match .rest .0 .0 .0 .0 .0 .0 .0 .0 .0 .0 .0 .0 .1)) (c .before .before .before .before .before .match .rest .0 .0 .0 .0 .0 .0 .0 .0 .0 .0 .0 .1)) (c .before .before .before .before .before .match .rest .0 .0 .0 .0 .0 .0 .0 .0 .0 .0 .1)) (c .before .before .before .before .before .match .rest .0 .0 .0 .0 .0 .0 .0 .0 .0 .1)) (c .before .before .before .before .before .match .rest .0 .0 .0 .0 .0 .0 .0 .0 .1)) (c .before .before .before .before .before .match .rest .0 .0 .0 .0 .0 .0 .0 .1)) (c .before .before .before .before .before .match .rest .0 .0 .0 .0 .0 .0 .1)) (c .before .before .before .before .before .match .rest .0 .0 .0 .0 .0 .1)) (c .before .before .before .before .before .match .rest .0 .0 .0 .0 .1)) (c .before .before .before .before .before .match .rest .0 .0 .0 .1)) (c .before .before .before .before .before .match .rest .0 .0 .1)) (c .before .before .before .before .before .match .rest .0 .1)) (c .before .before .before .before .before .match .rest .1))) _ _ _ _ (c .before .before .put-bytes19 .ensures)
+returns-19 c = puts-same _ _ (words-other _ _ (above _ (above _ (above _ (above _ (above _ (above _ (above _ (above _ (above _ (above _ (above _ (above _ (above _ (above _ (above _ (above _ (above _ (above _ zero-le (c .before .before .before .before .before .match .rest .0 .0 .0 .0 .0 .0 .0 .0 .0 .0 .0 .0 .0 .0 .0 .0 .0 .1)) (c .before .before .before .before .before .match .rest .0 .0 .0 .0 .0 .0 .0 .0 .0 .0 .0 .0 .0 .0 .0 .0 .1)) (c .before .before .before .before .before .match .rest .0 .0 .0 .0 .0 .0 .0 .0 .0 .0 .0 .0 .0 .0 .0 .1)) (c .before .before .before .before .before .match .rest .0 .0 .0 .0 .0 .0 .0 .0 .0 .0 .0 .0 .0 .0 .1)) (c .before .before .before .before .before .match .rest .0 .0 .0 .0 .0 .0 .0 .0 .0 .0 .0 .0 .0 .1)) (c .before .before .before .before .before .match .rest .0 .0 .0 .0 .0 .0 .0 .0 .0 .0 .0 .0 .1)) (c .before .before .before .before .before .match .rest .0 .0 .0 .0 .0 .0 .0 .0 .0 .0 .0 .1)) (c .before .before .before .before .before .match .rest .0 .0 .0 .0 .0 .0 .0 .0 .0 .0 .1)) (c .before .before .before .before .before .match .rest .0 .0 .0 .0 .0 .0 .0 .0 .0 .1)) (c .before .before .before .before .before .match .rest .0 .0 .0 .0 .0 .0 .0 .0 .1)) (c .before .before .before .before .before .match .rest .0 .0 .0 .0 .0 .0 .0 .1)) (c .before .before .before .before .before .match .rest .0 .0 .0 .0 .0 .0 .1)) (c .before .before .before .before .before .match .rest .0 .0 .0 .0 .0 .1)) (c .before .before .before .before .before .match .rest .0 .0 .0 .0 .1)) (c .before .before .before .before .before .match .rest .0 .0 .0 .1)) (c .before .before .before .before .before .match .rest .0 .0 .1)) (c .before .before .before .before .before .match .rest .0 .1)) (c .before .before .before .before .before .match .rest .1))) _ _ _ _ (c .before .before .put-bytes18 .ensures)
 
 pub put-refusal-words-spec : {M : Type 1} → statement M
 put-refusal-words-spec =
@@ -274,6 +274,7 @@ put-refusal-words-spec =
     put-bytes-requires-8
     slice-aggregate-put-bytes-9
     put-bytes-requires-9
+    put-field-words-requires
     slice-aggregate-put-bytes-10
     put-bytes-requires-10
     slice-aggregate-put-bytes-11
@@ -292,8 +293,6 @@ put-refusal-words-spec =
     put-bytes-requires-17
     slice-aggregate-put-bytes-18
     put-bytes-requires-18
-    slice-aggregate-put-bytes-19
-    put-bytes-requires-19
     same-length
     returns
     same-length-2

@@ -1,5 +1,5 @@
 use Rattle.show.specs.Lines.{ascii, refusalLine}
-use Rattle.show.proofs.Writing.{room-word, room-after, room-last, line-last, line-more, line-ways, refusal-room}
+use Rattle.show.proofs.Writing.{room-word, room-after, line-more, line-ways, refusal-room}
 use borrow.Author.Needs.{needs}
 use Rattle.show.proofs.store_refusal.Statement.{statement}
 use Rattle.show.proofs.store_refusal.Tie as tie
@@ -7,6 +7,7 @@ use Rattle.show.proofs.store_refusal.Reads as reads
 use Rattle.show.proofs.store_refusal.Lts as lts
 use Rattle.show.proofs.number_word.Reads as number-word-reads
 use Rattle.show.proofs.octets_word.Reads as octets-word-reads
+use Rattle.show.proofs.store_place.Reads as store-place-reads
 
 slice-aggregate-octets-word : tie.Need-slice-aggregate-octets-word
 slice-aggregate-octets-word c = search needs
@@ -29,16 +30,16 @@ octets-word-requires-2 : tie.Need-octets-word-requires-2
 unfolding ascii refusalLine
 octets-word-requires-2 c κs = room-word (room-after (room-after (refusal-room (c .before .before .before .before .before .before .before .before .before .before .before .before .before .args .r) _ (c .before .before .before .before .before .before .before .before .before .before .before .before .before .args .out .now) (c .before .before .before .before .before .before .before .before .before .before .before .before .before .pre)) (c .before .before .before .before .before .before .before .before .before .octets-word .ensures)) (c .before .before .before .before .number-word .ensures))
 
-number-word-requires-2 : tie.Need-number-word-requires-2
+store-place-requires : tie.Need-store-place-requires
 unfolding ascii refusalLine
-number-word-requires-2 c κs = room-last (room-after (room-after (room-after (refusal-room (c .before .before .before .before .before .before .before .before .before .before .before .before .before .before .before .before .before .args .r) _ (c .before .before .before .before .before .before .before .before .before .before .before .before .before .before .before .before .before .args .out .now) (c .before .before .before .before .before .before .before .before .before .before .before .before .before .before .before .before .before .pre)) (c .before .before .before .before .before .before .before .before .before .before .before .before .before .octets-word .ensures)) (c .before .before .before .before .before .before .before .before .number-word .ensures)) (c .before .before .before .octets-word2 .ensures))
+store-place-requires c κs = (room-after (room-after (room-after (refusal-room (c .before .before .before .before .before .before .before .before .before .before .before .before .before .before .before .before .before .args .r) _ (c .before .before .before .before .before .before .before .before .before .before .before .before .before .before .before .before .before .args .out .now) (c .before .before .before .before .before .before .before .before .before .before .before .before .before .before .before .before .before .pre)) (c .before .before .before .before .before .before .before .before .before .before .before .before .before .octets-word .ensures)) (c .before .before .before .before .before .before .before .before .number-word .ensures)) (c .before .before .before .octets-word2 .ensures)) .fits
 
 same-length : tie.Need-same-length
 same-length c = search needs
 
 returns : tie.Need-returns
 unfolding ascii refusalLine
-returns c = line-more _ _ _ _ _ _ _ _ _ (c .before .before .before .before .before .before .before .before .before .before .before .before .before .before .before .before .octets-word .ensures) (line-more _ _ _ _ _ _ _ _ _ (c .before .before .before .before .before .before .before .before .before .before .before .number-word .ensures) (line-more _ _ _ _ _ _ _ _ _ (c .before .before .before .before .before .before .octets-word2 .ensures) (line-last _ _ _ _ _ (c .before .before .number-word2 .ensures))))
+returns c = line-more _ _ _ _ _ _ _ _ _ (c .before .before .before .before .before .before .before .before .before .before .before .before .before .before .before .before .octets-word .ensures) (line-more _ _ _ _ _ _ _ _ _ (c .before .before .before .before .before .before .before .before .before .before .before .number-word .ensures) (line-more _ _ _ _ _ _ _ _ _ (c .before .before .before .before .before .before .octets-word2 .ensures) (c .before .before .store-place .ensures)))
 
 pub store-refusal-spec : {M : Type 1} → statement M
 store-refusal-spec =
@@ -50,6 +51,6 @@ store-refusal-spec =
     number-word-requires
     slice-aggregate-octets-word-2
     octets-word-requires-2
-    number-word-requires-2
+    store-place-requires
     same-length
     returns)
