@@ -8,15 +8,15 @@ use Rattle.octets.specs.Header.{headerSize, bodySize, lengthField, framed}
 use Rattle.text.specs.Text.{layout, token, character, single, goesOn, utf8, text}
 use Rattle.text.specs.Tokens.{cut, entries, filled, isTable, entry, orItself, stands, expanded, present, covers, covered, starts, shownLength}
 use Rattle.values.specs.Table.{rows, kindIn, known, attribute}
-use Rattle.values.specs.Times.{bits, longFlag, offsetFlag, offsetOctet, timeOf, inRange, isTime, sign, timeOctets}
+use Rattle.values.specs.Times.{bits, longFlag, offsetFlag, offsetOctet, timeOf, inRange, isTime, wrongPart, wrongTime, sign, timeOctets}
 use Rattle.values.specs.Bearers.{ensembleFlag, longSidFlag, ensembleOf, bearerOf, isBearer, ensembleBit, ensembleOctets, bearerOctets}
-use Rattle.values.specs.Values.{width, fits, meant, octetsOf}
+use Rattle.values.specs.Values.{width, fits, wrongField, meant, octetsOf}
 use Rattle.format.specs.Tree.{find, kindOf, count, records}
-use Rattle.format.specs.Judge.{isKnown, isItems, isTokens, isText, isValue, isTop, allowed, latest, stageAfter, limit, notAbove, shown, ofTop, rule, first, kindRules, itemRules, own, late, lateBefore, lateAfter, broken, within, waits, next, unless, followed, joined, byKind, items, outermost, judge}
+use Rattle.format.specs.Judge.{isKnown, isItems, isTokens, isText, isValue, wrongIn, isTop, allowed, latest, stageAfter, limit, notAbove, shown, ofTop, rule, valueRule, first, kindRules, itemRules, own, late, lateBefore, lateAfter, broken, within, waits, next, unless, followed, joined, byKind, items, outermost, judge}
 use Rattle.format.specs.Meaning.{opens, isChild, valueIn, attributesIn, cdataIn, leafOctets, means, tableIn, tableOf, maybe, rising, encode}
 use Rattle.format.specs.declared.SameAnswer.{SameAnswer}
 use Rattle.format.specs.declared.SameAnswer.the-variants.{Same, Different, FirstRefused, SecondRefused}
-use Rattle.format.specs.Answers.{refusal}
+use Rattle.format.specs.Answers.{refusal, wrongValue}
 use Rattle.format.specs.Same.{sameOctets, sameValue, sameMaybe, sameAttributes, sameMeaning, sameAnswer, hasNormal, isNormal}
 
 -- P9
@@ -79,6 +79,10 @@ no-tokens = 0x03 ∷ 0x09 ∷ 0x10 ∷ 0x07 ∷ 0x01 ∷ 0x05 ∷ 0x61 ∷ 0x62 
 abbrev pub cut-short : List ℕ
 cut-short = 0x03 ∷ 0x01 ∷ []
 
+-- a time with wrong hours and minutes
+abbrev pub mistimed : List ℕ
+mistimed = 0x03 ∷ 0x06 ∷ 0x81 ∷ 0x04 ∷ 0x30 ∷ 0xD4 ∷ 0x06 ∷ 0x3C ∷ []
+
 abbrev Pair : Type 0
 Pair = List ℕ × List ℕ × SameAnswer
 
@@ -96,7 +100,8 @@ pairs =
     ∷ (no-tokens, tokens, Same)
     ∷ (tokens, empty-cdata, Different)
     ∷ (cut-short, top, FirstRefused (refusal 3 0))
-    ∷ (top, cut-short, SecondRefused (refusal 3 0)) ∷ []
+    ∷ (top, cut-short, SecondRefused (refusal 3 0))
+    ∷ (top, mistimed, SecondRefused (wrongValue 2 3)) ∷ []
 
 abbrev Form : Type 0
 Form = List ℕ × Bool
@@ -124,5 +129,5 @@ pub record Computed : Type 0 where
   pub formed : map (λ c. isNormal (c .0)) forms ≡ map (λ c. c .1) forms
 
 pub computed : Computed
-unfolding among value digits headerSize bodySize lengthField framed layout token character single goesOn utf8 text cut entries filled isTable entry orItself stands expanded present covers covered starts shownLength rows kindIn known attribute bits longFlag offsetFlag offsetOctet timeOf inRange isTime sign timeOctets ensembleFlag longSidFlag ensembleOf bearerOf isBearer ensembleBit ensembleOctets bearerOctets width fits meant octetsOf find kindOf count records isKnown isItems isTokens isText isValue isTop allowed latest stageAfter limit notAbove shown ofTop rule first kindRules itemRules own late lateBefore lateAfter broken within waits next unless followed joined byKind items outermost judge opens isChild valueIn attributesIn cdataIn leafOctets means tableIn tableOf maybe rising encode sameOctets sameValue sameMaybe sameAttributes sameMeaning sameAnswer hasNormal isNormal
+unfolding among value digits headerSize bodySize lengthField framed layout token character single goesOn utf8 text cut entries filled isTable entry orItself stands expanded present covers covered starts shownLength rows kindIn known attribute bits longFlag offsetFlag offsetOctet timeOf inRange isTime wrongPart wrongTime sign timeOctets ensembleFlag longSidFlag ensembleOf bearerOf isBearer ensembleBit ensembleOctets bearerOctets width fits wrongField meant octetsOf find kindOf count records isKnown isItems isTokens isText isValue wrongIn isTop allowed latest stageAfter limit notAbove shown ofTop rule valueRule first kindRules itemRules own late lateBefore lateAfter broken within waits next unless followed joined byKind items outermost judge opens isChild valueIn attributesIn cdataIn leafOctets means tableIn tableOf maybe rising encode sameOctets sameValue sameMaybe sameAttributes sameMeaning sameAnswer hasNormal isNormal
 computed = record { compared = refl; formed = refl }

@@ -212,14 +212,14 @@ telling : (k : Kind) (v w : Value) (t : Bool) → Proper k v → Proper k w → 
 telling k v w t p q h = tests-agree {A = v ≡ w} t (sameValue v w) (h .equal, h .told) (value-exactly k v w p q)
 
 module _ (a b : List ℕ) (r : TakenTime) (re : r ≡ takenTime a) where
-  pub times-first : r ≡ ofTime.Bad → false ≡ sameStanding HoldsTime a b
+  pub times-first : (n : ℕ) → r ≡ ofTime.Bad n → false ≡ sameStanding HoldsTime a b
   unfolding fits
-  times-first q = no-first HoldsTime a b (time-refused a r re q)
+  times-first n q = no-first HoldsTime a b (time-refused a r re n q)
 
   module _ (t : Time) (rq : r ≡ ofTime.Good t) (s : TakenTime) (se : s ≡ takenTime b) where
-    pub times-second : s ≡ ofTime.Bad → false ≡ sameStanding HoldsTime a b
+    pub times-second : (n : ℕ) → s ≡ ofTime.Bad n → false ≡ sameStanding HoldsTime a b
     unfolding fits
-    times-second q = no-second HoldsTime a b (time-refused b s se q)
+    times-second n q = no-second HoldsTime a b (time-refused b s se n q)
 
     pub times-both : (u : Time) → s ≡ ofTime.Good u → (x : Bool) → Tells t u x → x ≡ sameStanding HoldsTime a b
     unfolding fits meant

@@ -16,7 +16,7 @@ use Rattle.values.specs.Times.{bits, longFlag, offsetFlag, offsetOctet, timeOf,
 use Rattle.values.specs.Bearers.{ensembleFlag, longSidFlag, ensembleOf, bearerOf, isBearer, ensembleBit, ensembleOctets, bearerOctets}
 use Rattle.values.specs.Values.{width, fits, meant, octetsOf}
 use Rattle.format.specs.declared.SameAnswer.the-variants.{Same, Different, FirstRefused, SecondRefused}
-use Rattle.format.specs.Answers.{refusal}
+use Rattle.format.specs.Answers.{refusal, wrongValue, sameOutcome}
 use Rattle.format.specs.Judge.{isKnown, isItems, judge}
 use Rattle.format.specs.Meaning.{opens, isChild}
 use Rattle.format.specs.Same.{sameOctets, sameValue, sameMaybe, sameAnswer, isNormal}
@@ -24,9 +24,10 @@ use Rattle.survey.specs.Places.{spanWithin, spanOfTag, bodyBy, bodyOfTag}
 use Rattle.compare.specs.Bodies.{sameBody}
 use Rattle.compare.specs.Walks.{childrenWithin, childrenIn}
 use Rattle.compare.specs.Items.{sameFound, sameFrom, sameSets, sameText, sameEach, sameElement, sameChildren}
-use Rattle.compare.proofs.Examples.{rising-order, falling-minus-zero, no-cdata, empty-cdata, top, cut-short, language, computed}
+use Rattle.compare.proofs.Examples.{rising-order, falling-minus-zero, no-cdata, empty-cdata, top, cut-short, mistimed, language, computed}
 
--- `same`: no CDATA and an empty one told as the same; another order of attributes and minus 0 told as different; the second object's refusal told of the first
+-- `same`: no CDATA and an empty one told as the same; another order of attributes and minus 0 told as different; the second object's refusal told of the first, or
+-- without its field
 pub empty-as-none : sameAnswer (judge no-cdata) (judge empty-cdata) ≡ Same → ⊥
 empty-as-none h = let z : Same ≡ Different = sym h ∙ ap (λ l. getD l 6 Same) (computed .compared) in let z : _≡_ {A = ℕ} 0 1 = cc in omega arith
 
@@ -35,6 +36,12 @@ order-counted h = let z : Different ≡ Same = sym h ∙ ap (λ l. getD l 3 Same
 
 pub told-of-first : sameAnswer (judge top) (judge cut-short) ≡ FirstRefused (refusal 3 0) → ⊥
 told-of-first h = let z : FirstRefused (refusal 3 0) ≡ SecondRefused (refusal 3 0) = sym h ∙ ap (λ l. getD l 12 Same) (computed .compared) in let z : _≡_ {A = ℕ} 0 1 = cc in omega arith
+
+pub field-left-out : sameAnswer (judge top) (judge mistimed) ≡ SecondRefused (refusal 9 2) → ⊥
+field-left-out h =
+    let e : SecondRefused (refusal 9 2) ≡ SecondRefused (wrongValue 2 3) = sym h ∙ ap (λ l. getD l 13 Same) (computed .compared) in
+    let z : _≡_ {A = ℕ} 0 3 = ap (λ a. sameOutcome a .field) e in
+    omega arith
 
 -- `is_normal`: attributes by falling tag and minus 0 passed; a normal form refused
 pub falling-passes : isNormal falling-minus-zero ≡ true → ⊥
