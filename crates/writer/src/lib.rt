@@ -21,8 +21,8 @@ use crate::emit::emit_items;
 use crate::lay::lay;
 use crate::size::Sized;
 use crate::size::size_items;
-use format::Refusal;
 use format::WriteAnswer;
+use format::refuse;
 use octets::Octets;
 use reader::places;
 use records::is_well_formed;
@@ -32,7 +32,7 @@ use survey::survey;
 fn refused(number: u8) -> WriteAnswer
     ensures { λ r. ⌜ r ≡ NotWritten (refusal number 0) ⌝ }
 {
-    WriteAnswer::NotWritten(Refusal { number, place: 0 })
+    WriteAnswer::NotWritten(refuse(number, 0))
 }
 
 // The first `count` records of the lists, whose bodies lie in `octets`, written to `room`. 16: they aren't a well-formed tree, or there
