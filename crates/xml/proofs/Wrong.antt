@@ -6,11 +6,11 @@ use native.Mathlib.Omega.{arith}
 use lib.ListN.{length, getD}
 use Rattle.octets.specs.declared.counts.Octets.{Octets as OctetCount}
 use Rattle.format.specs.declared.WriteAnswer.the-variants.{Octets as Handed, NotWritten}
-use Rattle.format.specs.Answers.{refusal}
+use Rattle.format.specs.Answers.{refusal, wrongValue}
 use Rattle.show.specs.Lines.{ascii}
 use Rattle.xml.specs.Export.{Exported, exportAnswer, ExportClaim}
 use Rattle.xml.specs.Export.Exported.{refuses, shows}
-use Rattle.xml.proofs.Examples.{shownAs, plain-id, marked, minus-zero, computed}
+use Rattle.xml.proofs.Examples.{shownAs, plain-id, mistimed, marked, minus-zero, computed}
 
 module _ (before after : List ℕ) where
   -- a text, though plain octets are present
@@ -36,6 +36,14 @@ module _ (before after : List ℕ) where
       let w : NotWritten (refusal 15 0) ≡ NotWritten (refusal 17 6) = c .answers ∙ ap (exportAnswer _) (computed .of-plain-id) in
       let y : refusal 15 0 ≡ refusal 17 6 = cc in
       omega (arith, ap (λ r. r .number) y)
+
+  -- the refusal of a time without its field
+  pub field-left-out : ExportClaim mistimed before after (NotWritten (refusal 9 2)) → ⊥
+  unfolding exportAnswer
+  field-left-out c =
+      let w : NotWritten (refusal 9 2) ≡ NotWritten (wrongValue 2 3) = c .answers ∙ ap (exportAnswer _) (computed .of-mistimed) in
+      let y : refusal 9 2 ≡ wrongValue 2 3 = cc in
+      omega (arith, ap (λ r. r .field) y)
 
 -- the text that an object is shown as
 told : Exported → List ℕ
