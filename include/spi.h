@@ -33,7 +33,8 @@ extern "C" {
  *
  * bits 63 to 56   the refusal, 0 where there is none
  * bits 55 to 48   spi_same alone: the object that is refused, 1 or 2
- * bits 47 to 0    the place of the refusal in its object; where there is none, the call's count
+ * bits 47 to 40   SPI_BAD_VALUE alone: the field of a time that is wrong, 0 for a value of another kind
+ * bits 39 to 0    the place of the refusal in its object; where there is none, the call's count
  */
 enum spi_refusal {
     SPI_OK = 0,
@@ -56,6 +57,16 @@ enum spi_refusal {
     SPI_PLAIN_OCTETS = 17         /* an item of plain octets, which have no XML */
 };
 
+/* The field of a time that is wrong, the lowest that applies.  A wrong length hides all others. */
+enum spi_field {
+    SPI_NO_FIELD = 0,
+    SPI_LENGTH = 1,
+    SPI_DATE = 2,    /* above 99,999 */
+    SPI_HOURS = 3,   /* above 23 */
+    SPI_MINUTES = 4, /* above 59 */
+    SPI_SECONDS = 5  /* above 59 */
+};
+
 static inline enum spi_refusal spi_refused(uint64_t answer)
 {
     return (enum spi_refusal)(answer >> 56);
@@ -66,10 +77,15 @@ static inline int spi_refused_object(uint64_t answer)
     return (int)(answer >> 48 & 0xFF);
 }
 
+static inline enum spi_field spi_refused_field(uint64_t answer)
+{
+    return (enum spi_field)(answer >> 40 & 0xFF);
+}
+
 /* The place of a refusal, else the count. */
 static inline size_t spi_value(uint64_t answer)
 {
-    return (size_t)(answer & 0xFFFFFFFFFFFF);
+    return (size_t)(answer & 0xFFFFFFFFFF);
 }
 
 /* ---- Records ----------------------------------------------------------------------------------

@@ -70,7 +70,7 @@ module _ (a b : List ℕ) (answer : SameAnswer) (claim : answer ≡ sameAnswer (
   pub same-says : (n : ℕ) → n ≡ packedSame o → SameC a b n
   same-says n h = record { answers = outcome-packed sameOutcome _ _ claim o told packedSame n h }
 
-module _ (object before : List ℕ) (most : ℕ) (m : most ≡ min (length before) 0xFFFF_FFFF_FFFF) (part : List ℕ) (answer : WriteAnswer)
+module _ (object before : List ℕ) (most : ℕ) (m : most ≡ min (length before) 0xFF_FFFF_FFFF) (part : List ℕ) (answer : WriteAnswer)
     (claim : ExportClaim object (take (most - 0) (drop 0 before)) part answer) (o : Outcome) (told : o ≡ writeOutcome answer) where
   room-is : sizeOf (take (most - 0) (drop 0 before)) ≡ roomFor before
   room-is = ap asOctets (length-take-le (most - 0) (drop 0 before) (omega arith) ∙ (let z : most - 0 ≡ roomFor before .0 = omega arith in z))

@@ -4,24 +4,30 @@ use Prim.Native.Nat.{ℕ, _+_, _*_, _/_, _%_, _<_}
 use native.Mathlib.Nat.{div-eq-of-lt-le, mul-add-mod-self-right, mod-eq-of-lt}
 use native.Mathlib.Omega.{arith}
 use Rattle.format.specs.declared.Span.{Span}
-use Rattle.spi_c.specs.Packed.{packed, numberIn, objectIn, valueIn, packedSpan, spanIn, SmallSpan}
+use Rattle.spi_c.specs.Packed.{packed, numberIn, objectIn, fieldIn, valueIn, packedSpan, spanIn, SmallSpan}
 
-module _ (n o v : ℕ) (small : o < 0x100) (fits : v < 0x1_0000_0000_0000) where
-  pub packed-number : numberIn (packed n o v) ≡ n
+module _ (n o f v : ℕ) (small : o < 0x100) (low : f < 0x100) (fits : v < 0x100_0000_0000) where
+  pub packed-number : numberIn (packed n o f v) ≡ n
   unfolding packed
   packed-number = div-eq-of-lt-le 0x100_0000_0000_0000 (omega arith) (omega arith)
 
-  packed-halves : packed n o v ≡ (n * 0x100 + o) * 0x1_0000_0000_0000 + v
+  pub packed-object : objectIn (packed n o f v) ≡ o
+  unfolding packed
+  packed-object =
+      let q : packed n o f v / 0x1_0000_0000_0000 ≡ n * 0x100 + o = div-eq-of-lt-le 0x1_0000_0000_0000 (omega arith) (omega arith) in
+      ap (λ x. x % 0x100) q ∙ (mul-add-mod-self-right n 0x100 o ∙ mod-eq-of-lt small)
+
+  packed-halves : packed n o f v ≡ ((n * 0x100 + o) * 0x100 + f) * 0x100_0000_0000 + v
   unfolding packed
   packed-halves = omega arith
 
-  pub packed-object : objectIn (packed n o v) ≡ o
-  packed-object =
-      let q : packed n o v / 0x1_0000_0000_0000 ≡ n * 0x100 + o = div-eq-of-lt-le 0x1_0000_0000_0000 (omega (arith, packed-halves)) (omega (arith, packed-halves)) in
-      ap (λ x. x % 0x100) q ∙ (mul-add-mod-self-right n 0x100 o ∙ mod-eq-of-lt small)
+  pub packed-field : fieldIn (packed n o f v) ≡ f
+  packed-field =
+      let q : packed n o f v / 0x100_0000_0000 ≡ (n * 0x100 + o) * 0x100 + f = div-eq-of-lt-le 0x100_0000_0000 (omega (arith, packed-halves)) (omega (arith, packed-halves)) in
+      ap (λ x. x % 0x100) q ∙ (mul-add-mod-self-right (n * 0x100 + o) 0x100 f ∙ mod-eq-of-lt low)
 
-  pub packed-value : valueIn (packed n o v) ≡ v
-  packed-value = ap (λ x. x % 0x1_0000_0000_0000) packed-halves ∙ (mul-add-mod-self-right (n * 0x100 + o) 0x1_0000_0000_0000 v ∙ mod-eq-of-lt fits)
+  pub packed-value : valueIn (packed n o f v) ≡ v
+  packed-value = ap (λ x. x % 0x100_0000_0000) packed-halves ∙ (mul-add-mod-self-right ((n * 0x100 + o) * 0x100 + f) 0x100_0000_0000 v ∙ mod-eq-of-lt fits)
 
 -- start and size are read back
 pub span-back : (s : Span) → SmallSpan s → spanIn (packedSpan s) ≡ s

@@ -32,50 +32,56 @@ use Rattle.xml.specs.Named.{plainAt}
 use Rattle.xml.specs.Export.{unlessPlain, exportOf, exportAnswer}
 use Rattle.xml.proofs.NamedOnly.{plain-inside}
 use Rattle.spi_c.specs.Packed.{packed, packedOutcome, outcomeIn, packedSame, sameIn, Small, SmallSame}
-use Rattle.spi_c.proofs.Packing.{packed-number, packed-object, packed-value}
+use Rattle.spi_c.proofs.Packing.{packed-number, packed-object, packed-field, packed-value}
 
 -- what every refusal of a call is
 pub record Kept (r : Refusal) : Type 0 where
   pub least : 1 ≤ r .number
   pub most : r .number ≤ 17
   pub place : r .place ≤ 32_768
+  pub field : r .field ≤ 5
 
 -- the outcomes that calls have: a count and no refusal, or a refusal and no count
 pub data Told : Outcome → Type 0 where
-  counts : (n : ℕ) → n < 0x1_0000_0000_0000 → Told (record { number = 0; place = 0; count = n })
-  refuses : (r : Refusal) → Kept r → Told (record { number = r .number; place = r .place; count = 0 })
+  counts : (n : ℕ) → n < 0x100_0000_0000 → Told (record { number = 0; place = 0; field = 0; count = n })
+  refuses : (r : Refusal) → Kept r → Told (record { number = r .number; place = r .place; field = r .field; count = 0 })
 
 pub told-small : {o : Outcome} → Told o → Small o
 told-small (counts n l) = record { place = omega arith; count = omega arith }
 told-small (refuses r k) = record { place = omega arith; count = omega arith }
 
--- number, place and count are read back
+-- number, place, field and count are read back
 pub told-back : {o : Outcome} → Told o → outcomeIn (packedOutcome o) ≡ o
 unfolding packedOutcome outcomeIn
-told-back (counts n l) = rw (packed-number 0 0 n (omega arith) (omega arith), packed-value 0 0 n (omega arith) (omega arith))
+told-back (counts n l) =
+    rw (packed-number 0 0 0 n (omega arith) (omega arith) (omega arith), packed-field 0 0 0 n (omega arith) (omega arith) (omega arith), packed-value 0 0 0 n (omega arith) (omega arith) (omega arith))
 told-back (refuses r k) =
     let e = ne-eqb (r .number) 0 (λ z. omega arith) in
-    rw (e, packed-number (r .number) 0 (r .place) (omega arith) (omega arith), packed-value (r .number) 0 (r .place) (omega arith) (omega arith), e)
+    let low : r .field < 0x100 = omega (arith, k .field) in
+    let fits : r .place < 0x100_0000_0000 = omega (arith, k .place) in
+    rw (e, packed-number (r .number) 0 (r .field) (r .place) (omega arith) low fits, packed-field (r .number) 0 (r .field) (r .place) (omega arith) low fits, packed-value (r .number) 0 (r .field) (r .place) (omega arith) low fits, e)
 
 -- the same of a comparison
 pub data ToldSame : SameOutcome → Type 0 where
-  decides : (b : Bool) → ToldSame (record { same = b; which = 0; number = 0; place = 0 })
-  refuses : (w : ℕ) (r : Refusal) → w < 0x100 → Kept r → ToldSame (record { same = false; which = w; number = r .number; place = r .place })
+  decides : (b : Bool) → ToldSame (record { same = b; which = 0; number = 0; place = 0; field = 0 })
+  refuses : (w : ℕ) (r : Refusal) → w < 0x100 → Kept r → ToldSame (record { same = false; which = w; number = r .number; place = r .place; field = r .field })
 
 pub told-same-small : {o : SameOutcome} → ToldSame o → SmallSame o
 told-same-small (decides b) = record { place = omega arith }
 told-same-small (refuses w r l k) = record { place = omega arith }
 
-packed-refusal : (n w v : ℕ) → 1 ≤ n → eqb (packed n w v) 1 ≡ false
+packed-refusal : (n w f v : ℕ) → 1 ≤ n → eqb (packed n w f v) 1 ≡ false
 unfolding packed
-packed-refusal n w v l = ne-eqb (packed n w v) 1 (λ z. omega arith)
+packed-refusal n w f v l = ne-eqb (packed n w f v) 1 (λ z. omega arith)
 
 same-refused : (w : ℕ) (r : Refusal) → w < 0x100 → Kept r
-    → sameIn (packedSame (record { same = false; which = w; number = r .number; place = r .place })) ≡ record { same = false; which = w; number = r .number; place = r .place }
+    → sameIn (packedSame (record { same = false; which = w; number = r .number; place = r .place; field = r .field })) ≡ record { same = false; which = w; number = r .number; place = r .place; field = r .field }
 unfolding packedSame sameIn
 same-refused w r l k =
     let e = ne-eqb (r .number) 0 (λ z. omega arith) in
-    rw (e, packed-refusal (r .number) w (r .place) (k .least), packed-object (r .number) w (r .place) l (omega arith), packed-number (r .number) w (r .place) l (omega arith), packed-value (r .number) w (r .place) l (omega arith), e)
+    let low : r .field < 0x100 = omega (arith, k .field) in
+    let fits : r .place < 0x100_0000_0000 = omega (arith, k .place) in
+    rw (e, packed-refusal (r .number) w (r .field) (r .place) (k .least), packed-object (r .number) w (r .field) (r .place) l low fits, packed-number (r .number) w (r .field) (r .place) l low fits, packed-field (r .number) w (r .field) (r .place) l low fits, packed-value (r .number) w (r .field) (r .place) l low fits, e)
 
 pub told-same-back : {o : SameOutcome} → ToldSame o → sameIn (packedSame o) ≡ o
 unfolding packedSame sameIn packed
@@ -97,11 +103,11 @@ module _ (o : List ℕ) where
           let a = leb-true 1 (length o) (and-left (leb 1 (length o)) (leb (length o) 32_768) e) in
           let b = leb-true (length o) 32_768 (and-right (leb 1 (length o)) (leb (length o) 32_768) e) in
           let i = refusal-inside o r a h in
-          record { least = i .least; most = omega (arith, i .most); place = omega (arith, i .place) }
+          record { least = i .least; most = omega (arith, i .most); place = omega (arith, i .place); field = i .field }
 
       go : (b : Bool) → sized ≡ b → unless (rule 1 0 b) (read outermost 0 o) ≡ refused r → Kept r
       go true e q = inside e
-      go false e q = let p : refusal 1 0 ≡ r = cc in subst (λ x. Kept x) p (record { least = omega arith; most = omega arith; place = omega arith })
+      go false e q = let p : refusal 1 0 ≡ r = cc in subst (λ x. Kept x) p (record { least = omega arith; most = omega arith; place = omega arith; field = omega arith })
 
   accepted-sized : (t : Items) → judge o ≡ accepted t → length o ≤ 32_768
   unfolding judge rule unless
@@ -115,7 +121,7 @@ module _ (o : List ℕ) where
   accepted-few t h = omega (arith, accepted-sized t h, few o t h)
 
 late-refusal : (n : ℕ) → 1 ≤ n → n ≤ 16 → Kept (refusal n 0)
-late-refusal n l m = record { least = l; most = omega arith; place = omega arith }
+late-refusal n l m = record { least = l; most = omega arith; place = omega arith; field = omega arith }
 
 -- ---- read
 read-cases : (n : ℕ) (o : List ℕ) (j : Judged) → judge o ≡ j → Told (readOutcome (readAnswer n j))
@@ -187,7 +193,7 @@ pub same-told : (o p : List ℕ) → ToldSame (sameOutcome (sameAnswer (judge o)
 same-told o p = same-cases o p (judge o) (judge p) refl refl
 
 -- ---- export
-export-cases : (o : List ℕ) (room : OctetCount) → room .0 < 0x1_0000_0000_0000 → (j : Judged) → judge o ≡ j → Told (writeOutcome (exportAnswer room (exportOf o j)))
+export-cases : (o : List ℕ) (room : OctetCount) → room .0 < 0x100_0000_0000 → (j : Judged) → judge o ≡ j → Told (writeOutcome (exportAnswer room (exportOf o j)))
 unfolding exportOf exportAnswer unlessPlain
 export-cases o room l (refused r) h = refuses r (judged-kept o r h)
 export-cases o room l (accepted t) h = plain (plainAt o) refl
@@ -198,7 +204,7 @@ export-cases o room l (accepted t) h = plain (plainAt o) refl
 
     plain : (p : Option ℕ) → plainAt o ≡ p → Told (writeOutcome (exportAnswer room (unlessPlain p (xml (meaningOf t)))))
     plain none e = fits (xml (meaningOf t)) (leb (length (xml (meaningOf t))) (room .0)) refl
-    plain (some place) e = refuses (refusal 17 place) (record { least = omega arith; most = omega arith; place = omega (arith, plain-inside o place e, accepted-sized o t h) })
+    plain (some place) e = refuses (refusal 17 place) (record { least = omega arith; most = omega arith; place = omega (arith, plain-inside o place e, accepted-sized o t h); field = omega arith })
 
-pub export-told : (o : List ℕ) (room : OctetCount) → room .0 < 0x1_0000_0000_0000 → Told (writeOutcome (exportAnswer room (exportOf o (judge o))))
+pub export-told : (o : List ℕ) (room : OctetCount) → room .0 < 0x100_0000_0000 → Told (writeOutcome (exportAnswer room (exportOf o (judge o))))
 export-told o room l = export-cases o room l (judge o) refl

@@ -2,13 +2,13 @@
 -- writer and compare, proofs/Wrong and its kin) is refuted of the call for C; and wrong ways to pack an outcome, refuted by computation.
 use mathlib.Core.Path.{_≡_, refl, ap, _∙_}
 use mathlib.Core.List.{List}
-use Prim.Native.Nat.{ℕ, _<_}
+use Prim.Native.Nat.{ℕ, _+_, _<_}
 use native.Mathlib.Omega.{arith}
 use lib.ListN.{getD}
 use Rattle.octets.specs.Counts.{sizeOf}
 use Rattle.format.specs.declared.ReadAnswer.the-variants.{Records, NotRead}
 use Rattle.format.specs.declared.SameAnswer.the-variants.{Same, Different, FirstRefused, SecondRefused}
-use Rattle.format.specs.Answers.{refusal, readOutcome, writeOutcome, sameOutcome}
+use Rattle.format.specs.Answers.{refusal, wrongValue, readOutcome, writeOutcome, sameOutcome}
 use Rattle.format.specs.Judge.{judge}
 use Rattle.format.specs.Calls.{Lists, places, readAnswer, spanOf, treeGiven, writeAnswer, lentBy, normalAnswer}
 use Rattle.format.specs.Same.{sameAnswer}
@@ -45,7 +45,7 @@ pub refusal-unnumbered : packedOutcome (readOutcome (NotRead (refusal 13 412))) 
 unfolding packedOutcome packed
 refusal-unnumbered e = omega arith
 
-pub count-refused : packedOutcome (readOutcome (Records (record { records = 7 }))) ≡ packed 7 0 0 → ⊥
+pub count-refused : packedOutcome (readOutcome (Records (record { records = 7 }))) ≡ packed 7 0 0 0 → ⊥
 unfolding packedOutcome packed
 count-refused e = omega arith
 
@@ -61,6 +61,15 @@ refusal-different e = omega arith
 pub same-different : packedSame (sameOutcome Same) ≡ packedSame (sameOutcome Different) → ⊥
 unfolding packedSame packed
 same-different e = omega arith
+
+-- ---- the field of a time left out; the field told as part of the place
+pub field-left-out : packedOutcome (readOutcome (NotRead (wrongValue 412 3))) ≡ packedOutcome (readOutcome (NotRead (refusal 9 412))) → ⊥
+unfolding packedOutcome packed
+field-left-out e = omega arith
+
+pub field-in-place : packedSame (sameOutcome (FirstRefused (wrongValue 412 3))) ≡ packedSame (sameOutcome (FirstRefused (refusal 9 (412 + 3)))) → ⊥
+unfolding packedSame packed
+field-in-place e = omega arith
 
 -- ---- start and size changed round; the end told for the size
 pub span-turned : packedSpan (record { start = 4; size = 2 }) ≡ packedSpan (record { start = 2; size = 4 }) → ⊥

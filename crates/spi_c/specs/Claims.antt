@@ -31,9 +31,9 @@ pub record NormalisesC (object : List ℕ) (lists lists′ : Lists) (store store
 pub record SameC (a b : List ℕ) (answer : ℕ) : Type 0 where
   pub answers : answer ≡ packedSame (sameOutcome (sameAnswer (judge a) (judge b)))
 
--- of the room for XML, which has no limit of its own, as many octets count as an answer can tell: 2^48 less one, which no process has
+-- of the room for XML, which has no limit of its own, as many octets count as an answer can tell: 2^40 less one
 abbrev pub roomFor : List ℕ → OctetCount
-roomFor room = asOctets (min (length room) 0xFFFF_FFFF_FFFF)
+roomFor room = asOctets (min (length room) 0xFF_FFFF_FFFF)
 
 pub record ExportsC (object before after : List ℕ) (a : ℕ) : Type 0 where
   pub answers : a ≡ packedOutcome (writeOutcome (exportAnswer (roomFor before) (exportOf object (judge object))))

@@ -6,9 +6,10 @@ use Rattle.format.specs.declared.Outcome.{Outcome}
 use Rattle.format.specs.declared.SameOutcome.{SameOutcome}
 use Rattle.format.specs.declared.Span.{Span}
 
--- bits 63 to 56: the number of a refusal, 0 for none; 55 to 48: the object that is refused, told by `same` alone; 47 to 0: a place or a count
-unfoldable pub packed : (number object value : ℕ) → ℕ
-packed number object value = number * 0x100_0000_0000_0000 + object * 0x1_0000_0000_0000 + value
+-- bits 63 to 56: the number of a refusal, 0 for none; 55 to 48: the object that is refused, told by `same` alone; 47 to 40: the field of a time that is wrong, told by 9
+-- alone (change request 2026-04); 39 to 0: a place or a count
+unfoldable pub packed : (number object field value : ℕ) → ℕ
+packed number object field value = number * 0x100_0000_0000_0000 + object * 0x1_0000_0000_0000 + field * 0x100_0000_0000 + value
 
 abbrev pub numberIn : ℕ → ℕ
 numberIn a = a / 0x100_0000_0000_0000
@@ -16,22 +17,26 @@ numberIn a = a / 0x100_0000_0000_0000
 abbrev pub objectIn : ℕ → ℕ
 objectIn a = a / 0x1_0000_0000_0000 % 0x100
 
+abbrev pub fieldIn : ℕ → ℕ
+fieldIn a = a / 0x100_0000_0000 % 0x100
+
 abbrev pub valueIn : ℕ → ℕ
-valueIn a = a % 0x1_0000_0000_0000
+valueIn a = a % 0x100_0000_0000
 
 -- the place of a refusal, or the count where there is none
 unfoldable pub packedOutcome : Outcome → ℕ
-packedOutcome o = packed (o .number) 0 (cond (eqb (o .number) 0) (o .count) (o .place))
+packedOutcome o = packed (o .number) 0 (o .field) (cond (eqb (o .number) 0) (o .count) (o .place))
 
 unfoldable pub outcomeIn : ℕ → Outcome
-outcomeIn a = record { number = numberIn a; place = cond (eqb (numberIn a) 0) 0 (valueIn a); count = cond (eqb (numberIn a) 0) (valueIn a) 0 }
+outcomeIn a =
+    record { number = numberIn a; place = cond (eqb (numberIn a) 0) 0 (valueIn a); field = fieldIn a; count = cond (eqb (numberIn a) 0) (valueIn a) 0 }
 
 -- the place of a refusal, or 1 where the objects mean the same
 unfoldable pub packedSame : SameOutcome → ℕ
-packedSame o = packed (o .number) (o .which) (cond (eqb (o .number) 0) (cond (o .same) 1 0) (o .place))
+packedSame o = packed (o .number) (o .which) (o .field) (cond (eqb (o .number) 0) (cond (o .same) 1 0) (o .place))
 
 unfoldable pub sameIn : ℕ → SameOutcome
-sameIn a = record { same = eqb a 1; which = objectIn a; number = numberIn a; place = cond (eqb (numberIn a) 0) 0 (valueIn a) }
+sameIn a = record { same = eqb a 1; which = objectIn a; number = numberIn a; place = cond (eqb (numberIn a) 0) 0 (valueIn a); field = fieldIn a }
 
 -- the start in the upper half, the size in the lower
 unfoldable pub packedSpan : Span → ℕ
@@ -42,11 +47,11 @@ spanIn a = record { start = a / 0x1_0000_0000; size = a % 0x1_0000_0000 }
 
 -- what fits its bits
 pub record Small (o : Outcome) : Type 0 where
-  pub place : o .place < 0x1_0000_0000_0000
-  pub count : o .count < 0x1_0000_0000_0000
+  pub place : o .place < 0x100_0000_0000
+  pub count : o .count < 0x100_0000_0000
 
 pub record SmallSame (o : SameOutcome) : Type 0 where
-  pub place : o .place < 0x1_0000_0000_0000
+  pub place : o .place < 0x100_0000_0000
 
 pub record SmallSpan (s : Span) : Type 0 where
   pub start : s .start < 0x1_0000_0000

@@ -10,11 +10,14 @@ use format::SameOutcome;
 use format::Span;
 use octets::Octets;
 
-fn packed(number: u8, object: u8, value: usize) -> u64
-    requires { ⌜ value < 0x1_0000_0000_0000 ⌝ }
-    ensures { λ r. ⌜ r ≡ packed number object value ⌝ }
+fn packed(number: u8, object: u8, field: u8, value: usize) -> u64
+    requires { ⌜ value < 0x100_0000_0000 ⌝ }
+    ensures { λ r. ⌜ r ≡ packed number object field value ⌝ }
 {
-    (number as u64) * 0x100_0000_0000_0000 + (object as u64) * 0x1_0000_0000_0000 + (value as u64)
+    (number as u64) * 0x100_0000_0000_0000
+        + (object as u64) * 0x1_0000_0000_0000
+        + (field as u64) * 0x100_0000_0000
+        + (value as u64)
 }
 
 fn packed_outcome(o: Outcome) -> u64
@@ -22,9 +25,9 @@ fn packed_outcome(o: Outcome) -> u64
     ensures { λ r. ⌜ r ≡ packedOutcome o ⌝ }
 {
     if o.number == 0 {
-        return packed(o.number, 0, o.count);
+        return packed(o.number, 0, o.field, o.count);
     }
-    packed(o.number, 0, o.place)
+    packed(o.number, 0, o.field, o.place)
 }
 
 fn packed_same(o: SameOutcome) -> u64
@@ -33,11 +36,11 @@ fn packed_same(o: SameOutcome) -> u64
 {
     if o.number == 0 {
         if o.same {
-            return packed(o.number, o.which, 1);
+            return packed(o.number, o.which, o.field, 1);
         }
-        return packed(o.number, o.which, 0);
+        return packed(o.number, o.which, o.field, 0);
     }
-    packed(o.number, o.which, o.place)
+    packed(o.number, o.which, o.field, o.place)
 }
 
 fn packed_span(s: Span) -> u64
@@ -141,10 +144,10 @@ pub extern "C" fn spi_same(a: &[u8], b: &[u8]) -> u64
 
 // As many octets as an answer can tell.
 fn at_most(size: Octets) -> Octets
-    ensures { λ r. ⌜ r .0 ≡ min (size .0) 0xFFFF_FFFF_FFFF ⌝ }
+    ensures { λ r. ⌜ r .0 ≡ min (size .0) 0xFF_FFFF_FFFF ⌝ }
 {
-    if size.0 > 0xFFFF_FFFF_FFFF {
-        return Octets(0xFFFF_FFFF_FFFF);
+    if size.0 > 0xFF_FFFF_FFFF {
+        return Octets(0xFF_FFFF_FFFF);
     }
     size
 }
