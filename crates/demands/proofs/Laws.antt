@@ -1,15 +1,15 @@
 -- What the proofs of the demands share: refusals of an object, memory that suffices, records that are a tree, in the words of the statements.
 use mathlib.Core.Path.{_≡_, refl, sym, ap, _∙_}
-use mathlib.Core.Bool.{Bool, true, false, cond, _&&_}
+use mathlib.Core.Bool.{Bool, true, false, cond, _&&_, false≢true}
 use mathlib.Core.Option.{none, some, Option·some-injective, Option·none-ne-some}
 use mathlib.Core.List.{List, [], _∷_, _++_}
-use Prim.Native.Nat.{ℕ, _+_, _≤_, min}
+use Prim.Native.Nat.{ℕ, _+_, _≤_, _<_, min}
 use native.Mathlib.Omega.{arith}
 use native.Mathlib.Nat.{min-le-left, min-le-right, le-min}
-use lib.Dec.{leb}
+use lib.Dec.{eqb, leb}
 use lib.ListN.{length, take, drop, take-append-drop}
 use lib.Seq.{length-take-le}
-use borrow.Author.Tests.{leb-true, le-leb}
+use borrow.Author.Tests.{eqb-true, eq-eqb, leb-true, le-leb}
 use Rattle.octets.proofs.Tests.{and-left, and-right, and-true}
 use Rattle.format.specs.declared.Refusal.{Refusal}
 use Rattle.format.specs.Answers.{refusal}
@@ -34,15 +34,40 @@ pub empty-refused : judge [] ≡ refused (refusal 1 0)
 unfolding judge rule unless
 empty-refused = refl
 
+-- what has no field but with 9 has the number 9 where it has one
+only-nine : (number field : ℕ) → 0 < field → ((number ≡ 9 → ⊥) → field ≡ 0) → number ≡ 9
+only-nine number field l other = go (eqb number 9) refl
+  where
+    go : (b : Bool) → eqb number 9 ≡ b → number ≡ 9
+    go true e = eqb-true number 9 e
+    go false e = absurd (omega (arith, other (λ q. false≢true (sym e ∙ eq-eqb number 9 q))))
+
 -- a refusal of an object
-pub of-object : (object : List ℕ) (r : Refusal) → judge object ≡ refused r → OfObject object (r .number) (r .place)
+pub of-object : (object : List ℕ) (r : Refusal) → judge object ≡ refused r → OfObject object (r .number) (r .place) (r .field)
 of-object [] r h =
     let e : r ≡ refusal 1 0 = (let q = empty-refused in cc) in
     let number : r .number ≡ 1 = ap (λ x. x .number) e in
-    record { least = omega arith; most = omega arith; inside = λ l. absurd (omega arith); empty = λ l. ap (λ x. x .place) e; one = λ n. ap (λ x. x .place) e }
+    let field : r .field ≡ 0 = ap (λ x. x .field) e in
+    record {
+      least = omega arith;
+      most = omega arith;
+      inside = λ l. absurd (omega arith);
+      empty = λ l. ap (λ x. x .place) e;
+      one = λ n. ap (λ x. x .place) e;
+      few = omega arith;
+      nine = λ l. absurd (omega arith);
+    }
 of-object (b ∷ bs) r h =
     let i = refusal-inside (b ∷ bs) r (omega arith) h in
-    record { least = i .least; most = i .most; inside = λ l. i .place; empty = λ l. absurd (omega arith); one = λ n. one-only (b ∷ bs) r h n .0 }
+    record {
+      least = i .least;
+      most = i .most;
+      inside = λ l. i .place;
+      empty = λ l. absurd (omega arith);
+      one = λ n. one-only (b ∷ bs) r h n .0;
+      few = i .field;
+      nine = λ l. only-nine (r .number) (r .field) l (i .nine);
+    }
 
 -- memory that suffices is what `fitsLent` tests
 module _ (lent : Lent) (t : Items) where

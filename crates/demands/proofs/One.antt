@@ -57,19 +57,19 @@ unfolding judgeAnswer
 judge-ends object answer e = subst (λ x. Ends (OfObject object) (Unit {0}) (readOutcome x)) (sym e) (go (judge object) refl)
   where
     go : (j : Judged) → judge object ≡ j → Ends (OfObject object) (Unit {0}) (readOutcome (judgeAnswer j))
-    go (refused r) h = refusedAt (r .number) (r .place) (of-object object r h) tt
+    go (refused r) h = refusedAt (r .number) (r .place) (r .field) (of-object object r h) tt
     go (accepted t) h = answered (count t)
 
 read-ended : (object : List ℕ) (n : ℕ) (Kept : Type 0) (j : Judged) → judge object ≡ j → (readRecords n j ≡ [] → Kept)
     → Ends (Refuses object (14 ∷ [])) Kept (readOutcome (readAnswer n j))
 unfolding readAnswer readRecords among
-read-ended object n Kept (refused r) h kept = refusedAt (r .number) (r .place) (forObject (r .number) (r .place) (of-object object r h)) (kept refl)
+read-ended object n Kept (refused r) h kept = refusedAt (r .number) (r .place) (r .field) (forObject (r .number) (r .place) (r .field) (of-object object r h)) (kept refl)
 read-ended object n Kept (accepted t) h kept = go (leb (count t) n) kept
   where
     go : (b : Bool) → (cond b (recordsOf t) [] ≡ [] → Kept)
         → Ends (Refuses object (14 ∷ [])) Kept (readOutcome (cond b (Records (record { records = count t })) (NotRead (refusal 14 0))))
     go true k = answered (count t)
-    go false k = refusedAt 14 0 (forCall 14 0 (ofCall 14 refl)) (k refl)
+    go false k = refusedAt 14 0 0 (forCall 14 0 0 (ofCall 14 refl)) (k refl)
 
 pub read-ends : ReadEnds
 read-ends object before after answer c =
@@ -96,10 +96,10 @@ write-ends n lists lent before after answer c =
     one : (t : Items) (b : Bool) → after ≡ sets before 0 (cond b (encode (means [] t)) [])
         → Ends (OfCall (15 ∷ 16 ∷ [])) (after ≡ before) (writeOutcome (cond b (Octets (sizeOf (encode (means [] t)))) (NotWritten (refusal 15 0))))
     one t true e = answered (length (encode (means [] t)))
-    one t false e = refusedAt 15 0 (ofCall 15 refl) (e ∙ sets-none before 0)
+    one t false e = refusedAt 15 0 0 (ofCall 15 refl) (e ∙ sets-none before 0)
 
     go : (o : Option Items) → after ≡ sets before 0 (writeOctets (sizeOf before) o) → Ends (OfCall (15 ∷ 16 ∷ [])) (after ≡ before) (writeOutcome (writeAnswer (sizeOf before) o))
-    go none e = refusedAt 16 0 (ofCall 16 refl) (e ∙ sets-none before 0)
+    go none e = refusedAt 16 0 0 (ofCall 16 refl) (e ∙ sets-none before 0)
     go (some t) e = one t (roomy (sizeOf before) (encode (means [] t))) e
 
 -- nothing is handed out of an object with a refusal
@@ -121,11 +121,11 @@ lack lent t f = go (leb (count t) (lent .records)) refl
     go true q = (refusal 15 0, refl, fifteen (leb-true (count t) (lent .records) q) (λ s. false≢true (sym f ∙ suffices-fits lent t s)))
     go false q = (refusal 14 0, refl, fourteen (leb-false (count t) (lent .records) q))
 
--- and that has the number 14 or 15, at 0
-lack-told : (object : List ℕ) (lent : Lent) (t : Items) (r : Refusal) → Lacks lent t r → Refuses object (14 ∷ 15 ∷ []) (r .number) (r .place)
+-- and that has the number 14 or 15, at 0, with field 0
+lack-told : (object : List ℕ) (lent : Lent) (t : Items) (r : Refusal) → Lacks lent t r → Refuses object (14 ∷ 15 ∷ []) (r .number) (r .place) (r .field)
 unfolding among
-lack-told object lent t r (fourteen l) = forCall 14 0 (ofCall 14 refl)
-lack-told object lent t r (fifteen l s) = forCall 15 0 (ofCall 15 refl)
+lack-told object lent t r (fourteen l) = forCall 14 0 0 (ofCall 14 refl)
+lack-told object lent t r (fifteen l s) = forCall 15 0 0 (ofCall 15 refl)
 
 -- how normalising ends, of any judgement
 data Normal (lent : Lent) : Judged → Type 0 where
@@ -157,8 +157,8 @@ normalise-ends object lists lists′ store store′ room room′ answer c =
     )
 
     go : (j : Judged) → judge object ≡ j → Normal lent j → Ends (Refuses object (14 ∷ 15 ∷ [])) ((lists′ ≡ lists) × (store′ ≡ store) × (room′ ≡ room)) (writeOutcome (normalAnswer lent (judge object)))
-    go (refused r) h (bad e) = rw (h, e) (refusedAt (r .number) (r .place) (forObject (r .number) (r .place) (of-object object r h)) (kept r (rw h e)))
-    go (accepted t) h (lacking r e l) = rw (h, e) (refusedAt (r .number) (r .place) (lack-told object lent t r l) (kept r (rw h e)))
+    go (refused r) h (bad e) = rw (h, e) (refusedAt (r .number) (r .place) (r .field) (forObject (r .number) (r .place) (r .field) (of-object object r h)) (kept r (rw h e)))
+    go (accepted t) h (lacking r e l) = rw (h, e) (refusedAt (r .number) (r .place) (r .field) (lack-told object lent t r l) (kept r (rw h e)))
     go (accepted t) h (good e s) = rw (h, e) (answered (length (normalOf t)))
 
 pub same-ends : SameCallEnds
@@ -170,8 +170,8 @@ same-ends a b answer e = subst (λ x. SameEnds a b (sameOutcome x)) (sym e) (go 
     told false = compared false
 
     go : (j k : Judged) → judge a ≡ j → judge b ≡ k → SameEnds a b (sameOutcome (sameAnswer j k))
-    go (refused r) k h g = firstAt (r .number) (r .place) (of-object a r h)
-    go (accepted t) (refused r) h g = secondAt (r .number) (r .place) (of-object b r g)
+    go (refused r) k h g = firstAt (r .number) (r .place) (r .field) (of-object a r h)
+    go (accepted t) (refused r) h g = secondAt (r .number) (r .place) (r .field) (of-object b r g)
     go (accepted t) (accepted u) h g = told (sameMeaning (meaningOf t) (meaningOf u))
 
 -- ---- the order of the refusals

@@ -17,7 +17,7 @@ use Rattle.format.specs.declared.Refusal.{Refusal}
 use Rattle.format.specs.Answers.{refusal}
 use Rattle.format.specs.Tree.{Items}
 use Rattle.format.specs.Tree.Items.{end, item}
-use Rattle.format.specs.Judge.{Judged, isKnown, isItems, Context, rule, first, kindRules, itemRules, own, late, lateBefore, lateAfter, broken, within, next, unless, followed, joined, byKind, items, outermost, judge}
+use Rattle.format.specs.Judge.{Judged, isKnown, isItems, wrongIn, isValue, Context, rule, valueRule, first, kindRules, itemRules, own, late, lateBefore, lateAfter, broken, within, next, unless, followed, joined, byKind, items, outermost, judge}
 use Rattle.format.specs.Judge.Judged.{refused, accepted}
 use Rattle.format.proofs.Induction.{bodyOf, laterOf}
 
@@ -40,6 +40,11 @@ unfolding first
 other-then none xs f g = g
 other-then (some r) xs f g = f
 
+other-value : (place field : ℕ) (b : Bool) → Other (valueRule place field b)
+unfolding valueRule
+other-value place field true = tt
+other-value place field false = λ e. omega arith
+
 other-none : Other (first [])
 unfolding first
 other-none = tt
@@ -48,7 +53,7 @@ module _ (c : Context) (at tag : ℕ) (body : List ℕ) where
   other-kind : (k : Option Kind) → Other (kindRules c at tag body k)
   unfolding kindRules
   other-kind k =
-      other-first 9 at _ _ (λ e. omega arith) (other-first 10 at _ _ (λ e. omega arith) (other-first 11 at _ _ (λ e. omega arith)
+      other-then (valueRule at (wrongIn k body) (isValue k body)) _ (other-value at (wrongIn k body) (isValue k body)) (other-first 10 at _ _ (λ e. omega arith) (other-first 11 at _ _ (λ e. omega arith)
       (other-first 12 at _ _ (λ e. omega arith) (other-first 13 at _ _ (λ e. omega arith) other-none))))
 
   other-item : Other (itemRules c at tag body)

@@ -75,9 +75,9 @@ export-ends object before after answer c =
     kept o e l = l ∙ ap (sets before 0) e ∙ sets-none before 0
 
     go : (j : Judged) → judge object ≡ j → (a : WriteAnswer) (o : List ℕ) → Exports object (sizeOf before) j a o → after ≡ sets before 0 o → Ends (ExportRefuses object) (after ≡ before) (writeOutcome a)
-    go (refused r) h a o bad l = refusedAt (r .number) (r .place) (asOthers (r .number) (r .place) (forObject (r .number) (r .place) (of-object object r h))) (kept [] refl l)
-    go (accepted t) h a o (plain place p) l = refusedAt 17 place (forPlain place (plain-inside object place p)) (kept [] refl l)
-    go (accepted t) h a o (large p q) l = refusedAt 15 0 (asOthers 15 0 (forCall 15 0 (ofCall 15 refl))) (kept [] refl l)
+    go (refused r) h a o bad l = refusedAt (r .number) (r .place) (r .field) (asOthers (r .number) (r .place) (r .field) (forObject (r .number) (r .place) (r .field) (of-object object r h))) (kept [] refl l)
+    go (accepted t) h a o (plain place p) l = refusedAt 17 place 0 (forPlain place (plain-inside object place p)) (kept [] refl l)
+    go (accepted t) h a o (large p q) l = refusedAt 15 0 0 (asOthers 15 0 0 (forCall 15 0 0 (ofCall 15 refl))) (kept [] refl l)
     go (accepted t) h a o (good p q) l = answered (length (xml (meaningOf t)))
 
 -- ---- in which order it refuses

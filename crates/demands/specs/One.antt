@@ -43,35 +43,38 @@ use Rattle.format.specs.Loaded.{storeOf}
 use Rattle.format.specs.Calls.{Lists, row, places, Lent, lentBy, judgeAnswer, ReadClaim, ReadAtMostClaim, ReadRecordsClaim, WriteClaim, NormaliseClaim}
 use Rattle.format.specs.Same.{sameAnswer}
 
--- ---- an answer, or one numbered refusal and a place; and a refusal leaves all lent memory untouched
+-- ---- an answer, or one numbered refusal with a place and a field; and a refusal leaves all lent memory untouched
 
--- a refusal for what stands in the object: a number from 1 to 13, and the offset of one of its octets; 0 for 1, and where the object is empty
-pub record OfObject (object : List ℕ) (number place : ℕ) : Type 0 where
+-- a refusal for what stands in the object: a number from 1 to 13, and the offset of one of its octets; 0 for 1, and where the object is empty. Its field is at most 5,
+-- and above 0 only with 9 (change request 2026-04)
+pub record OfObject (object : List ℕ) (number place field : ℕ) : Type 0 where
   pub least : 1 ≤ number
   pub most : number ≤ 13
   pub inside : 0 < length object → place < length object
   pub empty : length object ≡ 0 → place ≡ 0
   pub one : number ≡ 1 → place ≡ 0
+  pub few : field ≤ 5
+  pub nine : 0 < field → number ≡ 9
 
--- a refusal for what is lent or given: one of the numbers that the call has for that, at place 0
-pub data OfCall (numbers : List ℕ) : ℕ → ℕ → Type 0 where
-  ofCall : (number : ℕ) → among number numbers ≡ true → OfCall numbers number 0
+-- a refusal for what is lent or given: one of the numbers that the call has for that, at place 0, with field 0
+pub data OfCall (numbers : List ℕ) : ℕ → ℕ → ℕ → Type 0 where
+  ofCall : (number : ℕ) → among number numbers ≡ true → OfCall numbers number 0 0
 
-pub data Refuses (object numbers : List ℕ) : ℕ → ℕ → Type 0 where
-  forObject : (number place : ℕ) → OfObject object number place → Refuses object numbers number place
-  forCall : (number place : ℕ) → OfCall numbers number place → Refuses object numbers number place
+pub data Refuses (object numbers : List ℕ) : ℕ → ℕ → ℕ → Type 0 where
+  forObject : (number place field : ℕ) → OfObject object number place field → Refuses object numbers number place field
+  forCall : (number place field : ℕ) → OfCall numbers number place field → Refuses object numbers number place field
 
--- how a call ends, in document 01's numbers: with an answer, which has no refusal's number, no place, and a count; or with a number and a place for which there
--- is a reason, the count 0, and all that was lent kept
-pub data Ends (Reason : ℕ → ℕ → Type 0) (Kept : Type 0) : Outcome → Type 0 where
-  answered : (n : ℕ) → Ends Reason Kept (record { number = 0; place = 0; count = n })
-  refusedAt : (number place : ℕ) → Reason number place → Kept → Ends Reason Kept (record { number = number; place = place; count = 0 })
+-- how a call ends, in document 01's numbers: with an answer, which has no refusal's number, no place, no field, and a count; or with a number, a place and a field
+-- for which there is a reason, the count 0, and all that was lent kept
+pub data Ends (Reason : ℕ → ℕ → ℕ → Type 0) (Kept : Type 0) : Outcome → Type 0 where
+  answered : (n : ℕ) → Ends Reason Kept (record { number = 0; place = 0; field = 0; count = n })
+  refusedAt : (number place field : ℕ) → Reason number place field → Kept → Ends Reason Kept (record { number = number; place = place; field = field; count = 0 })
 
 -- the same of two objects with nothing lent: which of them is refused is told too
 pub data SameEnds (a b : List ℕ) : SameOutcome → Type 0 where
-  answered : (same : Bool) → SameEnds a b (record { same = same; which = 0; number = 0; place = 0 })
-  firstAt : (number place : ℕ) → OfObject a number place → SameEnds a b (record { same = false; which = 1; number = number; place = place })
-  secondAt : (number place : ℕ) → OfObject b number place → SameEnds a b (record { same = false; which = 2; number = number; place = place })
+  answered : (same : Bool) → SameEnds a b (record { same = same; which = 0; number = 0; place = 0; field = 0 })
+  firstAt : (number place field : ℕ) → OfObject a number place field → SameEnds a b (record { same = false; which = 1; number = number; place = place; field = field })
+  secondAt : (number place field : ℕ) → OfObject b number place field → SameEnds a b (record { same = false; which = 2; number = number; place = place; field = field })
 
 -- judge gives 1 to 13; nothing is lent to it
 abbrev pub JudgeEnds : Type 0

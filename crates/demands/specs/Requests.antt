@@ -8,9 +8,14 @@ use Rattle.format.specs.declared.ReadAnswer.{ReadAnswer}
 use Rattle.format.specs.declared.ReadAnswer.the-variants.{Records, NotRead}
 use Rattle.format.specs.declared.WriteAnswer.{WriteAnswer}
 use Rattle.format.specs.declared.WriteAnswer.the-variants.{Octets as Written, NotWritten}
-use Rattle.format.specs.Answers.{refusal}
+use Rattle.format.specs.declared.SameAnswer.{SameAnswer}
+use Rattle.format.specs.declared.SameAnswer.the-variants.{FirstRefused}
+use Rattle.format.specs.Answers.{refusal, wrongValue}
+use Rattle.format.specs.Judge.{judge}
 use Rattle.format.specs.Calls.{Lists, places, ReadClaim, WriteClaim, NormaliseClaim}
+use Rattle.format.specs.Same.{sameAnswer}
 use Rattle.format.specs.Bench.{accented}
+use Rattle.xml.specs.Export.{ExportClaim}
 
 -- 2026-01: shown text is counted in characters. A top with a short name of so many letters of two octets each, as an object
 abbrev pub named : ℕ → List ℕ
@@ -41,3 +46,22 @@ pub record NineFail : Type 0 where
       (lists lists′ : Lists) (store store′ room room′ : List ℕ) (answer : WriteAnswer) → NormaliseClaim (named 9) lists lists′ store store′ room room′ answer
       → answer ≡ NotWritten (refusal 13 4)
   pub written : (before after : List ℕ) (answer : WriteAnswer) → WriteClaim 3 (namedRecords 9) (accented 9) before after answer → answer ≡ NotWritten (refusal 16 0)
+
+-- 2026-04: refusal 9 tells the field of a time that is wrong. What the calls answer of an object with one, whatever is lent
+pub record TellsField (object : List ℕ) (place field : ℕ) : Type 0 where
+  pub read : (before after : Lists) (answer : ReadAnswer) → ReadClaim object before after answer → answer ≡ NotRead (wrongValue place field)
+  pub normalised :
+      (lists lists′ : Lists) (store store′ room room′ : List ℕ) (answer : WriteAnswer) → NormaliseClaim object lists lists′ store store′ room room′ answer
+      → answer ≡ NotWritten (wrongValue place field)
+  pub compared : (other : List ℕ) (answer : SameAnswer) → answer ≡ sameAnswer (judge object) (judge other) → answer ≡ FirstRefused (wrongValue place field)
+  pub exported : (before after : List ℕ) (answer : WriteAnswer) → ExportClaim object before after answer → answer ≡ NotWritten (wrongValue place field)
+
+-- a creation time of a wrong length, whose other fields would be wrong too; with a wrong date and all behind it; with wrong hours; minutes; seconds; and a version of
+-- a wrong length
+pub record FieldsTold : Type 0 where
+  pub length : TellsField (0x03 ∷ 0x07 ∷ 0x81 ∷ 0x05 ∷ 0x61 ∷ 0xA8 ∷ 0x06 ∷ 0x3C ∷ 0x00 ∷ []) 2 1
+  pub date : TellsField (0x03 ∷ 0x08 ∷ 0x81 ∷ 0x06 ∷ 0x61 ∷ 0xA8 ∷ 0x0E ∷ 0x3C ∷ 0xF0 ∷ 0x00 ∷ []) 2 2
+  pub hours : TellsField (0x03 ∷ 0x08 ∷ 0x81 ∷ 0x06 ∷ 0x61 ∷ 0xA7 ∷ 0xCE ∷ 0x3C ∷ 0xF0 ∷ 0x00 ∷ []) 2 3
+  pub minutes : TellsField (0x03 ∷ 0x08 ∷ 0x81 ∷ 0x06 ∷ 0x61 ∷ 0xA7 ∷ 0xCD ∷ 0xFC ∷ 0xF0 ∷ 0x00 ∷ []) 2 4
+  pub seconds : TellsField (0x03 ∷ 0x08 ∷ 0x81 ∷ 0x06 ∷ 0x61 ∷ 0xA7 ∷ 0xCD ∷ 0xFB ∷ 0xF0 ∷ 0x00 ∷ []) 2 5
+  pub other : TellsField (0x03 ∷ 0x03 ∷ 0x80 ∷ 0x01 ∷ 0x00 ∷ []) 2 0

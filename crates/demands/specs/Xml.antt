@@ -31,10 +31,10 @@ use Rattle.demands.specs.One.{Refuses, Ends}
 
 -- ---- how it ends, and in which order it refuses
 
--- 1 to 13 for what stands in the object, 17 at an octet of the object, or 15
-pub data ExportRefuses (object : List ℕ) : ℕ → ℕ → Type 0 where
-  asOthers : (number place : ℕ) → Refuses object (15 ∷ []) number place → ExportRefuses object number place
-  forPlain : (place : ℕ) → place < length object → ExportRefuses object 17 place
+-- 1 to 13 for what stands in the object, 17 at an octet of the object, with field 0, or 15
+pub data ExportRefuses (object : List ℕ) : ℕ → ℕ → ℕ → Type 0 where
+  asOthers : (number place field : ℕ) → Refuses object (15 ∷ []) number place field → ExportRefuses object number place field
+  forPlain : (place : ℕ) → place < length object → ExportRefuses object 17 place 0
 
 abbrev pub ExportEnds : Type 0
 ExportEnds =
