@@ -55,7 +55,7 @@ fn say_if_refused(path: &[u8], judged: Outcome) -> u8 {
     if judged.number == 0 {
         return GOOD;
     }
-    say_refused(path, judged.number, judged.place)
+    say_refused(path, judged.number, judged.place, judged.field)
 }
 
 // Each file that is refused has its line.

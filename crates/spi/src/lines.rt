@@ -51,21 +51,21 @@ pub fn say_records(n: usize) {
     say(&line[..end]);
 }
 
-fn say_words(number: u8) {
+fn say_words(number: u8, field: u8) {
     let mut line = [0u8; LINE];
-    let end = end_of(show::put_refusal_words(&mut line, 0, number), &line);
+    let end = end_of(show::put_refusal_words(&mut line, 0, number, field), &line);
     say(&line[..end]);
 }
 
-// The line of a refused file, and the status.
-pub fn say_refused(path: &[u8], number: u8, place: usize) -> u8 {
+// The line of a refused file, and the status. The field of a time that is wrong is told in words.
+pub fn say_refused(path: &[u8], number: u8, place: usize, field: u8) -> u8 {
     say(path);
     say(b": refused ");
     say_number(number as usize);
     say(b" at ");
     say_number(place);
     say(b": ");
-    say_words(number);
+    say_words(number, field);
     say(b"\n");
     BAD
 }

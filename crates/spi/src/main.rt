@@ -85,7 +85,7 @@ fn save_normal(path: &[u8], object: &[u8]) -> u8 {
     let mut normal = room();
     let made = normal_form(object, &mut normal);
     if made.number > 0 {
-        return say_refused(path, made.number, made.place);
+        return say_refused(path, made.number, made.place, made.field);
     }
     let size = made.size.0;
     save_made(path, object, b"normal form", &normal[..size])
@@ -95,7 +95,7 @@ fn save_xml(path: &[u8], object: &[u8]) -> u8 {
     let mut text = text_room();
     let made = xml_text(object, &mut text);
     if made.number > 0 {
-        return say_refused(path, made.number, made.place);
+        return say_refused(path, made.number, made.place, made.field);
     }
     let size = made.size.0;
     save_made(path, object, b"XML", &text[..size])

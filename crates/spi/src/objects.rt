@@ -15,17 +15,18 @@ ghost use mathlib.Core.Path.{_≡_};
 ghost use Rattle.format.specs.Answers.{writeOutcome};
 ghost use Rattle.io.specs.Counts.{Counts};
 
-// A normal form or an XML in a lent room: how many octets it has. Where there is none, the number and the place of the refusal, and no octets.
+// A normal form or an XML in a lent room: how many octets it has. Where there is none, the number, the place and the field of the refusal, and no octets.
 pub struct Made {
     pub number: u8,
     pub place: usize,
+    pub field: u8,
     pub size: Octets,
 }
 
 pub fn check(path: &[u8], object: &[u8]) -> u8 {
     let judged = judge::judge(object).outcome();
     if judged.number > 0 {
-        return say_refused(path, judged.number, judged.place);
+        return say_refused(path, judged.number, judged.place, judged.field);
     }
     say_accepted(path, judged.count, Octets(object.len()));
     GOOD
@@ -94,7 +95,7 @@ pub fn list(path: &[u8], object: &[u8]) -> u8 {
     );
     let read = answer.outcome();
     if read.number > 0 {
-        return say_refused(path, read.number, read.place);
+        return say_refused(path, read.number, read.place, read.field);
     }
     say_listing(
         &tags,
@@ -115,11 +116,13 @@ fn as_made(answer: WriteAnswer) -> Made
         WriteAnswer::Octets(size) => Made {
             number: 0,
             place: 0,
+            field: 0,
             size,
         },
         WriteAnswer::NotWritten(refusal) => Made {
             number: refusal.number,
             place: refusal.place,
+            field: refusal.field,
             size: Octets(0),
         },
     }
