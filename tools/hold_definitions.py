@@ -51,28 +51,28 @@ pub data Case : Type 0 where
   compare : List ℕ → List ℕ → Case
 
 pub data Answer : Type 0 where
-  refused : ℕ → ℕ → Answer
+  refused : ℕ → ℕ → ℕ → Answer
   listed : List (List ℕ) → Answer
   handedOut : List ℕ → Answer
   same different : Answer
-  refusedFirst refusedSecond : ℕ → ℕ → Answer
+  refusedFirst refusedSecond : ℕ → ℕ → ℕ → Answer
 
 abbrev pub line : Record → List ℕ
 line r = r .depth ∷ r .tag ∷ r .kind ∷ r .start ∷ r .size ∷ []
 
 abbrev pub afterRead : ReadAnswer → List Record → Answer
 afterRead (Records n) rs = listed (map line rs)
-afterRead (NotRead r) rs = refused (r .number) (r .place)
+afterRead (NotRead r) rs = refused (r .number) (r .place) (r .field)
 
 abbrev pub afterWrite : WriteAnswer → List ℕ → Answer
 afterWrite (Octets n) o = handedOut o
-afterWrite (NotWritten r) o = refused (r .number) (r .place)
+afterWrite (NotWritten r) o = refused (r .number) (r .place) (r .field)
 
 abbrev pub afterSame : SameAnswer → Answer
 afterSame Same = same
 afterSame Different = different
-afterSame (FirstRefused r) = refusedFirst (r .number) (r .place)
-afterSame (SecondRefused r) = refusedSecond (r .number) (r .place)
+afterSame (FirstRefused r) = refusedFirst (r .number) (r .place) (r .field)
+afterSame (SecondRefused r) = refusedSecond (r .number) (r .place) (r .field)
 
 -- of a case's numbers, those of a store and of a room are counts of octets
 abbrev pub lentOf : (places store room : ℕ) → Lent
@@ -149,7 +149,8 @@ def answer_term(answer):
     if words[0] in ("same", "different"):
         return words[0]
     name = {"first": "refusedFirst", "second": "refusedSecond"}[words[-1]] if "in" in words else "refused"
-    return f"{name} {words[1]} {words[3]}"
+    field = words[words.index("field") + 1] if "field" in words else 0
+    return f"{name} {words[1]} {words[3]} {field}"
 
 
 def opened_names(crates):

@@ -46,7 +46,10 @@ int main(int count, char **words)
                                lists.depths, SPI_MOST_RECORDS, lists.parents, SPI_MOST_RECORDS, lists.starts,
                                SPI_MOST_RECORDS, lists.sizes, SPI_MOST_RECORDS);
     if (spi_refused(answer) != SPI_OK) {
-        printf("refused %d at %zu\n", (int)spi_refused(answer), spi_value(answer));
+        printf("refused %d at %zu", (int)spi_refused(answer), spi_value(answer));
+        if (spi_refused(answer) == SPI_BAD_VALUE)
+            printf(" field %d", (int)spi_refused_field(answer));
+        printf("\n");
         return 1;
     }
     print_listing(spi_value(answer));
