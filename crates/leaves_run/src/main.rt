@@ -1,7 +1,7 @@
 // Reads questions on standard input and prints a line for each, as the second program's leaves do (second/leaves.c), so that the two can be compared.
 //
-// A question is a letter, an octet that says a size, and so many octets: K the kind of an element and tag, U whether octets are text, T a time, O its local
-// time, B a bearer. What an answer says is proved where it is found, in `values`, `text` and `show`; here every function is safe and ends.
+// A question is a letter, an octet that says a size, and so many octets: K the kind of an element and tag, U whether octets are text, T a time or the field of
+// it that is wrong, O its local time, B a bearer. What an answer says is proved where it is found, in `values`, `text` and `show`; here every function is safe and ends.
 use libc::STDIN_FILENO;
 use libc::STDOUT_FILENO;
 use show::Put;
@@ -242,13 +242,22 @@ fn say_time(out: &mut [u8], used: usize, time: Time) -> usize
     say_time_octets(out, octets, time.canonical())
 }
 
+// The field that is wrong, by its number.
+fn say_wrong(out: &mut [u8], used: usize, field: u8) -> usize
+    requires { ⌜ used ≤ length (now out) ⌝ }
+    ensures { λ r. ⌜ r ≤ length (now (out .exit)) ⌝ }
+{
+    let to = say(out, used, b"time bad");
+    say_field(out, to, field as usize)
+}
+
 fn answer_time(s: &[u8], out: &mut [u8], used: usize) -> usize
     requires { ⌜ used ≤ length (now out) ⌝ }
     ensures { λ r. ⌜ r ≤ length (now (out .exit)) ⌝ }
 {
     match Time::take(s) {
         TakenTime::Good(time) => say_time(out, used, time),
-        TakenTime::Bad => say(out, used, b"time none"),
+        TakenTime::Bad(field) => say_wrong(out, used, field),
     }
 }
 
@@ -280,7 +289,7 @@ fn answer_local(s: &[u8], out: &mut [u8], used: usize) -> usize
 {
     match Time::take(s) {
         TakenTime::Good(time) => say_local(out, used, time.local()),
-        TakenTime::Bad => say(out, used, b"local none"),
+        TakenTime::Bad(_) => say(out, used, b"local none"),
     }
 }
 
