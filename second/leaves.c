@@ -47,7 +47,7 @@ static void answer_time(const uint8_t *octets, size_t size)
     struct time_value time;
     uint8_t normal[8];
 
-    if (!read_time(octets, size, &time)) {
+    if (read_time(octets, size, &time) != NO_FIELD) {
         put_string("time none");
         return;
     }
@@ -66,7 +66,7 @@ static void answer_local(const uint8_t *octets, size_t size)
 {
     struct time_value time;
 
-    if (!read_time(octets, size, &time)) {
+    if (read_time(octets, size, &time) != NO_FIELD) {
         put_string("local none");
         return;
     }

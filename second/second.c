@@ -49,12 +49,22 @@ enum {
     PLAIN_OCTETS = 17 /* of document 02, request 2026-02 */
 };
 
+/* Which field of a time is wrong, where 9 refuses it (document 02, request 2026-04); 0 for other kinds. */
+enum { NO_FIELD = 0, LENGTH_FIELD = 1, DATE_FIELD = 2, HOURS_FIELD = 3, MINUTES_FIELD = 4, SECONDS_FIELD = 5 };
+
+/* No larger than a register, since every known item is answered by one. */
 struct verdict {
-    int number;
+    uint8_t number;
+    uint8_t field;
     uint32_t place;
 };
 
-static const struct verdict accepted = {ACCEPTED, 0};
+static const struct verdict accepted = {ACCEPTED, NO_FIELD, 0};
+
+static struct verdict refused(int number, uint32_t place)
+{
+    return (struct verdict){(uint8_t)number, NO_FIELD, place};
+}
 
 /* The two counts of a text, each of a type of its own, so that neither passes for the other (02,
  * 2026-01): the octets that it takes, by which lengths, store and room go, and the characters that it
@@ -405,17 +415,18 @@ enum {
     HALF_HOURS = 0x1F
 };
 
-/* Takes a time apart; false where the length is not what the flags say or a field is too large. */
-static bool read_time(const uint8_t *body, size_t length, struct time_value *time)
+/* Takes a time apart, and answers the lowest of its fields that is wrong.  A length that is not what the
+ * flags say is the lowest of all, so it hides the others. */
+static uint8_t read_time(const uint8_t *body, size_t length, struct time_value *time)
 {
     if (length < 4)
-        return false;
+        return LENGTH_FIELD;
     uint32_t head = (uint32_t)body[0] << 24 | (uint32_t)body[1] << 16 | (uint32_t)body[2] << 8 | body[3];
     size_t seconds_octets = (head & LONG_FLAG) != 0 ? 2 : 0;
     size_t offset_octets = (head & OFFSET_FLAG) != 0 ? 1 : 0;
 
     if (length != 4 + seconds_octets + offset_octets)
-        return false;
+        return LENGTH_FIELD;
     time->date = head >> 14 & 0x1FFFF;
     time->hours = head >> 6 & 0x1F;
     time->minutes = head & 0x3F;
@@ -423,7 +434,13 @@ static bool read_time(const uint8_t *body, size_t length, struct time_value *tim
     time->offset = offset_octets != 0 ? body[length - 1] & OFFSET_BITS : 0;
     if ((time->offset & HALF_HOURS) == 0)
         time->offset = 0; /* minus nothing is nothing */
-    return time->date <= 99999 && time->hours <= 23 && time->minutes <= 59 && time->seconds <= 59;
+    if (time->date > 99999)
+        return DATE_FIELD;
+    if (time->hours > 23)
+        return HOURS_FIELD;
+    if (time->minutes > 59)
+        return MINUTES_FIELD;
+    return time->seconds > 59 ? SECONDS_FIELD : NO_FIELD;
 }
 
 /* Puts a time together in its shortest form with reserved bits 0; answers where the output ends. */
@@ -631,7 +648,7 @@ static int judge_time(const struct tree *tree, struct node *node)
 {
     struct time_value time;
 
-    if (!read_time(body_octets(tree, node), node->length, &time))
+    if (read_time(body_octets(tree, node), node->length, &time) != NO_FIELD)
         return BAD_VALUE;
     node->normal_size = 4u + (time.seconds != 0 ? 2u : 0u) + (time.offset != 0 ? 1u : 0u);
     return ACCEPTED;
@@ -662,6 +679,14 @@ static int judge_body(const struct tree *tree, struct node *node, uint8_t parent
     default: /* PLAIN: any octets pass */
         return ACCEPTED;
     }
+}
+
+/* The field that goes with the refusal of a known item's body. */
+static uint8_t wrong_field(const struct tree *tree, const struct node *node)
+{
+    struct time_value time;
+
+    return node->body == TIME ? read_time(body_octets(tree, node), node->length, &time) : NO_FIELD;
 }
 
 /* ---- The reader: refusals 1 to 13 -------------------------------------------------------------- */
@@ -703,7 +728,7 @@ static struct verdict settle_waiting(struct tree *tree)
         struct node *node = &tree->nodes[tree->waiting[i].node];
         int number = judge_text(tree, node, SERVICE_INFORMATION);
         if (number != ACCEPTED)
-            return (struct verdict){number, tree->waiting[i].place};
+            return refused(number, tree->waiting[i].place);
     }
     tree->waiting_count = 0;
     return accepted;
@@ -734,7 +759,7 @@ static struct verdict read_known(struct tree *tree, const struct open_element *p
 {
     if (body == ENTRIES) {
         int number = read_token_table(tree->octets + item->start, item->end - item->start, &tree->table);
-        return number != ACCEPTED ? (struct verdict){number, item->place} : settle_waiting(tree);
+        return number != ACCEPTED ? refused(number, item->place) : settle_waiting(tree);
     }
     size_t index = tree->count;
     struct node *node = add_node(tree, parent, item, body);
@@ -744,7 +769,7 @@ static struct verdict read_known(struct tree *tree, const struct open_element *p
         return accepted;
     }
     if (number != ACCEPTED)
-        return (struct verdict){number, item->place};
+        return (struct verdict){(uint8_t)number, wrong_field(tree, node), item->place};
     return body == ITEMS ? read_list(tree, index, item->start, item->end) : accepted;
 }
 
@@ -768,7 +793,7 @@ static struct verdict read_list(struct tree *tree, size_t node, uint32_t start, 
         if (number == ACCEPTED)
             number = judge_placement(&here, tag, body);
         if (number != ACCEPTED)
-            return (struct verdict){number, at};
+            return refused(number, at);
 
         if (body != UNKNOWN)
             verdict = read_known(tree, &here, &item, body);
@@ -785,14 +810,14 @@ static struct verdict read_object(struct tree *tree, const uint8_t *octets, uint
 
     clear_tree(tree, octets);
     if (size == 0 || size > OBJECT_LIMIT)
-        return (struct verdict){BAD_SIZE, 0};
+        return refused(BAD_SIZE, 0);
     int number = frame_item(octets, 0, size, &top);
     if (number == ACCEPTED && !is_top(octets[0]))
         number = TAG_NOT_ALLOWED;
     if (number != ACCEPTED)
-        return (struct verdict){number, 0};
+        return refused(number, 0);
     if (top.end < size)
-        return (struct verdict){OCTETS_AFTER_TOP, top.end};
+        return refused(OCTETS_AFTER_TOP, top.end);
 
     const struct open_element outside = {.node = 0, .depth = 0};
     add_node(tree, &outside, &top, ITEMS);
@@ -1663,9 +1688,9 @@ static struct verdict export_xml(const struct tree *tree, uint32_t room, uint8_t
     size_t index = 0;
 
     if (tree->first_plain != 0)
-        return (struct verdict){PLAIN_OCTETS, tree->first_plain};
+        return refused(PLAIN_OCTETS, tree->first_plain);
     if (xml_size(tree) > room)
-        return (struct verdict){OUTPUT_TOO_LARGE, 0};
+        return refused(OUTPUT_TOO_LARGE, 0);
     *size = (size_t)(write_xml_element(out, tree, &index) - out);
     return accepted;
 }
@@ -1788,9 +1813,13 @@ static void put_octet(uint8_t octet, const char *digits)
 static void put_refusal(struct verdict verdict)
 {
     put_string("refused ");
-    put_number((uint64_t)verdict.number);
+    put_number(verdict.number);
     put_string(" at ");
     put_number(verdict.place);
+    if (verdict.number == BAD_VALUE) {
+        put_string(" field ");
+        put_number(verdict.field);
+    }
 }
 
 static void put_record(const struct node *node)
@@ -1856,7 +1885,7 @@ static bool answer_listing(void)
         return false;
     struct verdict verdict = read_object(&first_tree, first_object.octets, first_object.size);
     if (verdict.number == ACCEPTED && first_tree.count > places)
-        verdict = (struct verdict){TOO_FEW_PLACES, 0};
+        verdict = refused(TOO_FEW_PLACES, 0);
     if (verdict.number != ACCEPTED)
         put_refusal(verdict);
     else
@@ -1873,7 +1902,7 @@ static bool answer_normal(void)
         return false;
     struct verdict verdict = read_object(&first_tree, first_object.octets, first_object.size);
     if (verdict.number == ACCEPTED)
-        verdict.number = normalise(&first_tree, places, store, room, normal_form, &size);
+        verdict.number = (uint8_t)normalise(&first_tree, places, store, room, normal_form, &size);
     if (verdict.number != ACCEPTED)
         put_refusal(verdict);
     else
@@ -1885,7 +1914,7 @@ static bool answer_written(void)
 {
     uint32_t count, places, room;
     size_t size = 0;
-    struct verdict verdict = {NOT_WELL_FORMED, 0};
+    struct verdict verdict = refused(NOT_WELL_FORMED, 0);
 
     if (!take_short(&count) || !take_short(&places) || !take_octets(lent_records, places * RECORD_OCTETS))
         return false;
