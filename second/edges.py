@@ -239,6 +239,44 @@ def times():
             yield case_s(top(item(0x81, time_octets(**first))), top(item(0x81, time_octets(**second))))
 
 
+def by_all(octets):
+    """An object by each letter that takes one, with nothing lent; S has it first, second and twice."""
+    yield from both(octets, 0)
+    yield case_x(0, octets)
+    for first, second in ((octets, top()), (top(), octets), (octets, octets)):
+        yield case_s(first, second)
+
+
+def time_fields():
+    """Which field of a time is wrong: fields at and above their ends, in right and wrong lengths, by every letter, in every attribute."""
+    for day in (99999, 100000, 131071):
+        for hours, minutes in ((23, 59), (23, 60), (24, 59), (24, 60), (31, 63)):
+            for seconds in (None, 59, 60, 63):
+                for offset in (None, 0x1F, 0xFF):
+                    octets = time_octets(date=day, hours=hours, minutes=minutes, seconds=seconds, offset=offset, low=0x3FF)
+                    yield from by_all(top(item(0x81, octets)))
+                    yield case_w(2, [[0x03, 0, 1, 0, 0, 0], [0x81, 1, 2, 0, 0, len(octets)]], 65536, octets)
+                    for size in range(10):
+                        yield case_l(9, top(item(0x81, (octets + b"\xff" * 9)[:size])))
+    bad = [time_octets(date=100000), time_octets(hours=24), time_octets(minutes=60), time_octets(seconds=60), time_octets()[:3],
+           time_octets(date=131071, hours=31, minutes=63, seconds=63, offset=0xFF) + b"\xff"]
+    for tag, known in ATTRIBUTES.items():
+        wrap = top if tag > 0x03 else bytes
+        for attribute in sorted({0x80, 0x81, 0x82, 0x84, *known}):
+            for octets in bad:
+                yield case_l(9, wrap(item(tag, item(attribute, octets))))
+    for octets in bad:
+        for other in bad + [time_octets()]:
+            yield case_l(9, top(item(0x24, item(0x80, octets) + item(0x81, other))))
+            yield case_l(9, top(item(0x24, item(0x81, other, 1) + item(0x80, octets, 2))))
+            yield case_s(top(item(0x81, octets)), top(item(0x24, item(0x81, other))))
+        yield from by_all(top(item(0x81, octets, 1)))
+        yield case_l(9, top(item(0x07, item(0x81, octets))))
+        yield case_l(9, top(item(0x34, item(0x81, octets))))
+        yield case_l(9, top(item(0x24, item(0x80, octets)) + b"\x10"))
+        yield case_l(9, top(item(0x82, b"\x01"), item(0x81, octets), item(0x04, entry(1))))
+
+
 def bearers():
     for first in range(256):
         size = 1 + (3 if first & 0x40 else 0) + (4 if first & 0x10 else 2)
@@ -277,7 +315,7 @@ FAULTS = (
     + each("1001 | 80FE0001 | 0401 | 0001 | 9001 | 07FF000001")
     + each("0000 | 0200 | 0300")
     + each("80020000 80020000 | 80020000 8000")
-    + each("8000 | 8104FFFFFFFF | 8003000000")
+    + each("8000 | 8104FFFFFFFF | 8003000000 | 810461A80000 | 810430D40600 | 810430D4003C | 810630D40800F000")
     + each("820100 | 0601FF | 010180 | 82020100 | 010201FF")
     + each("040101 | 04020900 | 040401000100 | 0403010102 | 04020101")
     + each("820101 | 830102 | 060101 | 010105")
@@ -575,7 +613,7 @@ def xml_rooms():
 
 
 def edge_cases():
-    for group in (sizes, pairs, texts, token_tables, shown_lengths, times, bearers, depths, order, faults,
+    for group in (sizes, pairs, texts, token_tables, shown_lengths, times, time_fields, bearers, depths, order, faults,
                   late_twelve, lent_memory, written, sameness, xml_names, xml_numbers, xml_times, xml_bearers,
                   xml_texts, xml_plain, xml_rooms):
         yield from group()

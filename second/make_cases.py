@@ -16,6 +16,7 @@ import sys
 
 TEXT, PLAIN, TIME, BEARER, ENUM, NUMBER, SHORT_ID = "text plain time bearer enum number shortid".split()
 SIZES = {ENUM: 1, NUMBER: 2, SHORT_ID: 3}
+JUDGED = [TIME, BEARER, ENUM, NUMBER, SHORT_ID]  # kinds that refusal 9 is for
 
 PROGRAMME = {0x80: TEXT, 0x81: SHORT_ID, 0x82: NUMBER, 0x83: ENUM, 0x84: ENUM, 0x86: TEXT}
 ATTRIBUTES = {
@@ -133,15 +134,23 @@ class Raw:
         body = self.body if isinstance(self.body, bytes) else [part.copy() for part in self.body]
         return Raw(self.tag, body, self.form, self.lie)
 
+    def walk(self, depth=1):
+        """Itself and all items in it, each with its depth, in reading order."""
+        yield self, depth
+        if isinstance(self.body, list):
+            for part in self.body:
+                yield from part.walk(depth + 1)
+
     def lists(self):
         """Every list of items in it, its own first."""
-        if isinstance(self.body, list):
-            yield self.body
-            for part in self.body:
-                yield from part.lists()
+        return (part.body for part, _ in self.walk() if isinstance(part.body, list))
 
 
 # ---- Values and their meaning ------------------------------------------------------------------
+
+LENGTH, DATE, HOURS, MINUTES, SECONDS = range(1, 6)  # the fields of a time by which refusal 9 tells what is wrong (2026-04)
+TOO_LARGE = {DATE: range(100000, 1 << 17), HOURS: range(24, 1 << 5), MINUTES: range(60, 1 << 6), SECONDS: range(60, 1 << 6)}
+
 
 def characters_in(text):
     """How many characters a text without tokens has: code points, whatever octets they take."""
@@ -156,6 +165,14 @@ class Fixed:
 
     def encoded(self, rng):
         return self.normal
+
+
+class Bad(Fixed):
+    """Octets that are no value of their kind; `field` is what refusal 9 says beside the place."""
+
+    def __init__(self, octets, field):
+        super().__init__(octets)
+        self.field = field
 
 
 class Text:
@@ -342,6 +359,25 @@ class Maker:
             return Fixed(bytes([rng.randrange(rng.choice([10, 256]))]))  # annex F names octets below 10 alone
         return Fixed(rng.randbytes(SIZES[kind] if kind in SIZES else rng.choice([0, 1, 2, 3, 4, 6, 12])))
 
+    def resized(self, octets):
+        """Octets of another length than these have; flags that tell the length stay, where there is room for them."""
+        return (octets + self.rng.randbytes(9))[:self.rng.choice([size for size in range(10) if size != len(octets)])]
+
+    def bad_time(self):
+        """One or more fields wrong, of which the lowest is told."""
+        rng, fields = self.rng, list(self.time().fields)
+        wrong = rng.sample([DATE, HOURS, MINUTES, SECONDS], rng.choice([0, 1, 1, 1, 1, 2, 2, 3, 4]))
+        for field in wrong:
+            fields[field - DATE] = rng.choice([TOO_LARGE[field][0], TOO_LARGE[field][-1], rng.choice(TOO_LARGE[field])])
+        octets = Time(*fields).encoded(rng)
+        if not wrong or rng.random() < 0.1:
+            return Bad(self.resized(octets), LENGTH)
+        return Bad(octets, min(wrong))
+
+    def bad_value(self, kind):
+        """A value that refusal 9 is for; of what is no time only the length can be wrong."""
+        return self.bad_time() if kind == TIME else Bad(self.resized(self.value(kind).encoded(self.rng)), 0)
+
     def fill(self, node, depth, budget):
         """Gives an element that holds items its attributes, children and CDATA."""
         rng, known = self.rng, list(ATTRIBUTES[node.tag].items())
@@ -481,8 +517,21 @@ def damage_table(rng, raw, table):
         table.body = [b"", table.body[first:], table.body + table.body[:first]][choice - 1]
 
 
+def damage_value(rng, raw):
+    """Puts a bad value in the place of a good one; False where there is none."""
+    values = [(part, ATTRIBUTES[parent.tag][part.tag]) for parent, _ in raw.walk() if isinstance(parent.body, list)
+              for part in parent.body if ATTRIBUTES.get(parent.tag, {}).get(part.tag) in JUDGED]
+    times = [(part, kind) for part, kind in values if kind == TIME]
+    if values:
+        part, kind = rng.choice(times if times and rng.random() < 0.7 else values)
+        part.body = Maker(rng).bad_value(kind).normal
+    return bool(values)
+
+
 def damage_item(rng, raw):
     """Damages the tree of items once, keeping the lengths around the damage right."""
+    if rng.random() < 0.2 and damage_value(rng, raw):
+        return
     picked = pick_item(rng, raw)
     if picked is None:
         raw.tag = rng.choice(TAGS_OF_INTEREST)
@@ -656,9 +705,15 @@ def damage_records(rng, records, octets):
 
 
 def random_w(rng):
+    """Records of a tree, every other time damaged, now and then with a bad value."""
+    from meanings import valued  # which stands on the trees of this file
     while True:
         maker = Maker(rng)
         tree = random_tree(maker)
+        kind = rng.choice(JUDGED)
+        part = valued(rng, tree, kind) if rng.random() < 0.1 else None
+        if part:
+            part.value = maker.bad_value(kind)
         pool, records = bytearray(rng.randbytes(rng.choice([0, 0, 1, 5]))), []
         make_records(rng, tree, 1, 0, pool, records)
         if len(pool) <= 65535:

@@ -298,20 +298,13 @@ def written(node):
     return raw
 
 
-def all_items(raw, depth=1):
-    yield raw, depth
-    if isinstance(raw.body, list):
-        for part in raw.body:
-            yield from all_items(part, depth + 1)
-
-
 def holding(rng, raw, fits=lambda part, depth: True):
-    return any_of(rng, (part for part, depth in all_items(raw) if isinstance(part.body, list) and fits(part, depth)))
+    return any_of(rng, (part for part, depth in raw.walk() if isinstance(part.body, list) and fits(part, depth)))
 
 
 def long_length(rng, raw):
     """A longer length form than an item needs; one above 65,535 octets, in a tree that is no object, has none."""
-    part, _ = rng.choice(list(all_items(raw)))
+    part, _ = rng.choice(list(raw.walk()))
     size = len(part.octets())
     part.form = rng.choice([1, 2]) if size < 250 else 2
     return size <= 0xFFFF
@@ -344,7 +337,7 @@ def attributes_exchanged(rng, raw):
 def body_changed(kind, change):
     """A value of this kind in the octets that `change` makes of it."""
     def way(rng, raw):
-        part = any_of(rng, (part for part, _ in all_items(raw) if isinstance(part.node.value, kind)))
+        part = any_of(rng, (part for part, _ in raw.walk() if isinstance(part.node.value, kind)))
         octets = change(rng, part.node.value) if part else None
         if octets is not None:
             part.body = octets
@@ -376,7 +369,7 @@ def put_table(raw, entries):
 
 def token(rng, raw):
     """A token for some letters of a text, or for none of them."""
-    part = any_of(rng, (part for part, _ in all_items(raw) if isinstance(part.node.value, Text)))
+    part = any_of(rng, (part for part, _ in raw.walk() if isinstance(part.node.value, Text)))
     if part is None:
         return False
     text = part.body.decode()
