@@ -12,7 +12,7 @@ from streams import run
 
 MOST_OCTETS = 131072  # that leaves_run reads
 
-# Document 01's times, and local times that leave the days of legal dates at either end.
+# Document 01's times; each field of a time that can be wrong, the lowest (2026-04); local times that leave the days of legal dates at either end.
 BY_HAND = (
     ("K", "00 04", "kind tokens"), ("K", "00 05", "kind unknown"), ("K", "00 34", "kind plain"), ("K", "1C 81", "kind number 3"),
     ("K", "1C 85", "kind unknown"), ("K", "28 80", "kind number 2"), ("K", "29 80", "kind bearer"), ("K", "14 80", "kind plain"),
@@ -20,7 +20,8 @@ BY_HAND = (
     ("T", "30 D4 13 1E 02", "time 50000 12 30 0 plus 2 normal 30d4131e02"),
     ("T", "30 D4 0B 1E 3C 00", "time 50000 12 30 15 plus 0 normal 30d40b1e3c00"),
     ("T", "30 D4 10 00 20", "time 50000 0 0 0 plus 0 normal 30d40000"),
-    ("T", "61 A8 00 00", "time none"),
+    ("T", "61 A8 00", "time bad 1"), ("T", "61 A8 06 3C 00", "time bad 1"), ("T", "61 A8 06 3C", "time bad 2"), ("T", "30 D4 06 3C", "time bad 3"),
+    ("T", "30 D4 08 3C F0 00", "time bad 4"), ("T", "30 D4 08 00 F0 00", "time bad 5"), ("O", "61 A8 00 00", "local none"),
     ("O", "30 D4 13 1E 02", "local 50000 13 30 0"),
     ("O", "00 00 10 0A 21", "local -1 23 40 0"),
     ("O", "61 A7 D5 FB 01", "local 100000 0 29 0"),

@@ -2,8 +2,8 @@
  * leaves.c - the second program's own leaves, one question at a time.
  *
  * Reads questions on standard input, each a letter, a size octet and so many octets, and prints a line
- * for each: K the kind of an element and tag, U whether octets are text, T a time, O a time's local
- * time, B a bearer.  The functions that answer are those of second.c.
+ * for each: K the kind of an element and tag, U whether octets are text, T a time or the field of it that is
+ * wrong, O a time's local time, B a bearer.  The functions that answer are those of second.c.
  */
 #define main second_main
 #include "second.c"
@@ -46,9 +46,11 @@ static void answer_time(const uint8_t *octets, size_t size)
 {
     struct time_value time;
     uint8_t normal[8];
+    uint8_t wrong = read_time(octets, size, &time);
 
-    if (read_time(octets, size, &time) != NO_FIELD) {
-        put_string("time none");
+    if (wrong != NO_FIELD) {
+        put_string("time bad");
+        put_field(wrong);
         return;
     }
     put_string("time");

@@ -1,13 +1,14 @@
 #!/usr/bin/env python3
 """Writes questions for second/leaves.c and the program leaves_run:  make_leaves.py > crates/leaves_run/stdin
 
-Every element and tag that could be a known pair; UTF-8 at its edges; document 01's time vectors and
-the edges of each field; bearers of every first octet.  compare_leaves.py takes random ones too.
+Every element and tag that could be a known pair; UTF-8 at its edges; document 01's time vectors, the
+edges of each field, and lengths that the flags don't say; bearers of every first octet.  compare_leaves.py
+takes random ones too.
 """
 import random
 import sys
 
-from make_cases import BAD_OCTETS, Maker
+from make_cases import BAD_OCTETS, BEARER, TIME, Maker
 
 
 def question(letter, octets):
@@ -70,8 +71,10 @@ def times():
                 for offset in (None, 0, 0x20, 1, 0x21, 28, 0x3C, 31, 0x3F):
                     vectors.append(time(date, hours, minutes, seconds, offset))
     vectors += [time(50000, 12, 30, 15, 0x22, reserved) for reserved in (1, 2, 3, 0xFF)]
-    whole = time(50000, 12, 30, 15, 2)
-    vectors += [whole[:size] for size in range(len(whole))] + [whole + b"\0"]
+    for fields in ((50000, 12, 30), (131071, 31, 63)):
+        for seconds in (None, 15, 63):
+            for offset in (None, 2, 0x3F):
+                vectors += [(time(*fields, seconds, offset) + bytes(8))[:size] for size in range(9)]
     for octets in vectors:
         yield question("T", octets)
         yield question("O", octets)
@@ -99,13 +102,14 @@ def random_octets(rng, letter):
         text = rng.choice([maker.letters, maker.characters])(rng.choice([0, 1, 2, 7, 8, 9, 15, 16, 17, 31, 33, 60]))
         at = rng.randint(0, len(text))
         return rng.choice([b"\0", b"\1"]) + text[:at] + rng.choice(BAD_OCTETS + [b""] * len(BAD_OCTETS)) + text[at:]
-    octets = (maker.bearer() if letter == "B" else maker.time()).encoded(rng)
+    kind = BEARER if letter == "B" else TIME
+    octets = maker.value(kind).encoded(rng)
     fault = rng.randrange(6)
     if fault == 0:
         return octets[:rng.randint(0, len(octets))] + rng.randbytes(rng.randint(0, 3))
     if fault == 1:
         return rng.randbytes(len(octets))
-    return octets
+    return maker.bad_value(kind).normal if fault == 2 else octets
 
 
 def random_questions(seed, count):
