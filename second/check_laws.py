@@ -5,6 +5,7 @@ For random trees, of which the maker knows the meaning: each way to write a tree
 form, its number of records and just its needs in store and room; a normal form is its own normal form
 and is listed; the writer makes it of the tree's records; and both ways to write a tree mean the same.
 Where a text of the tree has too many characters, its normal form is refused there, and its records too.
+Where values of a tree are made bad, the first is refused, by all letters, with the field of a time that was made wrong.
 Beside each tree, a pair of meanings.py that is known to mean the same or not; the ways to make one take turns, so
 COUNT is at least the number of ways.  Then such pairs whose normal forms are no objects, since they are too large.
 
@@ -17,9 +18,9 @@ import sys
 from xml.parsers import expat
 
 from as_xml import KINDS, has_plain, xml
-from make_cases import (COORDINATES, FIELD_LIMIT, OBJECT_LIMIT, PLAIN, Encoder, Maker, case_l, case_n, case_s, case_w, case_x, make_records,
-                        named_tree, random_raw)
-from meanings import NAMED_WAYS, SWOLLEN_WAYS, WAYS, known_pair, random_tree
+from make_cases import (COORDINATES, FIELD_LIMIT, JUDGED, OBJECT_LIMIT, PLAIN, TIME, Bad, Encoder, Maker, case_l, case_n, case_s, case_w, case_x,
+                        make_records, named_tree, random_raw)
+from meanings import NAMED_WAYS, SWOLLEN_WAYS, WAYS, known_pair, random_tree, valued, written
 from streams import run, split_answers
 
 TOO_LARGE = "refused 15 at 0"
@@ -31,17 +32,17 @@ def pair_law(rng, answer, way, draw=random_tree):
     return f"{answer}: {way}", case_s(first.octets(), second.octets()), answer
 
 
-def place_over(node, start=0):
-    """Where the first text with too many characters stands in the normal form of an item, whose own place is `start`."""
-    parts = node.ordered()
-    at = start + len(node.normal()) - sum(len(part.normal()) for part in parts)
-    for part in parts:
-        if node.is_over(part):
-            return at
-        if part.too_long():
-            return place_over(part, at)
-        at += len(part.normal())
-    raise ValueError("no text in it is too long")
+def first_item(raw, fits, at=0):
+    """The first item in reading order that fits, asked of its parent and it, and its place; `at` is the place of the whole.  None where none fits."""
+    at += len(raw.octets()) - sum(len(part.octets()) for part in raw.body)
+    for part in raw.body:
+        if fits(raw, part):
+            return part, at
+        found = first_item(part, fits, at) if isinstance(part.body, list) else None
+        if found is not None:
+            return found
+        at += len(part.octets())
+    return None
 
 
 def records_of(rng, tree):
@@ -52,7 +53,8 @@ def records_of(rng, tree):
 
 def over_laws(rng, tree):
     """The same for a tree with such a text, whatever is lent."""
-    normal, place = tree.normal(), place_over(tree)
+    normal = tree.normal()
+    _, place = first_item(written(tree), lambda parent, part: parent.node.is_over(part.node))
     records, pool = records_of(rng, tree)
     yield case_l(rng.choice([0, 65535]), normal), f"refused 13 at {place}"
     yield case_n(rng.choice([0, 65535]), 65536, 65536, normal), f"refused 13 at {place}"
@@ -88,17 +90,8 @@ def tree_laws(rng):
     yield case_s(normal, octets), "same"
 
 
-def first_plain(raw, at=0):
-    """The place of the first item of plain octets in an element that holds items, or None."""
-    at += len(raw.octets()) - sum(len(part.octets()) for part in raw.body)
-    for part in raw.body:
-        if part.tag in COORDINATES or KINDS.get((raw.tag, part.tag)) == PLAIN:
-            return at
-        found = first_plain(part, at) if isinstance(part.body, list) else None
-        if found is not None:
-            return found
-        at += len(part.octets())
-    return None
+def is_plain(parent, part):
+    return part.tag in COORDINATES or KINDS.get((parent.tag, part.tag)) == PLAIN
 
 
 def xml_laws(rng, draw):
@@ -110,11 +103,34 @@ def xml_laws(rng, draw):
             break
     for form in (raw, again):
         if has_plain(tree):
-            yield case_x(rng.choice([0, FIELD_LIMIT]), form.octets()), f"refused 17 at {first_plain(form)}"
+            yield case_x(rng.choice([0, FIELD_LIMIT]), form.octets()), f"refused 17 at {first_item(form, is_plain)[1]}"
         else:
             octets = xml(tree)
             yield case_x(len(octets), form.octets()), f"xml {octets.hex()}"
             yield case_x(len(octets) - 1, form.octets()), TOO_LARGE
+
+
+def field_laws(rng):
+    """A tree in which some values are made bad, most often times: the first of them in reading order is refused, with the field that was made wrong."""
+    while True:
+        maker, tree, _ = random_raw(rng)
+        for kind in rng.choice([[TIME], [TIME], [TIME, TIME], JUDGED, [rng.choice(JUDGED)]]):
+            part = valued(rng, tree, kind)
+            if part:
+                part.value = maker.bad_value(kind)
+        raw = Encoder(maker, rng.choice([0, 0.1, 0.3])).raw(tree)
+        found = first_item(raw, lambda _, part: part.node is not None and isinstance(part.node.value, Bad))
+        if found and not tree.too_long() and len(raw.octets()) <= OBJECT_LIMIT:
+            break
+    (part, place), octets = found, raw.octets()
+    refused = f"refused 9 at {place} field {part.node.value.field}"
+    records, pool = records_of(rng, tree)
+    yield case_l(rng.choice([0, 65535]), octets), refused
+    yield case_n(rng.choice([0, 65535]), 65536, rng.choice([0, 65536]), octets), refused
+    yield case_x(rng.choice([0, FIELD_LIMIT]), octets), refused
+    yield case_s(octets, rng.choice([b"", b"\x03\x00", octets])), f"{refused} in first"
+    yield case_s(b"\x03\x00", octets), f"{refused} in second"
+    yield case_w(len(records), records, rng.choice([0, 65536]), pool), "refused 16 at 0"
 
 
 def laws(seed, count):
@@ -126,6 +142,8 @@ def laws(seed, count):
         yield pair_law(rng, *WAYS[index % len(WAYS)])
         for case, must in xml_laws(rng, rng.choice([named_tree, named_tree, random_tree])):
             yield "XML of a tree", case, must
+        for case, must in field_laws(rng):
+            yield "bad values", case, must
     for answer, way in SWOLLEN_WAYS:
         yield pair_law(random.Random(f"swollen {seed} {way}"), answer, way, Maker.swollen_tree)
 

@@ -121,10 +121,10 @@ def item(tag, body=b"", form=0):
 
 
 class Raw:
-    """An item to be written: its body is octets or a list of items, its length field may lie."""
+    """An item to be written: its body is octets or a list of items, its length field may lie; `node` is the known item that it writes."""
 
-    def __init__(self, tag, body, form=0, lie=0):
-        self.tag, self.body, self.form, self.lie = tag, body, form, lie
+    def __init__(self, tag, body, form=0, lie=0, node=None):
+        self.tag, self.body, self.form, self.lie, self.node = tag, body, form, lie, node
 
     def octets(self):
         body = self.body if isinstance(self.body, bytes) else b"".join(part.octets() for part in self.body)
@@ -132,7 +132,7 @@ class Raw:
 
     def copy(self):
         body = self.body if isinstance(self.body, bytes) else [part.copy() for part in self.body]
-        return Raw(self.tag, body, self.form, self.lie)
+        return Raw(self.tag, body, self.form, self.lie, self.node)
 
     def walk(self, depth=1):
         """Itself and all items in it, each with its depth, in reading order."""
@@ -476,7 +476,7 @@ class Encoder:
 
     def raw(self, node, depth=1):
         if node.value is not None:
-            return Raw(node.tag, node.value.encoded(self.rng), self.form())
+            return Raw(node.tag, node.value.encoded(self.rng), self.form(), node=node)
         attributes = [self.raw(part) for part in node.attributes] + list(self.unknown_attributes(node.tag))
         self.rng.shuffle(attributes)
         language, elements, cdata = [], [], []
@@ -488,7 +488,7 @@ class Encoder:
         if depth < 16:
             elements += self.unknown_elements()
         table = [self.table_item()] if depth == 1 and self.table else []
-        return Raw(node.tag, attributes + table + language + elements + cdata, self.form())
+        return Raw(node.tag, attributes + table + language + elements + cdata, self.form(), node=node)
 
 
 # ---- Damage ------------------------------------------------------------------------------------

@@ -292,10 +292,7 @@ DIFFERENT = {
 
 def written(node):
     """The items of a tree's normal form, each with the item of the tree that it writes."""
-    body = node.value.normal if node.value is not None else [written(part) for part in node.ordered()]
-    raw = Raw(node.tag, body)
-    raw.node = node
-    return raw
+    return Raw(node.tag, node.value.normal if node.value is not None else [written(part) for part in node.ordered()], node=node)
 
 
 def holding(rng, raw, fits=lambda part, depth: True):
