@@ -312,13 +312,16 @@ static void print_same(size_t same)
     printf(same == 1 ? "same\n" : "different\n");
 }
 
+/* The field of a refusal is told of every 9; where another has one, that shows too. */
 static void print_refusal(uint64_t answer)
 {
     static const char *const which[] = {"", " in first", " in second"};
-    int object = spi_refused_object(answer);
+    int number = (int)spi_refused(answer), field = (int)spi_refused_field(answer), object = spi_refused_object(answer);
 
-    printf("refused %d at %zu%s\n", (int)spi_refused(answer), spi_value(answer),
-           object <= 2 ? which[object] : " in neither");
+    printf("refused %d at %zu", number, spi_value(answer));
+    if (number == SPI_BAD_VALUE || field != 0)
+        printf(" field %d", field);
+    printf("%s\n", object <= 2 ? which[object] : " in neither");
 }
 
 /* ---- The letters -------------------------------------------------------------------------------- */
