@@ -325,18 +325,18 @@ module _ (t : Bool) where
   pub one-yes : (s : List ℕ) (r : Bool) → 0 < length s → getD s 0 0 < 0x80 → r ≡ single t (getD s 0 0) → r ≡ true → Steps t s 1
   unfolding onward allWithin
   one-yes [] r z h e y = absurd (omega arith)
-  one-yes (a ∷ s) r z h e y = record { within = omega arith; same = rw (text-low t a s h, ← e, y); low = λ g. omega arith; high = refl }
+  one-yes (a ∷ s) r z h e y = record { within = omega arith; same = rw (text-low t a s h, ← e, y); low = λ g. omega arith; begun = λ g. omega arith; high = refl }
 
   pub one-no : (s : List ℕ) (r : Bool) → 0 < length s → getD s 0 0 < 0x80 → r ≡ single t (getD s 0 0) → r ≡ false → Steps t s 0
   unfolding onward allWithin
   one-no [] r z h e y = absurd (omega arith)
-  one-no (a ∷ s) r z h e y = record { within = omega arith; same = rw (text-low t a s h, ← e, y); low = λ g. omega arith; high = refl }
+  one-no (a ∷ s) r z h e y = record { within = omega arith; same = rw (text-low t a s h, ← e, y); low = λ g. omega arith; begun = λ g. omega arith; high = refl }
 
   pub short : (s : List ℕ) (n : ℕ) → 0 < length s → 0x80 ≤ getD s 0 0 → Lead (getD s 0 0) n → length s < n → Steps t s 0
   unfolding onward allWithin
   short [] n z h l g = absurd (omega arith)
   short (a ∷ s) n z h l g =
-      record { within = omega arith; same = text-high t a n s h l ∙ go (eqb n 2) (eqb n 3) (eqb n 4) refl refl refl; low = λ q. omega arith; high = refl }
+      record { within = omega arith; same = text-high t a n s h l ∙ go (eqb n 2) (eqb n 3) (eqb n 4) refl refl refl; low = λ q. omega arith; begun = λ q. refl; high = refl }
     where
       go : (p q r : Bool) → eqb n 2 ≡ p → eqb n 3 ≡ q → eqb n 4 ≡ r
           → cond p (utf8 t 1 (a % 32) 0x80 s) (cond q (utf8 t 2 (a % 16) 0x800 s) (cond r (utf8 t 3 (a % 8) 0x10000 s) false)) ≡ false
@@ -364,19 +364,29 @@ module _ (t : Bool) where
   all : (a m : ℕ) (s : List ℕ) (r : Bool) → r ≡ several a (take (suc m - 1) s) → r ≡ several a (take m s)
   all a m s r e = let k : suc m - 1 ≡ m = omega arith in rw k at e
 
+  -- the bits 10 tell no form
+  none-begun : (a m : ℕ) (s : List ℕ) → a / 64 ≡ 2 → Lead a (suc m) → m ≤ length s → several a (take m s) ≡ true → ⊥
+  none-begun a m s q l g e =
+      let size = length-take-le m s g in
+      let no : (n : ℕ) → length (take m s) ≡ n → suc m ≡ suc n = λ n h. ap suc (sym size ∙ h) in
+      let none = several-none a (take m s) (λ h. eqb-false (suc m) 2 (sym (l .two) ∙ ne-eqb (a / 32) 6 (λ k. omega arith)) (no 1 h))
+      (λ h. eqb-false (suc m) 3 (sym (l .three) ∙ ne-eqb (a / 16) 14 (λ k. omega arith)) (no 2 h))
+      (λ h. eqb-false (suc m) 4 (sym (l .four) ∙ ne-eqb (a / 8) 30 (λ k. omega arith)) (no 3 h)) in
+      false≢true (none ∙ e)
+
   pub long-yes : (s : List ℕ) (n : ℕ) (r : Bool) → 0 < length s → 0x80 ≤ getD s 0 0 → Lead (getD s 0 0) n → n ≤ length s
       → r ≡ several (getD s 0 0) (take (n - 1) (drop 1 s)) → r ≡ true → Steps t s n
   unfolding onward allWithin
   long-yes [] n r z h l g e y = absurd (omega arith)
   long-yes (a ∷ s) zero r z h l g e y = absurd (omega (arith, lead-some a 0 h l))
   long-yes (a ∷ s) (suc m) r z h l g e y =
-      record { within = g; same = long a m s h l (omega arith) ∙ rw (← all a m s r e, y); low = λ q. omega arith; high = several-high a (take (suc m - 1) s) (sym e ∙ y) }
+      record { within = g; same = long a m s h l (omega arith) ∙ rw (← all a m s r e, y); low = λ q. omega arith; begun = λ q. absurd (none-begun a m s q l (omega arith) (sym (all a m s r e) ∙ y)); high = several-high a (take (suc m - 1) s) (sym e ∙ y) }
 
   pub long-no : (s : List ℕ) (n : ℕ) (r : Bool) → 0 < length s → 0x80 ≤ getD s 0 0 → Lead (getD s 0 0) n → n ≤ length s
       → r ≡ several (getD s 0 0) (take (n - 1) (drop 1 s)) → r ≡ false → Steps t s 0
   unfolding onward allWithin
   long-no [] n r z h l g e y = absurd (omega arith)
   long-no (a ∷ s) zero r z h l g e y = absurd (omega (arith, lead-some a 0 h l))
-  long-no (a ∷ s) (suc m) r z h l g e y = record { within = omega arith; same = long a m s h l (omega arith) ∙ rw (← all a m s r e, y); low = λ q. omega arith; high = refl }
+  long-no (a ∷ s) (suc m) r z h l g e y = record { within = omega arith; same = long a m s h l (omega arith) ∙ rw (← all a m s r e, y); low = λ q. omega arith; begun = λ q. refl; high = refl }
 
 pub ruleset sequence-ways = (one-yes, one-no, short, long-yes, long-no)

@@ -1,6 +1,6 @@
 -- A text weighed in one look: what the definitions are on each way through src/weighing.rt, that by the marks and counts of a table they say what rules 12 and
 -- 13 say by its entries, and that a table has only one mask of marks, one list of widths and one of counts.
-use Prim.Native.Nat.{ℕ, zero, suc, _+_, _-_, _^_, _≤_, _<_, min}
+use Prim.Native.Nat.{ℕ, zero, suc, _+_, _-_, _/_, _^_, _≤_, _<_, min}
 use mathlib.Core.Path.{_≡_, refl, sym, ap, ap₂, subst, _∙_}
 use mathlib.Core.List.{List, [], _∷_, _++_}
 use mathlib.Core.Bool.{Bool, true, false, cond, not, _&&_, _||_, false≢true}
@@ -21,12 +21,12 @@ use Rattle.text.specs.Text.{token, text}
 use Rattle.text.specs.Tokens.{Entries, entry, present, covers, covered, shownLength}
 use Rattle.text.specs.Leaves.{tokenBit, Steps}
 use Rattle.text.specs.Runs.{within, allWithin, PlainTo}
-use Rattle.text.specs.Weighing.{bit, tags, Marks, Widths, Shows, marked, coveredBy, shownAt, shownBy, weighedBy}
+use Rattle.text.specs.Weighing.{bit, tags, Marks, Widths, Shows, marked, coveredBy, widthAt, shownAt, shownBy, weighedBy}
 use Rattle.text.specs.declared.Weighed.{Weighed}
 use Rattle.text.specs.declared.Weighed.the-variants.{NoText, Text}
 use Rattle.text.proofs.Words.{high-octet}
 use Rattle.text.proofs.Masks.{bit-none, mark-one, kept-within, within-kept}
-use Rattle.text.proofs.ShownLaws.{shown-is}
+use Rattle.text.proofs.ShownLaws.{shown-is, shown-begun}
 use Rattle.text.proofs.Replaced.{tag-present}
 use Rattle.text.proofs.RunLaws.{and-assoc, run-split, run-length, run-shown, tail-shown, bounds, plain-passed, Holds, check-done, check-stop, check-again, behind}
 
@@ -179,10 +179,13 @@ module _ (marks : ℕ) (w s : List ℕ) (lim : Characters) where
           first : getD (drop from s) 0 0 ≡ getD s from 0
           first = getD-drop from s 0 0 ∙ ap (λ (i : ℕ). getD s i 0) (add-zero from)
 
+          begun : getD s from 0 / 64 ≡ 2 → ⊥
+          begun h = z (step-here s at from run n step .begun (ap (λ (b : ℕ). b / 64) first ∙ h))
+
           after : drop n (drop from s) ≡ drop (from + n) s
           after = drop-drop n from s
 
-          pub weigh-again : (m : Bool) → m ≡ marked marks (getD s from 0) → (more : ℕ) → more ≡ shownAt w (getD s from 0)
+          pub weigh-again : (m : Bool) → m ≡ marked marks (getD s from 0) → (more : ℕ) → more ≡ widthAt w (getD s from 0)
               → (k : ℕ) → k ≡ min (lim .0) (before .0 + more) → k ≤ lim .0 → Weighing marks w s (lim .0) (from + n) (covers && m) k
           weigh-again m f more d k l j =
               record {
@@ -198,7 +201,7 @@ module _ (marks : ℕ) (w s : List ℕ) (lim : Characters) where
                 weighing =
                     let ahead : shownBy w (drop from s) ≡ more + shownBy w (drop (from + n) s) =
                     first-weighs marks w (drop from s) n (step-here s at from run n step) some-left z
-                    ∙ ap₂ (λ b r. shownAt w b + shownBy w r) first after ∙ ap (λ (x : ℕ). x + shownBy w (drop (from + n) s)) (sym d) in
+                    ∙ ap₂ (λ b r. shownAt w b + shownBy w r) first after ∙ ap (λ (x : ℕ). x + shownBy w (drop (from + n) s)) (sym (d ∙ shown-begun w (getD s from 0) begun)) in
                     let sum : before .0 + shownBy w (drop from s) ≡ before .0 + more + shownBy w (drop (from + n) s) = omega arith in
                     weigh-behind .weighing ∙ ap (min (lim .0)) sum ∙ sym (min-again (lim .0) (before .0 + more) (shownBy w (drop (from + n) s)))
                     ∙ ap (λ (x : ℕ). min (lim .0) (x + shownBy w (drop (from + n) s))) (sym l);

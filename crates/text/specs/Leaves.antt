@@ -41,12 +41,13 @@ unfoldable pub onward : Bool → List ℕ → ℕ → Bool
 onward tokens s zero = false
 onward tokens s (suc n) = text tokens (drop (suc n) s)
 
--- by the length of the character with which a text begins: the text goes on behind it, an octet below 0x80 is a character by itself, and the octets after the
--- first of a longer one are all above those
+-- by the length of the character with which a text begins: the text goes on behind it, an octet below 0x80 is a character by itself, none begins with the bits
+-- 10, and the octets after the first of a longer one are all above those
 pub record Steps (tokens : Bool) (s : List ℕ) (n : ℕ) : Type 0 where
   pub within : n ≤ length s
   pub same : text tokens s ≡ onward tokens s n
   pub low : getD s 0 0 < 0x80 → n ≤ 1
+  pub begun : getD s 0 0 / 64 ≡ 2 → n ≡ 0
   pub high : allWithin 0x80 0xBF (take (n - 1) (drop 1 s)) ≡ true
 
 -- the entry with which a table begins

@@ -7,7 +7,7 @@ use crate::Weighed;
 use crate::characters::sequence;
 use crate::characters::token_bit;
 use crate::runs::plain_end;
-use crate::shown::shown_at;
+use crate::shown::first_at;
 use octets::Characters;
 
 // An octet that wants no entry, or has one. Nothing is decided here, so that a processor has nothing to guess.
@@ -55,7 +55,7 @@ pub fn weigh(marks: u32, counts: &[u8; 32], s: &[u8], most: Characters) -> Weigh
         }
         let b = s[from];
         covered = covered & is_marked(marks, b);
-        shown = capped(before, shown_at(counts, b), most);
+        shown = capped(before, first_at(counts, b), most);
         at = from + end;
     }
     Weighed::Text { covered, shown }

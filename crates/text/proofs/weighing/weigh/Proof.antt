@@ -47,8 +47,8 @@ shared-slice-read-b c = search (run-inside, needs)
 is-marked-requires : tie.Need-is-marked-requires Inv-loop μ-loop
 is-marked-requires c κs = search needs
 
-shown-at-requires : tie.Need-shown-at-requires Inv-loop μ-loop
-shown-at-requires c κs = search needs
+first-at-requires : tie.Need-first-at-requires Inv-loop μ-loop
+first-at-requires c κs = search needs
 
 capped-requires-2 : tie.Need-capped-requires-2 Inv-loop μ-loop
 capped-requires-2 c κs = search needs
@@ -71,7 +71,7 @@ loop-again c =
     let args = ran .before .before .before .before .args in
     weigh-again (args .marks) (args .counts .now) (args .s .now) (args .most) _ _ _ (ran .before .before .loop .inv) _ (ran .plain-end .ensures) _ (run .capped .ensures .0)
     (run .capped .ensures .1) _ (stepped .sequence .ensures) (stepped .before .before .if1 .left) (looked .before .before .if2 .left) _ (looked .is-marked .ensures) _
-    (c .before .shown-at .ensures .0) _ (c .capped2 .ensures .0) (c .capped2 .ensures .1)
+    (c .before .first-at .ensures) _ (c .capped2 .ensures .0) (c .capped2 .ensures .1)
 
 returns-3 : tie.Need-returns-3 Inv-loop μ-loop
 returns-3 c = search (weigh-ways, needs)
@@ -94,7 +94,7 @@ weigh-spec =
     returns-2
     shared-slice-read-b
     is-marked-requires
-    shown-at-requires
+    first-at-requires
     capped-requires-2
     add-at
     loop-less
