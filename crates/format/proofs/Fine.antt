@@ -13,14 +13,14 @@ use Rattle.text.specs.Tokens.{Entries, expanded}
 use Rattle.values.specs.declared.Kind.{Kind}
 use Rattle.values.specs.declared.Kind.the-variants.{HoldsItems, HoldsTokens, HoldsText, HoldsPlain, HoldsTime, HoldsBearer, HoldsNumber}
 use Rattle.values.specs.Table.{known, attribute}
-use Rattle.values.specs.Values.{Value, meant}
+use Rattle.values.specs.Values.{Value, meant, isDefault}
 use Rattle.values.specs.Proper.{Proper}
 use Rattle.format.specs.Tree.{Items, find}
 use Rattle.format.specs.Tree.Items.{end, item}
 use Rattle.format.specs.Judge.{isKnown, isItems, isText, isValue, allowed, latest, stageAfter, shown}
-use Rattle.format.specs.Meaning.{Meaning, valueIn, attributesIn, cdataIn, leafOctets, means}
+use Rattle.format.specs.Meaning.{Meaning, valueIn, counted, attributesIn, cdataIn, leafOctets, means}
 use Rattle.format.specs.Meaning.Meaning.{nothing, element, leaf}
-use Rattle.format.specs.WellFormed.{AttributeOk, CdataOk, PlaceOk, LeafOk, WellFormed, ObjectOk}
+use Rattle.format.specs.WellFormed.{ValueOk, AttributeOk, CdataOk, PlaceOk, LeafOk, WellFormed, ObjectOk}
 use Rattle.format.specs.WellFormed.LeafOk.{language, plainly}
 use Rattle.format.specs.Writer.{Spot, below, past, atTop, placed}
 use Rattle.octets.proofs.Tests.{and-left, and-right, or-elim}
@@ -94,7 +94,7 @@ stage-up s tag p = go (attribute tag) (eqb tag 4) (eqb tag 6) (eqb tag 1) (leb-t
 pub record Fine (T : Entries) (s : Spot) (t : Items) : Type 0 where
   pub children : WellFormed (s .parent) (s .depth) (s .stage) (means T t)
   pub cdata : CdataOk (s .parent) (cdataIn T t)
-  pub attributes : (a : ℕ) → attribute a ≡ true → AttributeOk (s .parent) a (valueIn T (find a t) (known (s .parent) a))
+  pub attributes : (a : ℕ) → attribute a ≡ true → ValueOk (s .parent) a (valueIn T (find a t) (known (s .parent) a))
 
 fine-end : (T : Entries) (s : Spot) → Fine T s end
 unfolding means cdataIn find valueIn
@@ -132,13 +132,13 @@ fine-attribute T s tag at body u k ok p o os a e h x g = record {
   attributes = λ b q. go b q (eqb b tag) refl;
 }
   where
-    go : (b : ℕ) → attribute b ≡ true → (z : Bool) → eqb b tag ≡ z → AttributeOk (s .parent) b (valueIn T (cond z (some body) (find b u)) (known (s .parent) b))
+    go : (b : ℕ) → attribute b ≡ true → (z : Bool) → eqb b tag ≡ z → ValueOk (s .parent) b (valueIn T (cond z (some body) (find b u)) (known (s .parent) b))
     go b q false w = g .attributes b q
     go b q true w = rw (eqb-true b tag w, e) (a, o, (k, e, told-proper T (s .parent) tag body k ok os a e h))
 
 -- an item that is no attribute leaves the attributes of an element as they are, and one that is not CDATA its CDATA
 other-attributes : (T : Entries) (s : Spot) (tag at : ℕ) (body : List ℕ) (x u : Items) → attribute tag ≡ false → Fine T (past s tag) u
-    → (a : ℕ) → attribute a ≡ true → AttributeOk (s .parent) a (valueIn T (find a (item tag at body x u)) (known (s .parent) a))
+    → (a : ℕ) → attribute a ≡ true → ValueOk (s .parent) a (valueIn T (find a (item tag at body x u)) (known (s .parent) a))
 unfolding past find
 other-attributes T s tag at body x u n g a p = rw (ne-eqb a tag (λ e. false≢true (sym n ∙ (ap attribute (sym e) ∙ p)))) (g .attributes a p)
 
@@ -174,17 +174,27 @@ fine-beside T s tag at body x u t w g = record {
   attributes = other-attributes T s tag at body x u (t .notAttribute) g;
 }
 
+-- a value that counts is none or is not its default
+counted-ok : (p a : ℕ) (o : Option Value) → ValueOk p a o → AttributeOk p a (counted p a o)
+unfolding counted
+counted-ok p a none h = record { value = tt; counts = refl }
+counted-ok p a (some v) h = go (isDefault p a v) refl
+  where
+    go : (b : Bool) → isDefault p a v ≡ b → AttributeOk p a (cond b none (some v))
+    go true e = record { value = tt; counts = refl }
+    go false e = record { value = h; counts = rw e }
+
 fine-element : (T : Entries) (s : Spot) (tag at : ℕ) (body : List ℕ) (x u : Items) → Placed s tag → known 0 tag ≡ some HoldsItems → Fine T (below s tag) x → Fine T (past s tag) u
     → Fine T s (item tag at body x u)
-unfolding below attributesIn
+unfolding below attributesIn counted
 fine-element T s tag at body x u p e f g =
     let t = items-tag tag e in
     fine-beside T s tag at body x u t
     (rw (means-element T tag at body x u e) (place-ok s tag p (t .notAttribute) (t .notCdata), e, (λ a. go a (attribute a) refl), f .children, f .cdata, next-children T s tag u g)) g
   where
-    go : (a : ℕ) (b : Bool) → attribute a ≡ b → AttributeOk tag a (cond b (valueIn T (find a x) (known tag a)) none)
-    go a true q = f .attributes a q
-    go a false q = tt
+    go : (a : ℕ) (b : Bool) → attribute a ≡ b → AttributeOk tag a (cond b (counted tag a (valueIn T (find a x) (known tag a))) none)
+    go a true q = counted-ok tag a (valueIn T (find a x) (known tag a)) (f .attributes a q)
+    go a false q = counted-ok tag a none tt
 
 fine-leaf : (T : Entries) (s : Spot) (tag at : ℕ) (body : List ℕ) (x u : Items) (k : Kind) → Placed s tag → ElementTag tag → known 0 tag ≡ some k → isItems (some k) ≡ false
     → LeafOk tag (leafOctets T tag body) → Fine T (past s tag) u → Fine T s (item tag at body x u)

@@ -20,9 +20,9 @@ use Rattle.format.specs.Tree.{Items, find, count}
 use Rattle.format.specs.Tree.Items.{end, item}
 use Rattle.format.specs.Judge.{isKnown, isItems, isTokens, isText, isValue, latest, judge}
 use Rattle.format.specs.Judge.Judged.{accepted}
-use Rattle.format.specs.Meaning.{opens, isChild, valueIn, attributesIn, cdataIn, leafOctets, means, tableOf, meaningOf}
+use Rattle.format.specs.Meaning.{opens, isChild, valueIn, counted, attributesIn, cdataIn, leafOctets, means, tableOf, meaningOf}
 use Rattle.format.specs.Meaning.Meaning.{leaf}
-use Rattle.format.specs.WellFormed.{AttributeOk}
+use Rattle.format.specs.WellFormed.{ValueOk}
 use Rattle.format.specs.Writer.{Spot, below, past, atTop, placed, bodyKeeps, keeps, isEnd, ruled}
 use Rattle.format.specs.Loaded.{stored, storeIn, loadedIn, storeOf, loadedOf}
 use Rattle.octets.proofs.Tests.{or-elim, or-true}
@@ -91,7 +91,7 @@ text-not-table : (tag : ℕ) → known 0 tag ≡ some HoldsText → eqb tag 4 �
 text-not-table tag e = ne-eqb tag 4 (λ q. let w : _≡_ {A = Option Kind} (some HoldsText) (some HoldsTokens) = sym e ∙ (ap (known 0) q ∙ known-four) in let z : _≡_ {A = ℕ} 0 1 = cc in omega arith)
 
 -- the value of an attribute is read back from its stored octets
-loaded-value : (T : Entries) (p a : ℕ) (o : Option (List ℕ)) (k : Option Kind) → known p a ≡ k → AttributeOk p a (valueIn T o k) → valueIn [] (Option·map (stored T k) o) k ≡ valueIn T o k
+loaded-value : (T : Entries) (p a : ℕ) (o : Option (List ℕ)) (k : Option Kind) → known p a ≡ k → ValueOk p a (valueIn T o k) → valueIn [] (Option·map (stored T k) o) k ≡ valueIn T o k
 unfolding valueIn stored
 loaded-value T p a none k e h = refl
 loaded-value T p a (some o) none e h = refl
@@ -104,9 +104,9 @@ unfolding attributesIn
 loaded-attributes T s t at f = fun-ext (λ a. go a (attribute a) refl)
   where
     go : (a : ℕ) (b : Bool) → attribute a ≡ b
-        → cond b (valueIn [] (find a (loadedIn T (s .parent) at t)) (known (s .parent) a)) none ≡ cond b (valueIn T (find a t) (known (s .parent) a)) none
+        → cond b (counted (s .parent) a (valueIn [] (find a (loadedIn T (s .parent) at t)) (known (s .parent) a))) none ≡ cond b (counted (s .parent) a (valueIn T (find a t) (known (s .parent) a))) none
     go a false q = refl
-    go a true q = rw (loaded-find T (s .parent) a (attribute-shut a q) (attribute-four a q) t at) (loaded-value T (s .parent) a (find a t) (known (s .parent) a) refl (f .attributes a q))
+    go a true q = rw (loaded-find T (s .parent) a (attribute-shut a q) (attribute-four a q) t at) (ap (counted (s .parent) a) (loaded-value T (s .parent) a (find a t) (known (s .parent) a) refl (f .attributes a q)))
 
 loaded-cdata : (T : Entries) (p : ℕ) (t : Items) (at : ℕ) → cdataIn [] (loadedIn T p at t) ≡ cdataIn T t
 unfolding cdataIn stored meant octetsOf

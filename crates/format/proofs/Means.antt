@@ -1,17 +1,20 @@
 -- What an item adds to a meaning, by what its tag is.
-use mathlib.Core.Path.{_≡_, refl, sym, ap, _∙_}
-use mathlib.Core.Bool.{Bool, true, false, false≢true}
+use mathlib.Core.Path.{_≡_, refl, sym, ap, _∙_, fun-ext}
+use mathlib.Core.Bool.{Bool, true, false, cond, false≢true}
 use mathlib.Core.Option.{Option, none, some, Option·map}
 use mathlib.Core.List.{List, []}
 use Prim.Native.Nat.{ℕ}
+use lib.Dec.{eqb}
+use borrow.Author.Tests.{eqb-true}
 use Rattle.text.specs.Tokens.{Entries, expanded}
 use Rattle.values.specs.declared.Kind.{Kind}
 use Rattle.values.specs.declared.Kind.the-variants.{HoldsItems, HoldsTokens, HoldsText, HoldsPlain, HoldsTime, HoldsBearer, HoldsNumber}
 use Rattle.values.specs.Table.{known, attribute}
-use Rattle.format.specs.Tree.{Items}
+use Rattle.values.specs.Values.{meant, isDefault}
+use Rattle.format.specs.Tree.{Items, find}
 use Rattle.format.specs.Tree.Items.{item}
 use Rattle.format.specs.Judge.{isItems, isText}
-use Rattle.format.specs.Meaning.{opens, isChild, attributesIn, cdataIn, leafOctets, means}
+use Rattle.format.specs.Meaning.{opens, isChild, valueIn, counted, attributesIn, cdataIn, leafOctets, means}
 use Rattle.format.specs.Meaning.Meaning.{element, leaf}
 use Rattle.text.proofs.Words.{expanded-empty}
 use Rattle.values.proofs.Values.{valueKind}
@@ -116,3 +119,14 @@ leaf-plain table tag body e = rw e
 pub cdata-itself : (o : Option (List ℕ)) → Option·map (expanded []) o ≡ o
 cdata-itself none = refl
 cdata-itself (some o) = ap some (expanded-empty o)
+
+-- an attribute with its default, which no later item of the element repeats, might as well not be there (change request 2026-05)
+pub default-nothing : (table : Entries) (parent tag at : ℕ) (body : List ℕ) (t u : Items) (k : Kind) → known parent tag ≡ some k → isDefault parent tag (meant table k body) ≡ true
+    → find tag u ≡ none → attributesIn table parent (item tag at body t u) ≡ attributesIn table parent u
+unfolding attributesIn counted valueIn find
+default-nothing table parent tag at body t u k e d n = fun-ext (λ b. go b (eqb b tag) refl)
+  where
+    go : (b : ℕ) (s : Bool) → eqb b tag ≡ s
+        → cond (attribute b) (counted parent b (valueIn table (cond s (some body) (find b u)) (known parent b))) none ≡ cond (attribute b) (counted parent b (valueIn table (find b u) (known parent b))) none
+    go b false q = refl
+    go b true q = rw (eqb-true b tag q, e, d, n)

@@ -17,7 +17,7 @@ use Rattle.format.specs.Tree.{Items, find, count, records, recordOf, rec
 use Rattle.format.specs.Tree.Items.{end, item}
 use Rattle.format.specs.Judge.{Context, judge}
 use Rattle.format.specs.Judge.Judged.{accepted}
-use Rattle.format.specs.Meaning.{opens, valueIn, attributesIn, cdataIn, means, tableOf, meaningOf}
+use Rattle.format.specs.Meaning.{opens, valueIn, counted, attributesIn, cdataIn, means, tableOf, meaningOf}
 use Rattle.format.specs.Writer.{bodyIn, here, tree, isEnd, tabled}
 use Rattle.format.proofs.Induction.{Cases, judged-all}
 use Rattle.format.proofs.Spans.{Part, Located, part-span, located, records-count}
@@ -170,8 +170,8 @@ attributes-untabled : (table : Entries) (p : ℕ) (t : Items) → attributesIn t
 unfolding attributesIn
 attributes-untabled table p t = fun-ext (λ a. go a (attribute a) refl)
   where
-    go : (a : ℕ) (b : Bool) → attribute a ≡ b → cond b (valueIn table (find a (untabled t)) (known p a)) none ≡ cond b (valueIn table (find a t) (known p a)) none
-    go a true e = ap (λ o. valueIn table o (known p a)) (find-untabled a (attribute-four a e) t)
+    go : (a : ℕ) (b : Bool) → attribute a ≡ b → cond b (counted p a (valueIn table (find a (untabled t)) (known p a))) none ≡ cond b (counted p a (valueIn table (find a t) (known p a))) none
+    go a true e = ap (λ o. counted p a (valueIn table o (known p a))) (find-untabled a (attribute-four a e) t)
     go a false e = refl
 
 cdata-untabled : (table : Entries) (t : Items) → cdataIn table (untabled t) ≡ cdataIn table t

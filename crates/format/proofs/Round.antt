@@ -20,9 +20,9 @@ use Rattle.format.specs.Tree.{Items, find}
 use Rattle.format.specs.Tree.Items.{end, item}
 use Rattle.format.specs.Judge.{isItems, Context, stageAfter, rule, late, within, next, unless, outermost, judge}
 use Rattle.format.specs.Judge.Judged.{accepted}
-use Rattle.format.specs.Meaning.{Meaning, valueIn, attributesIn, cdataIn, leafOctets, means, tableIn, tableOf, ifAccepted, meaning, maybe, rising, encode}
+use Rattle.format.specs.Meaning.{Meaning, valueIn, counted, attributesIn, cdataIn, leafOctets, means, tableIn, tableOf, ifAccepted, meaning, maybe, rising, encode}
 use Rattle.format.specs.Meaning.Meaning.{nothing, element, leaf}
-use Rattle.format.specs.WellFormed.{AttributeOk, CdataOk, PlaceOk, LeafOk, WellFormed, ObjectOk}
+use Rattle.format.specs.WellFormed.{ValueOk, AttributeOk, CdataOk, PlaceOk, LeafOk, WellFormed, ObjectOk}
 use Rattle.format.specs.WellFormed.LeafOk.{language, plainly}
 use Rattle.octets.proofs.Frames.{headed, framed-longer}
 use Rattle.text.proofs.Words.{expanded-empty}
@@ -86,7 +86,7 @@ abbrev Follows : (parent depth : ℕ) → List ℕ → (ℕ → Type 0) → (Ite
 Follows parent depth rest S P = (c : Context) (at stage : ℕ) → S stage → Ready c parent depth stage → (u : Items) × Reads c at rest u × P u
 
 -- no attribute of an element has a tag above 0xFF
-above-all : (parent b : ℕ) (o : Option Value) → AttributeOk parent b o → 256 ≤ b → o ≡ none
+above-all : (parent b : ℕ) (o : Option Value) → ValueOk parent b o → 256 ≤ b → o ≡ none
 above-all parent b none ok h = refl
 above-all parent b (some v) ok h = absurd (omega (arith, ok .1))
 
@@ -101,7 +101,7 @@ inside-end parent a f cd m t ok h u = record {
   cdata = u .cdata;
   table = u .table;
   below = λ b p _. u .attributes b p;
-  above = λ b p g. value-none parent b t (u .attributes b p) ∙ sym (above-all parent b (f b) (ok b) (omega arith));
+  above = λ b p g. value-none parent b t (u .attributes b p) ∙ sym (above-all parent b (f b) (ok b .value) (omega arith));
 }
 
 -- an attribute that is absent
@@ -151,11 +151,11 @@ rising-reads zero a q l parent depth f ok z rest cd m follows c at r fresh h =
     let u = follows c at 0 refl r in
     (u .0, u .1, inside-end parent a f cd m (u .0) ok (omega arith) (u .2))
 rising-reads (suc n) a q l parent depth f ok z rest cd m follows c at r fresh h =
-    go (rising-reads n (suc a) (omega arith) (omega arith) parent depth f ok z rest cd m follows) (f a) refl (ok a) h
+    go (rising-reads n (suc a) (omega arith) (omega arith) parent depth f ok z rest cd m follows) (f a) refl (ok a .value) h
   where
     go : ((c : Context) (at : ℕ) → Ready c parent depth 0 → Fresh (suc a) (c .seen) → length (rising n (suc a) f ++ rest) < 256 ^ 3
         → (t : Items) × Reads c at (rising n (suc a) f ++ rest) t × Inside parent f (suc a) cd m t)
-        → (o : Option Value) → f a ≡ o → AttributeOk parent a o → length (maybe (λ v. framed a (octetsOf v)) o ++ rising n (suc a) f ++ rest) < 256 ^ 3
+        → (o : Option Value) → f a ≡ o → ValueOk parent a o → length (maybe (λ v. framed a (octetsOf v)) o ++ rising n (suc a) f ++ rest) < 256 ^ 3
         → (t : Items) × Reads c at (maybe (λ v. framed a (octetsOf v)) o ++ rising n (suc a) f ++ rest) t × Inside parent f a cd m t
     go ih none e p s =
         let u = ih c at r (λ b g. fresh b (omega arith)) s in
@@ -175,10 +175,10 @@ rising-reads (suc n) a q l parent depth f ok z rest cd m follows c at r fresh h 
 set-back : (tag : ℕ) (f : ℕ → Option Value) (cd : Option (List ℕ)) (m : Meaning) (t : Items) → ((b : ℕ) → AttributeOk tag b (f b)) → Inside tag f 0x80 cd m t
     → attributesIn [] tag t ≡ f
 unfolding attributesIn attribute
-set-back tag f cd m t ok u = fun-ext (λ b. go b (attribute b) refl (f b) refl (ok b))
+set-back tag f cd m t ok u = fun-ext (λ b. go b (attribute b) refl (f b) refl (ok b .value))
   where
-    go : (b : ℕ) (s : Bool) → attribute b ≡ s → (o : Option Value) → f b ≡ o → AttributeOk tag b o → cond s (valueIn [] (find b t) (known tag b)) none ≡ f b
-    go b true q o e p = u .above b q (omega (arith, ltb-true 0x7F b q))
+    go : (b : ℕ) (s : Bool) → attribute b ≡ s → (o : Option Value) → f b ≡ o → ValueOk tag b o → cond s (counted tag b (valueIn [] (find b t) (known tag b))) none ≡ f b
+    go b true q o e p = ap (counted tag b) (u .above b q (omega (arith, ltb-true 0x7F b q))) ∙ ok b .counts
     go b false q none e p = sym e
     go b false q (some v) e p = absurd (false≢true (sym q ∙ p .0))
 

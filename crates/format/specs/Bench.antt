@@ -66,7 +66,8 @@ accented (suc n) = 0xC3 ∷ 0xA9 ∷ accented n
 -- parent but not past the object; a token octet without an entry in an attribute of the top, before a broken item and before a table that has another entry;
 -- attributes in falling order; and the cases of change request 2026-01: a short name of eight letters of two octets passes and one of nine doesn't, and one of a
 -- token that expands to eight letters in nine octets passes; and those of 2026-04: a time of wrong length, whose date, hours and minutes would be wrong too, one with
--- a wrong date and all behind it, with wrong hours, with wrong minutes and with wrong seconds, and a number of wrong length, which has no field
+-- a wrong date and all behind it, with wrong hours, with wrong minutes and with wrong seconds, and a number of wrong length, which has no field; and those of
+-- 2026-05: a recommendation "no", which is its default: a record shows it and the normal form leaves it out; and one "yes"
 unfoldable pub slips : List (List ℕ × Outcome)
 slips =
     (0x03 ∷ 0x12 ∷ 0x04 ∷ 0x0B ∷ 0x01 ∷ 0x09 ∷ 0x61 ∷ 0x61 ∷ 0x61 ∷ 0x61 ∷ 0x61 ∷ 0x61 ∷ 0x61 ∷ 0x61 ∷ 0x61 ∷ 0x10 ∷ 0x03 ∷ 0x01 ∷ 0x01 ∷ 0x01 ∷ [], refuses (refusal 13 17))
@@ -83,6 +84,8 @@ slips =
     ∷ (0x03 ∷ 0x08 ∷ 0x81 ∷ 0x06 ∷ 0x61 ∷ 0xA7 ∷ 0xCD ∷ 0xFC ∷ 0xF0 ∷ 0x00 ∷ [], refuses (wrongValue 2 4))
     ∷ (0x03 ∷ 0x08 ∷ 0x81 ∷ 0x06 ∷ 0x61 ∷ 0xA7 ∷ 0xCD ∷ 0xFB ∷ 0xF0 ∷ 0x00 ∷ [], refuses (wrongValue 2 5))
     ∷ (0x03 ∷ 0x03 ∷ 0x80 ∷ 0x01 ∷ 0x00 ∷ [], refuses (wrongValue 2 0))
+    ∷ (0x02 ∷ 0x07 ∷ 0x21 ∷ 0x05 ∷ 0x1C ∷ 0x03 ∷ 0x83 ∷ 0x01 ∷ 0x01 ∷ [], normally 4 (0x02 ∷ 0x04 ∷ 0x21 ∷ 0x02 ∷ 0x1C ∷ 0x00 ∷ []))
+    ∷ (0x02 ∷ 0x07 ∷ 0x21 ∷ 0x05 ∷ 0x1C ∷ 0x03 ∷ 0x83 ∷ 0x01 ∷ 0x02 ∷ [], normally 4 (0x02 ∷ 0x07 ∷ 0x21 ∷ 0x05 ∷ 0x1C ∷ 0x03 ∷ 0x83 ∷ 0x01 ∷ 0x02 ∷ []))
     ∷ []
 
 -- two tops, as records over no octets

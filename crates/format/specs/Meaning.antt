@@ -8,7 +8,7 @@ use Rattle.octets.specs.Header.{framed}
 use Rattle.text.specs.Tokens.{Entries, entries, expanded}
 use Rattle.values.specs.declared.Kind.{Kind}
 use Rattle.values.specs.Table.{known, attribute}
-use Rattle.values.specs.Values.{Value, meant, octetsOf}
+use Rattle.values.specs.Values.{Value, meant, octetsOf, isDefault}
 use Rattle.format.specs.Tree.{Items, find}
 use Rattle.format.specs.Tree.Items.{end, item}
 use Rattle.format.specs.Judge.{Judged, isItems, isText, judge}
@@ -34,9 +34,14 @@ valueIn table none k = none
 valueIn table (some o) none = none
 valueIn table (some o) (some k) = some (meant table k o)
 
+-- an attribute with its default means the same as none (change request 2026-05; 002, clause 4.4.1)
+unfoldable pub counted : (parent tag : ℕ) → Option Value → Option Value
+counted parent tag none = none
+counted parent tag (some v) = cond (isDefault parent tag v) none (some v)
+
 -- the attributes of an element of a tag, among the items inside it. Which attributes count is said here and nowhere else
 unfoldable pub attributesIn : Entries → ℕ → Items → ℕ → Option Value
-attributesIn table parent inside tag = cond (attribute tag) (valueIn table (find tag inside) (known parent tag)) none
+attributesIn table parent inside tag = cond (attribute tag) (counted parent tag (valueIn table (find tag inside) (known parent tag))) none
 
 -- the CDATA among the items inside an element
 unfoldable pub cdataIn : Entries → Items → Option (List ℕ)

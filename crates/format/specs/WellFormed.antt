@@ -13,13 +13,18 @@ use Rattle.values.specs.Table.{known, attribute}
 use Rattle.values.specs.Values.{Value}
 use Rattle.values.specs.Proper.{Proper}
 use Rattle.format.specs.Judge.{allowed, latest, stageAfter, shown}
-use Rattle.format.specs.Meaning.{Meaning}
+use Rattle.format.specs.Meaning.{Meaning, counted}
 use Rattle.format.specs.Meaning.Meaning.{nothing, element, leaf}
 
 -- an attribute that is present is known in its element and has a value of its kind
-abbrev pub AttributeOk : ℕ → ℕ → Option Value → Type 0
-AttributeOk parent a none = Unit {0}
-AttributeOk parent a (some v) = (attribute a ≡ true) × (a < 256) × ((k : Kind) × (known parent a ≡ some k) × Proper k v)
+abbrev pub ValueOk : ℕ → ℕ → Option Value → Type 0
+ValueOk parent a none = Unit {0}
+ValueOk parent a (some v) = (attribute a ≡ true) × (a < 256) × ((k : Kind) × (known parent a ≡ some k) × Proper k v)
+
+-- and that value is not its default
+pub record AttributeOk (parent a : ℕ) (o : Option Value) : Type 0 where
+  pub value : ValueOk parent a o
+  pub counts : counted parent a o ≡ o
 
 -- CDATA that is present is valid text without token octets, and no more than may be shown
 abbrev pub CdataOk : ℕ → Option (List ℕ) → Type 0

@@ -9,5 +9,6 @@ pub mod Laws
 pub mod ValueForm
 pub mod Known
 pub mod Lookup
+pub mod DefaultValues
 pub mod Anchors
 pub mod Wrong

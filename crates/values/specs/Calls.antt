@@ -4,8 +4,8 @@ use mathlib.Core.Bool.{Bool, cond, _&&_, _||_}
 use mathlib.Core.List.{List, []}
 use mathlib.Core.Option.{Option, none, some}
 use Prim.Native.Nat.{ℕ, _+_}
-use lib.Dec.{leb}
-use lib.ListN.{length}
+use lib.Dec.{eqb, leb}
+use lib.ListN.{length, getD}
 use lib.Seq.{sets}
 use Rattle.octets.specs.Counts.{sizeOf}
 use Rattle.values.specs.declared.Kind.{Kind}
@@ -20,7 +20,7 @@ use Rattle.values.specs.declared.Put.{Put}
 use Rattle.values.specs.declared.Put.the-variants.{Done, NoRoom, Invalid}
 use Rattle.values.specs.declared.NormalSize.{NormalSize}
 use Rattle.values.specs.declared.NormalSize.the-variants.{Octets, NoValue}
-use Rattle.values.specs.Table.{known}
+use Rattle.values.specs.Table.{known, defaults, defaultIn}
 use Rattle.values.specs.Times.{timeOf, isTime, wrongTime}
 use Rattle.values.specs.Bearers.{bearerOf, isBearer}
 use Rattle.values.specs.Values.{fits, meant, octetsOf}
@@ -66,3 +66,8 @@ normalOctets kind o = octetsOf (meant [] kind o)
 -- how many octets they are, of octets that are a value of the kind
 unfoldable pub normalSize : Kind → List ℕ → NormalSize
 normalSize kind o = cond (fits kind o) (Octets (sizeOf (normalOctets kind o))) NoValue
+
+-- the octets of an attribute of an element are its default: one octet, which is the number of its value. That `isDefault` says the same of what they mean is proved
+-- (proofs/DefaultValues, default-meant)
+unfoldable pub defaultOctets : (parent tag : ℕ) → List ℕ → Bool
+defaultOctets parent tag o = eqb (length o) 1 && defaultIn parent tag (getD o 0 0) defaults

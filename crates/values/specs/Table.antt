@@ -1,5 +1,5 @@
 -- The known items with the kind of each body: annexes D and E of 002, and CDATA (document 01, Framing; the points decided in docs/DECISIONS.md).
-use mathlib.Core.Bool.{Bool, cond, _&&_}
+use mathlib.Core.Bool.{Bool, false, cond, _&&_, _||_}
 use mathlib.Core.Option.{Option, none, some}
 use mathlib.Core.List.{List, [], _∷_}
 use Prim.Native.Nat.{ℕ}
@@ -107,3 +107,18 @@ kindIn e tag (r ∷ rs) = cond (eqb e (r .0) && eqb tag (r .1)) (some (r .2)) (k
 -- the kind of an item directly in an element, where the item is known: an attribute by that element, any other item by its tag alone
 unfoldable pub known : ℕ → ℕ → Option Kind
 known parent tag = kindIn (cond (attribute tag) parent 0) tag rows
+
+-- the defaults that an attribute has by itself: its element, its tag, and the number of the value (change request 2026-05). TS 102 818 gives them, and annex F of 002
+-- gives a default the number 1. Its other defaults are of items that 002 doesn't encode, or of xml:lang, which 0x06 governs (docs/DECISIONS.md goes through all)
+unfoldable pub defaults : List (ℕ × ℕ × ℕ)
+defaults =
+    -- genre: type "main"
+    (0x14, 0x81, 1)
+    -- programme: recommendation "no", broadcast "on-air"
+    ∷ (0x1C, 0x83, 1) ∷ (0x1C, 0x84, 1)
+    -- programmeEvent: the same
+    ∷ (0x2E, 0x83, 1) ∷ (0x2E, 0x84, 1) ∷ []
+
+unfoldable pub defaultIn : (element tag n : ℕ) → List (ℕ × ℕ × ℕ) → Bool
+defaultIn e tag n [] = false
+defaultIn e tag n (r ∷ rs) = eqb n (r .2) && (eqb e (r .0) && eqb tag (r .1)) || defaultIn e tag n rs

@@ -1,5 +1,5 @@
 -- The values of attributes and texts by kind: which octets are one, what they mean, and the normal octets of a meaning (document 01, Values).
-use mathlib.Core.Bool.{Bool, true}
+use mathlib.Core.Bool.{Bool, true, false}
 use mathlib.Core.List.{List}
 use Prim.Native.Nat.{ℕ}
 use lib.Dec.{eqb}
@@ -12,6 +12,7 @@ use Rattle.values.specs.declared.NumberKind.{NumberKind}
 use Rattle.values.specs.declared.NumberKind.the-variants.{Duration, ShortId, Enumerated, Integer}
 use Rattle.values.specs.declared.Time.{Time}
 use Rattle.values.specs.declared.Bearer.{Bearer}
+use Rattle.values.specs.Table.{defaults, defaultIn}
 use Rattle.values.specs.Times.{timeOf, isTime, wrongTime, timeOctets}
 use Rattle.values.specs.Bearers.{bearerOf, isBearer, bearerOctets}
 
@@ -66,3 +67,10 @@ octetsOf (octets o) = o
 octetsOf (number w n) = digits w n
 octetsOf (time t) = timeOctets t
 octetsOf (bearer b) = bearerOctets b
+
+-- the value of an attribute of an element is its default (change request 2026-05)
+unfoldable pub isDefault : (parent tag : ℕ) → Value → Bool
+isDefault parent tag (octets o) = false
+isDefault parent tag (number w n) = defaultIn parent tag n defaults
+isDefault parent tag (time t) = false
+isDefault parent tag (bearer b) = false

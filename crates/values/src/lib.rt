@@ -2,11 +2,13 @@
 // and put them together. No call has a `requires`: octets that are no value, a time out of range or a room too small get an answer.
 
 mod bearer_form;
+mod defaults;
 mod numbers;
 mod table;
 mod time_form;
 mod value_form;
 
+pub use defaults::is_default;
 use octets::Octets;
 pub use table::is_attribute;
 pub use table::known_kind;
