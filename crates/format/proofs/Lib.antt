@@ -12,6 +12,7 @@ pub mod Told
 pub mod Fine
 pub mod Order
 pub mod Sums
+pub mod Defaults
 pub mod Normal
 pub mod Same
 pub mod Refusals

@@ -22,13 +22,14 @@ use Rattle.format.specs.Tree.{Items, find}
 use Rattle.format.specs.Tree.Items.{end, item}
 use Rattle.format.specs.Judge.{isText, judge}
 use Rattle.format.specs.Judge.Judged.{accepted}
-use Rattle.format.specs.Meaning.{Meaning, opens, isChild, valueIn, attributesIn, cdataIn, leafOctets, means, tableOf, maybe, rising, encode, normalOf}
+use Rattle.format.specs.Meaning.{Meaning, opens, isChild, valueIn, counted, attributesIn, cdataIn, leafOctets, means, tableOf, maybe, rising, encode, normalOf}
 use Rattle.format.specs.Meaning.Meaning.{element, leaf}
-use Rattle.format.specs.WellFormed.{AttributeOk, CdataOk}
+use Rattle.format.specs.WellFormed.{ValueOk, CdataOk}
 use Rattle.format.specs.Writer.{Spot, below, past, atTop}
 use Rattle.format.proofs.Means.{text-known}
 use Rattle.format.proofs.Told.{Told, ItemTold, accepted-told, accepted-sound}
 use Rattle.format.proofs.Fine.{fine, told-text}
+use Rattle.format.proofs.Defaults.{counted-some}
 use Rattle.format.proofs.OctetLists.{octets-none, octets-append, framed-octets, text-octets, proper-octets}
 
 -- the body of an item that is told
@@ -44,11 +45,11 @@ found-octets T a o (item tag at body x u) s h e = go (eqb a tag) (λ q. found-oc
 module _ (T : Entries) (ok : Sound T) where
   -- an attribute's value
   value-octets : (t : Items) (s : Spot) → Told T s t → (a : ℕ) (v : Value) → attributesIn T (s .parent) t a ≡ some v → (a < 256) × Octets (octetsOf v)
-  unfolding attributesIn valueIn meant octetsOf
+  unfolding attributesIn counted valueIn meant octetsOf
   value-octets t s h a v e = go (attribute a) refl (find a t) refl (known (s .parent) a) refl (fine T ok t s h .attributes a) e
     where
-      go : (b : Bool) → attribute a ≡ b → (o : Option (List ℕ)) → find a t ≡ o → (k : Option Kind) → known (s .parent) a ≡ k → (attribute a ≡ true → AttributeOk (s .parent) a (valueIn T o k))
-          → cond b (valueIn T o k) none ≡ some v → (a < 256) × Octets (octetsOf v)
+      go : (b : Bool) → attribute a ≡ b → (o : Option (List ℕ)) → find a t ≡ o → (k : Option Kind) → known (s .parent) a ≡ k → (attribute a ≡ true → ValueOk (s .parent) a (valueIn T o k))
+          → cond b (counted (s .parent) a (valueIn T o k)) none ≡ some v → (a < 256) × Octets (octetsOf v)
       go false q o r k z g e = absurd (Option·none-ne-some v e)
       go true q none r k z g e = absurd (Option·none-ne-some v e)
       go true q (some o) r none z g e = absurd (Option·none-ne-some v e)
@@ -56,7 +57,7 @@ module _ (T : Entries) (ok : Sound T) where
           let w = g q in
           let same : k ≡ w .2 .0 = Option·some-injective k (w .2 .0) (sym z ∙ w .2 .1) in (
             w .1,
-            subst (λ x. Octets (octetsOf x)) (Option·some-injective (meant T k o) v e)
+            subst (λ x. Octets (octetsOf x)) (Option·some-injective (meant T k o) v (counted-some (s .parent) a (some (meant T k o)) v e))
                 (proper-octets (w .2 .2) (λ p. subst (λ x. Octets (octetsOf (meant T x o))) (sym (same ∙ p)) (found-octets T a o t s h r))),
           )
 

@@ -14,7 +14,7 @@ use Rattle.text.specs.Tokens.{shownLength}
 use Rattle.values.specs.declared.Kind.{Kind}
 use Rattle.values.specs.declared.Kind.the-variants.{HoldsItems, HoldsText, HoldsPlain}
 use Rattle.values.specs.Table.{known, attribute}
-use Rattle.values.specs.Values.{Value, octetsOf}
+use Rattle.values.specs.Values.{Value, octetsOf, isDefault}
 use Rattle.values.specs.Proper.{Proper}
 use Rattle.format.specs.Tree.{Items, find}
 use Rattle.format.specs.Tree.Items.{end, item}
@@ -26,12 +26,14 @@ use Rattle.format.specs.WellFormed.{ValueOk, AttributeOk, CdataOk, Place
 use Rattle.format.specs.WellFormed.LeafOk.{language, plainly}
 use Rattle.octets.proofs.Frames.{headed, framed-longer}
 use Rattle.text.proofs.Words.{expanded-empty}
-use Rattle.values.proofs.Values.{proper-value, proper-means}
+use Rattle.values.proofs.Values.{proper-value, proper-fits, proper-means}
+use Rattle.values.proofs.DefaultValues.{element-keeps, default-meant}
 use Rattle.values.proofs.Known.{ElementTag, items-tag, plain-tag, language-tag, known-six, known-anywhere, known-cdata, not-zero}
 use Rattle.format.proofs.Rules.{KindHeld}
 use Rattle.format.proofs.Read.{Reads, Alone, reads-element, reads-leaf, reads-end}
 use Rattle.format.proofs.Place.{Ready, within-ready, next-ready, next-attribute, attribute-tag, shown-other, words-held, items-held, plain-held, attribute-held, cdata-held, element-held}
 use Rattle.format.proofs.Means.{value-no-items, means-attribute, means-cdata, means-element, means-leaf, leaf-text, leaf-plain, cdata-itself}
+use Rattle.format.proofs.Defaults.{counts-none, defaultsIn}
 
 -- the tree of children and CDATA
 record Body (cd : Option (List ℕ)) (m : Meaning) (t : Items) : Type 0 where
@@ -39,6 +41,7 @@ record Body (cd : Option (List ℕ)) (m : Meaning) (t : Items) : Type 0 where
   cdata : find 1 t ≡ cd
   table : find 4 t ≡ none
   attributes : (b : ℕ) → attribute b ≡ true → find b t ≡ none
+  bare : (parent : ℕ) → defaultsIn parent t ≡ 0
 
 -- the tree of attributes from a tag on, children and CDATA
 record Inside (parent : ℕ) (f : ℕ → Option Value) (a : ℕ) (cd : Option (List ℕ)) (m : Meaning) (t : Items) : Type 0 where
@@ -47,6 +50,7 @@ record Inside (parent : ℕ) (f : ℕ → Option Value) (a : ℕ) (cd : Option (
   table : find 4 t ≡ none
   below : (b : ℕ) → attribute b ≡ true → b < a → find b t ≡ none
   above : (b : ℕ) → attribute b ≡ true → a ≤ b → valueIn [] (find b t) (known parent b) ≡ f b
+  bare : defaultsIn parent t ≡ 0
 
 not-one : (b : ℕ) → attribute b ≡ true → eqb b 1 ≡ false
 unfolding attribute
@@ -67,14 +71,14 @@ text-no-items = refl
 
 cdata-reads : (c : Context) (parent depth stage at : ℕ) (cd : Option (List ℕ)) → Ready c parent depth stage → eqb parent 0 ≡ false → leb stage 2 ≡ true
     → CdataOk parent cd → length (maybe (framed 1) cd) < 256 ^ 3 → (u : Items) × Reads c at (maybe (framed 1) cd) u × Body cd nothing u
-unfolding maybe means find
-cdata-reads c parent depth stage at none r z s ok h = (end, reads-end c at (r .quiet), record { children = refl; cdata = refl; table = refl; attributes = λ b q. refl })
+unfolding maybe means find defaultsIn
+cdata-reads c parent depth stage at none r z s ok h = (end, reads-end c at (r .quiet), record { children = refl; cdata = refl; table = refl; attributes = λ b q. refl; bare = λ p. refl })
 cdata-reads c parent depth stage at (some o) r z s ok h =
     let small : length o < 256 ^ 3 = omega (arith, rw (append-nil (framed 1 o)) at (framed-longer 1 o [])) in
     let n = next-ready c parent depth stage at 1 o r cdata-no-attribute refl in (
       item 1 (at + headed (length o)) o end end,
       rw (append-nil (framed 1 o)) at (reads-leaf c at 1 o [] small (cdata-held c parent depth stage o r z s (ok .0) (ok .1)) (inside-parent c parent depth stage [] r z) HoldsText (known-cdata (c .parent)) text-no-items (reads-end (next c at 1 o) (at + headed (length o) + length o) (n .quiet))),
-      record { children = means-cdata [] (at + headed (length o)) o end end; cdata = refl; table = refl; attributes = λ b q. rw (not-one b q) },
+      record { children = means-cdata [] (at + headed (length o)) o end end; cdata = refl; table = refl; attributes = λ b q. rw (not-one b q); bare = λ p. rw (element-keeps p 1 o cdata-no-attribute) },
     )
 
 -- tags of brothers so far are below
@@ -102,6 +106,7 @@ inside-end parent a f cd m t ok h u = record {
   table = u .table;
   below = λ b p _. u .attributes b p;
   above = λ b p g. value-none parent b t (u .attributes b p) ∙ sym (above-all parent b (f b) (ok b .value) (omega arith));
+  bare = u .bare parent;
 }
 
 -- an attribute that is absent
@@ -113,6 +118,7 @@ inside-none parent a f cd m t e u = record {
   table = u .table;
   below = λ b p g. u .below b p (omega arith);
   above = λ b p g. pick b p g (eqb b a) refl;
+  bare = u .bare;
 }
   where
     pick : (b : ℕ) → attribute b ≡ true → a ≤ b → (s : Bool) → eqb b a ≡ s → valueIn [] (find b t) (known parent b) ≡ f b
@@ -121,14 +127,15 @@ inside-none parent a f cd m t e u = record {
 
 -- an attribute that is present
 inside-some : (parent a at : ℕ) (f : ℕ → Option Value) (cd : Option (List ℕ)) (m : Meaning) (t : Items) (k : Kind) (v : Value) → 0x80 ≤ a → f a ≡ some v
-    → known parent a ≡ some k → Proper k v → Inside parent f (suc a) cd m t → Inside parent f a cd m (item a at (octetsOf v) end t)
-unfolding find valueIn
-inside-some parent a at f cd m t k v l e g pr u = record {
+    → known parent a ≡ some k → Proper k v → isDefault parent a v ≡ false → Inside parent f (suc a) cd m t → Inside parent f a cd m (item a at (octetsOf v) end t)
+unfolding find valueIn defaultsIn
+inside-some parent a at f cd m t k v l e g pr n u = record {
   children = means-attribute [] a at (octetsOf v) end t (attribute-tag a l .is) ∙ u .children;
   cdata = rw (ne-eqb 1 a (λ q. omega arith)) (u .cdata);
   table = rw (ne-eqb 4 a (λ q. omega arith)) (u .table);
   below = λ b p h. rw (ne-eqb b a (λ q. omega arith)) (u .below b p (omega arith));
   above = λ b p h. pick b p h (eqb b a) refl;
+  bare = rw (default-meant [] parent a k (octetsOf v) g (proper-fits pr) ∙ (ap (isDefault parent a) (proper-means pr) ∙ n)) (omega (arith, u .bare));
 }
   where
     pick : (b : ℕ) → attribute b ≡ true → a ≤ b → (s : Bool) → eqb b a ≡ s → valueIn [] (find b (item a at (octetsOf v) end t)) (known parent b) ≡ f b
@@ -168,7 +175,7 @@ rising-reads (suc n) a q l parent depth f ok z rest cd m follows c at r fresh h 
         let u = ih (next c at a o) (at + headed (length o) + length o) (next-attribute c parent depth at a r (attribute-tag a l) k v (p .2 .1) (p .2 .2)) (fresh-next c at a o fresh) (omega arith) in (
           item a (at + headed (length o)) o end (u .0),
           rw append-assoc (reads-leaf c at a o (rising n (suc a) f ++ rest) (omega arith) (attribute-held c parent depth a r z l (fresh a (omega arith)) k v (p .2 .1) (p .2 .2)) (inside-parent c parent depth 0 (rising n (suc a) f ++ rest) r z) k (ap (λ w. known w a) (r .isParent) ∙ p .2 .1) (value-no-items k (proper-value (p .2 .2))) (u .1)),
-          inside-some parent a (at + headed (length o)) f cd m (u .0) k v l e (p .2 .1) (p .2 .2) (u .2),
+          inside-some parent a (at + headed (length o)) f cd m (u .0) k v l e (p .2 .1) (p .2 .2) (counts-none parent a v (subst (λ x. counted parent a x ≡ x) e (ok a .counts))) (u .2),
         )
 
 -- an element's attributes are those that its meaning has
@@ -184,13 +191,14 @@ set-back tag f cd m t ok u = fun-ext (λ b. go b (attribute b) refl (f b) refl (
 
 -- what an element or a leaf adds to its later brothers but its own meaning
 beside : (cd : Option (List ℕ)) (m n : Meaning) (tag at : ℕ) (body : List ℕ) (t u : Items) → ElementTag tag → Body cd m u → means [] (item tag at body t u) ≡ n
-    → Body cd n (item tag at body t u)
-unfolding find
-beside cd m n tag at body t u e b q = record {
+    → defaultsIn tag t ≡ 0 → Body cd n (item tag at body t u)
+unfolding find defaultsIn
+beside cd m n tag at body t u e b q z = record {
   children = q;
   cdata = rw (ne-eqb 1 tag (λ w. eqb-false tag 1 (e .notCdata) (sym w))) (b .cdata);
   table = rw (ne-eqb 4 tag (λ w. eqb-false tag 4 (e .notTable) (sym w))) (b .table);
   attributes = λ a p. rw (ne-eqb a tag (λ w. false≢true (sym (e .notAttribute) ∙ (ap attribute (sym w) ∙ p)))) (b .attributes a p);
+  bare = λ p. rw (element-keeps p tag body (e .notAttribute), z) (omega (arith, b .bare p));
 }
 
 element-means : (cd cdata : Option (List ℕ)) (kids after : Meaning) (tag at : ℕ) (f : ℕ → Option Value) (body : List ℕ) (t u : Items) → known 0 tag ≡ some HoldsItems
@@ -218,7 +226,7 @@ element-reads c parent depth stage at tag f kids after cd cdata body rest r plac
     let u = later (next c at tag body) (at + h + length body) (next-ready c parent depth stage at tag body r (tagged .notAttribute) (tagged .notTable)) in (
       item tag (at + h) body (t .0) (u .0),
       reads-element c at tag body rest small (element-held c parent depth stage tag body r tagged place (rw x (items-held c tag body))) alone x (t .1) (u .1),
-      beside cd after (element tag f kids cdata after) tag (at + h) body (t .0) (u .0) tagged (u .2) (element-means cd cdata kids after tag (at + h) f body (t .0) (u .0) e ok (t .2) (u .2)),
+      beside cd after (element tag f kids cdata after) tag (at + h) body (t .0) (u .0) tagged (u .2) (element-means cd cdata kids after tag (at + h) f body (t .0) (u .0) e ok (t .2) (u .2)) (t .2 .bare),
       rw (t .2 .table),
     )
 
@@ -239,6 +247,7 @@ leaf-one : (c : Context) (parent depth stage at tag : ℕ) (after : Meaning) (cd
     → leafOctets [] tag o ≡ o → length o < 256 ^ 3 → Alone c rest
     → ((c : Context) (at : ℕ) → Ready c parent depth (stageAfter tag) → (u : Items) × Reads c at rest u × Body cd after u)
     → (t : Items) × Reads c at (framed tag o ++ rest) t × Body cd (leaf tag o after) t
+unfolding defaultsIn
 leaf-one c parent depth stage at tag after cd o rest k r place e l tagged rules same small alone later =
     let h = headed (length o) in
     let x : known (c .parent) tag ≡ some k = known-anywhere (c .parent) tag (tagged .notAttribute) ∙ e in
@@ -246,7 +255,7 @@ leaf-one c parent depth stage at tag after cd o rest k r place e l tagged rules 
     let m : means [] (item tag (at + h) o end (u .0)) ≡ leaf tag o after = means-leaf [] tag (at + h) o end (u .0) k tagged e l ∙ rw (same, u .2 .children) in (
       item tag (at + h) o end (u .0),
       reads-leaf c at tag o rest small (element-held c parent depth stage tag o r tagged place (rw x rules)) alone k x l (u .1),
-      beside cd after (leaf tag o after) tag (at + h) o end (u .0) tagged (u .2) m,
+      beside cd after (leaf tag o after) tag (at + h) o end (u .0) tagged (u .2) m refl,
     )
 
 leaf-reads : (c : Context) (parent depth stage at tag : ℕ) (after : Meaning) (cd : Option (List ℕ)) (o rest : List ℕ)
@@ -310,7 +319,7 @@ children-reads (leaf tag o after) = children-leaf tag o after (children-reads af
 top-reads : (tag : ℕ) (f : ℕ → Option Value) (kids : Meaning) (cdata : Option (List ℕ)) → WellFormed 0 1 0 (element tag f kids cdata nothing)
     → length (encode (element tag f kids cdata nothing)) ≤ 32_768
     → (t : Items) × Reads outermost 0 (encode (element tag f kids cdata nothing)) t × Body none (element tag f kids cdata nothing) t × (tableOf t ≡ [])
-unfolding encode outermost late means find
+unfolding encode outermost late means find defaultsIn
 top-reads tag f kids cdata ok h =
     let text = maybe (framed 1) cdata in
     let body = rising 128 0x80 f ++ (encode kids ++ text) in
@@ -323,7 +332,7 @@ top-reads tag f kids cdata ok h =
     (body-reads tag 1 f kids cdata (encode kids ++ text) y (ok .2) (omega arith)
     (λ c at stage e q. children-reads kids tag 2 0 y refl (ok .3) text cdata
     (λ c at stage s q. cdata-reads c tag 2 stage at cdata q y s (ok .4) (omega arith)) c at (subst (λ n. Ready c tag 2 n) e q) (omega arith)))
-    (λ c at q. (end, reads-end c at (q .quiet), record { children = refl; cdata = refl; table = refl; attributes = λ b q. refl }))
+    (λ c at q. (end, reads-end c at (q .quiet), record { children = refl; cdata = refl; table = refl; attributes = λ b q. refl; bare = λ p. refl }))
 
 judged : (o : List ℕ) (t : Items) → 1 ≤ length o → length o ≤ 32_768 → Reads outermost 0 o t → judge o ≡ accepted t
 unfolding judge unless rule
@@ -333,16 +342,27 @@ element-long : (tag : ℕ) (f : ℕ → Option Value) (kids : Meaning) (cdata : 
 unfolding encode
 element-long tag f kids cdata after = omega (arith, framed-longer tag (rising 128 0x80 f ++ (encode kids ++ maybe (framed 1) cdata)) (encode after))
 
--- what is written from a well-formed meaning is accepted, and means it
+-- what is written from a well-formed meaning, read again: it is accepted, means that meaning, and holds no default
+pub record Reread (m : Meaning) : Type 0 where
+  pub tree : Items
+  pub accepts : judge (encode m) ≡ accepted tree
+  pub table : tableOf tree ≡ []
+  pub means-it : means [] tree ≡ m
+  pub bare : defaultsIn 0 tree ≡ 0
+
+pub reread : (m : Meaning) → ObjectOk m → length (encode m) ≤ 32_768 → Reread m
+reread nothing ok h = absurd ok
+reread (leaf tag o after) ok h = absurd ok
+reread (element tag f kids cdata nothing) ok h =
+    let m = element tag f kids cdata nothing in
+    let t = top-reads tag f kids cdata ok h in
+    record { tree = t .0; accepts = judged (encode m) (t .0) (element-long tag f kids cdata nothing) h (t .1); table = t .3; means-it = t .2 .children; bare = t .2 .bare 0 }
+reread (element tag f kids cdata (element tag′ f′ kids′ cdata′ after)) ok h = absurd ok
+reread (element tag f kids cdata (leaf tag′ o after)) ok h = absurd ok
+
 pub meaning-encode : (m : Meaning) → ObjectOk m → length (encode m) ≤ 32_768 → meaning (encode m) ≡ some m
 unfolding meaning ifAccepted
-meaning-encode nothing ok h = absurd ok
-meaning-encode (leaf tag o after) ok h = absurd ok
-meaning-encode (element tag f kids cdata nothing) ok h =
-    let t = top-reads tag f kids cdata ok h in
-    rw (judged (encode (element tag f kids cdata nothing)) (t .0) (element-long tag f kids cdata nothing) h (t .1), t .3) (ap some (t .2 .children))
-meaning-encode (element tag f kids cdata (element tag′ f′ kids′ cdata′ after)) ok h = absurd ok
-meaning-encode (element tag f kids cdata (leaf tag′ o after)) ok h = absurd ok
+meaning-encode m ok h = let r = reread m ok h in rw (r .accepts, r .table) (ap some (r .means-it))
 
 -- so two well-formed meanings with one normal form are one
 pub encode-injective : (m n : Meaning) → ObjectOk m → ObjectOk n → length (encode m) ≤ 32_768 → encode m ≡ encode n → m ≡ n

@@ -23,7 +23,7 @@ use Rattle.format.specs.Judge.{Judged, judge}
 use Rattle.format.specs.Judge.Judged.{refused, accepted}
 use Rattle.format.specs.Meaning.{Meaning, meaningOf, ifAccepted, encode, normalOf, normal}
 use Rattle.format.specs.Meaning.Meaning.{nothing, element, leaf}
-use Rattle.format.specs.WellFormed.{AttributeOk, WellFormed, ObjectOk}
+use Rattle.format.specs.WellFormed.{ValueOk, AttributeOk, WellFormed, ObjectOk}
 use Rattle.format.specs.Same.{sameOctets, sameValue, sameMaybe, sameAttributes, sameMeaning, sameAnswer, hasNormal, isNormal}
 use Rattle.format.proofs.Round.{encode-injective}
 use Rattle.format.proofs.Normal.{accepted-ok}
@@ -72,7 +72,7 @@ value-exactly k v w p q = (
 )
 
 -- an attribute of an element that is present in both
-pub attribute-exactly : (tag a : ℕ) (v w : Option Value) → AttributeOk tag a v → AttributeOk tag a w → sameMaybe sameValue v w ≡ true ↔ v ≡ w
+pub attribute-exactly : (tag a : ℕ) (v w : Option Value) → ValueOk tag a v → ValueOk tag a w → sameMaybe sameValue v w ≡ true ↔ v ≡ w
 attribute-exactly tag a none none p q = maybe-same sameValue none none (λ x y e f. absurd (Option·none-ne-some x e))
 attribute-exactly tag a none (some w) p q = maybe-same sameValue none (some w) (λ x y e f. absurd (Option·none-ne-some x e))
 attribute-exactly tag a (some v) none p q = maybe-same sameValue (some v) none (λ x y e f. absurd (Option·none-ne-some y f))
@@ -102,7 +102,7 @@ attributes-all zero tag f g h = refl
 attributes-all (suc n) tag f g h = and-true (sameMaybe sameValue (f tag) (g tag)) (sameAttributes n (suc tag) f g) (h tag) (attributes-all n (suc tag) f g h)
 
 -- beyond the tags of attributes there are none
-absent : (tag a : ℕ) (v : Option Value) → AttributeOk tag a v → (0x80 ≤ a → a < 256 → ⊥) → v ≡ none
+absent : (tag a : ℕ) (v : Option Value) → ValueOk tag a v → (0x80 ≤ a → a < 256 → ⊥) → v ≡ none
 unfolding attribute
 absent tag a none ok h = refl
 absent tag a (some v) ok h = absurd (h (ltb-true 0x7F a (ok .0)) (ok .1))
@@ -111,17 +111,17 @@ pub attributes-exactly : (tag : ℕ) (f g : ℕ → Option Value) → ((a : ℕ)
     → sameAttributes 128 0x80 f g ≡ true ↔ f ≡ g
 attributes-exactly tag f g p q = (
   (λ e. fun-ext (λ a. each e a (leb 0x80 a && ltb a 256) refl)),
-  (λ e. attributes-all 128 0x80 f g (λ a. attribute-exactly tag a (f a) (g a) (p a) (q a) .1 (ap (λ h. h a) e))),
+  (λ e. attributes-all 128 0x80 f g (λ a. attribute-exactly tag a (f a) (g a) (p a .value) (q a .value) .1 (ap (λ h. h a) e))),
 )
   where
     each : sameAttributes 128 0x80 f g ≡ true → (a : ℕ) (b : Bool) → leb 0x80 a && ltb a 256 ≡ b → f a ≡ g a
     each e a true t =
         let l = leb-true 0x80 a (and-left (leb 0x80 a) (ltb a 256) t) in
         let m = ltb-true a 256 (and-right (leb 0x80 a) (ltb a 256) t) in
-        attribute-exactly tag a (f a) (g a) (p a) (q a) .0 (attributes-at 128 0x80 f g e a l (omega arith))
+        attribute-exactly tag a (f a) (g a) (p a .value) (q a .value) .0 (attributes-at 128 0x80 f g e a l (omega arith))
     each e a false t =
         let h : 0x80 ≤ a → a < 256 → ⊥ = λ l m. false≢true (sym t ∙ and-true (leb 0x80 a) (ltb a 256) (le-leb 0x80 a l) (lt-ltb a 256 m)) in
-        absent tag a (f a) (p a) h ∙ sym (absent tag a (g a) (q a) h)
+        absent tag a (f a) (p a .value) h ∙ sym (absent tag a (g a) (q a .value) h)
 
 -- ---- meanings
 

@@ -21,6 +21,12 @@ unfolding sum
 sum-none zero start f h = refl
 sum-none (suc n) start f h = omega (arith, h start, sum-none n (suc start) f h)
 
+-- numbers that are nowhere greater
+pub sum-most : (n start : ℕ) (f g : ℕ → ℕ) → ((t : ℕ) → f t ≤ g t) → sum n start f ≤ sum n start g
+unfolding sum
+sum-most zero start f g h = omega arith
+sum-most (suc n) start f g h = omega (arith, h start, sum-most n (suc start) f g h)
+
 -- numbers of which one is greater by so much
 pub sum-more : (n start tag more : ℕ) (f g : ℕ → ℕ) → f tag ≡ more + g tag → ((t : ℕ) → (t ≡ tag → ⊥) → f t ≡ g t) → start ≤ tag → tag < start + n → sum n start f ≡ more + sum n start g
 unfolding sum

@@ -1,5 +1,6 @@
--- What an accepted object takes is said by its meaning alone: how many records it has, how long its store is, how long its normal form. Each is a sum over its
--- items, in which an attribute counts the same wherever it stands, and the token table nothing.
+-- What is written of an accepted object takes what its meaning says: so many records, so long a store, so long a normal form. Each is a sum over its items, in which
+-- an attribute counts the same wherever it stands, and the token table and a default nothing. What is listed and stored of the object is as much and its defaults
+-- besides, each a record and an octet.
 use mathlib.Core.Path.{_≡_, refl, sym, ap, _∙_, subst, fun-ext}
 use mathlib.Core.Bool.{Bool, true, false, cond, _||_, false≢true}
 use mathlib.Core.Option.{Option, none, some}
@@ -14,24 +15,27 @@ use Rattle.text.specs.Tokens.{Entries}
 use Rattle.values.specs.declared.Kind.{Kind}
 use Rattle.values.specs.declared.Kind.the-variants.{HoldsItems, HoldsTokens, HoldsText, HoldsPlain, HoldsTime, HoldsBearer, HoldsNumber}
 use Rattle.values.specs.Table.{known, attribute}
-use Rattle.values.specs.Values.{Value, meant, octetsOf}
+use Rattle.values.specs.Values.{Value, fits, meant, octetsOf}
+use Rattle.values.specs.Calls.{defaultOctets}
 use Rattle.octets.proofs.Tests.{or-elim, cond-same}
+use Rattle.values.proofs.DefaultValues.{element-keeps, default-length-one}
 use Rattle.values.proofs.Known.{ElementTag, items-tag, plain-tag, language-tag, known-anywhere, known-cdata, known-one, known-six, element-kind}
 use Rattle.format.specs.Tree.{Items, find, count}
 use Rattle.format.specs.Tree.Items.{end, item}
-use Rattle.format.specs.Judge.{isItems, outermost, judge}
+use Rattle.format.specs.Judge.{isItems, isValue, outermost, judge}
 use Rattle.format.specs.Judge.Judged.{accepted}
-use Rattle.format.specs.Meaning.{Meaning, opens, valueIn, attributesIn, cdataIn, leafOctets, means, tableOf, meaningOf}
+use Rattle.format.specs.Meaning.{Meaning, opens, valueIn, counted, attributesIn, cdataIn, leafOctets, means, tableOf, meaningOf}
 use Rattle.format.specs.Meaning.Meaning.{nothing, element, leaf}
 use Rattle.format.specs.Writer.{Spot, below, past, atTop, isEnd}
 use Rattle.format.specs.Loaded.{stored, storeIn, storeOf}
-use Rattle.format.proofs.Means.{opens-items, opens-leaf, child-element, means-attribute, means-cdata, means-table, means-element, means-leaf, leaf-text, leaf-plain}
+use Rattle.format.proofs.Means.{items-known, opens-items, opens-leaf, child-element, means-attribute, means-cdata, means-table, means-element, means-leaf, leaf-text, leaf-plain}
 use Rattle.format.proofs.Force.{attribute-four, attribute-one, swap-eqb, top-known}
 use Rattle.format.proofs.Told.{Told, ItemTold, top, accepted-told}
 use Rattle.format.proofs.Fine.{known-is}
 use Rattle.format.proofs.Loading.{attribute-shut}
 use Rattle.format.proofs.Order.{told-order, seen-none, three-end, cdata-three}
 use Rattle.format.proofs.Sums.{sum, sum-none, sum-more}
+use Rattle.format.proofs.Defaults.{counted-octets, default-attribute, defaultsIn}
 
 -- a way to measure: an element that holds items by what these take, any other item by its octets in the store
 pub record Measure : Type 0 where
@@ -51,18 +55,26 @@ ofMeaning c nothing = 0
 ofMeaning c (element tag attributes children cdata after) = c .holder (ofSet c attributes + (ofMeaning c children + ifAny (c .single) cdata)) + ofMeaning c after
 ofMeaning c (leaf tag octets after) = c .single octets + ofMeaning c after
 
--- what the items in an element take
+-- what all items in an element take but the token table, as they are listed and stored
+unfoldable listed : Measure → Entries → ℕ → Items → ℕ
+listed c T parent end = 0
+listed c T parent (item tag at body inside after) =
+    cond (eqb tag 4) 0 (cond (opens tag) (c .holder (listed c T tag inside)) (c .single (stored T (known parent tag) body))) + listed c T parent after
+
+-- and what those of them take that are written, which defaults aren't
 unfoldable pub takes : Measure → Entries → ℕ → Items → ℕ
 takes c T parent end = 0
 takes c T parent (item tag at body inside after) =
-    cond (eqb tag 4) 0 (cond (opens tag) (c .holder (takes c T tag inside)) (c .single (stored T (known parent tag) body))) + takes c T parent after
+    cond (eqb tag 4 || defaultOctets parent tag body) 0 (cond (opens tag) (c .holder (takes c T tag inside)) (c .single (stored T (known parent tag) body)))
+    + takes c T parent after
 
 -- an item that is no attribute leaves the attributes of its element as they are, and one that is not CDATA its CDATA
 other-set : (T : Entries) (p tag at : ℕ) (body : List ℕ) (x u : Items) → attribute tag ≡ false → attributesIn T p (item tag at body x u) ≡ attributesIn T p u
 unfolding attributesIn find
 other-set T p tag at body x u n = fun-ext (λ a. go a (attribute a) refl)
   where
-    go : (a : ℕ) (b : Bool) → attribute a ≡ b → cond b (valueIn T (cond (eqb a tag) (some body) (find a u)) (known p a)) none ≡ cond b (valueIn T (find a u) (known p a)) none
+    go : (a : ℕ) (b : Bool) → attribute a ≡ b
+        → cond b (counted p a (valueIn T (cond (eqb a tag) (some body) (find a u)) (known p a))) none ≡ cond b (counted p a (valueIn T (find a u) (known p a))) none
     go a false q = refl
     go a true q = rw (ne-eqb a tag (λ e. false≢true (sym n ∙ (ap attribute (sym e) ∙ q))))
 
@@ -79,28 +91,40 @@ module _ (c : Measure) (T : Entries) where
   Taken p t = takes c T p t ≡ meansTake p t
 
   takes-single : (p tag at : ℕ) (body : List ℕ) (x u : Items) (k : Kind) → eqb tag 4 ≡ false → opens tag ≡ false → known p tag ≡ some k
-      → takes c T p (item tag at body x u) ≡ c .single (octetsOf (meant T k body)) + takes c T p u
+      → takes c T p (item tag at body x u) ≡ cond (defaultOctets p tag body) 0 (c .single (octetsOf (meant T k body))) + takes c T p u
   unfolding takes stored
   takes-single p tag at body x u k f o e = rw (f, o, e)
 
+  -- an item that holds none and is no attribute
+  takes-other : (p tag at : ℕ) (body : List ℕ) (x u : Items) (k : Kind) → attribute tag ≡ false → eqb tag 4 ≡ false → opens tag ≡ false → known p tag ≡ some k
+      → takes c T p (item tag at body x u) ≡ c .single (octetsOf (meant T k body)) + takes c T p u
+  takes-other p tag at body x u k a f o e = takes-single p tag at body x u k f o e ∙ rw (element-keeps p tag body a)
+
   taken-attribute : (s : Spot) (tag at : ℕ) (body : List ℕ) (x u : Items) (k : Kind) → ItemTold T s tag body x → attribute tag ≡ true → known (s .parent) tag ≡ some k → Told T (past s tag) u
       → Taken (s .parent) u → Taken (s .parent) (item tag at body x u)
-  unfolding ofSet ifAny attributesIn find valueIn past among attribute
+  unfolding ofSet ifAny attributesIn counted find valueIn past among attribute isValue
   taken-attribute s tag at body x u k i a e h ih =
       let p = s .parent in
       let one = takes-single p tag at body x u k (attribute-four tag a) (attribute-shut tag a) e in
       let gone : find tag u ≡ none = seen-none u (past s tag) tag a (rw (eq-eqb tag tag refl)) (told-order T u (past s tag) h) in
-      let now : attributesIn T p (item tag at body x u) tag ≡ some (meant T k body) = rw (a, eq-eqb tag tag refl, e) in
+      let fit : fits k body ≡ true = rw e at (i .kind .value) in
+      let now : attributesIn T p (item tag at body x u) tag ≡ cond (defaultOctets p tag body) none (some (meant T k body)) = rw (a, eq-eqb tag tag refl, e) (counted-octets T p tag k body e fit) in
       let later : attributesIn T p u tag ≡ none = rw (a, gone) in
+      let own = cond (defaultOctets p tag body) 0 (c .single (octetsOf (meant T k body))) in
       let more =
-      sum-more 128 0x80 tag (c .single (octetsOf (meant T k body))) (λ b. ifAny (λ v. c .single (octetsOf v)) (attributesIn T p (item tag at body x u) b))
-      (λ b. ifAny (λ v. c .single (octetsOf v)) (attributesIn T p u b)) (rw (now, later) (omega arith)) (λ b d. rw (ne-eqb b tag d)) (omega (arith, ltb-true 0x7F tag a)) (omega (arith, i .octet)) in
+      sum-more 128 0x80 tag own (λ b. ifAny (λ v. c .single (octetsOf v)) (attributesIn T p (item tag at body x u) b))
+      (λ b. ifAny (λ v. c .single (octetsOf v)) (attributesIn T p u b)) (rw (now, later) (if-counted (defaultOctets p tag body) (meant T k body))) (λ b d. rw (ne-eqb b tag d))
+      (omega (arith, ltb-true 0x7F tag a)) (omega (arith, i .octet)) in
       let m : means T (item tag at body x u) ≡ means T u = means-attribute T tag at body x u a in
       let l : cdataIn T (item tag at body x u) ≡ cdataIn T u = other-cdata T tag at body x u (attribute-one tag a) in
       rw (m, l) (omega arith)
+    where
+      if-counted : (b : Bool) (v : Value) → ifAny (λ v. c .single (octetsOf v)) (cond b none (some v)) ≡ cond b 0 (c .single (octetsOf v)) + ifAny (λ v. c .single (octetsOf v)) none
+      if-counted true v = omega arith
+      if-counted false v = omega arith
 
   taken-end : (p : ℕ) → Taken p end
-  unfolding takes ofMeaning ofSet ifAny means cdataIn find attributesIn valueIn
+  unfolding takes ofMeaning ofSet ifAny means cdataIn find attributesIn counted valueIn
   taken-end p =
       let none-set = sum-none 128 0x80 (λ b. ifAny (λ v. c .single (octetsOf v)) (attributesIn T p end b)) (λ b. ap (ifAny (λ v. c .single (octetsOf v))) (cond-same (attribute b) none)) in
       omega arith
@@ -109,7 +133,7 @@ module _ (c : Measure) (T : Entries) where
   unfolding takes ofMeaning ifAny means cdataIn find meant octetsOf attribute isItems
   taken-cdata s at body x u h =
       let p = s .parent in
-      let one = takes-single p 1 at body x end HoldsText refl (opens-leaf 1 HoldsText known-one refl) (known-cdata p) in
+      let one = takes-other p 1 at body x end HoldsText refl refl (opens-leaf 1 HoldsText known-one refl) (known-cdata p) in
       let a : attributesIn T p (item 1 at body x end) ≡ attributesIn T p end = other-set T p 1 at body x end refl in
       let m : means T (item 1 at body x end) ≡ means T end = means-cdata T at body x end in
       let rest = taken-end p in
@@ -129,13 +153,13 @@ module _ (c : Measure) (T : Entries) where
       let g = items-tag tag e in
       let a : attributesIn T p (item tag at body x u) ≡ attributesIn T p u = other-set T p tag at body x u (g .notAttribute) in
       let l : cdataIn T (item tag at body x u) ≡ cdataIn T u = other-cdata T tag at body x u (g .notCdata) in
-      rw (a, l, means-element T tag at body x u e, g .notTable, opens-items tag e, inside) (omega arith)
+      rw (a, l, means-element T tag at body x u e, g .notTable, element-keeps p tag body (g .notAttribute), opens-items tag e, inside) (omega arith)
 
   taken-leaf : (p tag at : ℕ) (body : List ℕ) (x u : Items) (k : Kind) → ElementTag tag → known 0 tag ≡ some k → isItems (some k) ≡ false → leafOctets T tag body ≡ octetsOf (meant T k body)
       → Taken p u → Taken p (item tag at body x u)
   unfolding ofMeaning
   taken-leaf p tag at body x u k g e l o later =
-      let one = takes-single p tag at body x u k (g .notTable) (opens-leaf tag k e l) (known-anywhere p tag (g .notAttribute) ∙ e) in
+      let one = takes-other p tag at body x u k (g .notAttribute) (g .notTable) (opens-leaf tag k e l) (known-anywhere p tag (g .notAttribute) ∙ e) in
       let a : attributesIn T p (item tag at body x u) ≡ attributesIn T p u = other-set T p tag at body x u (g .notAttribute) in
       let d : cdataIn T (item tag at body x u) ≡ cdataIn T u = other-cdata T tag at body x u (g .notCdata) in
       rw (a, d, means-leaf T tag at body x u k g e l, o) (omega arith)
@@ -172,7 +196,8 @@ module _ (c : Measure) (T : Entries) where
 -- a whole object is one element, so its attributes and CDATA are inside it
 takes-top : (c : Measure) (T : Entries) (tag at : ℕ) (body : List ℕ) (x : Items) → known 0 tag ≡ some HoldsItems → Taken c T tag x → takes c T 0 (item tag at body x end) ≡ ofMeaning c (means T (item tag at body x end))
 unfolding takes ofMeaning means
-takes-top c T tag at body x e inside = rw (items-tag tag e .notTable, opens-items tag e, inside, child-element tag (items-tag tag e))
+takes-top c T tag at body x e inside =
+    rw (items-tag tag e .notTable, element-keeps 0 tag body (items-tag tag e .notAttribute), opens-items tag e, inside, child-element tag (items-tag tag e))
 
 -- how many records
 abbrev pub inRecords : Measure
@@ -182,29 +207,66 @@ inRecords = record { holder = suc; single = λ o. 1 }
 abbrev pub inStore : Measure
 inStore = record { holder = λ n. n; single = length }
 
-counted : (T : Entries) (t : Items) (s : Spot) → Told T s t → count t ≡ takes inRecords T (s .parent) t
-unfolding count takes below past isEnd
-counted T end s h = refl
-counted T (item tag at body x u) s h = go (eqb tag 4) (opens tag) x (h .0 .holder) (counted T x (below s tag) (h .1)) (counted T u (past s tag) (h .2))
+records-listed : (T : Entries) (t : Items) (s : Spot) → Told T s t → count t ≡ listed inRecords T (s .parent) t
+unfolding count listed below past isEnd
+records-listed T end s h = refl
+records-listed T (item tag at body x u) s h = go (eqb tag 4) (opens tag) x (h .0 .holder) (records-listed T x (below s tag) (h .1)) (records-listed T u (past s tag) (h .2))
   where
-    go : (b o : Bool) (y : Items) → o || isEnd y ≡ true → count y ≡ takes inRecords T tag y → count u ≡ takes inRecords T (s .parent) u
-        → cond b 0 (1 + count y) + count u ≡ cond b 0 (cond o (suc (takes inRecords T tag y)) 1) + takes inRecords T (s .parent) u
+    go : (b o : Bool) (y : Items) → o || isEnd y ≡ true → count y ≡ listed inRecords T tag y → count u ≡ listed inRecords T (s .parent) u
+        → cond b 0 (1 + count y) + count u ≡ cond b 0 (cond o (suc (listed inRecords T tag y)) 1) + listed inRecords T (s .parent) u
     go true o y q inside later = omega arith
     go false true y q inside later = omega arith
     go false false end q inside later = omega arith
     go false false (item tag′ at′ body′ x′ u′) q inside later = absurd (false≢true q)
 
-stored-length : (T : Entries) (p : ℕ) (t : Items) → length (storeIn T p t) ≡ takes inStore T p t
-unfolding storeIn takes
-stored-length T p end = refl
-stored-length T p (item tag at body x u) = rw length-append (go (eqb tag 4) (opens tag) (stored-length T tag x) (stored-length T p u))
+store-listed : (T : Entries) (p : ℕ) (t : Items) → length (storeIn T p t) ≡ listed inStore T p t
+unfolding storeIn listed
+store-listed T p end = refl
+store-listed T p (item tag at body x u) = rw length-append (go (eqb tag 4) (opens tag) (store-listed T tag x) (store-listed T p u))
   where
-    go : (b o : Bool) → length (storeIn T tag x) ≡ takes inStore T tag x → length (storeIn T p u) ≡ takes inStore T p u
+    go : (b o : Bool) → length (storeIn T tag x) ≡ listed inStore T tag x → length (storeIn T p u) ≡ listed inStore T p u
         → length (cond b [] (cond o (storeIn T tag x) (stored T (known p tag) body))) + length (storeIn T p u)
-        ≡ cond b 0 (cond o (takes inStore T tag x) (length (stored T (known p tag) body))) + takes inStore T p u
+        ≡ cond b 0 (cond o (listed inStore T tag x) (length (stored T (known p tag) body))) + listed inStore T p u
     go true o inside later = omega arith
     go false true inside later = omega arith
     go false false inside later = omega arith
+
+-- what is listed is what is written and the defaults, in a measure that adds up and of which an octet takes one
+module _ (c : Measure) (T : Entries) (adds : (n m : ℕ) → c .holder (n + m) ≡ c .holder n + m) (ones : (o : List ℕ) → length o ≡ 1 → c .single o ≡ 1) where
+  abbrev More : ℕ → Items → Type 0
+  More p t = listed c T p t ≡ takes c T p t + defaultsIn p t
+
+  more-shut : (s : Spot) (tag at : ℕ) (body : List ℕ) (u : Items) → ItemTold T s tag body end → opens tag ≡ false → More (s .parent) u → More (s .parent) (item tag at body end u)
+  unfolding listed takes defaultsIn stored attribute
+  more-shut s tag at body u i o later = rw o (go (eqb tag 4) refl (defaultOctets (s .parent) tag body) refl (known-is (known (s .parent) tag) (i .kind .isOne)))
+    where
+      own : ℕ
+      own = c .single (stored T (known (s .parent) tag) body)
+
+      go : (b : Bool) → eqb tag 4 ≡ b → (d : Bool) → defaultOctets (s .parent) tag body ≡ d → (k : Kind) × (known (s .parent) tag ≡ some k)
+          → cond b 0 own + listed c T (s .parent) u ≡ (cond (b || d) 0 own + takes c T (s .parent) u) + (cond d 1 0 + (0 + defaultsIn (s .parent) u))
+      go false q false e k = omega arith
+      go false q true e k =
+          let one : own ≡ 1 = ap (λ z. c .single (stored T z body)) (k .1) ∙ (ones (octetsOf (meant T (k .0) body)) (default-length-one T (s .parent) tag (k .0) body (k .1) e)) in
+          omega arith
+      go true q false e k = omega arith
+      go true q true e k = absurd (false≢true (sym (ap attribute (eqb-true tag 4 q)) ∙ default-attribute (s .parent) tag body e))
+
+  more-open : (p tag at : ℕ) (body : List ℕ) (x u : Items) → known 0 tag ≡ some HoldsItems → More tag x → More p u → More p (item tag at body x u)
+  unfolding listed takes defaultsIn
+  more-open p tag at body x u e inside later =
+      let g = items-tag tag e in
+      rw (g .notTable, element-keeps p tag body (g .notAttribute), opens-items tag e, inside) (omega (arith, adds (takes c T tag x) (defaultsIn tag x)))
+
+  listed-more : (t : Items) (s : Spot) → Told T s t → More (s .parent) t
+  unfolding listed takes defaultsIn below past isEnd
+  listed-more end s h = refl
+  listed-more (item tag at body x u) s h = go (opens tag) refl x (h .0) (listed-more x (below s tag) (h .1)) (listed-more u (past s tag) (h .2))
+    where
+      go : (o : Bool) → opens tag ≡ o → (y : Items) → ItemTold T s tag body y → More tag y → More (s .parent) u → More (s .parent) (item tag at body y u)
+      go true o y i inside later = more-open (s .parent) tag at body y u (items-known tag o) inside later
+      go false o end i inside later = more-shut s tag at body u i o later
+      go false o (item tag′ at′ body′ x′ u′) i inside later = absurd (false≢true (rw o at (i .holder)))
 
 -- of an accepted object
 module _ (o : List ℕ) (t : Items) (os : Octets o) (h : judge o ≡ accepted t) where
@@ -216,9 +278,13 @@ module _ (o : List ℕ) (t : Items) (os : Octets o) (h : judge o ≡ accepted t)
       subst (λ x. takes c (tableOf t) 0 x ≡ ofMeaning c (means (tableOf t) x)) (sym (w .is))
       (takes-top c (tableOf t) (w .tag) (w .from) (w .body) (w .inside) (top-known (w .tag) (w .held .allow)) (taken-told c (tableOf t) (w .inside) (below atTop (w .tag)) (told .1)))
 
-  pub records-means : count t ≡ ofMeaning inRecords (meaningOf t)
+  pub records-means : count t ≡ ofMeaning inRecords (meaningOf t) + defaultsIn 0 t
   unfolding atTop
-  records-means = counted (tableOf t) t atTop (accepted-told o t os h) ∙ takes-means inRecords
+  records-means =
+      let told = accepted-told o t os h in
+      records-listed (tableOf t) t atTop told ∙ listed-more inRecords (tableOf t) (λ n m. omega arith) (λ o e. refl) t atTop told ∙ ap (λ n. n + defaultsIn 0 t) (takes-means inRecords)
 
-  pub store-means : length (storeOf t) ≡ ofMeaning inStore (meaningOf t)
-  store-means = stored-length (tableOf t) 0 t ∙ takes-means inStore
+  pub store-means : length (storeOf t) ≡ ofMeaning inStore (meaningOf t) + defaultsIn 0 t
+  unfolding atTop
+  store-means =
+      store-listed (tableOf t) 0 t ∙ listed-more inStore (tableOf t) (λ n m. refl) (λ o e. e) t atTop (accepted-told o t os h) ∙ ap (λ n. n + defaultsIn 0 t) (takes-means inStore)

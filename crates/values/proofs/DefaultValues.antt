@@ -9,15 +9,17 @@ use lib.Dec.{eqb}
 use lib.ListN.{length, getD}
 use borrow.Author.Tests.{eqb-true, eq-eqb, ne-eqb, eqb-false}
 use Rattle.octets.specs.Numbers.{value}
+use Rattle.octets.proofs.Numbers.{length-digits}
 use Rattle.octets.proofs.Tests.{and-left, and-right, and-false, or-elim}
 use Rattle.text.specs.Tokens.{Entries}
 use Rattle.values.specs.declared.Kind.{Kind}
 use Rattle.values.specs.declared.Kind.the-variants.{HoldsNumber}
 use Rattle.values.specs.declared.NumberKind.the-variants.{Enumerated}
 use Rattle.values.specs.Table.{rows, kindIn, known, attribute, defaults, defaultIn}
-use Rattle.values.specs.Values.{Value, width, fits, meant, isDefault}
+use Rattle.values.specs.Values.{Value, width, fits, meant, octetsOf, isDefault}
 use Rattle.values.specs.Values.Value.{octets, number, time, bearer}
 use Rattle.values.specs.Calls.{defaultOctets}
+use Rattle.values.proofs.Known.{known-anywhere, element-kind}
 
 -- a default is the number 1
 other-none : (p t n : ℕ) → (n ≡ 1 → ⊥) → defaultIn p t n defaults ≡ false
@@ -45,7 +47,19 @@ default-kind p t h =
     (or-elim (eqb p 0x2E && eqb t 0x83) _ (λ e. enumerated-at p t 0x2E 0x83 e refl)
     (or-elim (eqb p 0x2E && eqb t 0x84) false (λ e. enumerated-at p t 0x2E 0x84 e refl) (λ e. absurd (false≢true e)))))) h
 
+-- so only attributes have one
+pub element-none : (p t n : ℕ) → attribute t ≡ false → defaultIn p t n defaults ≡ false
+element-none p t n a = no-default p t n (go (defaultIn p t 1 defaults) refl)
+  where
+    go : (b : Bool) → defaultIn p t 1 defaults ≡ b → b ≡ false
+    go false e = refl
+    go true e = absurd (false≢true (element-kind t (HoldsNumber Enumerated) (sym (known-anywhere p t a) ∙ default-kind p t e)))
+
 -- ---- by octets and by meaning
+pub element-keeps : (p t : ℕ) (o : List ℕ) → attribute t ≡ false → defaultOctets p t o ≡ false
+unfolding defaultOctets
+element-keeps p t o a = rw (element-none p t (getD o 0 0) a) (and-false (eqb (length o) 1))
+
 one-octet : (o : List ℕ) → length o ≡ 1 → value o ≡ getD o 0 0
 unfolding value
 one-octet [] e = refl
@@ -70,6 +84,21 @@ default-meant T p t k o e f = go (defaultIn p t 1 defaults) refl
         let same : k ≡ HoldsNumber Enumerated = Option·some-injective k (HoldsNumber Enumerated) (sym e ∙ default-kind p t h) in
         let one : eqb (length o) 1 ≡ true = rw same at f in
         rw (same, one, one-octet o (eqb-true (length o) 1 one))
+
+-- octets that are a default are a number of one octet
+pub default-enumerated : (p t : ℕ) (o : List ℕ) → defaultOctets p t o ≡ true → known p t ≡ some (HoldsNumber Enumerated)
+unfolding defaultOctets
+default-enumerated p t o h = go (defaultIn p t 1 defaults) refl
+  where
+    go : (b : Bool) → defaultIn p t 1 defaults ≡ b → known p t ≡ some (HoldsNumber Enumerated)
+    go true e = default-kind p t e
+    go false e = absurd (false≢true (sym (no-default p t (getD o 0 0) e) ∙ and-right (eqb (length o) 1) (defaultIn p t (getD o 0 0) defaults) h))
+
+pub default-length-one : (T : Entries) (p t : ℕ) (k : Kind) (o : List ℕ) → known p t ≡ some k → defaultOctets p t o ≡ true → length (octetsOf (meant T k o)) ≡ 1
+unfolding meant octetsOf width
+default-length-one T p t k o e h =
+    let same : k ≡ HoldsNumber Enumerated = Option·some-injective k (HoldsNumber Enumerated) (sym e ∙ default-enumerated p t o h) in
+    rw same (length-digits 1 (value o))
 
 -- ---- `has_default`
 or-none : (b : Bool) → b || false ≡ b
