@@ -259,12 +259,12 @@ module _ (c : Measure) (T : Entries) (adds : (n m : ℕ) → c .holder (n + m) �
       rw (g .notTable, element-keeps p tag body (g .notAttribute), opens-items tag e, inside) (omega (arith, adds (takes c T tag x) (defaultsIn tag x)))
 
   listed-more : (t : Items) (s : Spot) → Told T s t → More (s .parent) t
-  unfolding listed takes defaultsIn below past isEnd
+  unfolding listed takes defaultsIn below past isEnd opens
   listed-more end s h = refl
   listed-more (item tag at body x u) s h = go (opens tag) refl x (h .0) (listed-more x (below s tag) (h .1)) (listed-more u (past s tag) (h .2))
     where
       go : (o : Bool) → opens tag ≡ o → (y : Items) → ItemTold T s tag body y → More tag y → More (s .parent) u → More (s .parent) (item tag at body y u)
-      go true o y i inside later = more-open (s .parent) tag at body y u (items-known tag o) inside later
+      go true o y i inside later = more-open (s .parent) tag at body y u (items-known (known 0 tag) o) inside later
       go false o end i inside later = more-shut s tag at body u i o later
       go false o (item tag′ at′ body′ x′ u′) i inside later = absurd (false≢true (rw o at (i .holder)))
 
