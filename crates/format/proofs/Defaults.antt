@@ -67,6 +67,14 @@ unfoldable pub ownDefaults : ℕ → Items → ℕ
 ownDefaults parent end = 0
 ownDefaults parent (item tag at body inside after) = cond (defaultOctets parent tag body) 1 0 + ownDefaults parent after
 
+-- the object itself, as an element with the tag 0, has none
+pub own-none : (t : Items) → ownDefaults 0 t ≡ 0
+unfolding ownDefaults defaultOctets
+own-none end = refl
+own-none (item tag at body x u) =
+    let none-here : defaultOctets 0 tag body ≡ false = rw (no-default 0 tag (getD body 0 0) (sym (default-none 0 tag (λ e. omega arith) (λ e. omega arith) (λ e. omega arith)))) (and-false (eqb (length body) 1)) in
+    rw none-here (omega (arith, own-none u))
+
 -- ---- an element has at most two
 
 -- whether the default of an attribute stands in an element

@@ -76,6 +76,15 @@ size-five n = go (leb n 0xFD) (leb n 0xFFFF)
     go false true = simp length-digits (omega arith)
     go false false = simp length-digits (omega arith)
 
+pub size-two : (n : ℕ) → 2 ≤ suc (length (lengthField n))
+unfolding lengthField
+size-two n = go (leb n 0xFD) (leb n 0xFFFF)
+  where
+    go : (a b : Bool) → 2 ≤ suc (length (cond a (n ∷ []) (cond b (0xFE ∷ digits 2 n) (0xFF ∷ digits 3 n))))
+    go true b = omega arith
+    go false true = omega arith
+    go false false = omega arith
+
 -- ---- read_number
 module _ (s : List ℕ) (r : Number) (e : r ≡ numberOf s) where
   pub number-told : (n : ℕ) → r ≡ Number.Is n → n ≡ value s

@@ -6,10 +6,11 @@ use native.Mathlib.Omega.{arith}
 use lib.ListN.{length, getD}
 use borrow.Author.Tests.{lt-leb}
 use Rattle.octets.specs.Header.{headerSize, bodySize}
-use Rattle.values.specs.declared.Kind.the-variants.{HoldsItems, HoldsTokens}
+use Rattle.values.specs.declared.Kind.the-variants.{HoldsItems, HoldsTokens, HoldsNumber}
+use Rattle.values.specs.declared.NumberKind.the-variants.{Enumerated}
 use Rattle.values.specs.declared.KnownKind.the-variants.{Unknown, Known}
-use Rattle.values.specs.Table.{rows, kindIn, known, attribute}
-use Rattle.values.specs.Calls.{asKnown}
+use Rattle.values.specs.Table.{rows, kindIn, known, attribute, defaults, defaultIn}
+use Rattle.values.specs.Calls.{asKnown, defaultOctets}
 use Rattle.format.specs.declared.Refusal.{Refusal}
 use Rattle.format.specs.Answers.{refusal, wrongValue}
 use Rattle.format.specs.Tree.{Items, count}
@@ -96,11 +97,21 @@ last-found h = let z : _≡_ {A = ℕ} 0xBB 0xAA = ap (λ o. getD o 0 0) (sym h 
 -- ---- written_as
 
 -- the token table
-pub table-written : asKnown (writtenAs 0x03 0x04) ≡ Known HoldsTokens → ⊥
+pub table-written : asKnown (writtenAs 0x03 0x04 []) ≡ Known HoldsTokens → ⊥
 unfolding asKnown writtenAs
 table-written h = let w : Unknown ≡ Known HoldsTokens = h in let z : _≡_ {A = ℕ} 0 1 = cc in omega arith
 
 -- elements that hold items left out, where only values are looked for
-pub element-left-out : asKnown (writtenAs 0x03 0x28) ≡ Unknown → ⊥
-unfolding asKnown writtenAs known rows kindIn attribute
+pub element-left-out : asKnown (writtenAs 0x03 0x28 []) ≡ Unknown → ⊥
+unfolding asKnown writtenAs defaultOctets known rows kindIn attribute
 element-left-out h = let w : Known HoldsItems ≡ Unknown = h in let z : _≡_ {A = ℕ} 0 1 = cc in omega arith
+
+-- a default
+pub default-written : asKnown (writtenAs 0x1C 0x83 (1 ∷ [])) ≡ Known (HoldsNumber Enumerated) → ⊥
+unfolding asKnown writtenAs defaultOctets defaultIn defaults
+default-written h = let w : Unknown ≡ Known (HoldsNumber Enumerated) = h in let z : _≡_ {A = ℕ} 0 1 = cc in omega arith
+
+-- an attribute that has a default and another value left out
+pub value-left-out : asKnown (writtenAs 0x1C 0x83 (2 ∷ [])) ≡ Unknown → ⊥
+unfolding asKnown writtenAs defaultOctets defaultIn defaults known rows kindIn attribute
+value-left-out h = let w : Known (HoldsNumber Enumerated) ≡ Unknown = h in let z : _≡_ {A = ℕ} 0 1 = cc in omega arith

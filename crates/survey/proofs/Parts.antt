@@ -25,7 +25,7 @@ use Rattle.values.specs.declared.NormalSize.{NormalSize}
 use Rattle.values.specs.declared.NormalSize.the-variants as sized
 use Rattle.values.specs.Table.{known}
 use Rattle.values.specs.Values.{fits, meant, octetsOf}
-use Rattle.values.specs.Calls.{asKnown, normalOctets, normalSize}
+use Rattle.values.specs.Calls.{asKnown, normalOctets, normalSize, defaultOctets}
 use Rattle.octets.proofs.Answers.{size-five}
 use Rattle.text.proofs.Widths.{weight-is}
 use Rattle.values.proofs.Laws.{normal-sized, not-sized}
@@ -33,9 +33,10 @@ use Rattle.format.specs.Judge.{isKnown, isItems, isTokens}
 use Rattle.survey.specs.Normal.{framedSize, valueOctets, writtenAs}
 use Rattle.survey.proofs.Ways.{value-fits}
 use Rattle.survey.proofs.WrittenAs.{written-kind, unwritten-kind}
-use Rattle.survey.specs.declared.measure.Part.the-variants.{Nothing, Inside, Octets}
+use Rattle.survey.specs.declared.measure.Part.{Part}
+use Rattle.survey.specs.declared.measure.Part.the-variants.{Nothing, Kept, Inside, Octets}
 use Rattle.survey.specs.declared.measure.Measured.the-variants.{Over, Sizes}
-use Rattle.survey.specs.Sizes.{taken, partOf, sizesOf, Small}
+use Rattle.survey.specs.Sizes.{taken, partOf, partIn, sizesOf, Small}
 
 -- ---- sizes, of a value and of an item, which the writer measures too
 
@@ -74,45 +75,57 @@ module _ (k : Kind) (o : List ℕ) (r : NormalSize) (e : r ≡ normalSize k o) w
 
 -- ---- part_of
 
-module _ (T : Entries) (p tag : ℕ) (o : List ℕ) (r : KnownKind) (e : r ≡ asKnown (writtenAs p tag)) where
-  pub part-unknown : r ≡ Unknown → Nothing ≡ partOf T (known p tag) o
-  unfolding partOf isItems isKnown isTokens
-  part-unknown q = ⊎-elim (λ n. rw n) (λ t. rw t) (unwritten-kind p tag r e q)
+module _ (p tag : ℕ) (o : List ℕ) (b : Bool) (d : b ≡ defaultOctets p tag o) where
+  pub kept-is : b ≡ true → Kept ≡ cond (defaultOctets p tag o) Kept Nothing
+  kept-is q = rw (sym d ∙ q)
+
+  pub nothing-is : b ≡ false → Nothing ≡ cond (defaultOctets p tag o) Kept Nothing
+  nothing-is q = rw (sym d ∙ q)
+
+module _ (T : Entries) (p tag : ℕ) (o : List ℕ) (r : KnownKind) (e : r ≡ asKnown (writtenAs p tag o)) where
+  pub part-unknown : r ≡ Unknown → (x : Part) → x ≡ cond (defaultOctets p tag o) Kept Nothing → x ≡ partIn T p tag o
+  unfolding partIn partOf isItems isKnown isTokens
+  part-unknown q x w = w ∙ go (defaultOctets p tag o) refl
+    where
+      go : (d : Bool) → defaultOctets p tag o ≡ d → cond d Kept Nothing ≡ cond d Kept (partOf T (known p tag) o)
+      go true d = refl
+      go false d = ⊎-elim (λ n. rw n) (λ t. rw t) (unwritten-kind p tag o r e q d)
 
   module _ (k : Kind) (q : r ≡ Known k) where
-    kind-is : known p tag ≡ some k
-    kind-is = written-kind p tag r e k q .1
+    part-is : partOf T (some k) o ≡ partIn T p tag o
+    unfolding partIn
+    part-is = let w = written-kind p tag o r e k q in rw (w .counts, w .kind)
 
-    pub part-items : k ≡ HoldsItems → Inside ≡ partOf T (known p tag) o
+    pub part-items : k ≡ HoldsItems → Inside ≡ partIn T p tag o
     unfolding partOf isItems isKnown isTokens
-    part-items w = rw (kind-is, w)
+    part-items w = ap (λ l. partOf T (some l) o) (sym w) ∙ part-is
 
-    pub part-tokens : k ≡ HoldsTokens → Nothing ≡ partOf T (known p tag) o
+    pub part-tokens : k ≡ HoldsTokens → Nothing ≡ partIn T p tag o
     unfolding partOf isItems isKnown isTokens
-    part-tokens w = rw (kind-is, w)
+    part-tokens w = ap (λ l. partOf T (some l) o) (sym w) ∙ part-is
 
     module _ (n : OctetCount) where
-      pub part-text : (widths : List ℕ) → Widths 32 T widths → k ≡ HoldsText → n ≡ asOctets (min 32_769 (weight widths o)) → Octets n ≡ partOf T (known p tag) o
+      pub part-text : (widths : List ℕ) → Widths 32 T widths → k ≡ HoldsText → n ≡ asOctets (min 32_769 (weight widths o)) → Octets n ≡ partIn T p tag o
       unfolding partOf isItems isKnown isTokens taken fits meant octetsOf
-      part-text widths h w x = rw (kind-is, w, x, weight-is T widths h o)
+      part-text widths h w x = rw (x, weight-is T widths h o) (ap (λ l. partOf T (some l) o) (sym w) ∙ part-is)
 
       -- a value that is no text has the same octets under every table
       module _ (x : n .0 ≡ min 32_769 (length (valueOctets k o))) where
-        pub part-plain : k ≡ HoldsPlain → Octets n ≡ partOf T (known p tag) o
+        pub part-plain : k ≡ HoldsPlain → Octets n ≡ partIn T p tag o
         unfolding partOf isItems isKnown isTokens taken valueOctets meant
-        part-plain w = ap (λ size. Octets (asOctets size)) (x ∙ ap (λ l. min 32_769 (length (valueOctets l o))) w) ∙ rw (kind-is, w)
+        part-plain w = ap (λ size. Octets (asOctets size)) (x ∙ ap (λ l. min 32_769 (length (valueOctets l o))) w) ∙ ap (λ l. partOf T (some l) o) (sym w) ∙ part-is
 
-        pub part-time : k ≡ HoldsTime → Octets n ≡ partOf T (known p tag) o
+        pub part-time : k ≡ HoldsTime → Octets n ≡ partIn T p tag o
         unfolding partOf isItems isKnown isTokens taken valueOctets meant
-        part-time w = ap (λ size. Octets (asOctets size)) (x ∙ ap (λ l. min 32_769 (length (valueOctets l o))) w) ∙ rw (kind-is, w)
+        part-time w = ap (λ size. Octets (asOctets size)) (x ∙ ap (λ l. min 32_769 (length (valueOctets l o))) w) ∙ ap (λ l. partOf T (some l) o) (sym w) ∙ part-is
 
-        pub part-bearer : k ≡ HoldsBearer → Octets n ≡ partOf T (known p tag) o
+        pub part-bearer : k ≡ HoldsBearer → Octets n ≡ partIn T p tag o
         unfolding partOf isItems isKnown isTokens taken valueOctets meant
-        part-bearer w = ap (λ size. Octets (asOctets size)) (x ∙ ap (λ l. min 32_769 (length (valueOctets l o))) w) ∙ rw (kind-is, w)
+        part-bearer w = ap (λ size. Octets (asOctets size)) (x ∙ ap (λ l. min 32_769 (length (valueOctets l o))) w) ∙ ap (λ l. partOf T (some l) o) (sym w) ∙ part-is
 
-        pub part-number : (m : NumberKind) → k ≡ HoldsNumber m → Octets n ≡ partOf T (known p tag) o
+        pub part-number : (m : NumberKind) → k ≡ HoldsNumber m → Octets n ≡ partIn T p tag o
         unfolding partOf isItems isKnown isTokens taken valueOctets meant
-        part-number m w = ap (λ size. Octets (asOctets size)) (x ∙ ap (λ l. min 32_769 (length (valueOctets l o))) w) ∙ rw (kind-is, w)
+        part-number m w = ap (λ size. Octets (asOctets size)) (x ∙ ap (λ l. min 32_769 (length (valueOctets l o))) w) ∙ ap (λ l. partOf T (some l) o) (sym w) ∙ part-is
 
 -- ---- framed
 
@@ -152,10 +165,10 @@ sizes-say s n a b e = go (leb n 32_768) e
     go true p = (cc, cc)
     go false p = let z : _≡_ {A = ℕ} 0 1 = cc in absurd (omega arith)
 
-pub small-sizes : (s n : ℕ) → s ≤ n → Small (sizesOf s n)
+pub small-sizes : (m s n : ℕ) → s ≤ n + m → Small m (sizesOf s n)
 unfolding sizesOf
-small-sizes s n h = go (leb n 32_768) refl
+small-sizes m s n h = go (leb n 32_768) refl
   where
-    go : (b : Bool) → leb n 32_768 ≡ b → Small (cond b (Sizes (asOctets s) (asOctets n)) Over)
+    go : (b : Bool) → leb n 32_768 ≡ b → Small m (cond b (Sizes (asOctets s) (asOctets n)) Over)
     go true q = (h, leb-true n 32_768 q)
     go false q = tt

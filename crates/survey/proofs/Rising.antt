@@ -15,7 +15,7 @@ use Rattle.values.specs.Table.{rows, known, attribute}
 use Rattle.values.specs.Values.{Value, octetsOf}
 use Rattle.values.proofs.Known.{row-holds}
 use Rattle.format.specs.Tree.{Items, find}
-use Rattle.format.specs.Meaning.{valueIn, attributesIn, maybe, rising}
+use Rattle.format.specs.Meaning.{valueIn, counted, attributesIn, maybe, rising}
 use Rattle.format.proofs.Sums.{sum, sum-more}
 use Rattle.survey.specs.Normal.{attributeOctets}
 
@@ -67,10 +67,10 @@ known-few p tag k h = leb-true tag 0x86 (row-holds (λ e t l. leb t 0x86) (cond 
 
 -- so no element has an attribute above it, whatever the token table
 pub past-known : (table : Entries) (p : ℕ) (t : Items) (a : ℕ) → 0x87 ≤ a → attributesIn table p t a ≡ none
-unfolding attributesIn valueIn
+unfolding attributesIn counted valueIn
 past-known table p t a h = go (attribute a) (known p a) refl (find a t)
   where
-    go : (b : Bool) (k : Option Kind) → known p a ≡ k → (o : Option (List ℕ)) → cond b (valueIn table o k) none ≡ none
+    go : (b : Bool) (k : Option Kind) → known p a ≡ k → (o : Option (List ℕ)) → cond b (counted p a (valueIn table o k)) none ≡ none
     go false k e o = refl
     go true none e none = refl
     go true none e (some v) = refl

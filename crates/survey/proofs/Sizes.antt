@@ -7,7 +7,7 @@ use Prim.Native.Nat.{ℕ, _+_, _≤_}
 use native.Mathlib.Omega.{arith}
 use lib.Dec.{eqb}
 use lib.ListN.{length, length-append}
-use borrow.Author.Tests.{eq-eqb, ne-eqb, eqb-false, ltb-true, lt-ltb}
+use borrow.Author.Tests.{eq-eqb, ne-eqb, eqb-true, eqb-false, ltb-true, lt-ltb}
 use Rattle.octets.specs.Numbers.{among}
 use Rattle.octets.specs.Header.{framed}
 use Rattle.text.specs.Tokens.{expanded}
@@ -15,13 +15,16 @@ use Rattle.values.specs.declared.Kind.{Kind}
 use Rattle.values.specs.declared.Kind.the-variants.{HoldsItems, HoldsText}
 use Rattle.values.specs.Table.{known, attribute}
 use Rattle.values.specs.Values.{fits, meant, octetsOf}
+use Rattle.values.specs.Calls.{defaultOctets}
 use Rattle.octets.proofs.Tests.{cond-same}
+use Rattle.values.proofs.DefaultValues.{element-keeps}
 use Rattle.values.proofs.Known.{known-anywhere, known-cdata, known-one, no-attribute, items-tag}
 use Rattle.format.specs.Tree.{Items, find}
 use Rattle.format.specs.Tree.Items.{end, item}
 use Rattle.format.specs.Judge.{isItems, allowed, isTop}
-use Rattle.format.specs.Meaning.{opens, valueIn, attributesIn, cdataIn, means, maybe, encode}
+use Rattle.format.specs.Meaning.{opens, valueIn, counted, attributesIn, cdataIn, means, maybe, encode}
 use Rattle.format.specs.Writer.{Spot, below, past, atTop, ruled}
+use Rattle.format.proofs.Defaults.{counted-octets}
 use Rattle.format.proofs.Kept.{keeps-parts, Ruled, ruled-parts}
 use Rattle.format.proofs.Fine.{placed-parts}
 use Rattle.format.proofs.Means.{items-known, means-attribute, means-cdata, means-element, means-leaf, opens-items, opens-leaf}
@@ -29,7 +32,7 @@ use Rattle.format.proofs.Order.{ruled-order, seen-none, three-end}
 use Rattle.survey.specs.Normal.{valueOctets, normalSize, attributeOctets}
 use Rattle.survey.proofs.Rising.{rising-same, rising-none, rising-more, known-few}
 use Rattle.survey.proofs.Found.{not-attribute}
-use Rattle.survey.proofs.Ways.{framed-length, value-fits, item-known, Way, way}
+use Rattle.survey.proofs.Ways.{framed-length, value-fits, item-known, item-default, Way, way}
 use Rattle.survey.proofs.Ways.Way.{isAttribute, isCdata, isElement, isLeaf}
 
 -- what holds items is no attribute, and no attribute holds items
@@ -68,7 +71,7 @@ unfolding cdataIn find
 cdata-same tag at body x y h = rw (ne-eqb 1 tag h)
 
 pub no-attributes : (p : ℕ) → attributeOctets p end ≡ []
-unfolding attributeOctets attributesIn find valueIn
+unfolding attributeOctets attributesIn counted find valueIn
 no-attributes p = rising-none 128 0x80 (attributesIn [] p end) (λ t q l. cond-same (attribute t) none)
 
 -- the sizes of attributes, of child elements and of the CDATA
@@ -84,33 +87,59 @@ last t = length (maybe (framed 1) (cdataIn [] t))
 abbrev Summed : ℕ → Items → Type 0
 Summed p t = normalSize p t ≡ attrs p t + (kids t + last t)
 
-single-size : (p tag at : ℕ) (body : List ℕ) (x y : Items) (k : Kind) → opens tag ≡ false → eqb tag 4 ≡ false → known p tag ≡ some k
+single-size : (p tag at : ℕ) (body : List ℕ) (x y : Items) (k : Kind) → opens tag ≡ false → eqb tag 4 ≡ false → defaultOctets p tag body ≡ false → known p tag ≡ some k
     → normalSize p (item tag at body x y) ≡ length (framed tag (valueOctets k body)) + normalSize p y
 unfolding normalSize
-single-size p tag at body x y k o f e = rw (o, item-known p tag body k f e)
+single-size p tag at body x y k o f d e = rw (o, item-known p tag body k f d e)
+
+default-size : (p tag at : ℕ) (body : List ℕ) (x y : Items) → opens tag ≡ false → defaultOctets p tag body ≡ true → normalSize p (item tag at body x y) ≡ normalSize p y
+unfolding normalSize
+default-size p tag at body x y o d = rw (o, item-default p tag body d) (omega arith)
 
 sum-attribute : (s : Spot) (tag at : ℕ) (body : List ℕ) (x y : Items) (k : Kind) → attribute tag ≡ true → known (s .parent) tag ≡ some k → fits k body ≡ true
     → ruled (past s tag) y ≡ true → Summed (s .parent) y → Summed (s .parent) (item tag at body x y)
-unfolding attributesIn attributeOctets find valueIn past among
-sum-attribute s tag at body x y k a e f r ih =
-    let p = s .parent in
-    let high = attribute-high tag a in
-    let one = single-size p tag at body x y k (opens-attribute tag a) (ne-eqb tag 4 (λ z. omega arith)) e in
-    let gone : find tag y ≡ none = seen-none y (past s tag) tag a (rw (eq-eqb tag tag refl)) (ruled-order y (past s tag) r) in
-    let now : attributesIn [] p (item tag at body x y) tag ≡ some (meant [] k body) = rw (a, eq-eqb tag tag refl, e) in
-    let later : attributesIn [] p y tag ≡ none = rw (a, gone) in
-    let more =
-    rising-more 128 0x80 tag (attributesIn [] p (item tag at body x y)) (attributesIn [] p y) (meant [] k body) now later
-    (λ t ne. attributes-other p tag at body x y t ne) (omega arith) (omega (arith, known-few p tag k e)) in
-    let v : length (framed tag (valueOctets k body)) ≡ length (framed tag (octetsOf (meant [] k body))) = ap (λ o. length (framed tag o)) (value-fits k body f) in
-    let m : kids (item tag at body x y) ≡ kids y = ap (λ z. length (encode z)) (means-attribute [] tag at body x y a) in
-    let l : last (item tag at body x y) ≡ last y = ap (λ z. length (maybe (framed 1) z)) (cdata-same tag at body x y (λ z. omega arith)) in
-    omega arith
+unfolding attributesIn counted attributeOctets find valueIn past among
+sum-attribute s tag at body x y k a e f r ih = go (defaultOctets p tag body) refl
+  where
+    p : ℕ
+    p = s .parent
+
+    high : 0x80 ≤ tag
+    high = attribute-high tag a
+
+    later : attributesIn [] p y tag ≡ none
+    later = rw (a, seen-none y (past s tag) tag a (rw (eq-eqb tag tag refl)) (ruled-order y (past s tag) r))
+
+    now : attributesIn [] p (item tag at body x y) tag ≡ cond (defaultOctets p tag body) none (some (meant [] k body))
+    now = rw (a, eq-eqb tag tag refl, e) (counted-octets [] p tag k body e f)
+
+    unchanged : (kids (item tag at body x y) ≡ kids y) × (last (item tag at body x y) ≡ last y)
+    unchanged = (
+      ap (λ z. length (encode z)) (means-attribute [] tag at body x y a),
+      ap (λ z. length (maybe (framed 1) z)) (cdata-same tag at body x y (λ z. omega (arith, high))),
+    )
+
+    same-at : (d : defaultOctets p tag body ≡ true) (t : ℕ) (b : Bool) → eqb t tag ≡ b → attributesIn [] p (item tag at body x y) t ≡ attributesIn [] p y t
+    same-at d t true q = rw (eqb-true t tag q) (now ∙ (rw d (sym later)))
+    same-at d t false q = attributes-other p tag at body x y t (eqb-false t tag q)
+
+    go : (b : Bool) → defaultOctets p tag body ≡ b → Summed p (item tag at body x y)
+    go true d =
+        let one = default-size p tag at body x y (opens-attribute tag a) d in
+        let same = rising-same 128 0x80 (attributesIn [] p (item tag at body x y)) (attributesIn [] p y) (λ t w. same-at d t (eqb t tag) refl) in
+        rw (one, same, unchanged .0, unchanged .1) ih
+    go false d =
+        let one = single-size p tag at body x y k (opens-attribute tag a) (ne-eqb tag 4 (λ z. omega (arith, high))) d e in
+        let more =
+        rising-more 128 0x80 tag (attributesIn [] p (item tag at body x y)) (attributesIn [] p y) (meant [] k body) (now ∙ rw d) later
+        (λ t ne. attributes-other p tag at body x y t ne) high (omega (arith, known-few p tag k e)) in
+        let v : length (framed tag (valueOctets k body)) ≡ length (framed tag (octetsOf (meant [] k body))) = ap (λ o. length (framed tag o)) (value-fits k body f) in
+        omega (arith, unchanged .0, unchanged .1)
 
 sum-cdata : (p at : ℕ) (body : List ℕ) (x : Items) → Summed p (item 1 at body x end)
 unfolding normalSize find cdataIn maybe means encode valueOctets fits meant octetsOf attribute isItems
 sum-cdata p at body x =
-    let one = single-size p 1 at body x end HoldsText (opens-leaf 1 HoldsText known-one refl) refl (known-cdata p) in
+    let one = single-size p 1 at body x end HoldsText (opens-leaf 1 HoldsText known-one refl) refl (element-keeps p 1 body refl) (known-cdata p) in
     let a : attrs p (item 1 at body x end) ≡ 0 = ap length (attributes-same p 1 at body x end refl ∙ no-attributes p) in
     let m : kids (item 1 at body x end) ≡ 0 = ap (λ z. length (encode z)) (means-cdata [] at body x end) in
     omega arith
@@ -145,7 +174,7 @@ sized-item tag at body x y fx fy s h = go (way s tag body x y u)
     go (isElement e) = sum-element (s .parent) tag at body x y e (fx (below s tag) (u .within)) (fy (past s tag) (u .beside))
     go (isLeaf k g e l o) =
         let p = s .parent in
-        let one = single-size p tag at body x y k (opens-leaf tag k e l) (g .notTable) (known-anywhere p tag (g .notAttribute) ∙ e) in
+        let one = single-size p tag at body x y k (opens-leaf tag k e l) (g .notTable) (element-keeps p tag body (g .notAttribute)) (known-anywhere p tag (g .notAttribute) ∙ e) in
         let m : kids (item tag at body x y) ≡ length (framed tag (valueOctets k body)) + kids y =
         ap (λ z. length (encode z)) (means-leaf [] tag at body x y k g e l)
         ∙ (ap (λ v. length (framed tag v ++ encode (means [] y))) o ∙ length-append (framed tag (valueOctets k body)) (encode (means [] y))) in
@@ -165,10 +194,10 @@ pub record Alone (t : Items) : Type 0 where
   pub cdata : cdataIn [] t ≡ none
 
 no-top-attribute : (t : ℕ) (i : Items) → attributesIn [] 0 i t ≡ none
-unfolding attributesIn valueIn
+unfolding attributesIn counted valueIn
 no-top-attribute t i = go (attribute t) (known 0 t) refl refl (find t i)
   where
-    go : (b : Bool) (k : Option Kind) → attribute t ≡ b → known 0 t ≡ k → (o : Option (List ℕ)) → cond b (valueIn [] o k) none ≡ none
+    go : (b : Bool) (k : Option Kind) → attribute t ≡ b → known 0 t ≡ k → (o : Option (List ℕ)) → cond b (counted 0 t (valueIn [] o k)) none ≡ none
     go false k p q o = refl
     go true none p q none = refl
     go true none p q (some v) = refl

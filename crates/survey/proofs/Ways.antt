@@ -13,6 +13,8 @@ use Rattle.values.specs.declared.Kind.{Kind}
 use Rattle.values.specs.declared.Kind.the-variants.{HoldsItems, HoldsTokens, HoldsText, HoldsPlain, HoldsTime, HoldsBearer, HoldsNumber}
 use Rattle.values.specs.Table.{known, attribute}
 use Rattle.values.specs.Values.{fits, meant, octetsOf}
+use Rattle.values.specs.Calls.{defaultOctets}
+use Rattle.octets.proofs.Tests.{or-true}
 use Rattle.octets.proofs.Answers.{framed-length as header-and-body}
 use Rattle.values.proofs.Known.{ElementTag, element-kind, known-anywhere}
 use Rattle.format.specs.Tree.{Items}
@@ -35,10 +37,15 @@ pub value-fits : (k : Kind) (body : List ℕ) → fits k body ≡ true → value
 unfolding valueOctets
 value-fits k body h = rw h
 
--- a known item but the token table is written as a value of its kind
-pub item-known : (p tag : ℕ) (body : List ℕ) (k : Kind) → eqb tag 4 ≡ false → known p tag ≡ some k → itemOctets p tag body ≡ framed tag (valueOctets k body)
+-- a known item but the token table is written as a value of its kind, unless it is a default
+pub item-known : (p tag : ℕ) (body : List ℕ) (k : Kind) → eqb tag 4 ≡ false → defaultOctets p tag body ≡ false → known p tag ≡ some k
+    → itemOctets p tag body ≡ framed tag (valueOctets k body)
 unfolding itemOctets writtenAs maybe
-item-known p tag body k f e = rw (f, e)
+item-known p tag body k f d e = rw (f, d, e)
+
+pub item-default : (p tag : ℕ) (body : List ℕ) → defaultOctets p tag body ≡ true → itemOctets p tag body ≡ []
+unfolding itemOctets writtenAs maybe
+item-default p tag body d = rw (d, or-true (eqb tag 4))
 
 -- the ways of an item in an element of a tag
 pub data Way (p tag : ℕ) (body : List ℕ) (after : Items) : Type 0 where

@@ -1,6 +1,6 @@
 -- The sizes of the items of an accepted object are those of its normal form and of its store.
 use mathlib.Core.Path.{_≡_, refl, sym, ap, ap₂, _∙_, fun-ext}
-use mathlib.Core.Bool.{Bool, true, false, cond}
+use mathlib.Core.Bool.{Bool, true, false, cond, _||_, false≢true}
 use mathlib.Core.Option.{Option, none, some}
 use mathlib.Core.List.{List, [], _++_}
 use Prim.Native.Nat.{ℕ, _+_, _≤_}
@@ -12,6 +12,8 @@ use Rattle.octets.specs.Header.{framed}
 use Rattle.text.specs.Tokens.{Entries, entries}
 use Rattle.values.specs.declared.Kind.{Kind}
 use Rattle.values.specs.Table.{known}
+use Rattle.values.specs.Calls.{defaultOctets}
+use Rattle.octets.proofs.Answers.{size-two}
 use Rattle.values.specs.Values.{Value, octetsOf}
 use Rattle.format.specs.Tree.{Items}
 use Rattle.format.specs.Tree.Items.{end, item}
@@ -23,6 +25,8 @@ use Rattle.format.specs.Writer.{Spot, below, past, atTop}
 use Rattle.format.specs.Loaded.{stored, storeIn, storeOf}
 use Rattle.format.proofs.Told.{Told, accepted-told}
 use Rattle.format.proofs.Sums.{sum}
+use Rattle.format.proofs.Loading.{attribute-shut}
+use Rattle.format.proofs.Defaults.{default-attribute, ownDefaults, own-none, own-few}
 use Rattle.format.proofs.Takes.{Measure, ifAny, ofSet, ofMeaning, takes, takes-means}
 use Rattle.survey.specs.Normal.{framedSize}
 use Rattle.survey.specs.declared.measure.Measured.{Measured}
@@ -31,6 +35,7 @@ use Rattle.survey.specs.Measure.{measuredOf, Measures}
 use Rattle.survey.specs.Sizes.{taken, roomIn, sizeIn, sizesOf, sizesIn, ItemsMeasured}
 use Rattle.survey.proofs.Rising.{rising-length}
 use Rattle.survey.proofs.Ways.{framed-length}
+use Rattle.survey.proofs.Adding.{taken-one}
 use Rattle.survey.proofs.Places.{whole}
 use Rattle.survey.proofs.Tables.{table-told}
 
@@ -87,7 +92,7 @@ encode-length (leaf tag o after) = rw (length-append, framed-length, encode-leng
 size-item : (T : Entries) (p tag at : ℕ) (body : List ℕ) (x u : Items) → isValue (known p tag) body ≡ true → sizeIn T tag x ≡ takes inForm T tag x → sizeIn T p u ≡ takes inForm T p u
     → sizeIn T p (item tag at body x u) ≡ takes inForm T p (item tag at body x u)
 unfolding sizeIn takes
-size-item T p tag at body x u v inside later = rw (inside, later, all-taken T (known p tag) body v) (go (eqb tag 4) (opens tag))
+size-item T p tag at body x u v inside later = rw (inside, later, all-taken T (known p tag) body v) (go (eqb tag 4 || defaultOctets p tag body) (opens tag))
   where
     go : (b c : Bool)
         → cond b 0 (framedSize (cond c (takes inForm T tag x) (length (stored T (known p tag) body)))) + takes inForm T p u
@@ -103,17 +108,32 @@ size-told T (item tag at body x u) s h = size-item T (s .parent) tag at body x u
 
 -- ---- the store is no larger than the normal form
 
-room-less : (T : Entries) (p : ℕ) (t : Items) → roomIn T p t ≤ sizeIn T p t
-unfolding roomIn sizeIn framedSize
-room-less T p end = omega arith
-room-less T p (item tag at body x u) = go (room-less T tag x) (room-less T p u) (eqb tag 4) (opens tag)
+-- each text and value of the store stands in the normal form too, behind a header, but for defaults
+abbrev Fewer : Entries → ℕ → Items → Type 0
+Fewer T p t = roomIn T p t ≤ sizeIn T p t + ownDefaults p t
+
+-- an element has at most two of these, which its header outweighs
+room-item-less : (T : Entries) (p tag at : ℕ) (body : List ℕ) (x u : Items) → ownDefaults tag x ≤ 2 → Fewer T tag x → Fewer T p u → Fewer T p (item tag at body x u)
+unfolding roomIn sizeIn framedSize ownDefaults
+room-item-less T p tag at body x u few inside later = go (eqb tag 4) (defaultOctets p tag body) refl (opens tag) refl
   where
-    go : roomIn T tag x ≤ sizeIn T tag x → roomIn T p u ≤ sizeIn T p u → (b c : Bool)
-        → cond b 0 (cond c (roomIn T tag x) (length (taken T (known p tag) body))) + roomIn T p u
-        ≤ cond b 0 (framedSize (cond c (sizeIn T tag x) (length (taken T (known p tag) body)))) + sizeIn T p u
-    go inside later true c = omega arith
-    go inside later false true = omega arith
-    go inside later false false = omega arith
+    own : ℕ
+    own = length (taken T (known p tag) body)
+
+    go : (b d : Bool) → defaultOctets p tag body ≡ d → (c : Bool) → opens tag ≡ c
+        → cond b 0 (cond c (roomIn T tag x) own) + roomIn T p u
+        ≤ (cond (b || d) 0 (framedSize (cond c (sizeIn T tag x) own)) + sizeIn T p u) + (cond d 1 0 + ownDefaults p u)
+    go true d e c o = omega arith
+    go false true e true o = absurd (false≢true (sym (attribute-shut tag (default-attribute p tag body e)) ∙ o))
+    go false true e false o = omega (arith, taken-one T p tag body e)
+    go false false e true o = omega (arith, size-two (sizeIn T tag x))
+    go false false e false o = omega arith
+
+room-less : (T : Entries) (t : Items) (s : Spot) → Told T s t → Fewer T (s .parent) t
+unfolding roomIn below past
+room-less T end s h = omega arith
+room-less T (item tag at body x u) s h =
+    room-item-less T (s .parent) tag at body x u (own-few T x (below s tag) (h .1)) (room-less T x (below s tag) (h .1)) (room-less T u (past s tag) (h .2))
 
 -- ---- an accepted object
 
@@ -126,9 +146,9 @@ module _ (o : List ℕ) (t : Items) (os : Octets o) (h : judge o ≡ accepted t)
   unfolding atTop
   size-normal = size-told (tableOf t) t atTop (accepted-told o t os h) ∙ takes-means o t os h inForm ∙ sym (encode-length (meaningOf t))
 
-  -- each text and value of the store stands in the normal form too, behind a header
   pub store-less : length (storeOf t) ≤ length (normalOf t)
-  store-less = omega (arith, room-less (tableOf t) 0 t, room-whole, size-normal)
+  unfolding atTop
+  store-less = omega (arith, room-less (tableOf t) t atTop (accepted-told o t os h), own-none t, room-whole, size-normal)
 
   pub sizes-whole : sizesIn (tableOf t) 0 t ≡ measuredOf t
   unfolding sizesOf measuredOf

@@ -1,6 +1,6 @@
 -- Sizes and octets of the normal form, record by record: what the writer measures and what it writes. That they are those of document 01's normal form is
 -- proved (proofs/Sizes, and of the octets writer/proofs/Order), so nobody who reads document 01 has to believe them.
-use mathlib.Core.Bool.{cond}
+use mathlib.Core.Bool.{cond, _||_}
 use mathlib.Core.Option.{Option, none}
 use mathlib.Core.List.{List, [], _++_}
 use Prim.Native.Nat.{ℕ, suc, _+_}
@@ -10,6 +10,7 @@ use Rattle.octets.specs.Header.{lengthField, framed}
 use Rattle.values.specs.declared.Kind.{Kind}
 use Rattle.values.specs.Table.{known, attribute}
 use Rattle.values.specs.Values.{fits, meant, octetsOf}
+use Rattle.values.specs.Calls.{defaultOctets}
 use Rattle.format.specs.Tree.{Items}
 use Rattle.format.specs.Tree.Items.{end, item}
 use Rattle.format.specs.Meaning.{opens, attributesIn, maybe, rising}
@@ -23,13 +24,13 @@ unfoldable pub valueOctets : Kind → List ℕ → List ℕ
 valueOctets k body = cond (fits k body) (octetsOf (meant [] k body)) []
 
 -- the kind of value as which an item in an element of a tag is written: none where it isn't written, as the token table and what isn't known there (document 01,
--- Records and meaning)
-unfoldable pub writtenAs : (parent tag : ℕ) → Option Kind
-writtenAs parent tag = cond (eqb tag 4) none (known parent tag)
+-- Records and meaning), and a default (change request 2026-05)
+unfoldable pub writtenAs : (parent tag : ℕ) → List ℕ → Option Kind
+writtenAs parent tag body = cond (eqb tag 4 || defaultOctets parent tag body) none (known parent tag)
 
 -- an item that holds no items; nothing where it isn't written
 unfoldable pub itemOctets : (parent tag : ℕ) → List ℕ → List ℕ
-itemOctets parent tag body = maybe (λ k. framed tag (valueOctets k body)) (writtenAs parent tag)
+itemOctets parent tag body = maybe (λ k. framed tag (valueOctets k body)) (writtenAs parent tag body)
 
 -- the size of the items of an element, each from the items inside it
 unfoldable pub normalSize : ℕ → Items → ℕ

@@ -2,14 +2,16 @@
 // before anything is written. Nothing is judged again, and what is answered of octets that are no accepted object says nothing.
 // Cost: each item is looked at once, and a text as far as its expansion can fit; the token table is gone through once.
 ghost use mathlib.Core.Path.{_≡_};
+ghost use mathlib.Core.Bool.{cond};
 ghost use Prim.Native.Nat.{_≤_, min};
 ghost use lib.ListN.{length};
 ghost use Rattle.text.specs.Tokens.{entries};
 ghost use Rattle.text.specs.Weighing.{Widths};
-ghost use Rattle.values.specs.Table.{known};
+ghost use Rattle.values.specs.Calls.{defaultOctets};
 ghost use Rattle.survey.specs.Normal.{framedSize, valueOctets};
 ghost use Rattle.survey.specs.Measure.{Measures};
-ghost use Rattle.survey.specs.Sizes.{partOf, sizesOf, ItemMeasured, ItemsMeasured};
+ghost use Rattle.survey.specs.Sizes.{partIn, sizesOf, ItemMeasured, ItemsMeasured};
+ghost use Rattle.survey.specs.declared.measure.Part.the-variants.{Nothing, Kept};
 use crate::Lies;
 use crate::table::item_at;
 use crate::table::table_of;
@@ -21,6 +23,7 @@ use text::widths_of;
 use values::Kind;
 use values::KnownKind;
 use values::NormalSize;
+use values::is_default;
 use values::normal_size;
 
 // The octets that items take of a store and in normal form. Over: their normal form has more than 32,768, which no object may have.
@@ -29,9 +32,11 @@ pub enum Measured {
     Sizes { store: Octets, octets: Octets },
 }
 
-// What is measured of an item: nothing; the items inside it; octets of its own, of which no more than 32,769 are counted.
+// What is measured of an item: nothing; a default, whose one octet is kept in the store but not written; the items inside it; octets of its own, of which no
+// more than 32,769 are counted.
 enum Part {
     Nothing,
+    Kept,
     Inside,
     Octets(Octets),
 }
@@ -49,13 +54,22 @@ fn value_size(kind: Kind, body: &[u8]) -> Octets
     size
 }
 
-// An item that isn't written has no octets of its own.
+// An item that isn't written.
+fn unwritten(parent: u8, tag: u8, body: &[u8]) -> Part
+    ensures { λ r. ⌜ r ≡ cond (defaultOctets parent tag (now (body .entry))) Kept Nothing ⌝ }
+{
+    if is_default(parent, tag, body) {
+        return Part::Kept;
+    }
+    Part::Nothing
+}
+
 fn part_of(parent: u8, tag: u8, body: &[u8], table: &[u8], widths: &[u8; 32]) -> Part
     requires { ⌜ Widths 32 (entries (now table)) (now widths) ⌝ }
-    ensures { λ r. ⌜ r ≡ partOf (entries (now (table .entry))) (known parent tag) (now (body .entry)) ⌝ }
+    ensures { λ r. ⌜ r ≡ partIn (entries (now (table .entry))) parent tag (now (body .entry)) ⌝ }
 {
-    match written_as(parent, tag) {
-        KnownKind::Unknown => Part::Nothing,
+    match written_as(parent, tag, body) {
+        KnownKind::Unknown => unwritten(parent, tag, body),
         KnownKind::Known(kind) => match kind {
             Kind::HoldsItems => Part::Inside,
             Kind::HoldsTokens => Part::Nothing,
@@ -98,6 +112,10 @@ fn measure_item(
     match part_of(parent, tag, body, table, widths) {
         Part::Nothing => Measured::Sizes {
             store: Octets(0),
+            octets: Octets(0),
+        },
+        Part::Kept => Measured::Sizes {
+            store: Octets(1),
             octets: Octets(0),
         },
         Part::Octets(size) => framed(size, size),

@@ -94,6 +94,10 @@ default-enumerated p t o h = go (defaultIn p t 1 defaults) refl
     go true e = default-kind p t e
     go false e = absurd (false≢true (sym (no-default p t (getD o 0 0) e) ∙ and-right (eqb (length o) 1) (defaultIn p t (getD o 0 0) defaults) h))
 
+pub default-fits : (p t : ℕ) (o : List ℕ) → defaultOctets p t o ≡ true → fits (HoldsNumber Enumerated) o ≡ true
+unfolding defaultOctets fits width
+default-fits p t o h = and-left (eqb (length o) 1) (defaultIn p t (getD o 0 0) defaults) h
+
 pub default-length-one : (T : Entries) (p t : ℕ) (k : Kind) (o : List ℕ) → known p t ≡ some k → defaultOctets p t o ≡ true → length (octetsOf (meant T k o)) ≡ 1
 unfolding meant octetsOf width
 default-length-one T p t k o e h =

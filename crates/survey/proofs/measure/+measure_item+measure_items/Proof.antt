@@ -4,7 +4,7 @@ use lib.ListN.{length}
 use borrow.Author.Needs.{needs}
 use Rattle.text.specs.Tokens.{entries}
 use Rattle.survey.proofs.Places.{to-inside, ordered, nearer}
-use Rattle.survey.proofs.Measuring.{item-nothing, octets-few, item-octets, item-deep, item-over, inside-few, item-inside}
+use Rattle.survey.proofs.Measuring.{item-nothing, item-kept, octets-few, item-octets, item-deep, item-over, inside-few, item-inside}
 use Rattle.survey.proofs.Measuring.{Sums, begin, ended, no-item, here, item-too-long, store-fits, octets-fit, too-long, again}
 use borrow.Fn.Kinds.{In}
 use borrow.Fn.PlainCycle.{Measures, is, falls, and}
@@ -70,6 +70,16 @@ measure-item-enum-told : (t : ℕ) → measure-item-lts.Need-enum-told (
 ) (measure-item-at t) measure-item.Post
 measure-item-enum-told t c = search needs
 
+measure-item-enum-told-2 : (t : ℕ) → measure-item-lts.Need-enum-told-2 (
+  part-of-reads.Asked,
+  part-of-reads.Learnt,
+  framed-reads.Asked,
+  framed-reads.Learnt,
+  measure-items-below t,
+  measure-items.Post,
+) (measure-item-at t) measure-item.Post
+measure-item-enum-told-2 t c = search needs
+
 measure-item-enum-known-size : (t : ℕ) → measure-item-lts.Need-enum-known-size (
   part-of-reads.Asked,
   part-of-reads.Learnt,
@@ -91,7 +101,7 @@ measure-item-framed-requires : (t : ℕ) → measure-item-lts.Need-framed-requir
 measure-item-framed-requires t c κs =
     octets-few _ _ _ ((c .before .before .before .before .before .before .args) .left) _ _ ((c .before .before .before .part-of) .ensures) _ ((c .before .size) .given .1)
 
-measure-item-enum-told-2 : (t : ℕ) → measure-item-lts.Need-enum-told-2 (
+measure-item-enum-told-3 : (t : ℕ) → measure-item-lts.Need-enum-told-3 (
   part-of-reads.Asked,
   part-of-reads.Learnt,
   framed-reads.Asked,
@@ -99,7 +109,7 @@ measure-item-enum-told-2 : (t : ℕ) → measure-item-lts.Need-enum-told-2 (
   measure-items-below t,
   measure-items.Post,
 ) (measure-item-at t) measure-item.Post
-measure-item-enum-told-2 t c = search needs
+measure-item-enum-told-3 t c = search needs
 
 measure-item-returns : (t : ℕ) → measure-item-lts.Need-returns (
   part-of-reads.Asked,
@@ -110,7 +120,7 @@ measure-item-returns : (t : ℕ) → measure-item-lts.Need-returns (
   measure-items.Post,
 ) (measure-item-at t) measure-item.Post
 measure-item-returns t c =
-    item-deep _ _ _ _ _ _ ((c .before .before .before .part-of) .ensures) ((c .before .enum-told2) .given .1) ((c .if1) .taken)
+    item-deep _ _ _ _ _ _ ((c .before .before .before .part-of) .ensures) ((c .before .enum-told3) .given .1) ((c .if1) .taken)
 
 measure-item-sub-measure-items : (t : ℕ) → measure-item-lts.Need-sub-measure-items (
   part-of-reads.Asked,
@@ -134,7 +144,7 @@ measure-item-measure-items-requires : (t : ℕ) → measure-item-lts.Need-measur
 measure-item-measure-items-requires t c κs =
     (omega (arith, (c .before .before .before .before .before .before .pre) .0, (c .if1) .left), (c .before .before .before .before .before .before .pre) .1)
 
-measure-item-enum-told-3 : (t : ℕ) → measure-item-lts.Need-enum-told-3 (
+measure-item-enum-told-4 : (t : ℕ) → measure-item-lts.Need-enum-told-4 (
   part-of-reads.Asked,
   part-of-reads.Learnt,
   framed-reads.Asked,
@@ -142,7 +152,7 @@ measure-item-enum-told-3 : (t : ℕ) → measure-item-lts.Need-enum-told-3 (
   measure-items-below t,
   measure-items.Post,
 ) (measure-item-at t) measure-item.Post
-measure-item-enum-told-3 t c = search needs
+measure-item-enum-told-4 t c = search needs
 
 measure-item-enum-known-store : (t : ℕ) → measure-item-lts.Need-enum-known-store (
   part-of-reads.Asked,
@@ -163,7 +173,7 @@ measure-item-framed-requires-2 : (t : ℕ) → measure-item-lts.Need-framed-requ
   measure-items.Post,
 ) (measure-item-at t) measure-item.Post
 measure-item-framed-requires-2 t c κs =
-    inside-few _ _ _ _ _ _ ((c .before .before .before .before .before .before .before .part-of) .ensures) ((c .before .before .before .before .before .enum-told2) .given .1) ((c .before .before .before .before .if1) .left) _ ((c .before .before .before .measure-items) .ensures) _ _ ((c .before .store) .given .1)
+    inside-few _ _ _ _ _ _ ((c .before .before .before .before .before .before .before .part-of) .ensures) ((c .before .before .before .before .before .enum-told3) .given .1) ((c .before .before .before .before .if1) .left) _ ((c .before .before .before .measure-items) .ensures) _ _ ((c .before .store) .given .1)
 
 measure-item-returns-2 : (t : ℕ) → measure-item-lts.Need-returns-2 (
   part-of-reads.Asked,
@@ -185,7 +195,7 @@ measure-item-returns-3 : (t : ℕ) → measure-item-lts.Need-returns-3 (
   measure-items.Post,
 ) (measure-item-at t) measure-item.Post
 measure-item-returns-3 t c =
-    item-octets _ _ _ _ _ _ ((c .before .before .before .before .part-of) .ensures) _ ((c .before .before .size) .given .1) _ ((c .framed) .ensures)
+    item-kept _ _ _ _ _ _ ((c .before .before .part-of) .ensures) ((c .enum-told2) .given .1)
 
 measure-item-returns-4 : (t : ℕ) → measure-item-lts.Need-returns-4 (
   part-of-reads.Asked,
@@ -196,7 +206,7 @@ measure-item-returns-4 : (t : ℕ) → measure-item-lts.Need-returns-4 (
   measure-items.Post,
 ) (measure-item-at t) measure-item.Post
 measure-item-returns-4 t c =
-    item-over _ _ _ _ _ _ ((c .before .before .before .before .before .before .part-of) .ensures) ((c .before .before .before .before .enum-told2) .given .1) ((c .before .before .before .if1) .left) _ ((c .before .before .measure-items) .ensures) ((c .enum-told3) .given .1)
+    item-octets _ _ _ _ _ _ ((c .before .before .before .before .part-of) .ensures) _ ((c .before .before .size) .given .1) _ ((c .framed) .ensures)
 
 measure-item-returns-5 : (t : ℕ) → measure-item-lts.Need-returns-5 (
   part-of-reads.Asked,
@@ -207,7 +217,18 @@ measure-item-returns-5 : (t : ℕ) → measure-item-lts.Need-returns-5 (
   measure-items.Post,
 ) (measure-item-at t) measure-item.Post
 measure-item-returns-5 t c =
-    item-inside _ _ _ _ _ _ ((c .before .before .before .before .before .before .before .before .part-of) .ensures) ((c .before .before .before .before .before .before .enum-told2) .given .1) ((c .before .before .before .before .before .if1) .left) _ ((c .before .before .before .before .measure-items) .ensures) _ _ ((c .before .before .store) .given .1) _ ((c .framed2) .ensures)
+    item-over _ _ _ _ _ _ ((c .before .before .before .before .before .before .part-of) .ensures) ((c .before .before .before .before .enum-told3) .given .1) ((c .before .before .before .if1) .left) _ ((c .before .before .measure-items) .ensures) ((c .enum-told4) .given .1)
+
+measure-item-returns-6 : (t : ℕ) → measure-item-lts.Need-returns-6 (
+  part-of-reads.Asked,
+  part-of-reads.Learnt,
+  framed-reads.Asked,
+  framed-reads.Learnt,
+  measure-items-below t,
+  measure-items.Post,
+) (measure-item-at t) measure-item.Post
+measure-item-returns-6 t c =
+    item-inside _ _ _ _ _ _ ((c .before .before .before .before .before .before .before .before .part-of) .ensures) ((c .before .before .before .before .before .before .enum-told3) .given .1) ((c .before .before .before .before .before .if1) .left) _ ((c .before .before .before .before .measure-items) .ensures) _ _ ((c .before .before .store) .given .1) _ ((c .framed2) .ensures)
 
 abbrev measure-items-Inv-loop : measure-items-lts.InvT-loop
 measure-items-Inv-loop parent left part table widths store₀ octets₀ at₀ store octets at = Sums (entries table) parent left part store octets at
@@ -335,7 +356,7 @@ measure-items-add-store : (t : ℕ) → measure-items-lts.Need-add-store (
   measure-item.Post,
 ) (measure-items-at t) measure-items.Post measure-items-Inv-loop measure-items-μ-loop
 measure-items-add-store t c =
-    store-fits _ _ _ _ _ _ _ ((c .before .before .before .before .before .before .before .before .before .before .before .before .loop) .inv) ((c .before .before .before .before .before .before .before .before .before .before .before .loop-test) .taken) _ ((c .before .before .before .before .before .before .before .before .before .before .item-at) .ensures) _ _ ((c .before .before .before .before .before .before .before .before .from) .given .1) _ ((c .before .before .before .before .measure-item) .ensures) _ _ ((c .before .before .item) .given .1)
+    store-fits _ _ _ _ _ _ _ ((c .before .before .before .before .before .before .before .before .before .before .before .before .loop) .inv) ((c .before .before .before .before .before .before .before .before .before .before .before .loop-test) .taken) _ ((c .before .before .before .before .before .before .before .before .before .before .item-at) .ensures) _ _ ((c .before .before .before .before .before .before .before .before .from) .given .1) _ ((c .before .before .before .before .measure-item) .ensures) _ _ ((c .before .before .item) .given .1) (c .before .before .before .before .before .before .before .before .before .before .before .before .before .before .before .good .1 .1 .0 .1)
 
 measure-items-add-octets : (t : ℕ) → measure-items-lts.Need-add-octets (
   item-at-reads.Asked,
@@ -396,19 +417,21 @@ pub +measure-item+measure-items-spec : {M : Type 1} → statement M
     measure-item.Post
     (measure-item-part-of-requires t)
     (measure-item-enum-told t)
+    (measure-item-enum-told-2 t)
     (measure-item-enum-known-size t)
     (measure-item-framed-requires t)
-    (measure-item-enum-told-2 t)
+    (measure-item-enum-told-3 t)
     (measure-item-returns t)
     (measure-item-sub-measure-items t)
     (measure-item-measure-items-requires t)
-    (measure-item-enum-told-3 t)
+    (measure-item-enum-told-4 t)
     (measure-item-enum-known-store t)
     (measure-item-framed-requires-2 t)
     (measure-item-returns-2 t)
     (measure-item-returns-3 t)
     (measure-item-returns-4 t)
-    (measure-item-returns-5 t))
+    (measure-item-returns-5 t)
+    (measure-item-returns-6 t))
     λ t. measure-items-lts.spec
     (item-at-reads.Asked, item-at-reads.Learnt, measure-item-below t, measure-item.Post)
     (measure-items-at t)

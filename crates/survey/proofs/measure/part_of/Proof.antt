@@ -9,6 +9,9 @@ written-as-requires c κs = search needs
 enum-told : tie.Need-enum-told
 enum-told c = search needs
 
+unwritten-requires : tie.Need-unwritten-requires
+unwritten-requires c κs = search needs
+
 enum-known-kind : tie.Need-enum-known-kind
 enum-known-kind c = search needs
 
@@ -50,7 +53,7 @@ value-size-requires-4 c κs = search needs
 
 returns : tie.Need-returns
 returns c =
-    part-unknown _ _ _ _ _ ((c .before .before .written-as) .ensures) ((c .enum-told) .given .1)
+    part-unknown _ _ _ _ _ ((c .before .before .before .written-as) .ensures) ((c .before .enum-told) .given .1) _ ((c .unwritten) .ensures)
 
 returns-2 : tie.Need-returns-2
 returns-2 c =
@@ -86,6 +89,7 @@ part-of-spec =
     (tie.spec
     written-as-requires
     enum-told
+    unwritten-requires
     enum-known-kind
     enum-told-2
     enum-told-3
