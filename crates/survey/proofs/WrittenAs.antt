@@ -2,7 +2,7 @@
 use mathlib.Core.Path.{_≡_, refl, sym, ap, _∙_}
 use mathlib.Core.Bool.{Bool, true, false}
 use mathlib.Core.Logic.{_⊎_, inl, inr, ⊎-elim}
-use mathlib.Core.Option.{Option, none, some}
+use mathlib.Core.Option.{Option, none, some, Option·some-ne-none}
 use mathlib.Core.List.{List, []}
 use Prim.Native.Nat.{ℕ}
 use native.Mathlib.Omega.{arith}
@@ -20,6 +20,7 @@ use Rattle.values.proofs.Laws.{known-kind, unknown-kind}
 use Rattle.format.specs.Judge.{isItems}
 use Rattle.format.specs.Meaning.{opens, maybe}
 use Rattle.format.proofs.Means.{items-opens}
+use Rattle.format.proofs.Force.{attribute-four}
 use Rattle.format.proofs.Loading.{attribute-shut}
 use Rattle.format.proofs.Defaults.{default-attribute}
 use Rattle.survey.specs.Normal.{valueOctets, writtenAs, itemOctets}
@@ -44,6 +45,15 @@ pub ruleset as-ways = (as-table, as-default, as-other)
 table-known : (p tag : ℕ) → eqb tag 4 ≡ true → known p tag ≡ some HoldsTokens
 unfolding known rows kindIn attribute
 table-known p tag f = rw (eqb-true tag 4 f)
+
+-- a known attribute that isn't written is a default
+pub unwritten-default : (p tag : ℕ) (body : List ℕ) (k : Kind) → attribute tag ≡ true → known p tag ≡ some k → writtenAs p tag body ≡ none → defaultOctets p tag body ≡ true
+unfolding writtenAs
+unwritten-default p tag body k a e h = go (defaultOctets p tag body) refl
+  where
+    go : (d : Bool) → defaultOctets p tag body ≡ d → d ≡ true
+    go true d = refl
+    go false d = absurd (Option·some-ne-none k (sym e ∙ (rw (attribute-four tag a, d) at h)))
 
 module _ (p tag : ℕ) (body : List ℕ) (r : KnownKind) (e : r ≡ asKnown (writtenAs p tag body)) where
   -- an item that is written is known, no token table and no default

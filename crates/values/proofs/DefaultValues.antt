@@ -1,5 +1,5 @@
 -- Attributes with a default: all are enumerated, and what their octets mean is the default exactly where they are its octet (change request 2026-05).
-use mathlib.Core.Path.{_≡_, refl, sym, ap, ap₂, _∙_}
+use mathlib.Core.Path.{_≡_, refl, sym, ap, ap₂, _∙_, subst}
 use mathlib.Core.Bool.{Bool, true, false, _&&_, _||_, false≢true}
 use mathlib.Core.Option.{Option, some, Option·some-injective}
 use mathlib.Core.List.{List, [], _∷_}
@@ -73,6 +73,14 @@ never-default p t (number w n) h = no-default p t n h
 never-default p t (time x) h = refl
 never-default p t (bearer b) h = refl
 
+-- a value that is a default is enumerated
+pub default-value-kind : (p t : ℕ) (v : Value) → isDefault p t v ≡ true → known p t ≡ some (HoldsNumber Enumerated)
+default-value-kind p t v h = go (defaultIn p t 1 defaults) refl
+  where
+    go : (b : Bool) → defaultIn p t 1 defaults ≡ b → known p t ≡ some (HoldsNumber Enumerated)
+    go true e = default-kind p t e
+    go false e = absurd (false≢true (sym (never-default p t v e) ∙ h))
+
 -- the default by octets is the default by meaning
 pub default-meant : (T : Entries) (p t : ℕ) (k : Kind) (o : List ℕ) → known p t ≡ some k → fits k o ≡ true → defaultOctets p t o ≡ isDefault p t (meant T k o)
 unfolding defaultOctets isDefault fits meant width
@@ -97,6 +105,10 @@ default-enumerated p t o h = go (defaultIn p t 1 defaults) refl
 pub default-fits : (p t : ℕ) (o : List ℕ) → defaultOctets p t o ≡ true → fits (HoldsNumber Enumerated) o ≡ true
 unfolding defaultOctets fits width
 default-fits p t o h = and-left (eqb (length o) 1) (defaultIn p t (getD o 0 0) defaults) h
+
+pub default-fitting : (p t : ℕ) (k : Kind) (o : List ℕ) → known p t ≡ some k → defaultOctets p t o ≡ true → fits k o ≡ true
+default-fitting p t k o e h =
+    subst (λ l. fits l o ≡ true) (Option·some-injective (HoldsNumber Enumerated) k (sym (default-enumerated p t o h) ∙ e)) (default-fits p t o h)
 
 pub default-length-one : (T : Entries) (p t : ℕ) (k : Kind) (o : List ℕ) → known p t ≡ some k → defaultOctets p t o ≡ true → length (octetsOf (meant T k o)) ≡ 1
 unfolding meant octetsOf width

@@ -8,13 +8,13 @@ use Rattle.octets.specs.Numbers.{among, value, digits}
 use Rattle.octets.specs.Header.{headerSize, bodySize, lengthField, framed}
 use Rattle.text.specs.Text.{layout, token, character, single, goesOn, utf8, text}
 use Rattle.text.specs.Tokens.{cut, entries, filled, isTable, entry, orItself, stands, expanded, present, covers, covered, starts, shownLength, expandedSize}
-use Rattle.values.specs.Table.{rows, attribute, kindIn, known}
+use Rattle.values.specs.Table.{rows, attribute, kindIn, known, defaults, defaultIn}
 use Rattle.values.specs.Times.{bits, longFlag, offsetFlag, offsetOctet, timeOf, inRange, isTime, wrongPart, wrongTime, canonical, sign, timeOctets, localMinutes, localOf}
 use Rattle.values.specs.Bearers.{ensembleFlag, longSidFlag, ensembleOf, bearerOf, isBearer, ensembleBit, ensembleOctets, bearerOctets}
-use Rattle.values.specs.Values.{width, fits, wrongField, meant, octetsOf}
+use Rattle.values.specs.Values.{width, fits, wrongField, meant, octetsOf, isDefault}
 use Rattle.format.specs.Tree.{find, kindOf, count, records}
 use Rattle.format.specs.Judge.{isKnown, isItems, isTokens, isText, isValue, wrongIn, isTop, allowed, latest, stageAfter, limit, notAbove, shown, ofTop, rule, valueRule, first, kindRules, itemRules, own, late, lateBefore, lateAfter, broken, within, waits, next, unless, followed, joined, byKind, items, outermost, judge}
-use Rattle.format.specs.Meaning.{opens, isChild, valueIn, attributesIn, cdataIn, leafOctets, means, tableIn, tableOf, ifAccepted, meaning, maybe, rising, encode, normal}
+use Rattle.format.specs.Meaning.{opens, isChild, valueIn, counted, attributesIn, cdataIn, leafOctets, means, tableIn, tableOf, ifAccepted, meaning, maybe, rising, encode, normal}
 use Rattle.show.specs.Digits.{tens, decimal, told, hexDigit, twoDigits, hexLower}
 use Rattle.show.specs.Lines.{ascii, line, kindName, headerLine, recordLine, recordsLine, refusalLine, touchedLine, reasons, refusalWords}
 use Rattle.xml.specs.Names.{names, words, nameIn, name, wordIn, orHex, word}
@@ -80,5 +80,5 @@ pub record Computed : Type 0 where
   pub of-mistimed : shownAs mistimed ≡ refuses (wrongValue 2 3)
 
 pub computed : Computed
-unfolding among value digits headerSize bodySize lengthField framed layout token character single goesOn utf8 text cut entries filled isTable entry orItself stands expanded present covers covered starts shownLength expandedSize rows attribute kindIn known bits longFlag offsetFlag offsetOctet timeOf inRange isTime wrongPart wrongTime canonical sign timeOctets localMinutes localOf ensembleFlag longSidFlag ensembleOf bearerOf isBearer ensembleBit ensembleOctets bearerOctets width fits wrongField meant octetsOf find kindOf count records isKnown isItems isTokens isText isValue wrongIn isTop allowed latest stageAfter limit notAbove shown ofTop rule valueRule first kindRules itemRules own late lateBefore lateAfter broken within waits next unless followed joined byKind items outermost judge opens isChild valueIn attributesIn cdataIn leafOctets means tableIn tableOf ifAccepted meaning maybe rising encode normal tens decimal told hexDigit twoDigits hexLower ascii line kindName headerLine recordLine recordsLine refusalLine touchedLine reasons refusalWords names words nameIn name wordIn orHex word isLeap yearDays monthDays yearFrom monthFrom dateOf daysTo localDate padded between dateText clock timeText escape escaped numberText ensembleFields bearerText valueText attributeXml attributesXml tagged cdataXml xml isPlain orElse picks placeIn placeAt plainHere plainAt unlessPlain exportOf exportAnswer exportOctets
+unfolding among value digits headerSize bodySize lengthField framed layout token character single goesOn utf8 text cut entries filled isTable entry orItself stands expanded present covers covered starts shownLength expandedSize rows attribute kindIn known bits longFlag offsetFlag offsetOctet timeOf inRange isTime wrongPart wrongTime canonical sign timeOctets localMinutes localOf ensembleFlag longSidFlag ensembleOf bearerOf isBearer ensembleBit ensembleOctets bearerOctets defaults defaultIn width fits wrongField meant octetsOf isDefault find kindOf count records isKnown isItems isTokens isText isValue wrongIn isTop allowed latest stageAfter limit notAbove shown ofTop rule valueRule first kindRules itemRules own late lateBefore lateAfter broken within waits next unless followed joined byKind items outermost judge opens isChild valueIn counted attributesIn cdataIn leafOctets means tableIn tableOf ifAccepted meaning maybe rising encode normal tens decimal told hexDigit twoDigits hexLower ascii line kindName headerLine recordLine recordsLine refusalLine touchedLine reasons refusalWords names words nameIn name wordIn orHex word isLeap yearDays monthDays yearFrom monthFrom dateOf daysTo localDate padded between dateText clock timeText escape escaped numberText ensembleFields bearerText valueText attributeXml attributesXml tagged cdataXml xml isPlain orElse picks placeIn placeAt plainHere plainAt unlessPlain exportOf exportAnswer exportOctets
 computed = record { of-language = refl; of-no-language = refl; of-empty-names = refl; of-marked = refl; of-minus-zero = refl; of-guide = refl; of-picture = refl; of-described = refl; of-plain-id = refl; of-mistimed = refl }
