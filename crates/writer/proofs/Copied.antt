@@ -30,7 +30,7 @@ use Rattle.format.proofs.Fine.{told-text, known-is}
 use Rattle.judge.proofs.AllWays.{tokens-four}
 use Rattle.survey.specs.Normal.{valueOctets, itemOctets}
 use Rattle.survey.proofs.Ways.{value-fits, item-known}
-use Rattle.writer.specs.Steps.{AsLaid}
+use Rattle.writer.specs.Steps.{Standing, AsLaid}
 
 -- an item and the items after it
 module _ (p tag at : ℕ) (body : List ℕ) (inside after : Items) (h : AsLaid p (item tag at body inside after)) where
@@ -38,7 +38,7 @@ module _ (p tag at : ℕ) (body : List ℕ) (inside after : Items) (h : AsLaid p
   unfolding AsLaid
   laid-inside = h .0
 
-  pub laid-own : opens tag ≡ false → itemOctets p tag body ≡ framed tag body
+  pub laid-own : opens tag ≡ false → Standing p tag body
   unfolding AsLaid
   laid-own o = h .1 o
 
@@ -47,13 +47,12 @@ module _ (p tag at : ℕ) (body : List ℕ) (inside after : Items) (h : AsLaid p
   laid-after = h .2
 
 -- an item that is found among them
-pub laid-found : (p tag : ℕ) → opens tag ≡ false → (t : Items) (body : List ℕ) → AsLaid p t → find tag t ≡ some body → itemOctets p tag body ≡ framed tag body
+pub laid-found : (p tag : ℕ) → opens tag ≡ false → (t : Items) (body : List ℕ) → AsLaid p t → find tag t ≡ some body → Standing p tag body
 unfolding find
 laid-found p tag o end body h f = absurd (Option·none-ne-some body f)
 laid-found p tag o (item tag′ at body′ x y) body h f = go (eqb tag tag′) refl f (laid-found p tag o y body (laid-after p tag′ at body′ x y h))
   where
-    go : (b : Bool) → eqb tag tag′ ≡ b → cond b (some body′) (find tag y) ≡ some body → (find tag y ≡ some body → itemOctets p tag body ≡ framed tag body)
-        → itemOctets p tag body ≡ framed tag body
+    go : (b : Bool) → eqb tag tag′ ≡ b → cond b (some body′) (find tag y) ≡ some body → (find tag y ≡ some body → Standing p tag body) → Standing p tag body
     go false e g ih = ih g
     go true e g ih =
         let same = eqb-true tag tag′ e in
@@ -82,12 +81,12 @@ module _ (T : Entries) (sound : Sound T) (s : Spot) (tag : ℕ) (body : List ℕ
 
   -- so what a told item takes of the store is written as it stands
   stored-own : (x : Items) → ItemTold T s tag body x → eqb tag 4 ≡ false → opens tag ≡ false
-      → itemOctets (s .parent) tag (stored T (known (s .parent) tag) body) ≡ framed tag (stored T (known (s .parent) tag) body)
-  stored-own x i f o =
+      → Standing (s .parent) tag (stored T (known (s .parent) tag) body)
+  stored-own x i f o d =
       let k = known-is (known (s .parent) tag) (i .kind .isOne) in
       let h : KindTold T (s .parent) tag body (some (k .0)) = rw (k .1) at (i .kind) in
       let v = told-value (k .0) (i .octets) h (value-kind (s .parent) tag (k .0) (k .1) f o) in
-      rw (k .1) (item-known (s .parent) tag (stored T (some (k .0)) body) (k .0) f (k .1) ∙ ap (framed tag) (proper-octets T (k .0) body v))
+      rw (k .1) (item-known (s .parent) tag (stored T (some (k .0)) body) (k .0) f (rw (k .1) at d) (k .1) ∙ ap (framed tag) (proper-octets T (k .0) body v))
 
   abbrev Loaded : Spot → Items → Type 0
   Loaded u t = (at : ℕ) → AsLaid (u .parent) (loadedIn T (u .parent) at t)

@@ -25,8 +25,7 @@ use Rattle.writer.specs.declared.emit.Role.{Role}
 use Rattle.writer.specs.declared.emit.Role.the-variants.{Gone, Element, Attribute, Other}
 use Rattle.writer.specs.declared.emit.Reached.{Reached}
 use Rattle.survey.specs.Normal.{valueOctets, writtenAs, itemOctets, attributeOctets, laterOctets}
-use Rattle.writer.specs.Steps.{fourOf, itemsFrom, Holding, roleOf, bodyAt, BodyAt, Lays, Fitting, Ordered, Stands, FindsLowest, elementOctets, between, Framable, Emits, AsLaid}
-use Rattle.survey.proofs.WrittenAs.{written-octets}
+use Rattle.writer.specs.Steps.{fourOf, itemsFrom, Holding, roleOf, bodyAt, BodyAt, Lays, Fitting, Ordered, Stands, FindsLowest, elementOctets, between, Framable, Emits, Standing, AsLaid}
 use Rattle.survey.proofs.Rising.{rising-seven, rising-skip}
 use Rattle.writer.proofs.Copied.{laid-inside, laid-own, laid-after, laid-found}
 use Rattle.writer.proofs.Finding.{found-octets, none-between, found-body}
@@ -63,26 +62,13 @@ module _ (p tag i : ℕ) (starts sizes lent : List ℕ) (start size : ℕ) (a : 
   unfolding bodyAt
   same-body = rw (add-sub-cancel-left, a, b)
 
-  -- one that is written as a value of a kind
-  module _ (r : KnownKind) (e : r ≡ asKnown (writtenAs p tag)) (k : Kind) (q : r ≡ Known k) where
-    octets-are : itemOctets p tag (bodyAt i starts sizes lent) ≡ framed tag (valueOctets k (take (start + size - start) (drop start lent)))
-    octets-are = written-octets p tag r e k q (bodyAt i starts sizes lent) ∙ ap (λ o. framed tag (valueOctets k o)) (sym same-body)
+  pub body-fits : (stored : Bool) (to room : ℕ) → (stored ≡ true → Standing p tag (bodyAt i starts sizes lent)) → Fitting (itemOctets p tag (bodyAt i starts sizes lent)) to room
+      → (stored ≡ true → Standing p tag (take (start + size - start) (drop start lent))) × Fitting (itemOctets p tag (take (start + size - start) (drop start lent))) to room
+  body-fits stored to room s f = rw same-body (s, f)
 
-    pub body-fits : (to room : ℕ) → Fitting (itemOctets p tag (bodyAt i starts sizes lent)) to room → Fitting (framed tag (valueOctets k (take (start + size - start) (drop start lent)))) to room
-    body-fits to room f = rw octets-are at f
-
-    pub body-laid : (to : ℕ) (before after : List ℕ) (stop : ℕ) → Lays (framed tag (valueOctets k (take (start + size - start) (drop start lent)))) to before after stop
-        → Lays (itemOctets p tag (bodyAt i starts sizes lent)) to before after stop
-    body-laid to before after stop h = rw octets-are h
-
-  -- and as it stands
-  module _ (stands : itemOctets p tag (bodyAt i starts sizes lent) ≡ framed tag (bodyAt i starts sizes lent)) where
-    pub stored-fits : (to room : ℕ) → Fitting (itemOctets p tag (bodyAt i starts sizes lent)) to room → Fitting (framed tag (take (start + size - start) (drop start lent))) to room
-    stored-fits to room f = rw same-body (rw stands at f)
-
-    pub stored-laid : (to : ℕ) (before after : List ℕ) (stop : ℕ) → Lays (framed tag (take (start + size - start) (drop start lent))) to before after stop
-        → Lays (itemOctets p tag (bodyAt i starts sizes lent)) to before after stop
-    stored-laid to before after stop h = rw stands (rw same-body at h)
+  pub body-laid : (to : ℕ) (before after : List ℕ) (stop : ℕ) → Lays (itemOctets p tag (take (start + size - start) (drop start lent))) to before after stop
+      → Lays (itemOctets p tag (bodyAt i starts sizes lent)) to before after stop
+  body-laid to before after stop h = rw same-body at h
 
 -- attributes by rising tag
 module _ (p n : ℕ) (tags depths starts sizes lent : List ℕ) (at depth : ℕ) where
@@ -142,14 +128,14 @@ module _ (p n : ℕ) (tags depths starts sizes lent : List ℕ) (at depth : ℕ)
           ∙ (ap (λ n. inv .done ++ rising n (a .tag) (attributesIn [] p inside)) z
           ∙ rw (w, found-octets p n tags depths starts sizes lent at depth o a (inv .stands) (inv .high) lt))
 
-      risen-stands : AsLaid p inside → one ≡ framed (a .tag) (bodyAt (a .place) starts sizes lent)
+      risen-stands : AsLaid p inside → Standing p (a .tag) (bodyAt (a .place) starts sizes lent)
       unfolding bodyIn bodyAt
       risen-stands s =
           let shut : opens (a .tag) ≡ false = opens-attribute (a .tag) (high-attribute (a .tag) (inv .high)) in
           laid-found p (a .tag) shut inside (bodyAt (a .place) starts sizes lent) s (inv .stands .body lt starts sizes lent (o .spot) (o .rules))
 
       pub risen-fits : (stored : Bool) → Holding n (fourOf tags depths starts sizes) lent → (stored ≡ true → AsLaid p inside) → Fitting (attributeOctets p inside) to (length before)
-          → BodyAt (a .place) starts sizes lent × ((stored ≡ true → one ≡ framed (a .tag) (bodyAt (a .place) starts sizes lent)) × Fitting one stop (length room))
+          → BodyAt (a .place) starts sizes lent × ((stored ≡ true → Standing p (a .tag) (bodyAt (a .place) starts sizes lent)) × Fitting one stop (length room))
       risen-fits stored h s f =
           let all : Fitting (inv .done ++ (one ++ rest)) to (length before) = rw step at f in (
             found-body n tags depths starts sizes lent at depth h a (inv .stands) lt,
@@ -296,7 +282,7 @@ module _ (stored : Bool) (l : Lists) (n : ℕ) (lent : List ℕ) (p depth at to 
       unfolding laterOctets bodyIn bodyAt
       other-first = let t = other-says in ap (λ y. laterOctets p (y .0)) (single (t .0) (t .1)) ∙ rw (t .1, t .2, t .3)
 
-      other-stands : stored ≡ true → itemOctets p m (bodyAt i (l .starts) (l .sizes) lent) ≡ framed m (bodyAt i (l .starts) (l .sizes) lent)
+      other-stands : stored ≡ true → Standing p m (bodyAt i (l .starts) (l .sizes) lent)
       unfolding bodyIn bodyAt
       other-stands s =
           let t = other-says in
@@ -305,7 +291,7 @@ module _ (stored : Bool) (l : Lists) (n : ℕ) (lent : List ℕ) (p depth at to 
 
       pub other-fits : Holding n l lent → Fitting (later l n lent p depth at) to (length before)
           → BodyAt i (l .starts) (l .sizes) lent
-          × ((stored ≡ true → itemOctets p m (bodyAt i (l .starts) (l .sizes) lent) ≡ framed m (bodyAt i (l .starts) (l .sizes) lent))
+          × ((stored ≡ true → Standing p m (bodyAt i (l .starts) (l .sizes) lent))
           × Fitting (itemOctets p m (bodyAt i (l .starts) (l .sizes) lent)) stop (length room))
       other-fits h f =
           let a = h .starts in

@@ -10,19 +10,22 @@ use lib.ListN.{getD}
 use borrow.Author.Tests.{eqb-true, eq-eqb, ne-eqb, lt-ltb, le-ltb, lt-leb, le-leb, ltb-true, ltb-false, leb-true, leb-false}
 use Rattle.octets.specs.Header.{framed}
 use Rattle.values.specs.Table.{known, attribute}
-use Rattle.values.specs.Values.{fits}
+use Rattle.values.specs.declared.Kind.{Kind}
+use Rattle.values.specs.Values.{fits, meant}
+use Rattle.values.specs.Calls.{defaultOctets}
 use Rattle.format.specs.Tree.{Items, find}
 use Rattle.format.specs.Tree.Items.{end, item}
 use Rattle.format.specs.Judge.{isValue}
-use Rattle.format.specs.Meaning.{valueIn, attributesIn, maybe}
+use Rattle.format.specs.Meaning.{valueIn, counted, attributesIn, maybe}
 use Rattle.format.specs.Writer.{Spot, past, bodyIn, here, ruled}
 use Rattle.format.specs.Calls.{row}
 use Rattle.format.proofs.Kept.{Kept, keeps-parts, ruled-parts}
 use Rattle.format.proofs.Fine.{known-is}
+use Rattle.format.proofs.Defaults.{counted-octets}
 use Rattle.writer.specs.declared.emit.Lowest.{Lowest}
 use Rattle.survey.specs.Normal.{itemOctets}
 use Rattle.writer.specs.Steps.{fourOf, itemsFrom, Holding, lowerOf, Stands, FindsLowest, bodyAt, BodyAt, Ordered}
-use Rattle.survey.proofs.Ways.{value-fits, item-known}
+use Rattle.survey.proofs.Ways.{value-fits, item-known, item-default}
 use Rattle.survey.proofs.Rising.{oneAttribute}
 use Rattle.survey.proofs.Found.{none-behind}
 use Rattle.survey.proofs.Sizes.{attribute-high, opens-attribute, high-attribute}
@@ -152,7 +155,7 @@ found-kept (item tag′ at body′ x y) s tag body h f =
 
 module _ (p : ℕ) (t : Items) (tag : ℕ) (a : attribute tag ≡ true) where
   attribute-none : find tag t ≡ none → attributesIn [] p t tag ≡ none
-  unfolding attributesIn valueIn
+  unfolding attributesIn counted valueIn
   attribute-none f = rw (a, f)
 
   attribute-some : Ordered p t → (body : List ℕ) → find tag t ≡ some body → oneAttribute tag (attributesIn [] p t tag) ≡ itemOctets p tag body
@@ -162,7 +165,14 @@ module _ (p : ℕ) (t : Items) (tag : ℕ) (a : attribute tag ≡ true) where
       let kept : Kept (k .0) tag body (known p tag) = subst (λ q. Kept (k .0) tag body (known q tag)) (o .element) (k .1) in
       let kind = known-is (known p tag) (kept .isOne) in
       let fit : fits (kind .0) body ≡ true = rw (kind .1) at (kept .value) in
-      rw (a, f, kind .1) (sym (item-known p tag body (kind .0) (ne-eqb tag 4 (λ z. omega (arith, attribute-high tag a))) (kind .1) ∙ ap (framed tag) (value-fits (kind .0) body fit)))
+      ap (oneAttribute tag) (now (kind .0) (kind .1) fit) ∙ go (kind .0) (kind .1) fit (defaultOctets p tag body) refl
+    where
+      now : (k : Kind) → known p tag ≡ some k → fits k body ≡ true → attributesIn [] p t tag ≡ cond (defaultOctets p tag body) none (some (meant [] k body))
+      now k e i = rw (a, f, e) (counted-octets [] p tag k body e i)
+
+      go : (k : Kind) → known p tag ≡ some k → fits k body ≡ true → (d : Bool) → defaultOctets p tag body ≡ d → oneAttribute tag (cond d none (some (meant [] k body))) ≡ itemOctets p tag body
+      go k e i true d = sym (item-default p tag body d)
+      go k e i false d = sym (item-known p tag body k (ne-eqb tag 4 (λ z. omega (arith, attribute-high tag a))) d e ∙ ap (framed tag) (value-fits k body i))
 
 -- the attribute that was found, and that there is none before it
 module _ (p n : ℕ) (tags depths starts sizes lent : List ℕ) (at depth : ℕ) (o : Ordered p (itemsFrom (fourOf tags depths starts sizes) n lent depth at .0)) (a : Lowest) where

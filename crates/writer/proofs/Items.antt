@@ -24,9 +24,9 @@ use Rattle.values.proofs.Laws.{known-kind, unknown-kind, put-written, put-kept,
 use Rattle.format.specs.Judge.{isItems}
 use Rattle.format.specs.Meaning.{opens, maybe}
 use Rattle.survey.specs.Normal.{framedSize, valueOctets, writtenAs, itemOctets}
-use Rattle.writer.specs.Steps.{Lays, Fitting}
+use Rattle.writer.specs.Steps.{Lays, Fitting, Standing}
 use Rattle.survey.proofs.Ways.{framed-length, value-fits}
-use Rattle.survey.proofs.WrittenAs.{unwritten-octets}
+use Rattle.survey.proofs.WrittenAs.{written-kind, written-octets, unwritten-octets}
 use Rattle.writer.proofs.Lays.{lays-none, lays-append, fitting-left, fitting-right}
 
 -- an item is at most five octets longer than its body
@@ -129,14 +129,30 @@ module _ (tag : ℕ) (k : Kind) (body : List ℕ) (n : ℕ) (e : n ≡ length (v
       pub value-laid : (after : List ℕ) (end : ℕ) → Lays (valueOctets k body) at mid after end → Lays (framed tag (valueOctets k body)) to room after end
       value-laid after end g = rw value-parts (lays-append (tag ∷ lengthField n) (valueOctets k body) to room mid at after end h g)
 
--- one that isn't written
-pub nothing-laid : (p tag : ℕ) (r : KnownKind) → r ≡ asKnown (writtenAs p tag) → r ≡ Unknown → (body : List ℕ) (to : ℕ) (room : List ℕ) → Lays (itemOctets p tag body) to room room to
-nothing-laid p tag r e q body to room = rw (unwritten-octets p tag r e q body) (lays-none to room)
+-- one by whether it is written
+module _ (p tag to : ℕ) (body room : List ℕ) (r : KnownKind) (e : r ≡ asKnown (writtenAs p tag body)) where
+  pub nothing-laid : r ≡ Unknown → Lays (itemOctets p tag body) to room room to
+  nothing-laid q = rw (unwritten-octets p tag body r e q) (lays-none to room)
+
+  module _ (k : Kind) (q : r ≡ Known k) where
+    pub kind-fits : Fitting (itemOctets p tag body) to (length room) → Fitting (framed tag (valueOctets k body)) to (length room)
+    kind-fits f = rw (written-octets p tag body r e k q) at f
+
+    pub kind-laid : (after : List ℕ) (end : ℕ) → Lays (framed tag (valueOctets k body)) to room after end → Lays (itemOctets p tag body) to room after end
+    kind-laid after end h = rw (written-octets p tag body r e k q) h
+
+    -- as it stands
+    module _ (stands : Standing p tag body) where
+      pub standing-fits : Fitting (itemOctets p tag body) to (length room) → Fitting (framed tag body) to (length room)
+      standing-fits f = rw (stands (written-kind p tag body r e k q .counts)) at f
+
+      pub standing-laid : (after : List ℕ) (end : ℕ) → Lays (framed tag body) to room after end → Lays (itemOctets p tag body) to room after end
+      standing-laid after end h = rw (stands (written-kind p tag body r e k q .counts)) h
 
 module _ (p tag : ℕ) (body : List ℕ) where
   pub item-short : length (itemOctets p tag body) ≤ length body + 5
   unfolding itemOctets maybe
-  item-short = go (writtenAs p tag)
+  item-short = go (writtenAs p tag body)
     where
       go : (o : Option Kind) → length (maybe (λ k. framed tag (valueOctets k body)) o) ≤ length body + 5
       go none = omega arith

@@ -8,14 +8,14 @@ use Rattle.octets.specs.Numbers.{among, digits}
 use Rattle.octets.specs.Header.{lengthField, framed}
 use Rattle.text.specs.Text.{layout, token, character, single, goesOn, utf8, text}
 use Rattle.text.specs.Tokens.{entry, orItself, stands, expanded, starts, shownLength}
-use Rattle.values.specs.Table.{rows, kindIn, known, attribute}
-use Rattle.values.specs.Values.{fits, meant, octetsOf}
+use Rattle.values.specs.Table.{rows, kindIn, known, attribute, defaults, defaultIn}
+use Rattle.values.specs.Values.{fits, meant, octetsOf, isDefault}
 use Rattle.format.specs.declared.WriteAnswer.{WriteAnswer}
 use Rattle.format.specs.declared.WriteAnswer.the-variants.{Octets, NotWritten}
 use Rattle.format.specs.Answers.{refusal}
 use Rattle.format.specs.Tree.{find, kindOf}
 use Rattle.format.specs.Judge.{isKnown, isItems, isTokens, isText, isValue, isTop, allowed, latest, stageAfter, limit, notAbove, shown}
-use Rattle.format.specs.Meaning.{opens, isChild, valueIn, attributesIn, cdataIn, leafOctets, means, maybe, rising, encode}
+use Rattle.format.specs.Meaning.{opens, isChild, valueIn, counted, attributesIn, cdataIn, leafOctets, means, maybe, rising, encode}
 use Rattle.format.specs.Writer.{below, past, atTop, placed, bodyKeeps, keeps, bodyIn, good, here, onward, walk, tree, toEnd, rebuilt}
 use Rattle.format.specs.Calls.{Lists, places, roomy, treeGiven, writeAnswer, writeOctets, WriteClaim}
 
@@ -36,7 +36,7 @@ room = 9 ∷ 9 ∷ 9 ∷ 9 ∷ 9 ∷ 9 ∷ 9 ∷ 9 ∷ 9 ∷ []
 writes : (writeAnswer (asOctets 9) (treeGiven 3 given (0x61 ∷ 0x62 ∷ [])) ≡ Octets (asOctets 8))
     × (writeOctets (asOctets 9) (treeGiven 3 given (0x61 ∷ 0x62 ∷ [])) ≡ 0x03 ∷ 0x06 ∷ 0x82 ∷ 0x01 ∷ 0x62 ∷ 0x83 ∷ 0x01 ∷ 0x61 ∷ [])
     × (writeAnswer (asOctets 7) (treeGiven 3 given (0x61 ∷ 0x62 ∷ [])) ≡ NotWritten (refusal 15 0)) × (writeOctets (asOctets 7) (treeGiven 3 given (0x61 ∷ 0x62 ∷ [])) ≡ [])
-unfolding among digits lengthField framed layout token character single goesOn utf8 text entry orItself stands expanded starts shownLength rows kindIn known attribute fits meant octetsOf find kindOf isKnown isItems isTokens isText isValue isTop allowed latest stageAfter limit notAbove shown opens isChild valueIn attributesIn cdataIn leafOctets means maybe rising encode below past atTop placed bodyKeeps keeps bodyIn good here onward walk tree toEnd rebuilt places roomy treeGiven writeAnswer writeOctets
+unfolding among digits lengthField framed layout token character single goesOn utf8 text entry orItself stands expanded starts shownLength rows kindIn known attribute defaults defaultIn fits meant octetsOf isDefault find kindOf isKnown isItems isTokens isText isValue isTop allowed latest stageAfter limit notAbove shown opens isChild valueIn counted attributesIn cdataIn leafOctets means maybe rising encode below past atTop placed bodyKeeps keeps bodyIn good here onward walk tree toEnd rebuilt places roomy treeGiven writeAnswer writeOctets
 writes = (refl, refl, refl, refl)
 
 abbrev written : List ℕ

@@ -10,6 +10,7 @@ use Rattle.text.specs.Tokens.{expanded}
 use Rattle.values.specs.declared.Kind.the-variants.{HoldsText}
 use Rattle.values.specs.Table.{attribute}
 use Rattle.values.specs.Values.{fits, meant, octetsOf}
+use Rattle.values.proofs.DefaultValues.{element-keeps}
 use Rattle.values.proofs.Known.{ElementTag, known-anywhere, known-cdata, known-one, items-tag}
 use Rattle.format.specs.Tree.{Items, find}
 use Rattle.format.specs.Tree.Items.{end, item}
@@ -39,7 +40,7 @@ laid-attribute p tag at body x y a h =
 laid-cdata : (p at : ℕ) (body : List ℕ) (x : Items) → Laid p (item 1 at body x end)
 unfolding laterOctets means find cdataIn attribute encode maybe valueOctets fits meant octetsOf isItems
 laid-cdata p at body x =
-    let own : laterOctets p (item 1 at body x end) ≡ framed 1 (expanded [] body) ++ [] = rw (opens-leaf 1 HoldsText known-one refl, item-known p 1 body HoldsText refl (known-cdata p)) in
+    let own : laterOctets p (item 1 at body x end) ≡ framed 1 (expanded [] body) ++ [] = rw (opens-leaf 1 HoldsText known-one refl, item-known p 1 body HoldsText refl (element-keeps p 1 body refl) (known-cdata p)) in
     let none : encode (means [] (item 1 at body x end)) ≡ [] = ap encode (means-cdata [] at body x end) in
     own ∙ (append-nil (framed 1 (expanded [] body)) ∙ ap (λ o. o ++ framed 1 (expanded [] body)) (sym none))
 
@@ -70,7 +71,7 @@ laid-item tag at body x y fx fy s h = go (way s tag body x y u)
         (ap encode (means-element [] tag at body x y e)) later
     go (isLeaf k g e l o) =
         laid-front (s .parent) tag at body (framed tag (valueOctets k body)) x y g
-        (rw (opens-leaf tag k e l) (item-known (s .parent) tag body k (g .notTable) (known-anywhere (s .parent) tag (g .notAttribute) ∙ e)))
+        (rw (opens-leaf tag k e l) (item-known (s .parent) tag body k (g .notTable) (element-keeps (s .parent) tag body (g .notAttribute)) (known-anywhere (s .parent) tag (g .notAttribute) ∙ e)))
         (ap encode (means-leaf [] tag at body x y k g e l) ∙ ap (λ v. framed tag v ++ encode (means [] y)) o) later
 
 pub laid : (t : Items) (s : Spot) → ruled s t ≡ true → laterOctets (s .parent) t ≡ encode (means [] t) ++ maybe (framed 1) (cdataIn [] t)

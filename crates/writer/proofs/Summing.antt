@@ -35,14 +35,14 @@ use Rattle.format.proofs.Means.{items-opens}
 use Rattle.writer.proofs.Rows.{here-end, here-not, here-is, from-stop, from-single, from-nested, from-ahead, from-within}
 
 -- what a record adds, by whether and as what it is written
-module _ (p tag : ℕ) (body : List ℕ) (r : KnownKind) (e : r ≡ asKnown (writtenAs p tag)) where
+module _ (p tag : ℕ) (body : List ℕ) (r : KnownKind) (e : r ≡ asKnown (writtenAs p tag body)) where
   pub part-nothing : r ≡ Unknown → Single (asOctets 0) ≡ partOf p tag body
   unfolding partOf
-  part-nothing q = rw (unwritten-opens p tag r e q, unwritten-octets p tag r e q body)
+  part-nothing q = rw (unwritten-opens p tag body r e q, unwritten-octets p tag body r e q)
 
   module _ (k : Kind) (q : r ≡ Known k) (o : Bool) (h : o ≡ isItems (some k)) where
     holds : opens tag ≡ o
-    holds = sym (items-opens p tag) ∙ (ap isItems (written-kind p tag r e k q .1) ∙ sym h)
+    holds = sym (items-opens p tag) ∙ (ap isItems (written-kind p tag body r e k q .kind) ∙ sym h)
 
     pub part-holds : o ≡ true → Holds tag ≡ partOf p tag body
     unfolding partOf
@@ -51,7 +51,7 @@ module _ (p tag : ℕ) (body : List ℕ) (r : KnownKind) (e : r ≡ asKnown (wri
     pub part-single : o ≡ false → (n : Octets) → n .0 ≡ length (valueOctets k body) → (m : Octets) → m .0 ≡ framedSize (n .0) → Single m ≡ partOf p tag body
     unfolding partOf
     part-single y n l m f =
-        rw (holds ∙ y, written-octets p tag r e k q body) (ap (λ size. Single (asOctets size)) (f ∙ (ap framedSize l ∙ sym (framed-length tag (valueOctets k body)))))
+        rw (holds ∙ y, written-octets p tag body r e k q) (ap (λ size. Single (asOctets size)) (f ∙ (ap framedSize l ∙ sym (framed-length tag (valueOctets k body)))))
 
 module _ (p depth : ℕ) (lent : List ℕ) (l : Lists) (i d : ℕ) (e : d ≡ getD (l .depths) i 0) where
   pub part-past : (d ≡ depth → ⊥) → Past ≡ partAt p depth lent (row l i)

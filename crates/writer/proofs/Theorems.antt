@@ -35,7 +35,7 @@ use Rattle.format.specs.Tree.{Items, find, count, recordsOf}
 use Rattle.format.specs.Tree.Items.{end, item}
 use Rattle.format.specs.Judge.{isTokens, isText, shown, outermost, judge}
 use Rattle.format.specs.Judge.Judged.{accepted}
-use Rattle.format.specs.Meaning.{valueIn, attributesIn, cdataIn, leafOctets, means, tableIn, tableOf, meaningOf, meaning, encode, normalOf}
+use Rattle.format.specs.Meaning.{valueIn, counted, attributesIn, cdataIn, leafOctets, means, tableIn, tableOf, meaningOf, meaning, encode, normalOf}
 use Rattle.format.specs.Meaning.Meaning.{leaf}
 use Rattle.format.specs.Writer.{Spot, below, past, atTop, bodyKeeps, keeps, ruled, tabled}
 use Rattle.format.specs.Calls.{Lists, row, places, roomy, treeGiven, writeAnswer, writeOctets, WriteClaim}
@@ -130,7 +130,7 @@ bare-value u tag body (HoldsNumber n) h T = refl
 module _ (T : Entries) (t : Items) (s : Spot) (h : ruled s t ≡ true) where
   bare-attributes : attributesIn [] (s .parent) t ≡ attributesIn T (s .parent) t
   unfolding attributesIn valueIn
-  bare-attributes = fun-ext (λ a. ap (λ v. cond (attribute a) v none) (go a (find a t) refl (known (s .parent) a) refl))
+  bare-attributes = fun-ext (λ a. ap (λ v. cond (attribute a) (counted (s .parent) a v) none) (go a (find a t) refl (known (s .parent) a) refl))
     where
       go : (a : ℕ) (o : Option (List ℕ)) → find a t ≡ o → (k : Option Kind) → known (s .parent) a ≡ k → valueIn [] o k ≡ valueIn T o k
       go a none f k e = refl

@@ -11,6 +11,7 @@ use denote.Ref.{RefT}
 use Rattle.octets.specs.Counts.{asOctets, sizeOf}
 use Rattle.octets.specs.Header.{framed}
 use Rattle.values.specs.Table.{attribute}
+use Rattle.values.specs.Calls.{defaultOctets}
 use Rattle.format.specs.declared.Record.{Record}
 use Rattle.format.specs.Tree.{Items, find}
 use Rattle.format.specs.Tree.Items.{end, item}
@@ -85,10 +86,14 @@ pub record BodyAt (i : ℕ) (starts sizes lent : List ℕ) : Type 0 where
   pub size : i < length sizes
   pub inside : getD starts i 0 + getD sizes i 0 ≤ length lent
 
--- items whose bodies are their normal octets already: of each that holds no items its body is written as it stands
+-- a body that is its normal octets already: it is written as it stands, unless it is a default, which isn't written
+abbrev pub Standing : (parent tag : ℕ) → List ℕ → Type 0
+Standing parent tag body = defaultOctets parent tag body ≡ false → itemOctets parent tag body ≡ framed tag body
+
+-- items of which each that holds no items has such a body
 unfoldable pub AsLaid : ℕ → Items → Type 0
 AsLaid parent end = Unit {0}
-AsLaid parent (item tag at body inside after) = AsLaid tag inside × (opens tag ≡ false → itemOctets parent tag body ≡ framed tag body) × AsLaid parent after
+AsLaid parent (item tag at body inside after) = AsLaid tag inside × (opens tag ≡ false → Standing parent tag body) × AsLaid parent after
 
 -- an element that holds items: its attributes, then its other items
 unfoldable pub elementOctets : ℕ → Items → List ℕ

@@ -7,9 +7,8 @@ ghost use mathlib.Core.Path.{_≡_};
 ghost use mathlib.Core.Bool.{true};
 ghost use Prim.Native.Nat.{_+_, _≤_, _<_};
 ghost use lib.ListN.{length, getD};
-ghost use Rattle.octets.specs.Header.{framed};
 ghost use Rattle.survey.specs.Normal.{itemOctets, attributeOctets, laterOctets};
-ghost use Rattle.writer.specs.Steps.{four, itemsFrom, Holding, Lays, Ordered, Fitting, lowerOf, FindsLowest, BodyAt, bodyAt, roleOf, Emits, AsLaid};
+ghost use Rattle.writer.specs.Steps.{four, itemsFrom, Holding, Lays, Ordered, Fitting, lowerOf, FindsLowest, BodyAt, bodyAt, roleOf, Emits, Standing, AsLaid};
 use crate::frame::put_frame;
 use crate::item::holds_items;
 use crate::item::put_item;
@@ -85,7 +84,29 @@ fn next_attribute(
     lowest
 }
 
-// The body of record `i` as an item of a tag, if it is written: that is asked of a stored body too, which is then copied.
+// A body as an item of a tag, if it is written: that is asked of a stored body too, which is then copied.
+fn put_written(
+    room: &mut [u8],
+    to: usize,
+    parent: u8,
+    tag: u8,
+    body: &[u8],
+    stored: bool,
+) -> usize
+    requires { ⌜ (stored ≡ true → Standing parent tag (now body)) ⌝ }
+    requires { ⌜ Fitting (itemOctets parent tag (now body)) to (length (now room)) ⌝ }
+    ensures { λ r. ⌜ Lays (itemOctets parent tag (now (body .entry))) to (now (room .entry)) (now (room .exit)) r ⌝ }
+{
+    let KnownKind::Known(kind) = written_as(parent, tag, body) else {
+        return to;
+    };
+    if stored {
+        return put_stored(room, to, tag, body);
+    }
+    put_item(room, to, kind, tag, body)
+}
+
+// The body of record `i`.
 fn put_body(
     room: &mut [u8],
     to: usize,
@@ -98,20 +119,13 @@ fn put_body(
     stored: bool,
 ) -> usize
     requires { ⌜ BodyAt i (now starts) (now sizes) (now octets) ⌝ }
-    requires { ⌜ (stored ≡ true → itemOctets parent tag (bodyAt i (now starts) (now sizes) (now octets)) ≡ framed tag (bodyAt i (now starts) (now sizes) (now octets))) ⌝ }
+    requires { ⌜ (stored ≡ true → Standing parent tag (bodyAt i (now starts) (now sizes) (now octets))) ⌝ }
     requires { ⌜ Fitting (itemOctets parent tag (bodyAt i (now starts) (now sizes) (now octets))) to (length (now room)) ⌝ }
     ensures { λ r. ⌜ Lays (itemOctets parent tag (bodyAt i (now (starts .entry)) (now (sizes .entry)) (now (octets .entry)))) to (now (room .entry)) (now (room .exit)) r ⌝ }
 {
-    let KnownKind::Known(kind) = written_as(parent, tag) else {
-        return to;
-    };
     let start = wide16(starts[i]);
     let end = start + wide16(sizes[i]);
-    let body = &octets[start..end];
-    if stored {
-        return put_stored(room, to, tag, body);
-    }
-    put_item(room, to, kind, tag, body)
+    put_written(room, to, parent, tag, &octets[start..end], stored)
 }
 
 // The attributes of an element by rising tag.

@@ -1,5 +1,5 @@
 // An item that holds no items, once it is known to be written: how many octets it has, and its octets. Whether it is written is asked before, of survey's
-// `written_as`, by whoever measures records (size.rt) and whoever writes them, stored ones too (put_body in emit.rt).
+// `written_as`, by whoever measures records (size.rt) and whoever writes them, stored ones too (put_written in emit.rt).
 ghost use mathlib.Core.Path.{_≡_};
 ghost use mathlib.Core.Option.{some};
 ghost use mathlib.Core.List.{_∷_};

@@ -33,7 +33,7 @@ fn part_of(parent: u8, tag: u8, body: &[u8]) -> Part
     requires { ⌜ length (now body) < 65536 ⌝ }
     ensures { λ r. ⌜ r ≡ partOf parent tag (now (body .entry)) ⌝ }
 {
-    match written_as(parent, tag) {
+    match written_as(parent, tag, body) {
         KnownKind::Unknown => Part::Single(Octets(0)),
         KnownKind::Known(kind) => {
             if is_holder(kind) {
