@@ -1,26 +1,31 @@
 -- Defaults in a tree (change request 2026-05): which attribute counts, by its octets; how many defaults there are; and that an element has at most two.
-use mathlib.Core.Path.{_≡_, refl, sym, ap, _∙_}
+use mathlib.Core.Path.{_≡_, refl, sym, ap, ap₂, _∙_, fun-ext}
 use mathlib.Core.Bool.{Bool, true, false, cond, _||_, false≢true}
-use mathlib.Core.Option.{Option, none, some, Option·none-ne-some}
+use mathlib.Core.Option.{Option, none, some, Option·map, Option·none-ne-some}
 use mathlib.Core.List.{List}
 use Prim.Native.Nat.{ℕ, _+_, _≤_}
 use native.Mathlib.Omega.{arith}
 use lib.Dec.{eqb}
 use lib.ListN.{length, getD}
 use borrow.Author.Tests.{eq-eqb, ne-eqb, eqb-true, eqb-false, ltb-true, lt-ltb}
-use Rattle.octets.specs.Numbers.{among}
-use Rattle.text.specs.Tokens.{Entries}
+use Rattle.octets.specs.Numbers.{among, Octets}
+use Rattle.text.specs.Tokens.{Entries, expanded}
 use Rattle.values.specs.declared.Kind.{Kind}
 use Rattle.values.specs.Table.{known, attribute, defaults, defaultIn}
 use Rattle.values.specs.Values.{Value, fits, meant, octetsOf, isDefault}
 use Rattle.values.specs.Calls.{defaultOctets}
 use Rattle.octets.proofs.Tests.{and-false}
 use Rattle.values.proofs.DefaultValues.{no-default, element-keeps, default-meant, default-none}
-use Rattle.format.specs.Tree.{Items, find}
+use Rattle.format.specs.Tree.{Items, find, withoutDefaults}
 use Rattle.format.specs.Tree.Items.{end, item}
-use Rattle.format.specs.Meaning.{counted}
-use Rattle.format.specs.Writer.{Spot, past}
-use Rattle.format.proofs.Told.{Told}
+use Rattle.format.specs.Judge.{isValue, judge}
+use Rattle.format.specs.Judge.Judged.{accepted}
+use Rattle.format.specs.Meaning.{valueIn, counted, attributesIn, cdataIn, means, tableOf, meaningOf}
+use Rattle.format.specs.Writer.{Spot, below, past, atTop}
+use Rattle.format.proofs.Means.{means-attribute, default-nothing}
+use Rattle.format.proofs.Force.{attribute-one, swap-eqb}
+use Rattle.format.proofs.Told.{Told, ItemTold, accepted-told}
+use Rattle.format.proofs.Fine.{known-is}
 use Rattle.format.proofs.Order.{told-order, seen-none}
 use Rattle.format.proofs.Sums.{sum, sum-same, sum-none, sum-more, sum-most}
 
@@ -57,10 +62,80 @@ default-attribute p tag o h = go (attribute tag) refl
     go true e = refl
     go false e = absurd (false≢true (sym (element-keeps p tag o e) ∙ h))
 
+-- ---- a tree means what it means without its defaults
+
+record SameIn (T : Entries) (p : ℕ) (t u : Items) : Type 0 where
+  children : means T t ≡ means T u
+  attributes : attributesIn T p t ≡ attributesIn T p u
+  cdata : cdataIn T t ≡ cdataIn T u
+
+-- an item with the same octets
+same-item : (T : Entries) (p tag at : ℕ) (body : List ℕ) (x x′ u u′ : Items) → SameIn T tag x x′ → SameIn T p u u′ → SameIn T p (item tag at body x u) (item tag at body x′ u′)
+unfolding means attributesIn cdataIn find
+same-item T p tag at body x x′ u u′ inside later = record {
+  children = rw (inside .attributes, inside .children, inside .cdata, later .children);
+  attributes = fun-ext (λ b. held b (eqb b tag));
+  cdata = words (eqb 1 tag);
+}
+  where
+    held : (b : ℕ) (s : Bool)
+        → cond (attribute b) (counted p b (valueIn T (cond s (some body) (find b u)) (known p b))) none
+        ≡ cond (attribute b) (counted p b (valueIn T (cond s (some body) (find b u′)) (known p b))) none
+    held b true = refl
+    held b false = ap (λ f. f b) (later .attributes)
+
+    words : (s : Bool) → Option·map (expanded T) (cond s (some body) (find 1 u)) ≡ Option·map (expanded T) (cond s (some body) (find 1 u′))
+    words true = refl
+    words false = later .cdata
+
+-- a default
+same-default : (T : Entries) (s : Spot) (tag at : ℕ) (body : List ℕ) (x u u′ : Items) → ItemTold T s tag body x → Told T (past s tag) u → defaultOctets (s .parent) tag body ≡ true
+    → SameIn T (s .parent) u′ u → SameIn T (s .parent) u′ (item tag at body x u)
+unfolding past among cdataIn find isValue
+same-default T s tag at body x u u′ i h d later =
+    let p = s .parent in
+    let a = default-attribute p tag body d in
+    let k = known-is (known p tag) (i .kind .isOne) in
+    let fit : fits (k .0) body ≡ true = rw (k .1) at (i .kind .value) in
+    let gone : find tag u ≡ none = seen-none u (past s tag) tag a (rw (eq-eqb tag tag refl)) (told-order T u (past s tag) h) in
+    record {
+      children = later .children ∙ sym (means-attribute T tag at body x u a);
+      attributes = later .attributes ∙ sym (default-nothing T p tag at body x u (k .0) (k .1) (sym (default-meant T p tag (k .0) body (k .1) fit) ∙ d) gone);
+      cdata = later .cdata ∙ rw (swap-eqb tag 1 (attribute-one tag a));
+    }
+
+same-without : (T : Entries) (t : Items) (s : Spot) → Told T s t → SameIn T (s .parent) (withoutDefaults (s .parent) t) t
+unfolding withoutDefaults below past
+same-without T end s h = record { children = refl; attributes = refl; cdata = refl }
+same-without T (item tag at body x u) s h = go (defaultOctets (s .parent) tag body) refl (same-without T x (below s tag) (h .1)) (same-without T u (past s tag) (h .2))
+  where
+    p : ℕ
+    p = s .parent
+
+    go : (d : Bool) → defaultOctets p tag body ≡ d → SameIn T tag (withoutDefaults tag x) x → SameIn T p (withoutDefaults p u) u
+        → SameIn T p (cond d (withoutDefaults p u) (item tag at body (withoutDefaults tag x) (withoutDefaults p u))) (item tag at body x u)
+    go true d inside later = same-default T s tag at body x u (withoutDefaults p u) (h .0) (h .2) d later
+    go false d inside later = same-item T p tag at body (withoutDefaults tag x) x (withoutDefaults p u) u inside later
+
+pub defaults-nothing : (o : List ℕ) (t : Items) → Octets o → judge o ≡ accepted t → means (tableOf t) (withoutDefaults 0 t) ≡ meaningOf t
+unfolding atTop
+defaults-nothing o t os h = same-without (tableOf t) t atTop (accepted-told o t os h) .children
+
 -- how many there are in a tree
 unfoldable pub defaultsIn : ℕ → Items → ℕ
 defaultsIn parent end = 0
 defaultsIn parent (item tag at body inside after) = cond (defaultOctets parent tag body) 1 0 + (defaultsIn tag inside + defaultsIn parent after)
+
+-- where there are none, the tree is itself without them
+pub none-without : (p : ℕ) (t : Items) → defaultsIn p t ≡ 0 → withoutDefaults p t ≡ t
+unfolding defaultsIn withoutDefaults
+none-without p end h = refl
+none-without p (item tag at body x u) h = go (defaultOctets p tag body) h (λ e. none-without tag x e) (λ e. none-without p u e)
+  where
+    go : (d : Bool) → cond d 1 0 + (defaultsIn tag x + defaultsIn p u) ≡ 0 → (defaultsIn tag x ≡ 0 → withoutDefaults tag x ≡ x) → (defaultsIn p u ≡ 0 → withoutDefaults p u ≡ u)
+        → cond d (withoutDefaults p u) (item tag at body (withoutDefaults tag x) (withoutDefaults p u)) ≡ item tag at body x u
+    go true e inside later = absurd (omega arith)
+    go false e inside later = ap₂ (λ y z. item tag at body y z) (inside (omega arith)) (later (omega arith))
 
 -- and directly in an element
 unfoldable pub ownDefaults : ℕ → Items → ℕ

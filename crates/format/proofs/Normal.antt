@@ -7,13 +7,15 @@ use Prim.Native.Nat.{ℕ, _≤_}
 use native.Mathlib.Omega.{arith}
 use lib.ListN.{length}
 use Rattle.octets.specs.Numbers.{Octets}
-use Rattle.format.specs.Tree.{Items}
+use Rattle.format.specs.Tree.{Items, withoutDefaults}
 use Rattle.format.specs.Tree.Items.{end, item}
 use Rattle.format.specs.Judge.{Judged, judge}
 use Rattle.format.specs.Judge.Judged.{refused, accepted}
 use Rattle.format.specs.Meaning.{Meaning, tableOf, meaningOf, ifAccepted, meaning, encode, normalOf, normal}
 use Rattle.format.specs.WellFormed.{ObjectOk}
-use Rattle.format.proofs.Round.{meaning-encode, encode-injective}
+use Rattle.format.proofs.Rules.{same-tree}
+use Rattle.format.proofs.Round.{reread, meaning-encode, encode-injective}
+use Rattle.format.proofs.Defaults.{none-without}
 use Rattle.format.proofs.Told.{top, accepted-told, accepted-sound}
 use Rattle.format.proofs.Fine.{told-ok}
 
@@ -39,6 +41,13 @@ meaning-ok o os m h = let a = accepted-is meaningOf (judge o) m h in subst (λ x
 -- the normal form of an accepted object, where an object may be so long, is accepted and means what the object means
 pub normal-means : (o : List ℕ) → Octets o → (m : Meaning) → meaning o ≡ some m → length (encode m) ≤ 32_768 → meaning (encode m) ≡ some m
 normal-means o os m h l = meaning-encode m (meaning-ok o os m h) l
+
+-- and holds no default
+pub normal-bare : (o : List ℕ) (t u : Items) → Octets o → judge o ≡ accepted t → length (normalOf t) ≤ 32_768 → judge (normalOf t) ≡ accepted u → withoutDefaults 0 u ≡ u
+normal-bare o t u os h l e =
+    let r = reread (meaningOf t) (accepted-ok o t os h) l in
+    let same : r .tree ≡ u = same-tree (r .tree) u (sym (r .accepts) ∙ e) in
+    ap (withoutDefaults 0) (sym same) ∙ none-without 0 (r .tree) (r .bare) ∙ same
 
 -- two accepted objects have one normal form exactly where they mean the same
 pub same-normal : (o p : List ℕ) → Octets o → Octets p → (m n : Meaning) → meaning o ≡ some m → meaning p ≡ some n → length (encode m) ≤ 32_768 → encode m ≡ encode n ↔ m ≡ n

@@ -6,6 +6,7 @@ use Prim.Native.Nat.{ℕ, _+_}
 use lib.Dec.{eqb}
 use lib.ListN.{length}
 use Rattle.values.specs.Table.{attribute}
+use Rattle.values.specs.Calls.{defaultOctets}
 use Rattle.format.specs.declared.Record.{Record}
 
 -- known items in reading order. Each has its tag, the offset at which its body begins, its body, the items inside it and the items after it in the same element
@@ -17,6 +18,13 @@ pub data Items : Type 0 where
 unfoldable pub find : ℕ → Items → Option (List ℕ)
 find t end = none
 find t (item tag at body inside after) = cond (eqb t tag) (some body) (find t after)
+
+-- the items of an element without their defaults, and those inside them likewise (change request 2026-05)
+unfoldable pub withoutDefaults : (parent : ℕ) → Items → Items
+withoutDefaults parent end = end
+withoutDefaults parent (item tag at body inside after) =
+    let rest = withoutDefaults parent after in
+    cond (defaultOctets parent tag body) rest (item tag at body (withoutDefaults tag inside) rest)
 
 -- the kind that a record shows: 0 an element, 1 an attribute, 2 CDATA
 unfoldable pub kindOf : ℕ → ℕ
