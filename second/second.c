@@ -223,6 +223,17 @@ static const struct character_count shown_limit[ELEMENT_TAGS] = {
     [LONG_DESCRIPTION] = {1200}
 };
 
+/* The attributes whose default is fixed by the attribute alone, so that it means the same as their absence (02,
+ * 2026-05): type of a genre (003, clause 5.3.3), recommendation and broadcast (5.3.13).  All are enumerated, and
+ * annex F gives a default the octet 0x01.  xml:lang has a default in 003 too, but here 0x06 governs it. */
+enum { DEFAULT_OCTET = 0x01 };
+
+static const bool has_default[ELEMENT_TAGS][ATTRIBUTE_TAGS] = {
+    [GENRE] = {[1] = true},
+    [PROGRAMME] = {[3] = true, [4] = true},
+    [PROGRAMME_EVENT] = {[3] = true, [4] = true}
+};
+
 static bool is_attribute(uint8_t tag)
 {
     return tag >= FIRST_ATTRIBUTE;
@@ -248,6 +259,13 @@ static uint8_t body_of_item(uint8_t parent_tag, uint8_t tag)
     if (tag >= FIRST_ATTRIBUTE + ATTRIBUTE_TAGS)
         return UNKNOWN;
     return attribute_body[parent_tag][tag - FIRST_ATTRIBUTE];
+}
+
+/* Whether the value of an item is the default of its kind. */
+static bool is_default(uint8_t parent_tag, uint8_t tag, const uint8_t *body, size_t length)
+{
+    return body_of_item(parent_tag, tag) == ENUMERATED && has_default[parent_tag][tag - FIRST_ATTRIBUTE] &&
+           length == 1 && body[0] == DEFAULT_OCTET;
 }
 
 /* ---- Text and tokens (01, "Text" and "Tokens"; 002, clauses 4.5.1 and 4.9) --------------------- */
@@ -515,6 +533,7 @@ struct node {
     uint8_t depth;
     uint8_t body;         /* what the body is, UNKNOWN never */
     bool has_tokens;
+    bool is_default;      /* it has a record and its octet in a store, and no meaning */
 };
 
 /* A text attribute of the top whose tokens wait for the table. */
@@ -547,7 +566,7 @@ static const uint8_t *body_octets(const struct tree *tree, const struct node *no
     return tree->octets + node->start;
 }
 
-/* The attributes of one element, each at the place of its tag, and the index behind them. */
+/* The attributes that one element means, each at the place of its tag, and the index behind all that it has. */
 struct attributes {
     const struct node *by_tag[ATTRIBUTE_TAGS];
     size_t end;
@@ -558,8 +577,11 @@ static struct attributes attributes_at(const struct tree *tree, size_t index)
 {
     struct attributes found = {.end = index};
 
-    for (; found.end < tree->count && is_attribute(tree->nodes[found.end].tag); found.end++)
-        found.by_tag[tree->nodes[found.end].tag - FIRST_ATTRIBUTE] = &tree->nodes[found.end];
+    for (; found.end < tree->count && is_attribute(tree->nodes[found.end].tag); found.end++) {
+        const struct node *node = &tree->nodes[found.end];
+        if (!node->is_default)
+            found.by_tag[node->tag - FIRST_ATTRIBUTE] = node;
+    }
     return found;
 }
 
@@ -670,6 +692,7 @@ static int judge_body(const struct tree *tree, struct node *node, uint8_t parent
     case BEARER:
         return bearer_fits(body_octets(tree, node), node->length) ? ACCEPTED : BAD_VALUE;
     case ENUMERATED:
+        node->is_default = is_default(parent_tag, node->tag, body_octets(tree, node), node->length);
         return node->length == 1 ? ACCEPTED : BAD_VALUE;
     case NUMBER:
     case DURATION:
@@ -940,14 +963,15 @@ struct sizes {
 };
 
 /* Adds each item's size to its parent's, last item first, so that a body is complete before it is
- * added itself. */
+ * added itself.  A default lies in the store, as every record's value does, and isn't written. */
 static struct sizes measure(struct tree *tree)
 {
     struct sizes sizes = {0, 0};
 
     for (size_t i = tree->count - 1; i > 0; i--) {
         const struct node *node = &tree->nodes[i];
-        tree->nodes[node->parent].normal_size += header_size(node->normal_size) + node->normal_size;
+        if (!node->is_default)
+            tree->nodes[node->parent].normal_size += header_size(node->normal_size) + node->normal_size;
         if (node->body != ITEMS)
             sizes.store += node->normal_size;
     }
@@ -1121,10 +1145,11 @@ static bool same_items(struct place first, struct place second)
     }
 }
 
-/* Whether two elements have the same attributes, as a set; `*index` is left behind them, in both trees. */
-static bool same_attributes(const struct tree *first, const struct tree *second, size_t *index)
+/* Whether two elements have the same attributes, as a set; both indexes are left behind them. */
+static bool same_attributes(const struct tree *first, size_t *first_index, const struct tree *second,
+                            size_t *second_index)
 {
-    struct attributes a = attributes_at(first, *index), b = attributes_at(second, *index);
+    struct attributes a = attributes_at(first, *first_index), b = attributes_at(second, *second_index);
 
     for (size_t i = 0; i < ATTRIBUTE_TAGS; i++) {
         if ((a.by_tag[i] != NULL) != (b.by_tag[i] != NULL))
@@ -1133,30 +1158,28 @@ static bool same_attributes(const struct tree *first, const struct tree *second,
             !same_items((struct place){first, a.by_tag[i]}, (struct place){second, b.by_tag[i]}))
             return false;
     }
-    *index = a.end;
+    *first_index = a.end;
+    *second_index = b.end;
     return true;
 }
 
 /* Whether two accepted objects mean the same: item by item in reading order, in which tags and depths tell
- * what stands in what.  Up to an item that differs, as many stand before it in one tree as in the other. */
+ * what stands in what.  Each tree has an index of its own, since either may have defaults that the other has
+ * not; attributes stand right behind their element, so each item is compared with those that follow it. */
 static bool same_meaning(const struct tree *first, const struct tree *second)
 {
-    size_t index = 0;
+    size_t i = 0, j = 0;
 
-    while (index < first->count && index < second->count) {
-        const struct node *a = &first->nodes[index], *b = &second->nodes[index];
-        if (is_attribute(a->tag)) {
-            if (!same_attributes(first, second, &index))
-                return false;
-            continue;
-        }
+    while (i < first->count && j < second->count) {
+        const struct node *a = &first->nodes[i++], *b = &second->nodes[j++];
         if (a->tag != b->tag || a->depth != b->depth)
             return false;
         if (!same_items((struct place){first, a}, (struct place){second, b}))
             return false;
-        index++;
+        if (!same_attributes(first, &i, second, &j))
+            return false;
     }
-    return first->count == second->count;
+    return i == first->count && j == second->count;
 }
 
 /* ---- XML: names (02, request 2026-02; 002, annexes D, E and F) ---------------------------------- */
@@ -1245,8 +1268,8 @@ static const struct name attribute_names[ELEMENT_TAGS][ATTRIBUTE_TAGS] = {
     [ACQUISITION_TIME] = {NAME("start"), NAME("end")}
 };
 
-/* Annex F: the names of octets, those that share one with a dot and the code.  Of broadcast our copy of
- * 002 has lost the row of 0x01, which is always the default's; 003, clause 5.3.13, says which that is. */
+/* Annex F: the names of octets, those that share one with a dot and the code.  Defaults have none here: they
+ * are never written. */
 enum { NAMED_OCTETS = 10 };
 
 static const struct name group_types[NAMED_OCTETS] = {
@@ -1261,12 +1284,10 @@ static const struct name group_types[NAMED_OCTETS] = {
 };
 
 static const struct name broadcasts[NAMED_OCTETS] = {
-    [0x01] = NAME("on-air"),
     [0x02] = NAME("off-air")
 };
 
 static const struct name recommendations[NAMED_OCTETS] = {
-    [0x01] = NAME("no"),
     [0x02] = NAME("yes")
 };
 
@@ -1279,7 +1300,6 @@ static const struct name multimedia_types[NAMED_OCTETS] = {
 };
 
 static const struct name genre_types[NAMED_OCTETS] = {
-    [0x01] = NAME("main"),
     [0x02] = NAME("secondary"),
     [0x03] = NAME("other")
 };
@@ -1443,6 +1463,8 @@ static uint64_t own_size(const struct tree *tree, size_t index, const struct wid
 {
     const struct node *node = &tree->nodes[index];
 
+    if (node->is_default)
+        return 0;
     if (is_attribute(node->tag)) {
         uint8_t element = tree->nodes[node->parent].tag;
         size_t name = attribute_names[element][node->tag - FIRST_ATTRIBUTE].length;
