@@ -1,13 +1,13 @@
 """The XML of a tree of make_cases.py (document 02, request 2026-02), and the names and kinds that it takes from 002.
 
 The annexes were read for this file anew, and stand in another form than in the second program: of each attribute its clause, which says what its
-value is.  Times go by Python's own calendar.
+value is.  The defaults, which are left out (2026-05), stand here by their names in 003.  Times go by Python's own calendar.
 """
 from collections import Counter
 from datetime import datetime, timedelta, timezone
 from xml.sax.saxutils import escape
 
-from make_cases import ATTRIBUTES, BEARER, COORDINATES, ENUM, NUMBER, PLAIN, SHORT_ID, TEXT, TIME
+from make_cases import ATTRIBUTES, BEARER, COORDINATES, DEFAULT, DEFAULTS, ENUM, NUMBER, PLAIN, SHORT_ID, TEXT, TIME
 
 # Table D.1, without the rows that are not used.
 ANNEX_D = """
@@ -59,6 +59,13 @@ multimedia type: logo_unrestricted 02, Not used 03, logo_colour_square 04, Not u
 genre type: main 01, secondary 02, other 03
 """
 
+# The defaults that 003's schema has for attributes of annex E, clauses 5.3.3 and 5.3.13, but for that of xml:lang, which 0x06 governs.
+SCHEMA_DEFAULTS = """
+genre: type main
+programme: recommendation no, broadcast on-air
+programmeEvent: recommendation no, broadcast on-air
+"""
+
 DURATION = "duration"
 CLAUSES = {"4.4.0": TEXT, "4.7.1": TEXT, "4.7.3": TEXT, "4.8.1": TEXT, "4.6": ENUM, "4.7.2": SHORT_ID, "4.7.4": TIME, "4.7.5": DURATION, "4.7.6": BEARER,
            "4.8.2": NUMBER, "4.8.3": NUMBER, "4.8.4": NUMBER, "4.8.5": NUMBER, "4.12": PLAIN, "4.17.1": PLAIN}
@@ -89,12 +96,25 @@ for element_name, attributes in rows(ANNEX_E):
             ATTRIBUTE_NAMES[element, int(code, 16)] = attribute_name
             KINDS[element, int(code, 16)] = CLAUSES[clause]
 
+
+def pairs_named(element_name, attribute_name):
+    """The codes of the attributes that have this name in the elements that have that one."""
+    return [(element, code) for (element, code), name in ATTRIBUTE_NAMES.items() if element in CODES[element_name] and name == attribute_name]
+
+
 OCTET_NAMES = {}  # by the codes of element and attribute: names by octet
 for head, octets in rows(ANNEX_F):
-    element_name, attribute_name = head.split()
-    for element in CODES[element_name]:
-        attribute, = (code for (holder, code), name in ATTRIBUTE_NAMES.items() if holder == element and name == attribute_name)
-        OCTET_NAMES[element, attribute] = coded(octets)
+    for pair in pairs_named(*head.split()):
+        OCTET_NAMES[pair] = coded(octets)
+
+DEFAULT_OCTETS = {}  # likewise: the octet of the default
+for element_name, defaults in rows(SCHEMA_DEFAULTS):
+    for attribute_name, word in defaults:
+        for pair in pairs_named(element_name, attribute_name):
+            DEFAULT_OCTETS[pair], = (bytes([octet]) for octet, name in OCTET_NAMES[pair].items() if name == word)
+
+# The maker's own reading of the defaults has to be the same.
+assert DEFAULT_OCTETS == dict.fromkeys(DEFAULTS, DEFAULT)
 
 # The maker's own reading of annex E, in which a duration is a number as any other, has to be the same.
 assert {pair: NUMBER if kind == DURATION else kind for pair, kind in KINDS.items()} == \
@@ -142,7 +162,8 @@ def value_text(pair, value):
 def text_of(node):
     name = ELEMENT_NAMES[node.tag]
     attributes = "".join(f' {ATTRIBUTE_NAMES[node.tag, part.tag]}="{value_text((node.tag, part.tag), part.value)}"'
-                         for part in sorted(node.attributes, key=lambda part: part.tag))
+                         for part in sorted(node.attributes, key=lambda part: part.tag)
+                         if part.value.normal != DEFAULT_OCTETS.get((node.tag, part.tag)))
     content = "".join((escaped(part.value) or "<![CDATA[]]>") if part.tag == 0x01 else text_of(part) for part in node.children)
     content += escaped(node.value) if node.tag == 0x06 else ""
     return f"<{name}{attributes}>{content}</{name}>" if content else f"<{name}{attributes}/>"

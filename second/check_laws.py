@@ -4,6 +4,8 @@
 For random trees, of which the maker knows the meaning: each way to write a tree has the tree's normal
 form, its number of records and just its needs in store and room; a normal form is its own normal form
 and is listed; the writer makes it of the tree's records; and both ways to write a tree mean the same.
+Defaults count for records and store, and not for room; the normal form has none, and two ways to write
+a tree have each its own.
 Where a text of the tree has too many characters, its normal form is refused there, and its records too.
 Where values of a tree are made bad, the first is refused, by all letters, with the field of a time that was made wrong.
 Beside each tree, a pair of meanings.py that is known to mean the same or not; the ways to make one take turns, so
@@ -67,7 +69,8 @@ def tree_laws(rng):
     """Pairs of a case and the last line that its answer must have."""
     while True:
         maker, tree, raw = random_raw(rng)
-        normal, octets, again = tree.normal(), raw.octets(), Encoder(maker, 0.3).raw(tree).octets()
+        twin = tree.with_other_defaults(rng)
+        normal, octets, again = tree.normal(), raw.octets(), Encoder(maker, 0.3).raw(twin).octets()
         if max(len(normal), len(again)) > OBJECT_LIMIT:
             continue
         if not tree.too_long():
@@ -75,12 +78,14 @@ def tree_laws(rng):
         yield from over_laws(rng, tree)
     records, pool = records_of(rng, tree)
     count, store, room = tree.records(), tree.store(), len(normal)
+    count_left, store_left = count - tree.defaults(), store - tree.defaults()
     yield case_l(count, octets), f"records {count}"
-    yield case_l(count, normal), f"records {count}"
+    yield case_l(count_left, normal), f"records {count_left}"
     yield case_l(count - 1, octets), "refused 14 at 0"
     yield case_n(count, store, room, octets), f"normal {normal.hex()}"
-    yield case_n(count, store, room, again), f"normal {normal.hex()}"
-    yield case_n(count, store, room, normal), f"normal {normal.hex()}"
+    yield case_n(twin.records(), twin.store(), room, again), f"normal {normal.hex()}"
+    yield case_n(count_left, store_left, room, normal), f"normal {normal.hex()}"
+    yield case_n(count - 1, store, room, octets), "refused 14 at 0"
     yield case_n(count, store, room - 1, octets), "refused 15 at 0"
     if store > 0:
         yield case_n(count, store - 1, room, octets), "refused 15 at 0"
@@ -98,7 +103,7 @@ def xml_laws(rng, draw):
     """The XML of a tree in two of its forms, in just its room; or the refusal, whatever the room."""
     while True:
         maker, tree, raw = random_raw(rng, draw)
-        again = Encoder(maker, 0.3).raw(tree)
+        again = Encoder(maker, 0.3).raw(tree.with_other_defaults(rng))
         if len(again.octets()) <= OBJECT_LIMIT and not tree.too_long() and (has_plain(tree) or len(xml(tree)) <= FIELD_LIMIT):
             break
     for form in (raw, again):

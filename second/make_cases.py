@@ -57,8 +57,11 @@ ATTRIBUTES = {
 HOLDERS = [tag for tag in ATTRIBUTES if tag > 0x03]  # elements that hold items, the tops apart
 COORDINATES = [0x34, 0x35]
 UNKNOWN_ELEMENTS = [t for t in range(0x05, 0x80) if t != 0x06 and t not in ATTRIBUTES and t not in COORDINATES]
+# The attributes whose default means the same as their absence (2026-05): each is enumerated, and annex F gives a default the octet 0x01.
+DEFAULTS = [(0x14, 0x81), (0x1C, 0x83), (0x1C, 0x84), (0x2E, 0x83), (0x2E, 0x84)]
+DEFAULT = b"\x01"
 SHOWN = {0x10: 8, 0x11: 16, 0x12: 128, 0x1A: 180, 0x1B: 1200}  # the most characters of each one's CDATA (2026-01)
-CHILDREN = HOLDERS + list(SHOWN)  # these stand in trees more often
+CHILDREN = HOLDERS + list(SHOWN) + sorted({element for element, _ in DEFAULTS}) * 4  # these stand in trees more often
 TOKEN_TAGS = [t for t in range(0x01, 0x14) if t not in (0x09, 0x0A, 0x0D)]
 ELEMENT, ATTRIBUTE, CDATA = 0, 1, 2
 OBJECT_LIMIT = 32768
@@ -236,9 +239,17 @@ class Node:
     def items(self):
         return self.attributes + self.children
 
+    def is_default(self, part):
+        """Whether an item of it is a default: that has a record and its octet in a store, but no meaning and no place in the normal form."""
+        return (self.tag, part.tag) in DEFAULTS and part.value.normal == DEFAULT
+
+    def meant(self):
+        """Its attributes but for defaults."""
+        return [part for part in self.attributes if not self.is_default(part)]
+
     def ordered(self):
         """Its items as they stand in the normal form."""
-        return sorted(self.attributes, key=lambda a: a.tag) + self.children
+        return sorted(self.meant(), key=lambda a: a.tag) + self.children
 
     def normal(self):
         return item(self.tag, b"".join(part.normal() for part in self.ordered()) if self.value is None else self.value.normal)
@@ -247,6 +258,10 @@ class Node:
         yield self
         for part in self.items():
             yield from part.walk()
+
+    def defaults(self):
+        """How many defaults it holds; each is an octet."""
+        return sum(len(node.attributes) - len(node.meant()) for node in self.walk())
 
     def records(self):
         return sum(1 for _ in self.walk())
@@ -272,6 +287,15 @@ class Node:
         twin = Node(self.tag, self.value)
         twin.attributes = [part.copy() for part in self.attributes]
         twin.children = [part.copy() for part in self.children]
+        return twin
+
+    def with_other_defaults(self, rng):
+        """A copy in which each default that may stand in it does so or not, by chance."""
+        twin = self.copy()
+        for node in twin.walk():
+            node.attributes = node.meant()
+            free = [tag for element, tag in DEFAULTS if element == node.tag and all(part.tag != tag for part in node.attributes)]
+            node.attributes += [Node(tag, Fixed(DEFAULT)) for tag in free if rng.random() < 0.5]
         return twin
 
 
@@ -599,8 +623,10 @@ def damage(rng, raw):
 # ---- Random cases ------------------------------------------------------------------------------
 
 def random_tree(maker):
+    """Half of the trees get defaults."""
     roll = maker.rng.random()
-    return maker.deep_tree() if roll < 0.06 else maker.large_tree() if roll < 0.10 else maker.tree()
+    tree = maker.deep_tree() if roll < 0.06 else maker.large_tree() if roll < 0.10 else maker.tree()
+    return tree.with_other_defaults(maker.rng) if maker.rng.random() < 0.5 else tree
 
 
 def random_raw(rng, draw=random_tree):
@@ -737,7 +763,7 @@ def random_s(rng):
     roll = rng.random()
     if roll < 0.1:
         maker, tree, first = random_raw(rng)
-        second = Encoder(maker, 0.2).raw(tree)
+        second = Encoder(maker, 0.2).raw(tree.with_other_defaults(rng))
     elif roll < 0.15:
         first, second = known_pair(rng, *rng.choice([WRITTEN_TWICE, rng.choice(SWOLLEN_WAYS)]), Maker.swollen_tree)
     else:

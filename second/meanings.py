@@ -1,22 +1,19 @@
-"""Pairs of objects that are known to mean the same, or to mean different things, from documents 01, 02 and 002 alone.
+"""Pairs of objects that are known to mean the same, or to mean different things, from documents 01, 02, 002 and 003 alone.
 
-`meaning` is document 01's definition, over the trees of make_cases.py.  DIFFERENT has ways to change a tree's meaning in one
+`meaning` is document 01's definition, as request 2026-05 amends it, over the trees of make_cases.py.  DIFFERENT has ways to change a tree's meaning in one
 point, SAME ways to change only how it is written; known_pair makes a pair of objects in one of these ways.
 """
-from make_cases import (ATTRIBUTES, BEARER, COORDINATES, ENUM, HOLDERS, NUMBER, OBJECT_LIMIT, PLAIN, SHORT_ID, TEXT, TIME, TOKEN_TAGS,
+from make_cases import (ATTRIBUTES, BEARER, COORDINATES, DEFAULT, DEFAULTS, ENUM, HOLDERS, NUMBER, OBJECT_LIMIT, PLAIN, SHORT_ID, TEXT, TIME, TOKEN_TAGS,
                         UNKNOWN_ELEMENTS, Bearer, Encoder, Fixed, Maker, Node, Raw, Text, Time, random_tree)
 
 LANGUAGE, CDATA = "language", "cdata"
 
-# Annex F: a default has the tag 0x01, in broadcast, recommendation and the type of a genre.
-DEFAULTS = {0x14: [0x81], 0x1C: [0x83, 0x84], 0x2E: [0x83, 0x84]}
-
 
 def meaning(node):
-    """What an item means: attributes are a set, children stand in order, texts are expanded, minus 0 is 0."""
+    """What an item means: attributes but for defaults are a set, children stand in order, texts are expanded, minus 0 is 0."""
     value = node.value
     if value is None:
-        return node.tag, frozenset(meaning(part) for part in node.attributes), tuple(meaning(part) for part in node.children)
+        return node.tag, frozenset(meaning(part) for part in node.meant()), tuple(meaning(part) for part in node.children)
     if isinstance(value, Time):
         *instant, minus, half_hours = value.fields
         return node.tag, tuple(instant), -half_hours if minus else half_hours
@@ -60,9 +57,13 @@ def holder(rng, tree, fits=lambda node, depth: True):
     return any_of(rng, (node for node, depth in with_depth(tree) if fits(node, depth)))
 
 
+def count_attributes(parts):
+    return sum(1 for part in parts if part.tag >= 0x80)
+
+
 def span_of_elements(parts):
     """Where child elements may stand among items: behind attributes, token table and language, before CDATA."""
-    first = sum(1 for part in parts if part.tag >= 0x80 or part.tag in (0x04, 0x06))
+    first = count_attributes(parts) + sum(1 for part in parts if part.tag in (0x04, 0x06))
     return first, len(parts) - any(part.tag == 0x01 for part in parts)
 
 
@@ -148,23 +149,39 @@ def bearer_changed(change):
 
 
 def attribute_absent(rng, tree):
-    node = holder(rng, tree, lambda node, _: node.attributes)
+    node = holder(rng, tree, lambda node, _: node.meant())
     if node:
-        node.attributes.pop(rng.randrange(len(node.attributes)))
+        node.attributes.remove(rng.choice(node.meant()))
     return bool(node)
 
 
-def default_present(rng, tree):
-    choices = [(node, tag) for node, _ in with_depth(tree) for tag in DEFAULTS.get(node.tag, []) if all(part.tag != tag for part in node.attributes)]
-    if choices:
-        node, tag = rng.choice(choices)
-        node.attributes.append(Node(tag, Fixed(b"\x01")))
-    return bool(choices)
+def free_places(tree, pairs):
+    """Elements that hold items, each with the tag of an attribute, of these pairs, that it has not."""
+    return [(node, tag) for node, _ in with_depth(tree) for element, tag in pairs if element == node.tag and all(part.tag != tag for part in node.attributes)]
+
+
+def attribute_more(pairs, octets):
+    """An attribute of one of these pairs, with one of these octets, where there was none."""
+    def way(rng, tree):
+        choices = free_places(tree, pairs)
+        if choices:
+            node, tag = rng.choice(choices)
+            node.attributes.append(Node(tag, Fixed(bytes([rng.choice(octets)]))))
+        return bool(choices)
+    return way
+
+
+def other_than_default(rng, tree):
+    """Another value where a default was."""
+    part = any_of(rng, (part for node in tree.walk() for part in node.attributes if node.is_default(part)))
+    if part:
+        part.value = Fixed(bytes([rng.choice(OTHER_OCTETS)]))
+    return bool(part)
 
 
 def attribute_tag(rng, tree):
     """The value of an attribute under another tag, of the same kind, that the element has not."""
-    choices = [(part, tag) for node, _ in with_depth(tree) for part in node.attributes for tag, kind in ATTRIBUTES[node.tag].items()
+    choices = [(part, tag) for node, _ in with_depth(tree) for part in node.meant() for tag, kind in ATTRIBUTES[node.tag].items()
                if kind == kind_of(node, part) and all(other.tag != tag for other in node.attributes)]
     if choices:
         part, part.tag = rng.choice(choices)
@@ -246,6 +263,9 @@ def coordinates_tag(rng, tree):
     return bool(part)
 
 
+OTHER_OCTETS = [octet for octet in range(256) if bytes([octet]) != DEFAULT]
+WITHOUT_DEFAULT = [(element, tag) for element, known in ATTRIBUTES.items() for tag, kind in known.items() if kind == ENUM and (element, tag) not in DEFAULTS]
+
 DIFFERENT = {
     "a number": octets_changed(NUMBER),
     "a short id": octets_changed(SHORT_ID),
@@ -272,7 +292,9 @@ DIFFERENT = {
     "an SId of 16 or 32 bits": bearer_changed(lambda _, ensemble, sid, scids: (ensemble, bytes(2) + sid, scids) if len(sid) == 2 else None),
     "an SCIdS": bearer_changed(lambda rng, ensemble, sid, scids: (ensemble, sid, scids ^ 1 << rng.randrange(4))),
     "an attribute or none": attribute_absent,
-    "a default or none": default_present,
+    "another value than a default, or none": attribute_more(DEFAULTS, OTHER_OCTETS),
+    "a default or another value": other_than_default,
+    "an octet that is no default, or none": attribute_more(WITHOUT_DEFAULT, DEFAULT),
     "an attribute's tag": attribute_tag,
     "the values of two attributes exchanged": values_exchanged,
     "empty CDATA or none": empty_cdata,
@@ -310,10 +332,9 @@ def long_length(rng, raw):
 def unknown_attribute(rng, raw):
     """An unknown attribute, which may stand there twice."""
     part = holding(rng, raw)
-    known = sum(1 for below in part.body if below.tag >= 0x80)
     tag = rng.choice([tag for tag in range(0x80, 0x90) if tag not in ATTRIBUTES[part.tag]] + [0xFF])
     for _ in range(rng.choice([1, 2])):
-        part.body.insert(rng.randint(0, known), Raw(tag, rng.randbytes(rng.choice([0, 1, 2, 5]))))
+        part.body.insert(rng.randint(0, count_attributes(part.body)), Raw(tag, rng.randbytes(rng.choice([0, 1, 2, 5]))))
     return True
 
 
@@ -323,10 +344,25 @@ def unknown_element(rng, raw):
     return True
 
 
+def default_written(element, tag):
+    """The default of an attribute, in any place among the others, in one or more of the elements that have none."""
+    def way(rng, raw):
+        free = [part for part, _ in raw.walk() if part.tag == element and isinstance(part.body, list) and all(below.tag != tag for below in part.body)]
+        for part in rng.sample(free, rng.randint(1, len(free)) if free else 0):
+            part.body.insert(rng.randint(0, count_attributes(part.body)), Raw(tag, DEFAULT))
+        return bool(free)
+    return way
+
+
+def defaults_written(rng, raw):
+    """Defaults of more than one attribute."""
+    return sum(default_written(*pair)(rng, raw) for pair in rng.sample(DEFAULTS, rng.randint(2, len(DEFAULTS)))) > 1
+
+
 def attributes_exchanged(rng, raw):
-    part = holding(rng, raw, lambda part, _: len(part.node.attributes) > 1)
+    part = holding(rng, raw, lambda part, _: count_attributes(part.body) > 1)
     if part:
-        at = rng.randrange(len(part.node.attributes) - 1)
+        at = rng.randrange(count_attributes(part.body) - 1)
         part.body[at:at + 2] = reversed(part.body[at:at + 2])
     return bool(part)
 
@@ -360,8 +396,7 @@ def time_reserved(rng, time):
 
 
 def put_table(raw, entries):
-    at = sum(1 for part in raw.body if part.tag >= 0x80)
-    raw.body.insert(at, Raw(0x04, b"".join(bytes([tag, len(text)]) + text for tag, text in entries)))
+    raw.body.insert(count_attributes(raw.body), Raw(0x04, b"".join(bytes([tag, len(text)]) + text for tag, text in entries)))
 
 
 def token(rng, raw):
@@ -387,6 +422,12 @@ SAME = {
     "a long length": long_length,
     "an unknown attribute": unknown_attribute,
     "an unknown element": unknown_element,
+    "main of a genre": default_written(0x14, 0x81),
+    "no of a programme": default_written(0x1C, 0x83),
+    "on-air of a programme": default_written(0x1C, 0x84),
+    "no of an event": default_written(0x2E, 0x83),
+    "on-air of an event": default_written(0x2E, 0x84),
+    "defaults of several attributes": defaults_written,
     "the order of attributes": attributes_exchanged,
     "seconds of 0": time_written(long=True),
     "an offset of 0": time_written(offset=True),
@@ -397,7 +438,7 @@ SAME = {
     "entries that no text uses": unused_entries,
 }
 
-# One tree in two of its forms. Neither need be the normal form, so that may be above 32,768 octets: no object then, but a meaning.
+# One tree in two of its forms, each with defaults of its own. Neither need be the normal form, so that may be above 32,768 octets: no object then, but a meaning.
 WRITTEN_TWICE = ("same", "all of it at once")
 SWOLLEN_WAYS = [("different", way) for way in DIFFERENT] + [WRITTEN_TWICE]
 
@@ -423,7 +464,7 @@ def drawn_pair(rng, answer, way, draw):
         assert meaning(tree) != meaning(twin), way
         return encoder.raw(tree), encoder.raw(twin)
     if (answer, way) == WRITTEN_TWICE:
-        return encoder.raw(tree), encoder.raw(tree)
+        return encoder.raw(tree), encoder.raw(tree.with_other_defaults(rng))
     again = written(tree)
     if not SAME[way](rng, again):
         return None
