@@ -1,8 +1,9 @@
 """The fixed edge cases (make_cases.py --edges): every pair, every limit, each refusal, pairs of them."""
 from datetime import date
+from itertools import permutations, product
 
-from make_cases import (ATTRIBUTES, BEARER, ENUM, HOLDERS, NUMBER, PLAIN, SHORT_ID, SHOWN, TEXT, TIME, TOKEN_TAGS, case_l, case_n, case_s,
-                        case_w, case_x, item)
+from make_cases import (ATTRIBUTES, BEARER, DEFAULT, DEFAULTS, ENUM, HOLDERS, NUMBER, PLAIN, SHORT_ID, SHOWN, TEXT, TIME, TOKEN_TAGS, case_l,
+                        case_n, case_s, case_w, case_x, item)
 
 ANNEX_C = bytes.fromhex(
     "02 52 21 50 24 16 80 04 33 BF C4 40 81 04 33 BF C4 80 25 08 80 06 40 E1 CE 15 C2 24"
@@ -275,6 +276,130 @@ def time_fields():
         yield case_l(9, top(item(0x34, item(0x81, octets))))
         yield case_l(9, top(item(0x24, item(0x80, octets)) + b"\x10"))
         yield case_l(9, top(item(0x82, b"\x01"), item(0x81, octets), item(0x04, entry(1))))
+
+
+# ---- Defaults ----------------------------------------------------------------------------------
+
+def defaults_alone():
+    """Each attribute that has a default with that and other octets, in each length form, with what is lent at its edges; and 01 in all other attributes."""
+    for element, tag in DEFAULTS:
+        none = top(item(element))
+        for octet in (0, 1, 2, 3, 0x11, 0x81, 0xFF):
+            for form in (0, 1, 2):
+                octets = top(item(element, item(tag, bytes([octet]), form)))
+                room = 4 if octet == 1 else 7
+                for places, store, lent_room in product((0, 2, 3), (0, 1), (room - 1, room, room + 1)):
+                    yield case_n(places, store, lent_room, octets)
+                yield from by_all(octets)
+                yield case_l(3, octets)
+                yield whole_xml(octets)
+                for other in (none, top(item(element, item(tag, DEFAULT))), top(item(element, item(tag, b"\x02")))):
+                    yield case_s(octets, other)
+                    yield case_s(other, octets)
+        for octets in each("|0101|0001|0100|010101"):
+            yield from by_all(top(item(element, item(tag, octets))))
+    for element in HOLDERS:
+        for tag in range(0x80, 0x8A):
+            octets = top(item(element, item(tag, DEFAULT)))
+            yield case_n(9, 9, 9, octets)
+            yield whole_xml(octets)
+            yield case_s(octets, top(item(element)))
+
+
+def attribute_choices(element):
+    """An element with each of its attributes that have a default absent, default or other, in each order."""
+    tags = [tag for holder, tag in DEFAULTS if holder == element]
+    for octets in product((b"", b"\x01", b"\x02"), repeat=len(tags)):
+        present = [item(tag, octet) for tag, octet in zip(tags, octets) if octet]
+        for order in permutations(present):
+            yield item(element, b"".join(order))
+
+
+def defaults_together():
+    """All choices of one element with each other, and where they stand among unknown and other attributes, before children, in one another."""
+    for element in sorted({element for element, _ in DEFAULTS}):
+        choices = list(attribute_choices(element))
+        for first, second in product(choices, repeat=2):
+            yield case_s(top(first), top(second))
+            yield case_s(top(first, second), top(second, first))
+        yield from both(top(*choices))
+        yield whole_xml(top(*choices))
+        for choice in choices:
+            yield from both(top(choice))
+            yield whole_xml(top(choice, tag=0x02))
+            yield case_s(top(item(element, choice[2:] + item(0x10))), top(item(element, item(0x10))))
+            yield case_s(top(item(element, choice[2:] + item(0x01))), top(item(element)))
+            yield case_s(top(choice, item(0x10)), top(item(element, item(0x10))))
+            yield case_n(99, 9, 99, nest(15, choice))
+    among = item(0x83, DEFAULT), item(0x84, DEFAULT), item(0x80, b"c"), item(0x85, DEFAULT), item(0x83, b"\x02")
+    for count in (2, 3, 4):
+        for parts in permutations(among, count):
+            octets = top(item(0x1C, b"".join(parts)))
+            yield from by_all(octets)
+            yield case_n(9, 9, 99, octets)
+            yield whole_xml(octets)
+            yield case_s(octets, top(item(0x1C, item(0x80, b"c"))))
+    for a, b, c in product(*((b"", item(tag, DEFAULT)) for tag in (0x83, 0x84, 0x81))):
+        octets = top(item(0x1C, a + item(0x2E, b + item(0x14, c))))
+        yield from both(octets)
+        yield case_s(octets, top(item(0x1C, item(0x2E, item(0x14)))))
+
+
+def defaults_at_limits():
+    """Bodies and objects that are shorter without a default, around the length forms and 32,768 octets, with what is lent at its edges."""
+    choices = [b"", item(0x83, DEFAULT), item(0x84, DEFAULT) + item(0x83, DEFAULT), item(0x83, b"\x02"), item(0x84, b"\x02") + item(0x83, DEFAULT)]
+    for attributes in choices:
+        for size in range(244, 257):
+            text = item(0x01, b"a" * size)
+            yield from both(top(item(0x1C, attributes + text)))
+            yield from both(top(item(0x1C, attributes), text))
+        table = item(0x04, entry(0x01, b"radio" * 51))
+        count, store = 3 + len(attributes) // 3, len(attributes) // 3
+        kept = attributes.count(b"\x02") * 3
+        for rest in range(111, 121):
+            grown = top(table, item(0x1C, attributes), item(0x01, b"\x01" * 128 + b"a" * rest))
+            text, room = 32640 + rest, 32650 + rest + kept
+            for lent in ((count, store + text, room), (count - 1, store + text, room), (count, store + text - 1, room), (count, store + text, room - 1),
+                         (count, text, room), (count, store + text, 65536), (65535, 65536, 32768), (65535, 65536, 32767)):
+                yield case_n(*lent, grown)
+        for rest in (117, 118):
+            grown = top(table, item(0x1C, attributes), item(0x01, b"\x01" * 128 + b"a" * 118))
+            yield case_s(grown, top(item(0x1C), item(0x01, b"radio" * 6528 + b"a" * rest)))
+        for size in (32752, 32753, 32755, 32756, 32758, 32759):
+            yield case_n(9, 65536, 65536, top(item(0x1C, attributes), item(0x01, b"a" * size)))
+        swollen = item(0x01, b"\x01" * 258)
+        for other in choices:
+            yield case_s(top(table, item(0x1C, attributes), swollen), top(table, item(0x1C, other), swollen))
+            yield case_s(top(table, item(0x2E, attributes), swollen), top(table, item(0x2E, other), swollen))
+
+
+def element_records(element, *attributes):
+    """Records of a top with one element, and of that element's attributes: each a tag, where its octets begin, and how many they are."""
+    return [[0x03, 0, 1, 0, 0, 0], [element, 0, 2, 0, 0, 0]] + [[tag, 1, 3, 1, start, size] for tag, start, size in attributes]
+
+
+def defaults_written():
+    """Records with defaults: in every room around what is written, twice, of a wrong length, beside others, at the limits."""
+    octets = b"\x01\x02\x01"
+    for element, tag in DEFAULTS:
+        for start, size, room in product(range(4), range(4), (3, 4, 6, 7)):
+            yield case_w(3, element_records(element, (tag, start, size)), room, octets)
+        for first, second in product(range(3), repeat=2):
+            yield case_w(4, element_records(element, (tag, first, 1), (tag, second, 1)), 99, octets)
+            two = element_records(element, (tag, first, 1)) + [[element, 0, 2, 0, 0, 0], [tag, 1, 3, 3, second, 1]]
+            yield case_w(5, two, 99, octets)
+            for _, other in [pair for pair in DEFAULTS if pair[0] == element and pair[1] != tag]:
+                for room in range(3, 12):
+                    yield case_w(4, element_records(element, (tag, first, 1), (other, second, 1)), room, octets)
+        for octet in range(256):
+            yield case_w(3, element_records(element, (tag, 0, 1)), 7, bytes([octet]))
+        for octet, size in product((b"\x01", b"\x02"), (*range(244, 257), 32755, 32756, 32758, 32759)):
+            records = element_records(element, (tag, 0, 1)) + [[0x01, 2, 2, 0, 1, size]]
+            whole = len(top(item(element, b"" if octet == DEFAULT else item(tag, octet)), item(0x01, b"a" * size)))
+            for room in (whole - 1, whole) if size < 32755 else (65536,):
+                yield case_w(4, records, room, octet + b"a" * size)
+    for element, tag in product(HOLDERS, range(0x80, 0x8A)):
+        yield case_w(3, element_records(element, (tag, 0, 1)), 99, DEFAULT)
 
 
 def bearers():
@@ -613,8 +738,8 @@ def xml_rooms():
 
 
 def edge_cases():
-    for group in (sizes, pairs, texts, token_tables, shown_lengths, times, time_fields, bearers, depths, order, faults,
-                  late_twelve, lent_memory, written, sameness, xml_names, xml_numbers, xml_times, xml_bearers,
+    for group in (sizes, pairs, texts, token_tables, shown_lengths, times, time_fields, defaults_alone, defaults_together, defaults_at_limits,
+                  defaults_written, bearers, depths, order, faults, late_twelve, lent_memory, written, sameness, xml_names, xml_numbers, xml_times, xml_bearers,
                   xml_texts, xml_plain, xml_rooms):
         yield from group()
     for octets in [ANNEX_C] + [ANNEX_C[:size] for size in range(84)]:

@@ -2,10 +2,11 @@
 """Reads a program's XML back:  try_xml.py PROGRAM SEED N
 
 Asks PROGRAM for the listing (L) and the XML (X) of N random objects and of edge cases with every name, number of digits, offset and kind of bearer, reads the XML with
-Python's own parser, and finds in it, in order, just the elements, attributes and texts that the listing and the octets of the object have. Values are read back: a time
-by Python's calendar, from local time to UTC. Texts are held as an XML reader gets them: line ends become line feeds, and in attributes tabs and line feeds become
-blanks. Names are those of second/as_xml.py, read from the annexes apart from the second program. Prints the first differences and a last line
-`XML of N objects of seed S read back: ..`; the exit status is 0 only where there is no difference and every name and every character of note was met.
+Python's own parser, and finds in it, in order, just the elements, attributes and texts that the listing and the octets of the object have, but for attributes with
+their default, which the XML leaves out. Values are read back: a time by Python's calendar, from local time to UTC. Texts are held as an XML reader gets them: line
+ends become line feeds, and in attributes tabs and line feeds become blanks. Names are those of second/as_xml.py, read from the annexes apart from the second program.
+Prints the first differences and a last line `XML of N objects of seed S read back: ..`; the exit status is 0 only where there is no difference and every name, every
+default and every character of note was met.
 """
 import os
 import random
@@ -18,13 +19,14 @@ from xml.parsers import expat
 HERE = os.path.dirname(os.path.dirname(os.path.abspath(__file__)))
 sys.path.insert(0, os.path.join(HERE, "second"))
 
-from as_xml import ATTRIBUTE_NAMES, DURATION, ELEMENT_NAMES, KINDS, OCTET_NAMES, xml  # noqa: E402
+from as_xml import ATTRIBUTE_NAMES, DEFAULT_OCTETS, DURATION, ELEMENT_NAMES, KINDS, OCTET_NAMES, xml  # noqa: E402
 from edges import top, xml_bearers, xml_names, xml_numbers, xml_times  # noqa: E402
 from make_cases import BEARER, ENUM, FIELD_LIMIT, NUMBER, PLAIN, SHORT_ID, TEXT, TIME, case_l, case_x, item, named_tree, random_raw  # noqa: E402
 from streams import LISTING, run, split_answers  # noqa: E402
 
 SHOWN_DIFFERENCES = 3
 OF_NOTE = "\t\n\r&<>\"'"  # what a reader changes, and what is escaped
+LEFT_OUT = "default left out"
 
 
 class Difference(Exception):
@@ -195,7 +197,10 @@ def note(place, text, met):
 
 
 def hold_attributes(listed, parsed, met):
-    there = sorted(listed.attributes, key=lambda attribute: attribute[0])
+    there = sorted((tag, value) for tag, value in listed.attributes if value != DEFAULT_OCTETS.get((listed.tag, tag)))
+    for tag in {tag for tag, _ in listed.attributes} - {tag for tag, _ in there}:
+        met[LEFT_OUT] += 1
+        met[(listed.tag, tag), LEFT_OUT] += 1
     names = [ATTRIBUTE_NAMES[listed.tag, tag] for tag, _ in there]
     if names != [name for name, _ in parsed.attributes]:
         raise Difference(f"{listed.name} has the attributes {names}, and in the XML {parsed.attributes}")
@@ -244,7 +249,8 @@ def answered(listing, answer, octets, met):
 def never_met(met):
     """The names that no object had; elements and attributes of plain octets and the token table are never written."""
     wanted = [tag for tag in ELEMENT_NAMES if tag not in (0x04, 0x34, 0x35)] + [pair for pair, kind in KINDS.items() if kind != PLAIN]
-    wanted += [(pair, name) for pair, names in OCTET_NAMES.items() for name in [None, *names.values()]]
+    wanted += [(pair, name) for pair, names in OCTET_NAMES.items() for octet, name in names.items() if bytes([octet]) != DEFAULT_OCTETS.get(pair)]
+    wanted += [(pair, None) for pair in OCTET_NAMES] + [(pair, LEFT_OUT) for pair in DEFAULT_OCTETS]
     wanted += [(place, letter) for place in ("text in attributes", "text in elements") for letter in OF_NOTE]
     return [name for name in wanted if met[name] == 0]
 
@@ -288,7 +294,7 @@ def main():
     found += [f"never met: {name}" for name in never_met(met)]
     for difference in found[:SHOWN_DIFFERENCES]:
         print(difference)
-    held = ", ".join(f"{met[what]} {what}" for what in ["element", "text in elements", "text in attributes", NUMBER, SHORT_ID, DURATION, ENUM, TIME, BEARER])
+    held = ", ".join(f"{met[what]} {what}" for what in ["element", "text in elements", "text in attributes", NUMBER, SHORT_ID, DURATION, ENUM, LEFT_OUT, TIME, BEARER])
     print(f"XML of {len(chosen)} objects of seed {seed} read back: {held}: {'as listed' if not found else f'{len(found)} DIFFERENCES'}")
     sys.exit(1 if found else 0)
 
