@@ -12,10 +12,15 @@ from streams import run
 
 MOST_OCTETS = 131072  # that leaves_run reads
 
-# Document 01's times; each field of a time that can be wrong, the lowest (2026-04); local times that leave the days of legal dates at either end.
+# Defaults, and octets that are none (2026-05); document 01's times; each field of a time that can be wrong, the lowest (2026-04); local times that leave
+# the days of legal dates at either end.
 BY_HAND = (
     ("K", "00 04", "kind tokens"), ("K", "00 05", "kind unknown"), ("K", "00 34", "kind plain"), ("K", "1C 81", "kind number 3"),
     ("K", "1C 85", "kind unknown"), ("K", "28 80", "kind number 2"), ("K", "29 80", "kind bearer"), ("K", "14 80", "kind plain"),
+    ("D", "14 81 01", "default yes"), ("D", "1C 83 01", "default yes"), ("D", "1C 84 01", "default yes"), ("D", "2E 83 01", "default yes"),
+    ("D", "2E 84 01", "default yes"), ("D", "1C 83 02", "default no"), ("D", "1C 83 00", "default no"), ("D", "1C 83", "default no"),
+    ("D", "1C 83 01 01", "default no"), ("D", "1C 81 01", "default no"), ("D", "2B 83 01", "default no"), ("D", "23 83 01", "default no"),
+    ("D", "14 80 01", "default no"), ("D", "9C 83 01", "default no"), ("D", "1C 01 01", "default no"),
     ("U", "00 01", "text no"), ("U", "01 01", "text yes"), ("U", "00 EE 80 80", "text no"), ("U", "00 EF A4 80", "text yes"),
     ("T", "30 D4 13 1E 02", "time 50000 12 30 0 plus 2 normal 30d4131e02"),
     ("T", "30 D4 0B 1E 3C 00", "time 50000 12 30 15 plus 0 normal 30d40b1e3c00"),

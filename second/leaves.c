@@ -2,8 +2,9 @@
  * leaves.c - the second program's own leaves, one question at a time.
  *
  * Reads questions on standard input, each a letter, a size octet and so many octets, and prints a line
- * for each: K the kind of an element and tag, U whether octets are text, T a time or the field of it that is
- * wrong, O a time's local time, B a bearer.  The functions that answer are those of second.c.
+ * for each: K the kind of an element and tag, D whether octets are the default of an element and tag, U whether
+ * octets are text, T a time or the field of it that is wrong, O a time's local time, B a bearer.  The functions
+ * that answer are those of second.c.
  */
 #define main second_main
 #include "second.c"
@@ -31,6 +32,14 @@ static void answer_kind(const uint8_t *octets, size_t size)
 
     put_string("kind ");
     put_string(may_stand ? body_names[body_of_item(octets[0], octets[1])] : "unknown");
+}
+
+/* Behind an element and a tag stands the value. */
+static void answer_default(const uint8_t *octets, size_t size)
+{
+    bool may_stand = size >= 2 && octets[0] < ELEMENT_TAGS;
+
+    put_string(may_stand && is_default(octets[0], octets[1], octets + 2, size - 2) ? "default yes" : "default no");
 }
 
 /* The first octet says whether token octets may stand in the text. */
@@ -113,6 +122,7 @@ int main(void)
     while (take_octets(head, 2) && take_octets(octets, head[1])) {
         switch (head[0]) {
         case 'K': answer_kind(octets, head[1]); break;
+        case 'D': answer_default(octets, head[1]); break;
         case 'U': answer_text(octets, head[1]); break;
         case 'T': answer_time(octets, head[1]); break;
         case 'O': answer_local(octets, head[1]); break;

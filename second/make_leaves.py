@@ -1,14 +1,14 @@
 #!/usr/bin/env python3
 """Writes questions for second/leaves.c and the program leaves_run:  make_leaves.py > crates/leaves_run/stdin
 
-Every element and tag that could be a known pair; UTF-8 at its edges; document 01's time vectors, the
+Every element and tag that could be a known pair, with the octet of defaults and others; UTF-8 at its edges; document 01's time vectors, the
 edges of each field, and lengths that the flags don't say; bearers of every first octet.  compare_leaves.py
 takes random ones too.
 """
 import random
 import sys
 
-from make_cases import BAD_OCTETS, BEARER, TIME, Maker
+from make_cases import BAD_OCTETS, BEARER, DEFAULT, DEFAULTS, TIME, Maker
 
 
 def question(letter, octets):
@@ -22,6 +22,17 @@ def kinds():
         for tag in range(0x80, 0x8A):
             yield question("K", bytes([element, tag]))
     yield question("K", bytes([0x28, 0xFF]))
+
+
+def defaults():
+    """The octet 01 in each pair that could be a known one; in those that have a default, and some others, octets that differ in one bit, and other lengths."""
+    for element in range(0x40):
+        for tag in range(0x80, 0x88):
+            yield question("D", bytes([element, tag]) + DEFAULT)
+    values = [bytes([1 ^ 1 << bit]) for bit in range(8)] + [b"", b"\1", b"\2", b"\xff", b"\1\1", b"\1\0", b"\0\1", b"\1\1\1"]
+    for pair in DEFAULTS + [(0x23, 0x83), (0x2B, 0x83), (0x14, 0x80), (0x1C, 0x01), (0x1C, 0xFF), (0x9C, 0x83), (0x83, 0x1C)]:
+        for value in values:
+            yield question("D", bytes(pair) + value)
 
 
 def utf8(point, size):
@@ -89,7 +100,7 @@ def bearers():
 
 
 def fixed_questions():
-    for group in (kinds, texts, times, bearers):
+    for group in (kinds, defaults, texts, times, bearers):
         yield from group()
 
 
@@ -97,6 +108,9 @@ def random_octets(rng, letter):
     """What a question asks of: most often a good value or one with a single fault, now and then any octets."""
     if letter == "K":
         return bytes([rng.choice([0, rng.randrange(0x40), rng.randrange(256)]), rng.randrange(256)])
+    if letter == "D":
+        pair = bytes(rng.choice([rng.choice(DEFAULTS), (rng.choice(DEFAULTS)[0], rng.randrange(0x80, 0x88)), (rng.randrange(0x40), rng.randrange(256))]))
+        return pair + rng.choice([DEFAULT, DEFAULT, rng.randbytes(1), rng.randbytes(rng.randrange(4))])
     maker = Maker(rng)
     if letter == "U":
         text = rng.choice([maker.letters, maker.characters])(rng.choice([0, 1, 2, 7, 8, 9, 15, 16, 17, 31, 33, 60]))
@@ -115,7 +129,7 @@ def random_octets(rng, letter):
 def random_questions(seed, count):
     for index in range(count):
         rng = random.Random(f"leaves {seed} {index}")
-        letter = rng.choice("KUTOB")
+        letter = rng.choice("KDUTOB")
         yield question(letter, random_octets(rng, letter))
 
 
