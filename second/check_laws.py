@@ -7,7 +7,8 @@ and is listed; the writer makes it of the tree's records; and both ways to write
 Defaults count for records and store, and not for room; the normal form has none, and two ways to write
 a tree have each its own.
 Where a text of the tree has too many characters, its normal form is refused there, and its records too.
-Where values of a tree are made bad, the first is refused, by all letters, with the field of a time that was made wrong.
+Where values of a tree are made bad, the first is refused, by all letters, with the field of a time that was made wrong; where
+a default stands twice, the second is.
 Beside each tree, a pair of meanings.py that is known to mean the same or not; the ways to make one take turns, so
 COUNT is at least the number of ways.  Then such pairs whose normal forms are no objects, since they are too large.
 
@@ -20,8 +21,8 @@ import sys
 from xml.parsers import expat
 
 from as_xml import KINDS, has_plain, xml
-from make_cases import (COORDINATES, FIELD_LIMIT, JUDGED, OBJECT_LIMIT, PLAIN, TIME, Bad, Encoder, Maker, case_l, case_n, case_s, case_w, case_x,
-                        make_records, named_tree, random_raw)
+from make_cases import (COORDINATES, DEFAULT, FIELD_LIMIT, JUDGED, OBJECT_LIMIT, PLAIN, TIME, Bad, Encoder, Fixed, Maker, Node, case_l, case_n, case_s,
+                        case_w, case_x, make_records, named_tree, random_raw)
 from meanings import NAMED_WAYS, SWOLLEN_WAYS, WAYS, known_pair, random_tree, valued, written
 from streams import run, split_answers
 
@@ -127,8 +128,30 @@ def field_laws(rng):
         found = first_item(raw, lambda _, part: part.node is not None and isinstance(part.node.value, Bad))
         if found and not tree.too_long() and len(raw.octets()) <= OBJECT_LIMIT:
             break
-    (part, place), octets = found, raw.octets()
-    refused = f"refused 9 at {place} field {part.node.value.field}"
+    part, place = found
+    yield from refused_laws(rng, tree, raw.octets(), f"refused 9 at {place} field {part.node.value.field}")
+
+
+def twice_laws(rng):
+    """A tree in which a default stands twice, or beside another value of its attribute: the second of the two is refused."""
+    while True:
+        maker, tree, _ = random_raw(rng)
+        defaults = [(node, part) for node in tree.walk() for part in node.attributes if node.is_default(part)]
+        if not defaults or tree.too_long():
+            continue
+        node, part = rng.choice(defaults)
+        twins = part, Node(part.tag, Fixed(rng.choice([DEFAULT, rng.randbytes(1)])))
+        node.attributes.append(twins[1])
+        raw = Encoder(maker, rng.choice([0, 0.1, 0.3])).raw(tree)
+        if len(raw.octets()) <= OBJECT_LIMIT:
+            break
+    _, second = (below for above, _ in raw.walk() if above.node is node for below in above.body if below.node in twins)
+    _, place = first_item(raw, lambda _, part: part is second)
+    yield from refused_laws(rng, tree, raw.octets(), f"refused 8 at {place}")
+
+
+def refused_laws(rng, tree, octets, refused):
+    """An object that is refused, by all letters, whatever is lent; and the records of its tree."""
     records, pool = records_of(rng, tree)
     yield case_l(rng.choice([0, 65535]), octets), refused
     yield case_n(rng.choice([0, 65535]), 65536, rng.choice([0, 65536]), octets), refused
@@ -149,6 +172,8 @@ def laws(seed, count):
             yield "XML of a tree", case, must
         for case, must in field_laws(rng):
             yield "bad values", case, must
+        for case, must in twice_laws(rng):
+            yield "a default twice", case, must
     for answer, way in SWOLLEN_WAYS:
         yield pair_law(random.Random(f"swollen {seed} {way}"), answer, way, Maker.swollen_tree)
 
