@@ -6,7 +6,7 @@
 
 A random case begins as a tree of known items with its meaning.  From the tree come its octets (in
 any of the many forms that mean the same), its normal form, its records and what has to be lent;
-about half of the cases are then damaged.  Written from documents 01, 02 and 002 alone.
+about half of the cases are then damaged.  Written from documents 01, 02, 002 and, for defaults, 003 alone.
 """
 import argparse
 import random
@@ -57,7 +57,7 @@ ATTRIBUTES = {
 HOLDERS = [tag for tag in ATTRIBUTES if tag > 0x03]  # elements that hold items, the tops apart
 COORDINATES = [0x34, 0x35]
 UNKNOWN_ELEMENTS = [t for t in range(0x05, 0x80) if t != 0x06 and t not in ATTRIBUTES and t not in COORDINATES]
-# The attributes whose default means the same as their absence (2026-05): each is enumerated, and annex F gives a default the octet 0x01.
+# The attributes whose default, by 003, means the same as their absence (2026-05): each is enumerated, and annex F gives a default the octet 0x01.
 DEFAULTS = [(0x14, 0x81), (0x1C, 0x83), (0x1C, 0x84), (0x2E, 0x83), (0x2E, 0x84)]
 DEFAULT = b"\x01"
 SHOWN = {0x10: 8, 0x11: 16, 0x12: 128, 0x1A: 180, 0x1B: 1200}  # the most characters of each one's CDATA (2026-01)

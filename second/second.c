@@ -4,8 +4,8 @@
  * Reads a stream of cases on standard input and prints one answer for each: the listing of a
  * binary SPI object (L), its normal form (N), the octets that records stand for (W), whether two
  * objects mean the same (S), and the XML of an object (X).  Written from documents 01 (the rules)
- * and 02 (the requests that amend them), from 002, TS 102 371 V3.2.1 (the layouts), and for the XML from
- * document 003, TS 102 818, alone, so that it can be held against the proved program.
+ * and 02 (the requests that amend them), from 002, TS 102 371 V3.2.1 (the layouts), and for the XML and the
+ * defaults from document 003, TS 102 818, alone, so that it can be held against the proved program.
  *
  * All memory is fixed; nothing is allocated.  Each octet of an object is looked at once while it is
  * judged and once more while its normal form is written or its meaning compared; twice more for its XML.
@@ -261,7 +261,7 @@ static uint8_t body_of_item(uint8_t parent_tag, uint8_t tag)
     return attribute_body[parent_tag][tag - FIRST_ATTRIBUTE];
 }
 
-/* Whether the value of an item is the default of its kind. */
+/* Whether the value of an item is the default of its attribute. */
 static bool is_default(uint8_t parent_tag, uint8_t tag, const uint8_t *body, size_t length)
 {
     return body_of_item(parent_tag, tag) == ENUMERATED && has_default[parent_tag][tag - FIRST_ATTRIBUTE] &&
