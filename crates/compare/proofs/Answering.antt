@@ -23,7 +23,7 @@ use Rattle.format.specs.Tree.{Items, find}
 use Rattle.format.specs.Tree.Items.{end, item}
 use Rattle.format.specs.Judge.{isText, judge}
 use Rattle.format.specs.Judge.Judged.{accepted}
-use Rattle.format.specs.Meaning.{opens, isChild, valueIn, attributesIn, cdataIn, leafOctets, means, meaningOf, normalOf}
+use Rattle.format.specs.Meaning.{opens, isChild, valueIn, counted, attributesIn, cdataIn, leafOctets, means, meaningOf, normalOf}
 use Rattle.format.specs.Meaning.Meaning.{element, leaf}
 use Rattle.format.specs.Calls.{judgeAnswer}
 use Rattle.format.specs.Same.{sameOctets, sameMeaning, sameAnswer, hasNormal, isNormal}
@@ -58,7 +58,7 @@ module _ (es fs : Entries) (h : (o : List ℕ) → expanded es o ≡ expanded fs
 
   attributes-same : (p : ℕ) (t : Items) → attributesIn es p t ≡ attributesIn fs p t
   unfolding attributesIn
-  attributes-same p t = fun-ext (λ tag. ap (λ x. cond (attribute tag) x none) (value-same (find tag t) (known p tag)))
+  attributes-same p t = fun-ext (λ tag. ap (λ x. cond (attribute tag) (counted p tag x) none) (value-same (find tag t) (known p tag)))
 
   data-same : (o : Option (List ℕ)) (t : Items) → find 1 t ≡ o → cdataIn es t ≡ cdataIn fs t
   unfolding cdataIn

@@ -1,4 +1,5 @@
--- Pairs of objects and objects with their answers, which an independent program gave: what `same` and `is_normal` say of them, computed.
+-- Pairs of objects and objects with their answers, which an independent program gave, or change request 2026-05 of its defaults: what `same` and `is_normal` say
+-- of them, computed.
 use mathlib.Core.Path.{_≡_, refl}
 use mathlib.Core.Bool.{Bool, true, false}
 use mathlib.Core.List.{List, [], _∷_, map}
@@ -7,13 +8,13 @@ use Rattle.octets.specs.Numbers.{among, value, digits}
 use Rattle.octets.specs.Header.{headerSize, bodySize, lengthField, framed}
 use Rattle.text.specs.Text.{layout, token, character, single, goesOn, utf8, text}
 use Rattle.text.specs.Tokens.{cut, entries, filled, isTable, entry, orItself, stands, expanded, present, covers, covered, starts, shownLength}
-use Rattle.values.specs.Table.{rows, kindIn, known, attribute}
+use Rattle.values.specs.Table.{rows, kindIn, known, attribute, defaults, defaultIn}
 use Rattle.values.specs.Times.{bits, longFlag, offsetFlag, offsetOctet, timeOf, inRange, isTime, wrongPart, wrongTime, sign, timeOctets}
 use Rattle.values.specs.Bearers.{ensembleFlag, longSidFlag, ensembleOf, bearerOf, isBearer, ensembleBit, ensembleOctets, bearerOctets}
-use Rattle.values.specs.Values.{width, fits, wrongField, meant, octetsOf}
+use Rattle.values.specs.Values.{width, fits, wrongField, meant, octetsOf, isDefault}
 use Rattle.format.specs.Tree.{find, kindOf, count, records}
 use Rattle.format.specs.Judge.{isKnown, isItems, isTokens, isText, isValue, wrongIn, isTop, allowed, latest, stageAfter, limit, notAbove, shown, ofTop, rule, valueRule, first, kindRules, itemRules, own, late, lateBefore, lateAfter, broken, within, waits, next, unless, followed, joined, byKind, items, outermost, judge}
-use Rattle.format.specs.Meaning.{opens, isChild, valueIn, attributesIn, cdataIn, leafOctets, means, tableIn, tableOf, maybe, rising, encode}
+use Rattle.format.specs.Meaning.{opens, isChild, valueIn, counted, attributesIn, cdataIn, leafOctets, means, tableIn, tableOf, maybe, rising, encode}
 use Rattle.format.specs.declared.SameAnswer.{SameAnswer}
 use Rattle.format.specs.declared.SameAnswer.the-variants.{Same, Different, FirstRefused, SecondRefused}
 use Rattle.format.specs.Answers.{refusal, wrongValue}
@@ -83,6 +84,22 @@ cut-short = 0x03 ∷ 0x01 ∷ []
 abbrev pub mistimed : List ℕ
 mistimed = 0x03 ∷ 0x06 ∷ 0x81 ∷ 0x04 ∷ 0x30 ∷ 0xD4 ∷ 0x06 ∷ 0x3C ∷ []
 
+-- a schedule with a programme
+abbrev pub unsaid : List ℕ
+unsaid = 0x02 ∷ 0x04 ∷ 0x21 ∷ 0x02 ∷ 0x1C ∷ 0x00 ∷ []
+
+-- the same with the recommendation "no", which is its default
+abbrev pub said-no : List ℕ
+said-no = 0x02 ∷ 0x07 ∷ 0x21 ∷ 0x05 ∷ 0x1C ∷ 0x03 ∷ 0x83 ∷ 0x01 ∷ 0x01 ∷ []
+
+-- with the recommendation "yes"
+abbrev pub said-yes : List ℕ
+said-yes = 0x02 ∷ 0x07 ∷ 0x21 ∷ 0x05 ∷ 0x1C ∷ 0x03 ∷ 0x83 ∷ 0x01 ∷ 0x02 ∷ []
+
+-- with the broadcast "on-air", which is its default, and then the recommendation "yes"
+abbrev pub on-air-yes : List ℕ
+on-air-yes = 0x02 ∷ 0x0A ∷ 0x21 ∷ 0x08 ∷ 0x1C ∷ 0x06 ∷ 0x84 ∷ 0x01 ∷ 0x01 ∷ 0x83 ∷ 0x01 ∷ 0x02 ∷ []
+
 abbrev Pair : Type 0
 Pair = List ℕ × List ℕ × SameAnswer
 
@@ -101,7 +118,14 @@ pairs =
     ∷ (tokens, empty-cdata, Different)
     ∷ (cut-short, top, FirstRefused (refusal 3 0))
     ∷ (top, cut-short, SecondRefused (refusal 3 0))
-    ∷ (top, mistimed, SecondRefused (wrongValue 2 3)) ∷ []
+    ∷ (top, mistimed, SecondRefused (wrongValue 2 3))
+    ∷ (said-no, unsaid, Same)
+    ∷ (unsaid, said-no, Same)
+    ∷ (said-no, said-no, Same)
+    ∷ (said-no, said-yes, Different)
+    ∷ (said-yes, unsaid, Different)
+    ∷ (on-air-yes, said-yes, Same)
+    ∷ (on-air-yes, said-no, Different) ∷ []
 
 abbrev Form : Type 0
 Form = List ℕ × Bool
@@ -122,12 +146,16 @@ forms =
     ∷ (with-unknown, false)
     ∷ (tokens, false)
     ∷ (no-tokens, true)
-    ∷ (cut-short, false) ∷ []
+    ∷ (cut-short, false)
+    ∷ (unsaid, true)
+    ∷ (said-no, false)
+    ∷ (said-yes, true)
+    ∷ (on-air-yes, false) ∷ []
 
 pub record Computed : Type 0 where
   pub compared : map (λ c. sameAnswer (judge (c .0)) (judge (c .1))) pairs ≡ map (λ c. c .2) pairs
   pub formed : map (λ c. isNormal (c .0)) forms ≡ map (λ c. c .1) forms
 
 pub computed : Computed
-unfolding among value digits headerSize bodySize lengthField framed layout token character single goesOn utf8 text cut entries filled isTable entry orItself stands expanded present covers covered starts shownLength rows kindIn known attribute bits longFlag offsetFlag offsetOctet timeOf inRange isTime wrongPart wrongTime sign timeOctets ensembleFlag longSidFlag ensembleOf bearerOf isBearer ensembleBit ensembleOctets bearerOctets width fits wrongField meant octetsOf find kindOf count records isKnown isItems isTokens isText isValue wrongIn isTop allowed latest stageAfter limit notAbove shown ofTop rule valueRule first kindRules itemRules own late lateBefore lateAfter broken within waits next unless followed joined byKind items outermost judge opens isChild valueIn attributesIn cdataIn leafOctets means tableIn tableOf maybe rising encode sameOctets sameValue sameMaybe sameAttributes sameMeaning sameAnswer hasNormal isNormal
+unfolding among value digits headerSize bodySize lengthField framed layout token character single goesOn utf8 text cut entries filled isTable entry orItself stands expanded present covers covered starts shownLength rows kindIn known attribute defaults defaultIn bits longFlag offsetFlag offsetOctet timeOf inRange isTime wrongPart wrongTime sign timeOctets ensembleFlag longSidFlag ensembleOf bearerOf isBearer ensembleBit ensembleOctets bearerOctets width fits wrongField meant octetsOf isDefault find kindOf count records isKnown isItems isTokens isText isValue wrongIn isTop allowed latest stageAfter limit notAbove shown ofTop rule valueRule first kindRules itemRules own late lateBefore lateAfter broken within waits next unless followed joined byKind items outermost judge opens isChild valueIn counted attributesIn cdataIn leafOctets means tableIn tableOf maybe rising encode sameOctets sameValue sameMaybe sameAttributes sameMeaning sameAnswer hasNormal isNormal
 computed = record { compared = refl; formed = refl }

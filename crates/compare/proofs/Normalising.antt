@@ -17,20 +17,22 @@ use Rattle.text.specs.Tokens.{Entries, expanded}
 use Rattle.text.proofs.Words.{expanded-empty}
 use Rattle.values.specs.declared.Kind.{Kind}
 use Rattle.values.specs.declared.Kind.the-variants.{HoldsItems, HoldsTokens, HoldsText, HoldsPlain, HoldsTime, HoldsBearer, HoldsNumber}
-use Rattle.values.specs.Calls.{normalOctets}
+use Rattle.values.specs.Calls.{normalOctets, defaultOctets}
 use Rattle.values.specs.Table.{known, attribute}
 use Rattle.values.specs.Values.{Value, fits, meant, octetsOf}
 use Rattle.values.proofs.Laws.{asItStands}
+use Rattle.values.proofs.DefaultValues.{element-keeps}
 use Rattle.values.proofs.Known.{ElementTag, items-tag, items-no-attribute, known-anywhere, known-cdata, known-four, attribute-kind, element-kind, elementRow}
 use Rattle.format.specs.Tree.{Items, find}
 use Rattle.format.specs.Tree.Items.{end, item}
 use Rattle.format.specs.Judge.{Context, isKnown, isItems, isText, isValue, latest, stageAfter, next, within, outermost, judge}
 use Rattle.format.specs.Judge.Judged.{accepted}
-use Rattle.format.specs.Meaning.{opens, isChild, valueIn, attributesIn, cdataIn, leafOctets, means, tableIn, tableOf, maybe, rising, encode, normalOf}
+use Rattle.format.specs.Meaning.{opens, isChild, valueIn, counted, attributesIn, cdataIn, leafOctets, means, tableIn, tableOf, maybe, rising, encode, normalOf}
 use Rattle.format.specs.Meaning.Meaning.{element, leaf}
 use Rattle.format.specs.Same.{sameOctets}
 use Rattle.format.proofs.Rules.{held}
 use Rattle.format.proofs.Force.{top-known}
+use Rattle.format.proofs.Defaults.{counted-octets, counted-some}
 use Rattle.format.proofs.Told.{top, some-octet}
 use Rattle.format.proofs.Means.{items-opens, items-known, value-no-items, child-element, means-attribute, means-cdata}
 use Rattle.format.proofs.Induction.{Cases, judged-all, Unbroken, bodyOf, laterOf, inAt, body-octets, later-octets, shorter}
@@ -53,30 +55,31 @@ N es p last t = rising (255 - last) (suc last) (attributesIn es p t) ++ (encode 
 -- ---- attributes of a tree
 
 absent-attribute : (es : Entries) (p : ℕ) (t : Items) (b : ℕ) → (attribute b ≡ true → find b t ≡ none) → attributesIn es p t b ≡ none
-unfolding attributesIn valueIn
+unfolding attributesIn valueIn counted
 absent-attribute es p t b h = go (attribute b) refl
   where
-    go : (x : Bool) → attribute b ≡ x → cond x (valueIn es (find b t) (known p b)) none ≡ none
+    go : (x : Bool) → attribute b ≡ x → cond x (counted p b (valueIn es (find b t) (known p b))) none ≡ none
     go true e = rw (h e)
     go false e = refl
 
-present-attribute : (es : Entries) (p tag from : ℕ) (body : List ℕ) (w u : Items) (k : Kind) → attribute tag ≡ true → known p tag ≡ some k
-    → attributesIn es p (item tag from body w u) tag ≡ some (meant es k body)
+-- one that is present counts unless it is its default
+present-attribute : (es : Entries) (p tag from : ℕ) (body : List ℕ) (w u : Items) (k : Kind) → attribute tag ≡ true → known p tag ≡ some k → fits k body ≡ true
+    → attributesIn es p (item tag from body w u) tag ≡ cond (defaultOctets p tag body) none (some (meant es k body))
 unfolding attributesIn valueIn find
-present-attribute es p tag from body w u k a e = rw (a, eq-eqb tag tag refl, e)
+present-attribute es p tag from body w u k a e f = rw (a, eq-eqb tag tag refl, e) (counted-octets es p tag k body e f)
 
 other-attribute : (es : Entries) (p tag from : ℕ) (body : List ℕ) (w u : Items) (b : ℕ) → (b ≡ tag → ⊥) → attributesIn es p (item tag from body w u) b ≡ attributesIn es p u b
 unfolding attributesIn find
 other-attribute es p tag from body w u b d = rw (ne-eqb b tag d)
 
--- an attribute that is present is known
+-- an attribute that counts is known
 attribute-known : (es : Entries) (p : ℕ) (t : Items) (b : ℕ) (v : Value) → attributesIn es p t b ≡ some v → (attribute b ≡ true) × (isKnown (known p b) ≡ true)
 unfolding attributesIn valueIn isKnown
 attribute-known es p t b v e = go (attribute b) (find b t) (known p b) e
   where
-    go : (x : Bool) (o : Option (List ℕ)) (k : Option Kind) → cond x (valueIn es o k) none ≡ some v → (x ≡ true) × (isKnown k ≡ true)
-    go true none k h = absurd (Option·none-ne-some v h)
-    go true (some o) none h = absurd (Option·none-ne-some v h)
+    go : (x : Bool) (o : Option (List ℕ)) (k : Option Kind) → cond x (counted p b (valueIn es o k)) none ≡ some v → (x ≡ true) × (isKnown k ≡ true)
+    go true none k h = absurd (Option·none-ne-some v (counted-some p b none v h))
+    go true (some o) none h = absurd (Option·none-ne-some v (counted-some p b none v h))
     go true (some o) (some k) h = (refl, refl)
     go false o k h = absurd (Option·none-ne-some v h)
 
@@ -88,16 +91,17 @@ find-other : (b tag from : ℕ) (body : List ℕ) (w u : Items) → (b ≡ tag �
 unfolding find
 find-other b tag from body w u d = rw (ne-eqb b tag d)
 
--- ---- the first octet of a normal form is the tag of a known item
+-- ---- the first octet of a normal form is the tag of a known item, and of an attribute only if that counts
 
 abbrev AllKnown : ℕ → Items → Type 0
 AllKnown p end = Unit {0}
 AllKnown p (item tag from body w u) = (isKnown (known p tag) ≡ true) × AllKnown p u
 
-pub record Head (p last x : ℕ) : Type 0 where
+pub record Head (p last : ℕ) (f : ℕ → Option Value) (x : ℕ) : Type 0 where
   isOne : isKnown (known p x) ≡ true
   notTable : x ≡ 4 → ⊥
   higher : attribute x ≡ true → last < x
+  counts : attribute x ≡ true → f x ≡ none → ⊥
 
 child-tag : (tag : ℕ) → isChild tag ≡ true → ElementTag tag
 unfolding isChild
@@ -116,21 +120,21 @@ head-of : (x tag : ℕ) (body rest xs : List ℕ) → framed tag body ++ rest �
 unfolding framed
 head-of x tag body rest xs e = ap (λ o. getD o 0 0) e
 
-module _ (es : Entries) (p last : ℕ) where
-  cdata-head : (x : ℕ) (xs : List ℕ) (cd : Option (List ℕ)) → maybe (framed 1) cd ≡ x ∷ xs → Head p last x
+module _ (es : Entries) (p last : ℕ) (f : ℕ → Option Value) where
+  cdata-head : (x : ℕ) (xs : List ℕ) (cd : Option (List ℕ)) → maybe (framed 1) cd ≡ x ∷ xs → Head p last f x
   unfolding maybe isKnown attribute
   cdata-head x xs none e = absurd (no-cons x xs e)
   cdata-head x xs (some o) e =
       let q : 1 ≡ x = head-of x 1 o [] xs (append-nil (framed 1 o) ∙ e) in
-      subst (Head p last) q (record { isOne = ap isKnown (known-cdata p); notTable = λ f. omega arith; higher = λ a. absurd (false≢true a) })
+      subst (Head p last f) q (record { isOne = ap isKnown (known-cdata p); notTable = λ g. omega arith; higher = λ a. absurd (false≢true a); counts = λ a. absurd (false≢true a) })
 
-  child-head : (x : ℕ) (xs : List ℕ) (tag : ℕ) (body rest : List ℕ) → isChild tag ≡ true → isKnown (known p tag) ≡ true → framed tag body ++ rest ≡ x ∷ xs → Head p last x
+  child-head : (x : ℕ) (xs : List ℕ) (tag : ℕ) (body rest : List ℕ) → isChild tag ≡ true → isKnown (known p tag) ≡ true → framed tag body ++ rest ≡ x ∷ xs → Head p last f x
   child-head x xs tag body rest c k e =
       let g = child-tag tag c in
-      subst (Head p last) (head-of x tag body rest xs e)
-      (record { isOne = k; notTable = eqb-false tag 4 (g .notTable); higher = λ a. absurd (false≢true (sym (g .notAttribute) ∙ a)) })
+      subst (Head p last f) (head-of x tag body rest xs e)
+      (record { isOne = k; notTable = eqb-false tag 4 (g .notTable); higher = λ a. absurd (false≢true (sym (g .notAttribute) ∙ a)); counts = λ a. absurd (false≢true (sym (g .notAttribute) ∙ a)) })
 
-  later-head : (t : Items) → AllKnown p t → (x : ℕ) (xs : List ℕ) (cd : Option (List ℕ)) → encode (means es t) ++ maybe (framed 1) cd ≡ x ∷ xs → Head p last x
+  later-head : (t : Items) → AllKnown p t → (x : ℕ) (xs : List ℕ) (cd : Option (List ℕ)) → encode (means es t) ++ maybe (framed 1) cd ≡ x ∷ xs → Head p last f x
   unfolding means encode
   later-head end k x xs cd e = cdata-head x xs cd e
   later-head (item tag from body w u) k x xs cd e = go (isChild tag) (opens tag) refl (later-head u (k .1) x xs cd) e
@@ -138,15 +142,16 @@ module _ (es : Entries) (p last : ℕ) where
       inner : List ℕ
       inner = rising 128 0x80 (attributesIn es tag w) ++ (encode (means es w) ++ maybe (framed 1) (cdataIn es w))
 
-      go : (b o : Bool) → isChild tag ≡ b → (encode (means es u) ++ maybe (framed 1) cd ≡ x ∷ xs → Head p last x)
+      go : (b o : Bool) → isChild tag ≡ b → (encode (means es u) ++ maybe (framed 1) cd ≡ x ∷ xs → Head p last f x)
           → encode (cond b (cond o (element tag (attributesIn es tag w) (means es w) (cdataIn es w) (means es u)) (leaf tag (leafOctets es tag body) (means es u))) (means es u)) ++ maybe (framed 1) cd ≡ x ∷ xs
-          → Head p last x
+          → Head p last f x
       go true true c ih q = child-head x xs tag inner (encode (means es u) ++ maybe (framed 1) cd) c (k .0) (sym (append-assoc (framed tag inner) (encode (means es u)) (maybe (framed 1) cd)) ∙ q)
       go true false c ih q =
           child-head x xs tag (leafOctets es tag body) (encode (means es u) ++ maybe (framed 1) cd) c (k .0) (sym (append-assoc (framed tag (leafOctets es tag body)) (encode (means es u)) (maybe (framed 1) cd)) ∙ q)
       go false o c ih q = ih q
 
-  heads : (t : Items) → AllKnown p t → 0x7F ≤ last → last < 256 → (x : ℕ) (xs : List ℕ) → N es p last t ≡ x ∷ xs → Head p last x
+module _ (es : Entries) (p last : ℕ) where
+  heads : (t : Items) → AllKnown p t → 0x7F ≤ last → last < 256 → (x : ℕ) (xs : List ℕ) → N es p last t ≡ x ∷ xs → Head p last (attributesIn es p t) x
   heads t k l m x xs e = go (first-of (255 - last) (suc last) (attributesIn es p t))
     where
       f : ℕ → Option Value
@@ -155,28 +160,29 @@ module _ (es : Entries) (p last : ℕ) where
       R : List ℕ
       R = encode (means es t) ++ maybe (framed 1) (cdataIn es t)
 
-      go : First (255 - last) (suc last) f → Head p last x
-      go (missing h) = later-head t k x xs (cdataIn es t) (sym (ap (λ o. o ++ R) (rising-none (255 - last) (suc last) f h)) ∙ e)
+      go : First (255 - last) (suc last) f → Head p last f x
+      go (missing h) = later-head es p last f t k x xs (cdataIn es t) (sym (ap (λ o. o ++ R) (rising-none (255 - last) (suc last) f h)) ∙ e)
       go (found b v y z h q) =
           let s : framed b (octetsOf v) ++ (rising (255 - b) (suc b) f ++ R) ≡ x ∷ xs =
           sym (append-assoc (framed b (octetsOf v)) (rising (255 - b) (suc b) f) R) ∙ sym (ap (λ o. o ++ R) (rising-first last b f v (omega arith) (omega arith) (λ a c d. h a (omega arith) d) q)) ∙ e in
           let g = attribute-known es p t b v q in
-          subst (Head p last) (head-of x b (octetsOf v) (rising (255 - b) (suc b) f ++ R) xs s)
-          (record { isOne = g .1; notTable = λ i. omega arith; higher = λ a. omega arith })
+          subst (Head p last f) (head-of x b (octetsOf v) (rising (255 - b) (suc b) f ++ R) xs s)
+          (record { isOne = g .1; notTable = λ i. omega arith; higher = λ a. omega arith; counts = λ a n. Option·none-ne-some v (sym n ∙ q) })
 
 -- ---- what an item adds to the normal form
 
 -- an attribute, where no lower one is behind it
-attribute-adds : (es : Entries) (p last tag from : ℕ) (body : List ℕ) (w u : Items) (k : Kind) → attribute tag ≡ true → known p tag ≡ some k → last < tag → tag < 256
+attribute-adds : (es : Entries) (p last tag from : ℕ) (body : List ℕ) (w u : Items) (k : Kind) → attribute tag ≡ true → known p tag ≡ some k → fits k body ≡ true
+    → defaultOctets p tag body ≡ false → last < tag → tag < 256
     → ((a : ℕ) → last < a → a < tag → attributesIn es p (item tag from body w u) a ≡ none)
     → N es p last (item tag from body w u) ≡ framed tag (octetsOf (meant es k body)) ++ N es p tag u
 unfolding attribute
-attribute-adds es p last tag from body w u k a e l m h =
+attribute-adds es p last tag from body w u k a e v c l m h =
     let t = item tag from body w u in
     let R = encode (means es t) ++ maybe (framed 1) (cdataIn es t) in
     let d : tag ≡ 1 → ⊥ = λ q. omega (arith, ltb-true 0x7F tag a) in
     let r : rising (255 - last) (suc last) (attributesIn es p t) ≡ framed tag (octetsOf (meant es k body)) ++ rising (255 - tag) (suc tag) (attributesIn es p u) =
-    rising-first last tag (attributesIn es p t) (meant es k body) l m h (present-attribute es p tag from body w u k a e)
+    rising-first last tag (attributesIn es p t) (meant es k body) l m h (present-attribute es p tag from body w u k a e v ∙ ap (λ b. cond b none (some (meant es k body))) c)
     ∙ ap (λ o. framed tag (octetsOf (meant es k body)) ++ o) (rising-same (255 - tag) (suc tag) (attributesIn es p t) (attributesIn es p u) (λ b y. other-attribute es p tag from body w u b (λ q. omega arith))) in
     let s : R ≡ encode (means es u) ++ maybe (framed 1) (cdataIn es u) = ap₂ (λ x y. encode x ++ maybe (framed 1) y) (means-attribute es tag from body w u a) (cdata-later es tag from body w u d) in
     ap₂ (λ x y. x ++ y) r s ∙ append-assoc (framed tag (octetsOf (meant es k body))) (rising (255 - tag) (suc tag) (attributesIn es p u)) (encode (means es u) ++ maybe (framed 1) (cdataIn es u))
@@ -253,8 +259,8 @@ pub record Own (p last tag : ℕ) (s : List ℕ) : Type 0 where
   whole : isWhole s ≡ true
   shortest : isShortest s ≡ true
   rises : isRising last tag ≡ true
-  written : isWritten (writtenAs p tag) (firstBody s) ≡ true
-  inside : cond (isItems (writtenAs p tag)) (shaped tag 0x7F (firstBody s)) true ≡ true
+  written : isWritten (writtenAs p tag (firstBody s)) (firstBody s) ≡ true
+  inside : cond (isItems (writtenAs p tag (firstBody s))) (shaped tag 0x7F (firstBody s)) true ≡ true
   later : shaped p (cond (attribute tag) tag last) (afterFirst s) ≡ true
 
 module _ (p last tag : ℕ) (rest : List ℕ) where
@@ -262,7 +268,7 @@ module _ (p last tag : ℕ) (rest : List ℕ) where
   s = tag ∷ rest
 
   abbrev inner : Bool
-  inner = cond (isItems (writtenAs p tag)) (shaped tag 0x7F (firstBody s)) true
+  inner = cond (isItems (writtenAs p tag (firstBody s))) (shaped tag 0x7F (firstBody s)) true
 
   abbrev after : Bool
   after = shaped p (cond (attribute tag) tag last) (afterFirst s)
@@ -271,13 +277,13 @@ module _ (p last tag : ℕ) (rest : List ℕ) where
   own-parts h =
       let g : ownShape p last tag s && inner && after ≡ true = sym (shaped-item p last tag rest) ∙ h in
       let o = and-left (ownShape p last tag s) inner (and-left (ownShape p last tag s && inner) after g) in
-      let wsr = and-left (isWhole s && isShortest s && isRising last tag) (isWritten (writtenAs p tag) (firstBody s)) o in
+      let wsr = and-left (isWhole s && isShortest s && isRising last tag) (isWritten (writtenAs p tag (firstBody s)) (firstBody s)) o in
       let ws = and-left (isWhole s && isShortest s) (isRising last tag) wsr in
       record {
         whole = and-left (isWhole s) (isShortest s) ws;
         shortest = and-right (isWhole s) (isShortest s) ws;
         rises = and-right (isWhole s && isShortest s) (isRising last tag) wsr;
-        written = and-right (isWhole s && isShortest s && isRising last tag) (isWritten (writtenAs p tag) (firstBody s)) o;
+        written = and-right (isWhole s && isShortest s && isRising last tag) (isWritten (writtenAs p tag (firstBody s)) (firstBody s)) o;
         inside = and-right (ownShape p last tag s) inner (and-left (ownShape p last tag s && inner) after g);
         later = and-right (ownShape p last tag s && inner) after g;
       }
@@ -285,15 +291,15 @@ module _ (p last tag : ℕ) (rest : List ℕ) where
   own-whole : Own p last tag s → shaped p last s ≡ true
   own-whole o = shaped-item p last tag rest ∙ rw (o .whole, o .shortest, o .rises, o .written, o .inside, o .later)
 
--- an item that is unknown or the token table
+-- an item that is unknown, the token table or a default
 module _ (p tag : ℕ) (rest : List ℕ) (t : Items) where
-  no-shape : isWritten (writtenAs p tag) (firstBody (tag ∷ rest)) ≡ false → (last : ℕ) → shaped p last (tag ∷ rest) ≡ true → ⊥
+  no-shape : isWritten (writtenAs p tag (firstBody (tag ∷ rest))) (firstBody (tag ∷ rest)) ≡ false → (last : ℕ) → shaped p last (tag ∷ rest) ≡ true → ⊥
   no-shape n last h = false≢true (sym n ∙ own-parts p last tag rest h .written)
 
-  no-normal : AllKnown p t → (Head p 0x7F tag → ⊥) → (es : Entries) (last : ℕ) → 0x7F ≤ last → last < 256 → tag ∷ rest ≡ N es p last t → ⊥
+  no-normal : AllKnown p t → ((es : Entries) → Head p 0x7F (attributesIn es p t) tag → ⊥) → (es : Entries) (last : ℕ) → 0x7F ≤ last → last < 256 → tag ∷ rest ≡ N es p last t → ⊥
   no-normal k n es last l m e =
       let h = heads es p last t k l m tag rest (sym e) in
-      n (record { isOne = h .isOne; notTable = h .notTable; higher = λ a. omega (arith, h .higher a) })
+      n es (record { isOne = h .isOne; notTable = h .notTable; higher = λ a. omega (arith, h .higher a); counts = h .counts })
 
 latest-two : (tag : ℕ) → latest tag ≤ 2
 unfolding latest
@@ -346,17 +352,21 @@ element-stands tag HoldsBearer r = r
 element-stands tag (HoldsNumber n) r = r
 
 -- which items are written
-unwritten : (p tag : ℕ) → known p tag ≡ none → writtenAs p tag ≡ none
+unwritten : (p tag : ℕ) (o : List ℕ) → known p tag ≡ none → writtenAs p tag o ≡ none
 unfolding writtenAs
-unwritten p tag e = rw e (cond-same {A = Option Kind} (eqb tag 4) none)
+unwritten p tag o e = rw e (cond-same {A = Option Kind} (eqb tag 4 || defaultOctets p tag o) none)
 
-unwritten-table : (p tag : ℕ) → eqb tag 4 ≡ true → writtenAs p tag ≡ none
+unwritten-table : (p tag : ℕ) (o : List ℕ) → eqb tag 4 ≡ true → writtenAs p tag o ≡ none
 unfolding writtenAs
-unwritten-table p tag f = rw f
+unwritten-table p tag o f = rw f
 
-written-known : (p tag : ℕ) → eqb tag 4 ≡ false → writtenAs p tag ≡ known p tag
+unwritten-default : (p tag : ℕ) (o : List ℕ) → defaultOctets p tag o ≡ true → writtenAs p tag o ≡ none
 unfolding writtenAs
-written-known p tag f = rw f
+unwritten-default p tag o d = rw (d, or-true (eqb tag 4))
+
+written-known : (p tag : ℕ) (o : List ℕ) → eqb tag 4 ≡ false → defaultOctets p tag o ≡ false → writtenAs p tag o ≡ known p tag
+unfolding writtenAs
+written-known p tag o f d = rw (f, d)
 
 leaf-itself : (tag : ℕ) (o : List ℕ) → leafOctets [] tag o ≡ o
 unfolding leafOctets
@@ -411,11 +421,11 @@ module _ (c : Context) (at tag : ℕ) (rest : List ℕ) (u : Items) (q : Unbroke
     tableless = λ last h. absurd (no last h);
     above = λ last b h a l. absurd (no last h);
     forth = λ last l m h. absurd (no last h);
-    back = λ es last l m s x. absurd (no-normal p tag rest u (later .allKnown) (λ h. false≢true (sym (ap isKnown e) ∙ h .isOne)) es last l m x);
+    back = λ es last l m s x. absurd (no-normal p tag rest u (later .allKnown) (λ fs h. false≢true (sym (ap isKnown e) ∙ h .isOne)) es last l m x);
   }
     where
       no : (last : ℕ) → shaped p last whole ≡ true → ⊥
-      no = no-shape p tag rest u (ap (λ k. isWritten k body) (unwritten p tag e))
+      no = no-shape p tag rest u (ap (λ k. isWritten k body) (unwritten p tag body e))
 
   shape-table : eqb tag 4 ≡ true → known p tag ≡ some HoldsTokens → Shape p (c .stage) whole (item tag from body end u)
   unfolding isWritten isKnown
@@ -428,14 +438,35 @@ module _ (c : Context) (at tag : ℕ) (rest : List ℕ) (u : Items) (q : Unbroke
     tableless = λ last h. absurd (no last h);
     above = λ last b h a l. absurd (no last h);
     forth = λ last l m h. absurd (no last h);
-    back = λ es last l m s x. absurd (no-normal p tag rest (item tag from body end u) (ap isKnown e, later .allKnown) (λ h. h .notTable (eqb-true tag 4 f)) es last l m x);
+    back = λ es last l m s x. absurd (no-normal p tag rest (item tag from body end u) (ap isKnown e, later .allKnown) (λ fs h. h .notTable (eqb-true tag 4 f)) es last l m x);
   }
     where
       no : (last : ℕ) → shaped p last whole ≡ true → ⊥
-      no = no-shape p tag rest u (ap (λ k. isWritten k body) (unwritten-table p tag f))
+      no = no-shape p tag rest u (ap (λ k. isWritten k body) (unwritten-table p tag body f))
 
-  -- an attribute
-  module _ (k : Kind) (a : attribute tag ≡ true) (e : known p tag ≡ some k) where
+  -- an attribute that is its default
+  shape-default : (k : Kind) → attribute tag ≡ true → known p tag ≡ some k → defaultOctets p tag body ≡ true → Shape p (c .stage) whole (item tag from body end u)
+  unfolding isWritten isKnown
+  shape-default k a e d = record {
+    allKnown = (ap isKnown e, later .allKnown);
+    ended = λ z. absurd (some-octet tag rest z);
+    closed = is-closed;
+    barred = is-barred end;
+    noTable = λ last h. absurd (no last h);
+    tableless = λ last h. absurd (no last h);
+    above = λ last b h g l. absurd (no last h);
+    forth = λ last l m h. absurd (no last h);
+    back = λ es last l m s x. absurd (no-normal p tag rest (item tag from body end u) (ap isKnown e, later .allKnown) (λ fs h. h .counts a (uncounted fs)) es last l m x);
+  }
+    where
+      no : (last : ℕ) → shaped p last whole ≡ true → ⊥
+      no = no-shape p tag rest u (ap (λ z. isWritten z body) (unwritten-default p tag body d))
+
+      uncounted : (es : Entries) → attributesIn es p (item tag from body end u) tag ≡ none
+      uncounted es = present-attribute es p tag from body end u k a e (value-here k e) ∙ ap (λ b. cond b none (some (meant es k body))) d
+
+  -- any other
+  module _ (k : Kind) (a : attribute tag ≡ true) (e : known p tag ≡ some k) (d : defaultOctets p tag body ≡ false) where
     abbrev tree : Items
     tree = item tag from body end u
 
@@ -446,10 +477,10 @@ module _ (c : Context) (at tag : ℕ) (rest : List ℕ) (u : Items) (q : Unbroke
     not-table : eqb tag 4 ≡ false
     not-table = ne-eqb tag 4 (λ z. omega (arith, above-tag))
 
-    written-here : writtenAs p tag ≡ some k
-    written-here = written-known p tag not-table ∙ e
+    written-here : writtenAs p tag body ≡ some k
+    written-here = written-known p tag body not-table d ∙ e
 
-    no-items : isItems (writtenAs p tag) ≡ false
+    no-items : isItems (writtenAs p tag body) ≡ false
     no-items = ap isItems written-here ∙ value-no-items k (attribute-kind p tag k a e)
 
     later-last : (last : ℕ) → cond (attribute tag) tag last ≡ tag
@@ -467,11 +498,11 @@ module _ (c : Context) (at tag : ℕ) (rest : List ℕ) (u : Items) (q : Unbroke
 
         go : First (255 - last) (suc last) f → (b : ℕ) → last < b → b < tag → f b ≡ none
         go (missing h) b y z = h b (omega arith) (omega (arith, os 0))
-        go (found d v y z h g) b i j =
-            let r : framed d (octetsOf v) ++ (rising (255 - d) (suc d) f ++ R) ≡ whole =
-            sym (append-assoc (framed d (octetsOf v)) (rising (255 - d) (suc d) f) R)
-            ∙ sym (ap (λ o. o ++ R) (rising-first last d f v (omega arith) (omega arith) (λ n m o. h n (omega arith) o) g)) ∙ sym x in
-            let s : d ≡ tag = head-of tag d (octetsOf v) (rising (255 - d) (suc d) f ++ R) rest r in
+        go (found t v y z h g) b i j =
+            let r : framed t (octetsOf v) ++ (rising (255 - t) (suc t) f ++ R) ≡ whole =
+            sym (append-assoc (framed t (octetsOf v)) (rising (255 - t) (suc t) f) R)
+            ∙ sym (ap (λ o. o ++ R) (rising-first last t f v (omega arith) (omega arith) (λ n m o. h n (omega arith) o) g)) ∙ sym x in
+            let s : t ≡ tag = head-of tag t (octetsOf v) (rising (255 - t) (suc t) f ++ R) rest r in
             h b (omega arith) (omega arith)
 
     attribute-forth : (last : ℕ) → 0x7F ≤ last → last < 256 → shaped p last whole ≡ true → whole ≡ N [] p last tree
@@ -484,13 +515,13 @@ module _ (c : Context) (at tag : ℕ) (rest : List ℕ) (u : Items) (q : Unbroke
         other-attribute [] p tag from body end u b (λ z. omega arith) ∙ absent-attribute [] p u b (λ g. later .above tag b y g (omega arith)) in
         framed-back whole os (o .whole) (o .shortest)
         ∙ ap₂ (λ x z. framed tag x ++ z) (sym v) (later .forth tag (omega (arith, above-tag)) (os 0) y)
-        ∙ sym (attribute-adds [] p last tag from body end u k a e r (os 0) none-between)
+        ∙ sym (attribute-adds [] p last tag from body end u k a e (value-here k e) d r (os 0) none-between)
 
     attribute-back : (es : Entries) (last : ℕ) → 0x7F ≤ last → last < 256 → length whole < 256 ^ 3 → whole ≡ N es p last tree → shaped p last whole ≡ true
     unfolding isKnown
     attribute-back es last l m s x =
         let r = heads es p last tree (ap isKnown e, later .allKnown) l m tag rest (sym x) .higher a in
-        let y : whole ≡ framed tag (octetsOf (meant es k body)) ++ N es p tag u = x ∙ attribute-adds es p last tag from body end u k a e r (os 0) (lowest es last r x) in
+        let y : whole ≡ framed tag (octetsOf (meant es k body)) ++ N es p tag u = x ∙ attribute-adds es p last tag from body end u k a e (value-here k e) d r (os 0) (lowest es last r x) in
         let f = framing whole tag (octetsOf (meant es k body)) (N es p tag u) (omega (arith, ap length y, framed-longer tag (octetsOf (meant es k body)) (N es p tag u))) y in
         own-whole p last tag rest
         (record {
@@ -536,10 +567,10 @@ module _ (c : Context) (at tag : ℕ) (rest : List ℕ) (u : Items) (q : Unbroke
     adds : (es : Entries) (last : ℕ) → N es p last grown ≡ framed tag (content es tag body w) ++ N es p last u
     adds es last = element-adds es p last tag from body w u ch all-barred (later-bare no-attribute)
 
-    known-here : writtenAs p tag ≡ known p tag
-    known-here = written-known p tag (child-tag tag ch .notTable)
+    known-here : writtenAs p tag body ≡ known p tag
+    known-here = written-known p tag body (child-tag tag ch .notTable) (element-keeps p tag body no-attribute)
 
-    is-items : isItems (writtenAs p tag) ≡ opens tag
+    is-items : isItems (writtenAs p tag body) ≡ opens tag
     is-items = ap isItems known-here ∙ items-opens p tag
 
     content-open : (es : Entries) → opens tag ≡ true → content es tag body w ≡ N es tag 0x7F w
@@ -638,10 +669,10 @@ module _ (c : Context) (at : ℕ) (rest : List ℕ) (u : Items) (q : Unbroken c 
       ap (λ z. N es (c .parent) last (item 1 place text end z)) no-more
       ∙ cdata-adds es (c .parent) last place text end (λ b a. sym (ap (λ z. find b (item 1 place text end z)) no-more) ∙ no-attributes b a)
 
-  written-text : writtenAs (c .parent) 1 ≡ some HoldsText
-  written-text = written-known (c .parent) 1 refl ∙ known-cdata (c .parent)
+  written-text : writtenAs (c .parent) 1 text ≡ some HoldsText
+  written-text = written-known (c .parent) 1 text refl (element-keeps (c .parent) 1 text one-plain) ∙ known-cdata (c .parent)
 
-  no-items-one : isItems (writtenAs (c .parent) 1) ≡ false
+  no-items-one : isItems (writtenAs (c .parent) 1 text) ≡ false
   unfolding isItems
   no-items-one = ap isItems written-text
 
@@ -691,7 +722,11 @@ shape-leaf c at tag rest u k q e l os later = go (attribute tag) refl (eqb tag 4
   where
     go : (a : Bool) → attribute tag ≡ a → (f : Bool) → eqb tag 4 ≡ f → (g : Bool) → eqb tag 1 ≡ g
         → Shape (c .parent) (c .stage) (tag ∷ rest) (item tag (inAt at (tag ∷ rest)) (bodyOf (tag ∷ rest)) end u)
-    go true a f y g z = shape-attribute c at tag rest u q os later k a e
+    go true a f y g z = held-by (defaultOctets (c .parent) tag (bodyOf (tag ∷ rest))) refl
+      where
+        held-by : (d : Bool) → defaultOctets (c .parent) tag (bodyOf (tag ∷ rest)) ≡ d → Shape (c .parent) (c .stage) (tag ∷ rest) (item tag (inAt at (tag ∷ rest)) (bodyOf (tag ∷ rest)) end u)
+        held-by true d = shape-default c at tag rest u q os later k a e d
+        held-by false d = shape-attribute c at tag rest u q os later k a e d
     go false a true y g z = shape-table c at tag rest u q os later y (known-anywhere (c .parent) tag a ∙ ap (known 0) (eqb-true tag 4 y) ∙ known-four)
     go false a false y true z =
         subst (λ n. Unbroken c at n rest → Octets (n ∷ rest) → Shape (c .parent) (stageAfter n) (laterOf (n ∷ rest)) u → Shape (c .parent) (c .stage) (n ∷ rest) (item n (inAt at (n ∷ rest)) (bodyOf (n ∷ rest)) end u))

@@ -1,33 +1,39 @@
--- The attributes and the CDATA of two elements: the ways through same_attribute, same_attributes and same_cdata.
+-- The attributes and the CDATA of two elements: the ways through find_counted, same_attribute, same_by_tags and same_cdata.
 use mathlib.Core.Path.{_≡_, refl, sym, ap, ap₂, _∙_, subst}
-use mathlib.Core.Bool.{Bool, true, false, _&&_}
-use mathlib.Core.Option.{Option, none, some, Option·map}
-use mathlib.Core.List.{List}
+use mathlib.Core.Bool.{Bool, true, false, cond, _&&_, false≢true}
+use mathlib.Core.Option.{Option, none, some, Option·map, Option·some-injective, Option·none-ne-some}
+use mathlib.Core.List.{List, [], _∷_}
 use Prim.Native.Nat.{ℕ, zero, suc, _+_, _-_, _≤_, _<_}
 use native.Mathlib.Numerals.{add-one}
 use native.Mathlib.Omega.{arith}
+use lib.Dec.{eqb}
 use lib.ListN.{length}
-use borrow.Author.Tests.{lt-ltb}
+use borrow.Author.Tests.{lt-ltb, eqb-true, eqb-false, ne-eqb}
+use Rattle.octets.specs.Numbers.{value, digits}
 use Rattle.text.specs.Tokens.{Entries, expanded}
 use Rattle.values.specs.declared.Kind.{Kind}
+use Rattle.values.specs.declared.Kind.the-variants.{HoldsNumber}
+use Rattle.values.specs.declared.NumberKind.the-variants.{Enumerated}
 use Rattle.values.specs.declared.KnownKind.{KnownKind}
 use Rattle.values.specs.declared.KnownKind.the-variants.{Unknown, Known}
-use Rattle.values.specs.Calls.{asKnown, knownKind}
+use Rattle.values.specs.Calls.{knownKind, defaultOctets}
 use Rattle.values.specs.Table.{known, attribute}
-use Rattle.values.specs.Values.{fits, meant}
+use Rattle.values.specs.Values.{width, fits, meant, octetsOf}
+use Rattle.values.proofs.DefaultValues.{default-enumerated, default-length, default-value}
 use Rattle.values.proofs.Known.{known-cdata}
 use Rattle.values.proofs.Laws.{known-kind, unknown-kind}
 use Rattle.format.specs.Tree.{Items, find}
 use Rattle.format.specs.Judge.{isKnown, isValue}
-use Rattle.format.specs.Meaning.{valueIn, attributesIn, cdataIn}
+use Rattle.format.specs.Meaning.{valueIn, counted, attributesIn, cdataIn}
 use Rattle.format.specs.Same.{sameOctets, sameValue, sameMaybe, sameAttributes}
+use Rattle.format.proofs.Defaults.{counted-octets}
 use Rattle.reader.specs.Filling.{Accepts}
 use Rattle.survey.specs.declared.Lies.{Lies}
 use Rattle.survey.specs.declared.Lies.the-variants.{Outside, Between}
 use Rattle.survey.proofs.Rising.{known-few}
 use Rattle.survey.specs.Places.{between, spanOfTag, bodyBy, bodyOfTag}
 use Rattle.compare.specs.Bodies.{sameBody}
-use Rattle.compare.specs.Items.{isAbsent, sameFound, sameFrom, sameSets, sameText}
+use Rattle.compare.specs.Items.{countedBody, countedOfTag, countedLies, countedSpan, isAbsent, sameFound, sameFrom, sameSets, sameText}
 use Rattle.survey.proofs.Seeking.{Sought, sought, sought-ordered, sought-inside, missing, span-says}
 
 pub absent-yes : (r : Lies) → r ≡ Outside → true ≡ isAbsent r
@@ -55,82 +61,21 @@ SameAttribute parent tag es a fs b r =
 unfoldable pub SameData : Entries → List ℕ → Entries → List ℕ → Bool → Type 0
 SameData es a fs b r = (p q : ℕ) → Both p q a b (λ t u. r ≡ sameMaybe sameOctets (cdataIn es t) (cdataIn fs u))
 
--- ---- one attribute
-
-module _ (es : Entries) (parent tag : ℕ) (t : Items) where
-  attribute-is : attribute tag ≡ true → (o : Option (List ℕ)) (k : Option Kind) → find tag t ≡ o → known parent tag ≡ k → attributesIn es parent t tag ≡ valueIn es o k
-  unfolding attributesIn
-  attribute-is a o k e f = rw a (ap₂ (valueIn es) e f)
-
-value-unknown : (es : Entries) (o : Option (List ℕ)) → valueIn es o none ≡ none
-unfolding valueIn
-value-unknown es none = refl
-value-unknown es (some o) = refl
-
-module _ (parent tag : ℕ) (es : Entries) (a : List ℕ) (fs : Entries) (b : List ℕ) (k : KnownKind) (ke : k ≡ knownKind parent tag) where
-  pub attribute-unknown : k ≡ Unknown → SameAttribute parent tag es a fs b true
-  unfolding SameAttribute sameMaybe
-  attribute-unknown q y d e i j t u x z =
-      let n = unknown-kind parent tag k ke q in
-      sym (ap₂ (sameMaybe sameValue) (attribute-is es parent tag t y (find tag t) none refl n ∙ value-unknown es (find tag t)) (attribute-is fs parent tag u y (find tag u) none refl n ∙ value-unknown fs (find tag u)))
-
-  module _ (kind : Kind) (kq : k ≡ Known kind) (ra : Lies) (sa : Sought a tag ra) where
-    own : known parent tag ≡ some kind
-    own = known-kind parent tag k ke kind kq
-
-    one : isKnown (known parent tag) ≡ true
-    unfolding isKnown
-    one = ap isKnown own
-
-    -- the attribute of the tag in a tree, where it was found and where it was not
-    there : (T : Entries) (o : List ℕ) (r : Lies) → Sought o tag r → attribute tag ≡ true → (from to : ℕ) → r ≡ Between from to → (depth offset : ℕ) (t : Items) → Accepts parent depth offset o t
-        → attributesIn T parent t tag ≡ some (meant T kind (between o from to))
-    unfolding valueIn
-    there T o r s y from to q depth offset t x =
-        attribute-is T parent tag t y (some (between o from to)) (some kind) (sought o tag r s from to q .is parent depth offset t x one) own
-
-    nowhere : (T : Entries) (o : List ℕ) (r : Lies) → Sought o tag r → attribute tag ≡ true → r ≡ Outside → (depth offset : ℕ) (t : Items) → Accepts parent depth offset o t
-        → attributesIn T parent t tag ≡ none
-    unfolding valueIn
-    nowhere T o r s y q depth offset t x = attribute-is T parent tag t y none (some kind) (missing o tag r s q parent depth offset t x) own
-
-    fits-there : (o : List ℕ) (r : Lies) → Sought o tag r → (from to : ℕ) → r ≡ Between from to → (depth offset : ℕ) (t : Items) → Accepts parent depth offset o t → fits kind (between o from to) ≡ true
-    unfolding isValue
-    fits-there o r s from to q depth offset t x = sym (ap (λ l. isValue l (between o from to)) own) ∙ sought o tag r s from to q .value parent depth offset t x
-
-    module _ (rb : Lies) (sb : Sought b tag rb) where
-      pub attribute-absent : ra ≡ Outside → (r : Bool) → r ≡ isAbsent rb → SameAttribute parent tag es a fs b r
-      unfolding SameAttribute sameMaybe isAbsent
-      attribute-absent q r f y d e i j t u x z = f ∙ go rb refl
-        where
-          go : (l : Lies) → rb ≡ l → isAbsent l ≡ sameMaybe sameValue (attributesIn es parent t tag) (attributesIn fs parent u tag)
-          go Outside w = sym (ap₂ (sameMaybe sameValue) (nowhere es a ra sa y q d i t x) (nowhere fs b rb sb y w e j u z))
-          go (Between from to) w = sym (ap₂ (sameMaybe sameValue) (nowhere es a ra sa y q d i t x) (there fs b rb sb y from to w e j u z))
-
-      module _ (from to : ℕ) (q : ra ≡ Between from to) where
-        pub attribute-missing : rb ≡ Outside → SameAttribute parent tag es a fs b false
-        unfolding SameAttribute sameMaybe
-        attribute-missing w y d e i j t u x z = sym (ap₂ (sameMaybe sameValue) (there es a ra sa y from to q d i t x) (nowhere fs b rb sb y w e j u z))
-
-        pub attribute-both : (start end : ℕ) → rb ≡ Between start end → (r : Bool) → r ≡ sameBody es fs kind (between a from to) (between b start end) → SameAttribute parent tag es a fs b r
-        unfolding SameAttribute sameMaybe sameBody
-        attribute-both start end w r f y d e i j t u x z =
-            let g = fits-there a ra sa from to q d i t x in
-            let h = fits-there b rb sb start end w e j u z in
-            f ∙ ap₂ (λ m n. m && n && sameValue (meant es kind (between a from to)) (meant fs kind (between b start end))) g h
-            ∙ sym (ap₂ (sameMaybe sameValue) (there es a ra sa y from to q d i t x) (there fs b rb sb y start end w e j u z))
-
--- ---- the same told of all octets
+-- ---- where a body lies
 
 module _ (part : List ℕ) (tag : ℕ) (r : Lies) (e : r ≡ spanOfTag tag part) where
+  body-at : bodyBy part r ≡ bodyOfTag tag part
+  unfolding bodyOfTag
+  body-at = ap (bodyBy part) e
+
   pub body-none : r ≡ Outside → bodyOfTag tag part ≡ none
-  unfolding bodyOfTag bodyBy
-  body-none q = ap (bodyBy part) (sym e ∙ q)
+  unfolding bodyBy
+  body-none q = sym body-at ∙ ap (bodyBy part) q
 
   module _ (from to : ℕ) (q : r ≡ Between from to) where
     pub body-some : bodyOfTag tag part ≡ some (between part from to)
-    unfolding bodyOfTag bodyBy
-    body-some = ap (bodyBy part) (sym e ∙ q)
+    unfolding bodyBy
+    body-some = sym body-at ∙ ap (bodyBy part) q
 
     pub span-ordered : from ≤ to
     span-ordered = sought-ordered part tag r (span-says part tag r e) from to q
@@ -138,69 +83,214 @@ module _ (part : List ℕ) (tag : ℕ) (r : Lies) (e : r ≡ spanOfTag tag part)
     pub span-inside : to ≤ length part
     span-inside = sought-inside part tag r (span-says part tag r e) from to q
 
-absent-says : (part : List ℕ) (tag : ℕ) (f : List ℕ → List ℕ → Bool) (r : Lies) → r ≡ spanOfTag tag part → isAbsent r ≡ sameMaybe f none (bodyOfTag tag part)
-unfolding isAbsent sameMaybe
-absent-says part tag f Outside e = sym (ap (sameMaybe f none) (body-none part tag Outside e refl))
-absent-says part tag f (Between from to) e = sym (ap (sameMaybe f none) (body-some part tag (Between from to) e from to refl))
+absent-says : (part : List ℕ) (f : List ℕ → List ℕ → Bool) (r : Lies) (o : Option (List ℕ)) → bodyBy part r ≡ o → isAbsent r ≡ sameMaybe f none o
+unfolding isAbsent bodyBy sameMaybe
+absent-says part f Outside o e = ap (sameMaybe f none) e
+absent-says part f (Between from to) o e = ap (sameMaybe f none) e
+
+-- ---- find_counted
+
+module _ (parent tag : ℕ) (part : List ℕ) (r : Lies) (e : r ≡ spanOfTag tag part) where
+  pub lies-nowhere : r ≡ Outside → Outside ≡ countedSpan parent tag part
+  unfolding countedSpan countedLies
+  lies-nowhere q = ap (countedLies parent tag part) (sym q ∙ e)
+
+  module _ (from to : ℕ) (q : r ≡ Between from to) (d : Bool) (de : d ≡ defaultOctets parent tag (between part from to)) where
+    span-by : cond d Outside (Between from to) ≡ countedSpan parent tag part
+    unfolding countedSpan countedLies
+    span-by = ap (λ b. cond b Outside (Between from to)) de ∙ ap (countedLies parent tag part) (sym q ∙ e)
+
+    pub lies-default : d ≡ true → Outside ≡ countedSpan parent tag part
+    lies-default w = ap (λ b. cond b Outside (Between from to)) (sym w) ∙ span-by
+
+    pub lies-counted : d ≡ false → Between from to ≡ countedSpan parent tag part
+    lies-counted w = ap (λ b. cond b Outside (Between from to)) (sym w) ∙ span-by
+
+pub ruleset counted-ways = (span-ordered, span-inside, lies-nowhere, lies-default, lies-counted)
+
+-- what it tells
+module _ (parent tag : ℕ) (part : List ℕ) (r : Lies) (e : r ≡ countedSpan parent tag part) where
+  counted-at : bodyBy part r ≡ countedOfTag parent tag part
+  unfolding countedSpan countedLies countedOfTag countedBody bodyOfTag bodyBy
+  counted-at = ap (bodyBy part) e ∙ go (spanOfTag tag part)
+    where
+      by : (from to : ℕ) (d : Bool) → bodyBy part (cond d Outside (Between from to)) ≡ cond d none (some (between part from to))
+      by from to true = refl
+      by from to false = refl
+
+      go : (l : Lies) → bodyBy part (countedLies parent tag part l) ≡ countedBody parent tag (bodyBy part l)
+      go Outside = refl
+      go (Between from to) = by from to (defaultOctets parent tag (between part from to))
+
+  module _ (from to : ℕ) (q : r ≡ Between from to) where
+    span-is : Between from to ≡ spanOfTag tag part
+    unfolding countedSpan countedLies
+    span-is = go (spanOfTag tag part) (sym q ∙ e)
+      where
+        by : (l : Lies) (d : Bool) → Between from to ≡ cond d Outside l → Between from to ≡ l
+        by l true w = let z : _≡_ {A = ℕ} 0 1 = cc in absurd (omega arith)
+        by l false w = w
+
+        go : (l : Lies) → Between from to ≡ countedLies parent tag part l → Between from to ≡ l
+        go Outside w = w
+        go (Between start end) w = by (Between start end) (defaultOctets parent tag (between part start end)) w
+
+    pub counted-ordered : from ≤ to
+    counted-ordered = span-ordered part tag (Between from to) span-is from to refl
+
+    pub counted-inside : to ≤ length part
+    counted-inside = span-inside part tag (Between from to) span-is from to refl
+
+-- ---- same_attribute
 
 module _ (parent tag : ℕ) (es : Entries) (a : List ℕ) (fs : Entries) (b : List ℕ) (k : KnownKind) (ke : k ≡ knownKind parent tag) where
   abbrev whole : Bool
-  whole = sameFound es fs (known parent tag) (bodyOfTag tag a) (bodyOfTag tag b)
+  whole = sameFound es fs (known parent tag) (countedOfTag parent tag a) (countedOfTag parent tag b)
 
   pub found-unknown : k ≡ Unknown → true ≡ whole
   unfolding sameFound
-  found-unknown q = sym (ap (λ l. sameFound es fs l (bodyOfTag tag a) (bodyOfTag tag b)) (unknown-kind parent tag k ke q))
+  found-unknown q = sym (ap (λ l. sameFound es fs l (countedOfTag parent tag a) (countedOfTag parent tag b)) (unknown-kind parent tag k ke q))
 
-  module _ (kind : Kind) (kq : k ≡ Known kind) (ra : Lies) (ea : ra ≡ spanOfTag tag a) (rb : Lies) (eb : rb ≡ spanOfTag tag b) where
-    by-kind : whole ≡ sameMaybe (sameBody es fs kind) (bodyOfTag tag a) (bodyOfTag tag b)
+  module _ (kind : Kind) (kq : k ≡ Known kind) (ra : Lies) (ea : ra ≡ countedSpan parent tag a) (rb : Lies) (eb : rb ≡ countedSpan parent tag b) where
+    by-lies : sameMaybe (sameBody es fs kind) (bodyBy a ra) (bodyBy b rb) ≡ whole
     unfolding sameFound
-    by-kind = ap (λ l. sameFound es fs l (bodyOfTag tag a) (bodyOfTag tag b)) (known-kind parent tag k ke kind kq)
+    by-lies =
+        ap₂ (sameMaybe (sameBody es fs kind)) (counted-at parent tag a ra ea) (counted-at parent tag b rb eb)
+        ∙ ap (λ l. sameFound es fs l (countedOfTag parent tag a) (countedOfTag parent tag b)) (sym (known-kind parent tag k ke kind kq))
 
     pub found-absent : ra ≡ Outside → (r : Bool) → r ≡ isAbsent rb → r ≡ whole
-    found-absent q r f =
-        f ∙ absent-says b tag (sameBody es fs kind) rb eb ∙ sym (by-kind ∙ ap (λ x. sameMaybe (sameBody es fs kind) x (bodyOfTag tag b)) (body-none a tag ra ea q))
+    unfolding bodyBy
+    found-absent q r f = f ∙ absent-says b (sameBody es fs kind) rb (bodyBy b rb) refl ∙ ap (λ l. sameMaybe (sameBody es fs kind) (bodyBy a l) (bodyBy b rb)) (sym q) ∙ by-lies
 
     module _ (from to : ℕ) (q : ra ≡ Between from to) where
       pub found-missing : rb ≡ Outside → false ≡ whole
-      unfolding sameMaybe
-      found-missing w = sym (by-kind ∙ ap₂ (sameMaybe (sameBody es fs kind)) (body-some a tag ra ea from to q) (body-none b tag rb eb w))
+      unfolding bodyBy sameMaybe
+      found-missing w = ap₂ (λ l m. sameMaybe (sameBody es fs kind) (bodyBy a l) (bodyBy b m)) (sym q) (sym w) ∙ by-lies
 
       pub found-both : (start end : ℕ) → rb ≡ Between start end → (r : Bool) → r ≡ sameBody es fs kind (between a from to) (between b start end) → r ≡ whole
-      unfolding sameMaybe
-      found-both start end w r f = f ∙ sym (by-kind ∙ ap₂ (sameMaybe (sameBody es fs kind)) (body-some a tag ra ea from to q) (body-some b tag rb eb start end w))
+      unfolding bodyBy sameMaybe
+      found-both start end w r f = f ∙ ap₂ (λ l m. sameMaybe (sameBody es fs kind) (bodyBy a l) (bodyBy b m)) (sym q) (sym w) ∙ by-lies
 
-pub ruleset attribute-ways = (span-ordered, span-inside, found-unknown, found-absent, found-missing, found-both)
+pub ruleset attribute-ways = (counted-ordered, counted-inside, found-unknown, found-absent, found-missing, found-both)
 
--- of accepted parts it is the attributes of their trees
-module _ (parent tag : ℕ) (es : Entries) (a : List ℕ) (fs : Entries) (b : List ℕ) (r : Bool) (e : r ≡ sameFound es fs (known parent tag) (bodyOfTag tag a) (bodyOfTag tag b)) where
-  pub attribute-says : SameAttribute parent tag es a fs b r
-  unfolding sameFound knownKind asKnown sameMaybe isAbsent
-  attribute-says = go (known parent tag) refl (spanOfTag tag a) refl (spanOfTag tag b) refl
+-- ---- of accepted parts it is the attributes of their trees
+
+-- an attribute that is known, in a part and in its tree
+module _ (parent tag : ℕ) (kind : Kind) (own : known parent tag ≡ some kind) (o : List ℕ) (depth offset : ℕ) (t : Items) (x : Accepts parent depth offset o t) where
+  here : Sought o tag (spanOfTag tag o)
+  here = span-says o tag (spanOfTag tag o) refl
+
+  found-body : find tag t ≡ bodyOfTag tag o
+  unfolding isKnown
+  found-body = go (spanOfTag tag o) refl
     where
-      k : KnownKind
-      k = knownKind parent tag
+      go : (r : Lies) → spanOfTag tag o ≡ r → find tag t ≡ bodyOfTag tag o
+      go Outside q = missing o tag (spanOfTag tag o) here q parent depth offset t x ∙ sym (body-none o tag (spanOfTag tag o) refl q)
+      go (Between from to) q = sought o tag (spanOfTag tag o) here from to q .is parent depth offset t x (ap isKnown own) ∙ sym (body-some o tag (spanOfTag tag o) refl from to q)
 
-      sa : Sought a tag (spanOfTag tag a)
-      sa = span-says a tag (spanOfTag tag a) refl
+  body-fits : (b : List ℕ) → bodyOfTag tag o ≡ some b → fits kind b ≡ true
+  unfolding isValue
+  body-fits b e = go (spanOfTag tag o) refl
+    where
+      go : (r : Lies) → spanOfTag tag o ≡ r → fits kind b ≡ true
+      go Outside q = absurd (Option·none-ne-some b (sym (body-none o tag (spanOfTag tag o) refl q) ∙ e))
+      go (Between from to) q =
+          let same : between o from to ≡ b = Option·some-injective (between o from to) b (sym (body-some o tag (spanOfTag tag o) refl from to q) ∙ e) in
+          subst (λ c. fits kind c ≡ true) same (sym (ap (λ l. isValue l (between o from to)) own) ∙ sought o tag (spanOfTag tag o) here from to q .value parent depth offset t x)
 
-      sb : Sought b tag (spanOfTag tag b)
-      sb = span-says b tag (spanOfTag tag b) refl
+  counted-fits : (b : List ℕ) → countedOfTag parent tag o ≡ some b → fits kind b ≡ true
+  unfolding countedOfTag countedBody
+  counted-fits b e = body-fits b (go (bodyOfTag tag o) e)
+    where
+      by : (c : List ℕ) (d : Bool) → cond d none (some c) ≡ some b → some c ≡ some b
+      by c true h = absurd (Option·none-ne-some b h)
+      by c false h = h
 
-      is : (l : Option Kind) → known parent tag ≡ l → r ≡ sameFound es fs l (bodyOfTag tag a) (bodyOfTag tag b)
-      is l q = e ∙ ap (λ x. sameFound es fs x (bodyOfTag tag a) (bodyOfTag tag b)) q
+      go : (l : Option (List ℕ)) → countedBody parent tag l ≡ some b → l ≡ some b
+      go none h = h
+      go (some c) h = by c (defaultOctets parent tag c) h
 
-      go : (l : Option Kind) → known parent tag ≡ l → (ra : Lies) → spanOfTag tag a ≡ ra → (rb : Lies) → spanOfTag tag b ≡ rb → SameAttribute parent tag es a fs b r
-      go none q ra x rb y = subst (SameAttribute parent tag es a fs b) (sym (is none q)) (attribute-unknown parent tag es a fs b k refl (ap asKnown q))
-      go (some l) q Outside x rb y =
-          attribute-absent parent tag es a fs b k refl l (ap asKnown q) (spanOfTag tag a) sa (spanOfTag tag b) sb x r
-          (is (some l) q ∙ ap (λ z. sameMaybe (sameBody es fs l) z (bodyOfTag tag b)) (body-none a tag (spanOfTag tag a) refl x) ∙ sym (absent-says b tag (sameBody es fs l) (spanOfTag tag b) refl))
-      go (some l) q (Between from to) x Outside y =
-          subst (SameAttribute parent tag es a fs b)
-          (sym (is (some l) q ∙ ap₂ (sameMaybe (sameBody es fs l)) (body-some a tag (spanOfTag tag a) refl from to x) (body-none b tag (spanOfTag tag b) refl y)))
-          (attribute-missing parent tag es a fs b k refl l (ap asKnown q) (spanOfTag tag a) sa (spanOfTag tag b) sb from to x y)
-      go (some l) q (Between from to) x (Between start end) y =
-          attribute-both parent tag es a fs b k refl l (ap asKnown q) (spanOfTag tag a) sa (spanOfTag tag b) sb from to x start end y r
-          (is (some l) q ∙ ap₂ (sameMaybe (sameBody es fs l)) (body-some a tag (spanOfTag tag a) refl from to x) (body-some b tag (spanOfTag tag b) refl start end y))
+  -- what counts means the attribute's value
+  counted-means : (T : Entries) → attribute tag ≡ true → attributesIn T parent t tag ≡ Option·map (meant T kind) (countedOfTag parent tag o)
+  unfolding attributesIn valueIn counted countedOfTag countedBody
+  counted-means T a = rw (a, found-body, own) (go (bodyOfTag tag o) refl)
+    where
+      by : (b : List ℕ) (d : Bool) → cond d none (some (meant T kind b)) ≡ Option·map (meant T kind) (cond d none (some b))
+      by b true = refl
+      by b false = refl
+
+      go : (l : Option (List ℕ)) → bodyOfTag tag o ≡ l → counted parent tag (valueIn T l (some kind)) ≡ Option·map (meant T kind) (countedBody parent tag l)
+      go none e = refl
+      go (some b) e = counted-octets T parent tag kind b own (body-fits b e) ∙ by b (defaultOctets parent tag b)
+
+unknown-means : (T : Entries) (parent tag : ℕ) (t : Items) → attribute tag ≡ true → known parent tag ≡ none → attributesIn T parent t tag ≡ none
+unfolding attributesIn valueIn counted
+unknown-means T parent tag t a n = rw (a, n) (go (find tag t))
+  where
+    go : (o : Option (List ℕ)) → counted parent tag (valueIn T o none) ≡ none
+    go none = refl
+    go (some o) = refl
+
+-- two bodies that are values of a kind
+same-meant : (es fs : Entries) (k : Kind) (x y : Option (List ℕ)) → ((o : List ℕ) → x ≡ some o → fits k o ≡ true) → ((o : List ℕ) → y ≡ some o → fits k o ≡ true)
+    → sameMaybe (sameBody es fs k) x y ≡ sameMaybe sameValue (Option·map (meant es k) x) (Option·map (meant fs k) y)
+unfolding sameMaybe sameBody
+same-meant es fs k none none f g = refl
+same-meant es fs k none (some y) f g = refl
+same-meant es fs k (some x) none f g = refl
+same-meant es fs k (some x) (some y) f g = rw (f x refl, g y refl)
+
+module _ (parent tag : ℕ) (es : Entries) (a : List ℕ) (fs : Entries) (b : List ℕ) where
+  attribute-says : SameAttribute parent tag es a fs b (sameFound es fs (known parent tag) (countedOfTag parent tag a) (countedOfTag parent tag b))
+  unfolding SameAttribute sameFound sameMaybe
+  attribute-says y d e i j t u x z = go (known parent tag) refl
+    where
+      go : (l : Option Kind) → known parent tag ≡ l
+          → sameFound es fs l (countedOfTag parent tag a) (countedOfTag parent tag b) ≡ sameMaybe sameValue (attributesIn es parent t tag) (attributesIn fs parent u tag)
+      go none q = sym (ap₂ (sameMaybe sameValue) (unknown-means es parent tag t y q) (unknown-means fs parent tag u y q))
+      go (some k) q =
+          same-meant es fs k (countedOfTag parent tag a) (countedOfTag parent tag b) (counted-fits parent tag k q a d i t x) (counted-fits parent tag k q b e j u z)
+          ∙ sym (ap₂ (sameMaybe sameValue) (counted-means parent tag k q a d i t x es y) (counted-means parent tag k q b e j u z fs y))
+
+-- ---- two bodies that are both there are compared as they stand: a default is the same as itself and as nothing else
+
+default-one : (p t : ℕ) (o : List ℕ) → defaultOctets p t o ≡ true → o ≡ 1 ∷ []
+default-one p t [] h = absurd (false≢true (default-length p t [] (λ e. omega arith) ∙ h))
+default-one p t (x ∷ []) h = go (eqb x 1) refl
+  where
+    go : (c : Bool) → eqb x 1 ≡ c → x ∷ [] ≡ 1 ∷ []
+    go true c = ap (λ y. y ∷ []) (eqb-true x 1 c)
+    go false c = absurd (false≢true (default-value p t (x ∷ []) (eqb-false x 1 c) ∙ h))
+default-one p t (x ∷ y ∷ o) h = absurd (false≢true (default-length p t (x ∷ y ∷ o) (λ e. omega arith) ∙ h))
+
+one-octet : (T : Entries) (x : ℕ) → octetsOf (meant T (HoldsNumber Enumerated) (x ∷ [])) ≡ x ∷ []
+unfolding meant octetsOf width value digits
+one-octet T x = ap (λ y. y ∷ []) (omega arith)
+
+module _ (es fs : Entries) where
+  one-differs : (o : List ℕ) → (o ≡ 1 ∷ [] → ⊥) → (sameBody es fs (HoldsNumber Enumerated) (1 ∷ []) o ≡ false) × (sameBody es fs (HoldsNumber Enumerated) o (1 ∷ []) ≡ false)
+  unfolding sameBody sameValue sameOctets fits width
+  one-differs [] d = (refl, refl)
+  one-differs (x ∷ []) d =
+      let n : x ≡ 1 → ⊥ = λ e. d (ap (λ y. y ∷ []) e) in
+      (ap₂ sameOctets (one-octet es 1) (one-octet fs x) ∙ rw (ne-eqb 1 x (λ e. n (sym e))), ap₂ sameOctets (one-octet es x) (one-octet fs 1) ∙ rw (ne-eqb x 1 n))
+  one-differs (x ∷ y ∷ o) d = let n : eqb (length (x ∷ y ∷ o)) 1 ≡ false = ne-eqb (length (x ∷ y ∷ o)) 1 (λ e. omega arith) in (rw n, rw n)
+
+  module _ (p t : ℕ) where
+    -- a default beside another body
+    other-than : (a b : List ℕ) → defaultOctets p t a ≡ true → defaultOctets p t b ≡ false → b ≡ 1 ∷ [] → ⊥
+    other-than a b c d e = false≢true (sym d ∙ ap (defaultOctets p t) (e ∙ sym (default-one p t a c)) ∙ c)
+
+    pub both-counted : (a b : List ℕ) → sameFound es fs (known p t) (countedBody p t (some a)) (countedBody p t (some b)) ≡ sameFound es fs (known p t) (some a) (some b)
+    unfolding sameFound sameMaybe countedBody sameBody sameValue sameOctets fits width
+    both-counted a b = go (defaultOctets p t a) refl (defaultOctets p t b) refl
+      where
+        go : (c : Bool) → defaultOctets p t a ≡ c → (d : Bool) → defaultOctets p t b ≡ d
+            → sameFound es fs (known p t) (cond c none (some a)) (cond d none (some b)) ≡ sameFound es fs (known p t) (some a) (some b)
+        go true c true d = rw (default-enumerated p t a c, default-one p t a c, default-one p t b d) (sym (ap₂ sameOctets (one-octet es 1) (one-octet fs 1)))
+        go true c false d = rw (default-enumerated p t a c, default-one p t a c) (sym (one-differs b (other-than a b c d) .0))
+        go false c true d = rw (default-enumerated p t b d, default-one p t b d) (sym (one-differs a (other-than b a d c) .1))
+        go false c false d = refl
 
 -- ---- all attributes
 
@@ -229,7 +319,7 @@ module _ (parent : ℕ) (es : Entries) (a : List ℕ) (fs : Entries) (b : List �
     pub sets-ended : 0x87 ≤ tag → true ≡ sameSets parent es a fs b
     sets-ended h = sym (inv .goes ∙ from-past (0x100 - tag) tag parent es a fs b h)
 
-    module _ (h : tag < 0x87) (r : Bool) (s : r ≡ sameFound es fs (known parent tag) (bodyOfTag tag a) (bodyOfTag tag b)) where
+    module _ (h : tag < 0x87) (r : Bool) (s : r ≡ sameFound es fs (known parent tag) (countedOfTag parent tag a) (countedOfTag parent tag b)) where
       turn : sameSets parent es a fs b ≡ r && sameFrom (0x100 - (tag + 1)) (tag + 1) parent es a fs b
       unfolding sameFrom
       turn =
@@ -250,7 +340,7 @@ module _ (parent : ℕ) (es : Entries) (a : List ℕ) (fs : Entries) (b : List �
   unfolding sameFrom sameAttributes SameAttribute attribute
   from-says zero tag h d e i j t u x z = refl
   from-says (suc n) tag h d e i j t u x z =
-      ap₂ _&&_ (attribute-says parent tag es a fs b (sameFound es fs (known parent tag) (bodyOfTag tag a) (bodyOfTag tag b)) refl (lt-ltb 0x7F tag (omega arith)) d e i j t u x z)
+      ap₂ _&&_ (attribute-says parent tag es a fs b (lt-ltb 0x7F tag (omega arith)) d e i j t u x z)
       (from-says n (suc tag) (omega arith) d e i j t u x z)
 
   pub sets-say : Both parent parent a b (λ t u. sameSets parent es a fs b ≡ sameAttributes 128 0x80 (attributesIn es parent t) (attributesIn fs parent u))
@@ -297,7 +387,7 @@ module _ (es : Entries) (a : List ℕ) (fs : Entries) (b : List ℕ) (ra : Lies)
 
   pub text-absent : ra ≡ Outside → (r : Bool) → r ≡ isAbsent rb → r ≡ sameText es fs (bodyOfTag 1 a) (bodyOfTag 1 b)
   unfolding sameText
-  text-absent q r f = f ∙ absent-says b 1 texts rb eb ∙ sym (ap (λ x. sameMaybe texts x (bodyOfTag 1 b)) (body-none a 1 ra ea q))
+  text-absent q r f = f ∙ absent-says b texts rb (bodyOfTag 1 b) (body-at b 1 rb eb) ∙ sym (ap (λ x. sameMaybe texts x (bodyOfTag 1 b)) (body-none a 1 ra ea q))
 
   module _ (from to : ℕ) (q : ra ≡ Between from to) where
     pub text-missing : rb ≡ Outside → false ≡ sameText es fs (bodyOfTag 1 a) (bodyOfTag 1 b)
@@ -328,7 +418,7 @@ module _ (es : Entries) (a : List ℕ) (fs : Entries) (b : List ℕ) (r : Bool) 
       go : (ra : Lies) → spanOfTag 1 a ≡ ra → (rb : Lies) → spanOfTag 1 b ≡ rb → SameData es a fs b r
       go Outside x rb y =
           data-absent es a fs b (spanOfTag 1 a) sa (spanOfTag 1 b) sb x r
-          (e ∙ ap (λ z. sameMaybe f z (bodyOfTag 1 b)) (body-none a 1 (spanOfTag 1 a) refl x) ∙ sym (absent-says b 1 f (spanOfTag 1 b) refl))
+          (e ∙ ap (λ z. sameMaybe f z (bodyOfTag 1 b)) (body-none a 1 (spanOfTag 1 a) refl x) ∙ sym (absent-says b f (spanOfTag 1 b) (bodyOfTag 1 b) (body-at b 1 (spanOfTag 1 b) refl)))
       go (Between from to) x Outside y =
           subst (SameData es a fs b) (sym (e ∙ ap₂ (sameMaybe f) (body-some a 1 (spanOfTag 1 a) refl from to x) (body-none b 1 (spanOfTag 1 b) refl y)))
           (data-missing es a fs b (spanOfTag 1 a) sa (spanOfTag 1 b) sb from to x y)

@@ -58,22 +58,22 @@ enough (suc k) (suc l) p last (tag ∷ rest) h g =
     let s = tag ∷ rest in
     let b = shorter-body s (omega arith) in
     let a = shorter-after s (omega arith) in
-    ap₂ (λ x y. (isWhole s && isShortest s && isRising last tag && isWritten (writtenAs p tag) (firstBody s)) && cond (isItems (writtenAs p tag)) x true && y)
+    ap₂ (λ x y. (isWhole s && isShortest s && isRising last tag && isWritten (writtenAs p tag (firstBody s)) (firstBody s)) && cond (isItems (writtenAs p tag (firstBody s))) x true && y)
     (enough k l tag 0x7F (firstBody s) (omega arith) (omega arith)) (enough k l p (cond (attribute tag) tag last) (afterFirst s) (omega arith) (omega arith))
 
 -- own rules, and those of what it holds
 abbrev pub ownShape : (p last tag : ℕ) → List ℕ → Bool
-ownShape p last tag s = isWhole s && isShortest s && isRising last tag && isWritten (writtenAs p tag) (firstBody s)
+ownShape p last tag s = isWhole s && isShortest s && isRising last tag && isWritten (writtenAs p tag (firstBody s)) (firstBody s)
 
 pub shaped-item : (p last tag : ℕ) (rest : List ℕ)
     → shaped p last (tag ∷ rest)
-    ≡ ownShape p last tag (tag ∷ rest) && cond (isItems (writtenAs p tag)) (shaped tag 0x7F (firstBody (tag ∷ rest))) true && shaped p (cond (attribute tag) tag last) (afterFirst (tag ∷ rest))
+    ≡ ownShape p last tag (tag ∷ rest) && cond (isItems (writtenAs p tag (firstBody (tag ∷ rest)))) (shaped tag 0x7F (firstBody (tag ∷ rest))) true && shaped p (cond (attribute tag) tag last) (afterFirst (tag ∷ rest))
 unfolding shaped shapedWithin
 shaped-item p last tag rest =
     let s = tag ∷ rest in
     let b = shorter-body s (omega arith) in
     let a = shorter-after s (omega arith) in
-    ap₂ (λ x y. ownShape p last tag s && cond (isItems (writtenAs p tag)) x true && y)
+    ap₂ (λ x y. ownShape p last tag s && cond (isItems (writtenAs p tag (firstBody s))) x true && y)
     (enough (suc (length rest)) (suc (length (firstBody s))) tag 0x7F (firstBody s) (omega arith) (omega arith))
     (enough (suc (length rest)) (suc (length (afterFirst s))) p (cond (attribute tag) tag last) (afterFirst s) (omega arith) (omega arith))
 
@@ -90,13 +90,13 @@ regroup true false r b i l = refl
 regroup false s r b i l = refl
 
 shaped-at : (p last : ℕ) (s : List ℕ) → 0 < length s
-    → shaped p last s ≡ isWhole s && isShortest s && isRising last (getD s 0 0) && shapedBody (getD s 0 0) (writtenAs p (getD s 0 0)) (firstBody s) && shaped p (cond (attribute (getD s 0 0)) (getD s 0 0) last) (afterFirst s)
+    → shaped p last s ≡ isWhole s && isShortest s && isRising last (getD s 0 0) && shapedBody (getD s 0 0) (writtenAs p (getD s 0 0) (firstBody s)) (firstBody s) && shaped p (cond (attribute (getD s 0 0)) (getD s 0 0) last) (afterFirst s)
 unfolding shapedBody
 shaped-at p last [] h = absurd (omega arith)
 shaped-at p last (tag ∷ rest) h =
     let s = tag ∷ rest in
     shaped-item p last tag rest
-    ∙ regroup (isWhole s) (isShortest s) (isRising last tag) (isWritten (writtenAs p tag) (firstBody s)) (cond (isItems (writtenAs p tag)) (shaped tag 0x7F (firstBody s)) true)
+    ∙ regroup (isWhole s) (isShortest s) (isRising last tag) (isWritten (writtenAs p tag (firstBody s)) (firstBody s)) (cond (isItems (writtenAs p tag (firstBody s))) (shaped tag 0x7F (firstBody s)) true)
     (shaped p (cond (attribute tag) tag last) (afterFirst s))
 
 -- ---- values
@@ -201,46 +201,46 @@ bearer-short : (o : List ℕ) → isBearer o ≡ true → length o ≤ 8
 unfolding isBearer ensembleFlag longSidFlag
 bearer-short o h = omega (arith, eqb-true (length o) (3 + 3 * ensembleFlag o + 2 * longSidFlag o) h)
 
-module _ (p tag : ℕ) (o : List ℕ) (k : KnownKind) (ke : k ≡ asKnown (writtenAs p tag)) where
-  pub item-unknown : k ≡ Unknown → false ≡ shapedBody tag (writtenAs p tag) o
+module _ (p tag : ℕ) (o : List ℕ) (k : KnownKind) (ke : k ≡ asKnown (writtenAs p tag o)) where
+  pub item-unknown : k ≡ Unknown → false ≡ shapedBody tag (writtenAs p tag o) o
   unfolding shapedBody isWritten
-  item-unknown q = sym (ap (λ l. shapedBody tag l o) (written-none p tag k ke q))
+  item-unknown q = sym (ap (λ l. shapedBody tag l o) (written-none p tag o k ke q))
 
   module _ (l : Kind) (q : k ≡ Known l) where
-    kind-is : (m : Kind) → l ≡ m → shapedBody tag (writtenAs p tag) o ≡ shapedBody tag (some m) o
-    kind-is m e = ap (λ n. shapedBody tag n o) (written-some p tag k ke l q ∙ ap some e)
+    kind-is : (m : Kind) → l ≡ m → shapedBody tag (writtenAs p tag o) o ≡ shapedBody tag (some m) o
+    kind-is m e = ap (λ n. shapedBody tag n o) (written-some p tag o k ke l q ∙ ap some e)
 
-    pub item-items : l ≡ HoldsItems → (r : Bool) → r ≡ shaped tag 0x7F o → r ≡ shapedBody tag (writtenAs p tag) o
+    pub item-items : l ≡ HoldsItems → (r : Bool) → r ≡ shaped tag 0x7F o → r ≡ shapedBody tag (writtenAs p tag o) o
     unfolding shapedBody isItems
     item-items e r f = f ∙ sym (kind-is HoldsItems e ∙ rw (stands-written HoldsItems o refl))
 
-    standing : (m : Kind) → l ≡ m → isItems (some m) ≡ false → asItStands m ≡ true → true ≡ shapedBody tag (writtenAs p tag) o
+    standing : (m : Kind) → l ≡ m → isItems (some m) ≡ false → asItStands m ≡ true → true ≡ shapedBody tag (writtenAs p tag o) o
     unfolding shapedBody
     standing m e i h = sym (kind-is m e ∙ rw (stands-written m o h, i))
 
-    pub item-tokens : l ≡ HoldsTokens → true ≡ shapedBody tag (writtenAs p tag) o
+    pub item-tokens : l ≡ HoldsTokens → true ≡ shapedBody tag (writtenAs p tag o) o
     unfolding isItems
     item-tokens e = standing HoldsTokens e refl refl
 
-    pub item-text : l ≡ HoldsText → true ≡ shapedBody tag (writtenAs p tag) o
+    pub item-text : l ≡ HoldsText → true ≡ shapedBody tag (writtenAs p tag o) o
     unfolding isItems
     item-text e = standing HoldsText e refl refl
 
-    pub item-plain : l ≡ HoldsPlain → true ≡ shapedBody tag (writtenAs p tag) o
+    pub item-plain : l ≡ HoldsPlain → true ≡ shapedBody tag (writtenAs p tag o) o
     unfolding isItems
     item-plain e = standing HoldsPlain e refl refl
 
-    pub item-time : l ≡ HoldsTime → (r : Bool) → r ≡ fits l o && leb (length (normalOctets l o)) 8 && sameOctets (normalOctets l o) o → r ≡ shapedBody tag (writtenAs p tag) o
+    pub item-time : l ≡ HoldsTime → (r : Bool) → r ≡ fits l o && leb (length (normalOctets l o)) 8 && sameOctets (normalOctets l o) o → r ≡ shapedBody tag (writtenAs p tag o) o
     unfolding isItems fits
     item-time e r f =
         f ∙ ap (λ m. fits m o && leb (length (normalOctets m o)) 8 && sameOctets (normalOctets m o) o) e ∙ unbound HoldsTime o (time-short o) ∙ sym (kind-is HoldsTime e ∙ simply tag HoldsTime o refl)
 
-    pub item-bearer : l ≡ HoldsBearer → (r : Bool) → r ≡ fits l o && leb (length (normalOctets l o)) 8 && sameOctets (normalOctets l o) o → r ≡ shapedBody tag (writtenAs p tag) o
+    pub item-bearer : l ≡ HoldsBearer → (r : Bool) → r ≡ fits l o && leb (length (normalOctets l o)) 8 && sameOctets (normalOctets l o) o → r ≡ shapedBody tag (writtenAs p tag o) o
     unfolding isItems fits
     item-bearer e r f =
         f ∙ ap (λ m. fits m o && leb (length (normalOctets m o)) 8 && sameOctets (normalOctets m o) o) e ∙ unbound HoldsBearer o (bearer-short o) ∙ sym (kind-is HoldsBearer e ∙ simply tag HoldsBearer o refl)
 
-    pub item-number : (n : NumberKind) → l ≡ HoldsNumber n → Octets o → (r : Bool) → r ≡ fits l o → r ≡ shapedBody tag (writtenAs p tag) o
+    pub item-number : (n : NumberKind) → l ≡ HoldsNumber n → Octets o → (r : Bool) → r ≡ fits l o → r ≡ shapedBody tag (writtenAs p tag o) o
     unfolding isItems fits
     item-number n e os r f = f ∙ ap (λ m. fits m o) e ∙ go (eqb (length o) (width n)) refl ∙ sym (kind-is (HoldsNumber n) e ∙ simply tag (HoldsNumber n) o refl)
       where
@@ -299,7 +299,7 @@ module _ (p : ℕ) (part : List ℕ) where
         abbrev tag : ℕ
         tag = getD part at 0
 
-        step : shaped p 0x7F part ≡ isShortest s && isRising last tag && shapedBody tag (writtenAs p tag) (between part from to) && shaped p (cond (attribute tag) tag last) (drop to part)
+        step : shaped p 0x7F part ≡ isShortest s && isRising last tag && shapedBody tag (writtenAs p tag (between part from to)) (between part from to) && shaped p (cond (attribute tag) tag last) (drop to part)
         step =
             inv .same ∙ shaped-at p last s some-left
             ∙ rw (le-leb (headerSize s + bodySize s) (length s) (here .inside), tag-is here (inv .inside), body-is here (inv .inside), later-is here (inv .inside))
@@ -326,7 +326,7 @@ module _ (p : ℕ) (part : List ℕ) where
               pub shapes-falling : b ≡ false → false ≡ shaped p 0x7F part
               shapes-falling bq = sym (step ∙ rw (short, sym be ∙ bq))
 
-              module _ (bq : b ≡ true) (c : Bool) (ce : c ≡ shapedBody tag (writtenAs p tag) (between part from to)) where
+              module _ (bq : b ≡ true) (c : Bool) (ce : c ≡ shapedBody tag (writtenAs p tag (between part from to)) (between part from to)) where
                 pub shapes-body : c ≡ false → false ≡ shaped p 0x7F part
                 shapes-body cq = sym (step ∙ rw (short, sym be ∙ bq, sym ce ∙ cq))
 

@@ -28,9 +28,9 @@ use Rattle.compare.specs.declared.steps.Due.the-variants.{None, Lost, Fo
 use Rattle.compare.specs.declared.steps.InStep.{InStep}
 use Rattle.compare.specs.declared.steps.InStep.the-variants.{Same, Different, Astray}
 use Rattle.compare.specs.Bodies.{sameBody}
-use Rattle.compare.specs.Items.{sameFound, sameFrom, sameSets}
+use Rattle.compare.specs.Items.{countedBody, countedOfTag, sameFound, sameFrom, sameSets}
 use Rattle.compare.specs.Steps.{attributeAt, dueAs, dueAt, itemOf, endsBy, Walked}
-use Rattle.compare.proofs.Sets.{body-none, body-some}
+use Rattle.compare.proofs.Sets.{body-none, body-some, both-counted}
 
 -- ---- is_due, due, item_of
 
@@ -223,7 +223,7 @@ module _ (parent : ℕ) (es : Entries) (a : List ℕ) (fs : Entries) (b : List �
   whole = sameSets parent es a fs b
 
   abbrev one : ℕ → Bool
-  one t = sameFound es fs (known parent t) (bodyOfTag t a) (bodyOfTag t b)
+  one t = sameFound es fs (known parent t) (countedOfTag parent t a) (countedOfTag parent t b)
 
   from-same : (n tag : ℕ) → 0x80 ≤ tag → ((t : ℕ) → attribute t ≡ true → one t ≡ true) → sameFrom n tag parent es a fs b ≡ true
   unfolding sameFrom attribute
@@ -241,11 +241,11 @@ module _ (parent : ℕ) (es : Entries) (a : List ℕ) (fs : Entries) (b : List �
 
   one-unknown : (t : ℕ) → known parent t ≡ none → one t ≡ true
   unfolding sameFound
-  one-unknown t e = ap (λ k. sameFound es fs k (bodyOfTag t a) (bodyOfTag t b)) e
+  one-unknown t e = ap (λ k. sameFound es fs k (countedOfTag parent t a) (countedOfTag parent t b)) e
 
   one-absent : (t : ℕ) → bodyOfTag t a ≡ none → bodyOfTag t b ≡ none → one t ≡ true
-  unfolding sameFound sameMaybe
-  one-absent t e f = ap₂ (sameFound es fs (known parent t)) e f ∙ go (known parent t)
+  unfolding countedOfTag countedBody sameFound sameMaybe
+  one-absent t e f = ap₂ (λ x y. sameFound es fs (known parent t) (countedBody parent t x) (countedBody parent t y)) e f ∙ go (known parent t)
     where
       go : (k : Option Kind) → sameFound es fs k none none ≡ true
       go none = refl
@@ -303,9 +303,11 @@ module _ (parent : ℕ) (es : Entries) (a : List ℕ) (fs : Entries) (b : List �
 
       module _ (r : Bool) (re : r ≡ sameFound es fs (known parent tag) (some (between a from to)) (some (between b start end))) where
         turn : one tag ≡ r
+        unfolding countedOfTag
         turn =
-            ap₂ (sameFound es fs (known parent tag)) (span-here a i tag from to (facts .0) (facts .1) tag (inv .first tag (facts .2)) refl) (span-here b j tag start end other (facts .1) tag (inv .second tag (facts .2)) refl)
-            ∙ sym re
+            ap₂ (λ x y. sameFound es fs (known parent tag) (countedBody parent tag x) (countedBody parent tag y))
+            (span-here a i tag from to (facts .0) (facts .1) tag (inv .first tag (facts .2)) refl) (span-here b j tag start end other (facts .1) tag (inv .second tag (facts .2)) refl)
+            ∙ both-counted es fs parent tag (between a from to) (between b start end) ∙ sym re
 
         pub pace-different : r ≡ false → Walked whole Different
         pace-different q = record { same = λ e. let z : _≡_ {A = ℕ} 0 1 = cc in absurd (omega arith); different = λ e. sets-different tag (facts .1) (turn ∙ q) }

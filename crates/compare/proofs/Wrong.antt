@@ -11,10 +11,11 @@ use Rattle.text.specs.Text.{layout, token}
 use Rattle.text.specs.Tokens.{Entries, entry, orItself, stands, expanded}
 use Rattle.text.specs.Index.{usable, placeAt, placeBy, withPlace, entriesBelow, entriesBy}
 use Rattle.values.specs.declared.Kind.the-variants.{HoldsTime, HoldsBearer}
-use Rattle.values.specs.Table.{rows, kindIn, known, attribute}
+use Rattle.values.specs.Table.{rows, kindIn, known, attribute, defaults, defaultIn}
 use Rattle.values.specs.Times.{bits, longFlag, offsetFlag, offsetOctet, timeOf, inRange, isTime, sign, timeOctets}
 use Rattle.values.specs.Bearers.{ensembleFlag, longSidFlag, ensembleOf, bearerOf, isBearer, ensembleBit, ensembleOctets, bearerOctets}
 use Rattle.values.specs.Values.{width, fits, meant, octetsOf}
+use Rattle.values.specs.Calls.{defaultOctets}
 use Rattle.format.specs.declared.SameAnswer.the-variants.{Same, Different, FirstRefused, SecondRefused}
 use Rattle.format.specs.Answers.{refusal, wrongValue, sameOutcome}
 use Rattle.format.specs.Judge.{isKnown, isItems, judge}
@@ -23,11 +24,11 @@ use Rattle.format.specs.Same.{sameOctets, sameValue, sameMaybe, sameAnswer, isN
 use Rattle.survey.specs.Places.{spanWithin, spanOfTag, bodyBy, bodyOfTag}
 use Rattle.compare.specs.Bodies.{sameBody}
 use Rattle.compare.specs.Walks.{childrenWithin, childrenIn}
-use Rattle.compare.specs.Items.{sameFound, sameFrom, sameSets, sameText, sameEach, sameElement, sameChildren}
-use Rattle.compare.proofs.Examples.{rising-order, falling-minus-zero, no-cdata, empty-cdata, top, cut-short, mistimed, language, computed}
+use Rattle.compare.specs.Items.{countedBody, countedOfTag, sameFound, sameFrom, sameSets, sameText, sameEach, sameElement, sameChildren}
+use Rattle.compare.proofs.Examples.{rising-order, falling-minus-zero, no-cdata, empty-cdata, top, cut-short, mistimed, language, unsaid, said-no, said-yes, computed}
 
 -- `same`: no CDATA and an empty one told as the same; another order of attributes and minus 0 told as different; the second object's refusal told of the first, or
--- without its field
+-- without its field; a default told as a difference, or as the same as another value (change request 2026-05)
 pub empty-as-none : sameAnswer (judge no-cdata) (judge empty-cdata) ≡ Same → ⊥
 empty-as-none h = let z : Same ≡ Different = sym h ∙ ap (λ l. getD l 6 Same) (computed .compared) in let z : _≡_ {A = ℕ} 0 1 = cc in omega arith
 
@@ -43,12 +44,21 @@ field-left-out h =
     let z : _≡_ {A = ℕ} 0 3 = ap (λ a. sameOutcome a .field) e in
     omega arith
 
--- `is_normal`: attributes by falling tag and minus 0 passed; a normal form refused
+pub default-differs : sameAnswer (judge said-no) (judge unsaid) ≡ Different → ⊥
+default-differs h = let z : Different ≡ Same = sym h ∙ ap (λ l. getD l 14 Same) (computed .compared) in let z : _≡_ {A = ℕ} 0 1 = cc in omega arith
+
+pub default-as-any : sameAnswer (judge said-no) (judge said-yes) ≡ Same → ⊥
+default-as-any h = let z : Same ≡ Different = sym h ∙ ap (λ l. getD l 17 Same) (computed .compared) in let z : _≡_ {A = ℕ} 0 1 = cc in omega arith
+
+-- `is_normal`: attributes by falling tag and minus 0 passed; a normal form refused; a default passed
 pub falling-passes : isNormal falling-minus-zero ≡ true → ⊥
 falling-passes h = false≢true (sym (ap (λ l. getD l 5 true) (computed .formed)) ∙ h)
 
 pub normal-refused : isNormal language ≡ false → ⊥
 normal-refused h = true≢false (sym (ap (λ l. getD l 3 false) (computed .formed)) ∙ h)
+
+pub default-passes : isNormal said-no ≡ true → ⊥
+default-passes h = false≢true (sym (ap (λ l. getD l 16 true) (computed .formed)) ∙ h)
 
 -- a token table with 'ab' under 0x01, its index, and the index of no table
 abbrev ab : List ℕ
@@ -93,15 +103,24 @@ pub last-unseen : sameOctets (0x61 ∷ 0x62 ∷ []) (0x61 ∷ 0x63 ∷ []) ≡ t
 unfolding sameOctets
 last-unseen h = false≢true h
 
--- `same_attribute`, the version of serviceInformation: absent in one told as the same; an unknown attribute before it told as a difference
-pub absent-passes : (es fs : Entries) → sameFound es fs (known 0x03 0x80) (bodyOfTag 0x80 []) (bodyOfTag 0x80 (0x80 ∷ 0x02 ∷ 0x00 ∷ 0x01 ∷ [])) ≡ true → ⊥
-unfolding sameFound sameMaybe known rows kindIn attribute bodyOfTag bodyBy spanOfTag spanWithin headerSize bodySize
+-- `same_attribute`, the version of serviceInformation: absent in one told as the same; an unknown attribute before it told as a difference; the recommendation "no" of
+-- a programme, which is its default, told as a difference from none; the octet of that default dropped where an attribute has none, as a multimedia's type
+pub absent-passes : (es fs : Entries) → sameFound es fs (known 0x03 0x80) (countedOfTag 0x03 0x80 []) (countedOfTag 0x03 0x80 (0x80 ∷ 0x02 ∷ 0x00 ∷ 0x01 ∷ [])) ≡ true → ⊥
+unfolding sameFound sameMaybe known rows kindIn attribute countedOfTag countedBody defaultOctets bodyOfTag bodyBy spanOfTag spanWithin headerSize bodySize
 absent-passes es fs h = false≢true h
 
 pub unknown-counted : (es fs : Entries)
-    → sameFound es fs (known 0x03 0x80) (bodyOfTag 0x80 (0x80 ∷ 0x02 ∷ 0x00 ∷ 0x01 ∷ [])) (bodyOfTag 0x80 (0x99 ∷ 0x00 ∷ 0x80 ∷ 0x02 ∷ 0x00 ∷ 0x01 ∷ [])) ≡ false → ⊥
-unfolding sameFound sameMaybe known rows kindIn attribute bodyOfTag bodyBy spanOfTag spanWithin headerSize bodySize sameBody sameValue sameOctets fits width meant octetsOf value digits
+    → sameFound es fs (known 0x03 0x80) (countedOfTag 0x03 0x80 (0x80 ∷ 0x02 ∷ 0x00 ∷ 0x01 ∷ [])) (countedOfTag 0x03 0x80 (0x99 ∷ 0x00 ∷ 0x80 ∷ 0x02 ∷ 0x00 ∷ 0x01 ∷ [])) ≡ false → ⊥
+unfolding sameFound sameMaybe known rows kindIn attribute countedOfTag countedBody defaultOctets bodyOfTag bodyBy spanOfTag spanWithin headerSize bodySize sameBody sameValue sameOctets fits width meant octetsOf value digits
 unknown-counted es fs h = true≢false h
+
+pub default-counted : (es fs : Entries) → sameFound es fs (known 0x1C 0x83) (countedOfTag 0x1C 0x83 (0x83 ∷ 0x01 ∷ 0x01 ∷ [])) (countedOfTag 0x1C 0x83 []) ≡ false → ⊥
+unfolding sameFound sameMaybe known rows kindIn attribute countedOfTag countedBody defaultOctets defaultIn defaults bodyOfTag bodyBy spanOfTag spanWithin headerSize bodySize
+default-counted es fs h = true≢false h
+
+pub other-dropped : (es fs : Entries) → sameFound es fs (known 0x2B 0x83) (countedOfTag 0x2B 0x83 (0x83 ∷ 0x01 ∷ 0x01 ∷ [])) (countedOfTag 0x2B 0x83 []) ≡ true → ⊥
+unfolding sameFound sameMaybe known rows kindIn attribute countedOfTag countedBody defaultOctets defaultIn defaults bodyOfTag bodyBy spanOfTag spanWithin headerSize bodySize
+other-dropped es fs h = false≢true h
 
 -- `same_cdata`: none told as the same as an empty one; that of a child taken for the element's own
 pub none-as-empty : (es fs : Entries) → sameText es fs (bodyOfTag 1 []) (bodyOfTag 1 (0x01 ∷ 0x00 ∷ [])) ≡ true → ⊥
@@ -112,7 +131,8 @@ pub child-for-own : (es fs : Entries) → sameText es fs (bodyOfTag 1 (0x10 ∷ 
 unfolding sameText sameMaybe attribute bodyOfTag bodyBy spanOfTag spanWithin headerSize bodySize
 child-for-own es fs h = false≢true h
 
--- `same_attributes`: attributes in another order told as different; the last one that an element can have, programme's xml:lang, not looked at
+-- `same_attributes`: attributes in another order told as different; the last one that an element can have, programme's xml:lang, not looked at; a default that stands
+-- before another attribute in one alone told as a difference
 abbrev versioned : List ℕ
 versioned = 0x80 ∷ 0x02 ∷ 0x00 ∷ 0x01 ∷ []
 
@@ -122,16 +142,20 @@ created = 0x81 ∷ 0x04 ∷ 0x30 ∷ 0xD4 ∷ 0x00 ∷ 0x00 ∷ []
 record Attributes : Type 0 where
   turned : sameSets 0x03 [] (versioned ++ created) [] (created ++ versioned) ≡ true
   last : sameSets 0x1C [] (0x86 ∷ 0x01 ∷ 0x61 ∷ []) [] [] ≡ false
+  defaulted : sameSets 0x1C [] (0x83 ∷ 0x01 ∷ 0x01 ∷ 0x84 ∷ 0x01 ∷ 0x02 ∷ []) [] (0x84 ∷ 0x01 ∷ 0x02 ∷ []) ≡ true
 
 attributes : Attributes
-unfolding sameSets sameFrom sameFound sameMaybe known rows kindIn attribute bodyOfTag bodyBy spanOfTag spanWithin headerSize bodySize sameBody sameValue sameOctets fits width meant octetsOf value digits isTime timeOf timeOctets inRange sign bits longFlag offsetFlag offsetOctet
-attributes = record { turned = refl; last = refl }
+unfolding sameSets sameFrom sameFound sameMaybe known rows kindIn attribute countedOfTag countedBody defaultOctets defaultIn defaults bodyOfTag bodyBy spanOfTag spanWithin headerSize bodySize sameBody sameValue sameOctets fits width meant octetsOf value digits isTime timeOf timeOctets inRange sign bits longFlag offsetFlag offsetOctet
+attributes = record { turned = refl; last = refl; defaulted = refl }
 
 pub turned-different : sameSets 0x03 [] (versioned ++ created) [] (created ++ versioned) ≡ false → ⊥
 turned-different h = true≢false (sym (attributes .turned) ∙ h)
 
 pub last-attribute-unseen : sameSets 0x1C [] (0x86 ∷ 0x01 ∷ 0x61 ∷ []) [] [] ≡ true → ⊥
 last-attribute-unseen h = false≢true (sym (attributes .last) ∙ h)
+
+pub default-different : sameSets 0x1C [] (0x83 ∷ 0x01 ∷ 0x01 ∷ 0x84 ∷ 0x01 ∷ 0x02 ∷ []) [] (0x84 ∷ 0x01 ∷ 0x02 ∷ []) ≡ false → ⊥
+default-different h = true≢false (sym (attributes .defaulted) ∙ h)
 
 -- `same_child`, two services: an unknown element in one told as a difference; a name in one alone told as none. `same_children`: names in another order told as
 -- the same; a token table taken for a child element
@@ -148,7 +172,7 @@ record Elements : Type 0 where
   tabled : sameChildren 1 [] (0x04 ∷ 0x00 ∷ short-name) [] short-name ≡ true
 
 elements : Elements
-unfolding sameElement sameChildren sameEach childrenIn childrenWithin opens isChild isKnown isItems sameSets sameFrom sameFound sameMaybe sameText known rows kindIn attribute bodyOfTag bodyBy spanOfTag spanWithin headerSize bodySize
+unfolding sameElement sameChildren sameEach childrenIn childrenWithin opens isChild isKnown isItems sameSets sameFrom sameFound sameMaybe sameText known rows kindIn attribute countedOfTag countedBody bodyOfTag bodyBy spanOfTag spanWithin headerSize bodySize
 elements = record { unknown = refl; named = refl; turned = refl; tabled = refl }
 
 pub unknown-differs : sameElement 2 [] [] 0x28 (0x7F ∷ 0x00 ∷ []) [] ≡ false → ⊥

@@ -9,6 +9,7 @@ use lib.Dec.{eqb}
 use Rattle.text.specs.Tokens.{Entries, expanded}
 use Rattle.values.specs.declared.Kind.{Kind}
 use Rattle.values.specs.Table.{known}
+use Rattle.values.specs.Calls.{defaultOctets}
 use Rattle.format.specs.declared.SameAnswer.{SameAnswer}
 use Rattle.format.specs.declared.SameAnswer.the-variants.{Same, Different}
 use Rattle.format.specs.Tree.{Items}
@@ -18,13 +19,22 @@ use Rattle.format.specs.Meaning.{opens, leafOctets, meaningOf}
 use Rattle.format.specs.Same.{sameOctets, sameMaybe, sameMeaning}
 use Rattle.survey.specs.declared.Lies.{Lies}
 use Rattle.survey.specs.declared.Lies.the-variants.{Outside, Between}
-use Rattle.survey.specs.Places.{bodyOfTag}
+use Rattle.survey.specs.Places.{between, spanOfTag, bodyOfTag}
 use Rattle.compare.specs.declared.walks.Child.{Child}
 use Rattle.compare.specs.declared.walks.Child.the-variants.{End, Found}
 use Rattle.compare.specs.declared.items.Content.{Content}
 use Rattle.compare.specs.declared.items.Content.the-variants.{Items as InItems, Text as InText, Octets as InOctets}
 use Rattle.compare.specs.Bodies.{sameBody}
 use Rattle.compare.specs.Walks.{childrenIn}
+
+-- the body of an attribute of an element counts unless it is its default: that means the same as none (change request 2026-05)
+unfoldable pub countedBody : (parent tag : ℕ) → Option (List ℕ) → Option (List ℕ)
+countedBody parent tag none = none
+countedBody parent tag (some o) = cond (defaultOctets parent tag o) none (some o)
+
+-- the body that counts under a tag, in an element
+unfoldable pub countedOfTag : (parent tag : ℕ) → List ℕ → Option (List ℕ)
+countedOfTag parent tag part = countedBody parent tag (bodyOfTag tag part)
 
 -- the bodies under one tag in two elements: both absent, or both present and of one meaning by the kind that the tag has there; one that isn't known says
 -- nothing
@@ -35,7 +45,7 @@ sameFound es fs (some k) a b = sameMaybe (sameBody es fs k) a b
 -- the attributes of as many tags as the first number says, from a tag on
 unfoldable pub sameFrom : (many tag parent : ℕ) → Entries → List ℕ → Entries → List ℕ → Bool
 sameFrom zero tag parent es a fs b = true
-sameFrom (suc n) tag parent es a fs b = sameFound es fs (known parent tag) (bodyOfTag tag a) (bodyOfTag tag b) && sameFrom n (suc tag) parent es a fs b
+sameFrom (suc n) tag parent es a fs b = sameFound es fs (known parent tag) (countedOfTag parent tag a) (countedOfTag parent tag b) && sameFrom n (suc tag) parent es a fs b
 
 -- all attributes of two elements of a tag, as sets: where each stands says nothing
 unfoldable pub sameSets : (parent : ℕ) → Entries → List ℕ → Entries → List ℕ → Bool
@@ -66,6 +76,14 @@ unfoldable pub sameChildren : (levels : ℕ) → Entries → List ℕ → Entrie
 sameChildren levels es a fs b = sameEach (sameElement levels es fs) (childrenIn a) (childrenIn b)
 
 -- ---- what single functions tell; no claim of a call names these
+
+-- where the body that counts under a tag lies
+unfoldable pub countedLies : (parent tag : ℕ) → List ℕ → Lies → Lies
+countedLies parent tag part Outside = Outside
+countedLies parent tag part (Between from to) = cond (defaultOctets parent tag (between part from to)) Outside (Between from to)
+
+unfoldable pub countedSpan : (parent tag : ℕ) → List ℕ → Lies
+countedSpan parent tag part = countedLies parent tag part (spanOfTag tag part)
 
 unfoldable pub isAbsent : Lies → Bool
 isAbsent Outside = true

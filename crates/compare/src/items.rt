@@ -5,7 +5,7 @@
 ghost use mathlib.Core.Path.{_≡_};
 ghost use Rattle.text.specs.Index.{entriesBy};
 ghost use Rattle.values.specs.Table.{known};
-ghost use Rattle.compare.specs.Items.{sameFound, sameSets, sameText, sameElement, sameChildren, isAbsent, contentOf, isEnded};
+ghost use Rattle.compare.specs.Items.{countedOfTag, sameFound, sameSets, sameText, sameElement, sameChildren, countedSpan, isAbsent, contentOf, isEnded};
 ghost use Rattle.survey.specs.Places.{bodyOfTag};
 use crate::bodies::same_bodies;
 use crate::bodies::same_octets;
@@ -18,6 +18,7 @@ use survey::Lies;
 use survey::find_item;
 use values::Kind;
 use values::KnownKind;
+use values::is_default;
 use values::known_kind;
 
 fn is_absent(found: Lies) -> bool
@@ -27,6 +28,19 @@ fn is_absent(found: Lies) -> bool
         Lies::Outside => true,
         Lies::Between { from: _, to: _ } => false,
     }
+}
+
+// Where the attribute of a tag lies in the body of an element with the tag `parent`. One that has its default counts as absent.
+fn find_counted(parent: u8, tag: u8, part: &[u8]) -> Lies
+    ensures { λ r. ⌜ r ≡ countedSpan parent tag (now (part .entry)) ⌝ }
+{
+    let Lies::Between { from, to } = find_item(part, tag) else {
+        return Lies::Outside;
+    };
+    if is_default(parent, tag, &part[from..to]) {
+        return Lies::Outside;
+    }
+    Lies::Between { from, to }
 }
 
 // The attribute of a tag in two elements with the tag `parent` and these bodies. A tag that isn't known there says nothing.
@@ -40,18 +54,18 @@ pub fn same_attribute(
     table_b: &[u8],
     b: &[u8],
 ) -> bool
-    ensures { λ r. ⌜ r ≡ sameFound (entriesBy (now («index_a» .entry)) (now («table_a» .entry))) (entriesBy (now («index_b» .entry)) (now («table_b» .entry))) (known parent tag) (bodyOfTag tag (now (a .entry))) (bodyOfTag tag (now (b .entry))) ⌝ }
+    ensures { λ r. ⌜ r ≡ sameFound (entriesBy (now («index_a» .entry)) (now («table_a» .entry))) (entriesBy (now («index_b» .entry)) (now («table_b» .entry))) (known parent tag) (countedOfTag parent tag (now (a .entry))) (countedOfTag parent tag (now (b .entry))) ⌝ }
 {
     let KnownKind::Known(kind) = known_kind(parent, tag) else {
         return true;
     };
-    let Lies::Between { from, to } = find_item(a, tag) else {
-        return is_absent(find_item(b, tag));
+    let Lies::Between { from, to } = find_counted(parent, tag, a) else {
+        return is_absent(find_counted(parent, tag, b));
     };
     let Lies::Between {
         from: start,
         to: end,
-    } = find_item(b, tag)
+    } = find_counted(parent, tag, b)
     else {
         return false;
     };

@@ -67,9 +67,9 @@ fn later_tag(last: u8, tag: u8) -> u8
 
 // The body of an item of a tag in an element. Texts stand as they are: in a normal form there is no token table.
 fn is_item_normal(parent: u8, tag: u8, body: &[u8]) -> bool
-    ensures { λ r. ⌜ r ≡ shapedBody tag (writtenAs parent tag) (now (body .entry)) ⌝ }
+    ensures { λ r. ⌜ r ≡ shapedBody tag (writtenAs parent tag (now (body .entry))) (now (body .entry)) ⌝ }
 {
-    match written_as(parent, tag) {
+    match written_as(parent, tag, body) {
         KnownKind::Unknown => false,
         KnownKind::Known(kind) => match kind {
             Kind::HoldsItems => are_items_normal(tag, body),
