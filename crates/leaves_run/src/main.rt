@@ -1,7 +1,8 @@
 // Reads questions on standard input and prints a line for each, as the second program's leaves do (second/leaves.c), so that the two can be compared.
 //
-// A question is a letter, an octet that says a size, and so many octets: K the kind of an element and tag, U whether octets are text, T a time or the field of
-// it that is wrong, O its local time, B a bearer. What an answer says is proved where it is found, in `values`, `text` and `show`; here every function is safe and ends.
+// A question is a letter, an octet that says a size, and so many octets: K the kind of an element and tag, D whether octets are the default of an attribute, U
+// whether octets are text, T a time or the field of it that is wrong, O its local time, B a bearer. What an answer says is proved where it is found, in `values`,
+// `text` and `show`; here every function is safe and ends.
 use libc::STDIN_FILENO;
 use libc::STDOUT_FILENO;
 use show::Put;
@@ -187,6 +188,26 @@ fn answer_kind(s: &[u8], out: &mut [u8], used: usize) -> usize
     }
 }
 
+// ---- D
+
+// Whether the octets behind an element and a tag are the default of that attribute.
+fn is_default(s: &[u8]) -> bool {
+    if s.len() < 2 {
+        return false;
+    }
+    values::is_default(s[0], s[1], &s[2..])
+}
+
+fn answer_default(s: &[u8], out: &mut [u8], used: usize) -> usize
+    requires { ⌜ used ≤ length (now out) ⌝ }
+    ensures { λ r. ⌜ r ≤ length (now (out .exit)) ⌝ }
+{
+    if is_default(s) {
+        return say(out, used, b"default yes");
+    }
+    say(out, used, b"default no")
+}
+
 // ---- U
 
 // The first octet says whether token octets may stand in the text.
@@ -353,6 +374,7 @@ fn answer(letter: u8, s: &[u8], out: &mut [u8], used: usize) -> usize
 {
     match letter {
         b'K' => answer_kind(s, out, used),
+        b'D' => answer_default(s, out, used),
         b'U' => answer_text(s, out, used),
         b'T' => answer_time(s, out, used),
         b'O' => answer_local(s, out, used),

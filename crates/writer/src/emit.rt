@@ -85,14 +85,7 @@ fn next_attribute(
 }
 
 // A body as an item of a tag, if it is written: that is asked of a stored body too, which is then copied.
-fn put_written(
-    room: &mut [u8],
-    to: usize,
-    parent: u8,
-    tag: u8,
-    body: &[u8],
-    stored: bool,
-) -> usize
+fn put_written(room: &mut [u8], to: usize, parent: u8, tag: u8, body: &[u8], stored: bool) -> usize
     requires { ⌜ (stored ≡ true → Standing parent tag (now body)) ⌝ }
     requires { ⌜ Fitting (itemOctets parent tag (now body)) to (length (now room)) ⌝ }
     ensures { λ r. ⌜ Lays (itemOctets parent tag (now (body .entry))) to (now (room .entry)) (now (room .exit)) r ⌝ }
