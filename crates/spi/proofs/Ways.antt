@@ -1,15 +1,17 @@
--- The ways through the program's functions that aren't arithmetic alone: where octets first differ, a normal form and an XML within their room.
+-- The ways through the program's functions that aren't arithmetic alone: where octets first differ, a normal form and an XML within their room, items that lie in a part.
 use mathlib.Core.Path.{_≡_, refl}
 use mathlib.Core.Bool.{false}
 use mathlib.Core.List.{List}
-use Prim.Native.Nat.{ℕ, suc, _+_, _≤_, _<_}
+use Prim.Native.Nat.{ℕ, suc, _+_, _-_, _^_, _≤_, _<_}
 use native.Mathlib.Omega.{arith}
 use lib.Dec.{T}
 use lib.IntN.{ℤ, pos, negsuc}
 use lib.Signed.{ltZ, nonNeg}
-use lib.ListN.{length, drop, getD, drop-of-length-le}
+use lib.ListN.{length, take, drop, getD, drop-of-length-le}
+use mir.Syntax.{w64}
+use mir.Val.{Fits}
 use borrow.Author.Tests.{eq-eqb, ne-eqb}
-use Rattle.octets.proofs.Lists.{drop-next}
+use Rattle.octets.proofs.Lists.{drop-next, length-part}
 use Rattle.io.specs.Counts.{Counts}
 use Rattle.io.proofs.Counting.{counts}
 use Rattle.format.specs.declared.WriteAnswer.{WriteAnswer}
@@ -18,6 +20,10 @@ use Rattle.format.specs.Answers.{writeOutcome}
 use Rattle.format.specs.Calls.{Lists, NormaliseClaim}
 use Rattle.xml.specs.Export.{ExportClaim}
 use Rattle.xml.proofs.Objects.{export-inside}
+use Rattle.survey.specs.declared.Lies.{Lies}
+use Rattle.survey.specs.declared.Lies.the-variants.{Between}
+use Rattle.survey.specs.Places.{liesAt}
+use Rattle.survey.proofs.Places.{Lying, lying, bounds, nearer}
 use Rattle.writer.proofs.Normalised.{written-inside}
 use Rattle.spi.specs.Common.{common}
 use Rattle.spi.specs.declared.objects.Made.{Made}
@@ -73,6 +79,32 @@ pub xml-within : (o room room′ : List ℕ) (answer : WriteAnswer) → ExportCl
     → (r : Made) → r .size .0 ≡ writeOutcome answer .count → Counts (r .size .0) room′
 xml-within o room room′ (Octets n) c e r q = counts (r .size .0) room′ (omega (arith, q, export-inside o room room′ n c))
 xml-within o room room′ (NotWritten r₁) c e r q = counts (r .size .0) room′ (omega (arith, q))
+
+-- ---- items in a part
+
+module _ (part : List ℕ) (at : ℕ) (r : Lies) (e : r ≡ liesAt part at) (h : at < length part) (from to : ℕ) (q : r ≡ Between from to) where
+  here : Lying part at from to
+  here = lying part at r e from to q
+
+  within : (from ≤ to) × (to ≤ length part)
+  within = let b = bounds here (omega arith) in (b .1, b .2)
+
+  pub item-ordered : from ≤ to
+  item-ordered = within .0
+
+  pub item-inside : to ≤ length part
+  item-inside = within .1
+
+  pub item-nearer : length part - to < length part - at
+  item-nearer = nearer here (omega arith)
+
+  pub item-body : (offset : ℕ) → offset + length part < 2 ^ 63 → offset + from + length (take (to - from) (drop from part)) < 2 ^ 63
+  item-body offset b = omega (arith, length-part part from (to - from) (omega (arith, within)), within)
+
+  pub item-from : (offset : ℕ) → offset + length part < 2 ^ 63 → Fits w64 (offset + from)
+  item-from offset b = omega (arith, within)
+
+pub ruleset item-ways = (item-ordered, item-inside, item-nearer, item-body, item-from)
 
 -- ---- a number that isn't negative
 

@@ -9,6 +9,7 @@ mod lines;
 mod memory;
 mod objects;
 mod status;
+mod tree;
 mod words;
 
 use crate::comparing::compare;
@@ -24,6 +25,7 @@ use crate::memory::text_room;
 use crate::objects::check;
 use crate::objects::list;
 use crate::objects::normal_form;
+use crate::objects::outline;
 use crate::objects::xml_text;
 use crate::status::FAILED;
 use crate::status::GOOD;
@@ -36,6 +38,7 @@ use octets::Octets;
 enum Task {
     Check,
     List,
+    Show,
     Normal,
     Xml,
     Compare,
@@ -49,12 +52,15 @@ fn usage(text: &[u8]) -> u8 {
 }
 
 fn usage_of_all() -> u8 {
-    usage(b"check | list | normal | xml | compare | help")
+    usage(b"check | list | show | normal | xml | compare | help")
 }
 
 fn help() -> u8 {
     say(b"spi check FILE..        for each file: ok, or why it is refused and where\n");
     say(b"spi list FILE           the records of an object\n");
+    say(
+        b"spi show FILE           its items as an indented tree, each with its place, name and value\n",
+    );
     say(b"spi normal FILE OUT     writes an object's normal form to the file OUT\n");
     say(b"spi xml FILE OUT        writes an object's XML to the file OUT\n");
     say(b"spi compare FILE FILE   whether two objects mean the same\n");
@@ -118,6 +124,7 @@ fn treat(task: Task, path: &[u8], object: &[u8]) -> u8 {
     match task {
         Task::Check => check(path, object),
         Task::List => list(path, object),
+        Task::Show => outline(path, object),
         Task::Normal => save_normal(path, object),
         Task::Xml => save_xml(path, object),
         Task::Compare => compare_with(path, object),
@@ -173,6 +180,9 @@ fn obey(command: &[u8], count: usize) -> u8 {
     }
     if is_word(command, b"list") {
         return treat_first(Task::List, count == 3, b"list FILE");
+    }
+    if is_word(command, b"show") {
+        return treat_first(Task::Show, count == 3, b"show FILE");
     }
     if is_word(command, b"normal") {
         return treat_first(Task::Normal, count == 4, b"normal FILE OUT");

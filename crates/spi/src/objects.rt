@@ -8,6 +8,7 @@ use crate::memory::number_places;
 use crate::memory::octet_places;
 use crate::memory::room;
 use crate::status::GOOD;
+use crate::tree::show_tree;
 use format::Record;
 use format::WriteAnswer;
 use octets::Octets;
@@ -106,6 +107,15 @@ pub fn list(path: &[u8], object: &[u8]) -> u8 {
         &sizes,
         read.count,
     );
+    GOOD
+}
+
+pub fn outline(path: &[u8], object: &[u8]) -> u8 {
+    let judged = judge::judge(object).outcome();
+    if judged.number > 0 {
+        return say_refused(path, judged.number, judged.place, judged.field);
+    }
+    show_tree(object);
     GOOD
 }
 
