@@ -32,11 +32,12 @@ use Rattle.xml.proofs.Dates.{local-year}
 use Rattle.xml.proofs.Escapes.{read-back, escaped-inert}
 use Rattle.xml.proofs.NamedOnly.{named-exactly, plain-inside}
 use Rattle.xml.proofs.Objects.{exports-exactly, export-text}
+use Rattle.xml.proofs.Singled.{in-xml, text-value, text-in-parts}
 use Rattle.demands.specs.One.{Ends}
 use Rattle.demands.specs.One.OfCall.{ofCall}
 use Rattle.demands.specs.One.Refuses.{forObject, forCall}
 use Rattle.demands.specs.One.Ends.{answered, refusedAt}
-use Rattle.demands.specs.Xml.{ExportRefuses, ExportEnds, ExportOrder, ExportInOrder, XmlExactly, XmlText, XmlReadBack, LocalYears}
+use Rattle.demands.specs.Xml.{ExportRefuses, ExportEnds, ExportOrder, ExportInOrder, XmlExactly, XmlText, XmlReadBack, LocalYears, ItemAsInXml, TextAsInXml}
 use Rattle.demands.specs.Xml.ExportRefuses.{asOthers, forPlain}
 use Rattle.demands.proofs.Laws.{never, of-object}
 
@@ -181,3 +182,9 @@ xml-read-back s = (escaped-inert s, read-back s)
 
 pub local-years : LocalYears
 local-years = local-year
+
+pub item-as-in-xml : ItemAsInXml
+item-as-in-xml = in-xml
+
+pub text-as-in-xml : TextAsInXml
+text-as-in-xml parent tag h table one other = (text-value parent tag h table one, text-in-parts parent tag h table one other)

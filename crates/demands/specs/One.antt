@@ -226,7 +226,7 @@ ValuePutEnds =
     (valid : Bool) (octets before : List ℕ) (at : ℕ) (answer : ValuesPut) (after : List ℕ) → ValuesPuts valid octets before at answer after
     → PutEnds ValuesPut ValuesPut.Done ValuesPut.NoRoom ValuesPut.Invalid valid octets at before after answer
 
--- every call of show, whose texts are always valid
+-- every call of show, and put_item_name and put_item_value of xml, whose texts are always valid
 abbrev pub ShowPutEnds : Type 0
 ShowPutEnds =
     (text : List ℕ) (at : ℕ) (before after : List ℕ) (answer : ShowPut) → ShowPuts text at before after answer

@@ -111,7 +111,7 @@ OneValuePut =
     → ValuesPuts valid octets before at answer one → ValuesPuts valid octets before at answer′ other
     → (answer ≡ answer′) × (one ≡ other)
 
--- every call of show
+-- every call of show, and put_item_name and put_item_value of xml
 abbrev pub OneShowPut : Type 0
 OneShowPut =
     (text : List ℕ) (at : ℕ) (before one other : List ℕ) (answer answer′ : ShowPut)

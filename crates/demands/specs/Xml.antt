@@ -1,18 +1,23 @@
--- Request 2026-02: guide text for the web team. `export` answers the XML of an accepted object's meaning, or one numbered refusal. Of these statements only `XmlExactly`,
+-- Request 2026-02: guide text for the web team. `export` answers the XML of an accepted object's meaning, or one numbered refusal. Of the statements about it only `XmlExactly`,
 -- `ExportInOrder` and `XmlText` have a premise beside the call's claim: that what is given are octets, which a lent slice of octets always is.
 use mathlib.Core.Path.{_≡_}
 use mathlib.Core.Bool.{true, false}
 use mathlib.Core.Logic.{_↔_}
 use mathlib.Core.Option.{some}
-use mathlib.Core.List.{List, [], _∷_}
+use mathlib.Core.List.{List, [], _∷_, _++_}
 use Prim.Native.Nat.{ℕ, _≤_, _<_}
 use lib.ListN.{length, take, drop}
 use Rattle.octets.specs.declared.counts.Octets.{Octets as OctetCount}
 use Rattle.octets.specs.Counts.{sizeOf}
 use Rattle.octets.specs.Numbers.{Octets}
 use Rattle.text.specs.Text.{text}
+use Rattle.text.specs.Tokens.{Entries, expanded}
+use Rattle.values.specs.declared.Kind.{Kind}
+use Rattle.values.specs.declared.Kind.the-variants.{HoldsText}
 use Rattle.values.specs.declared.Time.{Time}
 use Rattle.values.specs.Times.{inRange}
+use Rattle.values.specs.Table.{known}
+use Rattle.values.specs.Values.{fits, meant}
 use Rattle.format.specs.declared.Refusal.{Refusal}
 use Rattle.format.specs.declared.WriteAnswer.{WriteAnswer}
 use Rattle.format.specs.declared.WriteAnswer.the-variants.{Octets as Written, NotWritten}
@@ -23,7 +28,9 @@ use Rattle.format.specs.Judge.Judged.{refused, accepted}
 use Rattle.format.specs.Meaning.{meaningOf}
 use Rattle.survey.specs.First.{firstIn, itemAt}
 use Rattle.xml.specs.Dates.{localDate}
-use Rattle.xml.specs.Xml.{escaped, xml}
+use Rattle.xml.specs.Names.{name}
+use Rattle.xml.specs.Xml.{escaped, attributeXml, xml}
+use Rattle.xml.specs.Single.{isWorded, itemValue}
 use Rattle.xml.specs.Reading.{unescaped, inert}
 use Rattle.xml.specs.Named.{plainHere, Named}
 use Rattle.xml.specs.Export.{ExportClaim}
@@ -81,3 +88,17 @@ XmlReadBack = (s : List ℕ) → (inert (escaped s) ≡ true) × (unescaped (esc
 -- a local year outside 1 to 9999 can't arise from a legal time
 abbrev pub LocalYears : Type 0
 LocalYears = (t : Time) → inRange t ≡ true → (1 ≤ localDate t .year) × (localDate t .year ≤ 9999)
+
+-- ---- one item by itself
+
+-- what `put_item_name` and `put_item_value` put of an attribute is what the XML has there, around a blank, an equals sign and quotes
+abbrev pub ItemAsInXml : Type 0
+ItemAsInXml =
+    (parent tag : ℕ) (kind : Kind) (table : Entries) (body : List ℕ) → known parent tag ≡ some kind → isWorded kind ≡ true → fits kind body ≡ true
+    → attributeXml parent tag (meant table kind body) ≡ 0x20 ∷ (name parent tag ++ (0x3D ∷ 0x22 ∷ (itemValue parent tag table body ++ (0x22 ∷ []))))
+
+-- of a text they put what the XML has of it, its tokens replaced and then escaped, and it may be put in parts
+abbrev pub TextAsInXml : Type 0
+TextAsInXml =
+    (parent tag : ℕ) → known parent tag ≡ some HoldsText → (table : Entries) (one other : List ℕ)
+    → (itemValue parent tag table one ≡ escaped (expanded table one)) × (itemValue parent tag table (one ++ other) ≡ itemValue parent tag table one ++ itemValue parent tag table other)

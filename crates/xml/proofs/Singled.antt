@@ -1,8 +1,8 @@
--- The ways through the functions that put one item's name or value, and that no item which isn't known has a name.
+-- The ways through the functions that put one item's name or value, that no item which isn't known has a name, and that name and value are those of the XML.
 use mathlib.Core.Path.{_≡_, refl, sym, ap, _∙_, subst}
 use mathlib.Core.Bool.{Bool, true, false, cond, _&&_, _||_, false≢true}
 use mathlib.Core.Option.{Option, none, some, Option·none-ne-some}
-use mathlib.Core.List.{List, [], _∷_}
+use mathlib.Core.List.{List, [], _∷_, _++_}
 use Prim.Native.Nat.{ℕ, suc, _+_, _≤_, _<_, min}
 use Prim.Native.String.{String}
 use native.Mathlib.Omega.{arith}
@@ -13,6 +13,7 @@ use borrow.Author.Tests.{eqb-true, le-leb, lt-leb}
 use Rattle.octets.specs.Numbers.{Octets}
 use Rattle.octets.proofs.Tests.{and-left, and-right}
 use Rattle.text.specs.Tokens.{Entries, expanded, present}
+use Rattle.text.proofs.Laws.{expanded-append}
 use Rattle.values.specs.declared.Kind.{Kind}
 use Rattle.values.specs.declared.Kind.the-variants.{HoldsItems, HoldsTokens, HoldsText, HoldsPlain, HoldsTime, HoldsBearer, HoldsNumber}
 use Rattle.values.specs.declared.NumberKind.{NumberKind}
@@ -28,11 +29,12 @@ use Rattle.show.specs.Calls.{putAnswer, putLeaves, Puts as Fills}
 use Rattle.show.specs.Digits.{hexLower}
 use Rattle.show.specs.Lines.{ascii}
 use Rattle.xml.specs.Names.{names, nameIn, name}
-use Rattle.xml.specs.Xml.{escaped, valueText}
+use Rattle.xml.specs.Xml.{escaped, valueText, attributeXml}
 use Rattle.xml.specs.Single.{isWorded, valueBy, itemValue}
 use Rattle.xml.specs.Steps.{Puts, NamePut, ValuePut}
 use Rattle.xml.specs.Singling.{KindPut, FittingPut, ShownPut}
 use Rattle.xml.proofs.Putting.{put-empty, reworded}
+use Rattle.xml.proofs.Rowing.{escaped-append}
 
 -- ---- names
 
@@ -181,3 +183,18 @@ module _ (emit : Bool) (parent tag at : ℕ) (table : Entries) (body out out′ 
   shown-known k q p os = let h = known-kind parent tag kind ke k q in rw h (p os h)
 
 pub ruleset shown-ways = (shown-unknown, shown-known)
+
+-- ---- as in the XML
+
+pub in-xml : (parent tag : ℕ) (k : Kind) (table : Entries) (o : List ℕ) → known parent tag ≡ some k → isWorded k ≡ true → fits k o ≡ true
+    → attributeXml parent tag (meant table k o) ≡ 0x20 ∷ (name parent tag ++ (0x3D ∷ 0x22 ∷ (itemValue parent tag table o ++ (0x22 ∷ []))))
+unfolding attributeXml itemValue valueBy
+in-xml parent tag k table o h w f = rw (h, w, f)
+
+module _ (parent tag : ℕ) (h : known parent tag ≡ some HoldsText) (table : Entries) where
+  pub text-value : (o : List ℕ) → itemValue parent tag table o ≡ escaped (expanded table o)
+  unfolding itemValue valueBy isWorded fits meant valueText
+  text-value o = rw h
+
+  pub text-in-parts : (a b : List ℕ) → itemValue parent tag table (a ++ b) ≡ itemValue parent tag table a ++ itemValue parent tag table b
+  text-in-parts a b = rw (text-value (a ++ b), text-value a, text-value b, expanded-append table a b) (escaped-append (expanded table a) (expanded table b))
