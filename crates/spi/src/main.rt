@@ -1,5 +1,5 @@
-// The command for people: checks objects in files, lists their records, writes their normal form or XML, compares two. The script ./spi builds it and runs it, once a
-// pair of files where two folders are compared.
+// The command for people: checks objects in files, lists their records, shows their items, writes their normal form or XML, compares two. The script ./spi builds it and
+// runs it, once a pair of files where two folders are compared.
 //
 // What is said of an object is proved where it is found, in `judge`, `reader`, `compare`, `writer`, `xml` and `show`; here every function is safe and ends. A program has no exit
 // status, so the last line on standard output is a status of its own, which the script takes away and ends with.
@@ -59,7 +59,7 @@ fn help() -> u8 {
     say(b"spi check FILE..        for each file: ok, or why it is refused and where\n");
     say(b"spi list FILE           the records of an object\n");
     say(
-        b"spi show FILE           its items as an indented tree, each with its place, name and value\n",
+        b"spi show FILE           its items as a tree: place, name and value as in the XML (line feed as &#10;), or octets in hexadecimal\n",
     );
     say(b"spi normal FILE OUT     writes an object's normal form to the file OUT\n");
     say(b"spi xml FILE OUT        writes an object's XML to the file OUT\n");

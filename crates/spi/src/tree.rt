@@ -13,7 +13,6 @@ use values::KnownKind;
 use values::known_kind;
 ghost use Prim.Native.Nat.{_+_, _≤_, _<_, _^_};
 ghost use lib.ListN.{length};
-ghost use Rattle.io.specs.Counts.{Counts};
 
 // The longest beginning of a line: a place, the blanks of 16 levels, and a name of 18 octets.
 const LINE: usize = 64;
@@ -88,12 +87,12 @@ fn say_mark(tag: u8) {
 
 // ---- values
 
-// Tab, line feed and carriage return are the only octets below a blank that a text has; behind ASCII's printable characters is one more that isn't printed.
+// Of the ASCII characters that a text may have, tab, line feed, carriage return and 0x7F aren't printed.
 fn is_control(b: u8) -> bool {
     if b < 0x20 { true } else { b == 0x7F }
 }
 
-// Such a character would break the line, so XML's reference to it is said.
+// XML's reference to a character that could break the line.
 fn say_reference(b: u8) {
     say(b"&#");
     say_number(b as usize);
