@@ -1,7 +1,7 @@
 -- The ways through the functions that put one item's name or value, that no item which isn't known has a name, and that name and value are those of the XML.
-use mathlib.Core.Path.{_≡_, refl, sym, ap, _∙_, subst}
+use mathlib.Core.Path.{_≡_, refl, sym, ap, _∙_}
 use mathlib.Core.Bool.{Bool, true, false, cond, _&&_, _||_, false≢true}
-use mathlib.Core.Option.{Option, none, some, Option·none-ne-some}
+use mathlib.Core.Option.{none, some}
 use mathlib.Core.List.{List, [], _∷_, _++_}
 use Prim.Native.Nat.{ℕ, suc, _+_, _≤_, _<_, min}
 use Prim.Native.String.{String}
@@ -22,7 +22,7 @@ use Rattle.values.specs.declared.KnownKind.the-variants.{Unknown, Known}
 use Rattle.values.specs.Calls.{knownKind}
 use Rattle.values.specs.Table.{rows, kindIn, known, attribute}
 use Rattle.values.specs.Values.{fits, meant}
-use Rattle.values.proofs.Known.{every, row-holds}
+use Rattle.values.proofs.Known.{row-holds}
 use Rattle.values.proofs.Laws.{known-kind, unknown-kind}
 use Rattle.show.specs.declared.Put.{Put}
 use Rattle.show.specs.Calls.{putAnswer, putLeaves, Puts as Fills}

@@ -1,21 +1,20 @@
 -- Wrong answers of `put_item_name` and `put_item_value`, of the kind that slips make, each refuted by its claim at an item whose text is computed. That a text was put which
 -- doesn't stand there, and that a part of one was left, is refuted for every text (show/proofs/Examples).
 use mathlib.Core.Path.{_≡_, refl}
-use mathlib.Core.Bool.{Bool, true, false, cond, _&&_}
+use mathlib.Core.Bool.{Bool, true, false, cond}
 use mathlib.Core.List.{List, [], _∷_}
 use Prim.Native.Nat.{ℕ, _+_}
 use native.Mathlib.Omega.{arith}
 use lib.Dec.{leb}
 use lib.ListN.{length}
-use Rattle.octets.specs.Numbers.{value}
-use Rattle.text.specs.Tokens.{Entries, entry, orItself, stands, expanded}
+use Rattle.octets.specs.Numbers.{among, value}
+use Rattle.text.specs.Tokens.{entry, orItself, stands, expanded}
 use Rattle.text.specs.Text.{token, layout}
-use Rattle.octets.specs.Numbers.{among}
 use Rattle.values.specs.Table.{rows, kindIn, known, attribute}
 use Rattle.values.specs.Values.{width, fits, meant}
 use Rattle.show.specs.declared.Put.{Put}
 use Rattle.show.specs.Calls.{putAnswer, Puts as Fills}
-use Rattle.show.specs.Digits.{hexLower, twoDigits, hexDigit}
+use Rattle.show.specs.Digits.{hexLower, twoDigits}
 use Rattle.show.specs.Lines.{ascii}
 use Rattle.xml.specs.Names.{names, nameIn, name, words, wordIn, orHex, word}
 use Rattle.xml.specs.Xml.{escape, escaped, numberText, valueText}
