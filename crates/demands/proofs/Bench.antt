@@ -41,7 +41,7 @@ table-refused object r e = go (judge object) refl e
     go (refused s) h q = cc
     go (accepted t) h q = never (cc)
 
-table-accepted : (object : List ℕ) (n : ℕ) (o : List ℕ) → outcome true object ≡ normally n o → (t : Items) × (judge object ≡ accepted t) × (n ≡ count t) × (normalOf t ≡ o)
+pub table-accepted : (object : List ℕ) (n : ℕ) (o : List ℕ) → outcome true object ≡ normally n o → (t : Items) × (judge object ≡ accepted t) × (n ≡ count t) × (normalOf t ≡ o)
 unfolding outcome reported
 table-accepted object n o e = go (judge object) refl e
   where

@@ -1,27 +1,42 @@
 -- The cases of change requests, from format's table of slips, what the check of records answers, and what the calls say of them.
-use mathlib.Core.Path.{_≡_, refl, sym, ap, _∙_}
-use mathlib.Core.Bool.{true, false, false≢true}
-use mathlib.Core.Option.{Option, none, some}
-use mathlib.Core.List.{List}
-use Prim.Native.Nat.{ℕ}
+use mathlib.Core.Path.{_≡_, refl, sym, ap, _∙_, subst}
+use mathlib.Core.Bool.{Bool, true, false, _&&_, false≢true}
+use mathlib.Core.Logic.{_↔_}
+use mathlib.Core.Option.{Option, none, some, Option·some-injective}
+use mathlib.Core.List.{List, [], _∷_}
+use Prim.Native.Nat.{ℕ, _≤_}
 use native.Mathlib.Omega.{arith}
-use lib.ListN.{getD}
+use lib.Dec.{ltb}
+use lib.ListN.{length, getD}
+use borrow.Author.Tests.{ltb-true}
+use Rattle.octets.specs.Numbers.{Octets}
+use Rattle.octets.proofs.Tests.{and-left, and-right}
 use Rattle.octets.specs.Counts.{sizeOf}
 use Rattle.format.specs.declared.WriteAnswer.{WriteAnswer}
 use Rattle.format.specs.declared.WriteAnswer.the-variants.{NotWritten}
+use Rattle.format.specs.declared.SameAnswer.{SameAnswer}
+use Rattle.format.specs.declared.SameAnswer.the-variants.{Same, Different}
 use Rattle.format.specs.Answers.{refusal, wrongValue}
 use Rattle.format.specs.Tree.{Items}
+use Rattle.format.specs.Judge.{judge}
+use Rattle.format.specs.Meaning.{meaningOf, meaning}
 use Rattle.format.specs.Calls.{Lists, treeGiven, WriteClaim}
+use Rattle.format.specs.Same.{sameAnswer}
 use Rattle.format.specs.Bench.{Outcome, outcome, accented, slips}
 use Rattle.format.specs.Bench.Outcome.{refuses, normally}
 use Rattle.format.proofs.Bench.{slipped}
+use Rattle.format.proofs.OctetLists.{octets-none, octets-cons}
+use Rattle.format.proofs.Defaults.{defaults-nothing}
+use Rattle.format.proofs.Normal.{normal-bare, same-normal}
 use Rattle.records.specs.Check.{isGiven}
 use Rattle.records.proofs.IllFormed.{ill-formed}
 use Rattle.xml.specs.Export.{exportOf, exportAnswer}
-use Rattle.demands.specs.Requests.{named, namedRecords, EightPass, NineFail, TellsField, FieldsTold}
-use Rattle.demands.proofs.Laws.{tree-given, given-tree}
+use Rattle.demands.specs.Requests.{named, namedRecords, EightPass, NineFail, TellsField, FieldsTold, DefaultsNothing, recommended, unrecommended, RecommendationNo}
+use Rattle.demands.specs.Three.{BothAccepted}
+use Rattle.demands.proofs.Laws.{tree-given, given-tree, accepted-means}
 use Rattle.demands.proofs.One.{write-in-order, normalise-in-order, same-in-order}
-use Rattle.demands.proofs.Bench.{table-refused, bench-read, bench-normalise}
+use Rattle.demands.proofs.Three.{same-exactly}
+use Rattle.demands.proofs.Bench.{table-refused, table-accepted, bench-read, bench-normalise}
 
 -- two rows of the table
 eight-is : outcome true (named 8) ≡ normally 3 (named 8)
@@ -85,4 +100,60 @@ fields-told = record {
   minutes = tells _ 2 4 (ap (row 11) slipped);
   seconds = tells _ 2 5 (ap (row 12) slipped);
   other = tells _ 2 0 (ap (row 13) slipped);
+}
+
+pub defaults-are-nothing : DefaultsNothing
+defaults-are-nothing = record { means-same = defaults-nothing; left-out = λ object t os h l u e. normal-bare object t u os h l e }
+
+-- two objects of the table whose normal forms are given: same answers by these
+module _ (a b : List ℕ) (n m : ℕ) (x y : List ℕ) (oa : Octets a) (ob : Octets b) (ea : outcome true a ≡ normally n x) (eb : outcome true b ≡ normally m y) (short : length x ≤ 32_768) where
+  exactly : (answer : SameAnswer) → answer ≡ sameAnswer (judge a) (judge b) → BothAccepted a b × (x ≡ y ↔ meaning a ≡ meaning b)
+  exactly answer e =
+      let f = table-accepted a n x ea in
+      let g = table-accepted b m y eb in
+      let fa = accepted-means a (f .0) (f .1) in
+      let gb = accepted-means b (g .0) (g .1) in
+      let same = same-normal a b oa ob (meaningOf (f .0)) (meaningOf (g .0)) fa gb (subst (λ o. length o ≤ 32_768) (sym (f .3)) short) in (
+        record { treeA = f .0; treeB = g .0; acceptedA = f .1; acceptedB = g .1 },
+        (
+          (λ q. fa ∙ (ap some (same .0 (f .3 ∙ q ∙ sym (g .3))) ∙ sym gb)),
+          (λ q. sym (f .3) ∙ same .1 (Option·some-injective (meaningOf (f .0)) (meaningOf (g .0)) (sym fa ∙ q ∙ gb)) ∙ g .3),
+        ),
+      )
+
+  pub table-same : x ≡ y → (answer : SameAnswer) → answer ≡ sameAnswer (judge a) (judge b) → answer ≡ Same
+  table-same q answer e = let w = exactly answer e in same-exactly a b oa ob answer e .same .1 (w .0, w .1 .0 q)
+
+  pub table-different : (x ≡ y → ⊥) → (answer : SameAnswer) → answer ≡ sameAnswer (judge a) (judge b) → answer ≡ Different
+  table-different q answer e = let w = exactly answer e in same-exactly a b oa ob answer e .different .1 (w .0, λ z. q (w .1 .1 z))
+
+-- numbers that are octets
+unfoldable areOctets : List ℕ → Bool
+areOctets [] = true
+areOctets (b ∷ o) = ltb b 256 && areOctets o
+
+are-octets : (o : List ℕ) → areOctets o ≡ true → Octets o
+unfolding areOctets
+are-octets [] h = octets-none
+are-octets (b ∷ o) h = octets-cons b o (ltb-true b 256 (and-left (ltb b 256) (areOctets o) h)) (are-octets o (and-right (ltb b 256) (areOctets o) h))
+
+no-is : outcome true (recommended 1) ≡ normally 4 unrecommended
+unfolding slips accented row
+no-is = ap (row 14) slipped
+
+yes-is : outcome true (recommended 2) ≡ normally 4 (recommended 2)
+unfolding slips accented row
+yes-is = ap (row 15) slipped
+
+none-is : outcome true unrecommended ≡ normally 3 unrecommended
+unfolding slips accented row
+none-is = ap (row 16) slipped
+
+pub recommendation-no : RecommendationNo
+unfolding areOctets
+recommendation-no = record {
+  read = λ before after answer c l. bench-read (recommended 1) before after answer c .counting 4 unrecommended no-is l;
+  normalised = λ lists lists′ store store′ room room′ n c. bench-normalise (recommended 1) lists lists′ store store′ room room′ n c 4 unrecommended no-is;
+  compared = table-same (recommended 1) unrecommended 4 3 unrecommended unrecommended (are-octets (recommended 1) refl) (are-octets unrecommended refl) no-is none-is (omega arith) refl;
+  yes-differs = table-different (recommended 2) unrecommended 4 3 (recommended 2) unrecommended (are-octets (recommended 2) refl) (are-octets unrecommended refl) yes-is none-is (omega arith) (λ e. let z : _≡_ {A = ℕ} 9 6 = ap length e in omega arith);
 }

@@ -18,11 +18,12 @@ use Rattle.format.specs.declared.SameAnswer.the-variants.{Same, Different, Firs
 use Rattle.format.specs.Tree.{Items, count}
 use Rattle.format.specs.Judge.{Judged, judge}
 use Rattle.format.specs.Judge.Judged.{refused, accepted}
-use Rattle.format.specs.Meaning.{meaningOf, meaning, encode, normalOf}
+use Rattle.format.specs.Meaning.{means, meaningOf, meaning, encode, normalOf}
 use Rattle.format.specs.Loaded.{storeOf}
 use Rattle.format.specs.Calls.{Lists, Lent, lentBy, handed, NormaliseClaim}
 use Rattle.format.specs.Same.{sameAnswer}
-use Rattle.format.proofs.Normal.{normal-means, same-normal}
+use Rattle.format.proofs.Normal.{accepted-ok, normal-means, same-normal}
+use Rattle.format.proofs.Round.{reread}
 use Rattle.format.proofs.NormalOctets.{normal-octets}
 use Rattle.format.proofs.Takes.{ofMeaning, inRecords, inStore, records-means, store-means}
 use Rattle.format.proofs.Same.{same-exactly as same-meaning, different-exactly as different-meaning, normal-exactly}
@@ -85,15 +86,21 @@ normal-accepted object os lists lists′ store store′ room room′ n c =
       behind = f .behind;
     }
 
--- a meaning says how many records and how long a store, and a normal form has that of its source
+-- a meaning says how many records and how long a store it takes, defaults take more, and a normal form has none
 pub normal-takes-no-more : NormalTakesNoMore
 normal-takes-no-more object os t h l =
-    let form = normalOf t in
-    let m = has-meaning form (meaningOf t) (normal-means object os (meaningOf t) (accepted-means object t h) l) in
+    let r = reread (meaningOf t) (accepted-ok object t os h) l in
+    let same : meaningOf (r .tree) ≡ meaningOf t = ap (λ T. means T (r .tree)) (r .table) ∙ r .means-it in
     let out = normal-octets object t os h l in
-    let many : count (m .0) ≡ count t = records-means form (m .0) out (m .1) ∙ ap (ofMeaning inRecords) (m .2) ∙ sym (records-means object t os h) in
-    let long : length (storeOf (m .0)) ≡ length (storeOf t) = store-means form (m .0) out (m .1) ∙ ap (ofMeaning inStore) (m .2) ∙ sym (store-means object t os h) in
-    record { again = m .0; accepts = m .1; records = omega arith; store = omega arith; octets = ap encode (m .2) }
+    let many = ap (ofMeaning inRecords) same in
+    let long = ap (ofMeaning inStore) same in
+    record {
+      again = r .tree;
+      accepts = r .accepts;
+      records = omega (arith, records-means (normalOf t) (r .tree) out (r .accepts), r .bare, many, records-means object t os h);
+      store = omega (arith, store-means (normalOf t) (r .tree) out (r .accepts), r .bare, long, store-means object t os h);
+      octets = ap encode same;
+    }
 
 -- the tree of a normal form has that normal form
 form-again : (object : List ℕ) → Octets object → (lent : Lent) (room room′ : List ℕ) (n : OctetCount) → Normalised object lent room room′ n → (u : Items) → judge (take (n .0) room′) ≡ accepted u

@@ -2,16 +2,20 @@
 use mathlib.Core.Path.{_≡_}
 use mathlib.Core.List.{List, [], _∷_}
 use Prim.Native.Nat.{ℕ, _+_, _*_, _≤_}
-use lib.ListN.{take}
+use lib.ListN.{length, take}
+use Rattle.octets.specs.Numbers.{Octets}
 use Rattle.octets.specs.declared.counts.Octets.{Octets as OctetCount}
 use Rattle.format.specs.declared.ReadAnswer.{ReadAnswer}
 use Rattle.format.specs.declared.ReadAnswer.the-variants.{Records, NotRead}
 use Rattle.format.specs.declared.WriteAnswer.{WriteAnswer}
 use Rattle.format.specs.declared.WriteAnswer.the-variants.{Octets as Written, NotWritten}
 use Rattle.format.specs.declared.SameAnswer.{SameAnswer}
-use Rattle.format.specs.declared.SameAnswer.the-variants.{FirstRefused}
+use Rattle.format.specs.declared.SameAnswer.the-variants.{Same, Different, FirstRefused}
 use Rattle.format.specs.Answers.{refusal, wrongValue}
+use Rattle.format.specs.Tree.{Items, withoutDefaults}
 use Rattle.format.specs.Judge.{judge}
+use Rattle.format.specs.Judge.Judged.{accepted}
+use Rattle.format.specs.Meaning.{means, tableOf, meaningOf, normalOf}
 use Rattle.format.specs.Calls.{Lists, places, ReadClaim, WriteClaim, NormaliseClaim}
 use Rattle.format.specs.Same.{sameAnswer}
 use Rattle.format.specs.Bench.{accented}
@@ -65,3 +69,25 @@ pub record FieldsTold : Type 0 where
   pub minutes : TellsField (0x03 ∷ 0x08 ∷ 0x81 ∷ 0x06 ∷ 0x61 ∷ 0xA7 ∷ 0xCD ∷ 0xFC ∷ 0xF0 ∷ 0x00 ∷ []) 2 4
   pub seconds : TellsField (0x03 ∷ 0x08 ∷ 0x81 ∷ 0x06 ∷ 0x61 ∷ 0xA7 ∷ 0xCD ∷ 0xFB ∷ 0xF0 ∷ 0x00 ∷ []) 2 5
   pub other : TellsField (0x03 ∷ 0x03 ∷ 0x80 ∷ 0x01 ∷ 0x00 ∷ []) 2 0
+
+-- 2026-05: a default is the same as nothing. Of every accepted object: it means what its tree means without its defaults, and its normal form holds none
+pub record DefaultsNothing : Type 0 where
+  pub means-same : (object : List ℕ) (t : Items) → Octets object → judge object ≡ accepted t → means (tableOf t) (withoutDefaults 0 t) ≡ meaningOf t
+  pub left-out : (object : List ℕ) (t : Items) → Octets object → judge object ≡ accepted t → length (normalOf t) ≤ 32_768
+      → (u : Items) → judge (normalOf t) ≡ accepted u → withoutDefaults 0 u ≡ u
+
+-- a programme whose recommendation is of this value, and one without
+abbrev pub recommended : ℕ → List ℕ
+recommended value = 0x02 ∷ 0x07 ∷ 0x21 ∷ 0x05 ∷ 0x1C ∷ 0x03 ∷ 0x83 ∷ 0x01 ∷ value ∷ []
+
+abbrev pub unrecommended : List ℕ
+unrecommended = 0x02 ∷ 0x04 ∷ 0x21 ∷ 0x02 ∷ 0x1C ∷ 0x00 ∷ []
+
+-- "no", which is the default, is read as a record, isn't in the normal form, and is the same as none; "yes" isn't
+pub record RecommendationNo : Type 0 where
+  pub read : (before after : Lists) (answer : ReadAnswer) → ReadClaim (recommended 1) before after answer → 4 ≤ places before → answer ≡ Records (record { records = 4 })
+  pub normalised :
+      (lists lists′ : Lists) (store store′ room room′ : List ℕ) (n : OctetCount) → NormaliseClaim (recommended 1) lists lists′ store store′ room room′ (Written n)
+      → take (n .0) room′ ≡ unrecommended
+  pub compared : (answer : SameAnswer) → answer ≡ sameAnswer (judge (recommended 1)) (judge unrecommended) → answer ≡ Same
+  pub yes-differs : (answer : SameAnswer) → answer ≡ sameAnswer (judge (recommended 2)) (judge unrecommended) → answer ≡ Different

@@ -67,7 +67,7 @@ accented (suc n) = 0xC3 ∷ 0xA9 ∷ accented n
 -- attributes in falling order; and the cases of change request 2026-01: a short name of eight letters of two octets passes and one of nine doesn't, and one of a
 -- token that expands to eight letters in nine octets passes; and those of 2026-04: a time of wrong length, whose date, hours and minutes would be wrong too, one with
 -- a wrong date and all behind it, with wrong hours, with wrong minutes and with wrong seconds, and a number of wrong length, which has no field; and those of
--- 2026-05: a recommendation "no", which is its default: a record shows it and the normal form leaves it out; and one "yes"
+-- 2026-05: a recommendation "no", which is its default: a record shows it and the normal form leaves it out; one "yes"; and none
 unfoldable pub slips : List (List ℕ × Outcome)
 slips =
     (0x03 ∷ 0x12 ∷ 0x04 ∷ 0x0B ∷ 0x01 ∷ 0x09 ∷ 0x61 ∷ 0x61 ∷ 0x61 ∷ 0x61 ∷ 0x61 ∷ 0x61 ∷ 0x61 ∷ 0x61 ∷ 0x61 ∷ 0x10 ∷ 0x03 ∷ 0x01 ∷ 0x01 ∷ 0x01 ∷ [], refuses (refusal 13 17))
@@ -86,6 +86,7 @@ slips =
     ∷ (0x03 ∷ 0x03 ∷ 0x80 ∷ 0x01 ∷ 0x00 ∷ [], refuses (wrongValue 2 0))
     ∷ (0x02 ∷ 0x07 ∷ 0x21 ∷ 0x05 ∷ 0x1C ∷ 0x03 ∷ 0x83 ∷ 0x01 ∷ 0x01 ∷ [], normally 4 (0x02 ∷ 0x04 ∷ 0x21 ∷ 0x02 ∷ 0x1C ∷ 0x00 ∷ []))
     ∷ (0x02 ∷ 0x07 ∷ 0x21 ∷ 0x05 ∷ 0x1C ∷ 0x03 ∷ 0x83 ∷ 0x01 ∷ 0x02 ∷ [], normally 4 (0x02 ∷ 0x07 ∷ 0x21 ∷ 0x05 ∷ 0x1C ∷ 0x03 ∷ 0x83 ∷ 0x01 ∷ 0x02 ∷ []))
+    ∷ (0x02 ∷ 0x04 ∷ 0x21 ∷ 0x02 ∷ 0x1C ∷ 0x00 ∷ [], normally 3 (0x02 ∷ 0x04 ∷ 0x21 ∷ 0x02 ∷ 0x1C ∷ 0x00 ∷ []))
     ∷ []
 
 -- two tops, as records over no octets

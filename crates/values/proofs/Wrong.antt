@@ -20,11 +20,11 @@ use Rattle.values.specs.declared.TakenBearer.the-variants as ofBearer
 use Rattle.values.specs.declared.Put.the-variants.{Done, NoRoom}
 use Rattle.values.specs.declared.NormalSize.{NormalSize}
 use Rattle.values.specs.declared.NormalSize.the-variants.{Octets, NoValue}
-use Rattle.values.specs.Table.{rows, kindIn, known, attribute}
+use Rattle.values.specs.Table.{rows, kindIn, known, attribute, defaults, defaultIn}
 use Rattle.values.specs.Times.{bits, longFlag, offsetFlag, offsetOctet, timeOf, inRange, isTime, wrongPart, wrongTime, canonical, sign, timeOctets, localMinutes, localOf}
 use Rattle.values.specs.Bearers.{ensembleFlag, longSidFlag, ensembleOf, bearerOf, isBearer, ensembleBit, ensembleOctets, bearerOctets}
 use Rattle.values.specs.Values.{width, fits, wrongField, meant, octetsOf}
-use Rattle.values.specs.Calls.{asKnown, knownKind, takenTime, takenBearer, bearerInRange, putAnswer, putOut, Puts, normalOctets, normalSize}
+use Rattle.values.specs.Calls.{asKnown, knownKind, takenTime, takenBearer, bearerInRange, putAnswer, putOut, Puts, normalOctets, normalSize, defaultOctets}
 
 -- `is_attribute`: off by one on either side
 pub attribute-from-0x81 : attribute 0x80 ≡ false → ⊥
@@ -47,6 +47,19 @@ void-element-known h = let z : _≡_ {A = ℕ} 0 1 = cc in omega arith
 pub attribute-anywhere : knownKind 0x02 0x80 ≡ knownKind 0x03 0x80 → ⊥
 unfolding knownKind asKnown known attribute kindIn rows
 attribute-anywhere h = let z : _≡_ {A = ℕ} 0 1 = cc in omega arith
+
+-- `is_default`: an octet 0x01 that is no default; recommendation "yes"; a default asked for without its element
+pub logo-default : defaultOctets 0x2B 0x83 (1 ∷ []) ≡ true → ⊥
+unfolding defaultOctets defaultIn defaults
+logo-default h = false≢true h
+
+pub yes-default : defaultOctets 0x1C 0x83 (2 ∷ []) ≡ true → ⊥
+unfolding defaultOctets defaultIn defaults
+yes-default h = false≢true h
+
+pub on-air-kept : defaultOctets 0x2E 0x84 (1 ∷ []) ≡ false → ⊥
+unfolding defaultOctets defaultIn defaults
+on-air-kept h = true≢false h
 
 -- `Time::take`: minus 0 kept apart from 0; date 100,000 taken; seconds made of the offset of a short time; reserved bits taken for date; a spare octet ignored;
 -- the date told where the length is wrong; of two fields the last
