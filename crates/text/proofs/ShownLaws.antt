@@ -15,7 +15,7 @@ use Rattle.octets.specs.Counts.{charactersWithin}
 use Rattle.octets.specs.Numbers.{Octets}
 use Rattle.octets.proofs.Lists.{drop-next}
 use Rattle.text.specs.Tokens.{Entries, entries, cut, stands, expanded, starts, shownLength}
-use Rattle.text.specs.Weighing.{Shows, widthAt, shownAt, shownBy}
+use Rattle.text.specs.Weighing.{Shows, shownAt, shownBy}
 use Rattle.text.specs.Index.{Indexes, placeBy}
 use Rattle.text.specs.declared.expanding.Found.{Found}
 use Rattle.text.specs.declared.expanding.Found.the-variants.{At, Nothing}
@@ -155,11 +155,6 @@ module _ (w : List ℕ) (b : ℕ) where
 
   pub shown-first : 0x14 ≤ b → (b / 64 ≡ 2 → ⊥) → 1 ≡ shownAt w b
   shown-first h e = shown-high h 1 (begun-one b e)
-
-  -- of an octet with which a character begins as many are shown as its place says
-  pub shown-begun : (b / 64 ≡ 2 → ⊥) → widthAt w b ≡ shownAt w b
-  unfolding widthAt shownAt
-  shown-begun e = rw (ne-eqb (b / 64) 2 e)
 
 -- ---- what is shown of a text at a place
 module _ (w s : List ℕ) (at : ℕ) where

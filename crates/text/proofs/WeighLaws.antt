@@ -7,54 +7,74 @@ use mathlib.Core.Bool.{Bool, true, false, cond, not, _&&_, _||_, false≢true}
 use lib.ListN.{length, getD, take, drop, length-drop, drop-of-length-le, take-append-drop}
 use lib.Seq.{drop-drop, getD-drop}
 use lib.Dec.{eqb, leb}
-use lib.Bits.{bitAnd, and-comm}
-use native.Mathlib.Nat.{add-zero, min-eq-left, min-eq-right}
+use lib.Bits.{bitAnd, bitOr, and-comm}
+use native.Mathlib.Nat.{add-zero, min-eq-left, min-eq-right, min-le-left}
 use native.Mathlib.Omega.{arith}
 use mir.Val.{Fits}
 use mir.Syntax.{w64}
-use borrow.Author.Tests.{leb-true, leb-false, eq-eqb, eqb-true, eqb-false}
+use borrow.Author.Tests.{le-leb, lt-leb, leb-true, leb-false, eq-eqb, eqb-true}
 use Rattle.octets.specs.declared.counts.Characters.{Characters}
 use Rattle.octets.specs.Counts.{asCharacters}
-use Rattle.octets.proofs.Tests.{and-left, and-right, and-true}
+use Rattle.octets.specs.Numbers.{among}
+use Rattle.octets.proofs.Tests.{and-left, and-right, and-true, or-elim, or-left, or-true}
 use Rattle.octets.proofs.Lists.{part-to-end}
-use Rattle.text.specs.Text.{token, text}
+use Rattle.text.specs.Text.{layout, token, single, text}
 use Rattle.text.specs.Tokens.{Entries, entry, present, covers, covered, shownLength}
 use Rattle.text.specs.Leaves.{tokenBit, Steps}
 use Rattle.text.specs.Runs.{within, allWithin, PlainTo}
-use Rattle.text.specs.Weighing.{bit, tags, Marks, Widths, Shows, marked, coveredBy, widthAt, shownAt, shownBy, weighedBy}
+use Rattle.text.specs.Weighing.{bit, tags, Marks, Widths, Shows, marked, allMarked, coveredBy, shownAt, shownBy, weighedBy}
 use Rattle.text.specs.declared.Weighed.{Weighed}
 use Rattle.text.specs.declared.Weighed.the-variants.{NoText, Text}
 use Rattle.text.proofs.Words.{high-octet}
-use Rattle.text.proofs.Masks.{bit-none, mark-one, kept-within, within-kept}
-use Rattle.text.proofs.ShownLaws.{shown-is, shown-begun}
+use Rattle.text.proofs.Masks.{mark-one, kept-within, within-kept}
+use Rattle.text.proofs.Sequences.{one-yes, one-no}
+use Rattle.text.proofs.ShownLaws.{shown-is, shown-first}
 use Rattle.text.proofs.Replaced.{tag-present}
 use Rattle.text.proofs.RunLaws.{and-assoc, run-split, run-length, run-shown, tail-shown, bounds, plain-passed, Holds, check-done, check-stop, check-again, behind}
 
--- ---- `is_marked`
-own-bit : (b t : ℕ) → bit (tokenBit b) t ≡ token t && eqb t b
-own-bit b t = mark-one 0 b t ∙ ap (λ c. c || token t && eqb t b) (bit-none t)
+-- ---- tokens kept as a mask: with one octet more, the marks have each of them where they had each before and that octet wants no entry or has one
+module _ (marks used b : ℕ) where
+  abbrev with-one : ℕ
+  with-one = bitOr used (tokenBit b)
 
-pub marked-is : (marks b own : ℕ) → own ≡ tokenBit b → eqb (bitAnd own marks) own ≡ marked marks b
-unfolding marked
-marked-is marks b own e = rw e (go (eqb (bitAnd (tokenBit b) marks) (tokenBit b)) refl (token b) refl (bit marks b) refl)
-  where
-    held : bitAnd (tokenBit b) marks ≡ tokenBit b → token b ≡ true → bit marks b ≡ true
-    held q k = kept-within (tokenBit b) marks q b (own-bit b b ∙ and-true (token b) (eqb b b) k (eq-eqb b b refl))
+  kept-before : bitAnd with-one marks ≡ with-one → bitAnd used marks ≡ used
+  kept-before q = within-kept used marks (λ t h. kept-within with-one marks q t (mark-one used b t ∙ or-left (bit used t) (token t && eqb t b) h))
 
-    holds : (token b ≡ true → bit marks b ≡ true) → bitAnd (tokenBit b) marks ≡ tokenBit b
-    holds f =
-        within-kept (tokenBit b) marks
-        (λ t h. let both = sym (own-bit b t) ∙ h in
-        let same = eqb-true t b (and-right (token t) (eqb t b) both) in
-        ap (bit marks) same ∙ f (ap token (sym same) ∙ and-left (token t) (eqb t b) both))
+  kept-own : bitAnd with-one marks ≡ with-one → (k : Bool) → token b ≡ k → not k || bit marks b ≡ true
+  kept-own q false k = refl
+  kept-own q true k =
+      kept-within with-one marks q b
+      (mark-one used b b ∙ ap (λ c. bit used b || c) (and-true (token b) (eqb b b) k (eq-eqb b b refl)) ∙ or-true (bit used b))
 
-    go : (a : Bool) → eqb (bitAnd (tokenBit b) marks) (tokenBit b) ≡ a → (k : Bool) → token b ≡ k → (m : Bool) → bit marks b ≡ m → a ≡ not k || m
-    go true p false k m q = refl
-    go true p true k true q = refl
-    go true p true k false q = absurd (false≢true (sym q ∙ held (eqb-true (bitAnd (tokenBit b) marks) (tokenBit b) p) k))
-    go false p true k false q = refl
-    go false p true k true q = absurd (eqb-false (bitAnd (tokenBit b) marks) (tokenBit b) p (holds (λ z. q)))
-    go false p false k m q = absurd (eqb-false (bitAnd (tokenBit b) marks) (tokenBit b) p (holds (λ z. absurd (false≢true (sym k ∙ z)))))
+  kept-both : bitAnd used marks ≡ used → not (token b) || bit marks b ≡ true → bitAnd with-one marks ≡ with-one
+  kept-both q f =
+      within-kept with-one marks
+      (λ t h. or-elim (bit used t) (token t && eqb t b) (kept-within used marks q t)
+      (λ g. let same = eqb-true t b (and-right (token t) (eqb t b) g) in
+      ap (bit marks) same ∙ own (ap token (sym same) ∙ and-left (token t) (eqb t b) g) f) (sym (mark-one used b t) ∙ h))
+    where
+      own : token b ≡ true → not (token b) || bit marks b ≡ true → bit marks b ≡ true
+      own k g = rw k at g
+
+  pub marked-more : (own : ℕ) → own ≡ tokenBit b → allMarked marks (bitOr used own) ≡ allMarked marks used && marked marks b
+  unfolding allMarked marked
+  marked-more own e = rw e (go (eqb (bitAnd with-one marks) with-one) refl (eqb (bitAnd used marks) used && (not (token b) || bit marks b)) refl)
+    where
+      yes : eqb (bitAnd with-one marks) with-one ≡ true → eqb (bitAnd used marks) used && (not (token b) || bit marks b) ≡ true
+      yes h =
+          let q = eqb-true (bitAnd with-one marks) with-one h in
+          and-true (eqb (bitAnd used marks) used) (not (token b) || bit marks b) (eq-eqb (bitAnd used marks) used (kept-before q)) (kept-own q (token b) refl)
+
+      back : eqb (bitAnd used marks) used && (not (token b) || bit marks b) ≡ true → eqb (bitAnd with-one marks) with-one ≡ true
+      back h =
+          let a = and-left (eqb (bitAnd used marks) used) (not (token b) || bit marks b) h in
+          eq-eqb (bitAnd with-one marks) with-one
+          (kept-both (eqb-true (bitAnd used marks) used a) (and-right (eqb (bitAnd used marks) used) (not (token b) || bit marks b) h))
+
+      go : (x : Bool) → eqb (bitAnd with-one marks) with-one ≡ x → (y : Bool) → eqb (bitAnd used marks) used && (not (token b) || bit marks b) ≡ y → x ≡ y
+      go true p y q = sym (sym q ∙ yes p)
+      go false p true q = absurd (false≢true (sym p ∙ back q))
+      go false p false q = refl
 
 -- ---- octets above the tokens want no entry
 module _ (marks : ℕ) (least most : ℕ) (high : 0x14 ≤ least) where
@@ -97,10 +117,25 @@ min-again most a b = go (leb a most) refl
         let past : most ≤ a = omega (arith, leb-false a most e) in
         ap (λ (n : ℕ). min most (n + b)) (min-eq-left past) ∙ min-eq-left (omega arith) ∙ sym (min-eq-left (omega arith))
 
+-- ---- octets below 0x14: each is text by itself where tokens may stand, but for 0
+low-single : (b : ℕ) → (b ≡ 0 → ⊥) → b < 0x14 → single true b ≡ true
+unfolding single token
+low-single b z h = rw (lt-leb 0x20 b (omega arith), le-leb 1 b (omega (arith, z)), le-leb b 0x13 (omega arith)) (either (layout b))
+  where
+    either : (l : Bool) → l || not l ≡ true
+    either true = refl
+    either false = refl
+
 -- ---- the loop of `weigh`: its places
 module _ (s : List ℕ) (at from : ℕ) (run : PlainTo s at from) where
   pub run-inside : (from ≡ length s → ⊥) → from < length s
   run-inside q = omega (arith, run .inside, q)
+
+  pub run-less : (from ≡ length s → ⊥) → length s - (from + 1) < length s - at
+  run-less q = omega (arith, run-inside q, run .onward)
+
+  pub more-fits : (more : ℕ) → length s < 2 ^ 63 → more < 256 → Fits w64 (from - at + more)
+  more-fits more g h = record { fits = omega (arith, run .inside) }
 
   module _ (n : ℕ) (step : Steps true (take (length s - from) (drop from s)) n) where
     step-here : Steps true (drop from s) n
@@ -115,12 +150,34 @@ module _ (s : List ℕ) (at from : ℕ) (run : PlainTo s at from) where
     pub step-less : (n ≡ 0 → ⊥) → length s - (from + n) < length s - at
     step-less z = omega (arith, step-inside, run .onward, z)
 
+  module _ (q : from ≡ length s → ⊥) where
+    some-left : 0 < length (drop from s)
+    some-left = omega (arith, run-inside q, length-drop from s)
+
+    first : getD (drop from s) 0 0 ≡ getD s from 0
+    first = getD-drop from s 0 0 ∙ ap (λ (i : ℕ). getD s i 0) (add-zero from)
+
+    module _ (h : getD s from 0 < 0x14) where
+      low-first : getD (drop from s) 0 0 < 0x80
+      low-first = omega (arith, first)
+
+      part-step : (n : ℕ) → Steps true (drop from s) n → Steps true (take (length s - from) (drop from s)) n
+      part-step n step = subst (λ p. Steps true p n) (sym (part-to-end s from)) step
+
+      pub low-step : (getD s from 0 ≡ 0 → ⊥) → Steps true (take (length s - from) (drop from s)) 1
+      low-step z =
+          part-step 1 (one-yes true (drop from s) true some-left low-first (sym (ap (single true) first ∙ low-single (getD s from 0) z h)) refl)
+
+      pub zero-step : getD s from 0 ≡ 0 → Steps true (take (length s - from) (drop from s)) 0
+      unfolding single token layout among
+      zero-step e = part-step 0 (one-no true (drop from s) false some-left low-first (sym (ap (single true) (first ∙ e))) refl)
+
 -- what is known with so many octets behind
-pub record Weighing (marks : ℕ) (w s : List ℕ) (most at : ℕ) (covers : Bool) (width : ℕ) : Type 0 where
+pub record Weighing (marks : ℕ) (w s : List ℕ) (most at used width : ℕ) : Type 0 where
   pub within : at ≤ length s
   pub same : text true s ≡ text true (drop at s)
   pub short : width ≤ most
-  pub covering : coveredBy marks s ≡ covers && coveredBy marks (drop at s)
+  pub covering : coveredBy marks s ≡ allMarked marks used && coveredBy marks (drop at s)
   pub weighing : min most (shownBy w s) ≡ min most (width + shownBy w (drop at s))
 
 and-one : (a : Bool) → a && true ≡ a
@@ -128,86 +185,101 @@ and-one true = refl
 and-one false = refl
 
 module _ (marks : ℕ) (w s : List ℕ) (lim : Characters) where
-  pub weigh-begin : Weighing marks w s (lim .0) 0 true 0
+  pub weigh-begin : Weighing marks w s (lim .0) 0 0 0
+  unfolding allMarked
   weigh-begin = record { within = omega arith; same = refl; short = omega arith; covering = refl; weighing = ap (min (lim .0)) (omega arith) }
 
-  module _ (at : ℕ) (covers : Bool) (shown : Characters) (inv : Weighing marks w s (lim .0) at covers (shown .0)) where
+  module _ (at used : ℕ) (shown : Characters) (inv : Weighing marks w s (lim .0) at used (shown .0)) where
     in-text : Holds true s at
     in-text = record { within = inv .within; same = inv .same }
 
-    pub weigh-done : length s ≤ at → Text covers shown ≡ weighedBy marks w s lim
+    pub weigh-done : length s ≤ at → (r : Weighed) → r ≡ Text (allMarked marks used) shown → r ≡ weighedBy marks w s lim
     unfolding weighedBy coveredBy shownBy
-    weigh-done h =
+    weigh-done h r e =
         let none = drop-of-length-le s h in
-        let c : coveredBy marks s ≡ covers = inv .covering ∙ ap (λ q. covers && coveredBy marks q) none ∙ and-one covers in
+        let c : coveredBy marks s ≡ allMarked marks used = inv .covering ∙ ap (λ q. allMarked marks used && coveredBy marks q) none ∙ and-one (allMarked marks used) in
         let k : min (lim .0) (shownBy w s) ≡ shown .0 =
         inv .weighing ∙ ap (λ q. min (lim .0) (shown .0 + shownBy w q)) none ∙ ap (min (lim .0)) (add-zero (shown .0)) ∙ min-eq-right (inv .short) in
-        rw (← check-done true s at in-text h, c, k)
+        e ∙ rw (← check-done true s at in-text h, c, k)
 
-  module _ (at : ℕ) (covers : Bool) (shown : Characters) (inv : Weighing marks w s (lim .0) at covers (shown .0)) where
-    module _ (from : ℕ) (run : PlainTo s at from) (before : Characters) (e : before .0 ≡ min (lim .0) (shown .0 + (from - at))) (g : before .0 ≤ lim .0) where
-      weigh-behind : Weighing marks w s (lim .0) from covers (before .0)
-      weigh-behind =
-          let part = take (from - at) (drop at s) in
-          let split = run-split 0x20 0x7F s at from run in
-          let more : shown .0 + shownBy w (drop at s) ≡ shown .0 + (from - at) + shownBy w (drop from s) =
-          omega (arith, ap (shownBy w) split ∙ run-shown w part (drop from s) (run .all), run-length 0x20 0x7F s at from run) in
-          record {
-            within = run .inside;
-            same = behind true s at from (in-text at covers shown inv) (plain-passed true s at from run) .same;
-            short = g;
-            covering =
-                inv .covering
-                ∙ ap (λ c. covers && c) (ap (coveredBy marks) split ∙ run-covered marks 0x20 0x7F (omega arith) part (drop from s) (run .all));
-            weighing =
-                inv .weighing ∙ ap (min (lim .0)) more ∙ sym (min-again (lim .0) (shown .0 + (from - at)) (shownBy w (drop from s)))
-                ∙ ap (λ (n : ℕ). min (lim .0) (n + shownBy w (drop from s))) (sym e);
-          }
+  module _ (at used : ℕ) (shown : Characters) (inv : Weighing marks w s (lim .0) at used (shown .0)) (from : ℕ) (run : PlainTo s at from) where
+    weigh-behind : (before : ℕ) → before ≡ min (lim .0) (shown .0 + (from - at)) → before ≤ lim .0 → Weighing marks w s (lim .0) from used before
+    weigh-behind before e g =
+        let part = take (from - at) (drop at s) in
+        let split = run-split 0x20 0x7F s at from run in
+        let more : shown .0 + shownBy w (drop at s) ≡ shown .0 + (from - at) + shownBy w (drop from s) =
+        omega (arith, ap (shownBy w) split ∙ run-shown w part (drop from s) (run .all), run-length 0x20 0x7F s at from run) in
+        record {
+          within = run .inside;
+          same = behind true s at from (in-text at used shown inv) (plain-passed true s at from run) .same;
+          short = g;
+          covering =
+              inv .covering
+              ∙ ap (λ c. allMarked marks used && c) (ap (coveredBy marks) split ∙ run-covered marks 0x20 0x7F (omega arith) part (drop from s) (run .all));
+          weighing =
+              inv .weighing ∙ ap (min (lim .0)) more ∙ sym (min-again (lim .0) (shown .0 + (from - at)) (shownBy w (drop from s)))
+              ∙ ap (λ (n : ℕ). min (lim .0) (n + shownBy w (drop from s))) (sym e);
+        }
 
-      pub weigh-end : from ≡ length s → Text covers before ≡ weighedBy marks w s lim
-      weigh-end q = weigh-done from covers before weigh-behind (omega arith)
+    pub weigh-end : from ≡ length s → (before : Characters) → before .0 ≡ min (lim .0) (shown .0 + (from - at)) → before .0 ≤ lim .0
+        → (r : Weighed) → r ≡ Text (allMarked marks used) before → r ≡ weighedBy marks w s lim
+    weigh-end q before e g r f = weigh-done from used before (weigh-behind (before .0) e g) (omega arith) r f
 
-      module _ (n : ℕ) (step : Steps true (take (length s - from) (drop from s)) n) where
-        pub weigh-stop : n ≡ 0 → NoText ≡ weighedBy marks w s lim
-        unfolding weighedBy
-        weigh-stop z = rw (← check-stop true s at from (in-text at covers shown inv) (plain-passed true s at from run) n step z)
+    pub weigh-stop : (n : ℕ) → Steps true (take (length s - from) (drop from s)) n → n ≡ 0 → NoText ≡ weighedBy marks w s lim
+    unfolding weighedBy
+    weigh-stop n step z = rw (← check-stop true s at from (in-text at used shown inv) (plain-passed true s at from run) n step z)
 
-        module _ (q : from ≡ length s → ⊥) (z : n ≡ 0 → ⊥) where
-          some-left : 0 < length (drop from s)
-          some-left = omega (arith, run-inside s at from run q, length-drop from s)
+    module _ (q : from ≡ length s → ⊥) where
+      pub weigh-zero : getD s from 0 ≡ 0 → NoText ≡ weighedBy marks w s lim
+      weigh-zero e = weigh-stop 0 (zero-step s at from run q (omega arith) e) refl
 
-          first : getD (drop from s) 0 0 ≡ getD s from 0
-          first = getD-drop from s 0 0 ∙ ap (λ (i : ℕ). getD s i 0) (add-zero from)
+      -- a character behind a run: the octets of both count at once
+      module _ (n : ℕ) (step : Steps true (take (length s - from) (drop from s)) n) (z : n ≡ 0 → ⊥) where
+        after : drop n (drop from s) ≡ drop (from + n) s
+        after = drop-drop n from s
 
-          begun : getD s from 0 / 64 ≡ 2 → ⊥
-          begun h = z (step-here s at from run n step .begun (ap (λ (b : ℕ). b / 64) first ∙ h))
+        weigh-again : (next : ℕ) → allMarked marks next ≡ allMarked marks used && marked marks (getD s from 0) → (more : ℕ) → more ≡ shownAt w (getD s from 0)
+            → (k : ℕ) → k ≡ min (lim .0) (shown .0 + (from - at + more)) → k ≤ lim .0 → Weighing marks w s (lim .0) (from + n) next k
+        weigh-again next f more d k l j =
+            let here = step-here s at from run n step in
+            let left = shownBy w (drop (from + n) s) in
+            let passed = weigh-behind (min (lim .0) (shown .0 + (from - at))) refl (min-le-left (lim .0) (shown .0 + (from - at))) in
+            record {
+              within = step-inside s at from run n step;
+              same = check-again true s at from (in-text at used shown inv) (plain-passed true s at from run) n step z .same;
+              short = j;
+              covering =
+                  passed .covering
+                  ∙ ap (λ c. allMarked marks used && c)
+                  (first-covers marks w (drop from s) n here (some-left s at from run q) z
+                  ∙ ap₂ (λ b r. marked marks b && coveredBy marks r) (first s at from run q) after)
+                  ∙ and-assoc (allMarked marks used) (marked marks (getD s from 0)) (coveredBy marks (drop (from + n) s))
+                  ∙ ap (λ c. c && coveredBy marks (drop (from + n) s)) (sym f);
+              weighing =
+                  let ahead : shownBy w (drop from s) ≡ more + left =
+                  first-weighs marks w (drop from s) n here (some-left s at from run q) z
+                  ∙ ap₂ (λ b r. shownAt w b + shownBy w r) (first s at from run q) after ∙ ap (λ (x : ℕ). x + left) (sym d) in
+                  let sum : shown .0 + (from - at) + shownBy w (drop from s) ≡ shown .0 + (from - at + more) + left = omega arith in
+                  passed .weighing ∙ min-again (lim .0) (shown .0 + (from - at)) (shownBy w (drop from s)) ∙ ap (min (lim .0)) sum
+                  ∙ sym (min-again (lim .0) (shown .0 + (from - at + more)) left) ∙ ap (λ (x : ℕ). min (lim .0) (x + left)) (sym l);
+            }
 
-          after : drop n (drop from s) ≡ drop (from + n) s
-          after = drop-drop n from s
+        pub high-again : 0x14 ≤ getD s from 0 → (k : ℕ) → k ≡ min (lim .0) (shown .0 + (from - at + 1)) → k ≤ lim .0
+            → Weighing marks w s (lim .0) (from + n) used k
+        unfolding marked
+        high-again h k l j =
+            let begun : getD s from 0 / 64 ≡ 2 → ⊥ =
+            λ e. z (step-here s at from run n step .begun (ap (λ (b : ℕ). b / 64) (first s at from run q) ∙ e)) in
+            let want : marked marks (getD s from 0) ≡ true = rw (high-octet (getD s from 0) (omega arith)) in
+            weigh-again used (sym (ap (λ c. allMarked marks used && c) want ∙ and-one (allMarked marks used))) 1 (shown-first w (getD s from 0) h begun) k l j
 
-          pub weigh-again : (m : Bool) → m ≡ marked marks (getD s from 0) → (more : ℕ) → more ≡ widthAt w (getD s from 0)
-              → (k : ℕ) → k ≡ min (lim .0) (before .0 + more) → k ≤ lim .0 → Weighing marks w s (lim .0) (from + n) (covers && m) k
-          weigh-again m f more d k l j =
-              record {
-                within = step-inside s at from run n step;
-                same = check-again true s at from (in-text at covers shown inv) (plain-passed true s at from run) n step z .same;
-                short = j;
-                covering =
-                    weigh-behind .covering
-                    ∙ ap (λ c. covers && c)
-                    (first-covers marks w (drop from s) n (step-here s at from run n step) some-left z
-                    ∙ ap₂ (λ b r. marked marks b && coveredBy marks r) first after ∙ ap (λ c. c && coveredBy marks (drop (from + n) s)) (sym f))
-                    ∙ and-assoc covers m (coveredBy marks (drop (from + n) s));
-                weighing =
-                    let ahead : shownBy w (drop from s) ≡ more + shownBy w (drop (from + n) s) =
-                    first-weighs marks w (drop from s) n (step-here s at from run n step) some-left z
-                    ∙ ap₂ (λ b r. shownAt w b + shownBy w r) first after ∙ ap (λ (x : ℕ). x + shownBy w (drop (from + n) s)) (sym (d ∙ shown-begun w (getD s from 0) begun)) in
-                    let sum : before .0 + shownBy w (drop from s) ≡ before .0 + more + shownBy w (drop (from + n) s) = omega arith in
-                    weigh-behind .weighing ∙ ap (min (lim .0)) sum ∙ sym (min-again (lim .0) (before .0 + more) (shownBy w (drop (from + n) s)))
-                    ∙ ap (λ (x : ℕ). min (lim .0) (x + shownBy w (drop (from + n) s))) (sym l);
-              }
+      pub low-again : (h : getD s from 0 < 0x14) → (getD s from 0 ≡ 0 → ⊥) → (own : ℕ) → own ≡ tokenBit (getD s from 0)
+          → (more : ℕ) → more ≡ shownAt w (getD s from 0) → (k : ℕ) → k ≡ min (lim .0) (shown .0 + (from - at + more)) → k ≤ lim .0
+          → Weighing marks w s (lim .0) (from + 1) (bitOr used own) k
+      low-again h z own e more d k l j =
+          weigh-again 1 (low-step s at from run q h z) (λ x. omega arith) (bitOr used own) (marked-more marks used (getD s from 0) own e) more d k l j
 
-pub ruleset weigh-ways = (weigh-begin, weigh-done, weigh-end, weigh-stop)
+pub ruleset weigh-ways = (weigh-begin, weigh-done, weigh-end, weigh-stop, weigh-zero)
 
 -- ---- by the marks of a table
 pub covered-by-is : (es : Entries) (marks : ℕ) → Marks marks (tags es) → (s : List ℕ) → coveredBy marks s ≡ covered es s

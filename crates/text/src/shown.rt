@@ -4,7 +4,7 @@ ghost use Prim.Native.Nat.{_<_};
 ghost use lib.Dec.{leb};
 ghost use Rattle.octets.specs.Counts.{charactersWithin};
 ghost use Rattle.text.specs.Tokens.{entries, stands, starts, shownLength};
-ghost use Rattle.text.specs.Weighing.{Shows, widthAt, shownAt, shownBy};
+ghost use Rattle.text.specs.Weighing.{Shows, shownAt, shownBy};
 ghost use Rattle.text.specs.Index.{Indexes};
 use crate::characters::begun;
 use crate::expanding::Found;
@@ -69,16 +69,6 @@ pub fn shown_at(counts: &[u8; 32], b: u8) -> Characters
         return Characters(size_of(counts[size_of(b)]));
     }
     begun(b)
-}
-
-// The same for an octet with which a character begins.
-pub fn first_at(counts: &[u8; 32], b: u8) -> Characters
-    ensures { λ r. ⌜ r .0 ≡ widthAt (now (counts .entry)) b ⌝ }
-{
-    if b < 0x14 {
-        return Characters(size_of(counts[size_of(b)]));
-    }
-    Characters(1)
 }
 
 // What is shown of a text keeps to a limit, by the counts of a table and octet by octet. It counts down from the limit, so that no sum can be too large, and

@@ -2,20 +2,23 @@
 // a table, which is gone through for them once and not once a text. Runs of octets that stand for themselves are passed over as `check` does.
 ghost use mathlib.Core.Path.{_≡_};
 ghost use Prim.Native.Nat.{_+_, _≤_, min};
-ghost use Rattle.text.specs.Weighing.{marked, weighedBy};
+ghost use Rattle.text.specs.Weighing.{allMarked, weighedBy};
+ghost use Rattle.text.specs.declared.Weighed.the-variants.{Text};
 use crate::Weighed;
 use crate::characters::sequence;
 use crate::characters::token_bit;
 use crate::runs::plain_end;
-use crate::shown::first_at;
+use crate::shown::shown_at;
 use octets::Characters;
 
-// An octet that wants no entry, or has one. Nothing is decided here, so that a processor has nothing to guess.
-fn is_marked(marks: u32, b: u8) -> bool
-    ensures { λ r. ⌜ r ≡ marked marks b ⌝ }
+// What is told of a text: whether each of its tokens, which have a bit each, has an entry by the marks of a table, and how many characters are shown of it.
+fn weighed(marks: u32, used: u32, shown: Characters) -> Weighed
+    ensures { λ r. ⌜ r ≡ Text (allMarked marks used) shown ⌝ }
 {
-    let own = token_bit(b);
-    own & marks == own
+    Weighed::Text {
+        covered: used & marks == used,
+        shown,
+    }
 }
 
 // A sum that stops at `most`, so that none is too large.
@@ -31,32 +34,39 @@ fn capped(shown: Characters, more: Characters, most: Characters) -> Characters
     Characters(sum)
 }
 
-// A text weighed in one look, what is shown of it counted up to `most`. Each octet of a run is a character, and of what stands between runs the first octet of
-// each character counts.
+// A text weighed in one look, what is shown of it counted up to `most`. Each octet of a run is a character. Of what stands between runs, an octet below 0x14 is
+// a character by itself, unless it is 0, and of any other character the first octet counts. The two ways meet only at the next run, so that a processor guesses
+// once, and not at each question, which of them an octet goes.
 pub fn weigh(marks: u32, counts: &[u8; 32], s: &[u8], most: Characters) -> Weighed
     ensures { λ r. ⌜ r ≡ weighedBy marks (now (counts .entry)) (now (s .entry)) most ⌝ }
 {
     let mut at: usize = 0;
-    let mut covered = true;
+    let mut used: u32 = 0;
     let mut shown = Characters(0);
     while at < s.len() {
         let from = plain_end(s, at);
         let run = from - at;
-        let before = capped(shown, Characters(run), most);
         if from == s.len() {
-            return Weighed::Text {
-                covered,
-                shown: before,
-            };
-        }
-        let end = sequence(&s[from..], true);
-        if end == 0 {
-            return Weighed::NoText;
+            return weighed(marks, used, capped(shown, Characters(run), most));
         }
         let b = s[from];
-        covered = covered & is_marked(marks, b);
-        shown = capped(before, first_at(counts, b), most);
-        at = from + end;
+        if b < 0x14 {
+            if b == 0 {
+                return Weighed::NoText;
+            }
+            used = used | token_bit(b);
+            let more = run + shown_at(counts, b).0;
+            shown = capped(shown, Characters(more), most);
+            at = from + 1;
+        } else {
+            let end = sequence(&s[from..], true);
+            if end == 0 {
+                return Weighed::NoText;
+            }
+            let more = run + 1;
+            shown = capped(shown, Characters(more), most);
+            at = from + end;
+        }
     }
-    Weighed::Text { covered, shown }
+    weighed(marks, used, shown)
 }

@@ -1,15 +1,15 @@
 use Prim.Native.Nat.{_-_}
 use lib.ListN.{length}
-use Rattle.text.proofs.WeighLaws.{Weighing, run-inside, step-fits, step-less, weigh-again, weigh-ways}
+use Rattle.text.proofs.WeighLaws.{Weighing, run-inside, run-less, more-fits, step-fits, step-less, low-again, high-again, weigh-ways}
 use borrow.Author.Needs.{needs}
 use Rattle.text.proofs.weighing.weigh.Statement.{statement}
 use Rattle.text.proofs.weighing.weigh.Tie as tie
 
 abbrev Inv-loop : tie.InvT-loop
-Inv-loop marks counts s most at₀ covered₀ shown₀ at covered shown = Weighing marks counts s (most .0) at covered (shown .0)
+Inv-loop marks counts s most at₀ used₀ shown₀ at used shown = Weighing marks counts s (most .0) at used (shown .0)
 
 abbrev μ-loop : tie.MeasureT-loop
-μ-loop marks counts s most at₀ covered₀ shown₀ at covered shown = length s - at
+μ-loop marks counts s most at₀ used₀ shown₀ at used shown = length s - at
 
 loop-holds : tie.Need-loop-holds Inv-loop μ-loop
 loop-holds c = search (weigh-ways, needs)
@@ -23,8 +23,45 @@ sub-run c = search needs
 capped-requires : tie.Need-capped-requires Inv-loop μ-loop
 capped-requires c κs = search needs
 
+weighed-requires : tie.Need-weighed-requires Inv-loop μ-loop
+weighed-requires c κs = search needs
+
 returns : tie.Need-returns Inv-loop μ-loop
 returns c = search (weigh-ways, needs)
+
+shared-slice-read-b : tie.Need-shared-slice-read-b Inv-loop μ-loop
+shared-slice-read-b c = search (run-inside, needs)
+
+returns-2 : tie.Need-returns-2 Inv-loop μ-loop
+returns-2 c = search (weigh-ways, needs)
+
+token-bit-requires : tie.Need-token-bit-requires Inv-loop μ-loop
+token-bit-requires c κs = search needs
+
+shown-at-requires : tie.Need-shown-at-requires Inv-loop μ-loop
+shown-at-requires c κs = search needs
+
+add-more : tie.Need-add-more Inv-loop μ-loop
+add-more c =
+    let ran = c .before .before .before .before .before .before .before in
+    more-fits (ran .before .before .before .before .args .s .now) _ _ (ran .plain-end .ensures) _ (search needs) (c .before .shown-at .ensures .1)
+
+capped-requires-2 : tie.Need-capped-requires-2 Inv-loop μ-loop
+capped-requires-2 c κs = search needs
+
+add-at : tie.Need-add-at Inv-loop μ-loop
+add-at c = search (run-inside, needs)
+
+loop-less : tie.Need-loop-less Inv-loop μ-loop
+loop-less c = search (run-less, needs)
+
+loop-again : tie.Need-loop-again Inv-loop μ-loop
+loop-again c =
+    let looked = c .before .before .before in
+    let ran = looked .before .before .before .before .before in
+    let args = ran .before .before .before .before .args in
+    low-again (args .marks) (args .counts .now) (args .s .now) (args .most) _ _ _ (ran .before .before .loop .inv) _ (ran .plain-end .ensures) (search needs)
+    (search needs) (search needs) _ (looked .token-bit .ensures) _ (c .before .before .shown-at .ensures .0) _ (c .capped2 .ensures .0) (c .capped2 .ensures .1)
 
 sub-sequence : tie.Need-sub-sequence Inv-loop μ-loop
 sub-sequence c = search needs
@@ -38,43 +75,38 @@ part-sequence-end c = search needs
 sequence-requires : tie.Need-sequence-requires Inv-loop μ-loop
 sequence-requires c κs = search needs
 
-returns-2 : tie.Need-returns-2 Inv-loop μ-loop
-returns-2 c = search (weigh-ways, needs)
-
-shared-slice-read-b : tie.Need-shared-slice-read-b Inv-loop μ-loop
-shared-slice-read-b c = search (run-inside, needs)
-
-is-marked-requires : tie.Need-is-marked-requires Inv-loop μ-loop
-is-marked-requires c κs = search needs
-
-first-at-requires : tie.Need-first-at-requires Inv-loop μ-loop
-first-at-requires c κs = search needs
-
-capped-requires-2 : tie.Need-capped-requires-2 Inv-loop μ-loop
-capped-requires-2 c κs = search needs
-
-add-at : tie.Need-add-at Inv-loop μ-loop
-add-at c =
-    let stepped = c .before .before .before .before .before in
-    let ran = stepped .before .before .before .before in
-    step-fits (ran .before .before .before .before .args .s .now) _ _ (ran .plain-end .ensures) _ (stepped .sequence .ensures) (search needs)
-
-loop-less : tie.Need-loop-less Inv-loop μ-loop
-loop-less c = search (step-less, needs)
-
-loop-again : tie.Need-loop-again Inv-loop μ-loop
-loop-again c =
-    let looked = c .before .before in
-    let stepped = looked .before .before .before in
-    let run = stepped .before .before .before in
-    let ran = run .before in
-    let args = ran .before .before .before .before .args in
-    weigh-again (args .marks) (args .counts .now) (args .s .now) (args .most) _ _ _ (ran .before .before .loop .inv) _ (ran .plain-end .ensures) _ (run .capped .ensures .0)
-    (run .capped .ensures .1) _ (stepped .sequence .ensures) (stepped .before .before .if1 .left) (looked .before .before .if2 .left) _ (looked .is-marked .ensures) _
-    (c .before .first-at .ensures) _ (c .capped2 .ensures .0) (c .capped2 .ensures .1)
-
 returns-3 : tie.Need-returns-3 Inv-loop μ-loop
 returns-3 c = search (weigh-ways, needs)
+
+add-more-2 : tie.Need-add-more-2 Inv-loop μ-loop
+add-more-2 c =
+    let ran = c .before .before .before .before .before .before in
+    more-fits (ran .before .before .before .before .args .s .now) _ _ (ran .plain-end .ensures) 1 (search needs) (search needs)
+
+capped-requires-3 : tie.Need-capped-requires-3 Inv-loop μ-loop
+capped-requires-3 c κs = search needs
+
+add-at-2 : tie.Need-add-at-2 Inv-loop μ-loop
+add-at-2 c =
+    let ran = c .before .before .before .before .before .before .before in
+    step-fits (ran .before .before .before .before .args .s .now) _ _ (ran .plain-end .ensures) _ (c .before .before .sequence .ensures) (search needs)
+
+loop-less-2 : tie.Need-loop-less-2 Inv-loop μ-loop
+loop-less-2 c = search (step-less, needs)
+
+loop-again-2 : tie.Need-loop-again-2 Inv-loop μ-loop
+loop-again-2 c =
+    let stepped = c .before .before in
+    let ran = stepped .before .before .before .before .before in
+    let args = ran .before .before .before .before .args in
+    high-again (args .marks) (args .counts .now) (args .s .now) (args .most) _ _ _ (ran .before .before .loop .inv) _ (ran .plain-end .ensures) (search needs) _
+    (stepped .sequence .ensures) (search needs) (search needs) _ (c .capped3 .ensures .0) (c .capped3 .ensures .1)
+
+weighed-requires-2 : tie.Need-weighed-requires-2 Inv-loop μ-loop
+weighed-requires-2 c κs = search needs
+
+returns-4 : tie.Need-returns-4 Inv-loop μ-loop
+returns-4 c = search (weigh-ways, needs)
 
 pub weigh-spec : {M : Type 1} → statement M
 weigh-spec =
@@ -86,17 +118,26 @@ weigh-spec =
     plain-end-requires
     sub-run
     capped-requires
+    weighed-requires
     returns
-    sub-sequence
-    part-sequence-start
-    part-sequence-end
-    sequence-requires
-    returns-2
     shared-slice-read-b
-    is-marked-requires
-    first-at-requires
+    returns-2
+    token-bit-requires
+    shown-at-requires
+    add-more
     capped-requires-2
     add-at
     loop-less
     loop-again
-    returns-3)
+    sub-sequence
+    part-sequence-start
+    part-sequence-end
+    sequence-requires
+    returns-3
+    add-more-2
+    capped-requires-3
+    add-at-2
+    loop-less-2
+    loop-again-2
+    weighed-requires-2
+    returns-4)
