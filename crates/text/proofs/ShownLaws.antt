@@ -7,8 +7,6 @@ use lib.Dec.{eqb, leb, ltb}
 use lib.ListN.{length, getD, take, drop, set, replicate, length-set, length-take, drop-of-length-le, getD-replicate}
 use lib.Seq.{getD-set-same, getD-set-other}
 use native.Mathlib.Omega.{arith}
-use mir.Syntax.{w8}
-use mir.Val.{Fits}
 use borrow.Author.Tests.{eqb-true, eqb-false, eq-eqb, ne-eqb, lt-ltb, le-ltb, ltb-true, ltb-false, le-leb, lt-leb, leb-true, leb-false}
 use Rattle.octets.specs.declared.counts.Characters.{Characters}
 use Rattle.octets.specs.Counts.{charactersWithin}
@@ -85,10 +83,10 @@ module _ (index table : List ℕ) (made : Indexes (entries table) index) (b : �
       pub counts-entry : n ≡ starts (stands (entries table) b)
       counts-entry = s ∙ ap starts part-is
 
-      pub count-fits : Octets table → Fits w8 n
-      count-fits os =
+      pub counts-few : Octets table → n < 256
+      counts-few os =
           let part = drop start table in
-          record { fits = omega (arith, s, starts-few (take (start + size - start) part), length-take (start + size - start) part, octet-by index table b f e start size q, os (start - 1)) }
+          omega (arith, s, starts-few (take (start + size - start) part), length-take (start + size - start) part, octet-by index table b f e start size q, os (start - 1))
 
 pub ruleset counts-ways = (counts-itself, counts-entry)
 

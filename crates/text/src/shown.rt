@@ -28,17 +28,17 @@ fn starts_of(part: &[u8]) -> Characters
 
 // How many characters stand for an octet that could be a token, by the index of the table. No entry has more octets than an octet can say, and so no more
 // characters.
-fn count_of(index: &[usize; 32], table: &[u8], b: u8) -> u8
+fn count_of(index: &[usize; 32], table: &[u8], b: u8) -> Characters
     requires { ⌜ Indexes (entries (now table)) (now index) ⌝ }
     requires { ⌜ b < 0x14 ⌝ }
-    ensures { λ r. ⌜ r ≡ starts (stands (entries (now (table .entry))) b) ⌝ }
+    ensures { λ r. ⌜ r .0 ≡ starts (stands (entries (now (table .entry))) b) ⌝ }
+    ensures { λ r. ⌜ r .0 < 256 ⌝ }
 {
     match replacement(index, table, b) {
-        Found::Nothing => 1,
+        Found::Nothing => Characters(1),
         Found::At { start, size } => {
             let end = start + size;
-            let count = starts_of(&table[start..end]);
-            count.0 as u8
+            starts_of(&table[start..end])
         }
     }
 }
@@ -54,7 +54,7 @@ pub fn characters_of(table: &[u8]) -> [u8; 32]
     let index = index_of(table);
     let mut b: u8 = 0;
     while b < 0x14 {
-        counts[size_of(b)] = count_of(&index, table, b);
+        counts[size_of(b)] = count_of(&index, table, b).0 as u8;
         b += 1;
     }
     counts

@@ -22,6 +22,9 @@ loop-holds c = search (fill-ways, needs)
 count-of-requires : tie.Need-count-of-requires Inv-loop μ-loop
 count-of-requires c κs = search needs
 
+cast-counts : tie.Need-cast-counts Inv-loop μ-loop
+cast-counts c = search needs
+
 size-of-requires : tie.Need-size-of-requires Inv-loop μ-loop
 size-of-requires c κs = search needs
 
@@ -50,6 +53,7 @@ characters-of-spec =
     index-of-requires
     loop-holds
     count-of-requires
+    cast-counts
     size-of-requires
     array-write-counts
     add-b

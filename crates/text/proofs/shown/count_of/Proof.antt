@@ -1,6 +1,6 @@
 use native.Mathlib.Omega.{arith}
 use Rattle.text.proofs.Index.{inside-by, part-fits}
-use Rattle.text.proofs.ShownLaws.{count-fits, counts-ways}
+use Rattle.text.proofs.ShownLaws.{counts-few, counts-ways}
 use borrow.Author.Needs.{needs}
 use Rattle.text.proofs.shown.count_of.Statement.{statement}
 use Rattle.text.proofs.shown.count_of.Tie as tie
@@ -29,19 +29,18 @@ part-starts-of-end c = search (inside-by, needs)
 starts-of-requires : tie.Need-starts-of-requires
 starts-of-requires c κs = search needs
 
-cast-result : tie.Need-cast-result
-cast-result c =
-    let told = c .before .before .before .before in
-    let found = told .before .before in
-    let begun = found .before .before in
-    count-fits (begun .args .index .now) (begun .args .table .now) (begun .pre .0) _ _ (found .replacement .ensures) _ _ (told .start .given .1) _ (c .before .starts-of .ensures)
-    (λ i. omega (arith, found .before .shared-slice-known .given i))
-
 returns : tie.Need-returns
 returns c = search (counts-ways, needs)
 
 returns-2 : tie.Need-returns-2
-returns-2 c = search (counts-ways, needs)
+returns-2 c =
+    let told = c .before .before .before in
+    let found = told .before .before in
+    let begun = found .before .before in (
+      search (counts-ways, needs),
+      counts-few (begun .args .index .now) (begun .args .table .now) (begun .pre .0) _ _ (found .replacement .ensures) _ _ (told .start .given .1) _
+          (c .starts-of .ensures) (λ i. omega (arith, found .before .shared-slice-known .given i)),
+    )
 
 pub count-of-spec : {M : Type 1} → statement M
 count-of-spec =
@@ -55,6 +54,5 @@ count-of-spec =
     part-starts-of-start
     part-starts-of-end
     starts-of-requires
-    cast-result
     returns
     returns-2)
