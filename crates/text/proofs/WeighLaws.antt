@@ -20,9 +20,9 @@ use Rattle.octets.proofs.Tests.{and-left, and-right, and-true, or-elim, or-left
 use Rattle.octets.proofs.Lists.{part-to-end}
 use Rattle.text.specs.Text.{layout, token, single, text}
 use Rattle.text.specs.Tokens.{Entries, entry, present, covers, covered, shownLength}
-use Rattle.text.specs.Leaves.{tokenBit, Steps}
+use Rattle.text.specs.Leaves.{tokenBit, allMarked, Steps}
 use Rattle.text.specs.Runs.{within, allWithin, PlainTo}
-use Rattle.text.specs.Weighing.{bit, tags, Marks, Widths, Shows, marked, allMarked, coveredBy, shownAt, shownBy, weighedBy}
+use Rattle.text.specs.Weighing.{bit, tags, Marks, Widths, Shows, marked, coveredBy, shownAt, shownBy, weighedBy}
 use Rattle.text.specs.declared.Weighed.{Weighed}
 use Rattle.text.specs.declared.Weighed.the-variants.{NoText, Text}
 use Rattle.text.proofs.Words.{high-octet}

@@ -5,7 +5,7 @@ use mathlib.Core.List.{List, [], _∷_}
 use Prim.Native.Nat.{ℕ, zero, suc, _+_, _-_, _*_, _/_, _%_, _^_, _≤_, _<_}
 use lib.Dec.{eqb, ltb}
 use lib.ListN.{length, getD, take, drop}
-use lib.Bits.{bitOr}
+use lib.Bits.{bitAnd, bitOr}
 use Rattle.text.specs.Text.{token, character, text}
 use Rattle.text.specs.Tokens.{Entries, filled}
 use Rattle.text.specs.Calls.{found}
@@ -63,6 +63,10 @@ maskOf (t ∷ ts) = bitOr (maskOf ts) (2 ^ t)
 -- the mask of an octet by itself: a token has its bit, any other octet none
 unfoldable pub tokenBit : ℕ → ℕ
 tokenBit b = cond (token b) (2 ^ b) 0
+
+-- tokens kept as a mask, each of which has its bit in the marks of a table
+unfoldable pub allMarked : ℕ → ℕ → Bool
+allMarked marks used = eqb (bitAnd used marks) used
 
 -- rule 11 for what is left of a table after entries with the tags seen
 unfoldable pub filledAfter : List ℕ → List ℕ → Bool

@@ -6,7 +6,6 @@ use mathlib.Core.List.{List, [], _∷_}
 use Prim.Native.Nat.{ℕ, _+_, _/_, _%_, _^_, _<_, min}
 use lib.Dec.{eqb, ltb}
 use lib.ListN.{length, getD}
-use lib.Bits.{bitAnd}
 use Rattle.octets.specs.declared.counts.Characters.{Characters}
 use Rattle.octets.specs.Counts.{asCharacters}
 use Rattle.octets.specs.Numbers.{among}
@@ -41,10 +40,6 @@ pub record Shows (bound : ℕ) (es : Entries) (counts : List ℕ) : Type 0 where
 -- an octet that wants no entry, or has one by a mask
 unfoldable pub marked : ℕ → ℕ → Bool
 marked marks b = not (token b) || bit marks b
-
--- tokens kept as a mask, each of which has its bit in another
-unfoldable pub allMarked : ℕ → ℕ → Bool
-allMarked marks used = eqb (bitAnd used marks) used
 
 unfoldable pub coveredBy : ℕ → List ℕ → Bool
 coveredBy marks [] = true

@@ -2,7 +2,8 @@
 // a table, which is gone through for them once and not once a text. Runs of octets that stand for themselves are passed over as `check` does.
 ghost use mathlib.Core.Path.{_≡_};
 ghost use Prim.Native.Nat.{_+_, _≤_, min};
-ghost use Rattle.text.specs.Weighing.{allMarked, weighedBy};
+ghost use Rattle.text.specs.Leaves.{allMarked};
+ghost use Rattle.text.specs.Weighing.{weighedBy};
 ghost use Rattle.text.specs.declared.Weighed.the-variants.{Text};
 use crate::Weighed;
 use crate::characters::sequence;

@@ -1,4 +1,4 @@
-use Rattle.text.specs.Weighing.{allMarked}
+use Rattle.text.specs.Leaves.{allMarked}
 use mathlib.Core.Path.{refl}
 use Rattle.text.proofs.weighing.weighed.Statement.{statement}
 use Rattle.text.proofs.weighing.weighed.Tie as tie
