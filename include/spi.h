@@ -147,9 +147,10 @@ uint64_t spi_write(size_t records,
                    uint8_t *room, size_t room_count);
 
 /* Writes the normal form of an object to the room.  The lists and the store then hold its records
- * with every token replaced and every value in normal form: the store has their bodies.  Refused by
- * 1 to 15; the count is that of the octets.  With SPI_MOST_RECORDS places and SPI_MOST_OCTETS of store
- * and of room, 14 never comes, and 15 only where the normal form has more octets than an object may. */
+ * with every token replaced and every value in normal form: the store has their bodies.  An attribute
+ * that has its default is among these, and not in the normal form.  Refused by 1 to 15; the count is that
+ * of the octets.  With SPI_MOST_RECORDS places and SPI_MOST_OCTETS of store and of room, 14 never comes,
+ * and 15 only where the normal form has more octets than an object may. */
 uint64_t spi_normalise(const uint8_t *object, size_t octets,
                        uint8_t *tags, size_t tags_count,
                        uint8_t *kinds, size_t kinds_count,

@@ -1,6 +1,6 @@
 // The items of two elements of one tag, each under its own token table: whether they mean the same. Attributes are a set: they are gone over in step where they
-// can be, else each tag is sought in both; child elements are compared in order, stepping over what has no meaning; CDATA is in both or in neither. Nothing is
-// judged here.
+// can be, else each tag is sought in both, and one that has its default counts as absent; child elements are compared in order, stepping over what has no
+// meaning; CDATA is in both or in neither. Nothing is judged here.
 // Cost: an element's items are stepped over twice, and its attributes once more, or once more for each of the seven tags that attributes have.
 ghost use mathlib.Core.Path.{_≡_};
 ghost use Rattle.text.specs.Index.{entriesBy};

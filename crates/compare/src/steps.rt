@@ -1,5 +1,6 @@
 // The attributes of two elements gone over in step, as they can be where both have the same tags in rising order. So stands what this library writes, and most of
-// what others do: each attribute is then met once and not sought by its tag.
+// what others do: each attribute is then met once and not sought by its tag. No default is asked for here: two attributes that are both there are compared as they
+// stand, since a default is the same as itself and as nothing else, and where only one body has it they are not in step.
 ghost use mathlib.Core.Path.{_≡_};
 ghost use mathlib.Core.Option.{some};
 ghost use Rattle.text.specs.Index.{entriesBy};
