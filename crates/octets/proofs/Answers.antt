@@ -1,21 +1,19 @@
--- What the answers of the calls say to a caller that matches on them.
+-- What the answers of the calls say to a caller that matches on them. Those of the calls that put octets are in Puts.
 use mathlib.Core.Path.{_≡_, refl, sym, _∙_}
 use mathlib.Core.Bool.{Bool, true, false, cond}
 use mathlib.Core.List.{List, [], _∷_}
 use Prim.Native.Nat.{ℕ, suc, _+_, _^_, _≤_, _<_}
 use native.Mathlib.Nat.{lt-of-lt-of-le, pow-le-pow-right}
 use native.Mathlib.Omega.{arith}
-use lib.Dec.{eqb, leb, ltb}
+use lib.Dec.{eqb, leb}
 use lib.ListN.{length, take, drop, getD, length-append, length-take}
 use lib.Seq.{sets}
-use borrow.Author.Tests.{leb-true, leb-false, le-leb, lt-ltb}
+use borrow.Author.Tests.{leb-true, leb-false}
 use Rattle.octets.specs.Numbers.{value, digits, Octets}
 use Rattle.octets.specs.Header.{headerSize, bodySize, lengthField, framed}
-use Rattle.octets.specs.Calls.{headerOf, numberOf, fitsWidth, putAnswer, putOut, Puts}
+use Rattle.octets.specs.Calls.{headerOf, numberOf}
 use Rattle.octets.specs.declared.Header.{Header}
 use Rattle.octets.specs.declared.Number.{Number}
-use Rattle.octets.specs.declared.Put.{Put}
-use Rattle.octets.proofs.Tests.{and-true}
 use Rattle.octets.proofs.Lists.{sets-append}
 use Rattle.octets.proofs.Numbers.{octets-drop, octets-take, value-lt, length-digits}
 
@@ -102,72 +100,6 @@ module _ (s : List ℕ) (r : Number) (e : r ≡ numberOf s) where
       go : (b : Bool) → leb (length s) 4 ≡ b → Number.TooLong ≡ cond b (Number.Is (value s)) Number.TooLong → 4 < length s
       go true f p = let z : _≡_ {A = ℕ} 0 1 = cc in absurd (omega arith)
       go false f p = leb-false (length s) 4 f
-
--- ---- the calls that put octets at a place
-pub record PutDone (exists : Bool) (octets : List ℕ) (at : ℕ) (before after : List ℕ) (end : ℕ) : Type 0 where
-  pub is : exists ≡ true
-  pub place : end ≡ at + length octets
-  pub inside : at + length octets ≤ length before
-  pub laid : after ≡ sets before at octets
-
-module _ (exists : Bool) (octets : List ℕ) (at : ℕ) (before after : List ℕ) (answer : Put) (p : Puts exists octets at before after answer) where
-  pub put-done : (end : ℕ) → answer ≡ Put.Done end → PutDone exists octets at before after end
-  unfolding putAnswer putOut
-  put-done end q = go exists (leb (at + length octets) (length before)) refl refl
-    where
-      go : (a b : Bool) → exists ≡ a → leb (at + length octets) (length before) ≡ b → PutDone exists octets at before after end
-      go true true f g =
-          let r : Put.Done end ≡ Put.Done (at + length octets) = sym q ∙ rw (f, g) at (p .answers) in
-          record { is = f; place = cc; inside = leb-true (at + length octets) (length before) g; laid = rw (f, g) at (p .leaves) }
-      go true false f g =
-          let r : Put.Done end ≡ Put.NoRoom = sym q ∙ rw (f, g) at (p .answers) in
-          let z : _≡_ {A = ℕ} 0 1 = cc in absurd (omega arith)
-      go false b f g =
-          let r : Put.Done end ≡ Put.TooLong = sym q ∙ rw f at (p .answers) in
-          let z : _≡_ {A = ℕ} 0 1 = cc in absurd (omega arith)
-
-  pub put-no-room : answer ≡ Put.NoRoom → (exists ≡ true) × (length before < at + length octets) × (after ≡ before)
-  unfolding putAnswer putOut
-  put-no-room q = go exists (leb (at + length octets) (length before)) refl refl
-    where
-      go : (a b : Bool) → exists ≡ a → leb (at + length octets) (length before) ≡ b → (exists ≡ true) × (length before < at + length octets) × (after ≡ before)
-      go true true f g =
-          let r : Put.NoRoom ≡ Put.Done (at + length octets) = sym q ∙ rw (f, g) at (p .answers) in
-          let z : _≡_ {A = ℕ} 0 1 = cc in absurd (omega arith)
-      go true false f g = (f, leb-false (at + length octets) (length before) g, rw (f, g) at (p .leaves))
-      go false b f g =
-          let r : Put.NoRoom ≡ Put.TooLong = sym q ∙ rw f at (p .answers) in
-          let z : _≡_ {A = ℕ} 0 1 = cc in absurd (omega arith)
-
-  pub put-too-long : answer ≡ Put.TooLong → (exists ≡ false) × (after ≡ before)
-  unfolding putAnswer putOut
-  put-too-long q = go exists (leb (at + length octets) (length before)) refl refl
-    where
-      go : (a b : Bool) → exists ≡ a → leb (at + length octets) (length before) ≡ b → (exists ≡ false) × (after ≡ before)
-      go true true f g =
-          let r : Put.TooLong ≡ Put.Done (at + length octets) = sym q ∙ rw (f, g) at (p .answers) in
-          let z : _≡_ {A = ℕ} 0 1 = cc in absurd (omega arith)
-      go true false f g =
-          let r : Put.TooLong ≡ Put.NoRoom = sym q ∙ rw (f, g) at (p .answers) in
-          let z : _≡_ {A = ℕ} 0 1 = cc in absurd (omega arith)
-      go false b f g = (f, rw f at (p .leaves))
-
--- where the room is known to suffice, the caller needs no look at the answer
-pub put-laid : (exists : Bool) (octets : List ℕ) (at : ℕ) (before after : List ℕ) (answer : Put) → Puts exists octets at before after answer → exists ≡ true → at + length octets ≤ length before → after ≡ sets before at octets
-unfolding putOut
-put-laid exists octets at before after answer p e h = rw (e, le-leb (at + length octets) (length before) h) at (p .leaves)
-
-module _ (at : ℕ) (before after : List ℕ) (answer : Put) where
-  pub header-laid : (tag n : ℕ) → Puts (ltb n (256 ^ 3)) (tag ∷ lengthField n) at before after answer → n < 256 ^ 3 → at + suc (length (lengthField n)) ≤ length before → after ≡ sets before at (tag ∷ lengthField n)
-  header-laid tag n p h r = put-laid (ltb n (256 ^ 3)) (tag ∷ lengthField n) at before after answer p (lt-ltb n (256 ^ 3) h) r
-
-  pub number-laid : (width n : ℕ) → Puts (fitsWidth width n) (digits width n) at before after answer → width ≤ 4 → n < 256 ^ width → at + width ≤ length before → after ≡ sets before at (digits width n)
-  unfolding fitsWidth
-  number-laid width n p w h r =
-      put-laid (fitsWidth width n) (digits width n) at before after answer p (and-true (leb width 4) (ltb n (256 ^ width)) (le-leb width 4 w) (lt-ltb n (256 ^ width) h)) (rw length-digits r)
-
-  pub copy-laid : (s : List ℕ) → Puts true s at before after answer → at + length s ≤ length before → after ≡ sets before at s
-  copy-laid s p r = put-laid true s at before after answer p refl r
 
 -- ---- an item: its header, and then its body behind it
 pub framed-laid : (out : List ℕ) (at tag : ℕ) (body : List ℕ) → sets (sets out at (tag ∷ lengthField (length body))) (at + suc (length (lengthField (length body)))) body ≡ sets out at (framed tag body)

@@ -2,6 +2,7 @@ pub mod Tests
 pub mod Lists
 pub mod Numbers
 pub mod Reading
+pub mod Puts
 pub mod Writing
 pub mod Answers
 pub mod Frames

@@ -16,7 +16,8 @@ use borrow.Author.Tests.{le-leb, lt-leb, leb-true, leb-false, lt-ltb, le-ltb, lt
 use Rattle.octets.specs.Counts.{asOctets}
 use Rattle.octets.specs.Numbers.{digits}
 use Rattle.octets.specs.Header.{lengthField}
-use Rattle.octets.specs.Calls.{fitsWidth, endOf, putAnswer, putOut, Puts, announced, widthOf, Formed}
+use Rattle.octets.specs.Calls.{fitsWidth, endOf, announced, widthOf, Formed}
+use Rattle.octets.specs.Puts.{Puts}
 use Rattle.octets.specs.declared.counts.Octets.{Octets}
 use Rattle.octets.specs.declared.Put.{Put}
 use Rattle.octets.specs.declared.End.{End}
@@ -25,6 +26,7 @@ use Rattle.octets.specs.declared.LengthForm.the-variants.{One, Two, Thre
 use Rattle.octets.proofs.Tests.{and-left, and-right}
 use Rattle.octets.proofs.Lists.{drop-next}
 use Rattle.octets.proofs.Numbers.{pow-pos, pow-octets, length-digits, digits-more}
+use Rattle.octets.proofs.Puts.{puts-invalid, puts-none, puts-done}
 
 -- ---- room
 pub record Ended (room at size end : ℕ) : Type 0 where
@@ -56,23 +58,6 @@ module _ (room at size : ℕ) where
       go : (b : Bool) → leb (at + size) room ≡ b → End.Outside ≡ cond b (End.Within (at + size)) End.Outside → room < at + size
       go true f p = let z : _≡_ {A = ℕ} 0 1 = cc in absurd (omega arith)
       go false f p = leb-false (at + size) room f
-
--- ---- what is put
-module _ (exists : Bool) (octets : List ℕ) (at : ℕ) (before : List ℕ) where
-  pub puts-no : exists ≡ false → Puts exists octets at before before Put.TooLong
-  unfolding putAnswer putOut
-  puts-no h = record { answers = rw h; leaves = rw h }
-
-  module _ (h : exists ≡ true) where
-    pub puts-none : length before < at + length octets → Puts exists octets at before before Put.NoRoom
-    unfolding putAnswer putOut
-    puts-none k = let e : leb (at + length octets) (length before) ≡ false = lt-leb (at + length octets) (length before) k in record { answers = rw (h, e); leaves = rw (h, e) }
-
-    pub puts-done : (after : List ℕ) (end : ℕ) → at + length octets ≤ length before → after ≡ sets before at octets → end ≡ at + length octets → Puts exists octets at before after (Put.Done end)
-    unfolding putAnswer putOut
-    puts-done after end k p q =
-        let e : leb (at + length octets) (length before) ≡ true = le-leb (at + length octets) (length before) k in
-        record { answers = rw (h, e) (ap Put.Done q); leaves = rw (h, e) p }
 
 -- ---- forms of a length
 module _ (n : ℕ) where
@@ -231,8 +216,8 @@ module _ (width n : ℕ) where
 pub ruleset width-ways = (width-far, width-near)
 
 module _ (out : List ℕ) (at width n : ℕ) (f : Bool) (g : f ≡ fitsWidth width n) where
-  pub number-no : f ≡ false → Puts (fitsWidth width n) (digits width n) at out out Put.TooLong
-  number-no q = puts-no (fitsWidth width n) (digits width n) at out (sym g ∙ q)
+  pub number-no : f ≡ false → Puts (fitsWidth width n) (digits width n) at out out Put.Invalid
+  number-no q = puts-invalid (fitsWidth width n) (digits width n) at out (sym g ∙ q)
 
   module _ (u : f ≡ true) where
     fits : fitsWidth width n ≡ true
@@ -317,8 +302,8 @@ pub ruleset length-ways = (one-fits, two-fits, one-room, two-in, two-room, three
 
 -- ---- a header
 module _ (out : List ℕ) (at tag n : ℕ) where
-  pub header-long : 0xFFFFFF < n → Puts (ltb n (256 ^ 3)) (tag ∷ lengthField n) at out out Put.TooLong
-  header-long h = puts-no (ltb n (256 ^ 3)) (tag ∷ lengthField n) at out (le-ltb n (256 ^ 3) (omega arith))
+  pub header-long : 0xFFFFFF < n → Puts (ltb n (256 ^ 3)) (tag ∷ lengthField n) at out out Put.Invalid
+  header-long h = puts-invalid (ltb n (256 ^ 3)) (tag ∷ lengthField n) at out (le-ltb n (256 ^ 3) (omega arith))
 
   module _ (h : n ≤ 0xFFFFFF) (size : Octets) (l : size ≡ asOctets (suc (length (lengthField n)))) (e : End) (k : e ≡ endOf (length out) at (size .0)) where
     long : size .0 ≡ suc (length (lengthField n))

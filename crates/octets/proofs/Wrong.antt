@@ -1,18 +1,21 @@
 -- Wrong answers of the calls, refuted at an input: what a slip in the definitions or in the code would answer.
-use mathlib.Core.Path.{_≡_, refl, ap}
-use mathlib.Core.Bool.{true}
+use mathlib.Core.Path.{_≡_, refl, ap, _∙_}
+use mathlib.Core.Bool.{Bool, true}
 use mathlib.Core.List.{List, [], _∷_}
 use Prim.Native.Nat.{ℕ, suc, _^_}
 use native.Mathlib.Omega.{arith}
 use lib.Dec.{ltb}
-use lib.ListN.{length, getD}
+use lib.ListN.{length, take, drop, getD}
 use Rattle.octets.specs.Counts.{asOctets}
 use Rattle.octets.specs.Numbers.{value, digits}
 use Rattle.octets.specs.Header.{headerSize, bodySize, lengthField}
-use Rattle.octets.specs.Calls.{headerOf, numberOf, fitsWidth, putAnswer, putOut, Puts}
+use Rattle.octets.specs.Calls.{headerOf, numberOf, fitsWidth}
+use Rattle.octets.specs.Puts.{putAnswer, putOut, Puts}
 use Rattle.octets.specs.declared.Header.{Header}
 use Rattle.octets.specs.declared.Number.{Number}
 use Rattle.octets.specs.declared.Put.{Put}
+use Rattle.octets.proofs.Lists.{part-of-sets}
+use Rattle.octets.proofs.Puts.{put-done, put-no-room}
 
 -- ---- read_header: 0xFE taken for a size; the least significant octet first; a header that is cut off; a body that is, which isn't for the header to say
 long-header : headerOf (0x03 ∷ 0xFE ∷ 0x01 ∷ 0x02 ∷ []) ≡ Header.Found 4 0x0102
@@ -93,3 +96,14 @@ copied-start answer p = let z : _≡_ {A = ℕ} 1 9 = ap (λ l. getD l 0 0) (p .
 pub copied-end : (after : List ℕ) → Puts true (1 ∷ []) 2 (9 ∷ 9 ∷ []) after (Put.Done 3) → ⊥
 unfolding putAnswer
 copied-end after p = let h = p .answers in let z : _≡_ {A = ℕ} 0 1 = cc h in omega arith
+
+-- ---- two answers that no call may give which puts octets, whatever they are: that they were put, though they don't stand there; and that there is no room,
+-- though a part of them was left
+module _ (valid : Bool) (octets : List ℕ) (at : ℕ) (out : List ℕ) where
+  pub not-put : (n : ℕ) → (take (length octets) (drop at out) ≡ octets → ⊥) → Puts valid octets at out out (Put.Done n) → ⊥
+  not-put n h p =
+      let d = put-done valid octets at out out (Put.Done n) p n refl in
+      h (ap (λ o. take (length octets) (drop at o)) (d .laid) ∙ part-of-sets out at octets (d .inside))
+
+  pub part-left : (out′ : List ℕ) → (out′ ≡ out → ⊥) → Puts valid octets at out out′ Put.NoRoom → ⊥
+  part-left out′ h p = h (put-no-room valid octets at out out′ Put.NoRoom p refl .2)

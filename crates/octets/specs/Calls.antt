@@ -1,17 +1,15 @@
--- What the calls of this crate answer, and what a lent slice of octets then holds.
+-- What the calls of this crate answer. What those that put octets leave in a lent slice is said in Puts.
 use mathlib.Core.Path.{_≡_}
 use mathlib.Core.Bool.{Bool, cond, _&&_}
 use mathlib.Core.List.{List, [], _∷_, _++_}
 use Prim.Native.Nat.{ℕ, _+_, _^_, _<_}
 use lib.Dec.{leb, ltb}
 use lib.ListN.{length}
-use lib.Seq.{sets}
 use Rattle.octets.specs.Numbers.{value, digits}
 use Rattle.octets.specs.Header.{headerSize, bodySize, lengthField}
 use Rattle.octets.specs.declared.Header.{Header}
 use Rattle.octets.specs.declared.Header.the-variants.{Past, Found}
 use Rattle.octets.specs.declared.Number.{Number}
-use Rattle.octets.specs.declared.Put.{Put}
 use Rattle.octets.specs.declared.End.{End}
 use Rattle.octets.specs.declared.LengthForm.{LengthForm}
 use Rattle.octets.specs.declared.LengthForm.the-variants.{One, Two, Three}
@@ -31,18 +29,6 @@ fitsWidth width n = leb width 4 && ltb n (256 ^ width)
 -- where so many octets put at a place of a room end
 unfoldable pub endOf : (room at size : ℕ) → End
 endOf room at size = cond (leb (at + size) room) (End.Within (at + size)) End.Outside
-
--- putting octets at a place of a lent slice, where there are such octets: the answer, and what the slice then holds. Unless they lie within it whole, it holds
--- what it held before (document 01, Refusal numbers: a call that refuses changes nothing that it was lent)
-unfoldable pub putAnswer : (exists : Bool) (octets : List ℕ) (at : ℕ) (before : List ℕ) → Put
-putAnswer exists octets at before = cond exists (cond (leb (at + length octets) (length before)) (Put.Done (at + length octets)) Put.NoRoom) Put.TooLong
-
-unfoldable pub putOut : (exists : Bool) (octets : List ℕ) (at : ℕ) (before : List ℕ) → List ℕ
-putOut exists octets at before = cond (exists && leb (at + length octets) (length before)) (sets before at octets) before
-
-pub record Puts (exists : Bool) (octets : List ℕ) (at : ℕ) (before after : List ℕ) (answer : Put) : Type 0 where
-  pub answers : answer ≡ putAnswer exists octets at before
-  pub leaves : after ≡ putOut exists octets at before
 
 -- a form of the length field: the octet that announces it, and how many octets the number then takes
 unfoldable pub announced : LengthForm → List ℕ

@@ -2,3 +2,4 @@ pub mod Counts
 pub mod Numbers
 pub mod Header
 pub mod Calls
+pub mod Puts

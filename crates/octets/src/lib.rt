@@ -11,7 +11,8 @@ ghost use lib.Seq.{sets};
 ghost use Rattle.octets.specs.Counts.{asOctets};
 ghost use Rattle.octets.specs.Numbers.{value, digits};
 ghost use Rattle.octets.specs.Header.{lengthField};
-ghost use Rattle.octets.specs.Calls.{headerOf, numberOf, fitsWidth, endOf, Formed, Puts};
+ghost use Rattle.octets.specs.Calls.{headerOf, numberOf, fitsWidth, endOf, Formed};
+ghost use Rattle.octets.specs.Puts.{Puts};
 
 mod counts;
 
@@ -31,11 +32,12 @@ pub enum Number {
     TooLong,
 }
 
-// Octets put into a lent slice. Done: the place behind the last of them. TooLong: what is to be written has no octets in this form, whatever the room.
+// Octets put into a lent slice, by a call of this crate or of one above it. Done: the place behind the last of them. Invalid: what is to be written has no such
+// octets, whatever the room. Done alone wrote.
 pub enum Put {
     Done(usize),
     NoRoom,
-    TooLong,
+    Invalid,
 }
 
 // How a length is written: as the length octet itself, or behind 0xFE in two octets, or behind 0xFF in three.
@@ -139,12 +141,12 @@ pub fn header_size(n: Octets) -> Octets
     }
 }
 
-// The header of a body of n octets, put at a place. TooLong: n is 2 to the 24th or more.
+// The header of a body of n octets, put at a place. Invalid: n is 2 to the 24th or more.
 pub fn write_header(out: &mut [u8], at: usize, tag: u8, n: Octets) -> Put
     ensures { λ r. ⌜ Puts (ltb (n .0) (256 ^ 3)) (tag ∷ lengthField (n .0)) at (now (out .entry)) (now (out .exit)) r ⌝ }
 {
     if n.0 > 0xFFFFFF {
-        return Put::TooLong;
+        return Put::Invalid;
     }
     let size = header_size(n);
     let End::Within(end) = end_of(Octets(out.len()), at, size) else {
@@ -175,12 +177,12 @@ fn store_length(out: &mut [u8], at: usize, n: Octets)
     }
 }
 
-// A number in so many octets, put at a place. TooLong: there are more than four, or too few for the number.
+// A number in so many octets, put at a place. Invalid: there are more than four, or too few for the number.
 pub fn put_number(out: &mut [u8], at: usize, width: Octets, n: u32) -> Put
     ensures { λ r. ⌜ Puts (fitsWidth (width .0) n) (digits (width .0) n) at (now (out .entry)) (now (out .exit)) r ⌝ }
 {
     if !fits_width(width, n) {
-        return Put::TooLong;
+        return Put::Invalid;
     }
     let End::Within(end) = end_of(Octets(out.len()), at, width) else {
         return Put::NoRoom;
