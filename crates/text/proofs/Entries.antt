@@ -15,7 +15,7 @@ use borrow.Author.Tests.{le-leb, lt-leb, ne-eqb, leb-true}
 use Rattle.octets.specs.Numbers.{among}
 use Rattle.text.specs.Text.{token, text}
 use Rattle.text.specs.Tokens.{Entries, entries, cut, filled, isTable, entry}
-use Rattle.text.specs.Calls.{found, foundIn, Inside}
+use Rattle.text.specs.Found.{found, foundIn, Inside}
 use Rattle.text.specs.Leaves.{ahead, maskOf, tokenBit, filledAfter, Good, Rated}
 use Rattle.text.specs.Weighing.{Marks, tags}
 use Rattle.text.specs.declared.tables.Piece.{Piece}

@@ -13,13 +13,15 @@ use native.Mathlib.Omega.{arith}
 use mir.Val.{Fits}
 use mir.Syntax.{w64}
 use borrow.Author.Tests.{eqb-true, eqb-false, eq-eqb, ne-eqb, leb-true, le-leb, lt-leb, ltb-true, ltb-false, lt-ltb, le-ltb}
+use Rattle.octets.specs.Puts.{Puts}
+use Rattle.octets.specs.declared.Put.{Put}
+use Rattle.octets.proofs.Puts.{puts-same}
 use Rattle.octets.proofs.Tests.{and-left, and-right, and-false}
 use Rattle.text.specs.Text.{token}
 use Rattle.text.specs.Tokens.{Entries, entries, cut, entry, orItself, stands, expanded, expandedSize}
-use Rattle.text.specs.Calls.{found, foundIn, Inside, expandFits, expandAnswer, expandOut, ExpandClaim}
+use Rattle.text.specs.Found.{found, foundIn, Inside}
 use Rattle.text.specs.Leaves.{ahead, replacedBy}
 use Rattle.text.specs.Index.{startOf, longest, Indexes, noted, usable, placeAt, placeBy, withPlace, entriesBelow, entriesBy, Bounds}
-use Rattle.text.specs.declared.Expanded.{Expanded}
 use Rattle.text.specs.declared.expanding.Found.{Found}
 use Rattle.text.specs.declared.expanding.Found.the-variants.{At, Nothing}
 use Rattle.text.specs.declared.tables.Piece.{Piece}
@@ -537,8 +539,7 @@ module _ (table index : List ℕ) (made : Indexes (entries table) index) where
   indexed-expanded (b ∷ s) = ap₂ (λ p q. p ++ q) (stands-own b) (indexed-expanded s)
 
   -- so what `expand` answers by that index is what it says of the table
-  pub indexed-claim : (s out out′ : List ℕ) (at : ℕ) (answer : Expanded) → ExpandClaim (entriesBy index table) s out out′ at answer
-      → ExpandClaim (entries table) s out out′ at answer
-  unfolding expandAnswer expandOut expandFits
+  pub indexed-claim : (s out out′ : List ℕ) (at : ℕ) (answer : Put) → Puts true (expanded (entriesBy index table) s) at out out′ answer
+      → Puts true (expanded (entries table) s) at out out′ answer
   indexed-claim s out out′ at answer c =
-      record { answers = c .answers ∙ rw (indexed-expanded s); leaves = c .leaves ∙ rw (indexed-expanded s) }
+      puts-same true true (expanded (entriesBy index table) s) (expanded (entries table) s) refl (indexed-expanded s) at out out′ answer c

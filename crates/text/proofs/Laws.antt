@@ -1,19 +1,13 @@
--- Laws for those who call: texts without token octets, texts put together, and what the answers of `expand` tell.
+-- Laws for those who call: texts without token octets, and texts put together.
 use mathlib.Core.Path.{_≡_, refl, sym, ap, _∙_}
-use mathlib.Core.Bool.{Bool, true, false, cond, false≢true}
+use mathlib.Core.Bool.{Bool, true, false, false≢true}
 use mathlib.Core.List.{List, [], _∷_, _++_, append-assoc}
 use Prim.Native.Nat.{ℕ, _+_, _≤_, _<_}
-use native.Mathlib.Omega.{arith}
 use lib.ListN.{length, length-append}
-use lib.Seq.{sets}
-use borrow.Author.Tests.{leb-true, leb-false}
 use Rattle.octets.proofs.Tests.{and-left, and-right}
 use Rattle.octets.specs.Counts.{sizeOf}
 use Rattle.text.specs.Text.{token, utf8, text}
 use Rattle.text.specs.Tokens.{Entries, entry, stands, expanded, present, covers, covered, shownLength, expandedSize}
-use Rattle.text.specs.Calls.{expandFits, expandAnswer, expandOut, ExpandClaim}
-use Rattle.text.specs.declared.Expanded.{Expanded}
-use Rattle.text.specs.declared.Expanded.the-variants.{Done, NoRoom}
 use Rattle.text.proofs.Words.{expanded-empty, plain-text}
 use Rattle.text.proofs.Expansion.{text-plain}
 use Rattle.text.proofs.Sequences.{text-low, single-high}
@@ -66,43 +60,3 @@ bare-text s h = go (text true s) (text false s) refl refl
     go true b p q = p ∙ sym (text-plain s p h)
     go false true p q = absurd (false≢true (sym p ∙ plain-text s q))
     go false false p q = p ∙ sym q
-
--- ---- an answer of `expand`
-module _ (es : Entries) (s before after : List ℕ) (at : ℕ) (answer : Expanded) (claim : ExpandClaim es s before after at answer) where
-  fits : (e : ℕ) → answer ≡ Done e → expandFits es s before at ≡ true
-  unfolding expandAnswer
-  fits e q = go (expandFits es s before at) (sym q ∙ claim .answers)
-    where
-      go : (b : Bool) → Done e ≡ cond b (Done (at + length (expanded es s))) NoRoom → b ≡ true
-      go true h = refl
-      go false h = let z : _≡_ {A = ℕ} 0 1 = cc in absurd (omega arith)
-
-  misfits : answer ≡ NoRoom → expandFits es s before at ≡ false
-  unfolding expandAnswer
-  misfits q = go (expandFits es s before at) (sym q ∙ claim .answers)
-    where
-      go : (b : Bool) → NoRoom ≡ cond b (Done (at + length (expanded es s))) NoRoom → b ≡ false
-      go true h = let z : _≡_ {A = ℕ} 0 1 = cc in absurd (omega arith)
-      go false h = refl
-
-  module _ (e : ℕ) (q : answer ≡ Done e) where
-    pub done-end : e ≡ at + length (expanded es s)
-    unfolding expandAnswer
-    done-end = let h : Done e ≡ Done (at + length (expanded es s)) = sym q ∙ claim .answers ∙ rw (fits e q) in cc
-
-    pub done-room : at + length (expanded es s) ≤ length before
-    unfolding expandFits
-    done-room = leb-true (at + length (expanded es s)) (length before) (fits e q)
-
-    pub done-out : after ≡ sets before at (expanded es s)
-    unfolding expandOut
-    done-out = claim .leaves ∙ rw (fits e q)
-
-  module _ (q : answer ≡ NoRoom) where
-    pub none-room : length before < at + length (expanded es s)
-    unfolding expandFits
-    none-room = omega (arith, leb-false (at + length (expanded es s)) (length before) (misfits q))
-
-    pub none-out : after ≡ before
-    unfolding expandOut
-    none-out = claim .leaves ∙ rw (misfits q)

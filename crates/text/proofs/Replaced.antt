@@ -18,13 +18,14 @@ use Rattle.octets.proofs.Tests.{and-left, and-right, and-true, or-elim, or-left
 use Rattle.text.specs.Text.{token}
 use Rattle.octets.specs.declared.counts.Octets.{Octets}
 use Rattle.octets.specs.Counts.{asOctets}
+use Rattle.octets.specs.Puts.{Puts}
+use Rattle.octets.specs.declared.Put.{Put}
+use Rattle.octets.proofs.Puts.{puts-none, puts-done}
 use Rattle.text.specs.Tokens.{Entries, entry, stands, expanded, present, covers, covered, expandedSize}
-use Rattle.text.specs.Calls.{expandFits, expandAnswer, expandOut}
 use Rattle.text.specs.Leaves.{tokenBit}
 use Rattle.text.specs.Weighing.{bit, Marks, tags, widthAt, weight}
 use Rattle.text.specs.Index.{placeBy, entriesBy}
 use Rattle.text.specs.Runs.{UntokenedTo}
-use Rattle.text.specs.declared.Expanded.the-variants.{Done, NoRoom}
 use Rattle.text.specs.declared.expanding.Found.{Found}
 use Rattle.text.specs.declared.expanding.Found.the-variants.{At, Nothing}
 use Rattle.octets.proofs.Lists.{drop-next, sets-append}
@@ -358,50 +359,20 @@ fits-measured es s room n e = go (leb (expandedSize es s .0) room) refl
 
 -- ---- `expand`
 module _ (es : Entries) (s out : List ℕ) (at : ℕ) where
-  no-room : length out < at + length (expanded es s) → expandFits es s out at ≡ false
-  unfolding expandFits
-  no-room h = lt-leb (at + length (expanded es s)) (length out) h
-
-  none-told : length out < at + length (expanded es s) → NoRoom ≡ expandAnswer es s out at
-  unfolding expandAnswer
-  none-told h = rw (no-room h)
-
-  none-kept : length out < at + length (expanded es s) → out ≡ expandOut es s out at
-  unfolding expandOut
-  none-kept h = rw (no-room h)
-
-  pub outside-told : length out < at → NoRoom ≡ expandAnswer es s out at
-  outside-told h = none-told (omega arith)
-
-  pub outside-kept : length out < at → out ≡ expandOut es s out at
-  outside-kept h = none-kept (omega arith)
+  pub outside-put : length out < at → Puts true (expanded es s) at out out Put.NoRoom
+  outside-put h = puts-none true (expanded es s) at out refl (omega arith)
 
   module _ (h : at ≤ length out) (fit : Bool) (e : fit ≡ leb (expandedSize es s .0) (length out - at)) where
-    past : fit ≡ false → length out < at + length (expanded es s)
+    pub long-put : fit ≡ false → Puts true (expanded es s) at out out Put.NoRoom
     unfolding expandedSize
-    past n = omega (arith, leb-false (expandedSize es s .0) (length out - at) (sym e ∙ n))
-
-    pub long-told : fit ≡ false → NoRoom ≡ expandAnswer es s out at
-    long-told n = none-told (past n)
-
-    pub long-kept : fit ≡ false → out ≡ expandOut es s out at
-    long-kept n = none-kept (past n)
+    long-put n = puts-none true (expanded es s) at out refl (omega (arith, leb-false (expandedSize es s .0) (length out - at) (sym e ∙ n)))
 
     module _ (y : fit ≡ true) where
       pub expand-room : at + length (expanded es s) ≤ length out
       unfolding expandedSize
       expand-room = omega (arith, leb-true (expandedSize es s .0) (length out - at) (sym e ∙ y))
 
-      has-room : expandFits es s out at ≡ true
-      unfolding expandFits
-      has-room = le-leb (at + length (expanded es s)) (length out) expand-room
+      pub all-put : (end : ℕ) (out′ : List ℕ) → end ≡ at + length (expanded es s) → out′ ≡ sets out at (expanded es s) → Puts true (expanded es s) at out out′ (Put.Done end)
+      all-put end out′ f g = puts-done true (expanded es s) at out refl out′ end expand-room g f
 
-      pub all-told : (end : ℕ) → end ≡ at + length (expanded es s) → Done end ≡ expandAnswer es s out at
-      unfolding expandAnswer
-      all-told end f = rw (has-room, f)
-
-      pub all-laid : (out′ : List ℕ) → out′ ≡ sets out at (expanded es s) → out′ ≡ expandOut es s out at
-      unfolding expandOut
-      all-laid out′ f = rw has-room f
-
-pub ruleset expand-ways = (outside-told, outside-kept, long-told, long-kept, expand-room, all-told, all-laid)
+pub ruleset expand-ways = (outside-put, long-put, expand-room, all-put)

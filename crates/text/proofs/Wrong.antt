@@ -7,13 +7,14 @@ use native.Mathlib.Omega.{arith}
 use lib.ListN.{getD, replicate}
 use Rattle.octets.specs.Counts.{asOctets, asCharacters, charactersWithin}
 use Rattle.octets.specs.Numbers.{among}
+use Rattle.octets.specs.Puts.{putAnswer, putOut, Puts}
+use Rattle.octets.specs.declared.Put.the-variants.{Done, NoRoom}
 use Rattle.text.specs.Text.{layout, token, character, single, goesOn, utf8, text}
 use Rattle.text.specs.Tokens.{entries, cut, filled, isTable, entry, orItself, stands, expanded, present, covers, covered, starts, shownLength}
 use Rattle.text.specs.Leaves.{replacedBy}
 use Rattle.text.specs.Index.{startOf, longest, Indexes, usable, placeAt, placeBy, withPlace, entriesBelow, entriesBy}
-use Rattle.text.specs.Calls.{found, expandFits, expandAnswer, expandOut, ExpandClaim}
+use Rattle.text.specs.Found.{found}
 use Rattle.text.specs.Weighing.{tags, Marks, Widths, Shows, marked, coveredBy, widthAt, weight, shownAt, shownBy, weighedBy}
-use Rattle.text.specs.declared.Expanded.the-variants.{Done, NoRoom}
 use Rattle.text.specs.declared.Weighed.{Weighed}
 use Rattle.text.specs.declared.Weighed.the-variants.{NoText, Text}
 
@@ -181,18 +182,18 @@ size-runs-on h = let z : _≡_ {A = ℕ} 4 3 = ap (λ n. n .0) h in omega arith
 
 -- expand: a room of just the size is refused; what fits is written there and no more is told than its size; what doesn't fit is written in part; by an index
 -- that tells of no entry, one is taken from the table
-pub room-refused : (after : List ℕ) → ExpandClaim (entriesBy abcIndex abc) (0x01 ∷ []) (0 ∷ 0 ∷ 0 ∷ []) after 0 NoRoom → ⊥
-unfolding expandAnswer expandFits expanded stands token layout among entry orItself entriesBy entriesBelow withPlace placeBy placeAt usable
+pub room-refused : (after : List ℕ) → Puts true (expanded (entriesBy abcIndex abc) (0x01 ∷ [])) 0 (0 ∷ 0 ∷ 0 ∷ []) after NoRoom → ⊥
+unfolding putAnswer expanded stands token layout among entry orItself entriesBy entriesBelow withPlace placeBy placeAt usable
 room-refused after h = let e = h .answers in let z : _≡_ {A = ℕ} 0 1 = cc in omega arith
 
-pub size-told : (after : List ℕ) → ExpandClaim (entriesBy abcIndex abc) (0x01 ∷ []) (0 ∷ 0 ∷ 0 ∷ 0 ∷ []) after 1 (Done 3) → ⊥
-unfolding expandAnswer expandFits expanded stands token layout among entry orItself entriesBy entriesBelow withPlace placeBy placeAt usable
+pub size-told : (after : List ℕ) → Puts true (expanded (entriesBy abcIndex abc) (0x01 ∷ [])) 1 (0 ∷ 0 ∷ 0 ∷ 0 ∷ []) after (Done 3) → ⊥
+unfolding putAnswer expanded stands token layout among entry orItself entriesBy entriesBelow withPlace placeBy placeAt usable
 size-told after h = let e = h .answers in let z : _≡_ {A = ℕ} 3 4 = cc in omega arith
 
-pub part-written : ExpandClaim (entriesBy abcIndex abc) (0x01 ∷ []) (0 ∷ 0 ∷ []) (0x41 ∷ 0x42 ∷ []) 0 NoRoom → ⊥
-unfolding expandOut expandFits expanded stands token layout among entry orItself entriesBy entriesBelow withPlace placeBy placeAt usable
+pub part-written : Puts true (expanded (entriesBy abcIndex abc) (0x01 ∷ [])) 0 (0 ∷ 0 ∷ []) (0x41 ∷ 0x42 ∷ []) NoRoom → ⊥
+unfolding putOut expanded stands token layout among entry orItself entriesBy entriesBelow withPlace placeBy placeAt usable
 part-written h = let e = h .leaves in let z : _≡_ {A = ℕ} 0x41 0 = cc in omega arith
 
-pub index-unasked : (after : List ℕ) → ExpandClaim (entriesBy (replicate 32 0) abc) (0x01 ∷ []) (0 ∷ 0 ∷ 0 ∷ []) after 0 (Done 3) → ⊥
-unfolding expandAnswer expandFits expanded stands token layout among entry orItself entriesBy entriesBelow withPlace placeBy placeAt usable
+pub index-unasked : (after : List ℕ) → Puts true (expanded (entriesBy (replicate 32 0) abc) (0x01 ∷ [])) 0 (0 ∷ 0 ∷ 0 ∷ []) after (Done 3) → ⊥
+unfolding putAnswer expanded stands token layout among entry orItself entriesBy entriesBelow withPlace placeBy placeAt usable
 index-unasked after h = let e = h .answers in let z : _≡_ {A = ℕ} 3 1 = cc in omega arith

@@ -8,7 +8,7 @@ use lib.ListN.{length, getD, take, drop}
 use lib.Bits.{bitAnd, bitOr}
 use Rattle.text.specs.Text.{token, character, text}
 use Rattle.text.specs.Tokens.{Entries, filled}
-use Rattle.text.specs.Calls.{found}
+use Rattle.text.specs.Found.{found}
 use Rattle.text.specs.Runs.{allWithin}
 use Rattle.text.specs.Weighing.{bit}
 use Rattle.text.specs.declared.expanding.Found.{Found}

@@ -1,6 +1,6 @@
 pub mod Text
 pub mod Tokens
-pub mod Calls
+pub mod Found
 pub mod Weighing
 pub mod Runs
 pub mod Links

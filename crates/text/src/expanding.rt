@@ -3,21 +3,22 @@
 // an expansion, each run is copied, and the text of a token is found by an index of the table. Widths and index are made once for all texts of a table.
 // An expansion is measured before it is written only where it could be too long for its room. Whether each token has an entry is asked of all of them at once.
 ghost use mathlib.Core.Path.{_≡_};
+ghost use mathlib.Core.Bool.{true};
 ghost use Prim.Native.Nat.{_+_, _^_, _≤_, _<_, min};
 ghost use lib.ListN.{length, take, drop};
 ghost use lib.Seq.{sets};
 ghost use Rattle.octets.specs.Counts.{asOctets, octetsWithin};
+ghost use Rattle.octets.specs.Puts.{Puts};
 ghost use Rattle.text.specs.Tokens.{entries, stands, expanded, covered, expandedSize};
-ghost use Rattle.text.specs.Calls.{ExpandClaim};
 ghost use Rattle.text.specs.Weighing.{Marks, widthAt, weight};
 ghost use Rattle.text.specs.Index.{placeBy, entriesBy, Bounds};
-use crate::Expanded;
 use crate::characters::is_token;
 use crate::characters::token_bit;
 use crate::runs::untokened_end;
 use crate::tables::size_of;
 use crate::tables::tokens_of;
 use octets::Octets;
+use octets::Put;
 
 // The tokens of a text, a bit each. Nothing is decided between two octets, so that the compiler takes eight at a time.
 fn tokens_in(s: &[u8]) -> u32
@@ -270,15 +271,15 @@ fn fits(index: &[usize; 32], table: &[u8], s: &[u8], room: Octets) -> bool
 
 // The expansion of a text, written from a place on where it fits. That is known before the first octet is written, and nothing is written where it
 // doesn't fit. Any index may be given; by the one that `index_of` makes of the table it is the expansion by that table (proofs/Index, indexed-expanded).
-pub fn expand(index: &[usize; 32], table: &[u8], s: &[u8], out: &mut [u8], at: usize) -> Expanded
-    ensures { λ r. ⌜ ExpandClaim (entriesBy (now (index .entry)) (now (table .entry))) (now (s .entry)) (now (out .entry)) (now (out .exit)) at r ⌝ }
+pub fn expand(index: &[usize; 32], table: &[u8], s: &[u8], out: &mut [u8], at: usize) -> Put
+    ensures { λ r. ⌜ Puts true (expanded (entriesBy (now (index .entry)) (now (table .entry))) (now (s .entry))) at (now (out .entry)) (now (out .exit)) r ⌝ }
 {
     if at > out.len() {
-        return Expanded::NoRoom;
+        return Put::NoRoom;
     }
     let room = out.len() - at;
     if !fits(index, table, s, Octets(room)) {
-        return Expanded::NoRoom;
+        return Put::NoRoom;
     }
-    Expanded::Done(write_all(index, table, s, out, at))
+    Put::Done(write_all(index, table, s, out, at))
 }

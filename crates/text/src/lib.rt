@@ -27,9 +27,3 @@ pub enum Weighed {
     NoText,
     Text { covered: bool, shown: Characters },
 }
-
-// Where the expansion ends in what was lent, or that it does not fit there.
-pub enum Expanded {
-    Done(usize),
-    NoRoom,
-}
