@@ -1,4 +1,4 @@
--- What callers of this crate cite: what an answer says of the octets, what puts leave in a list, and what normal octets are.
+-- What callers of this crate cite: what an answer says of the octets, and what normal octets are.
 use mathlib.Core.Path.{_≡_, refl, sym, ap, _∙_}
 use mathlib.Core.Bool.{Bool, true, false, cond, _&&_, false≢true}
 use mathlib.Core.Option.{Option, none, some}
@@ -6,10 +6,9 @@ use mathlib.Core.List.{List, []}
 use Prim.Native.Nat.{ℕ, suc, _+_, _*_, _/_, _%_, _^_, _≤_, _<_}
 use native.Mathlib.Nat.{mod-lt, zero-mul}
 use native.Mathlib.Omega.{arith}
-use lib.Dec.{eqb, leb}
+use lib.Dec.{eqb}
 use lib.ListN.{length, getD, take, drop, length-append}
-use lib.Seq.{sets, length-sets}
-use borrow.Author.Tests.{leb-true, eqb-true, eqb-false, eq-eqb}
+use borrow.Author.Tests.{eqb-true, eqb-false, eq-eqb}
 use Rattle.octets.specs.declared.counts.Octets.{Octets as OctetCount}
 use Rattle.octets.specs.Counts.{sizeOf}
 use Rattle.octets.specs.Numbers.{value, digits, Octets}
@@ -29,8 +28,6 @@ use Rattle.values.specs.declared.TakenTime.{TakenTime}
 use Rattle.values.specs.declared.TakenTime.the-variants as ofTime
 use Rattle.values.specs.declared.TakenBearer.{TakenBearer}
 use Rattle.values.specs.declared.TakenBearer.the-variants as ofBearer
-use Rattle.values.specs.declared.Put.{Put}
-use Rattle.values.specs.declared.Put.the-variants.{Done, NoRoom, Invalid}
 use Rattle.values.specs.declared.NormalSize.{NormalSize}
 use Rattle.values.specs.declared.NormalSize.the-variants as sized
 use Rattle.values.specs.Table.{known}
@@ -39,7 +36,7 @@ use Rattle.values.specs.Bearers.{ensembleFlag, longSidFlag, ensembleOf, 
 use Rattle.values.specs.Values.{width, fits, meant, octetsOf}
 use Rattle.values.specs.Values.Value.{octets, number, time, bearer}
 use Rattle.values.specs.Proper.{TimeOk, BearerOk}
-use Rattle.values.specs.Calls.{asKnown, knownKind, takenTime, takenBearer, putAnswer, putOut, Puts, normalOctets, normalSize}
+use Rattle.values.specs.Calls.{asKnown, knownKind, takenTime, takenBearer, normalOctets, normalSize}
 use Rattle.values.proofs.Times.{time-means, time-fits, time-ok, sign-le}
 use Rattle.values.proofs.Bearers.{bearer-means, bearer-fits, bearer-ok}
 
@@ -148,55 +145,6 @@ read-canonical o = go (eqb (offsetOctet o / 32 % 2) 1) (eqb (offsetOctet o % 32)
 pub bearer-round : (b : Bearer) → BearerOk b → takenBearer (bearerOctets b) ≡ ofBearer.Good b
 unfolding takenBearer
 bearer-round b ok = rw (bearer-fits b ok) (ap ofBearer.Good (bearer-means b ok))
-
--- a claim on a put has one answer, and leaves one list
-pub record Only (a c : Put) (x y : List ℕ) : Type 0 where
-  pub answers : a ≡ c
-  pub lists : x ≡ y
-
-pub puts-only : (v : Bool) (o before : List ℕ) (at : ℕ) (a c : Put) (x y : List ℕ) → Puts v o before at a x → Puts v o before at c y → Only a c x y
-puts-only v o before at a c x y p q = record { answers = p .answered ∙ sym (q .answered); lists = p .holds ∙ sym (q .holds) }
-
--- what a put that is done wrote, and that any other wrote nothing
-pub record Written (v : Bool) (o before : List ℕ) (at end : ℕ) (after : List ℕ) : Type 0 where
-  pub valid : v ≡ true
-  pub ends : end ≡ at + length o
-  pub room : end ≤ length before
-  pub holds : after ≡ sets before at o
-
-module _ (v : Bool) (o before : List ℕ) (at : ℕ) (a : Put) (after : List ℕ) (p : Puts v o before at a after) where
-  abbrev fitting : Bool
-  fitting = leb (at + length o) (length before)
-
-  pub put-written : (end : ℕ) → a ≡ Done end → Written v o before at end after
-  unfolding putAnswer putOut
-  put-written end d = go v refl fitting refl (sym d ∙ p .answered) (p .holds)
-    where
-      go : (x : Bool) → v ≡ x → (y : Bool) → fitting ≡ y → Done end ≡ cond x (cond y (Done (at + length o)) NoRoom) Invalid → after ≡ cond x (cond y (sets before at o) before) before
-          → Written v o before at end after
-      go true e true f q h =
-          let n : end ≡ at + length o = cc in
-          record { valid = e; ends = n; room = omega (arith, n, leb-true (at + length o) (length before) f); holds = h }
-      go true e false f q h = let z : _≡_ {A = ℕ} 0 1 = cc in absurd (omega arith)
-      go false e y f q h = let z : _≡_ {A = ℕ} 0 1 = cc in absurd (omega arith)
-
-  pub put-kept : ((end : ℕ) → a ≡ Done end → ⊥) → after ≡ before
-  unfolding putAnswer putOut
-  put-kept n = go v fitting (p .answered) (p .holds)
-    where
-      go : (x y : Bool) → a ≡ cond x (cond y (Done (at + length o)) NoRoom) Invalid → after ≡ cond x (cond y (sets before at o) before) before → after ≡ before
-      go true true q h = absurd (n (at + length o) q)
-      go true false q h = h
-      go false y q h = h
-
-  pub put-length : length after ≡ length before
-  unfolding putOut
-  put-length = go v fitting (p .holds)
-    where
-      go : (x y : Bool) → after ≡ cond x (cond y (sets before at o) before) before → length after ≡ length before
-      go true true h = ap length h ∙ length-sets before at o
-      go true false h = ap length h
-      go false y h = ap length h
 
 -- what the answer on a normal size says of the octets
 pub record Sized (k : Kind) (s : List ℕ) (n : ℕ) : Type 0 where

@@ -1,5 +1,5 @@
 -- Numbers and octets by shifts and masks, and octets stored in a lent list.
-use mathlib.Core.Path.{_≡_, refl, sym, ap, ap₂, _∙_}
+use mathlib.Core.Path.{_≡_, sym, ap, ap₂, _∙_}
 use mathlib.Core.Bool.{Bool, true, false}
 use mathlib.Core.List.{List, [], _∷_, _++_}
 use Prim.Native.Nat.{ℕ, suc, _+_, _-_, _*_, _/_, _%_, _^_, _≤_, _<_}
@@ -11,12 +11,13 @@ use lib.Pow.{shl-exact}
 use lib.Seq.{sets, length-sets, getD-drop, drop-drop}
 use mir.Syntax.{w8, w64}
 use mir.Val.{Fits}
-use borrow.Author.Tests.{le-leb, lt-leb, leb-true}
+use borrow.Author.Tests.{le-leb, lt-leb, leb-true, leb-false}
 use Rattle.octets.specs.declared.counts.Octets.{Octets as OctetCount}
 use Rattle.octets.specs.Counts.{sizeOf}
 use Rattle.octets.specs.Numbers.{value, digits}
-use Rattle.values.specs.declared.Put.the-variants.{Done, NoRoom, Invalid}
-use Rattle.values.specs.Calls.{putAnswer, putOut, Puts}
+use Rattle.octets.specs.declared.Put.{Put}
+use Rattle.octets.specs.Puts.{Puts}
+use Rattle.octets.proofs.Puts.{puts-invalid, puts-none, puts-done}
 
 -- a number of j bits above one of k bits, in 32
 joined : (j k x y : ℕ) → j + k ≤ 32 → x < 2 ^ j → y < 2 ^ k → bitOr (x * 2 ^ k % 2 ^ 32) y ≡ x * 2 ^ k + y
@@ -120,22 +121,20 @@ pub ruleset room-ways = (room-past, room-short, room-enough)
 
 -- the ways through a call that puts octets: nothing to write, no room, written
 module _ (valid : Bool) (octets out : List ℕ) (at : ℕ) (v : Bool) (e : v ≡ valid) where
-  pub put-invalid : v ≡ false → Puts valid octets out at Invalid out
-  unfolding putAnswer putOut
-  put-invalid n = record { answered = rw (sym e ∙ n) refl; holds = rw (sym e ∙ n) refl }
+  pub put-invalid : v ≡ false → Puts valid octets at out out Put.Invalid
+  put-invalid n = puts-invalid valid octets at out (sym e ∙ n)
 
   module _ (y : v ≡ true) (size : OctetCount) (s : size ≡ sizeOf octets) (r : Bool) (f : r ≡ leb (at + size .0) (length out)) where
-    room-is : leb (at + length octets) (length out) ≡ r
-    room-is = ap (λ n. leb (at + n .0) (length out)) (sym s) ∙ sym f
+    long : size .0 ≡ length octets
+    long = ap (λ n. n .0) s
 
-    pub put-no-room : r ≡ false → Puts valid octets out at NoRoom out
-    unfolding putAnswer putOut
-    put-no-room n = record { answered = rw (sym e ∙ y, room-is ∙ n) refl; holds = rw (sym e ∙ y, room-is ∙ n) refl }
+    pub put-no-room : r ≡ false → Puts valid octets at out out Put.NoRoom
+    put-no-room n = puts-none valid octets at out (sym e ∙ y) (omega (arith, long, leb-false (at + size .0) (length out) (sym f ∙ n)))
 
     module _ (t : r ≡ true) where
-      pub put-done : (after : List ℕ) → after ≡ sets out at octets → Puts valid octets out at (Done (at + size .0)) after
-      unfolding putAnswer putOut
-      put-done after q = record { answered = rw (sym e ∙ y, room-is ∙ t) (ap (λ n. Done (at + n .0)) s); holds = rw (sym e ∙ y, room-is ∙ t) q }
+      pub put-done : (after : List ℕ) → after ≡ sets out at octets → Puts valid octets at out after (Put.Done (at + size .0))
+      put-done after q =
+          puts-done valid octets at out (sym e ∙ y) after (at + size .0) (omega (arith, long, leb-true (at + size .0) (length out) (sym f ∙ t))) q (ap (λ n. at + n) long)
 
 pub ruleset put-ways = (put-invalid, put-no-room, put-done)
 

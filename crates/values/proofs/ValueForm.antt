@@ -2,17 +2,17 @@
 use mathlib.Core.Path.{_≡_, refl, sym, ap, ap₂, _∙_}
 use mathlib.Core.Bool.{Bool, true, false, cond}
 use mathlib.Core.List.{List}
-use Prim.Native.Nat.{ℕ, _+_, _≤_, _<_}
-use native.Mathlib.Numerals.{add-one}
-use native.Mathlib.Omega.{arith}
-use lib.Dec.{eqb, leb}
-use lib.ListN.{length, drop, getD, set, length-set, drop-of-length-le}
-use lib.Seq.{sets, drop-cons}
+use Prim.Native.Nat.{ℕ}
+use lib.Dec.{eqb}
+use lib.ListN.{length}
 use borrow.Author.Tests.{eqb-true}
 use Rattle.octets.specs.declared.counts.Octets.{Octets as OctetCount}
 use Rattle.octets.specs.Counts.{asOctets, sizeOf}
 use Rattle.octets.specs.Numbers.{value, digits, Octets}
+use Rattle.octets.specs.Puts.{Puts}
+use Rattle.octets.specs.declared.Put.{Put}
 use Rattle.octets.proofs.Numbers.{digits-value, length-digits}
+use Rattle.octets.proofs.Puts.{puts-invalid, puts-same}
 use Rattle.values.specs.declared.Kind.{Kind}
 use Rattle.values.specs.declared.Kind.the-variants.{HoldsTime, HoldsBearer, HoldsNumber}
 use Rattle.values.specs.declared.NumberKind.{NumberKind}
@@ -22,46 +22,17 @@ use Rattle.values.specs.declared.TakenTime.{TakenTime}
 use Rattle.values.specs.declared.TakenTime.the-variants as ofTime
 use Rattle.values.specs.declared.TakenBearer.{TakenBearer}
 use Rattle.values.specs.declared.TakenBearer.the-variants as ofBearer
-use Rattle.values.specs.declared.Put.{Put}
-use Rattle.values.specs.declared.Put.the-variants.{Done, NoRoom, Invalid}
 use Rattle.values.specs.declared.NormalSize.{NormalSize}
 use Rattle.values.specs.declared.NormalSize.the-variants as sized
 use Rattle.values.specs.Times.{timeOf, inRange, isTime, timeOctets, wrongTime}
 use Rattle.values.specs.Bearers.{bearerOf, isBearer, bearerOctets}
 use Rattle.values.specs.Values.{width, fits, meant, octetsOf}
-use Rattle.values.specs.Calls.{takenTime, takenBearer, bearerInRange, putAnswer, putOut, Puts, normalOctets, normalSize}
-use Rattle.values.proofs.Shifts.{put-no-room, put-done, put-room}
+use Rattle.values.specs.Calls.{takenTime, takenBearer, bearerInRange, normalOctets, normalSize}
 use Rattle.values.proofs.Fields.{field-good}
 use Rattle.values.proofs.Laws.{time-taken, time-refused, bearer-taken, bearer-refused, asItStands, stands-fits, stands-normal, time-wrong}
 use Rattle.values.proofs.Times.{time-ok}
 use Rattle.values.proofs.Bearers.{bearer-ok}
 use Rattle.values.proofs.BearerForm.{ok-valid}
-
--- a copy, octet by octet: what is left to store makes the whole
-pub record Copying (s before : List ℕ) (at : ℕ) (out : List ℕ) (i : ℕ) : Type 0 where
-  pub within : i ≤ length s
-  pub same : length out ≡ length before
-  pub left : sets out (at + i) (drop i s) ≡ sets before at s
-
-module _ (s before : List ℕ) (at : ℕ) where
-  pub copy-begin : Copying s before at before 0
-  copy-begin = record { within = omega arith; same = refl; left = ap (λ n. sets before n s) (omega arith) }
-
-  module _ (out : List ℕ) (i : ℕ) (inv : Copying s before at out i) where
-    pub copy-room : at + length s ≤ length before → i < length s → at + i < length out
-    copy-room h g = omega (arith, inv .same)
-
-    pub copy-on : i < length s → Copying s before at (set out (at + i) (getD s i 0)) (i + 1)
-    copy-on g = record {
-      within = omega arith;
-      same = length-set out (at + i) (getD s i 0) ∙ inv .same;
-      left = ap₂ (λ n l. sets (set out (at + i) (getD s i 0)) n l) (omega arith) (ap (λ n. drop n s) (add-one i)) ∙ ap (sets out (at + i)) (sym (drop-cons s i 0 g)) ∙ inv .left;
-    }
-
-    pub copy-done : length s ≤ i → out ≡ sets before at s
-    copy-done g = ap (sets out (at + i)) (sym (drop-of-length-le s g)) ∙ inv .left
-
-pub ruleset copy-ways = (copy-begin, copy-room, copy-on, copy-done)
 
 -- a time that was taken, or not
 module _ (s : List ℕ) (r : TakenTime) (e : r ≡ takenTime s) where
@@ -82,18 +53,18 @@ module _ (s : List ℕ) (r : TakenTime) (e : r ≡ takenTime s) where
   time-not-sized n g = rw (time-refused s r e n g) refl
 
   module _ (out : List ℕ) (at : ℕ) where
-    pub time-put : (t : Time) (a : Put) (after : List ℕ) → r ≡ ofTime.Good t → Puts (inRange t) (timeOctets t) out at a after
-        → Puts (fits HoldsTime s) (normalOctets HoldsTime s) out at a after
+    pub time-put : (t : Time) (a : Put) (after : List ℕ) → r ≡ ofTime.Good t → Puts (inRange t) (timeOctets t) at out after a
+        → Puts (fits HoldsTime s) (normalOctets HoldsTime s) at out after a
     unfolding fits normalOctets meant octetsOf
     time-put t a after g p =
         let k = time-taken s r e t g in
         let v : inRange t ≡ isTime s = ap inRange (k .means) ∙ time-ok s (k .fit) .range ∙ sym (k .fit) in
         let o : timeOctets t ≡ timeOctets (timeOf s) = ap timeOctets (k .means) in
-        record { answered = p .answered ∙ ap₂ (λ x y. putAnswer x y out at) v o; holds = p .holds ∙ ap₂ (λ x y. putOut x y out at) v o }
+        puts-same (inRange t) (isTime s) (timeOctets t) (timeOctets (timeOf s)) v o at out after a p
 
-    pub time-not-put : (n : ℕ) → r ≡ ofTime.Bad n → Puts (fits HoldsTime s) (normalOctets HoldsTime s) out at Invalid out
-    unfolding fits putAnswer putOut
-    time-not-put n g = record { answered = rw (time-refused s r e n g) refl; holds = rw (time-refused s r e n g) refl }
+    pub time-not-put : (n : ℕ) → r ≡ ofTime.Bad n → Puts (fits HoldsTime s) (normalOctets HoldsTime s) at out out Put.Invalid
+    unfolding fits
+    time-not-put n g = puts-invalid (isTime s) (normalOctets HoldsTime s) at out (time-refused s r e n g)
 
   -- the field that is wrong
   pub field-of-good : (t : Time) → r ≡ ofTime.Good t → 0 ≡ wrongTime s
@@ -123,18 +94,18 @@ module _ (s : List ℕ) (r : TakenBearer) (e : r ≡ takenBearer s) where
   bearer-not-sized g = rw (bearer-refused s r e g) refl
 
   module _ (out : List ℕ) (at : ℕ) where
-    pub bearer-put : (b : Bearer) (a : Put) (after : List ℕ) → Octets s → r ≡ ofBearer.Good b → Puts (bearerInRange b) (bearerOctets b) out at a after
-        → Puts (fits HoldsBearer s) (normalOctets HoldsBearer s) out at a after
+    pub bearer-put : (b : Bearer) (a : Put) (after : List ℕ) → Octets s → r ≡ ofBearer.Good b → Puts (bearerInRange b) (bearerOctets b) at out after a
+        → Puts (fits HoldsBearer s) (normalOctets HoldsBearer s) at out after a
     unfolding fits normalOctets meant octetsOf
     bearer-put b a after os g p =
         let k = bearer-taken s r e b g in
         let v : bearerInRange b ≡ isBearer s = ap bearerInRange (k .means) ∙ ok-valid (bearerOf s) (bearer-ok s os (k .fit)) ∙ sym (k .fit) in
         let o : bearerOctets b ≡ bearerOctets (bearerOf s) = ap bearerOctets (k .means) in
-        record { answered = p .answered ∙ ap₂ (λ x y. putAnswer x y out at) v o; holds = p .holds ∙ ap₂ (λ x y. putOut x y out at) v o }
+        puts-same (bearerInRange b) (isBearer s) (bearerOctets b) (bearerOctets (bearerOf s)) v o at out after a p
 
-    pub bearer-not-put : r ≡ ofBearer.Bad → Puts (fits HoldsBearer s) (normalOctets HoldsBearer s) out at Invalid out
-    unfolding fits putAnswer putOut
-    bearer-not-put g = record { answered = rw (bearer-refused s r e g) refl; holds = rw (bearer-refused s r e g) refl }
+    pub bearer-not-put : r ≡ ofBearer.Bad → Puts (fits HoldsBearer s) (normalOctets HoldsBearer s) at out out Put.Invalid
+    unfolding fits
+    bearer-not-put g = puts-invalid (isBearer s) (normalOctets HoldsBearer s) at out (bearer-refused s r e g)
 
 pub ruleset bearer-ways = (is-bearer, no-bearer, bearer-sized, bearer-not-sized, bearer-put, bearer-not-put)
 
@@ -157,31 +128,17 @@ module _ (n : NumberKind) (s : List ℕ) where
     number-not-sized t = rw (sym e ∙ t) refl
 
     module _ (out : List ℕ) (at : ℕ) where
-      pub number-put : (a : Put) (after : List ℕ) → Octets s → b ≡ true → Puts true s out at a after → Puts (fits (HoldsNumber n) s) (normalOctets (HoldsNumber n) s) out at a after
+      pub number-put : (a : Put) (after : List ℕ) → Octets s → b ≡ true → Puts true s at out after a → Puts (fits (HoldsNumber n) s) (normalOctets (HoldsNumber n) s) at out after a
       unfolding fits normalOctets meant octetsOf
       number-put a after os t p =
           let v : true ≡ fits (HoldsNumber n) s = sym (sym e ∙ t) in
           let o : s ≡ digits (width n) (value s) = sym (digits-value s os) ∙ ap (λ w. digits w (value s)) (eqb-true (length s) (width n) (sym e ∙ t)) in
-          record { answered = p .answered ∙ ap₂ (λ x y. putAnswer x y out at) v o; holds = p .holds ∙ ap₂ (λ x y. putOut x y out at) v o }
+          puts-same true (fits (HoldsNumber n) s) s (digits (width n) (value s)) v o at out after a p
 
-      pub number-not-put : b ≡ false → Puts (fits (HoldsNumber n) s) (normalOctets (HoldsNumber n) s) out at Invalid out
-      unfolding putAnswer putOut
-      number-not-put t = record { answered = rw (sym e ∙ t) refl; holds = rw (sym e ∙ t) refl }
+      pub number-not-put : b ≡ false → Puts (fits (HoldsNumber n) s) (normalOctets (HoldsNumber n) s) at out out Put.Invalid
+      number-not-put t = puts-invalid (fits (HoldsNumber n) s) (normalOctets (HoldsNumber n) s) at out (sym e ∙ t)
 
 pub ruleset number-ways = (has-width, number-sized, number-not-sized, number-put, number-not-put)
-
--- octets as they stand
-pub octets-put-none : (s out : List ℕ) (at : ℕ) (r : Bool) → r ≡ leb (at + length s) (length out) → r ≡ false → Puts true s out at NoRoom out
-octets-put-none s out at r f n = put-no-room true s out at true refl refl (sizeOf s) refl r f n
-
-pub octets-put : (s out : List ℕ) (at : ℕ) (r : Bool) (after : List ℕ) → r ≡ leb (at + length s) (length out) → r ≡ true → after ≡ sets out at s
-    → Puts true s out at (Done (at + length s)) after
-octets-put s out at r after f t q = put-done true s out at true refl refl (sizeOf s) refl r f t after q
-
-pub octets-room : (s out : List ℕ) (at : ℕ) (r : Bool) → r ≡ leb (at + length s) (length out) → r ≡ true → at + length s ≤ length out
-octets-room s out at r f t = put-room s out at (sizeOf s) r f t refl
-
-pub ruleset octets-ways = (octets-put-none, octets-put, octets-room)
 
 -- a call's arm for a kind answers for the kind
 module _ (k l : Kind) (e : k ≡ l) (s : List ℕ) where
@@ -201,10 +158,10 @@ module _ (k l : Kind) (e : k ≡ l) (s : List ℕ) where
       (sym (ap₂ (λ b o. cond b (sized.Octets (sizeOf o)) sized.NoValue) (stands-fits l s h) (stands-normal l s h)))
 
   module _ (out : List ℕ) (at : ℕ) (a : Put) (after : List ℕ) where
-    pub put-as : Puts (fits l s) (normalOctets l s) out at a after → Puts (fits k s) (normalOctets k s) out at a after
+    pub put-as : Puts (fits l s) (normalOctets l s) at out after a → Puts (fits k s) (normalOctets k s) at out after a
     put-as p = rw e p
 
-    pub stands-put : asItStands l ≡ true → Puts true s out at a after → Puts (fits k s) (normalOctets k s) out at a after
+    pub stands-put : asItStands l ≡ true → Puts true s at out after a → Puts (fits k s) (normalOctets k s) at out after a
     stands-put h p = put-as (rw (stands-fits l s h, stands-normal l s h) p)
 
 pub ruleset fits-ways = (fits-as, stands-as)

@@ -8,6 +8,8 @@ use lib.IntN.{pos, negsuc}
 use lib.ListN.{length, getD}
 use Rattle.octets.specs.Counts.{asOctets, sizeOf}
 use Rattle.octets.specs.Numbers.{value, digits}
+use Rattle.octets.specs.Puts.{putAnswer, putOut, Puts}
+use Rattle.octets.specs.declared.Put.the-variants.{Done, NoRoom}
 use Rattle.values.specs.declared.Kind.the-variants.{HoldsText, HoldsPlain, HoldsTime, HoldsBearer, HoldsNumber}
 use Rattle.values.specs.declared.NumberKind.the-variants.{Duration, ShortId, Integer}
 use Rattle.values.specs.declared.KnownKind.the-variants.{Known}
@@ -17,14 +19,13 @@ use Rattle.values.specs.declared.TakenTime.{TakenTime}
 use Rattle.values.specs.declared.TakenTime.the-variants as ofTime
 use Rattle.values.specs.declared.TakenBearer.{TakenBearer}
 use Rattle.values.specs.declared.TakenBearer.the-variants as ofBearer
-use Rattle.values.specs.declared.Put.the-variants.{Done, NoRoom}
 use Rattle.values.specs.declared.NormalSize.{NormalSize}
 use Rattle.values.specs.declared.NormalSize.the-variants.{Octets, NoValue}
 use Rattle.values.specs.Table.{rows, kindIn, known, attribute, defaults, defaultIn}
 use Rattle.values.specs.Times.{bits, longFlag, offsetFlag, offsetOctet, timeOf, inRange, isTime, wrongPart, wrongTime, canonical, sign, timeOctets, localMinutes, localOf}
 use Rattle.values.specs.Bearers.{ensembleFlag, longSidFlag, ensembleOf, bearerOf, isBearer, ensembleBit, ensembleOctets, bearerOctets}
 use Rattle.values.specs.Values.{width, fits, wrongField, meant, octetsOf}
-use Rattle.values.specs.Calls.{asKnown, knownKind, takenTime, takenBearer, bearerInRange, putAnswer, putOut, Puts, normalOctets, normalSize, defaultOctets}
+use Rattle.values.specs.Calls.{asKnown, knownKind, takenTime, takenBearer, bearerInRange, normalOctets, normalSize, defaultOctets}
 
 -- `is_attribute`: off by one on either side
 pub attribute-from-0x81 : attribute 0x80 ≡ false → ⊥
@@ -151,17 +152,17 @@ zero-offset-counted h = omega (arith, ap (λ n. n .0) h)
 abbrev five : List ℕ
 five = 1 ∷ 2 ∷ 3 ∷ 4 ∷ 5 ∷ []
 
-pub time-past-room : (after : List ℕ) → Puts (inRange (at 50_000 0)) (timeOctets (at 50_000 0)) five 2 (Done 6) after → ⊥
+pub time-past-room : (after : List ℕ) → Puts (inRange (at 50_000 0)) (timeOctets (at 50_000 0)) 2 five after (Done 6) → ⊥
 unfolding putAnswer inRange timeOctets digits sign
-time-past-room after p = let h = p .answered in let z : _≡_ {A = ℕ} 0 1 = cc in omega arith
+time-past-room after p = let h = p .answers in let z : _≡_ {A = ℕ} 0 1 = cc in omega arith
 
-pub time-part-written : Puts (inRange (at 50_000 0)) (timeOctets (at 50_000 0)) five 2 NoRoom (1 ∷ 2 ∷ 0x30 ∷ 0xD4 ∷ 0x00 ∷ []) → ⊥
+pub time-part-written : Puts (inRange (at 50_000 0)) (timeOctets (at 50_000 0)) 2 five (1 ∷ 2 ∷ 0x30 ∷ 0xD4 ∷ 0x00 ∷ []) NoRoom → ⊥
 unfolding putOut inRange timeOctets digits sign
-time-part-written p = let z : _≡_ {A = ℕ} 0x30 3 = ap (λ l. getD l 2 0) (p .holds) in omega arith
+time-part-written p = let z : _≡_ {A = ℕ} 0x30 3 = ap (λ l. getD l 2 0) (p .leaves) in omega arith
 
-pub late-date-written : (after : List ℕ) → Puts (inRange (at 100_000 0)) (timeOctets (at 100_000 0)) five 0 (Done 4) after → ⊥
+pub late-date-written : (after : List ℕ) → Puts (inRange (at 100_000 0)) (timeOctets (at 100_000 0)) 0 five after (Done 4) → ⊥
 unfolding putAnswer inRange
-late-date-written after p = let h = p .answered in let z : _≡_ {A = ℕ} 0 1 = cc in omega arith
+late-date-written after p = let h = p .answers in let z : _≡_ {A = ℕ} 0 1 = cc in omega arith
 
 -- `Bearer::take`: a 16-bit service id as a 32-bit one; reserved bits refused; a spare octet ignored
 abbrev longOf : TakenBearer → Bool
@@ -203,9 +204,9 @@ pub widths-confused : bearerOctets (record { ensemble = Absent; long = false; si
 unfolding bearerOctets ensembleBit ensembleOctets digits
 widths-confused h = let z : _≡_ {A = ℕ} 0x05 0x15 = ap (λ l. getD l 0 0) h in omega arith
 
-pub bearer-from-start : Puts true (bearerOctets (record { ensemble = Absent; long = false; sid = 0xC123; scids = 5 })) five 2 (Done 5) (0x05 ∷ 0xC1 ∷ 0x23 ∷ 4 ∷ 5 ∷ []) → ⊥
+pub bearer-from-start : Puts true (bearerOctets (record { ensemble = Absent; long = false; sid = 0xC123; scids = 5 })) 2 five (0x05 ∷ 0xC1 ∷ 0x23 ∷ 4 ∷ 5 ∷ []) (Done 5) → ⊥
 unfolding putOut bearerOctets ensembleBit ensembleOctets digits
-bearer-from-start p = let z : _≡_ {A = ℕ} 0x05 1 = ap (λ l. getD l 0 0) (p .holds) in omega arith
+bearer-from-start p = let z : _≡_ {A = ℕ} 0x05 1 = ap (λ l. getD l 0 0) (p .leaves) in omega arith
 
 -- `fits_kind`: a short id of two octets; date 100,000; an empty plain value refused
 pub two-octet-id : fits (HoldsNumber ShortId) (0 ∷ 1 ∷ []) ≡ true → ⊥
@@ -252,6 +253,6 @@ pub zero-seconds-kept : length (normalOctets HoldsTime (0x30 ∷ 0xD4 ∷ 0x08 �
 unfolding normalOctets meant octetsOf timeOf bits longFlag offsetFlag offsetOctet value timeOctets digits sign
 zero-seconds-kept h = omega arith
 
-pub no-value-written : (after : List ℕ) → Puts (fits (HoldsNumber Duration) (0x3C ∷ [])) (normalOctets (HoldsNumber Duration) (0x3C ∷ [])) five 0 (Done 2) after → ⊥
+pub no-value-written : (after : List ℕ) → Puts (fits (HoldsNumber Duration) (0x3C ∷ [])) (normalOctets (HoldsNumber Duration) (0x3C ∷ [])) 0 five after (Done 2) → ⊥
 unfolding putAnswer fits width
-no-value-written after p = let h = p .answered in let z : _≡_ {A = ℕ} 0 1 = cc in omega arith
+no-value-written after p = let h = p .answers in let z : _≡_ {A = ℕ} 0 1 = cc in omega arith

@@ -1,12 +1,10 @@
--- What the calls of this crate answer, and what a lent list of octets holds after them.
-use mathlib.Core.Path.{_≡_}
+-- What the calls of this crate answer. Those that write have the claim of octets/specs/Puts.
 use mathlib.Core.Bool.{Bool, cond, _&&_, _||_}
 use mathlib.Core.List.{List, []}
 use mathlib.Core.Option.{Option, none, some}
-use Prim.Native.Nat.{ℕ, _+_}
+use Prim.Native.Nat.{ℕ}
 use lib.Dec.{eqb, leb}
 use lib.ListN.{length, getD}
-use lib.Seq.{sets}
 use Rattle.octets.specs.Counts.{sizeOf}
 use Rattle.values.specs.declared.Kind.{Kind}
 use Rattle.values.specs.declared.KnownKind.{KnownKind}
@@ -16,8 +14,6 @@ use Rattle.values.specs.declared.TakenTime.the-variants as ofTime
 use Rattle.values.specs.declared.Bearer.{Bearer}
 use Rattle.values.specs.declared.TakenBearer.{TakenBearer}
 use Rattle.values.specs.declared.TakenBearer.the-variants as ofBearer
-use Rattle.values.specs.declared.Put.{Put}
-use Rattle.values.specs.declared.Put.the-variants.{Done, NoRoom, Invalid}
 use Rattle.values.specs.declared.NormalSize.{NormalSize}
 use Rattle.values.specs.declared.NormalSize.the-variants.{Octets, NoValue}
 use Rattle.values.specs.Table.{known, defaults, defaultIn}
@@ -45,18 +41,6 @@ takenBearer o = cond (isBearer o) (ofBearer.Good (bearerOf o)) ofBearer.Bad
 -- the other fields are as wide as their bits
 unfoldable pub bearerInRange : Bearer → Bool
 bearerInRange b = leb (b .scids) 15 && (b .long || leb (b .sid) 0xFFFF)
-
--- octets put into a lent list from a place on, where they are valid: what is answered, and what the list then holds. Where they are not valid or lack room
--- the list is as before, and else so is all of it but their places (document 01, Refusal numbers: lent memory on refusal and on success)
-unfoldable pub putAnswer : Bool → List ℕ → List ℕ → ℕ → Put
-putAnswer valid octets out at = cond valid (cond (leb (at + length octets) (length out)) (Done (at + length octets)) NoRoom) Invalid
-
-unfoldable pub putOut : Bool → List ℕ → List ℕ → ℕ → List ℕ
-putOut valid octets out at = cond valid (cond (leb (at + length octets) (length out)) (sets out at octets) out) out
-
-pub record Puts (valid : Bool) (octets before : List ℕ) (at : ℕ) (answer : Put) (after : List ℕ) : Type 0 where
-  pub answered : answer ≡ putAnswer valid octets before at
-  pub holds : after ≡ putOut valid octets before at
 
 -- the normal octets of a value that stands in octets, without a token table: a time, a bearer or a number again from what it means, all else as it stands
 -- (document 01, Records and meaning: normal form)

@@ -7,12 +7,12 @@ ghost use lib.ListN.{length, take, drop, getD};
 ghost use lib.Seq.{sets};
 ghost use Rattle.octets.specs.Counts.{sizeOf};
 ghost use Rattle.octets.specs.Numbers.{value, digits};
+ghost use Rattle.octets.specs.Puts.{Puts};
 ghost use Rattle.values.specs.declared.Ensemble.the-variants.{Absent, Present};
 ghost use Rattle.values.specs.Bearers.{ensembleBit, ensembleOctets, bearerOctets};
-ghost use Rattle.values.specs.Calls.{takenBearer, bearerInRange, Puts};
+ghost use Rattle.values.specs.Calls.{takenBearer, bearerInRange};
 use crate::Bearer;
 use crate::Ensemble;
-use crate::Put;
 use crate::TakenBearer;
 use crate::numbers::four_at;
 use crate::numbers::has_room;
@@ -22,6 +22,7 @@ use crate::numbers::put_two;
 use crate::numbers::two_at;
 use crate::numbers::wide;
 use octets::Octets;
+use octets::Put;
 
 impl Bearer {
     // The bearer that octets hold: of exactly the size that the two flags say.
@@ -80,7 +81,7 @@ impl Bearer {
 
     // The normal octets, written from a place on.
     pub fn put(self, out: &mut [u8], at: usize) -> Put
-        ensures { λ r. ⌜ Puts (bearerInRange self) (bearerOctets self) (now (out .entry)) at r (now (out .exit)) ⌝ }
+        ensures { λ r. ⌜ Puts (bearerInRange self) (bearerOctets self) at (now (out .entry)) (now (out .exit)) r ⌝ }
     {
         if !self.valid() {
             return Put::Invalid;

@@ -86,13 +86,6 @@ pub enum TakenBearer {
     Bad,
 }
 
-// How a call that writes octets ended: where they end, or that they have no room, or that there is nothing to write. Only the first wrote.
-pub enum Put {
-    Done(usize),
-    NoRoom,
-    Invalid,
-}
-
 // The size in normal form of octets that are a value of their kind.
 pub enum NormalSize {
     Octets(Octets),

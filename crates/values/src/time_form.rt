@@ -6,11 +6,11 @@ ghost use lib.Dec.{eqb};
 ghost use lib.ListN.{length, getD};
 ghost use lib.Seq.{sets};
 ghost use Rattle.octets.specs.Counts.{sizeOf};
+ghost use Rattle.octets.specs.Puts.{Puts};
 ghost use Rattle.values.specs.Times.{inRange, wrongPart, canonical, sign, timeOctets, localMinutes, localOf};
 ghost use Rattle.values.specs.Layout.{firstBits, secondOctets, offsetOctets};
-ghost use Rattle.values.specs.Calls.{takenTime, Puts};
+ghost use Rattle.values.specs.Calls.{takenTime};
 use crate::Local;
-use crate::Put;
 use crate::TakenTime;
 use crate::Time;
 use crate::numbers::four_at;
@@ -19,6 +19,7 @@ use crate::numbers::low;
 use crate::numbers::put_four;
 use crate::numbers::wide;
 use octets::Octets;
+use octets::Put;
 
 impl Time {
     // The time that octets hold: of exactly the size that the two flags say, and in range.
@@ -152,7 +153,7 @@ impl Time {
 
     // The normal octets, written from a place on.
     pub fn put(self, out: &mut [u8], at: usize) -> Put
-        ensures { λ r. ⌜ Puts (inRange self) (timeOctets self) (now (out .entry)) at r (now (out .exit)) ⌝ }
+        ensures { λ r. ⌜ Puts (inRange self) (timeOctets self) at (now (out .entry)) (now (out .exit)) r ⌝ }
     {
         if !self.valid() {
             return Put::Invalid;

@@ -1,24 +1,21 @@
 // Values by kind: whether octets are one, how large its normal octets are, and those octets written.
 ghost use mathlib.Core.Path.{_≡_};
-ghost use mathlib.Core.Bool.{true};
-ghost use Prim.Native.Nat.{_+_, _≤_};
-ghost use lib.ListN.{length};
-ghost use lib.Seq.{sets};
+ghost use Rattle.octets.specs.Puts.{Puts};
 ghost use Rattle.values.specs.declared.Kind.the-variants.{HoldsTime, HoldsBearer, HoldsNumber};
 ghost use Rattle.values.specs.Times.{isTime, wrongTime};
 ghost use Rattle.values.specs.Bearers.{isBearer};
 ghost use Rattle.values.specs.Values.{width, fits, wrongField};
-ghost use Rattle.values.specs.Calls.{normalOctets, normalSize, Puts};
+ghost use Rattle.values.specs.Calls.{normalOctets, normalSize};
 use crate::Bearer;
 use crate::Kind;
 use crate::NormalSize;
 use crate::NumberKind;
-use crate::Put;
 use crate::TakenBearer;
 use crate::TakenTime;
 use crate::Time;
-use crate::numbers::has_room;
 use octets::Octets;
+use octets::Put;
+use octets::copy_into;
 
 // Rule 9: whether octets are a value of their kind. Text, tokens, items and plain octets always are.
 pub fn fits_kind(kind: Kind, s: &[u8]) -> bool
@@ -76,13 +73,13 @@ pub fn normal_size(kind: Kind, s: &[u8]) -> NormalSize
 
 // The normal octets of a value, written from a place on.
 pub fn put_normal(kind: Kind, s: &[u8], out: &mut [u8], at: usize) -> Put
-    ensures { λ r. ⌜ Puts (fits kind (now (s .entry))) (normalOctets kind (now (s .entry))) (now (out .entry)) at r (now (out .exit)) ⌝ }
+    ensures { λ r. ⌜ Puts (fits kind (now (s .entry))) (normalOctets kind (now (s .entry))) at (now (out .entry)) (now (out .exit)) r ⌝ }
 {
     match kind {
-        Kind::HoldsItems => put_octets(s, out, at),
-        Kind::HoldsTokens => put_octets(s, out, at),
-        Kind::HoldsText => put_octets(s, out, at),
-        Kind::HoldsPlain => put_octets(s, out, at),
+        Kind::HoldsItems => copy_into(out, at, s),
+        Kind::HoldsTokens => copy_into(out, at, s),
+        Kind::HoldsText => copy_into(out, at, s),
+        Kind::HoldsPlain => copy_into(out, at, s),
         Kind::HoldsTime => put_time(s, out, at),
         Kind::HoldsBearer => put_bearer(s, out, at),
         Kind::HoldsNumber(n) => put_number(n, s, out, at),
@@ -153,7 +150,7 @@ fn number_size(n: NumberKind, s: &[u8]) -> NormalSize
 }
 
 fn put_time(s: &[u8], out: &mut [u8], at: usize) -> Put
-    ensures { λ r. ⌜ Puts (fits HoldsTime (now (s .entry))) (normalOctets HoldsTime (now (s .entry))) (now (out .entry)) at r (now (out .exit)) ⌝ }
+    ensures { λ r. ⌜ Puts (fits HoldsTime (now (s .entry))) (normalOctets HoldsTime (now (s .entry))) at (now (out .entry)) (now (out .exit)) r ⌝ }
 {
     match Time::take(s) {
         TakenTime::Good(t) => t.put(out, at),
@@ -162,7 +159,7 @@ fn put_time(s: &[u8], out: &mut [u8], at: usize) -> Put
 }
 
 fn put_bearer(s: &[u8], out: &mut [u8], at: usize) -> Put
-    ensures { λ r. ⌜ Puts (fits HoldsBearer (now (s .entry))) (normalOctets HoldsBearer (now (s .entry))) (now (out .entry)) at r (now (out .exit)) ⌝ }
+    ensures { λ r. ⌜ Puts (fits HoldsBearer (now (s .entry))) (normalOctets HoldsBearer (now (s .entry))) at (now (out .entry)) (now (out .exit)) r ⌝ }
 {
     match Bearer::take(s) {
         TakenBearer::Good(b) => b.put(out, at),
@@ -172,33 +169,10 @@ fn put_bearer(s: &[u8], out: &mut [u8], at: usize) -> Put
 
 // The octets of a number of the right width are its normal octets.
 fn put_number(n: NumberKind, s: &[u8], out: &mut [u8], at: usize) -> Put
-    ensures { λ r. ⌜ Puts (fits (HoldsNumber n) (now (s .entry))) (normalOctets (HoldsNumber n) (now (s .entry))) (now (out .entry)) at r (now (out .exit)) ⌝ }
+    ensures { λ r. ⌜ Puts (fits (HoldsNumber n) (now (s .entry))) (normalOctets (HoldsNumber n) (now (s .entry))) at (now (out .entry)) (now (out .exit)) r ⌝ }
 {
     if has_width(n, s) {
-        return put_octets(s, out, at);
+        return copy_into(out, at, s);
     }
     Put::Invalid
-}
-
-// Octets as they stand.
-fn put_octets(s: &[u8], out: &mut [u8], at: usize) -> Put
-    ensures { λ r. ⌜ Puts true (now (s .entry)) (now (out .entry)) at r (now (out .exit)) ⌝ }
-{
-    let size = s.len();
-    if !has_room(Octets(out.len()), at, Octets(size)) {
-        return Put::NoRoom;
-    }
-    copy(s, out, at);
-    Put::Done(at + size)
-}
-
-fn copy(s: &[u8], out: &mut [u8], at: usize)
-    requires { ⌜ at + length (now s) ≤ length (now out) ⌝ }
-    ensures { λ _. ⌜ now (out .exit) ≡ sets (now (out .entry)) at (now (s .entry)) ⌝ }
-{
-    let mut i = 0;
-    while i < s.len() {
-        out[at + i] = s[i];
-        i = i + 1;
-    }
 }

@@ -6,26 +6,26 @@ use Rattle.values.proofs.value_form.put_normal.Tie as tie
 enum-told : tie.Need-enum-told
 enum-told c = search needs
 
-put-octets-requires : tie.Need-put-octets-requires
-put-octets-requires c κs = search needs
+copy-into-requires : tie.Need-copy-into-requires
+copy-into-requires c κs = search needs
 
 enum-told-2 : tie.Need-enum-told-2
 enum-told-2 c = search needs
 
-put-octets-requires-2 : tie.Need-put-octets-requires-2
-put-octets-requires-2 c κs = search needs
+copy-into-requires-2 : tie.Need-copy-into-requires-2
+copy-into-requires-2 c κs = search needs
 
 enum-told-3 : tie.Need-enum-told-3
 enum-told-3 c = search needs
 
-put-octets-requires-3 : tie.Need-put-octets-requires-3
-put-octets-requires-3 c κs = search needs
+copy-into-requires-3 : tie.Need-copy-into-requires-3
+copy-into-requires-3 c κs = search needs
 
 enum-told-4 : tie.Need-enum-told-4
 enum-told-4 c = search needs
 
-put-octets-requires-4 : tie.Need-put-octets-requires-4
-put-octets-requires-4 c κs = search needs
+copy-into-requires-4 : tie.Need-copy-into-requires-4
+copy-into-requires-4 c κs = search needs
 
 enum-told-5 : tie.Need-enum-told-5
 enum-told-5 c = search needs
@@ -92,13 +92,13 @@ put-normal-spec =
     tie.close
     (tie.spec
     enum-told
-    put-octets-requires
+    copy-into-requires
     enum-told-2
-    put-octets-requires-2
+    copy-into-requires-2
     enum-told-3
-    put-octets-requires-3
+    copy-into-requires-3
     enum-told-4
-    put-octets-requires-4
+    copy-into-requires-4
     enum-told-5
     put-time-requires
     enum-told-6

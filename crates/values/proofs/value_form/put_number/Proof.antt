@@ -8,8 +8,8 @@ use Rattle.values.proofs.value_form.put_number.Tie as tie
 has-width-requires : tie.Need-has-width-requires
 has-width-requires c κs = search needs
 
-put-octets-requires : tie.Need-put-octets-requires
-put-octets-requires c κs = search needs
+copy-into-requires : tie.Need-copy-into-requires
+copy-into-requires c κs = search needs
 
 same-length : tie.Need-same-length
 same-length c = search needs
@@ -22,4 +22,4 @@ returns-2 c = search (number-ways, needs)
 
 pub put-number-spec : {M : Type 1} → statement M
 put-number-spec =
-    tie.close (tie.spec has-width-requires put-octets-requires same-length returns returns-2)
+    tie.close (tie.spec has-width-requires copy-into-requires same-length returns returns-2)
