@@ -1,20 +1,16 @@
 -- The lines by computation: document 01's listing whole (Bench cases), and answers that no call of this crate may give.
-use mathlib.Core.Path.{_≡_, refl, sym, ap, _∙_}
-use mathlib.Core.Bool.{Bool, true, false, cond}
+use mathlib.Core.Path.{_≡_, refl, ap}
+use mathlib.Core.Bool.{true}
 use mathlib.Core.List.{List, [], _∷_, _++_}
-use Prim.Native.Nat.{ℕ, _+_}
+use Prim.Native.Nat.{ℕ}
 use native.Mathlib.Omega.{arith}
-use lib.Dec.{leb}
-use lib.ListN.{length, take, drop, getD}
-use lib.Seq.{sets}
-use borrow.Author.Tests.{leb-true}
-use Rattle.octets.proofs.Lists.{part-of-sets}
+use lib.ListN.{getD}
+use Rattle.octets.specs.Puts.{putAnswer, putOut, Puts}
+use Rattle.octets.specs.declared.Put.{Put}
 use Rattle.format.specs.Answers.{refusal, wrongValue}
 use Rattle.format.specs.declared.Record.{Record}
-use Rattle.show.specs.declared.Put.{Put}
 use Rattle.show.specs.Digits.{tens, decimal, hexDigit, twoDigits, hexLower, hexUpper}
 use Rattle.show.specs.Lines.{ascii, line, kindName, headerLine, recordLine, recordsLine, fieldOf, refusalLine, fieldReasons, fieldReason, reasons, refusalWords}
-use Rattle.show.specs.Calls.{putAnswer, putLeaves, Puts}
 
 -- the listing of 03 04 06 02 65 6E
 top : Record
@@ -44,34 +40,35 @@ refused-value = refl
 zeros : List ℕ
 zeros = 0 ∷ 0 ∷ 0 ∷ []
 
-number-reversed : Puts (decimal 10) 0 zeros (48 ∷ 49 ∷ 0 ∷ []) (Put.Done 2) → ⊥
-unfolding zeros putAnswer putLeaves decimal tens
+number-reversed : Puts true (decimal 10) 0 zeros (48 ∷ 49 ∷ 0 ∷ []) (Put.Done 2) → ⊥
+unfolding zeros putAnswer putOut decimal tens
 number-reversed p = let z : _≡_ {A = ℕ} 48 49 = ap (λ o. getD o 0 0) (p .leaves) in omega arith
 
-number-padded : Puts (decimal 7) 0 zeros (48 ∷ 55 ∷ 0 ∷ []) (Put.Done 2) → ⊥
-unfolding zeros putAnswer putLeaves decimal tens
+number-padded : Puts true (decimal 7) 0 zeros (48 ∷ 55 ∷ 0 ∷ []) (Put.Done 2) → ⊥
+unfolding zeros putAnswer putOut decimal tens
 number-padded p = let z : _≡_ {A = ℕ} 48 55 = ap (λ o. getD o 0 0) (p .leaves) in omega arith
 
 -- what has no room leaves the slice alone, and says so
-number-cut : Puts (decimal 1000) 0 zeros (49 ∷ 48 ∷ 48 ∷ []) Put.NoRoom → ⊥
-unfolding zeros putAnswer putLeaves decimal tens
+number-cut : Puts true (decimal 1000) 0 zeros (49 ∷ 48 ∷ 48 ∷ []) Put.NoRoom → ⊥
+unfolding zeros putAnswer putOut decimal tens
 number-cut p = let z : _≡_ {A = ℕ} 49 0 = ap (λ o. getD o 0 0) (p .leaves) in omega arith
 
 end-of : Put → ℕ
 end-of (Put.Done n) = n
 end-of Put.NoRoom = 0
+end-of Put.Invalid = 0
 
-number-claimed : Puts (decimal 1000) 0 zeros zeros (Put.Done 4) → ⊥
-unfolding zeros putAnswer putLeaves decimal tens end-of
+number-claimed : Puts true (decimal 1000) 0 zeros zeros (Put.Done 4) → ⊥
+unfolding zeros putAnswer putOut decimal tens end-of
 number-claimed p = let z : _≡_ {A = ℕ} 4 0 = ap end-of (p .answers) in omega arith
 
 -- octets have lower-case letters, and a tag upper-case ones
-octets-upper : Puts (hexLower (0xAB ∷ [])) 0 zeros (65 ∷ 66 ∷ 0 ∷ []) (Put.Done 2) → ⊥
-unfolding zeros putAnswer putLeaves hexLower twoDigits hexDigit
+octets-upper : Puts true (hexLower (0xAB ∷ [])) 0 zeros (65 ∷ 66 ∷ 0 ∷ []) (Put.Done 2) → ⊥
+unfolding zeros putAnswer putOut hexLower twoDigits hexDigit
 octets-upper p = let z : _≡_ {A = ℕ} 65 97 = ap (λ o. getD o 0 0) (p .leaves) in omega arith
 
-tag-swapped : Puts (hexUpper 0x1C) 0 zeros (67 ∷ 49 ∷ 0 ∷ []) (Put.Done 2) → ⊥
-unfolding zeros putAnswer putLeaves twoDigits hexDigit
+tag-swapped : Puts true (hexUpper 0x1C) 0 zeros (67 ∷ 49 ∷ 0 ∷ []) (Put.Done 2) → ⊥
+unfolding zeros putAnswer putOut twoDigits hexDigit
 tag-swapped p = let z : _≡_ {A = ℕ} 67 49 = ap (λ o. getD o 0 0) (p .leaves) in omega arith
 
 -- each refusal has words of its own
@@ -98,23 +95,3 @@ hours-words = refl
 value-words : refusalWords 0 9 ≡ ascii "a value has a wrong length"
 unfolding refusalWords reasons fieldReasons fieldReason ascii
 value-words = refl
-
--- two answers that no call of this crate may give, whatever its text is: that a text was put which doesn't stand there, and that there is no room where a part of
--- it was left
-not-put : (text : List ℕ) (at : ℕ) (out : List ℕ) (n : ℕ) → (take (length text) (drop at out) ≡ text → ⊥) → Puts text at out out (Put.Done n) → ⊥
-unfolding putAnswer putLeaves
-not-put text at out n h p = go (leb (at + length text) (length out)) refl
-  where
-    go : (b : Bool) → leb (at + length text) (length out) ≡ b → ⊥
-    go true e =
-        let laid : out ≡ sets out at text = rw e at (p .leaves) in
-        h (ap (λ o. take (length text) (drop at o)) laid ∙ part-of-sets out at text (leb-true (at + length text) (length out) e))
-    go false e = let w : Put.Done n ≡ Put.NoRoom = rw e at (p .answers) in let z : _≡_ {A = ℕ} 0 1 = cc in omega arith
-
-part-left : (text : List ℕ) (at : ℕ) (out out′ : List ℕ) → (out′ ≡ out → ⊥) → Puts text at out out′ Put.NoRoom → ⊥
-unfolding putAnswer putLeaves
-part-left text at out out′ h p = go (leb (at + length text) (length out)) refl
-  where
-    go : (b : Bool) → leb (at + length text) (length out) ≡ b → ⊥
-    go true e = let w : Put.NoRoom ≡ Put.Done (at + length text) = rw e at (p .answers) in let z : _≡_ {A = ℕ} 0 1 = cc in omega arith
-    go false e = h (rw e at (p .leaves))

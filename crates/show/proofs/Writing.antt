@@ -1,6 +1,6 @@
 -- The ways through the calls: what is left of a text while it is stored, digits from the last one on, words, and the answers.
-use mathlib.Core.Path.{_≡_, refl, sym, ap, subst, _∙_}
-use mathlib.Core.Bool.{Bool, true, false, cond}
+use mathlib.Core.Path.{_≡_, refl, sym, ap, _∙_}
+use mathlib.Core.Bool.{Bool, true, false}
 use mathlib.Core.List.{List, [], _∷_, _++_, append-nil}
 use Prim.Native.Nat.{ℕ, zero, suc, _+_, _-_, _*_, _/_, _%_, _^_, _≤_, _<_}
 use native.Mathlib.Numerals.{add-one}
@@ -8,16 +8,18 @@ use native.Mathlib.Omega.{arith}
 use lib.Dec.{leb}
 use lib.ListN.{length, drop, getD, set, length-append, length-set, drop-of-length-le, List·getD-eq-default}
 use lib.Seq.{sets, length-sets, append-snoc}
-use mir.Syntax.{w8, w64}
+use mir.Syntax.{w64}
 use mir.Val.{Fits}
 use borrow.Author.Tests.{le-leb, lt-leb, leb-true, leb-false, lt-ltb, le-ltb, ne-eqb}
 use Rattle.show.specs.Digits.{decimal, hexDigit, twoDigits, hexLower, hexUpper}
+use Rattle.octets.specs.Puts.{Puts}
+use Rattle.octets.specs.declared.Put.{Put}
 use Rattle.octets.proofs.Lists.{sets-append, set-sets, drop-next}
+use Rattle.octets.proofs.Puts.{puts-none, puts-done, put-done as told-done, put-room as told-room, put-there}
 use Rattle.format.specs.declared.Record.{Record}
 use Rattle.format.specs.declared.Refusal.{Refusal}
 use Rattle.show.specs.Lines.{ascii, line, kindName, recordLine, recordsLine, fieldOf, refusalLine, fieldReasons, fieldReason, reasons, refusalWords}
-use Rattle.show.specs.Calls.{putAnswer, putLeaves, Puts, Wrote, Few}
-use Rattle.show.specs.declared.Put.{Put}
+use Rattle.show.specs.Storing.{Wrote, Few}
 use Rattle.show.proofs.Digits.{decimal-one, decimal-more, length-more, decimal-some, decimal-few}
 
 -- ---- room
@@ -38,19 +40,15 @@ pub ruleset room-ways = (room-outside, room-rest)
 -- ---- the answers
 
 module _ (text : List ℕ) (at : ℕ) (out : List ℕ) (size : ℕ) (s : size ≡ length text) (b : Bool) (k : b ≡ leb (at + size) (length out)) where
-  pub put-none : b ≡ false → Puts text at out out Put.NoRoom
-  unfolding putAnswer putLeaves
-  put-none q = let e : leb (at + length text) (length out) ≡ false = ap (λ n. leb (at + n) (length out)) (sym s) ∙ sym k ∙ q in record { answers = rw e; leaves = rw e }
+  pub put-none : b ≡ false → Puts true text at out out Put.NoRoom
+  put-none q = puts-none true text at out refl (omega (arith, s, leb-false (at + size) (length out) (sym k ∙ q)))
 
   module _ (q : b ≡ true) where
     pub put-room : at + length text ≤ length out
     put-room = omega (arith, leb-true (at + size) (length out) (sym k ∙ q))
 
-    pub put-done : (out′ : List ℕ) (end : ℕ) → Wrote text at out out′ end → Puts text at out out′ (Put.Done end)
-    unfolding putAnswer putLeaves
-    put-done out′ end w =
-        let e : leb (at + length text) (length out) ≡ true = le-leb (at + length text) (length out) put-room in
-        record { answers = rw e (ap Put.Done (w .ends)); leaves = rw e (w .leaves) }
+    pub put-done : (out′ : List ℕ) (end : ℕ) → Wrote text at out out′ end → Puts true text at out out′ (Put.Done end)
+    put-done out′ end w = puts-done true text at out refl out′ end put-room (w .leaves) (w .ends)
 
 -- ---- what is left of a text while it is stored
 
@@ -95,34 +93,17 @@ wrote-long text at out out′ to w = ap length (w .leaves) ∙ length-sets out a
 
 -- ---- octets as they are
 
-pub record Copying (out₀ : List ℕ) (at : ℕ) (s out : List ℕ) (i : ℕ) : Type 0 where
-  pub within : i ≤ length s
-  pub left : Left s at out₀ (drop i s) out (at + i)
+module _ (out : List ℕ) (at : ℕ) (s : List ℕ) (h : at + length s ≤ length out) (out′ : List ℕ) (r : Put) (p : Puts true s at out out′ r) where
+  pub copy-done : (end : ℕ) → r ≡ Put.Done end → Wrote s at out out′ end
+  copy-done end q = let d = told-done true s at out out′ r p end q in record { ends = d .place; leaves = d .laid }
 
-module _ (out₀ : List ℕ) (at : ℕ) (s : List ℕ) where
-  pub copy-begin : at + length s ≤ length out₀ → Copying out₀ at s out₀ 0
-  copy-begin h = record { within = omega arith; left = let e : at ≡ at + 0 = omega arith in subst (λ (m : ℕ). Left s at out₀ s out₀ m) e (left-begin s at out₀ h) }
+  pub copy-room : r ≡ Put.NoRoom → Wrote s at out out′ at
+  copy-room q = told-room true s at out out′ r p h q
 
-  module _ (out : List ℕ) (i : ℕ) (v : Copying out₀ at s out i) where
-    pub copy-long : length out ≡ length out₀
-    copy-long = v .left .long
+  pub copy-there : r ≡ Put.Invalid → Wrote s at out out′ at
+  copy-there q = put-there true s at out out′ r p refl q
 
-    pub copy-end : length out₀ < 2 ^ 64 → Fits w64 (at + i)
-    copy-end l = record { fits = omega (arith, v .left .room, v .left .long) }
-
-    pub copy-done : length s ≤ i → Wrote s at out₀ out (at + i)
-    copy-done h = left-done s at out₀ out (at + i) (rw (drop-of-length-le s h) at (v .left))
-
-    module _ (h : i < length s) where
-      pub copy-in : at + i < length out
-      copy-in = omega (arith, v .left .room, ap length (drop-next s i 0 h))
-
-      pub copy-again : Copying out₀ at s (set out (at + i) (getD s i 0)) (i + 1)
-      copy-again =
-          let e : at + i + 1 ≡ at + (i + 1) = omega arith in
-          record { within = omega arith; left = rw e at (left-one s at out₀ (getD s i 0) (drop (i + 1) s) out (at + i) (rw (drop-next s i 0 h) at (v .left))) }
-
-pub ruleset copy-ways = (copy-begin, copy-long, copy-end, copy-done, copy-in, copy-again)
+pub ruleset copy-ways = (copy-done, copy-room, copy-there)
 
 -- ---- how many digits
 
@@ -334,7 +315,7 @@ module _ (text given : List ℕ) (e : text ≡ given) (at : ℕ) (out : List ℕ
   pub wrote-same : (b : ℕ) (out′ : List ℕ) (to : ℕ) → Wrote (given ++ (b ∷ [])) at out out′ to → Wrote (text ++ (b ∷ [])) at out out′ to
   wrote-same b out′ to w = rw e w
 
-  pub puts-same : (out′ : List ℕ) (r : Put) → Puts given at out out′ r → Puts text at out out′ r
+  pub puts-same : (out′ : List ℕ) (r : Put) → Puts true given at out out′ r → Puts true text at out out′ r
   puts-same out′ r p = rw e p
 
 -- ---- a line word by word
@@ -474,7 +455,7 @@ pub ruleset refusal-size-ways = (refusal-field-length, refusal-length)
 
 -- ---- a refusal in words, by its number, and 9 by its field
 
-pub words-same : (words : ℕ → List ℕ) (n k : ℕ) → n ≡ k → (at : ℕ) (out out′ : List ℕ) (r : Put) → Puts (words k) at out out′ r → Puts (words n) at out out′ r
+pub words-same : (words : ℕ → List ℕ) (n k : ℕ) → n ≡ k → (at : ℕ) (out out′ : List ℕ) (r : Put) → Puts true (words k) at out out′ r → Puts true (words n) at out out′ r
 words-same words n k e at out out′ r p = rw e p
 
 pub above : {k : ℕ} (n : ℕ) → k ≤ n → (n ≡ k → ⊥) → suc k ≤ n

@@ -5,20 +5,18 @@
 use format::Record;
 use format::Refusal;
 use octets::Octets;
+use octets::Put;
+use octets::copy_into;
 ghost use mathlib.Core.Path.{_≡_};
+ghost use mathlib.Core.Bool.{true};
 ghost use mathlib.Core.List.{[], _∷_, _++_};
 ghost use Prim.Native.Nat.{_+_, _≤_, _<_};
 ghost use lib.Dec.{leb};
 ghost use lib.ListN.{length};
+ghost use Rattle.octets.specs.Puts.{Puts};
 ghost use Rattle.show.specs.Digits.{decimal, hexDigit, twoDigits, hexLower, hexUpper};
 ghost use Rattle.show.specs.Lines.{ascii, line, kindName, headerLine, recordLine, recordsLine, fieldOf, refusalLine, touchedLine, fieldReason, refusalWords};
-ghost use Rattle.show.specs.Calls.{Puts, Wrote, Few};
-
-// Text put into a lent slice. Done: the place behind its last character.
-pub enum Put {
-    Done(usize),
-    NoRoom,
-}
+ghost use Rattle.show.specs.Storing.{Wrote, Few};
 
 const UPPER: u8 = b'A';
 
@@ -43,12 +41,11 @@ fn store_octets(out: &mut [u8], at: usize, s: &[u8]) -> usize
     requires { ⌜ at + length (now s) ≤ length (now out) ⌝ }
     ensures { λ r. ⌜ Wrote (now (s .entry)) at (now (out .entry)) (now (out .exit)) r ⌝ }
 {
-    let mut i: usize = 0;
-    while i < s.len() {
-        out[at + i] = s[i];
-        i = i + 1;
+    match copy_into(out, at, s) {
+        Put::Done(end) => end,
+        Put::NoRoom => at,
+        Put::Invalid => at,
     }
-    at + i
 }
 
 // At most 20 digits, so the sum of a few sizes is a small number.
@@ -178,16 +175,13 @@ fn kind_size(kind: u8) -> Octets
 // ---- numbers and octets
 
 pub fn put_bytes(out: &mut [u8], at: usize, s: &[u8]) -> Put
-    ensures { λ r. ⌜ Puts (now (s .entry)) at (now (out .entry)) (now (out .exit)) r ⌝ }
+    ensures { λ r. ⌜ Puts true (now (s .entry)) at (now (out .entry)) (now (out .exit)) r ⌝ }
 {
-    if !has_room(Octets(out.len()), at, Octets(s.len())) {
-        return Put::NoRoom;
-    }
-    Put::Done(store_octets(out, at, s))
+    copy_into(out, at, s)
 }
 
 pub fn put_decimal(out: &mut [u8], at: usize, n: usize) -> Put
-    ensures { λ r. ⌜ Puts (decimal n) at (now (out .entry)) (now (out .exit)) r ⌝ }
+    ensures { λ r. ⌜ Puts true (decimal n) at (now (out .entry)) (now (out .exit)) r ⌝ }
 {
     if !has_room(Octets(out.len()), at, decimal_size(n)) {
         return Put::NoRoom;
@@ -196,7 +190,7 @@ pub fn put_decimal(out: &mut [u8], at: usize, n: usize) -> Put
 }
 
 pub fn put_hex(out: &mut [u8], at: usize, s: &[u8]) -> Put
-    ensures { λ r. ⌜ Puts (hexLower (now (s .entry))) at (now (out .entry)) (now (out .exit)) r ⌝ }
+    ensures { λ r. ⌜ Puts true (hexLower (now (s .entry))) at (now (out .entry)) (now (out .exit)) r ⌝ }
 {
     let size = 2 * s.len();
     if !has_room(Octets(out.len()), at, Octets(size)) {
@@ -206,7 +200,7 @@ pub fn put_hex(out: &mut [u8], at: usize, s: &[u8]) -> Put
 }
 
 pub fn put_hex_upper(out: &mut [u8], at: usize, b: u8) -> Put
-    ensures { λ r. ⌜ Puts (hexUpper b) at (now (out .entry)) (now (out .exit)) r ⌝ }
+    ensures { λ r. ⌜ Puts true (hexUpper b) at (now (out .entry)) (now (out .exit)) r ⌝ }
 {
     if !has_room(Octets(out.len()), at, Octets(2)) {
         return Put::NoRoom;
@@ -217,13 +211,13 @@ pub fn put_hex_upper(out: &mut [u8], at: usize, b: u8) -> Put
 // ---- lines
 
 pub fn put_header(out: &mut [u8], at: usize) -> Put
-    ensures { λ r. ⌜ Puts headerLine at (now (out .entry)) (now (out .exit)) r ⌝ }
+    ensures { λ r. ⌜ Puts true headerLine at (now (out .entry)) (now (out .exit)) r ⌝ }
 {
     put_bytes(out, at, b"depth tag kind offset length\n")
 }
 
 pub fn put_touched(out: &mut [u8], at: usize) -> Put
-    ensures { λ r. ⌜ Puts touchedLine at (now (out .entry)) (now (out .exit)) r ⌝ }
+    ensures { λ r. ⌜ Puts true touchedLine at (now (out .entry)) (now (out .exit)) r ⌝ }
 {
     put_bytes(out, at, b"touched\n")
 }
@@ -251,7 +245,7 @@ fn store_record(out: &mut [u8], at: usize, r: Record) -> usize
 }
 
 pub fn put_record(out: &mut [u8], at: usize, r: Record) -> Put
-    ensures { λ put. ⌜ Puts (recordLine r) at (now (out .entry)) (now (out .exit)) put ⌝ }
+    ensures { λ put. ⌜ Puts true (recordLine r) at (now (out .entry)) (now (out .exit)) put ⌝ }
 {
     if !has_room(Octets(out.len()), at, record_size(r)) {
         return Put::NoRoom;
@@ -268,7 +262,7 @@ fn store_records(out: &mut [u8], at: usize, n: usize) -> usize
 }
 
 pub fn put_records(out: &mut [u8], at: usize, n: usize) -> Put
-    ensures { λ put. ⌜ Puts (recordsLine n) at (now (out .entry)) (now (out .exit)) put ⌝ }
+    ensures { λ put. ⌜ Puts true (recordsLine n) at (now (out .entry)) (now (out .exit)) put ⌝ }
 {
     let size = 9 + decimal_size(n).0;
     if !has_room(Octets(out.len()), at, Octets(size)) {
@@ -316,7 +310,7 @@ fn refusal_size(r: Refusal) -> Octets
 }
 
 pub fn put_refusal(out: &mut [u8], at: usize, r: Refusal) -> Put
-    ensures { λ put. ⌜ Puts (refusalLine r) at (now (out .entry)) (now (out .exit)) put ⌝ }
+    ensures { λ put. ⌜ Puts true (refusalLine r) at (now (out .entry)) (now (out .exit)) put ⌝ }
 {
     if !has_room(Octets(out.len()), at, refusal_size(r)) {
         return Put::NoRoom;
@@ -328,7 +322,7 @@ pub fn put_refusal(out: &mut [u8], at: usize, r: Refusal) -> Put
 
 // Refusal 9, by the field that goes with it.
 fn put_field_words(out: &mut [u8], at: usize, field: u8) -> Put
-    ensures { λ r. ⌜ Puts (ascii (fieldReason field)) at (now (out .entry)) (now (out .exit)) r ⌝ }
+    ensures { λ r. ⌜ Puts true (ascii (fieldReason field)) at (now (out .entry)) (now (out .exit)) r ⌝ }
 {
     match field {
         0 => put_bytes(out, at, b"a value has a wrong length"),
@@ -342,7 +336,7 @@ fn put_field_words(out: &mut [u8], at: usize, field: u8) -> Put
 }
 
 pub fn put_refusal_words(out: &mut [u8], at: usize, number: u8, field: u8) -> Put
-    ensures { λ r. ⌜ Puts (refusalWords field number) at (now (out .entry)) (now (out .exit)) r ⌝ }
+    ensures { λ r. ⌜ Puts true (refusalWords field number) at (now (out .entry)) (now (out .exit)) r ⌝ }
 {
     match number {
         0 => put_bytes(out, at, b"nothing is refused"),

@@ -1,61 +1,49 @@
-use Rattle.show.proofs.Writing.{Copying, copy-ways}
-use Prim.Native.Nat.{_-_}
-use lib.ListN.{length}
+use Rattle.show.proofs.Writing.{copy-ways}
 use borrow.Author.Needs.{needs}
 use Rattle.show.proofs.store_octets.Statement.{statement}
 use Rattle.show.proofs.store_octets.Tie as tie
-use Rattle.show.proofs.store_octets.Reads as reads
-use Rattle.show.proofs.store_octets.Lts as lts
 
-abbrev Inv-loop : tie.InvT-loop
-Inv-loop out₀ at s i₀ out i = Copying out₀ at s out i
+copy-into-requires : tie.Need-copy-into-requires
+copy-into-requires c κs = search needs
 
-abbrev μ-loop : tie.MeasureT-loop
-μ-loop out₀ at s i₀ out i = length s - i
+enum-known-end : tie.Need-enum-known-end
+enum-known-end c = search needs
 
-loop-holds : tie.Need-loop-holds Inv-loop μ-loop
-loop-holds c = search (copy-ways, needs)
+enum-told : tie.Need-enum-told
+enum-told c = search needs
 
-shared-slice-read-out : tie.Need-shared-slice-read-out Inv-loop μ-loop
-shared-slice-read-out c = search (copy-ways, needs)
+enum-told-2 : tie.Need-enum-told-2
+enum-told-2 c = search needs
 
-add-out : tie.Need-add-out Inv-loop μ-loop
-add-out c = search (copy-ways, needs)
+same-length : tie.Need-same-length
+same-length c = search needs
 
-slice-write-out : tie.Need-slice-write-out Inv-loop μ-loop
-slice-write-out c = search (copy-ways, needs)
-
-add-i : tie.Need-add-i Inv-loop μ-loop
-add-i c = search (copy-ways, needs)
-
-loop-less : tie.Need-loop-less Inv-loop μ-loop
-loop-less c = search (copy-ways, needs)
-
-loop-again : tie.Need-loop-again Inv-loop μ-loop
-loop-again c = search (copy-ways, needs)
-
-add-result : tie.Need-add-result Inv-loop μ-loop
-add-result c = search (copy-ways, needs)
-
-same-length : tie.Need-same-length Inv-loop μ-loop
-same-length c = search (copy-ways, needs)
-
-returns : tie.Need-returns Inv-loop μ-loop
+returns : tie.Need-returns
 returns c = search (copy-ways, needs)
+
+same-length-2 : tie.Need-same-length-2
+same-length-2 c = search needs
+
+returns-2 : tie.Need-returns-2
+returns-2 c = search (copy-ways, needs)
+
+same-length-3 : tie.Need-same-length-3
+same-length-3 c = search needs
+
+returns-3 : tie.Need-returns-3
+returns-3 c = search (copy-ways, needs)
 
 pub store-octets-spec : {M : Type 1} → statement M
 store-octets-spec =
     tie.close
     (tie.spec
-    Inv-loop
-    μ-loop
-    loop-holds
-    shared-slice-read-out
-    add-out
-    slice-write-out
-    add-i
-    loop-less
-    loop-again
-    add-result
+    copy-into-requires
+    enum-known-end
+    enum-told
+    enum-told-2
     same-length
-    returns)
+    returns
+    same-length-2
+    returns-2
+    same-length-3
+    returns-3)
