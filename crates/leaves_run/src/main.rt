@@ -5,7 +5,7 @@
 // `text` and `show`; here every function is safe and ends.
 use libc::STDIN_FILENO;
 use libc::STDOUT_FILENO;
-use show::Put;
+use octets::Put;
 use values::Bearer;
 use values::Ensemble;
 use values::Kind;
@@ -49,6 +49,7 @@ fn say(out: &mut [u8], used: usize, s: &[u8]) -> usize
     match show::put_bytes(out, used, s) {
         Put::Done(end) => end,
         Put::NoRoom => used,
+        Put::Invalid => used,
     }
 }
 
@@ -59,6 +60,7 @@ fn say_hex(out: &mut [u8], used: usize, s: &[u8]) -> usize
     match show::put_hex(out, used, s) {
         Put::Done(end) => end,
         Put::NoRoom => used,
+        Put::Invalid => used,
     }
 }
 
@@ -69,6 +71,7 @@ fn say_decimal(out: &mut [u8], used: usize, n: usize) -> usize
     match show::put_decimal(out, used, n) {
         Put::Done(end) => end,
         Put::NoRoom => used,
+        Put::Invalid => used,
     }
 }
 
@@ -93,9 +96,9 @@ fn put_time(room: &mut [u8], time: Time) -> usize
     ensures { λ r. ⌜ r ≤ length (now (room .exit)) ⌝ }
 {
     match time.put(room, 0) {
-        values::Put::Done(end) => end,
-        values::Put::NoRoom => 0,
-        values::Put::Invalid => 0,
+        Put::Done(end) => end,
+        Put::NoRoom => 0,
+        Put::Invalid => 0,
     }
 }
 
@@ -103,9 +106,9 @@ fn put_bearer(room: &mut [u8], bearer: Bearer) -> usize
     ensures { λ r. ⌜ r ≤ length (now (room .exit)) ⌝ }
 {
     match bearer.put(room, 0) {
-        values::Put::Done(end) => end,
-        values::Put::NoRoom => 0,
-        values::Put::Invalid => 0,
+        Put::Done(end) => end,
+        Put::NoRoom => 0,
+        Put::Invalid => 0,
     }
 }
 
@@ -113,9 +116,9 @@ fn put_number(room: &mut [u8], width: octets::Octets, n: u32) -> usize
     ensures { λ r. ⌜ r ≤ length (now (room .exit)) ⌝ }
 {
     match octets::put_number(room, 0, width, n) {
-        octets::Put::Done(end) => end,
-        octets::Put::NoRoom => 0,
-        octets::Put::TooLong => 0,
+        Put::Done(end) => end,
+        Put::NoRoom => 0,
+        Put::Invalid => 0,
     }
 }
 

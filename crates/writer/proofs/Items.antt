@@ -1,26 +1,25 @@
 -- An item that holds no items: how long its octets can be, and what is measured and written of it.
-use mathlib.Core.Path.{_≡_, refl, sym, ap, _∙_}
-use mathlib.Core.Bool.{Bool, true, false, cond, false≢true}
+use mathlib.Core.Path.{_≡_, refl, sym, ap}
+use mathlib.Core.Bool.{Bool, true, false, cond}
 use mathlib.Core.Option.{Option, none, some}
 use mathlib.Core.List.{List, [], _∷_, _++_}
 use Prim.Native.Nat.{ℕ, _+_, _^_, _≤_, _<_}
 use native.Mathlib.Omega.{arith}
 use lib.Dec.{ltb}
 use lib.ListN.{length, length-append}
-use borrow.Author.Tests.{lt-ltb, le-leb}
+use borrow.Author.Tests.{lt-ltb}
 use Rattle.octets.specs.Header.{lengthField, framed}
 use Rattle.octets.specs.declared.Put.{Put}
-use Rattle.octets.specs.Calls.{Puts}
-use Rattle.octets.proofs.Answers.{size-five, put-done, put-no-room, put-too-long}
+use Rattle.octets.specs.Puts.{Puts}
+use Rattle.octets.proofs.Answers.{size-five}
+use Rattle.octets.proofs.Puts.{put-done, put-no-room, put-invalid, put-room, put-there}
 use Rattle.values.specs.declared.Kind.{Kind}
 use Rattle.values.specs.declared.Kind.the-variants.{HoldsPlain}
 use Rattle.values.specs.declared.KnownKind.{KnownKind}
 use Rattle.values.specs.declared.KnownKind.the-variants.{Unknown, Known}
 use Rattle.values.specs.Values.{fits, meant, octetsOf}
-use Rattle.values.specs.Calls.{asKnown, knownKind, normalOctets, putAnswer as valueAnswer, Puts as PutsValue}
-use Rattle.values.specs.declared.Put.{Put as PutValue}
-use Rattle.values.specs.declared.Put.the-variants.{Done, NoRoom, Invalid}
-use Rattle.values.proofs.Laws.{known-kind, unknown-kind, put-written, put-kept, normal-shorter}
+use Rattle.values.specs.Calls.{asKnown, knownKind, normalOctets}
+use Rattle.values.proofs.Laws.{known-kind, unknown-kind, normal-shorter}
 use Rattle.format.specs.Judge.{isItems}
 use Rattle.format.specs.Meaning.{opens, maybe}
 use Rattle.survey.specs.Normal.{framedSize, valueOctets, writtenAs, itemOctets}
@@ -63,45 +62,34 @@ module _ (tag n to : ℕ) (before after : List ℕ) (answer : Put) (f : (n ≤ 3
   header-done stop q = let d = put-done (ltb n (256 ^ 3)) (tag ∷ lengthField n) to before after answer p stop q in record { leaves = d .laid; ends = d .place }
 
   pub header-no-room : answer ≡ Put.NoRoom → Lays (tag ∷ lengthField n) to before after to
-  header-no-room q =
-      let d = put-no-room (ltb n (256 ^ 3)) (tag ∷ lengthField n) to before after answer p q .1 in
-      let r = f .1 .inRoom in
-      absurd (omega arith)
+  header-no-room q = put-room (ltb n (256 ^ 3)) (tag ∷ lengthField n) to before after answer p (f .1 .inRoom) q
 
-  pub header-too-long : answer ≡ Put.TooLong → Lays (tag ∷ lengthField n) to before after to
-  header-too-long q =
-      let d = put-too-long (ltb n (256 ^ 3)) (tag ∷ lengthField n) to before after answer p q .0 in
-      let g = f .0 in
-      absurd (false≢true (sym d ∙ lt-ltb n (256 ^ 3) (omega arith)))
+  pub header-invalid : answer ≡ Put.Invalid → Lays (tag ∷ lengthField n) to before after to
+  header-invalid q = put-there (ltb n (256 ^ 3)) (tag ∷ lengthField n) to before after answer p (lt-ltb n (256 ^ 3) (omega (arith, f .0))) q
 
 -- a value written where it has room
-module _ (k : Kind) (body : List ℕ) (to : ℕ) (before after : List ℕ) (answer : PutValue) (f : Fitting (valueOctets k body) to (length before))
-    (p : PutsValue (fits k body) (normalOctets k body) before to answer after) where
+module _ (k : Kind) (body : List ℕ) (to : ℕ) (before after : List ℕ) (answer : Put) (f : Fitting (valueOctets k body) to (length before))
+    (p : Puts (fits k body) (normalOctets k body) to before after answer) where
   octets-are : fits k body ≡ true → valueOctets k body ≡ normalOctets k body
   unfolding normalOctets
   octets-are e = value-fits k body e
 
-  pub value-done : (stop : ℕ) → answer ≡ Done stop → Lays (valueOctets k body) to before after stop
+  pub value-done : (stop : ℕ) → answer ≡ Put.Done stop → Lays (valueOctets k body) to before after stop
   value-done stop q =
-      let w = put-written (fits k body) (normalOctets k body) before to answer after p stop q in
-      rw (octets-are (w .valid)) (record { leaves = w .holds; ends = w .ends })
+      let d = put-done (fits k body) (normalOctets k body) to before after answer p stop q in
+      rw (octets-are (d .is)) (record { leaves = d .laid; ends = d .place })
 
-  kept : ((stop : ℕ) → answer ≡ Done stop → ⊥) → Lays (valueOctets k body) to before after to
-  unfolding valueAnswer valueOctets
-  kept n = go (fits k body) refl
-    where
-      go : (b : Bool) → fits k body ≡ b → Lays (valueOctets k body) to before after to
-      go false e = rw e (record { leaves = put-kept (fits k body) (normalOctets k body) before to answer after p n; ends = omega arith })
-      go true e =
-          let r = f .inRoom in
-          let l : length (normalOctets k body) ≡ length (valueOctets k body) = ap length (sym (octets-are e)) in
-          absurd (n (to + length (normalOctets k body)) (rw (e, le-leb (to + length (normalOctets k body)) (length before) (omega arith)) at (p .answered)))
+  pub value-no-room : answer ≡ Put.NoRoom → Lays (valueOctets k body) to before after to
+  value-no-room q =
+      let d = put-no-room (fits k body) (normalOctets k body) to before after answer p q in
+      absurd (omega (arith, f .inRoom, d .1, ap length (octets-are (d .0))))
 
-  pub value-no-room : answer ≡ NoRoom → Lays (valueOctets k body) to before after to
-  value-no-room q = kept (λ stop d. let z : _≡_ {A = ℕ} 0 1 = cc in omega arith)
-
-  pub value-invalid : answer ≡ Invalid → Lays (valueOctets k body) to before after to
-  value-invalid q = kept (λ stop d. let z : _≡_ {A = ℕ} 0 1 = cc in omega arith)
+  -- what is no value has no octets
+  pub value-invalid : answer ≡ Put.Invalid → Lays (valueOctets k body) to before after to
+  unfolding valueOctets
+  value-invalid q =
+      let d = put-invalid (fits k body) (normalOctets k body) to before after answer p q in
+      rw (d .0) (record { leaves = d .1; ends = omega arith })
 
 -- an item that is written as a value of a kind
 module _ (tag : ℕ) (k : Kind) (body : List ℕ) (n : ℕ) (e : n ≡ length (valueOctets k body)) where

@@ -4,25 +4,19 @@ use mathlib.Core.Bool.{Bool, true, false}
 use mathlib.Core.Option.{some, Option·some-injective}
 use mathlib.Core.List.{List}
 use Prim.Native.Nat.{ℕ, _+_, _≤_}
-use native.Mathlib.Omega.{arith}
 use lib.ListN.{length}
-use lib.Seq.{sets}
-use borrow.Author.Tests.{le-leb}
+use Rattle.octets.specs.Puts.{Puts}
+use Rattle.octets.specs.declared.Put.{Put}
+use Rattle.octets.proofs.Puts.{put-done, put-room, put-there}
 use Rattle.text.specs.Tokens.{Entries, entries, expanded}
-use Rattle.text.specs.declared.Expanded.{Expanded}
-use Rattle.text.specs.declared.Expanded.the-variants as ofText
-use Rattle.text.specs.Calls.{ExpandClaim}
 use Rattle.text.specs.Index.{Indexes, entriesBy}
 use Rattle.values.specs.declared.Kind.{Kind}
 use Rattle.values.specs.declared.Kind.the-variants.{HoldsItems, HoldsTokens, HoldsText, HoldsPlain, HoldsTime, HoldsBearer, HoldsNumber}
-use Rattle.values.specs.declared.Put.{Put}
-use Rattle.values.specs.declared.Put.the-variants.{Done, NoRoom, Invalid}
 use Rattle.values.specs.Values.{fits, meant, octetsOf}
-use Rattle.values.specs.Calls.{normalOctets, putAnswer, putOut, Puts}
+use Rattle.values.specs.Calls.{normalOctets}
 use Rattle.format.specs.Judge.{isText}
 use Rattle.format.specs.Loaded.{stored}
 use Rattle.writer.specs.Store.{ValueStorable, BodyStorable, BodyStored}
-use Rattle.text.proofs.Laws.{done-end, done-out, none-room}
 use Rattle.text.proofs.Index.{indexed-claim}
 use Rattle.values.proofs.Laws.{normal-proper}
 use Rattle.values.proofs.Laws as laws
@@ -30,36 +24,31 @@ use Rattle.format.proofs.Means.{text-known}
 
 -- ---- a text
 
-module _ (index table body store store′ : List ℕ) (at : ℕ) (answer : Expanded) (by-index : ExpandClaim (entriesBy index table) body store store′ at answer)
+module _ (index table body store store′ : List ℕ) (at : ℕ) (answer : Put) (by-index : Puts true (expanded (entriesBy index table) body) at store store′ answer)
     (made : Indexes (entries table) index) where
-  claim : ExpandClaim (entries table) body store store′ at answer
+  claim : Puts true (expanded (entries table) body) at store store′ answer
   claim = indexed-claim table index made body store store′ at answer by-index
 
-  pub text-done : (end : ℕ) → answer ≡ ofText.Done end → BodyStored (expanded (entries table) body) store store′ at end
-  text-done end q = record { ends = done-end (entries table) body store store′ at answer claim end q; holds = done-out (entries table) body store store′ at answer claim end q }
+  pub text-done : (end : ℕ) → answer ≡ Put.Done end → BodyStored (expanded (entries table) body) store store′ at end
+  text-done end q = let d = put-done true (expanded (entries table) body) at store store′ answer claim end q in record { ends = d .place; holds = d .laid }
 
-  pub text-no-room : answer ≡ ofText.NoRoom → at + length (expanded (entries table) body) ≤ length store → BodyStored (expanded (entries table) body) store store′ at at
-  text-no-room q h = absurd (omega (arith, none-room (entries table) body store store′ at answer claim q))
+  pub text-no-room : answer ≡ Put.NoRoom → at + length (expanded (entries table) body) ≤ length store → BodyStored (expanded (entries table) body) store store′ at at
+  text-no-room q h = put-room true (expanded (entries table) body) at store store′ answer claim h q
+
+  pub text-invalid : answer ≡ Put.Invalid → BodyStored (expanded (entries table) body) store store′ at at
+  text-invalid q = put-there true (expanded (entries table) body) at store store′ answer claim refl q
 
 -- ---- a value
 
-module _ (kind : Kind) (body store store′ : List ℕ) (at : ℕ) (answer : Put) (p : Puts (fits kind body) (normalOctets kind body) store at answer store′) (s : ValueStorable kind body store at) where
-  value-put : answer ≡ Done (at + length (normalOctets kind body))
-  unfolding putAnswer
-  value-put = p .answered ∙ rw (s .fit, le-leb (at + length (normalOctets kind body)) (length store) (s .room))
+module _ (kind : Kind) (body store store′ : List ℕ) (at : ℕ) (answer : Put) (p : Puts (fits kind body) (normalOctets kind body) at store store′ answer) (s : ValueStorable kind body store at) where
+  pub value-done : (end : ℕ) → answer ≡ Put.Done end → BodyStored (normalOctets kind body) store store′ at end
+  value-done end q = let d = put-done (fits kind body) (normalOctets kind body) at store store′ answer p end q in record { ends = d .place; holds = d .laid }
 
-  value-laid : store′ ≡ sets store at (normalOctets kind body)
-  unfolding putOut
-  value-laid = p .holds ∙ rw (s .fit, le-leb (at + length (normalOctets kind body)) (length store) (s .room))
+  pub value-no-room : answer ≡ Put.NoRoom → BodyStored (normalOctets kind body) store store′ at at
+  value-no-room q = put-room (fits kind body) (normalOctets kind body) at store store′ answer p (s .room) q
 
-  pub value-done : (end : ℕ) → answer ≡ Done end → BodyStored (normalOctets kind body) store store′ at end
-  value-done end q = let known : Done end ≡ Done (at + length (normalOctets kind body)) = sym q ∙ value-put in record { ends = cc; holds = value-laid }
-
-  pub value-no-room : answer ≡ NoRoom → BodyStored (normalOctets kind body) store store′ at at
-  value-no-room q = let never : NoRoom ≡ Done (at + length (normalOctets kind body)) = sym q ∙ value-put in let z : _≡_ {A = ℕ} 0 1 = cc in absurd (omega arith)
-
-  pub value-invalid : answer ≡ Invalid → BodyStored (normalOctets kind body) store store′ at at
-  value-invalid q = let never : Invalid ≡ Done (at + length (normalOctets kind body)) = sym q ∙ value-put in let z : _≡_ {A = ℕ} 0 1 = cc in absurd (omega arith)
+  pub value-invalid : answer ≡ Put.Invalid → BodyStored (normalOctets kind body) store store′ at at
+  value-invalid q = put-there (fits kind body) (normalOctets kind body) at store store′ answer p (s .fit) q
 
 -- ---- a body
 
@@ -94,4 +83,4 @@ module _ (table : List ℕ) (kind : Kind) (body store : List ℕ) (at : ℕ) (s 
   pub body-value-stored : b ≡ false → (store′ : List ℕ) (end : ℕ) → BodyStored (normalOctets kind body) store store′ at end → BodyStored (stored (entries table) (some kind) body) store store′ at end
   body-value-stored q store′ end r = rw (stored-value (entries table) kind body (sym e ∙ q)) r
 
-pub ruleset storing-ways = (text-done, text-no-room, value-done, value-no-room, value-invalid, body-text, body-value, body-text-stored, body-value-stored)
+pub ruleset storing-ways = (text-done, text-no-room, text-invalid, value-done, value-no-room, value-invalid, body-text, body-value, body-text-stored, body-value-stored)

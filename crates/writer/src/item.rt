@@ -11,6 +11,7 @@ ghost use Rattle.format.specs.Meaning.{opens};
 ghost use Rattle.survey.specs.Normal.{framedSize, valueOctets};
 ghost use Rattle.writer.specs.Steps.{Lays, Fitting};
 use octets::Octets;
+use octets::Put;
 use values::Kind;
 use values::KnownKind;
 use values::NormalSize;
@@ -79,9 +80,9 @@ pub fn put_header(room: &mut [u8], to: usize, tag: u8, n: Octets) -> usize
     ensures { λ r. ⌜ Lays (tag ∷ lengthField (n .0)) to (now (room .entry)) (now (room .exit)) r ⌝ }
 {
     match octets::write_header(room, to, tag, n) {
-        octets::Put::Done(end) => end,
-        octets::Put::NoRoom => to,
-        octets::Put::TooLong => to,
+        Put::Done(end) => end,
+        Put::NoRoom => to,
+        Put::Invalid => to,
     }
 }
 
@@ -90,9 +91,9 @@ fn put_value(room: &mut [u8], to: usize, kind: Kind, body: &[u8]) -> usize
     ensures { λ r. ⌜ Lays (valueOctets kind (now (body .entry))) to (now (room .entry)) (now (room .exit)) r ⌝ }
 {
     match put_normal(kind, body, room, to) {
-        values::Put::Done(end) => end,
-        values::Put::NoRoom => to,
-        values::Put::Invalid => to,
+        Put::Done(end) => end,
+        Put::NoRoom => to,
+        Put::Invalid => to,
     }
 }
 

@@ -9,10 +9,9 @@ ghost use Rattle.values.specs.Calls.{normalOctets};
 ghost use Rattle.format.specs.Judge.{isText};
 ghost use Rattle.format.specs.Loaded.{stored};
 ghost use Rattle.writer.specs.Store.{ValueStorable, BodyStorable, BodyStored};
-use text::Expanded;
+use octets::Put;
 use text::expand;
 use values::Kind;
-use values::Put;
 use values::put_normal;
 
 fn is_text(kind: Kind) -> bool
@@ -36,8 +35,9 @@ fn store_text(index: &[usize; 32], table: &[u8], body: &[u8], store: &mut [u8], 
     ensures { λ r. ⌜ BodyStored (expanded (entries (now (table .entry))) (now (body .entry))) (now (store .entry)) (now (store .exit)) at r ⌝ }
 {
     match expand(index, table, body, store, at) {
-        Expanded::Done(end) => end,
-        Expanded::NoRoom => at,
+        Put::Done(end) => end,
+        Put::NoRoom => at,
+        Put::Invalid => at,
     }
 }
 

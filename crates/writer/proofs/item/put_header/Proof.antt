@@ -1,4 +1,4 @@
-use Rattle.writer.proofs.Items.{header-done, header-no-room, header-too-long}
+use Rattle.writer.proofs.Items.{header-done, header-no-room, header-invalid}
 use borrow.Author.Needs.{needs}
 use Rattle.writer.proofs.item.put_header.Statement.{statement}
 use Rattle.writer.proofs.item.put_header.Tie as tie
@@ -34,7 +34,7 @@ same-length-3 c = search needs
 
 returns-3 : tie.Need-returns-3
 returns-3 c =
-    header-too-long _ _ _ _ _ _ ((c .before .before .before .before .before .before .before .pre)) ((c .before .before .before .before .write-header) .ensures) ((c .enum-told2) .given .1)
+    header-invalid _ _ _ _ _ _ ((c .before .before .before .before .before .before .before .pre)) ((c .before .before .before .before .write-header) .ensures) ((c .enum-told2) .given .1)
 
 pub put-header-spec : {M : Type 1} → statement M
 put-header-spec =
