@@ -16,19 +16,21 @@ use Rattle.octets.specs.Counts.{asOctets}
 use Rattle.octets.specs.Header.{headerSize, bodySize, lengthField}
 use Rattle.octets.proofs.Frames.{header-two}
 use Rattle.octets.proofs.Tests.{and-left, and-false}
+use Rattle.octets.specs.Puts.{putAnswer, Puts}
+use Rattle.octets.specs.declared.Put.{Put}
+use Rattle.octets.specs.declared.Put.the-variants.{Done, NoRoom, Invalid}
+use Rattle.octets.proofs.Puts.{PutDone, put-done}
 use Rattle.values.specs.declared.Kind.{Kind}
 use Rattle.values.specs.declared.Kind.the-variants.{HoldsItems, HoldsTokens, HoldsText, HoldsPlain, HoldsTime, HoldsBearer, HoldsNumber}
 use Rattle.values.specs.declared.NumberKind.{NumberKind}
 use Rattle.values.specs.declared.KnownKind.{KnownKind}
 use Rattle.values.specs.declared.KnownKind.the-variants.{Unknown, Known}
-use Rattle.values.specs.declared.Put.{Put}
-use Rattle.values.specs.declared.Put.the-variants.{Done, NoRoom, Invalid}
-use Rattle.values.specs.Calls.{asKnown, normalOctets, putAnswer, Puts}
+use Rattle.values.specs.Calls.{asKnown, normalOctets}
 use Rattle.values.specs.Table.{attribute}
 use Rattle.values.specs.Times.{bits, longFlag, offsetFlag, timeOf, inRange, isTime}
 use Rattle.values.specs.Bearers.{ensembleFlag, longSidFlag, isBearer}
 use Rattle.values.specs.Values.{width, fits}
-use Rattle.values.proofs.Laws.{asItStands, stands-fits, stands-normal, number-normal, Written, put-written}
+use Rattle.values.proofs.Laws.{asItStands, stands-fits, stands-normal, number-normal}
 use Rattle.format.specs.Judge.{isItems}
 use Rattle.format.specs.Same.{sameOctets}
 use Rattle.survey.specs.declared.Lies.{Lies}
@@ -104,13 +106,13 @@ shaped-at p last (tag ∷ rest) h =
 pub front-is : (room body : List ℕ) (end : ℕ) (r : Bool) → r ≡ sameOctets (take (end - 0) (drop 0 room)) body → r ≡ sameOctets (take end room) body
 front-is room body end r e = let n : end - 0 ≡ end = omega arith in e ∙ ap (λ k. sameOctets (take k room) body) n
 
-module _ (k : Kind) (o before after : List ℕ) (a : Put) (p : Puts (fits k o) (normalOctets k o) before 0 a after) (l : length before ≡ 8) where
+module _ (k : Kind) (o before after : List ℕ) (a : Put) (p : Puts (fits k o) (normalOctets k o) 0 before after a) (l : length before ≡ 8) where
   abbrev whole : Bool
   whole = fits k o && leb (length (normalOctets k o)) 8 && sameOctets (normalOctets k o) o
 
   put-is : a ≡ cond (fits k o) (cond (leb (length (normalOctets k o)) 8) (Done (length (normalOctets k o))) NoRoom) Invalid
   unfolding putAnswer
-  put-is = p .answered ∙ rw (zero-add (length (normalOctets k o)), l)
+  put-is = p .answers ∙ rw (zero-add (length (normalOctets k o)), l)
 
   pub rewritten-bad : a ≡ Invalid → false ≡ whole
   rewritten-bad q = go (fits k o) (leb (length (normalOctets k o)) 8) (sym q ∙ put-is)
@@ -129,15 +131,15 @@ module _ (k : Kind) (o before after : List ℕ) (a : Put) (p : Puts (fits k o) (
       go false y h = refl
 
   module _ (end : ℕ) (q : a ≡ Done end) where
-    done : Written (fits k o) (normalOctets k o) before 0 end after
-    done = put-written (fits k o) (normalOctets k o) before 0 a after p end q
+    done : PutDone (fits k o) (normalOctets k o) 0 before after end
+    done = put-done (fits k o) (normalOctets k o) 0 before after a p end q
 
     ends : end ≡ length (normalOctets k o)
-    ends = done .ends ∙ zero-add (length (normalOctets k o))
+    ends = done .place ∙ zero-add (length (normalOctets k o))
 
     holds : after ≡ normalOctets k o ++ drop (length (normalOctets k o)) before
     holds =
-        done .holds ∙ sets-eq (normalOctets k o) before 0 (omega (arith, done .ends, done .room))
+        done .laid ∙ sets-eq (normalOctets k o) before 0 (omega (arith, done .inside))
         ∙ ap (λ n. normalOctets k o ++ drop n before) (zero-add (length (normalOctets k o)))
 
     pub rewritten-room : end ≤ length after
@@ -146,8 +148,8 @@ module _ (k : Kind) (o before after : List ℕ) (a : Put) (p : Puts (fits k o) (
     pub rewritten-done : (r : Bool) → r ≡ sameOctets (take end after) o → r ≡ whole
     rewritten-done r e =
         let w : take end after ≡ normalOctets k o = ap (take end) holds ∙ take-at (normalOctets k o) (drop (length (normalOctets k o)) before) end (sym ends) in
-        let s : leb (length (normalOctets k o)) 8 ≡ true = le-leb (length (normalOctets k o)) 8 (omega (arith, ends, done .room)) in
-        rw (done .valid, s) (e ∙ ap (λ x. sameOctets x o) w)
+        let s : leb (length (normalOctets k o)) 8 ≡ true = le-leb (length (normalOctets k o)) 8 (omega (arith, done .inside)) in
+        rw (done .is, s) (e ∙ ap (λ x. sameOctets x o) w)
 
 pub ruleset rewritten-ways = (rewritten-bad, rewritten-none, rewritten-room, rewritten-done)
 

@@ -1,16 +1,19 @@
 -- The ways through the functions that put one item's name or value, that no item which isn't known has a name, and that name and value are those of the XML.
-use mathlib.Core.Path.{_≡_, refl, sym, ap, _∙_}
+use mathlib.Core.Path.{_≡_, refl, sym, ap, _∙_, subst}
 use mathlib.Core.Bool.{Bool, true, false, cond, _&&_, _||_, false≢true}
 use mathlib.Core.Option.{none, some}
 use mathlib.Core.List.{List, [], _∷_, _++_}
 use Prim.Native.Nat.{ℕ, suc, _+_, _≤_, _<_, min}
 use Prim.Native.String.{String}
 use native.Mathlib.Omega.{arith}
-use lib.Dec.{eqb, leb}
+use lib.Dec.{eqb}
 use lib.ListN.{length}
 use lib.Seq.{sets}
-use borrow.Author.Tests.{eqb-true, le-leb, lt-leb}
+use borrow.Author.Tests.{eqb-true}
 use Rattle.octets.specs.Numbers.{Octets}
+use Rattle.octets.specs.Puts.{Puts as Fills}
+use Rattle.octets.specs.declared.Put.{Put}
+use Rattle.octets.proofs.Puts.{puts-none, puts-done}
 use Rattle.octets.proofs.Tests.{and-left, and-right}
 use Rattle.text.specs.Tokens.{Entries, expanded, present}
 use Rattle.text.proofs.Laws.{expanded-append}
@@ -24,8 +27,6 @@ use Rattle.values.specs.Table.{rows, kindIn, known, attribute}
 use Rattle.values.specs.Values.{fits, meant}
 use Rattle.values.proofs.Known.{row-holds}
 use Rattle.values.proofs.Laws.{known-kind, unknown-kind}
-use Rattle.show.specs.declared.Put.{Put}
-use Rattle.show.specs.Calls.{putAnswer, putLeaves, Puts as Fills}
 use Rattle.show.specs.Digits.{hexLower}
 use Rattle.show.specs.Lines.{ascii}
 use Rattle.xml.specs.Names.{names, nameIn, name}
@@ -82,28 +83,23 @@ pub ruleset name-ways = (name-element, name-unknown, name-known)
 -- ---- counted, and then written
 
 module _ (text : List ℕ) (at : ℕ) (before p : List ℕ) (end : ℕ) (c : Puts false text at before p end) where
-  pub fills-none : length p < end → Fills text at before p Put.NoRoom
-  unfolding putAnswer putLeaves
-  fills-none l =
-      let big : leb (at + length text) (length before) ≡ false = lt-leb (at + length text) (length before) (omega (arith, c .ends, c .long)) in
-      record { answers = rw big; leaves = rw big (c .quiet refl) }
+  pub fills-none : length p < end → Fills true text at before p Put.NoRoom
+  fills-none l = subst (λ o. Fills true text at before o Put.NoRoom) (sym (c .quiet refl)) (puts-none true text at before refl (omega (arith, c .ends, c .long)))
 
-  pub fills-done : end ≤ length p → (q : List ℕ) (to : ℕ) → Puts true text at p q to → Fills text at before q (Put.Done to)
-  unfolding putAnswer putLeaves
+  pub fills-done : end ≤ length p → (q : List ℕ) (to : ℕ) → Puts true text at p q to → Fills true text at before q (Put.Done to)
   fills-done l q to w =
       let small : at + length text ≤ length before = omega (arith, c .ends, c .long) in
-      let fits : leb (at + length text) (length before) ≡ true = le-leb (at + length text) (length before) small in
       let ends : to ≡ at + length text = omega (arith, w .ends, c .long) in
-      record { answers = rw fits (ap Put.Done ends); leaves = rw fits (w .holds (omega (arith, c .long)) ∙ ap (λ o. sets o at text) (c .quiet refl)) }
+      puts-done true text at before refl q to small (w .holds (omega (arith, c .long)) ∙ ap (λ o. sets o at text) (c .quiet refl)) ends
 
 pub ruleset fill-ways = (fills-none, fills-done)
 
 module _ (parent tag at : ℕ) (table : Entries) (body before p : List ℕ) (end : ℕ) (c : ShownPut false parent tag table body at before p end) (os : Octets body) where
-  pub value-none : length p < end → Fills (itemValue parent tag table body) at before p Put.NoRoom
+  pub value-none : length p < end → Fills true (itemValue parent tag table body) at before p Put.NoRoom
   unfolding ShownPut
   value-none = fills-none (itemValue parent tag table body) at before p end (c os)
 
-  pub value-done : end ≤ length p → (q : List ℕ) (to : ℕ) → ShownPut true parent tag table body at p q to → Fills (itemValue parent tag table body) at before q (Put.Done to)
+  pub value-done : end ≤ length p → (q : List ℕ) (to : ℕ) → ShownPut true parent tag table body at p q to → Fills true (itemValue parent tag table body) at before q (Put.Done to)
   unfolding ShownPut
   value-done l q to w = fills-done (itemValue parent tag table body) at before p end (c os) l q to (w os)
 

@@ -1,6 +1,7 @@
 // One item by itself: the name and the value that the XML has for it. Whatever has no value there is put in hexadecimal, so no item is refused.
+ghost use mathlib.Core.Bool.{true};
+ghost use Rattle.octets.specs.Puts.{Puts as Fills};
 ghost use Rattle.text.specs.Tokens.{entries};
-ghost use Rattle.show.specs.Calls.{Puts as Fills};
 ghost use Rattle.xml.specs.Names.{name};
 ghost use Rattle.xml.specs.Steps.{Puts};
 ghost use Rattle.xml.specs.Single.{itemValue};
@@ -11,7 +12,7 @@ use crate::rows::put_attribute_name;
 use crate::rows::put_element_name;
 use crate::rows::put_text;
 use crate::value::put_value;
-use show::Put;
+use octets::Put;
 use values::Kind;
 use values::KnownKind;
 use values::fits_kind;
@@ -34,7 +35,7 @@ fn put_name(out: &mut [u8], at: usize, parent: u8, tag: u8, emit: bool) -> usize
 
 // Where the XML has no name for the item, as for CDATA, nothing is put.
 pub fn put_item_name(out: &mut [u8], at: usize, parent: u8, tag: u8) -> Put
-    ensures { λ r. ⌜ Fills (name parent tag) at (now (out .entry)) (now (out .exit)) r ⌝ }
+    ensures { λ r. ⌜ Fills true (name parent tag) at (now (out .entry)) (now (out .exit)) r ⌝ }
 {
     let end = put_name(out, at, parent, tag, false);
     if end > out.len() {
@@ -113,7 +114,7 @@ pub fn put_item_value(
     body: &[u8],
     table: &[u8],
 ) -> Put
-    ensures { λ r. ⌜ Fills (itemValue parent tag (entries (now (table .entry))) (now (body .entry))) at (now (out .entry)) (now (out .exit)) r ⌝ }
+    ensures { λ r. ⌜ Fills true (itemValue parent tag (entries (now (table .entry))) (now (body .entry))) at (now (out .entry)) (now (out .exit)) r ⌝ }
 {
     let end = put_shown(out, at, parent, tag, body, table, false);
     if end > out.len() {
