@@ -27,7 +27,7 @@ use format::ReadAnswer;
 use format::Record;
 use libc::STDIN_FILENO;
 use libc::STDOUT_FILENO;
-use show::Put;
+use octets::Put;
 
 const PLENTY: usize = 64;
 const INPUT: usize = 131_072;
@@ -37,6 +37,7 @@ fn end_of(put: Put, at: usize) -> usize {
     match put {
         Put::Done(end) => end,
         Put::NoRoom => at,
+        Put::Invalid => at,
     }
 }
 

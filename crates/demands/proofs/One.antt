@@ -1,6 +1,6 @@
 -- Demand 1: from each call's claim alone.
 use mathlib.Core.Path.{_≡_, refl, sym, ap, _∙_, subst}
-use mathlib.Core.Bool.{Bool, true, false, cond, _&&_, false≢true}
+use mathlib.Core.Bool.{Bool, true, false, cond, false≢true}
 use mathlib.Core.Logic.{_⊎_, inl, inr}
 use mathlib.Core.Option.{Option, none, some, Option·some-injective, Option·none-ne-some}
 use mathlib.Core.List.{List, [], _∷_, _++_}
@@ -15,16 +15,8 @@ use Rattle.octets.specs.Counts.{asOctets, sizeOf}
 use Rattle.octets.specs.Numbers.{among}
 use Rattle.octets.proofs.Lists.{sets-none}
 use Rattle.octets.proofs.Tests.{and-false}
-use Rattle.octets.specs.declared.Put.{Put as OctetsPut}
-use Rattle.octets.specs.Calls.{putAnswer as octetsAnswer, putOut as octetsOut}
-use Rattle.text.specs.Tokens.{expanded}
-use Rattle.text.specs.declared.Expanded.{Expanded}
-use Rattle.text.specs.declared.Expanded.the-variants.{Done as ExpandDone, NoRoom as ExpandNoRoom}
-use Rattle.text.specs.Calls.{expandFits, expandAnswer, expandOut}
-use Rattle.values.specs.declared.Put.{Put as ValuesPut}
-use Rattle.values.specs.Calls.{putAnswer as valuesAnswer, putOut as valuesOut}
-use Rattle.show.specs.declared.Put.{Put as ShowPut}
-use Rattle.show.specs.Calls.{putAnswer as showAnswer, putLeaves as showLeaves}
+use Rattle.octets.specs.declared.Put.{Put}
+use Rattle.octets.specs.Puts.{putAnswer, putOut}
 use Rattle.format.specs.declared.Refusal.{Refusal}
 use Rattle.format.specs.declared.Counts.{Counts}
 use Rattle.format.specs.declared.ReadAnswer.{ReadAnswer}
@@ -41,7 +33,7 @@ use Rattle.format.specs.Meaning.{means, meaningOf, encode, normalOf}
 use Rattle.format.specs.Calls.{Lists, places, lay, judgeAnswer, readAnswer, readRecords, roomy, treeGiven, writeAnswer, writeOctets, Lent, lentBy, fitsLent, misfit, normalAnswer, handed}
 use Rattle.format.specs.Same.{sameMeaning, sameAnswer}
 use Rattle.format.proofs.Lays.{lay-none}
-use Rattle.demands.specs.One.{OfObject, OfCall, Refuses, Ends, SameEnds, JudgeEnds, ReadEnds, ReadAtMostEnds, ReadRecordsEnds, WriteEnds, NormaliseEnds, SameCallEnds, OneExactly, ReadOrder, ReadInOrder, ReadAtMostInOrder, ReadRecordsInOrder, GivenTree, WriteOrder, WriteInOrder, Suffices, Lacks, NormaliseOrder, NormaliseInOrder, SameOrder, SameInOrder, PutEnds, OctetsPutEnds, ExpandEnds, ValuePutEnds, ShowPutEnds}
+use Rattle.demands.specs.One.{OfObject, OfCall, Refuses, Ends, SameEnds, JudgeEnds, ReadEnds, ReadAtMostEnds, ReadRecordsEnds, WriteEnds, NormaliseEnds, SameCallEnds, OneExactly, ReadOrder, ReadInOrder, ReadAtMostInOrder, ReadRecordsInOrder, GivenTree, WriteOrder, WriteInOrder, Suffices, Lacks, NormaliseOrder, NormaliseInOrder, SameOrder, SameInOrder, PutEnds, PutCallEnds}
 use Rattle.demands.specs.One.OfCall.{ofCall}
 use Rattle.demands.specs.One.Refuses.{forObject, forCall}
 use Rattle.demands.specs.One.Ends.{answered, refusedAt}
@@ -372,40 +364,16 @@ pub same-in-order : SameInOrder
 same-in-order a b answer e = same-order (judge a) (judge b) answer e
 
 -- ---- the leaves: one law
-put-ends : (A : Type 0) (done : ℕ → A) (noRoom invalid : A) (valid : Bool) (octets : List ℕ) (at : ℕ) (before after : List ℕ) (answer : A)
-    → answer ≡ cond valid (cond (leb (at + length octets) (length before)) (done (at + length octets)) noRoom) invalid
-    → after ≡ cond valid (cond (leb (at + length octets) (length before)) (sets before at octets) before) before
-    → PutEnds A done noRoom invalid valid octets at before after answer
-put-ends A done noRoom invalid valid octets at before after answer e f = subst (PutEnds A done noRoom invalid valid octets at before after) (sym e) (go valid refl f)
+pub put-call-ends : PutCallEnds
+unfolding putAnswer putOut
+put-call-ends valid octets at before after answer c = subst (PutEnds valid octets at before after) (sym (c .answers)) (go valid refl (c .leaves))
   where
     one : (b : Bool) → valid ≡ true → leb (at + length octets) (length before) ≡ b → after ≡ cond b (sets before at octets) before
-        → PutEnds A done noRoom invalid valid octets at before after (cond b (done (at + length octets)) noRoom)
+        → PutEnds valid octets at before after (cond b (Put.Done (at + length octets)) Put.NoRoom)
     one true v q f = put v (leb-true (at + length octets) (length before) q) f
     one false v q f = lacksRoom v (leb-false (at + length octets) (length before) q) f
 
     go : (v : Bool) → valid ≡ v → after ≡ cond v (cond (leb (at + length octets) (length before)) (sets before at octets) before) before
-        → PutEnds A done noRoom invalid valid octets at before after (cond v (cond (leb (at + length octets) (length before)) (done (at + length octets)) noRoom) invalid)
+        → PutEnds valid octets at before after (cond v (cond (leb (at + length octets) (length before)) (Put.Done (at + length octets)) Put.NoRoom) Put.Invalid)
     go true v f = one (leb (at + length octets) (length before)) v refl f
     go false v f = notValid v f
-
-pub octets-put-ends : OctetsPutEnds
-unfolding octetsAnswer octetsOut
-octets-put-ends exists octets at before after answer c =
-    put-ends OctetsPut OctetsPut.Done OctetsPut.NoRoom OctetsPut.TooLong exists octets at before after answer (c .answers) (c .leaves ∙ go exists)
-  where
-    go : (b : Bool) → cond (b && leb (at + length octets) (length before)) (sets before at octets) before ≡ cond b (cond (leb (at + length octets) (length before)) (sets before at octets) before) before
-    go true = refl
-    go false = refl
-
-pub expand-ends : ExpandEnds
-unfolding expandFits expandAnswer expandOut
-expand-ends entries text before after at answer c = put-ends Expanded ExpandDone ExpandNoRoom ExpandNoRoom true (expanded entries text) at before after answer (c .answers) (c .leaves)
-
-pub value-put-ends : ValuePutEnds
-unfolding valuesAnswer valuesOut
-value-put-ends valid octets before at answer after c =
-    put-ends ValuesPut ValuesPut.Done ValuesPut.NoRoom ValuesPut.Invalid valid octets at before after answer (c .answered) (c .holds)
-
-pub show-put-ends : ShowPutEnds
-unfolding showAnswer showLeaves
-show-put-ends text at before after answer c = put-ends ShowPut ShowPut.Done ShowPut.NoRoom ShowPut.NoRoom true text at before after answer (c .answers) (c .leaves)

@@ -1,6 +1,6 @@
 -- Only one answer: each claim gives an equation for the answer and one for each lent thing, and two things that equal a third are equal.
 use mathlib.Core.Path.{sym, _∙_}
-use Rattle.demands.specs.Only.{OneAnswer, OneRead, OneReadAtMost, OneReadRecords, OneWrite, OneNormalise, OneExport, OneOctetsPut, OneMarks, OneWidths, OneShows, OneIndex, OneExpand, OneValuePut, OneShowPut, OneReadC, OneSpanC, OneWriteC, OneNormaliseC, OneSameC, OneExportC}
+use Rattle.demands.specs.Only.{OneAnswer, OneRead, OneReadAtMost, OneReadRecords, OneWrite, OneNormalise, OneExport, OnePut, OneMarks, OneWidths, OneShows, OneIndex, OneReadC, OneSpanC, OneWriteC, OneNormaliseC, OneSameC, OneExportC}
 use Rattle.text.proofs.Index.{one-index as index-alone}
 use Rattle.text.proofs.WeighLaws.{marks-one, widths-one, shows-one}
 
@@ -34,8 +34,8 @@ one-normalise object lists oneLists otherLists store oneStore otherStore room on
 pub one-export : OneExport
 one-export object before one other answer answer′ c d = (one-answer _ _ answer answer′ (c .answers) (d .answers), one-answer _ _ one other (c .leaves) (d .leaves))
 
-pub one-octets-put : OneOctetsPut
-one-octets-put exists octets at before one other answer answer′ c d = (one-answer _ _ answer answer′ (c .answers) (d .answers), one-answer _ _ one other (c .leaves) (d .leaves))
+pub one-put : OnePut
+one-put valid octets at before one other answer answer′ c d = (one-answer _ _ answer answer′ (c .answers) (d .answers), one-answer _ _ one other (c .leaves) (d .leaves))
 
 pub one-marks : OneMarks
 one-marks octets one other c d = marks-one one other octets c d
@@ -48,17 +48,6 @@ one-shows = shows-one
 
 pub one-index : OneIndex
 one-index = index-alone
-
-pub one-expand : OneExpand
-one-expand entries text before one other at answer answer′ c d = (one-answer _ _ answer answer′ (c .answers) (d .answers), one-answer _ _ one other (c .leaves) (d .leaves))
-
-pub one-value-put : OneValuePut
-one-value-put valid octets before at answer answer′ one other c d = (one-answer _ _ answer answer′ (c .answered) (d .answered), one-answer _ _ one other (c .holds) (d .holds))
-
-pub one-show-put : OneShowPut
-one-show-put text at before one other answer answer′ c d = (one-answer _ _ answer answer′ (c .answers) (d .answers), one-answer _ _ one other (c .leaves) (d .leaves))
-
--- ---- the calls for C
 
 pub one-read-c : OneReadC
 one-read-c object before one other answer answer′ c d = (one-answer _ _ answer answer′ (c .answers) (d .answers), one-answer _ _ one other (c .leaves .leaves) (d .leaves .leaves))

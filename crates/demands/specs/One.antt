@@ -12,16 +12,8 @@ use lib.Seq.{sets}
 use Rattle.octets.specs.declared.counts.Octets.{Octets as OctetCount}
 use Rattle.octets.specs.Counts.{sizeOf}
 use Rattle.octets.specs.Numbers.{among}
-use Rattle.octets.specs.declared.Put.{Put as OctetsPut}
-use Rattle.octets.specs.Calls.{Puts as OctetsPuts}
-use Rattle.text.specs.Tokens.{Entries, expanded}
-use Rattle.text.specs.declared.Expanded.{Expanded}
-use Rattle.text.specs.declared.Expanded.the-variants.{Done as ExpandDone, NoRoom as ExpandNoRoom}
-use Rattle.text.specs.Calls.{ExpandClaim}
-use Rattle.values.specs.declared.Put.{Put as ValuesPut}
-use Rattle.values.specs.Calls.{Puts as ValuesPuts}
-use Rattle.show.specs.declared.Put.{Put as ShowPut}
-use Rattle.show.specs.Calls.{Puts as ShowPuts}
+use Rattle.octets.specs.declared.Put.{Put}
+use Rattle.octets.specs.Puts.{Puts}
 use Rattle.format.specs.declared.Record.{Record}
 use Rattle.format.specs.declared.Refusal.{Refusal}
 use Rattle.format.specs.declared.Outcome.{Outcome}
@@ -199,35 +191,18 @@ pub record SameOrder (judgedA judgedB : Judged) (answer : SameAnswer) : Type 0 w
 abbrev pub SameInOrder : Type 0
 SameInOrder = (a b : List ℕ) (answer : SameAnswer) → answer ≡ sameAnswer (judge a) (judge b) → SameOrder (judge a) (judge b) answer
 
--- ---- the leaves that write into lent octets. They have no number of document 01, but one answer for each way to end
+-- ---- the leaves that put octets into lent octets. They have no number of document 01, but one answer for each way to end
 
 -- octets that are to stand in lent octets from a place on: they stand there, and the answer is the place behind them; or they have no room, or aren't valid, and
 -- the lent octets are as they were. The three exclude each other
-pub data PutEnds (A : Type 0) (done : ℕ → A) (noRoom invalid : A) (valid : Bool) (octets : List ℕ) (at : ℕ) (before after : List ℕ) : A → Type 0 where
-  put : valid ≡ true → at + length octets ≤ length before → after ≡ sets before at octets → PutEnds A done noRoom invalid valid octets at before after (done (at + length octets))
-  lacksRoom : valid ≡ true → length before < at + length octets → after ≡ before → PutEnds A done noRoom invalid valid octets at before after noRoom
-  notValid : valid ≡ false → after ≡ before → PutEnds A done noRoom invalid valid octets at before after invalid
+pub data PutEnds (valid : Bool) (octets : List ℕ) (at : ℕ) (before after : List ℕ) : Put → Type 0 where
+  put : valid ≡ true → at + length octets ≤ length before → after ≡ sets before at octets → PutEnds valid octets at before after (Put.Done (at + length octets))
+  lacksRoom : valid ≡ true → length before < at + length octets → after ≡ before → PutEnds valid octets at before after Put.NoRoom
+  notValid : valid ≡ false → after ≡ before → PutEnds valid octets at before after Put.Invalid
 
--- write_header, put_number, copy_into
-abbrev pub OctetsPutEnds : Type 0
-OctetsPutEnds =
-    (exists : Bool) (octets : List ℕ) (at : ℕ) (before after : List ℕ) (answer : OctetsPut) → OctetsPuts exists octets at before after answer
-    → PutEnds OctetsPut OctetsPut.Done OctetsPut.NoRoom OctetsPut.TooLong exists octets at before after answer
-
--- expand, whose octets are always valid
-abbrev pub ExpandEnds : Type 0
-ExpandEnds =
-    (entries : Entries) (text before after : List ℕ) (at : ℕ) (answer : Expanded) → ExpandClaim entries text before after at answer
-    → PutEnds Expanded ExpandDone ExpandNoRoom ExpandNoRoom true (expanded entries text) at before after answer
-
--- Time::put, Bearer::put, put_normal
-abbrev pub ValuePutEnds : Type 0
-ValuePutEnds =
-    (valid : Bool) (octets before : List ℕ) (at : ℕ) (answer : ValuesPut) (after : List ℕ) → ValuesPuts valid octets before at answer after
-    → PutEnds ValuesPut ValuesPut.Done ValuesPut.NoRoom ValuesPut.Invalid valid octets at before after answer
-
--- every call of show, and put_item_name and put_item_value of xml, whose texts are always valid
-abbrev pub ShowPutEnds : Type 0
-ShowPutEnds =
-    (text : List ℕ) (at : ℕ) (before after : List ℕ) (answer : ShowPut) → ShowPuts text at before after answer
-    → PutEnds ShowPut ShowPut.Done ShowPut.NoRoom ShowPut.NoRoom true text at before after answer
+-- octets: write_header, put_number. values: Time::put, Bearer::put, put_normal. And those whose octets are always valid: copy_into of octets, expand of text, every
+-- call of show, put_item_name and put_item_value of xml
+abbrev pub PutCallEnds : Type 0
+PutCallEnds =
+    (valid : Bool) (octets : List ℕ) (at : ℕ) (before after : List ℕ) (answer : Put) → Puts valid octets at before after answer
+    → PutEnds valid octets at before after answer

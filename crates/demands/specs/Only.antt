@@ -4,22 +4,16 @@ use mathlib.Core.Path.{_≡_}
 use mathlib.Core.Bool.{Bool}
 use mathlib.Core.List.{List}
 use Prim.Native.Nat.{ℕ}
-use Rattle.octets.specs.declared.Put.{Put as OctetsPut}
-use Rattle.octets.specs.Calls.{Puts as OctetsPuts}
+use Rattle.octets.specs.declared.Put.{Put}
+use Rattle.octets.specs.Puts.{Puts}
 use Rattle.text.specs.Tokens.{Entries}
-use Rattle.text.specs.declared.Expanded.{Expanded}
-use Rattle.text.specs.Calls.{ExpandClaim}
 use Rattle.text.specs.Index.{Indexes}
 use Rattle.text.specs.Weighing.{Marks, Widths, Shows}
-use Rattle.values.specs.declared.Put.{Put as ValuesPut}
-use Rattle.values.specs.Calls.{Puts as ValuesPuts}
 use Rattle.format.specs.declared.Record.{Record}
 use Rattle.format.specs.declared.ReadAnswer.{ReadAnswer}
 use Rattle.format.specs.declared.WriteAnswer.{WriteAnswer}
 use Rattle.format.specs.Calls.{Lists, ReadClaim, ReadAtMostClaim, ReadRecordsClaim, WriteClaim, NormaliseClaim}
-use Rattle.show.specs.declared.Put.{Put as ShowPut}
 use Rattle.xml.specs.Export.{ExportClaim}
-use Rattle.show.specs.Calls.{Puts as ShowPuts}
 use Rattle.spi_c.specs.Claims.{ReadsC, SpansC, WritesC, NormalisesC, SameC, ExportsC}
 
 -- every call whose claim is one equation for its answer; none of them is lent anything to write.
@@ -74,11 +68,11 @@ OneExport =
     → ExportClaim object before one answer → ExportClaim object before other answer′
     → (answer ≡ answer′) × (one ≡ other)
 
--- write_header, put_number, copy_into
-abbrev pub OneOctetsPut : Type 0
-OneOctetsPut =
-    (exists : Bool) (octets : List ℕ) (at : ℕ) (before one other : List ℕ) (answer answer′ : OctetsPut)
-    → OctetsPuts exists octets at before one answer → OctetsPuts exists octets at before other answer′
+-- octets: write_header, put_number, copy_into. text: expand. values: Time::put, Bearer::put, put_normal. show: every call. xml: put_item_name, put_item_value
+abbrev pub OnePut : Type 0
+OnePut =
+    (valid : Bool) (octets : List ℕ) (at : ℕ) (before one other : List ℕ) (answer answer′ : Put)
+    → Puts valid octets at before one answer → Puts valid octets at before other answer′
     → (answer ≡ answer′) × (one ≡ other)
 
 -- tokens_of: its claim is an equation for each bit of the mask
@@ -96,27 +90,6 @@ OneShows = (entries : Entries) (one other : List ℕ) → Shows 32 entries one �
 -- index_of
 abbrev pub OneIndex : Type 0
 OneIndex = (entries : Entries) (one other : List ℕ) → Indexes entries one → Indexes entries other → one ≡ other
-
--- expand
-abbrev pub OneExpand : Type 0
-OneExpand =
-    (entries : Entries) (text before one other : List ℕ) (at : ℕ) (answer answer′ : Expanded)
-    → ExpandClaim entries text before one at answer → ExpandClaim entries text before other at answer′
-    → (answer ≡ answer′) × (one ≡ other)
-
--- Time::put, Bearer::put, put_normal
-abbrev pub OneValuePut : Type 0
-OneValuePut =
-    (valid : Bool) (octets before : List ℕ) (at : ℕ) (answer answer′ : ValuesPut) (one other : List ℕ)
-    → ValuesPuts valid octets before at answer one → ValuesPuts valid octets before at answer′ other
-    → (answer ≡ answer′) × (one ≡ other)
-
--- every call of show, and put_item_name and put_item_value of xml
-abbrev pub OneShowPut : Type 0
-OneShowPut =
-    (text : List ℕ) (at : ℕ) (before one other : List ℕ) (answer answer′ : ShowPut)
-    → ShowPuts text at before one answer → ShowPuts text at before other answer′
-    → (answer ≡ answer′) × (one ≡ other)
 
 -- spi_read, spi_span, spi_write, spi_normalise, spi_same, spi_export: the one number that each answers, and what is lent as above
 abbrev pub OneReadC : Type 0

@@ -4,7 +4,7 @@ use crate::status::BAD;
 use format::Record;
 use libc::STDOUT_FILENO;
 use octets::Octets;
-use show::Put;
+use octets::Put;
 ghost use Rattle.io.specs.Counts.{Counts};
 
 // No line of a listing is longer, and no refusal in words.
@@ -30,6 +30,7 @@ pub fn end_of(put: Put, line: &[u8]) -> usize
     match put {
         Put::Done(end) => if end <= line.len() { end } else { 0 },
         Put::NoRoom => 0,
+        Put::Invalid => 0,
     }
 }
 

@@ -9,6 +9,9 @@ enum-known-put c = search needs
 enum-told : tie.Need-enum-told
 enum-told c = search needs
 
+enum-told-2 : tie.Need-enum-told-2
+enum-told-2 c = search needs
+
 returns : tie.Need-returns
 returns c = search (front, needs)
 
@@ -18,5 +21,8 @@ returns-2 c = search needs
 returns-3 : tie.Need-returns-3
 returns-3 c = search needs
 
+returns-4 : tie.Need-returns-4
+returns-4 c = search needs
+
 pub end-of-spec : {M : Type 1} → statement M
-end-of-spec = tie.close (tie.spec enum-known-put enum-told returns returns-2 returns-3)
+end-of-spec = tie.close (tie.spec enum-known-put enum-told enum-told-2 returns returns-2 returns-3 returns-4)
