@@ -1,5 +1,4 @@
 pub mod Parts
-pub mod Leaves
 pub mod Laid
 pub mod Shares
 pub mod Opening

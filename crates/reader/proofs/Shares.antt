@@ -18,9 +18,10 @@ use Rattle.format.proofs.Means.{items-known}
 use Rattle.format.proofs.Spans.{records-count}
 use Rattle.format.proofs.Lays.{lay-append}
 use Rattle.judge.proofs.AllWays.{tokens-four}
-use Rattle.reader.specs.declared.filling.Given.{Given}
-use Rattle.reader.specs.declared.filling.Given.the-variants.{Nothing, ItsRecord, ItsItemsToo}
-use Rattle.reader.specs.Filling.{givenBy, share}
+use Rattle.tags.specs.declared.Listed.the-variants.{Nothing, Inside, Value}
+use Rattle.tags.specs.Listed.{listedAs}
+use Rattle.tags.proofs.Listing.{is-nothing, is-inside, is-value}
+use Rattle.reader.specs.Filling.{share}
 
 records-none : (depth parent n : ℕ) (v : Items) → records depth parent n v ≡ records depth parent n end ++ records depth parent (n + count end) v
 unfolding records count
@@ -111,46 +112,27 @@ module _ (p tag start : ℕ) (body : List ℕ) (u : Items) where
   abbrev own : Items
   own = share (known p tag) tag start body u end
 
-  -- by the tests of a kind: does it hold items, is it known, is it the table's
-  abbrev given : (a b c : Bool) → Given
-  given a b c = cond a ItsItemsToo (cond (b && not c) ItsRecord Nothing)
+  pub silent : Nothing ≡ listedAs (known p tag) → Silent own
+  unfolding share
+  silent h = go (isKnown (known p tag)) refl
+    where
+      shut : isItems (known p tag) ≡ false
+      shut = is-nothing (known p tag) h .0
 
-  abbrev shared : (a b : Bool) → Items
-  shared a b = cond a (item tag start body u end) (cond b (item tag start body end end) end)
+      go : (b : Bool) → isKnown (known p tag) ≡ b → Silent own
+      go true q = rw (shut, q) (silent-table tag start body end (sym (tokens-four p tag) ∙ sym (is-nothing (known p tag) h .1) ∙ q))
+      go false q = rw (shut, q) silent-end
 
-  silent-by : (a b c : Bool) → c ≡ eqb tag 4 → Nothing ≡ given a b c → Silent (shared a b)
-  silent-by true b c e h = let z : _≡_ {A = ℕ} 0 1 = cc in absurd (omega arith)
-  silent-by false true true e h = silent-table tag start body end (sym e)
-  silent-by false true false e h = let z : _≡_ {A = ℕ} 0 1 = cc in absurd (omega arith)
-  silent-by false false c e h = silent-end
+  pub written-alone : (k : Kind) → Value k ≡ listedAs (known p tag) → Written own tag start body end
+  unfolding share isKnown
+  written-alone k h =
+      let w = is-value (known p tag) k h in
+      let y : isKnown (known p tag) ≡ true = ap isKnown (w .is) in
+      rw (w .shut, y) (written-item tag start body end (sym (tokens-four p tag) ∙ w .noTable))
 
-  alone-by : (a b c : Bool) → c ≡ eqb tag 4 → ItsRecord ≡ given a b c → Written (shared a b) tag start body end
-  alone-by true b c e h = let z : _≡_ {A = ℕ} 0 1 = cc in absurd (omega arith)
-  alone-by false true true e h = let z : _≡_ {A = ℕ} 0 1 = cc in absurd (omega arith)
-  alone-by false true false e h = written-item tag start body end (sym e)
-  alone-by false false c e h = let z : _≡_ {A = ℕ} 0 1 = cc in absurd (omega arith)
+  pub holds-items : Inside ≡ listedAs (known p tag) → isItems (known p tag) ≡ true
+  holds-items h = is-inside (known p tag) h .0
 
-  items-by : (a b c : Bool) → ItsItemsToo ≡ given a b c → a ≡ true
-  items-by true b c h = refl
-  items-by false true true h = let z : _≡_ {A = ℕ} 0 1 = cc in absurd (omega arith)
-  items-by false true false h = let z : _≡_ {A = ℕ} 0 1 = cc in absurd (omega arith)
-  items-by false false c h = let z : _≡_ {A = ℕ} 0 1 = cc in absurd (omega arith)
-
-  pub silent : Nothing ≡ givenBy (known p tag) → Silent own
-  unfolding givenBy share
-  silent h = silent-by (isItems (known p tag)) (isKnown (known p tag)) (isTokens (known p tag)) (tokens-four p tag) h
-
-  pub written-alone : ItsRecord ≡ givenBy (known p tag) → Written own tag start body end
-  unfolding givenBy share
-  written-alone h = alone-by (isItems (known p tag)) (isKnown (known p tag)) (isTokens (known p tag)) (tokens-four p tag) h
-
-  pub holds-items : ItsItemsToo ≡ givenBy (known p tag) → isItems (known p tag) ≡ true
-  unfolding givenBy
-  holds-items h = items-by (isItems (known p tag)) (isKnown (known p tag)) (isTokens (known p tag)) h
-
-  pub written-items : ItsItemsToo ≡ givenBy (known p tag) → Written own tag start body u
-  unfolding share isTokens
-  written-items h =
-      let i = holds-items h in
-      let f : eqb tag 4 ≡ false = sym (tokens-four p tag) ∙ ap isTokens (items-known (known p tag) i) in
-      rw i (written-item tag start body u f)
+  pub written-items : Inside ≡ listedAs (known p tag) → Written own tag start body u
+  unfolding share
+  written-items h = let w = is-inside (known p tag) h in rw (w .0) (written-item tag start body u (sym (tokens-four p tag) ∙ w .1))

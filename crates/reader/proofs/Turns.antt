@@ -17,6 +17,7 @@ use Rattle.octets.specs.Calls.{headerOf}
 use Rattle.octets.proofs.Lists.{part-to-end, length-part}
 use Rattle.octets.proofs.Answers.{HeaderFound, header-found, header-past}
 use Rattle.octets.proofs.Frames.{header-two}
+use Rattle.values.specs.declared.Kind.{Kind}
 use Rattle.values.specs.Table.{known}
 use Rattle.format.specs.declared.Record.{Record}
 use Rattle.format.specs.Tree.{Items, count, recordOf, records}
@@ -24,10 +25,11 @@ use Rattle.format.specs.Tree.Items.{end}
 use Rattle.format.specs.Judge.{isItems}
 use Rattle.format.specs.Calls.{Lists, put, lay}
 use Rattle.reader.specs.declared.filling.Place.{Place}
-use Rattle.reader.specs.declared.filling.Given.{Given}
-use Rattle.reader.specs.declared.filling.Given.the-variants.{Nothing, ItsRecord, ItsItemsToo}
+use Rattle.tags.specs.declared.Listed.{Listed}
+use Rattle.tags.specs.declared.Listed.the-variants.{Nothing, Inside, Value}
+use Rattle.tags.specs.Listed.{listedAs}
 use Rattle.reader.specs.Lent.{Within}
-use Rattle.reader.specs.Filling.{givenBy, Narrow, Accepts, Fillable, Fills, shareOf, ItemFillable, ItemFills}
+use Rattle.reader.specs.Filling.{Narrow, Accepts, Fillable, Fills, shareOf, ItemFillable, ItemFills}
 use Rattle.format.proofs.Lays.{SameLengths, places-same}
 use Rattle.reader.proofs.Laid.{same-lay, same-laid, places-after, within-places}
 use Rattle.reader.proofs.Shares.{count-share, lay-share, silent, Written, written-alone, written-items, holds-items}
@@ -45,7 +47,7 @@ module _ (place : Place) (tag : ℕ) (body : List ℕ) (l : Lists) (can : ItemFi
   pub narrow : Narrow place body
   narrow = record { parent = omega (arith, can .room .above, can .room .few); start = omega (arith, can .room .low); size = omega (arith, can .room .low) }
 
-  module _ (g : Given) (e : g ≡ givenBy (known (place .element) tag)) where
+  module _ (g : Listed) (e : g ≡ listedAs (known (place .element) tag)) where
     pub item-nothing : g ≡ Nothing → ItemFills place tag body l l n
     unfolding ItemFills lay
     item-nothing q u a =
@@ -53,9 +55,9 @@ module _ (place : Place) (tag : ℕ) (body : List ℕ) (l : Lists) (can : ItemFi
         record { laid = sym (ap (λ rs. lay n rs l) (s .laid (place .depth) (place .number) n)); many = omega (arith, s .many) }
 
     -- one record
-    module _ (q : g ≡ ItsRecord) where
+    module _ (k : Kind) (q : g ≡ Value k) where
       alone : (u : Items) → Written (shareOf place tag body u) tag (place .offset) body end
-      alone u = written-alone (place .element) tag (place .offset) body u (sym q ∙ e)
+      alone u = written-alone (place .element) tag (place .offset) body u k (sym q ∙ e)
 
       pub alone-within : Within n l
       alone-within = within-places n l (omega (arith, can .room .holds, alone (can .inside) .many))
@@ -69,7 +71,7 @@ module _ (place : Place) (tag : ℕ) (body : List ℕ) (l : Lists) (can : ItemFi
         item-alone u a = record { laid = x ∙ ap (λ s. put n s l) re ∙ sym (ap (λ rs. lay n rs l) (alone u .laid (place .depth) (place .number) n)); many = omega (arith, alone u .many) }
 
     -- a record, and those of the items inside
-    module _ (q : g ≡ ItsItemsToo) where
+    module _ (q : g ≡ Inside) where
       both : (u : Items) → Written (shareOf place tag body u) tag (place .offset) body u
       both u = written-items (place .element) tag (place .offset) body u (sym q ∙ e)
 

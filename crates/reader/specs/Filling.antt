@@ -14,12 +14,6 @@ use Rattle.format.specs.Judge.{Context, isKnown, isItems, isTokens, read}
 use Rattle.format.specs.Judge.Judged.{accepted}
 use Rattle.format.specs.Calls.{Lists, places, lay}
 use Rattle.reader.specs.declared.filling.Place.{Place}
-use Rattle.reader.specs.declared.filling.Given.{Given}
-use Rattle.reader.specs.declared.filling.Given.the-variants.{Nothing, ItsRecord, ItsItemsToo}
-
--- what is written of an item of a kind: an unknown item and the token table have no record (document 01, Records and meaning)
-unfoldable pub givenBy : Option Kind → Given
-givenBy k = cond (isItems k) ItsItemsToo (cond (isKnown k && not (isTokens k)) ItsRecord Nothing)
 
 -- the fields of a record have room for these numbers
 pub record Narrow (place : Place) (body : List ℕ) : Type 0 where

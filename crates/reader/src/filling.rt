@@ -3,19 +3,17 @@
 ghost use mathlib.Core.Path.{_≡_};
 ghost use Prim.Native.Nat.{_+_, _<_, min};
 ghost use lib.ListN.{length};
-ghost use Rattle.values.specs.Table.{known};
 ghost use Rattle.format.specs.Tree.{recordOf};
 ghost use Rattle.format.specs.Calls.{places, put};
 ghost use Rattle.format.specs.Lent.{lent};
 ghost use Rattle.reader.specs.Lent.{Within};
-ghost use Rattle.reader.specs.Filling.{givenBy, Narrow, Fillable, Fills, ItemFillable, ItemFills};
+ghost use Rattle.reader.specs.Filling.{Narrow, Fillable, Fills, ItemFillable, ItemFills};
 use format::Record;
 use format::kind_of;
 use octets::Header;
 use octets::read_header;
-use values::Kind;
-use values::KnownKind;
-use values::known_kind;
+use tags::Listed;
+use tags::listed_as;
 
 // Where reading stands: the element whose items are read (its tag and the number of its record), the depth of these items, an offset
 // of the object, and the number that the next record gets. The object itself counts as an element with the tag 0, whose one item is
@@ -26,13 +24,6 @@ pub struct Place {
     pub depth: u8,
     pub offset: usize,
     pub next: usize,
-}
-
-// What is written of an item: nothing, its record, or its record and those of the items inside it.
-pub enum Given {
-    Nothing,
-    ItsRecord,
-    ItsItemsToo,
 }
 
 pub fn least(a: usize, b: usize) -> usize
@@ -105,24 +96,6 @@ fn record_of(tag: u8, body: &[u8], place: Place) -> Record
     }
 }
 
-fn given_by(parent: u8, tag: u8) -> Given
-    ensures { λ r. ⌜ r ≡ givenBy (known parent tag) ⌝ }
-{
-    let found = known_kind(parent, tag);
-    match found {
-        KnownKind::Unknown => Given::Nothing,
-        KnownKind::Known(kind) => match kind {
-            Kind::HoldsItems => Given::ItsItemsToo,
-            Kind::HoldsTokens => Given::Nothing,
-            Kind::HoldsText => Given::ItsRecord,
-            Kind::HoldsPlain => Given::ItsRecord,
-            Kind::HoldsTime => Given::ItsRecord,
-            Kind::HoldsBearer => Given::ItsRecord,
-            Kind::HoldsNumber(number) => Given::ItsRecord,
-        },
-    }
-}
-
 // The records of one item, whose body begins at the place's offset, and the number behind them.
 fn fill_item(
     tag: u8,
@@ -139,15 +112,14 @@ fn fill_item(
     ensures { λ r. ⌜ ItemFills place tag (now (body .entry)) (lent (tags .entry) (kinds .entry) (depths .entry) (parents .entry) (starts .entry) (sizes .entry)) (lent (tags .exit) (kinds .exit) (depths .exit) (parents .exit) (starts .exit) (sizes .exit)) r ⌝ }
 {
     let n = place.next;
-    let given = given_by(place.element, tag);
-    match given {
-        Given::Nothing => n,
-        Given::ItsRecord => {
+    match listed_as(place.element, tag) {
+        Listed::Nothing => n,
+        Listed::Value(_) => {
             let record = record_of(tag, body, place);
             put_record(tags, kinds, depths, parents, starts, sizes, n, record);
             n + 1
         }
-        Given::ItsItemsToo => {
+        Listed::Inside => {
             let record = record_of(tag, body, place);
             put_record(tags, kinds, depths, parents, starts, sizes, n, record);
             let inner = Place {

@@ -15,13 +15,13 @@ ghost use Rattle.survey.specs.declared.measure.Part.the-variants.{Nothin
 use crate::Lies;
 use crate::table::item_at;
 use crate::table::table_of;
-use crate::written::written_as;
 use octets::Octets;
 use octets::header_size;
+use tags::Listed;
+use tags::listed_as;
 use text::expanded_size;
 use text::widths_of;
 use values::Kind;
-use values::KnownKind;
 use values::NormalSize;
 use values::is_default;
 use values::normal_size;
@@ -54,31 +54,35 @@ fn value_size(kind: Kind, body: &[u8]) -> Octets
     size
 }
 
-// An item that isn't written.
-fn unwritten(parent: u8, tag: u8, body: &[u8]) -> Part
-    ensures { λ r. ⌜ r ≡ cond (defaultOctets parent tag (now (body .entry))) Kept Nothing ⌝ }
+// An item that has a value of a kind.
+fn value_part(
+    kind: Kind,
+    parent: u8,
+    tag: u8,
+    body: &[u8],
+    table: &[u8],
+    widths: &[u8; 32],
+) -> Part
+    requires { ⌜ Widths 32 (entries (now table)) (now widths) ⌝ }
+    ensures { λ r. ⌜ known parent tag ≡ some kind → r ≡ partIn (entries (now (table .entry))) parent tag (now (body .entry)) ⌝ }
 {
     if is_default(parent, tag, body) {
         return Part::Kept;
     }
-    Part::Nothing
+    match kind {
+        Kind::HoldsText => Part::Octets(expanded_size(widths, body, Octets(32_769))),
+        _ => Part::Octets(value_size(kind, body)),
+    }
 }
 
 fn part_of(parent: u8, tag: u8, body: &[u8], table: &[u8], widths: &[u8; 32]) -> Part
     requires { ⌜ Widths 32 (entries (now table)) (now widths) ⌝ }
     ensures { λ r. ⌜ r ≡ partIn (entries (now (table .entry))) parent tag (now (body .entry)) ⌝ }
 {
-    match written_as(parent, tag, body) {
-        KnownKind::Unknown => unwritten(parent, tag, body),
-        KnownKind::Known(kind) => match kind {
-            Kind::HoldsItems => Part::Inside,
-            Kind::HoldsTokens => Part::Nothing,
-            Kind::HoldsText => Part::Octets(expanded_size(widths, body, Octets(32_769))),
-            Kind::HoldsPlain => Part::Octets(value_size(kind, body)),
-            Kind::HoldsTime => Part::Octets(value_size(kind, body)),
-            Kind::HoldsBearer => Part::Octets(value_size(kind, body)),
-            Kind::HoldsNumber(_) => Part::Octets(value_size(kind, body)),
-        },
+    match listed_as(parent, tag) {
+        Listed::Nothing => Part::Nothing,
+        Listed::Inside => Part::Inside,
+        Listed::Value(kind) => value_part(kind, parent, tag, body, table, widths),
     }
 }
 

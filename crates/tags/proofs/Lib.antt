@@ -1,3 +1,4 @@
 pub mod TagTests
 pub mod Masks
+pub mod Listing
 pub mod Wrong

@@ -4,9 +4,12 @@ use mathlib.Core.Bool.{true, false, false≢true, true≢false}
 use Prim.Native.Nat.{ℕ}
 use native.Mathlib.Omega.{arith}
 use Rattle.octets.specs.Counts.{asCharacters}
-use Rattle.values.specs.Table.{attribute}
+use Rattle.values.specs.declared.Kind.the-variants.{HoldsItems, HoldsTokens}
+use Rattle.values.specs.Table.{rows, kindIn, known, attribute}
 use Rattle.format.specs.Judge.{isTop, allowed, latest, stageAfter, limit}
 use Rattle.tags.specs.Rules.{withinDepth, limited, asLimit, hasBit, withBit}
+use Rattle.tags.specs.Listed.{listedAs}
+use Rattle.tags.specs.declared.Listed.the-variants.{Nothing, Value}
 use Rattle.tags.specs.declared.Limit.{Limit}
 use Rattle.tags.specs.declared.Limit.the-variants.{Unlimited, AtMost}
 
@@ -86,3 +89,16 @@ others-lost h = omega arith
 pub bit-toggled : withBit 1 0x80 ≡ 0 → ⊥
 unfolding withBit
 bit-toggled h = omega arith
+
+-- `listed_as`: the token table listed; an element taken for a value; CDATA not listed
+pub table-listed : listedAs (known 0x03 0x04) ≡ Value HoldsTokens → ⊥
+unfolding listedAs known rows kindIn attribute
+table-listed h = let z : _≡_ {A = ℕ} 0 1 = cc in omega arith
+
+pub element-a-value : listedAs (known 0x03 0x28) ≡ Value HoldsItems → ⊥
+unfolding listedAs known rows kindIn attribute
+element-a-value h = let z : _≡_ {A = ℕ} 0 1 = cc in omega arith
+
+pub cdata-unlisted : listedAs (known 0x10 0x01) ≡ Nothing → ⊥
+unfolding listedAs known rows kindIn attribute
+cdata-unlisted h = let z : _≡_ {A = ℕ} 0 1 = cc in omega arith

@@ -4,19 +4,18 @@
 ghost use mathlib.Core.Path.{_≡_};
 ghost use Rattle.text.specs.Tokens.{entries};
 ghost use Rattle.text.specs.Index.{Indexes};
-ghost use Rattle.values.specs.Table.{known};
 ghost use Rattle.format.specs.Calls.{put};
 ghost use Rattle.format.specs.Lent.{lent};
-ghost use Rattle.writer.specs.Lay.{pieceOf, recordAt, Placeable, ValueLayable, ValueLays, ItemLayable, InsideLayable, ItemLays, ItemsLayable, ItemsLay, Layable, LaysTree};
+ghost use Rattle.writer.specs.Lay.{recordAt, Placeable, ValueLayable, ValueLays, ItemLayable, InsideLayable, ItemLays, ItemsLayable, ItemsLay, Layable, LaysTree};
 use crate::store::store_body;
 use format::kind_of;
 use survey::Lies;
 use survey::item_at;
 use survey::table_of;
+use tags::Listed;
+use tags::listed_as;
 use text::index_of;
 use values::Kind;
-use values::KnownKind;
-use values::known_kind;
 
 // Where items are laid: the element that they stand in (its tag and the number of its record) and their depth. The object itself counts
 // as an element with the tag 0, whose one item is the top.
@@ -30,31 +29,6 @@ pub struct Level {
 pub struct Laid {
     pub next: usize,
     pub end: usize,
-}
-
-// What is laid of an item: nothing; its record and all of the items inside it; its record and its value, of a kind.
-enum Piece {
-    Nothing,
-    Inside,
-    Value(Kind),
-}
-
-// An unknown item and the token table have no record.
-fn piece_of(parent: u8, tag: u8) -> Piece
-    ensures { λ r. ⌜ r ≡ pieceOf (known parent tag) ⌝ }
-{
-    match known_kind(parent, tag) {
-        KnownKind::Unknown => Piece::Nothing,
-        KnownKind::Known(kind) => match kind {
-            Kind::HoldsItems => Piece::Inside,
-            Kind::HoldsTokens => Piece::Nothing,
-            Kind::HoldsText => Piece::Value(kind),
-            Kind::HoldsPlain => Piece::Value(kind),
-            Kind::HoldsTime => Piece::Value(kind),
-            Kind::HoldsBearer => Piece::Value(kind),
-            Kind::HoldsNumber(_) => Piece::Value(kind),
-        },
-    }
 }
 
 // The only stores into the lists: the record of a number, for an item whose octets have a span of the store.
@@ -202,9 +176,9 @@ fn lay_item(
     requires { ⌜ Indexes (entries (now table)) (now index) ⌝ }
     ensures { λ r. ⌜ ItemLays (entries (now (table .entry))) level done tag (now (body .entry)) (lent (tags .entry) (kinds .entry) (depths .entry) (parents .entry) (starts .entry) (sizes .entry)) (lent (tags .exit) (kinds .exit) (depths .exit) (parents .exit) (starts .exit) (sizes .exit)) (now (store .entry)) (now (store .exit)) r ⌝ }
 {
-    match piece_of(level.element, tag) {
-        Piece::Nothing => done,
-        Piece::Inside => lay_inside(
+    match listed_as(level.element, tag) {
+        Listed::Nothing => done,
+        Listed::Inside => lay_inside(
             tag,
             body,
             index,
@@ -219,7 +193,7 @@ fn lay_item(
             sizes,
             store,
         ),
-        Piece::Value(kind) => lay_value(
+        Listed::Value(kind) => lay_value(
             kind,
             tag,
             body,

@@ -14,7 +14,7 @@ use Rattle.reader.proofs.filling.fill_items.Reads as fill-items
 use Rattle.reader.proofs.filling.fill_items.Kinds as fill-items-kinds
 use Rattle.reader.proofs.filling.+fill_item+fill_items.Lts-fill_items as fill-items-lts
 use Rattle.octets.proofs.read_header.Reads as read-header-reads
-use Rattle.reader.proofs.filling.given_by.Reads as given-by-reads
+use Rattle.tags.proofs.listed_as.Reads as listed-as-reads
 use Rattle.reader.proofs.filling.put_record.Reads as put-record-reads
 use Rattle.reader.proofs.filling.record_of.Reads as record-of-reads
 use Rattle.reader.proofs.filling.+fill_item+fill_items.{statement}
@@ -41,9 +41,9 @@ abbrev fill-items-below : ℕ → In 7 fill-items-kinds.ps
 fill-items-below t =
     and 7 fill-items-kinds.ps (falls 7 fill-items-kinds.ps _<_ μ-fill-items t) fill-items.Pre
 
-fill-item-given-by-requires : (t : ℕ) → fill-item-lts.Need-given-by-requires (
-  given-by-reads.Asked,
-  given-by-reads.Learnt,
+fill-item-listed-as-requires : (t : ℕ) → fill-item-lts.Need-listed-as-requires (
+  listed-as-reads.Asked,
+  listed-as-reads.Learnt,
   record-of-reads.Asked,
   record-of-reads.Learnt,
   put-record-reads.Asked,
@@ -51,12 +51,12 @@ fill-item-given-by-requires : (t : ℕ) → fill-item-lts.Need-given-by-requires
   fill-items-below t,
   fill-items.Post,
 ) (fill-item-at t) fill-item.Post
-fill-item-given-by-requires t c κs =
+fill-item-listed-as-requires t c κs =
     search needs
 
 fill-item-enum-told : (t : ℕ) → fill-item-lts.Need-enum-told (
-  given-by-reads.Asked,
-  given-by-reads.Learnt,
+  listed-as-reads.Asked,
+  listed-as-reads.Learnt,
   record-of-reads.Asked,
   record-of-reads.Learnt,
   put-record-reads.Asked,
@@ -68,8 +68,8 @@ fill-item-enum-told t c =
     search needs
 
 fill-item-enum-told-2 : (t : ℕ) → fill-item-lts.Need-enum-told-2 (
-  given-by-reads.Asked,
-  given-by-reads.Learnt,
+  listed-as-reads.Asked,
+  listed-as-reads.Learnt,
   record-of-reads.Asked,
   record-of-reads.Learnt,
   put-record-reads.Asked,
@@ -81,8 +81,8 @@ fill-item-enum-told-2 t c =
     search needs
 
 fill-item-record-of-requires : (t : ℕ) → fill-item-lts.Need-record-of-requires (
-  given-by-reads.Asked,
-  given-by-reads.Learnt,
+  listed-as-reads.Asked,
+  listed-as-reads.Learnt,
   record-of-reads.Asked,
   record-of-reads.Learnt,
   put-record-reads.Asked,
@@ -94,8 +94,8 @@ fill-item-record-of-requires t c κs =
     narrow _ _ _ _ ((c .before .before .before .before .before .before .before .before .before .before .pre) .1)
 
 fill-item-put-record-requires : (t : ℕ) → fill-item-lts.Need-put-record-requires (
-  given-by-reads.Asked,
-  given-by-reads.Learnt,
+  listed-as-reads.Asked,
+  listed-as-reads.Learnt,
   record-of-reads.Asked,
   record-of-reads.Learnt,
   put-record-reads.Asked,
@@ -104,11 +104,11 @@ fill-item-put-record-requires : (t : ℕ) → fill-item-lts.Need-put-record-requ
   fill-items.Post,
 ) (fill-item-at t) fill-item.Post
 fill-item-put-record-requires t c κs =
-    alone-within _ _ _ _ ((c .before .before .before .before .before .before .before .before .before .before .before .before .before .before .before .before .before .pre) .1) _ ((c .before .before .before .before .before .before .before .before .before .given-by) .ensures) ((c .before .before .before .before .before .before .before .enum-told2) .given .1)
+    alone-within _ _ _ _ ((c .before .before .before .before .before .before .before .before .before .before .before .before .before .before .before .before .before .pre) .1) _ ((c .before .before .before .before .before .before .before .before .before .listed-as) .ensures) _ ((c .before .before .before .before .before .before .before .enum-told2) .given .1)
 
 fill-item-add-result : (t : ℕ) → fill-item-lts.Need-add-result (
-  given-by-reads.Asked,
-  given-by-reads.Learnt,
+  listed-as-reads.Asked,
+  listed-as-reads.Learnt,
   record-of-reads.Asked,
   record-of-reads.Learnt,
   put-record-reads.Asked,
@@ -117,11 +117,11 @@ fill-item-add-result : (t : ℕ) → fill-item-lts.Need-add-result (
   fill-items.Post,
 ) (fill-item-at t) fill-item.Post
 fill-item-add-result t c =
-    alone-fits _ _ _ _ ((c .before .before .before .before .before .before .before .before .before .before .before .before .before .before .before .before .before .before .before .before .before .before .before .before .before .before .before .before .before .before .pre) .1) _ ((c .before .before .before .before .before .before .before .before .before .before .before .before .before .before .before .before .before .before .before .before .before .before .given-by) .ensures) ((c .before .before .before .before .before .before .before .before .before .before .before .before .before .before .before .before .before .before .before .before .enum-told2) .given .1)
+    alone-fits _ _ _ _ ((c .before .before .before .before .before .before .before .before .before .before .before .before .before .before .before .before .before .before .before .before .before .before .before .before .before .before .before .before .before .before .pre) .1) _ ((c .before .before .before .before .before .before .before .before .before .before .before .before .before .before .before .before .before .before .before .before .before .before .listed-as) .ensures) _ ((c .before .before .before .before .before .before .before .before .before .before .before .before .before .before .before .before .before .before .before .before .enum-told2) .given .1)
 
 fill-item-enum-told-3 : (t : ℕ) → fill-item-lts.Need-enum-told-3 (
-  given-by-reads.Asked,
-  given-by-reads.Learnt,
+  listed-as-reads.Asked,
+  listed-as-reads.Learnt,
   record-of-reads.Asked,
   record-of-reads.Learnt,
   put-record-reads.Asked,
@@ -133,8 +133,8 @@ fill-item-enum-told-3 t c =
     search needs
 
 fill-item-record-of-requires-2 : (t : ℕ) → fill-item-lts.Need-record-of-requires-2 (
-  given-by-reads.Asked,
-  given-by-reads.Learnt,
+  listed-as-reads.Asked,
+  listed-as-reads.Learnt,
   record-of-reads.Asked,
   record-of-reads.Learnt,
   put-record-reads.Asked,
@@ -146,8 +146,8 @@ fill-item-record-of-requires-2 t c κs =
     narrow _ _ _ _ ((c .before .before .before .before .before .before .before .before .before .before .pre) .1)
 
 fill-item-put-record-requires-2 : (t : ℕ) → fill-item-lts.Need-put-record-requires-2 (
-  given-by-reads.Asked,
-  given-by-reads.Learnt,
+  listed-as-reads.Asked,
+  listed-as-reads.Learnt,
   record-of-reads.Asked,
   record-of-reads.Learnt,
   put-record-reads.Asked,
@@ -156,11 +156,11 @@ fill-item-put-record-requires-2 : (t : ℕ) → fill-item-lts.Need-put-record-re
   fill-items.Post,
 ) (fill-item-at t) fill-item.Post
 fill-item-put-record-requires-2 t c κs =
-    both-within _ _ _ _ ((c .before .before .before .before .before .before .before .before .before .before .before .before .before .before .before .before .before .pre) .1) _ ((c .before .before .before .before .before .before .before .before .before .given-by) .ensures) ((c .before .before .before .before .before .before .before .enum-told3) .given .1)
+    both-within _ _ _ _ ((c .before .before .before .before .before .before .before .before .before .before .before .before .before .before .before .before .before .pre) .1) _ ((c .before .before .before .before .before .before .before .before .before .listed-as) .ensures) ((c .before .before .before .before .before .before .before .enum-told3) .given .1)
 
 fill-item-add-t42 : (t : ℕ) → fill-item-lts.Need-add-t42 (
-  given-by-reads.Asked,
-  given-by-reads.Learnt,
+  listed-as-reads.Asked,
+  listed-as-reads.Learnt,
   record-of-reads.Asked,
   record-of-reads.Learnt,
   put-record-reads.Asked,
@@ -169,11 +169,11 @@ fill-item-add-t42 : (t : ℕ) → fill-item-lts.Need-add-t42 (
   fill-items.Post,
 ) (fill-item-at t) fill-item.Post
 fill-item-add-t42 t c =
-    both-deeper _ _ _ _ ((c .before .before .before .before .before .before .before .before .before .before .before .before .before .before .before .before .before .before .before .before .before .before .before .before .before .before .before .before .before .before .before .pre) .1) _ ((c .before .before .before .before .before .before .before .before .before .before .before .before .before .before .before .before .before .before .before .before .before .before .before .given-by) .ensures) ((c .before .before .before .before .before .before .before .before .before .before .before .before .before .before .before .before .before .before .before .before .before .enum-told3) .given .1)
+    both-deeper _ _ _ _ ((c .before .before .before .before .before .before .before .before .before .before .before .before .before .before .before .before .before .before .before .before .before .before .before .before .before .before .before .before .before .before .before .pre) .1) _ ((c .before .before .before .before .before .before .before .before .before .before .before .before .before .before .before .before .before .before .before .before .before .before .before .listed-as) .ensures) ((c .before .before .before .before .before .before .before .before .before .before .before .before .before .before .before .before .before .before .before .before .before .enum-told3) .given .1)
 
 fill-item-add-t43 : (t : ℕ) → fill-item-lts.Need-add-t43 (
-  given-by-reads.Asked,
-  given-by-reads.Learnt,
+  listed-as-reads.Asked,
+  listed-as-reads.Learnt,
   record-of-reads.Asked,
   record-of-reads.Learnt,
   put-record-reads.Asked,
@@ -182,11 +182,11 @@ fill-item-add-t43 : (t : ℕ) → fill-item-lts.Need-add-t43 (
   fill-items.Post,
 ) (fill-item-at t) fill-item.Post
 fill-item-add-t43 t c =
-    both-fits _ _ _ _ ((c .before .before .before .before .before .before .before .before .before .before .before .before .before .before .before .before .before .before .before .before .before .before .before .before .before .before .before .before .before .before .before .pre) .1) _ ((c .before .before .before .before .before .before .before .before .before .before .before .before .before .before .before .before .before .before .before .before .before .before .before .given-by) .ensures) ((c .before .before .before .before .before .before .before .before .before .before .before .before .before .before .before .before .before .before .before .before .before .enum-told3) .given .1)
+    both-fits _ _ _ _ ((c .before .before .before .before .before .before .before .before .before .before .before .before .before .before .before .before .before .before .before .before .before .before .before .before .before .before .before .before .before .before .before .pre) .1) _ ((c .before .before .before .before .before .before .before .before .before .before .before .before .before .before .before .before .before .before .before .before .before .before .before .listed-as) .ensures) ((c .before .before .before .before .before .before .before .before .before .before .before .before .before .before .before .before .before .before .before .before .before .enum-told3) .given .1)
 
 fill-item-fill-items-requires : (t : ℕ) → fill-item-lts.Need-fill-items-requires (
-  given-by-reads.Asked,
-  given-by-reads.Learnt,
+  listed-as-reads.Asked,
+  listed-as-reads.Learnt,
   record-of-reads.Asked,
   record-of-reads.Learnt,
   put-record-reads.Asked,
@@ -195,11 +195,11 @@ fill-item-fill-items-requires : (t : ℕ) → fill-item-lts.Need-fill-items-requ
   fill-items.Post,
 ) (fill-item-at t) fill-item.Post
 fill-item-fill-items-requires t c κs =
-    (omega (arith, (c .before .before .before .before .before .before .before .before .before .before .before .before .before .before .before .before .before .before .before .before .before .before .before .before .before .before .before .before .before .before .before .before .before .before .before .before .before .pre) .0, both-deep _ _ _ _ ((c .before .before .before .before .before .before .before .before .before .before .before .before .before .before .before .before .before .before .before .before .before .before .before .before .before .before .before .before .before .before .before .before .before .before .before .before .before .pre) .1) _ ((c .before .before .before .before .before .before .before .before .before .before .before .before .before .before .before .before .before .before .before .before .before .before .before .before .before .before .before .before .before .given-by) .ensures) ((c .before .before .before .before .before .before .before .before .before .before .before .before .before .before .before .before .before .before .before .before .before .before .before .before .before .before .before .enum-told3) .given .1)), both-can _ _ _ _ ((c .before .before .before .before .before .before .before .before .before .before .before .before .before .before .before .before .before .before .before .before .before .before .before .before .before .before .before .before .before .before .before .before .before .before .before .before .before .pre) .1) _ ((c .before .before .before .before .before .before .before .before .before .before .before .before .before .before .before .before .before .before .before .before .before .before .before .before .before .before .before .before .before .given-by) .ensures) ((c .before .before .before .before .before .before .before .before .before .before .before .before .before .before .before .before .before .before .before .before .before .before .before .before .before .before .before .enum-told3) .given .1) _ ((c .before .before .before .before .before .before .before .before .before .before .before .before .before .before .before .before .before .before .before .before .before .before .before .before .before .before .record-of2) .ensures) _ ((c .before .before .before .before .before .before .before .before .before .before .before .before .before .before .before .before .before .before .before .put-record2) .ensures))
+    (omega (arith, (c .before .before .before .before .before .before .before .before .before .before .before .before .before .before .before .before .before .before .before .before .before .before .before .before .before .before .before .before .before .before .before .before .before .before .before .before .before .pre) .0, both-deep _ _ _ _ ((c .before .before .before .before .before .before .before .before .before .before .before .before .before .before .before .before .before .before .before .before .before .before .before .before .before .before .before .before .before .before .before .before .before .before .before .before .before .pre) .1) _ ((c .before .before .before .before .before .before .before .before .before .before .before .before .before .before .before .before .before .before .before .before .before .before .before .before .before .before .before .before .before .listed-as) .ensures) ((c .before .before .before .before .before .before .before .before .before .before .before .before .before .before .before .before .before .before .before .before .before .before .before .before .before .before .before .enum-told3) .given .1)), both-can _ _ _ _ ((c .before .before .before .before .before .before .before .before .before .before .before .before .before .before .before .before .before .before .before .before .before .before .before .before .before .before .before .before .before .before .before .before .before .before .before .before .before .pre) .1) _ ((c .before .before .before .before .before .before .before .before .before .before .before .before .before .before .before .before .before .before .before .before .before .before .before .before .before .before .before .before .before .listed-as) .ensures) ((c .before .before .before .before .before .before .before .before .before .before .before .before .before .before .before .before .before .before .before .before .before .before .before .before .before .before .before .enum-told3) .given .1) _ ((c .before .before .before .before .before .before .before .before .before .before .before .before .before .before .before .before .before .before .before .before .before .before .before .before .before .before .record-of2) .ensures) _ ((c .before .before .before .before .before .before .before .before .before .before .before .before .before .before .before .before .before .before .before .put-record2) .ensures))
 
 fill-item-returns : (t : ℕ) → fill-item-lts.Need-returns (
-  given-by-reads.Asked,
-  given-by-reads.Learnt,
+  listed-as-reads.Asked,
+  listed-as-reads.Learnt,
   record-of-reads.Asked,
   record-of-reads.Learnt,
   put-record-reads.Asked,
@@ -208,11 +208,11 @@ fill-item-returns : (t : ℕ) → fill-item-lts.Need-returns (
   fill-items.Post,
 ) (fill-item-at t) fill-item.Post
 fill-item-returns t c =
-    item-nothing _ _ _ _ ((c .before .before .before .before .before .before .before .before .before .before .pre) .1) _ ((c .before .before .given-by) .ensures) ((c .enum-told) .given .1)
+    item-nothing _ _ _ _ ((c .before .before .before .before .before .before .before .before .before .before .pre) .1) _ ((c .before .before .listed-as) .ensures) ((c .enum-told) .given .1)
 
 fill-item-returns-2 : (t : ℕ) → fill-item-lts.Need-returns-2 (
-  given-by-reads.Asked,
-  given-by-reads.Learnt,
+  listed-as-reads.Asked,
+  listed-as-reads.Learnt,
   record-of-reads.Asked,
   record-of-reads.Learnt,
   put-record-reads.Asked,
@@ -221,11 +221,11 @@ fill-item-returns-2 : (t : ℕ) → fill-item-lts.Need-returns-2 (
   fill-items.Post,
 ) (fill-item-at t) fill-item.Post
 fill-item-returns-2 t c =
-    item-alone _ _ _ _ ((c .before .before .before .before .before .before .before .before .before .before .before .before .before .before .before .before .before .before .before .before .before .before .before .before .before .before .before .before .before .before .pre) .1) _ ((c .before .before .before .before .before .before .before .before .before .before .before .before .before .before .before .before .before .before .before .before .before .before .given-by) .ensures) ((c .before .before .before .before .before .before .before .before .before .before .before .before .before .before .before .before .before .before .before .before .enum-told2) .given .1) _ ((c .before .before .before .before .before .before .before .before .before .before .before .before .before .before .before .before .before .before .before .record-of) .ensures) _ ((c .before .before .before .before .before .before .before .before .before .before .before .before .put-record) .ensures)
+    item-alone _ _ _ _ ((c .before .before .before .before .before .before .before .before .before .before .before .before .before .before .before .before .before .before .before .before .before .before .before .before .before .before .before .before .before .before .pre) .1) _ ((c .before .before .before .before .before .before .before .before .before .before .before .before .before .before .before .before .before .before .before .before .before .before .listed-as) .ensures) _ ((c .before .before .before .before .before .before .before .before .before .before .before .before .before .before .before .before .before .before .before .before .enum-told2) .given .1) _ ((c .before .before .before .before .before .before .before .before .before .before .before .before .before .before .before .before .before .before .before .record-of) .ensures) _ ((c .before .before .before .before .before .before .before .before .before .before .before .before .put-record) .ensures)
 
 fill-item-same-length : (t : ℕ) → fill-item-lts.Need-same-length (
-  given-by-reads.Asked,
-  given-by-reads.Learnt,
+  listed-as-reads.Asked,
+  listed-as-reads.Learnt,
   record-of-reads.Asked,
   record-of-reads.Learnt,
   put-record-reads.Asked,
@@ -237,8 +237,8 @@ fill-item-same-length t c =
     item-same _ _ _ _ ((c .before .before .before .before .before .before .before .before .before .before .before .before .before .before .before .before .before .before .before .before .before .before .before .before .before .before .before .before .before .before .pre) .1) _ _ (fill-item-returns-2 t c) .tags
 
 fill-item-same-length-2 : (t : ℕ) → fill-item-lts.Need-same-length-2 (
-  given-by-reads.Asked,
-  given-by-reads.Learnt,
+  listed-as-reads.Asked,
+  listed-as-reads.Learnt,
   record-of-reads.Asked,
   record-of-reads.Learnt,
   put-record-reads.Asked,
@@ -250,8 +250,8 @@ fill-item-same-length-2 t c =
     item-same _ _ _ _ ((c .before .before .before .before .before .before .before .before .before .before .before .before .before .before .before .before .before .before .before .before .before .before .before .before .before .before .before .before .before .before .pre) .1) _ _ (fill-item-returns-2 t c) .kinds
 
 fill-item-same-length-3 : (t : ℕ) → fill-item-lts.Need-same-length-3 (
-  given-by-reads.Asked,
-  given-by-reads.Learnt,
+  listed-as-reads.Asked,
+  listed-as-reads.Learnt,
   record-of-reads.Asked,
   record-of-reads.Learnt,
   put-record-reads.Asked,
@@ -263,8 +263,8 @@ fill-item-same-length-3 t c =
     item-same _ _ _ _ ((c .before .before .before .before .before .before .before .before .before .before .before .before .before .before .before .before .before .before .before .before .before .before .before .before .before .before .before .before .before .before .pre) .1) _ _ (fill-item-returns-2 t c) .depths
 
 fill-item-same-length-4 : (t : ℕ) → fill-item-lts.Need-same-length-4 (
-  given-by-reads.Asked,
-  given-by-reads.Learnt,
+  listed-as-reads.Asked,
+  listed-as-reads.Learnt,
   record-of-reads.Asked,
   record-of-reads.Learnt,
   put-record-reads.Asked,
@@ -276,8 +276,8 @@ fill-item-same-length-4 t c =
     item-same _ _ _ _ ((c .before .before .before .before .before .before .before .before .before .before .before .before .before .before .before .before .before .before .before .before .before .before .before .before .before .before .before .before .before .before .pre) .1) _ _ (fill-item-returns-2 t c) .parents
 
 fill-item-same-length-5 : (t : ℕ) → fill-item-lts.Need-same-length-5 (
-  given-by-reads.Asked,
-  given-by-reads.Learnt,
+  listed-as-reads.Asked,
+  listed-as-reads.Learnt,
   record-of-reads.Asked,
   record-of-reads.Learnt,
   put-record-reads.Asked,
@@ -289,8 +289,8 @@ fill-item-same-length-5 t c =
     item-same _ _ _ _ ((c .before .before .before .before .before .before .before .before .before .before .before .before .before .before .before .before .before .before .before .before .before .before .before .before .before .before .before .before .before .before .pre) .1) _ _ (fill-item-returns-2 t c) .starts
 
 fill-item-same-length-6 : (t : ℕ) → fill-item-lts.Need-same-length-6 (
-  given-by-reads.Asked,
-  given-by-reads.Learnt,
+  listed-as-reads.Asked,
+  listed-as-reads.Learnt,
   record-of-reads.Asked,
   record-of-reads.Learnt,
   put-record-reads.Asked,
@@ -302,8 +302,8 @@ fill-item-same-length-6 t c =
     item-same _ _ _ _ ((c .before .before .before .before .before .before .before .before .before .before .before .before .before .before .before .before .before .before .before .before .before .before .before .before .before .before .before .before .before .before .pre) .1) _ _ (fill-item-returns-2 t c) .sizes
 
 fill-item-returns-3 : (t : ℕ) → fill-item-lts.Need-returns-3 (
-  given-by-reads.Asked,
-  given-by-reads.Learnt,
+  listed-as-reads.Asked,
+  listed-as-reads.Learnt,
   record-of-reads.Asked,
   record-of-reads.Learnt,
   put-record-reads.Asked,
@@ -312,11 +312,11 @@ fill-item-returns-3 : (t : ℕ) → fill-item-lts.Need-returns-3 (
   fill-items.Post,
 ) (fill-item-at t) fill-item.Post
 fill-item-returns-3 t c =
-    item-both _ _ _ _ ((c .before .before .before .before .before .before .before .before .before .before .before .before .before .before .before .before .before .before .before .before .before .before .before .before .before .before .before .before .before .before .before .before .before .before .before .before .before .before .before .before .before .before .before .before .before .before .before .before .before .before .pre) .1) _ ((c .before .before .before .before .before .before .before .before .before .before .before .before .before .before .before .before .before .before .before .before .before .before .before .before .before .before .before .before .before .before .before .before .before .before .before .before .before .before .before .before .before .before .given-by) .ensures) ((c .before .before .before .before .before .before .before .before .before .before .before .before .before .before .before .before .before .before .before .before .before .before .before .before .before .before .before .before .before .before .before .before .before .before .before .before .before .before .before .before .enum-told3) .given .1) _ ((c .before .before .before .before .before .before .before .before .before .before .before .before .before .before .before .before .before .before .before .before .before .before .before .before .before .before .before .before .before .before .before .before .before .before .before .before .before .before .before .record-of2) .ensures) _ ((c .before .before .before .before .before .before .before .before .before .before .before .before .before .before .before .before .before .before .before .before .before .before .before .before .before .before .before .before .before .before .before .before .put-record2) .ensures) _ _ ((c .before .before .before .before .before .before .before .before .before .before .before .before .fill-items) .ensures)
+    item-both _ _ _ _ ((c .before .before .before .before .before .before .before .before .before .before .before .before .before .before .before .before .before .before .before .before .before .before .before .before .before .before .before .before .before .before .before .before .before .before .before .before .before .before .before .before .before .before .before .before .before .before .before .before .before .before .pre) .1) _ ((c .before .before .before .before .before .before .before .before .before .before .before .before .before .before .before .before .before .before .before .before .before .before .before .before .before .before .before .before .before .before .before .before .before .before .before .before .before .before .before .before .before .before .listed-as) .ensures) ((c .before .before .before .before .before .before .before .before .before .before .before .before .before .before .before .before .before .before .before .before .before .before .before .before .before .before .before .before .before .before .before .before .before .before .before .before .before .before .before .before .enum-told3) .given .1) _ ((c .before .before .before .before .before .before .before .before .before .before .before .before .before .before .before .before .before .before .before .before .before .before .before .before .before .before .before .before .before .before .before .before .before .before .before .before .before .before .before .record-of2) .ensures) _ ((c .before .before .before .before .before .before .before .before .before .before .before .before .before .before .before .before .before .before .before .before .before .before .before .before .before .before .before .before .before .before .before .before .put-record2) .ensures) _ _ ((c .before .before .before .before .before .before .before .before .before .before .before .before .fill-items) .ensures)
 
 fill-item-same-length-7 : (t : ℕ) → fill-item-lts.Need-same-length-7 (
-  given-by-reads.Asked,
-  given-by-reads.Learnt,
+  listed-as-reads.Asked,
+  listed-as-reads.Learnt,
   record-of-reads.Asked,
   record-of-reads.Learnt,
   put-record-reads.Asked,
@@ -328,8 +328,8 @@ fill-item-same-length-7 t c =
     item-same _ _ _ _ ((c .before .before .before .before .before .before .before .before .before .before .before .before .before .before .before .before .before .before .before .before .before .before .before .before .before .before .before .before .before .before .before .before .before .before .before .before .before .before .before .before .before .before .before .before .before .before .before .before .before .before .pre) .1) _ _ (fill-item-returns-3 t c) .tags
 
 fill-item-same-length-8 : (t : ℕ) → fill-item-lts.Need-same-length-8 (
-  given-by-reads.Asked,
-  given-by-reads.Learnt,
+  listed-as-reads.Asked,
+  listed-as-reads.Learnt,
   record-of-reads.Asked,
   record-of-reads.Learnt,
   put-record-reads.Asked,
@@ -341,8 +341,8 @@ fill-item-same-length-8 t c =
     item-same _ _ _ _ ((c .before .before .before .before .before .before .before .before .before .before .before .before .before .before .before .before .before .before .before .before .before .before .before .before .before .before .before .before .before .before .before .before .before .before .before .before .before .before .before .before .before .before .before .before .before .before .before .before .before .before .pre) .1) _ _ (fill-item-returns-3 t c) .kinds
 
 fill-item-same-length-9 : (t : ℕ) → fill-item-lts.Need-same-length-9 (
-  given-by-reads.Asked,
-  given-by-reads.Learnt,
+  listed-as-reads.Asked,
+  listed-as-reads.Learnt,
   record-of-reads.Asked,
   record-of-reads.Learnt,
   put-record-reads.Asked,
@@ -354,8 +354,8 @@ fill-item-same-length-9 t c =
     item-same _ _ _ _ ((c .before .before .before .before .before .before .before .before .before .before .before .before .before .before .before .before .before .before .before .before .before .before .before .before .before .before .before .before .before .before .before .before .before .before .before .before .before .before .before .before .before .before .before .before .before .before .before .before .before .before .pre) .1) _ _ (fill-item-returns-3 t c) .depths
 
 fill-item-same-length-10 : (t : ℕ) → fill-item-lts.Need-same-length-10 (
-  given-by-reads.Asked,
-  given-by-reads.Learnt,
+  listed-as-reads.Asked,
+  listed-as-reads.Learnt,
   record-of-reads.Asked,
   record-of-reads.Learnt,
   put-record-reads.Asked,
@@ -367,8 +367,8 @@ fill-item-same-length-10 t c =
     item-same _ _ _ _ ((c .before .before .before .before .before .before .before .before .before .before .before .before .before .before .before .before .before .before .before .before .before .before .before .before .before .before .before .before .before .before .before .before .before .before .before .before .before .before .before .before .before .before .before .before .before .before .before .before .before .before .pre) .1) _ _ (fill-item-returns-3 t c) .parents
 
 fill-item-same-length-11 : (t : ℕ) → fill-item-lts.Need-same-length-11 (
-  given-by-reads.Asked,
-  given-by-reads.Learnt,
+  listed-as-reads.Asked,
+  listed-as-reads.Learnt,
   record-of-reads.Asked,
   record-of-reads.Learnt,
   put-record-reads.Asked,
@@ -380,8 +380,8 @@ fill-item-same-length-11 t c =
     item-same _ _ _ _ ((c .before .before .before .before .before .before .before .before .before .before .before .before .before .before .before .before .before .before .before .before .before .before .before .before .before .before .before .before .before .before .before .before .before .before .before .before .before .before .before .before .before .before .before .before .before .before .before .before .before .before .pre) .1) _ _ (fill-item-returns-3 t c) .starts
 
 fill-item-same-length-12 : (t : ℕ) → fill-item-lts.Need-same-length-12 (
-  given-by-reads.Asked,
-  given-by-reads.Learnt,
+  listed-as-reads.Asked,
+  listed-as-reads.Learnt,
   record-of-reads.Asked,
   record-of-reads.Learnt,
   put-record-reads.Asked,
@@ -681,8 +681,8 @@ fill-items-returns-2 t c =
 
 pub +fill-item+fill-items-spec : {M : Type 1} → statement M
 +fill-item+fill-items-spec = close μ-fill-item μ-fill-items (λ t. fill-item-lts.spec (
-  given-by-reads.Asked,
-  given-by-reads.Learnt,
+  listed-as-reads.Asked,
+  listed-as-reads.Learnt,
   record-of-reads.Asked,
   record-of-reads.Learnt,
   put-record-reads.Asked,
@@ -692,7 +692,7 @@ pub +fill-item+fill-items-spec : {M : Type 1} → statement M
 )
     (fill-item-at t)
     fill-item.Post
-    (fill-item-given-by-requires t)
+    (fill-item-listed-as-requires t)
     (fill-item-enum-told t)
     (fill-item-enum-told-2 t)
     (fill-item-record-of-requires t)

@@ -1,7 +1,7 @@
-use Rattle.reader.proofs.Leaves.{given-ways}
+use Rattle.tags.proofs.Listing.{listed-ways}
 use borrow.Author.Needs.{needs}
-use Rattle.reader.proofs.filling.given_by.Statement.{statement}
-use Rattle.reader.proofs.filling.given_by.Tie as tie
+use Rattle.tags.proofs.sorts.listed_as.Statement.{statement}
+use Rattle.tags.proofs.sorts.listed_as.Tie as tie
 
 known-kind-requires : tie.Need-known-kind-requires
 known-kind-requires c κs = search needs
@@ -9,8 +9,8 @@ known-kind-requires c κs = search needs
 enum-told : tie.Need-enum-told
 enum-told c = search needs
 
-enum-known-found : tie.Need-enum-known-found
-enum-known-found c = search needs
+enum-known-kind : tie.Need-enum-known-kind
+enum-known-kind c = search needs
 
 enum-told-2 : tie.Need-enum-told-2
 enum-told-2 c = search needs
@@ -30,47 +30,47 @@ enum-told-6 c = search needs
 enum-told-7 : tie.Need-enum-told-7
 enum-told-7 c = search needs
 
-enum-known-kind : tie.Need-enum-known-kind
-enum-known-kind c = search needs
+enum-told-8 : tie.Need-enum-told-8
+enum-told-8 c = search needs
 
 returns : tie.Need-returns
-returns c = search (given-ways, needs)
+returns c = search (listed-ways, needs)
 
 returns-2 : tie.Need-returns-2
-returns-2 c = search (given-ways, needs)
+returns-2 c = search (listed-ways, needs)
 
 returns-3 : tie.Need-returns-3
-returns-3 c = search (given-ways, needs)
+returns-3 c = search (listed-ways, needs)
 
 returns-4 : tie.Need-returns-4
-returns-4 c = search (given-ways, needs)
+returns-4 c = search (listed-ways, needs)
 
 returns-5 : tie.Need-returns-5
-returns-5 c = search (given-ways, needs)
+returns-5 c = search (listed-ways, needs)
 
 returns-6 : tie.Need-returns-6
-returns-6 c = search (given-ways, needs)
+returns-6 c = search (listed-ways, needs)
 
 returns-7 : tie.Need-returns-7
-returns-7 c = search (given-ways, needs)
+returns-7 c = search (listed-ways, needs)
 
 returns-8 : tie.Need-returns-8
-returns-8 c = search (given-ways, needs)
+returns-8 c = search (listed-ways, needs)
 
-pub given-by-spec : {M : Type 1} → statement M
-given-by-spec =
+pub listed-as-spec : {M : Type 1} → statement M
+listed-as-spec =
     tie.close
     (tie.spec
     known-kind-requires
     enum-told
-    enum-known-found
+    enum-known-kind
     enum-told-2
     enum-told-3
     enum-told-4
     enum-told-5
     enum-told-6
     enum-told-7
-    enum-known-kind
+    enum-told-8
     returns
     returns-2
     returns-3
