@@ -1,7 +1,6 @@
 -- The ways through the small functions of measuring.
 use mathlib.Core.Path.{_≡_, refl, sym, ap, _∙_}
-use mathlib.Core.Bool.{Bool, true, false, cond}
-use mathlib.Core.Logic.{⊎-elim}
+use mathlib.Core.Bool.{Bool, true, false, cond, not, _&&_}
 use mathlib.Core.Option.{some}
 use mathlib.Core.List.{List}
 use Prim.Native.Nat.{ℕ, suc, _+_, _≤_, _<_, min}
@@ -19,20 +18,23 @@ use Rattle.text.specs.Weighing.{Widths, weight}
 use Rattle.values.specs.declared.Kind.{Kind}
 use Rattle.values.specs.declared.Kind.the-variants.{HoldsItems, HoldsTokens, HoldsText, HoldsPlain, HoldsTime, HoldsBearer, HoldsNumber}
 use Rattle.values.specs.declared.NumberKind.{NumberKind}
-use Rattle.values.specs.declared.KnownKind.{KnownKind}
-use Rattle.values.specs.declared.KnownKind.the-variants.{Unknown, Known}
+use Rattle.values.specs.declared.NumberKind.the-variants.{Enumerated}
 use Rattle.values.specs.declared.NormalSize.{NormalSize}
 use Rattle.values.specs.declared.NormalSize.the-variants as sized
 use Rattle.values.specs.Table.{known}
 use Rattle.values.specs.Values.{fits, meant, octetsOf}
-use Rattle.values.specs.Calls.{asKnown, normalOctets, normalSize, defaultOctets}
+use Rattle.values.specs.Calls.{normalOctets, normalSize, defaultOctets}
 use Rattle.octets.proofs.Answers.{size-five}
 use Rattle.text.proofs.Widths.{weight-is}
 use Rattle.values.proofs.Laws.{normal-sized, not-sized}
+use Rattle.values.proofs.DefaultValues.{default-enumerated}
+use Rattle.tags.specs.declared.Listed.{Listed}
+use Rattle.tags.specs.declared.Listed.the-variants as listed
+use Rattle.tags.specs.Listed.{listedAs}
+use Rattle.tags.proofs.Listing.{is-nothing, is-inside, is-value}
 use Rattle.format.specs.Judge.{isKnown, isItems, isTokens}
-use Rattle.survey.specs.Normal.{framedSize, valueOctets, writtenAs}
+use Rattle.survey.specs.Normal.{framedSize, valueOctets}
 use Rattle.survey.proofs.Ways.{value-fits}
-use Rattle.survey.proofs.WrittenAs.{written-kind, unwritten-kind}
 use Rattle.survey.specs.declared.measure.Part.{Part}
 use Rattle.survey.specs.declared.measure.Part.the-variants.{Nothing, Kept, Inside, Octets}
 use Rattle.survey.specs.declared.measure.Measured.the-variants.{Over, Sizes}
@@ -73,59 +75,86 @@ module _ (k : Kind) (o : List ℕ) (r : NormalSize) (e : r ≡ normalSize k o) w
     pub size-short : n .0 ≤ 32_769 → n .0 ≡ min 32_769 (length (valueOctets k o))
     size-short h = omega (arith, value-octets k o r e n q)
 
+-- ---- octets_of
+
+module _ (T : Entries) (k : Kind) (o : List ℕ) (n : OctetCount) where
+  pub octets-text : (widths : List ℕ) → Widths 32 T widths → k ≡ HoldsText → n ≡ asOctets (min 32_769 (weight widths o)) → n .0 ≡ min 32_769 (length (taken T (some k) o))
+  unfolding taken fits meant octetsOf
+  octets-text widths h w x = ap (λ m. m .0) x ∙ rw (w, weight-is T widths h o)
+
+  -- a value that is no text has the same octets under every table
+  module _ (x : n .0 ≡ min 32_769 (length (valueOctets k o))) where
+    pub octets-items : k ≡ HoldsItems → n .0 ≡ min 32_769 (length (taken T (some k) o))
+    unfolding taken valueOctets meant
+    octets-items w = x ∙ rw w
+
+    pub octets-tokens : k ≡ HoldsTokens → n .0 ≡ min 32_769 (length (taken T (some k) o))
+    unfolding taken valueOctets meant
+    octets-tokens w = x ∙ rw w
+
+    pub octets-plain : k ≡ HoldsPlain → n .0 ≡ min 32_769 (length (taken T (some k) o))
+    unfolding taken valueOctets meant
+    octets-plain w = x ∙ rw w
+
+    pub octets-time : k ≡ HoldsTime → n .0 ≡ min 32_769 (length (taken T (some k) o))
+    unfolding taken valueOctets meant
+    octets-time w = x ∙ rw w
+
+    pub octets-bearer : k ≡ HoldsBearer → n .0 ≡ min 32_769 (length (taken T (some k) o))
+    unfolding taken valueOctets meant
+    octets-bearer w = x ∙ rw w
+
+    pub octets-number : (m : NumberKind) → k ≡ HoldsNumber m → n .0 ≡ min 32_769 (length (taken T (some k) o))
+    unfolding taken valueOctets meant
+    octets-number m w = x ∙ rw w
+
+pub ruleset octets-ways = (octets-text, octets-items, octets-tokens, octets-plain, octets-time, octets-bearer, octets-number)
+
 -- ---- part_of
 
-module _ (p tag : ℕ) (o : List ℕ) (b : Bool) (d : b ≡ defaultOctets p tag o) where
-  pub kept-is : b ≡ true → Kept ≡ cond (defaultOctets p tag o) Kept Nothing
-  kept-is q = rw (sym d ∙ q)
-
-  pub nothing-is : b ≡ false → Nothing ≡ cond (defaultOctets p tag o) Kept Nothing
-  nothing-is q = rw (sym d ∙ q)
-
-module _ (T : Entries) (p tag : ℕ) (o : List ℕ) (r : KnownKind) (e : r ≡ asKnown (writtenAs p tag o)) where
-  pub part-unknown : r ≡ Unknown → (x : Part) → x ≡ cond (defaultOctets p tag o) Kept Nothing → x ≡ partIn T p tag o
-  unfolding partIn partOf isItems isKnown isTokens
-  part-unknown q x w = w ∙ go (defaultOctets p tag o) refl
+module _ (T : Entries) (p tag : ℕ) (o : List ℕ) (r : Listed) (e : r ≡ listedAs (known p tag)) where
+  -- a default is a number
+  plain-part : (r ≡ listed.Value (HoldsNumber Enumerated) → ⊥) → partOf T (known p tag) o ≡ partIn T p tag o
+  unfolding partIn listedAs
+  plain-part n = go (defaultOctets p tag o) refl
     where
-      go : (d : Bool) → defaultOctets p tag o ≡ d → cond d Kept Nothing ≡ cond d Kept (partOf T (known p tag) o)
-      go true d = refl
-      go false d = ⊎-elim (λ n. rw n) (λ t. rw t) (unwritten-kind p tag o r e q d)
+      go : (d : Bool) → defaultOctets p tag o ≡ d → partOf T (known p tag) o ≡ cond d Kept (partOf T (known p tag) o)
+      go true d = absurd (n (e ∙ ap listedAs (default-enumerated p tag o d)))
+      go false d = refl
 
-  module _ (k : Kind) (q : r ≡ Known k) where
-    part-is : partOf T (some k) o ≡ partIn T p tag o
+  pub part-nothing : r ≡ listed.Nothing → Nothing ≡ partIn T p tag o
+  unfolding partOf
+  part-nothing q =
+      let w = is-nothing (known p tag) (sym q ∙ e) in
+      rw (w .0, w .1) (go (isTokens (known p tag))) ∙ plain-part (λ v. never (sym q ∙ v))
+    where
+      never : listed.Nothing ≡ listed.Value (HoldsNumber Enumerated) → ⊥
+      never v = let z : _≡_ {A = ℕ} 0 1 = cc in omega arith
+
+      go : (b : Bool) → Nothing ≡ cond (b && not b) (Octets (asOctets (min 32_769 (length (taken T (known p tag) o))))) Nothing
+      go true = refl
+      go false = refl
+
+  pub part-inside : r ≡ listed.Inside → Inside ≡ partIn T p tag o
+  unfolding partOf
+  part-inside q = rw (is-inside (known p tag) (sym q ∙ e) .0) refl ∙ plain-part (λ v. never (sym q ∙ v))
+    where
+      never : listed.Inside ≡ listed.Value (HoldsNumber Enumerated) → ⊥
+      never v = let z : _≡_ {A = ℕ} 0 1 = cc in omega arith
+
+  module _ (b : Bool) (d : b ≡ defaultOctets p tag o) where
+    pub part-kept : b ≡ true → Kept ≡ partIn T p tag o
     unfolding partIn
-    part-is = let w = written-kind p tag o r e k q in rw (w .counts, w .kind)
+    part-kept q = rw (sym d ∙ q)
 
-    pub part-items : k ≡ HoldsItems → Inside ≡ partIn T p tag o
-    unfolding partOf isItems isKnown isTokens
-    part-items w = ap (λ l. partOf T (some l) o) (sym w) ∙ part-is
+    pub part-octets : b ≡ false → (k : Kind) → r ≡ listed.Value k → (n : OctetCount) → n .0 ≡ min 32_769 (length (taken T (some k) o)) → Octets n ≡ partIn T p tag o
+    unfolding partIn partOf isKnown
+    part-octets q k v n x =
+        let w = is-value (known p tag) k (sym v ∙ e) in
+        let y : isKnown (known p tag) ≡ true = ap isKnown (w .is) in
+        rw (sym d ∙ q, w .shut, y, w .noTable) (ap (λ size. Octets (asOctets size)) (x ∙ ap (λ z. min 32_769 (length (taken T z o))) (sym (w .is))))
 
-    pub part-tokens : k ≡ HoldsTokens → Nothing ≡ partIn T p tag o
-    unfolding partOf isItems isKnown isTokens
-    part-tokens w = ap (λ l. partOf T (some l) o) (sym w) ∙ part-is
-
-    module _ (n : OctetCount) where
-      pub part-text : (widths : List ℕ) → Widths 32 T widths → k ≡ HoldsText → n ≡ asOctets (min 32_769 (weight widths o)) → Octets n ≡ partIn T p tag o
-      unfolding partOf isItems isKnown isTokens taken fits meant octetsOf
-      part-text widths h w x = rw (x, weight-is T widths h o) (ap (λ l. partOf T (some l) o) (sym w) ∙ part-is)
-
-      -- a value that is no text has the same octets under every table
-      module _ (x : n .0 ≡ min 32_769 (length (valueOctets k o))) where
-        pub part-plain : k ≡ HoldsPlain → Octets n ≡ partIn T p tag o
-        unfolding partOf isItems isKnown isTokens taken valueOctets meant
-        part-plain w = ap (λ size. Octets (asOctets size)) (x ∙ ap (λ l. min 32_769 (length (valueOctets l o))) w) ∙ ap (λ l. partOf T (some l) o) (sym w) ∙ part-is
-
-        pub part-time : k ≡ HoldsTime → Octets n ≡ partIn T p tag o
-        unfolding partOf isItems isKnown isTokens taken valueOctets meant
-        part-time w = ap (λ size. Octets (asOctets size)) (x ∙ ap (λ l. min 32_769 (length (valueOctets l o))) w) ∙ ap (λ l. partOf T (some l) o) (sym w) ∙ part-is
-
-        pub part-bearer : k ≡ HoldsBearer → Octets n ≡ partIn T p tag o
-        unfolding partOf isItems isKnown isTokens taken valueOctets meant
-        part-bearer w = ap (λ size. Octets (asOctets size)) (x ∙ ap (λ l. min 32_769 (length (valueOctets l o))) w) ∙ ap (λ l. partOf T (some l) o) (sym w) ∙ part-is
-
-        pub part-number : (m : NumberKind) → k ≡ HoldsNumber m → Octets n ≡ partIn T p tag o
-        unfolding partOf isItems isKnown isTokens taken valueOctets meant
-        part-number m w = ap (λ size. Octets (asOctets size)) (x ∙ ap (λ l. min 32_769 (length (valueOctets l o))) w) ∙ ap (λ l. partOf T (some l) o) (sym w) ∙ part-is
+pub ruleset part-ways = (part-nothing, part-inside, part-kept, part-octets)
 
 -- ---- framed
 

@@ -2,16 +2,14 @@
 // before anything is written. Nothing is judged again, and what is answered of octets that are no accepted object says nothing.
 // Cost: each item is looked at once, and a text as far as its expansion can fit; the token table is gone through once.
 ghost use mathlib.Core.Path.{_≡_};
-ghost use mathlib.Core.Bool.{cond};
+ghost use mathlib.Core.Option.{some};
 ghost use Prim.Native.Nat.{_≤_, min};
 ghost use lib.ListN.{length};
 ghost use Rattle.text.specs.Tokens.{entries};
 ghost use Rattle.text.specs.Weighing.{Widths};
-ghost use Rattle.values.specs.Calls.{defaultOctets};
 ghost use Rattle.survey.specs.Normal.{framedSize, valueOctets};
 ghost use Rattle.survey.specs.Measure.{Measures};
-ghost use Rattle.survey.specs.Sizes.{partIn, sizesOf, ItemMeasured, ItemsMeasured};
-ghost use Rattle.survey.specs.declared.measure.Part.the-variants.{Nothing, Kept};
+ghost use Rattle.survey.specs.Sizes.{taken, partIn, sizesOf, ItemMeasured, ItemsMeasured};
 use crate::Lies;
 use crate::table::item_at;
 use crate::table::table_of;
@@ -54,24 +52,19 @@ fn value_size(kind: Kind, body: &[u8]) -> Octets
     size
 }
 
-// An item that has a value of a kind.
-fn value_part(
-    kind: Kind,
-    parent: u8,
-    tag: u8,
-    body: &[u8],
-    table: &[u8],
-    widths: &[u8; 32],
-) -> Part
+// The octets of a value of a kind, a text's with its tokens replaced.
+fn octets_of(kind: Kind, body: &[u8], table: &[u8], widths: &[u8; 32]) -> Octets
     requires { ⌜ Widths 32 (entries (now table)) (now widths) ⌝ }
-    ensures { λ r. ⌜ known parent tag ≡ some kind → r ≡ partIn (entries (now (table .entry))) parent tag (now (body .entry)) ⌝ }
+    ensures { λ r. ⌜ r .0 ≡ min 32_769 (length (taken (entries (now (table .entry))) (some kind) (now (body .entry)))) ⌝ }
 {
-    if is_default(parent, tag, body) {
-        return Part::Kept;
-    }
     match kind {
-        Kind::HoldsText => Part::Octets(expanded_size(widths, body, Octets(32_769))),
-        _ => Part::Octets(value_size(kind, body)),
+        Kind::HoldsItems => value_size(kind, body),
+        Kind::HoldsTokens => value_size(kind, body),
+        Kind::HoldsText => expanded_size(widths, body, Octets(32_769)),
+        Kind::HoldsPlain => value_size(kind, body),
+        Kind::HoldsTime => value_size(kind, body),
+        Kind::HoldsBearer => value_size(kind, body),
+        Kind::HoldsNumber(_) => value_size(kind, body),
     }
 }
 
@@ -82,7 +75,12 @@ fn part_of(parent: u8, tag: u8, body: &[u8], table: &[u8], widths: &[u8; 32]) ->
     match listed_as(parent, tag) {
         Listed::Nothing => Part::Nothing,
         Listed::Inside => Part::Inside,
-        Listed::Value(kind) => value_part(kind, parent, tag, body, table, widths),
+        Listed::Value(kind) => {
+            if is_default(parent, tag, body) {
+                return Part::Kept;
+            }
+            Part::Octets(octets_of(kind, body, table, widths))
+        }
     }
 }
 

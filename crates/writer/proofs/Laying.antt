@@ -36,54 +36,14 @@ use Rattle.survey.specs.declared.Lies.{Lies}
 use Rattle.survey.specs.declared.Lies.the-variants.{Outside, Between}
 use Rattle.writer.specs.declared.lay.Level.{Level}
 use Rattle.writer.specs.declared.lay.Laid.{Laid}
-use Rattle.writer.specs.declared.lay.Piece.{Piece}
-use Rattle.writer.specs.declared.lay.Piece.the-variants.{Nothing, Inside, Value}
+use Rattle.tags.specs.declared.Listed.{Listed}
+use Rattle.tags.specs.declared.Listed.the-variants.{Nothing, Inside, Value}
+use Rattle.tags.specs.Listed.{listedAs}
 use Rattle.survey.specs.Places.{liesAt}
 use Rattle.writer.specs.Store.{BodyStorable, BodyStored}
-use Rattle.writer.specs.Lay.{pieceOf, recordAt, Placeable, ValueLayable, ValueLays, shareAt, ItemLayable, InsideLayable, ItemLays, ItemsLayable, ItemsLay}
+use Rattle.writer.specs.Lay.{recordAt, Placeable, ValueLayable, ValueLays, shareAt, ItemLayable, InsideLayable, ItemLays, ItemsLayable, ItemsLay}
 use Rattle.survey.proofs.Places.{Lying, lying, lies-inside, met, to-inside}
 use Rattle.writer.proofs.Pieces.{Splits, splits-share, split-lists, split-store, of-nothing, OfOctets, of-octets, OfItems, of-items}
-
--- ---- piece_of
-
-module _ (p tag : ℕ) (r : KnownKind) (e : r ≡ knownKind p tag) where
-  pub piece-unknown : r ≡ Unknown → Nothing ≡ pieceOf (known p tag)
-  unfolding pieceOf
-  piece-unknown q = rw (unknown-kind p tag r e q)
-
-  module _ (k : Kind) (q : r ≡ Known k) where
-    kind-is : known p tag ≡ some k
-    kind-is = known-kind p tag r e k q
-
-    pub piece-items : k ≡ HoldsItems → Inside ≡ pieceOf (known p tag)
-    unfolding pieceOf
-    piece-items w = rw (kind-is, w)
-
-    pub piece-tokens : k ≡ HoldsTokens → Nothing ≡ pieceOf (known p tag)
-    unfolding pieceOf
-    piece-tokens w = rw (kind-is, w)
-
-    pub piece-text : k ≡ HoldsText → Value k ≡ pieceOf (known p tag)
-    unfolding pieceOf
-    piece-text w = rw (kind-is, w)
-
-    pub piece-plain : k ≡ HoldsPlain → Value k ≡ pieceOf (known p tag)
-    unfolding pieceOf
-    piece-plain w = rw (kind-is, w)
-
-    pub piece-time : k ≡ HoldsTime → Value k ≡ pieceOf (known p tag)
-    unfolding pieceOf
-    piece-time w = rw (kind-is, w)
-
-    pub piece-bearer : k ≡ HoldsBearer → Value k ≡ pieceOf (known p tag)
-    unfolding pieceOf
-    piece-bearer w = rw (kind-is, w)
-
-    pub piece-number : (n : NumberKind) → k ≡ HoldsNumber n → Value k ≡ pieceOf (known p tag)
-    unfolding pieceOf
-    piece-number n w = rw (kind-is, w)
-
-pub ruleset piece-ways = (piece-unknown, piece-items, piece-tokens, piece-text, piece-plain, piece-time, piece-bearer, piece-number)
 
 -- ---- lay_value
 
@@ -207,7 +167,7 @@ module _ (T : Entries) (level : Level) (done : Laid) (tag : ℕ) (body : List �
 
   -- any item
   module _ (can : ItemLayable T level done tag body l store) where
-    module _ (g : Piece) (e : g ≡ pieceOf (known parent tag)) where
+    module _ (g : Listed) (e : g ≡ listedAs (known parent tag)) where
       pub item-nothing : g ≡ Nothing → ItemLays T level done tag body l l store store done
       unfolding ItemLays lay records count
       item-nothing q offset u a =

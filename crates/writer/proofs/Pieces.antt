@@ -27,8 +27,9 @@ use Rattle.format.proofs.Lays.{lay-append}
 use Rattle.judge.proofs.AllWays.{tokens-four}
 use Rattle.reader.specs.Filling.{share}
 use Rattle.reader.proofs.Shares.{records-item, count-item}
-use Rattle.writer.specs.declared.lay.Piece.the-variants.{Nothing, Inside, Value}
-use Rattle.writer.specs.Lay.{pieceOf}
+use Rattle.tags.specs.declared.Listed.the-variants.{Nothing, Inside, Value}
+use Rattle.tags.specs.Listed.{listedAs}
+use Rattle.tags.proofs.Listing.{is-nothing, is-inside, is-value}
 
 -- ---- an item's share, and then the items after it
 
@@ -126,45 +127,6 @@ module _ {T : Entries} {p : ℕ} {whole own after : Items} (s : Splits T p whole
 
 -- ---- by what is laid of an item
 
-is-nothing : (k : Option Kind) → Nothing ≡ pieceOf k → (isItems k ≡ false) × (isKnown k ≡ isTokens k)
-unfolding pieceOf isItems isKnown isTokens
-is-nothing none h = (refl, refl)
-is-nothing (some HoldsItems) h = let z : _≡_ {A = ℕ} 0 1 = cc in absurd (omega arith)
-is-nothing (some HoldsTokens) h = (refl, refl)
-is-nothing (some HoldsText) h = let z : _≡_ {A = ℕ} 0 1 = cc in absurd (omega arith)
-is-nothing (some HoldsPlain) h = let z : _≡_ {A = ℕ} 0 1 = cc in absurd (omega arith)
-is-nothing (some HoldsTime) h = let z : _≡_ {A = ℕ} 0 1 = cc in absurd (omega arith)
-is-nothing (some HoldsBearer) h = let z : _≡_ {A = ℕ} 0 1 = cc in absurd (omega arith)
-is-nothing (some (HoldsNumber n)) h = let z : _≡_ {A = ℕ} 0 1 = cc in absurd (omega arith)
-
-is-inside : (k : Option Kind) → Inside ≡ pieceOf k → (isItems k ≡ true) × (isTokens k ≡ false)
-unfolding pieceOf isItems isTokens
-is-inside none h = let z : _≡_ {A = ℕ} 0 1 = cc in absurd (omega arith)
-is-inside (some HoldsItems) h = (refl, refl)
-is-inside (some HoldsTokens) h = let z : _≡_ {A = ℕ} 0 1 = cc in absurd (omega arith)
-is-inside (some HoldsText) h = let z : _≡_ {A = ℕ} 0 1 = cc in absurd (omega arith)
-is-inside (some HoldsPlain) h = let z : _≡_ {A = ℕ} 0 1 = cc in absurd (omega arith)
-is-inside (some HoldsTime) h = let z : _≡_ {A = ℕ} 0 1 = cc in absurd (omega arith)
-is-inside (some HoldsBearer) h = let z : _≡_ {A = ℕ} 0 1 = cc in absurd (omega arith)
-is-inside (some (HoldsNumber n)) h = let z : _≡_ {A = ℕ} 0 1 = cc in absurd (omega arith)
-
--- a value's kind
-record OfValue (k : Option Kind) (v : Kind) : Type 0 where
-  pub is : k ≡ some v
-  pub shut : isItems k ≡ false
-  pub noTable : isTokens k ≡ false
-
-is-value : (k : Option Kind) (v : Kind) → Value v ≡ pieceOf k → OfValue k v
-unfolding pieceOf isItems isTokens
-is-value none v h = let z : _≡_ {A = ℕ} 0 1 = cc in absurd (omega arith)
-is-value (some HoldsItems) v h = let z : _≡_ {A = ℕ} 0 1 = cc in absurd (omega arith)
-is-value (some HoldsTokens) v h = let z : _≡_ {A = ℕ} 0 1 = cc in absurd (omega arith)
-is-value (some HoldsText) v h = record { is = cc; shut = refl; noTable = refl }
-is-value (some HoldsPlain) v h = record { is = cc; shut = refl; noTable = refl }
-is-value (some HoldsTime) v h = record { is = cc; shut = refl; noTable = refl }
-is-value (some HoldsBearer) v h = record { is = cc; shut = refl; noTable = refl }
-is-value (some (HoldsNumber n)) v h = record { is = cc; shut = refl; noTable = refl }
-
 module _ (T : Entries) (p tag from : ℕ) (body : List ℕ) (u : Items) where
   abbrev own : Items
   own = share (known p tag) tag from body u end
@@ -174,7 +136,7 @@ module _ (T : Entries) (p tag from : ℕ) (body : List ℕ) (u : Items) where
     pub stores : storeIn T p own ≡ []
     pub loads : (at : ℕ) → loadedIn T p at own ≡ end
 
-  pub of-nothing : Nothing ≡ pieceOf (known p tag) → OfNothing
+  pub of-nothing : Nothing ≡ listedAs (known p tag) → OfNothing
   unfolding share storeIn loadedIn
   of-nothing h = go (isKnown (known p tag)) refl
     where
@@ -194,7 +156,7 @@ module _ (T : Entries) (p tag from : ℕ) (body : List ℕ) (u : Items) where
     pub stores : storeIn T p own ≡ stored T (some k) body
     pub loads : (at : ℕ) → loadedIn T p at own ≡ item tag at (stored T (some k) body) end end
 
-  pub of-octets : (k : Kind) → Value k ≡ pieceOf (known p tag) → OfOctets k
+  pub of-octets : (k : Kind) → Value k ≡ listedAs (known p tag) → OfOctets k
   unfolding share storeIn loadedIn isKnown
   of-octets k h =
       let w = is-value (known p tag) k h in
@@ -215,7 +177,7 @@ module _ (T : Entries) (p tag from : ℕ) (body : List ℕ) (u : Items) where
     pub stores : storeIn T p own ≡ storeIn T tag u
     pub loads : (at : ℕ) → loadedIn T p at own ≡ item tag 0 [] (loadedIn T tag at u) end
 
-  pub of-items : Inside ≡ pieceOf (known p tag) → OfItems
+  pub of-items : Inside ≡ listedAs (known p tag) → OfItems
   unfolding share storeIn loadedIn
   of-items h =
       let w = is-inside (known p tag) h in

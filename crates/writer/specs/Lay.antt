@@ -23,19 +23,8 @@ use Rattle.reader.specs.Lent.{Within}
 use Rattle.reader.specs.Filling.{Accepts, share}
 use Rattle.writer.specs.declared.lay.Level.{Level}
 use Rattle.writer.specs.declared.lay.Laid.{Laid}
-use Rattle.writer.specs.declared.lay.Piece.{Piece}
-use Rattle.writer.specs.declared.lay.Piece.the-variants.{Nothing, Inside, Value}
-
--- what is laid of an item of a kind: an unknown item and the token table have no record (document 01, Records and meaning)
-unfoldable pub pieceOf : Option Kind → Piece
-pieceOf none = Nothing
-pieceOf (some HoldsItems) = Inside
-pieceOf (some HoldsTokens) = Nothing
-pieceOf (some HoldsText) = Value HoldsText
-pieceOf (some HoldsPlain) = Value HoldsPlain
-pieceOf (some HoldsTime) = Value HoldsTime
-pieceOf (some HoldsBearer) = Value HoldsBearer
-pieceOf (some (HoldsNumber n)) = Value (HoldsNumber n)
+use Rattle.tags.specs.declared.Listed.the-variants.{Inside}
+use Rattle.tags.specs.Listed.{listedAs}
 
 -- the record of an item with a span of the store
 abbrev pub recordAt : (level : Level) (tag start size : ℕ) → Record
@@ -97,7 +86,7 @@ pub record ItemLayable (table : Entries) (level : Level) (done : Laid) (tag : �
 
 -- one that holds items
 pub record InsideLayable (table : Entries) (level : Level) (done : Laid) (tag : ℕ) (body : List ℕ) (l : Lists) (store : List ℕ) : Type 0 where
-  pub holds : Inside ≡ pieceOf (known (level .element) tag)
+  pub holds : Inside ≡ listedAs (known (level .element) tag)
   pub item : ItemLayable table level done tag body l store
 
 unfoldable pub ItemLays : (table : Entries) (level : Level) (done : Laid) (tag : ℕ) (body : List ℕ) (l l′ : Lists) (store store′ : List ℕ) (r : Laid) → Type 0

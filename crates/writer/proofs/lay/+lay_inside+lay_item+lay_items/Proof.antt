@@ -21,7 +21,7 @@ use Rattle.writer.proofs.lay.lay_items.Reads as lay-items
 use Rattle.writer.proofs.lay.lay_items.Kinds as lay-items-kinds
 use Rattle.writer.proofs.lay.+lay_inside+lay_item+lay_items.Lts-lay_items as lay-items-lts
 use Rattle.writer.proofs.lay.lay_value.Reads as lay-value-reads
-use Rattle.writer.proofs.lay.piece_of.Reads as piece-of-reads
+use Rattle.tags.proofs.listed_as.Reads as listed-as-reads
 use Rattle.writer.proofs.lay.put_record.Reads as put-record-reads
 use Rattle.survey.proofs.item_at.Reads as item-at-reads
 use Rattle.writer.proofs.lay.+lay_inside+lay_item+lay_items.{statement}
@@ -166,20 +166,20 @@ lay-inside-returns : (t : ℕ) → lay-inside-lts.Need-returns (
 lay-inside-returns t c =
     inside-laid _ _ _ _ _ _ _ ((c .before .before .before .before .before .before .before .before .before .before .before .before .before .before .before .before .before .before .before .before .before .before .before .before .before .before .before .before .before .before .before .before .before .before .before .before .before .before .before .before .before .before .before .before .before .before .before .before .before .before .before .pre) .1 .0) _ ((c .before .before .before .before .before .before .before .before .before .before .before .before .before .before .before .before .before .before .before .before .before .before .before .before .before .before .before .before .before .before .before .before .before .before .before .put-record) .ensures) _ _ _ ((c .before .before .before .before .before .before .before .before .before .before .before .before .before .before .lay-items) .ensures)
 
-lay-item-piece-of-requires : (t : ℕ) → lay-item-lts.Need-piece-of-requires (
-  piece-of-reads.Asked,
-  piece-of-reads.Learnt,
+lay-item-listed-as-requires : (t : ℕ) → lay-item-lts.Need-listed-as-requires (
+  listed-as-reads.Asked,
+  listed-as-reads.Learnt,
   lay-inside-below t,
   lay-inside.Post,
   lay-value-reads.Asked,
   lay-value-reads.Learnt,
 ) (lay-item-at t) lay-item.Post
-lay-item-piece-of-requires t c κs =
+lay-item-listed-as-requires t c κs =
     search needs
 
 lay-item-enum-told : (t : ℕ) → lay-item-lts.Need-enum-told (
-  piece-of-reads.Asked,
-  piece-of-reads.Learnt,
+  listed-as-reads.Asked,
+  listed-as-reads.Learnt,
   lay-inside-below t,
   lay-inside.Post,
   lay-value-reads.Asked,
@@ -189,8 +189,8 @@ lay-item-enum-told t c =
     search needs
 
 lay-item-enum-told-2 : (t : ℕ) → lay-item-lts.Need-enum-told-2 (
-  piece-of-reads.Asked,
-  piece-of-reads.Learnt,
+  listed-as-reads.Asked,
+  listed-as-reads.Learnt,
   lay-inside-below t,
   lay-inside.Post,
   lay-value-reads.Asked,
@@ -200,19 +200,19 @@ lay-item-enum-told-2 t c =
     search needs
 
 lay-item-lay-inside-requires : (t : ℕ) → lay-item-lts.Need-lay-inside-requires (
-  piece-of-reads.Asked,
-  piece-of-reads.Learnt,
+  listed-as-reads.Asked,
+  listed-as-reads.Learnt,
   lay-inside-below t,
   lay-inside.Post,
   lay-value-reads.Asked,
   lay-value-reads.Learnt,
 ) (lay-item-at t) lay-item.Post
 lay-item-lay-inside-requires t c κs =
-    (omega (arith, (c .before .before .before .before .before .before .before .before .before .before .before .before .before .before .before .before .before .before .before .pre) .0), (item-inside-can _ _ _ _ _ _ _ ((c .before .before .before .before .before .before .before .before .before .before .before .before .before .before .before .before .before .before .before .pre) .1 .0) _ ((c .before .before .before .before .before .before .before .before .before .piece-of) .ensures) ((c .before .before .before .before .before .before .before .enum-told2) .given .1), (c .before .before .before .before .before .before .before .before .before .before .before .before .before .before .before .before .before .before .before .pre) .1 .1))
+    (omega (arith, (c .before .before .before .before .before .before .before .before .before .before .before .before .before .before .before .before .before .before .before .pre) .0), (item-inside-can _ _ _ _ _ _ _ ((c .before .before .before .before .before .before .before .before .before .before .before .before .before .before .before .before .before .before .before .pre) .1 .0) _ ((c .before .before .before .before .before .before .before .before .before .listed-as) .ensures) ((c .before .before .before .before .before .before .before .enum-told2) .given .1), (c .before .before .before .before .before .before .before .before .before .before .before .before .before .before .before .before .before .before .before .pre) .1 .1))
 
 lay-item-enum-known-kind : (t : ℕ) → lay-item-lts.Need-enum-known-kind (
-  piece-of-reads.Asked,
-  piece-of-reads.Learnt,
+  listed-as-reads.Asked,
+  listed-as-reads.Learnt,
   lay-inside-below t,
   lay-inside.Post,
   lay-value-reads.Asked,
@@ -222,30 +222,30 @@ lay-item-enum-known-kind t c =
     search needs
 
 lay-item-lay-value-requires : (t : ℕ) → lay-item-lts.Need-lay-value-requires (
-  piece-of-reads.Asked,
-  piece-of-reads.Learnt,
+  listed-as-reads.Asked,
+  listed-as-reads.Learnt,
   lay-inside-below t,
   lay-inside.Post,
   lay-value-reads.Asked,
   lay-value-reads.Learnt,
 ) (lay-item-at t) lay-item.Post
 lay-item-lay-value-requires t c κs =
-    (item-value-can _ _ _ _ _ _ _ ((c .before .before .before .before .before .before .before .before .before .before .before .before .before .before .before .before .before .before .before .before .pre) .1 .0) _ ((c .before .before .before .before .before .before .before .before .before .before .piece-of) .ensures) _ ((c .before .before .before .before .before .before .before .before .kind) .given .1), (c .before .before .before .before .before .before .before .before .before .before .before .before .before .before .before .before .before .before .before .before .pre) .1 .1)
+    (item-value-can _ _ _ _ _ _ _ ((c .before .before .before .before .before .before .before .before .before .before .before .before .before .before .before .before .before .before .before .before .pre) .1 .0) _ ((c .before .before .before .before .before .before .before .before .before .before .listed-as) .ensures) _ ((c .before .before .before .before .before .before .before .before .kind) .given .1), (c .before .before .before .before .before .before .before .before .before .before .before .before .before .before .before .before .before .before .before .before .pre) .1 .1)
 
 lay-item-returns : (t : ℕ) → lay-item-lts.Need-returns (
-  piece-of-reads.Asked,
-  piece-of-reads.Learnt,
+  listed-as-reads.Asked,
+  listed-as-reads.Learnt,
   lay-inside-below t,
   lay-inside.Post,
   lay-value-reads.Asked,
   lay-value-reads.Learnt,
 ) (lay-item-at t) lay-item.Post
 lay-item-returns t c =
-    item-nothing _ _ _ _ _ _ _ ((c .before .before .before .before .before .before .before .before .before .before .before .before .pre) .1 .0) _ ((c .before .before .piece-of) .ensures) ((c .enum-told) .given .1)
+    item-nothing _ _ _ _ _ _ _ ((c .before .before .before .before .before .before .before .before .before .before .before .before .pre) .1 .0) _ ((c .before .before .listed-as) .ensures) ((c .enum-told) .given .1)
 
 lay-item-same-length : (t : ℕ) → lay-item-lts.Need-same-length (
-  piece-of-reads.Asked,
-  piece-of-reads.Learnt,
+  listed-as-reads.Asked,
+  listed-as-reads.Learnt,
   lay-inside-below t,
   lay-inside.Post,
   lay-value-reads.Asked,
@@ -255,8 +255,8 @@ lay-item-same-length t c =
     (c .before .before .before .before .before .before .before .before .before .before .before .before .before .tags) .given
 
 lay-item-same-length-2 : (t : ℕ) → lay-item-lts.Need-same-length-2 (
-  piece-of-reads.Asked,
-  piece-of-reads.Learnt,
+  listed-as-reads.Asked,
+  listed-as-reads.Learnt,
   lay-inside-below t,
   lay-inside.Post,
   lay-value-reads.Asked,
@@ -266,8 +266,8 @@ lay-item-same-length-2 t c =
     (c .before .before .before .before .before .before .before .before .before .before .before .kinds) .given
 
 lay-item-same-length-3 : (t : ℕ) → lay-item-lts.Need-same-length-3 (
-  piece-of-reads.Asked,
-  piece-of-reads.Learnt,
+  listed-as-reads.Asked,
+  listed-as-reads.Learnt,
   lay-inside-below t,
   lay-inside.Post,
   lay-value-reads.Asked,
@@ -277,8 +277,8 @@ lay-item-same-length-3 t c =
     (c .before .before .before .before .before .before .before .before .before .depths) .given
 
 lay-item-same-length-4 : (t : ℕ) → lay-item-lts.Need-same-length-4 (
-  piece-of-reads.Asked,
-  piece-of-reads.Learnt,
+  listed-as-reads.Asked,
+  listed-as-reads.Learnt,
   lay-inside-below t,
   lay-inside.Post,
   lay-value-reads.Asked,
@@ -288,8 +288,8 @@ lay-item-same-length-4 t c =
     (c .before .before .before .before .before .before .before .parents) .given
 
 lay-item-same-length-5 : (t : ℕ) → lay-item-lts.Need-same-length-5 (
-  piece-of-reads.Asked,
-  piece-of-reads.Learnt,
+  listed-as-reads.Asked,
+  listed-as-reads.Learnt,
   lay-inside-below t,
   lay-inside.Post,
   lay-value-reads.Asked,
@@ -299,8 +299,8 @@ lay-item-same-length-5 t c =
     (c .before .before .before .before .before .starts) .given
 
 lay-item-same-length-6 : (t : ℕ) → lay-item-lts.Need-same-length-6 (
-  piece-of-reads.Asked,
-  piece-of-reads.Learnt,
+  listed-as-reads.Asked,
+  listed-as-reads.Learnt,
   lay-inside-below t,
   lay-inside.Post,
   lay-value-reads.Asked,
@@ -310,8 +310,8 @@ lay-item-same-length-6 t c =
     (c .before .before .before .sizes) .given
 
 lay-item-same-length-7 : (t : ℕ) → lay-item-lts.Need-same-length-7 (
-  piece-of-reads.Asked,
-  piece-of-reads.Learnt,
+  listed-as-reads.Asked,
+  listed-as-reads.Learnt,
   lay-inside-below t,
   lay-inside.Post,
   lay-value-reads.Asked,
@@ -321,8 +321,8 @@ lay-item-same-length-7 t c =
     (c .before .store) .given
 
 lay-item-returns-2 : (t : ℕ) → lay-item-lts.Need-returns-2 (
-  piece-of-reads.Asked,
-  piece-of-reads.Learnt,
+  listed-as-reads.Asked,
+  listed-as-reads.Learnt,
   lay-inside-below t,
   lay-inside.Post,
   lay-value-reads.Asked,
@@ -332,8 +332,8 @@ lay-item-returns-2 t c =
     (c .before .before .before .before .before .before .before .before .before .before .before .before .before .before .lay-inside) .ensures
 
 lay-item-same-length-8 : (t : ℕ) → lay-item-lts.Need-same-length-8 (
-  piece-of-reads.Asked,
-  piece-of-reads.Learnt,
+  listed-as-reads.Asked,
+  listed-as-reads.Learnt,
   lay-inside-below t,
   lay-inside.Post,
   lay-value-reads.Asked,
@@ -343,8 +343,8 @@ lay-item-same-length-8 t c =
     (c .before .before .before .before .before .before .before .before .before .before .before .before .before .tags2) .given
 
 lay-item-same-length-9 : (t : ℕ) → lay-item-lts.Need-same-length-9 (
-  piece-of-reads.Asked,
-  piece-of-reads.Learnt,
+  listed-as-reads.Asked,
+  listed-as-reads.Learnt,
   lay-inside-below t,
   lay-inside.Post,
   lay-value-reads.Asked,
@@ -354,8 +354,8 @@ lay-item-same-length-9 t c =
     (c .before .before .before .before .before .before .before .before .before .before .before .kinds2) .given
 
 lay-item-same-length-10 : (t : ℕ) → lay-item-lts.Need-same-length-10 (
-  piece-of-reads.Asked,
-  piece-of-reads.Learnt,
+  listed-as-reads.Asked,
+  listed-as-reads.Learnt,
   lay-inside-below t,
   lay-inside.Post,
   lay-value-reads.Asked,
@@ -365,8 +365,8 @@ lay-item-same-length-10 t c =
     (c .before .before .before .before .before .before .before .before .before .depths2) .given
 
 lay-item-same-length-11 : (t : ℕ) → lay-item-lts.Need-same-length-11 (
-  piece-of-reads.Asked,
-  piece-of-reads.Learnt,
+  listed-as-reads.Asked,
+  listed-as-reads.Learnt,
   lay-inside-below t,
   lay-inside.Post,
   lay-value-reads.Asked,
@@ -376,8 +376,8 @@ lay-item-same-length-11 t c =
     (c .before .before .before .before .before .before .before .parents2) .given
 
 lay-item-same-length-12 : (t : ℕ) → lay-item-lts.Need-same-length-12 (
-  piece-of-reads.Asked,
-  piece-of-reads.Learnt,
+  listed-as-reads.Asked,
+  listed-as-reads.Learnt,
   lay-inside-below t,
   lay-inside.Post,
   lay-value-reads.Asked,
@@ -387,8 +387,8 @@ lay-item-same-length-12 t c =
     (c .before .before .before .before .before .starts2) .given
 
 lay-item-same-length-13 : (t : ℕ) → lay-item-lts.Need-same-length-13 (
-  piece-of-reads.Asked,
-  piece-of-reads.Learnt,
+  listed-as-reads.Asked,
+  listed-as-reads.Learnt,
   lay-inside-below t,
   lay-inside.Post,
   lay-value-reads.Asked,
@@ -398,8 +398,8 @@ lay-item-same-length-13 t c =
     (c .before .before .before .sizes2) .given
 
 lay-item-same-length-14 : (t : ℕ) → lay-item-lts.Need-same-length-14 (
-  piece-of-reads.Asked,
-  piece-of-reads.Learnt,
+  listed-as-reads.Asked,
+  listed-as-reads.Learnt,
   lay-inside-below t,
   lay-inside.Post,
   lay-value-reads.Asked,
@@ -409,15 +409,15 @@ lay-item-same-length-14 t c =
     (c .before .store2) .given
 
 lay-item-returns-3 : (t : ℕ) → lay-item-lts.Need-returns-3 (
-  piece-of-reads.Asked,
-  piece-of-reads.Learnt,
+  listed-as-reads.Asked,
+  listed-as-reads.Learnt,
   lay-inside-below t,
   lay-inside.Post,
   lay-value-reads.Asked,
   lay-value-reads.Learnt,
 ) (lay-item-at t) lay-item.Post
 lay-item-returns-3 t c =
-    item-value _ _ _ _ _ _ _ ((c .before .before .before .before .before .before .before .before .before .before .before .before .before .before .before .before .before .before .before .before .before .before .before .before .before .before .before .before .before .before .before .before .before .before .before .pre) .1 .0) _ ((c .before .before .before .before .before .before .before .before .before .before .before .before .before .before .before .before .before .before .before .before .before .before .before .before .before .piece-of) .ensures) _ ((c .before .before .before .before .before .before .before .before .before .before .before .before .before .before .before .before .before .before .before .before .before .before .before .kind) .given .1) _ _ _ ((c .before .before .before .before .before .before .before .before .before .before .before .before .before .before .lay-value) .ensures)
+    item-value _ _ _ _ _ _ _ ((c .before .before .before .before .before .before .before .before .before .before .before .before .before .before .before .before .before .before .before .before .before .before .before .before .before .before .before .before .before .before .before .before .before .before .before .pre) .1 .0) _ ((c .before .before .before .before .before .before .before .before .before .before .before .before .before .before .before .before .before .before .before .before .before .before .before .before .before .listed-as) .ensures) _ ((c .before .before .before .before .before .before .before .before .before .before .before .before .before .before .before .before .before .before .before .before .before .before .before .kind) .given .1) _ _ _ ((c .before .before .before .before .before .before .before .before .before .before .before .before .before .before .lay-value) .ensures)
 
 abbrev lay-items-Inv-loop : lay-items-lts.InvT-loop
 lay-items-Inv-loop part index table level tags₀ kinds₀ depths₀ parents₀ starts₀ sizes₀ store₀ done₀ at₀ tags kinds depths parents starts sizes store done at =
@@ -692,8 +692,8 @@ pub +lay-inside+lay-item+lay-items-spec : {M : Type 1} → statement M
     (lay-inside-same-length-7 t)
     (lay-inside-returns t))
     (λ t. lay-item-lts.spec (
-      piece-of-reads.Asked,
-      piece-of-reads.Learnt,
+      listed-as-reads.Asked,
+      listed-as-reads.Learnt,
       lay-inside-below t,
       lay-inside.Post,
       lay-value-reads.Asked,
@@ -701,7 +701,7 @@ pub +lay-inside+lay-item+lay-items-spec : {M : Type 1} → statement M
     )
     (lay-item-at t)
     lay-item.Post
-    (lay-item-piece-of-requires t)
+    (lay-item-listed-as-requires t)
     (lay-item-enum-told t)
     (lay-item-enum-told-2 t)
     (lay-item-lay-inside-requires t)
