@@ -1,7 +1,6 @@
 -- Two parts compared: the ways through same_child and same_children.
 use mathlib.Core.Path.{_≡_, refl, sym, ap, ap₂, _∙_, subst}
-use mathlib.Core.Bool.{Bool, true, false, cond, _&&_, and-true as and-yes}
-use mathlib.Core.Logic.{_↔_}
+use mathlib.Core.Bool.{Bool, true, false, cond, _&&_}
 use mathlib.Core.Option.{some}
 use mathlib.Core.List.{List, []}
 use Prim.Native.Nat.{ℕ, zero, suc, _+_, _-_, _≤_, _<_}
@@ -21,9 +20,8 @@ use Rattle.values.proofs.Laws.{known-kind, unknown-kind}
 use Rattle.format.specs.Tree.{Items}
 use Rattle.format.specs.Tree.Items.{end, item}
 use Rattle.format.specs.Judge.{isItems, isText}
-use Rattle.format.specs.Meaning.{Meaning, opens, isChild, attributesIn, cdataIn, leafOctets, means}
+use Rattle.format.specs.Meaning.{opens, isChild, attributesIn, cdataIn, leafOctets, means}
 use Rattle.format.specs.Meaning.Meaning.{nothing, element, leaf}
-use Rattle.format.specs.WellFormed.{WellFormed}
 use Rattle.format.specs.Same.{sameOctets, sameMaybe, sameAttributes, sameMeaning}
 use Rattle.reader.specs.Filling.{Accepts}
 use Rattle.survey.specs.Places.{between, bodyOfTag}
@@ -33,7 +31,6 @@ use Rattle.compare.specs.declared.items.Content.{Content}
 use Rattle.compare.specs.declared.items.Content.the-variants.{Items as InItems, Text as InText, Octets as InOctets}
 use Rattle.compare.specs.Walks.{childrenIn, ChildFound, Children}
 use Rattle.compare.specs.Items.{sameSets, sameText, sameEach, sameElement, sameChildren, contentOf, isEnded}
-use Rattle.format.proofs.Same.{meaning-exactly}
 use Rattle.compare.proofs.Walking.{Told, children-told}
 use Rattle.compare.proofs.Walking.Told.{over, comes}
 use Rattle.compare.proofs.Sets.{SameData, sets-say, data-says}
@@ -373,21 +370,3 @@ module _ (es fs : Entries) where
   pub children-say : (levels p q d e i j : ℕ) (a b : List ℕ) (t u : Items) → d + levels ≡ 17 → Accepts p d i a t → Accepts q e j b u
       → sameChildren levels es a fs b ≡ sameMeaning (means es t) (means fs u)
   children-say levels = parts-say es fs levels (element-says levels)
-
--- ---- what the answer for two elements says: their meanings are equal
-
-module _ (es fs : Entries) (levels tag d e i j : ℕ) (a b : List ℕ) (t u : Items) (n : d + levels ≡ 17) (c : isChild tag ≡ true) (x : Held tag d i a t) (z : Held tag e j b u) where
-  abbrev first : Meaning
-  first = means es (item tag i a t end)
-
-  abbrev second : Meaning
-  second = means fs (item tag j b u end)
-
-  element-tested : sameMeaning first second ≡ sameElement levels es fs tag a b
-  unfolding means sameMeaning
-  element-tested = tags-same es fs tag i a t end c j b u end ∙ and-yes (sameInside es fs tag a t b u) ∙ sym (element-says es fs levels tag d e i j a b t u n x z)
-
-  pub child-exactly : (p s p′ s′ : ℕ) → WellFormed p d s first → WellFormed p′ e s′ second → sameElement levels es fs tag a b ≡ true ↔ first ≡ second
-  child-exactly p s p′ s′ ok ok′ =
-      let m = meaning-exactly first second p d s p′ e s′ ok ok′ in
-      ((λ h. m .0 (element-tested ∙ h)), (λ h. sym element-tested ∙ m .1 h))

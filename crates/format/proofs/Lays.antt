@@ -5,11 +5,9 @@ use mathlib.Core.Logic.{_≢_}
 use mathlib.Core.List.{List, [], _∷_, _++_}
 use Prim.Native.Nat.{ℕ, zero, suc, _+_, _≤_, _<_}
 use native.Mathlib.Nat.{add-zero, add-suc, suc-add}
-use native.Mathlib.Numerals.{add-one}
 use native.Mathlib.Omega.{arith}
-use lib.ListN.{length, getD, take, length-set, length-take}
-use lib.Seq.{getD-set-same, getD-set-other, set-set, set-comm}
-use Rattle.octets.proofs.Lists.{take-next}
+use lib.ListN.{length, getD, length-set}
+use lib.Seq.{getD-set-same, getD-set-other}
 use Rattle.format.specs.declared.Record.{Record}
 use Rattle.format.specs.Writer.{tabled}
 use Rattle.format.specs.Calls.{Lists, places, row, put, lay}
@@ -19,23 +17,10 @@ pub lay-none : (i : ℕ) (l : Lists) → lay i [] l ≡ l
 unfolding lay
 lay-none i l = refl
 
-pub lay-one : (i : ℕ) (r : Record) (l : Lists) → lay i (r ∷ []) l ≡ put i r l
-unfolding lay
-lay-one i r l = refl
-
-pub lay-first : (i : ℕ) (r : Record) (rs : List Record) (l : Lists) → lay i (r ∷ rs) l ≡ lay (suc i) rs (put i r l)
-unfolding lay
-lay-first i r rs l = refl
-
 pub lay-append : (i : ℕ) (a b : List Record) (l : Lists) → lay i (a ++ b) l ≡ lay (i + length a) b (lay i a l)
 unfolding lay
 lay-append i [] b l = ap (λ k. lay k b l) (sym (add-zero i))
 lay-append i (r ∷ a) b l = lay-append (suc i) a b (put i r l) ∙ ap (λ k. lay k b (lay (suc i) a (put i r l))) (suc-add i (length a) ∙ sym (add-suc i (length a)))
-
--- one record more, behind those laid
-pub lay-last : (i : ℕ) (rs : List Record) (r : Record) (l : Lists) → lay i (rs ++ (r ∷ [])) l ≡ put (i + length rs) r (lay i rs l)
-unfolding lay
-lay-last i rs r l = lay-append i rs (r ∷ []) l
 
 -- ---- two lists of lists of the same lengths
 pub record SameLengths (l m : Lists) : Type 0 where
@@ -80,10 +65,6 @@ pub inside : (i : ℕ) (l : Lists) → i < places l → Inside i l
 unfolding places
 inside i l h = record { tags = omega arith; kinds = omega arith; depths = omega arith; parents = omega arith; starts = omega arith; sizes = omega arith }
 
-pub inside-places : (n : ℕ) (l : Lists) → n ≤ length (l .tags) → n ≤ length (l .kinds) → n ≤ length (l .depths) → n ≤ length (l .parents) → n ≤ length (l .starts) → n ≤ length (l .sizes) → n ≤ places l
-unfolding places
-inside-places n l a b c d e f = omega arith
-
 -- ---- the record of a number
 same-record : (a b : Record) → a .tag ≡ b .tag → a .kind ≡ b .kind → a .depth ≡ b .depth → a .parent ≡ b .parent → a .start ≡ b .start → a .size ≡ b .size → a ≡ b
 same-record a b p q r s t u = λ i. record { tag = p i; kind = q i; depth = r i; parent = s i; start = t i; size = u i }
@@ -114,13 +95,6 @@ pub row-lay-first : (i : ℕ) (r : Record) (rs : List Record) (l : Lists) → i 
 unfolding lay
 row-lay-first i r rs l h = row-lay-before (suc i) rs (put i r l) i (omega arith) ∙ row-put i r l h
 
-pub row-lay-in : (i : ℕ) (rs : List Record) (l : Lists) (k : ℕ) (d : Record) → k < length rs → i + length rs ≤ places l → row (lay i rs l) (i + k) ≡ getD rs k d
-unfolding lay
-row-lay-in i [] l k d h p = absurd (omega arith)
-row-lay-in i (r ∷ rs) l zero d h p = ap (row (lay i (r ∷ rs) l)) (add-zero i) ∙ row-lay-first i r rs l (omega arith)
-row-lay-in i (r ∷ rs) l (suc k) d h p =
-    ap (row (lay i (r ∷ rs) l)) (add-suc i k ∙ sym (suc-add i k)) ∙ row-lay-in (suc i) rs (put i r l) k d (omega arith) (rw (places-put i r l) (omega arith))
-
 -- the records read back from where they were laid
 pub tabled-lay : (i : ℕ) (rs : List Record) (l : Lists) → i + length rs ≤ places l → tabled (row (lay i rs l)) (length rs) i ≡ rs
 unfolding lay tabled
@@ -133,47 +107,7 @@ tabled-lay i (r ∷ rs) l h =
 pub tabled-laid : (rs : List Record) (l m : Lists) (n : ℕ) → m ≡ lay 0 rs l → n ≡ length rs → n ≤ places l → tabled (row m) n 0 ≡ rs
 tabled-laid rs l m n e k h = rw (e, k) (tabled-lay 0 rs l (omega arith))
 
--- ---- as the code goes: an item's record at its number, then the records inside it, then those after it
-pub lay-item : (i j : ℕ) (r : Record) (a b : List Record) (l l₁ l₂ l₃ : Lists) → l₁ ≡ put i r l → l₂ ≡ lay (i + 1) a l₁ → j ≡ i + 1 + length a → l₃ ≡ lay j b l₂ → l₃ ≡ lay i (r ∷ (a ++ b)) l
-unfolding lay
-lay-item i j r a b l l₁ l₂ l₃ e₁ e₂ k e₃ =
-    e₃ ∙ ap (λ n. lay n b l₂) k ∙ ap (lay (i + 1 + length a) b) (e₂ ∙ ap (lay (i + 1) a) e₁) ∙ ap (λ n. lay (n + length a) b (lay n a (put i r l))) (add-one i)
-    ∙ sym (lay-append (suc i) a b (put i r l))
-
--- one record more of those that are to be laid
-pub lay-next : (rs : List Record) (i : ℕ) (l : Lists) (d : Record) → i < length rs → lay 0 (take (i + 1) rs) l ≡ put i (getD rs i d) (lay 0 (take i rs) l)
-lay-next rs i l d h =
-    let e : 0 + length (take i rs) ≡ i = simp length-take (omega arith) in
-    ap (λ s. lay 0 s l) (take-next rs i d h) ∙ lay-last 0 (take i rs) (getD rs i d) l ∙ ap (λ n. put n (getD rs i d) (lay 0 (take i rs) l)) e
-
--- ---- laying twice
-same-lists : (l m : Lists) → l .tags ≡ m .tags → l .kinds ≡ m .kinds → l .depths ≡ m .depths → l .parents ≡ m .parents → l .starts ≡ m .starts → l .sizes ≡ m .sizes → l ≡ m
-same-lists l m p q r s t u = λ i. record { tags = p i; kinds = q i; depths = r i; parents = s i; starts = t i; sizes = u i }
-
-pub put-put : (i : ℕ) (r s : Record) (l : Lists) → put i s (put i r l) ≡ put i s l
-put-put i r s l =
-    same-lists _ _ (set-set (l .tags) i (r .tag) (s .tag)) (set-set (l .kinds) i (r .kind) (s .kind)) (set-set (l .depths) i (r .depth) (s .depth))
-    (set-set (l .parents) i (r .parent) (s .parent)) (set-set (l .starts) i (r .start) (s .start)) (set-set (l .sizes) i (r .size) (s .size))
-
-pub put-comm : (i j : ℕ) (r s : Record) (l : Lists) → i ≢ j → put j s (put i r l) ≡ put i r (put j s l)
-put-comm i j r s l h =
-    same-lists _ _ (set-comm (l .tags) i j (r .tag) (s .tag) h) (set-comm (l .kinds) i j (r .kind) (s .kind) h) (set-comm (l .depths) i j (r .depth) (s .depth) h)
-    (set-comm (l .parents) i j (r .parent) (s .parent) h) (set-comm (l .starts) i j (r .start) (s .start) h) (set-comm (l .sizes) i j (r .size) (s .size) h)
-
-pub put-lay : (i j : ℕ) (rs : List Record) (s : Record) (l : Lists) → j < i → put j s (lay i rs l) ≡ lay i rs (put j s l)
-unfolding lay
-put-lay i j [] s l h = refl
-put-lay i j (r ∷ rs) s l h = put-lay (suc i) j rs s (put i r l) (omega arith) ∙ ap (lay (suc i) rs) (put-comm i j r s l (λ e. omega arith))
-
--- the second laying stays where it is as long
-pub lay-over : (i : ℕ) (a b : List Record) (l : Lists) → length a ≤ length b → lay i b (lay i a l) ≡ lay i b l
-unfolding lay
-lay-over i [] b l h = refl
-lay-over i (r ∷ a) [] l h = absurd (omega arith)
-lay-over i (r ∷ a) (s ∷ b) l h =
-    ap (lay (suc i) b) (put-lay (suc i) i a s (put i r l) (omega arith)) ∙ lay-over (suc i) a b (put i s (put i r l)) (omega arith) ∙ ap (lay (suc i) b) (put-put i r s l)
-
--- ---- rows as a list: one more at the end, each, and rows that are the same
+-- ---- rows as a list: one more at the end, and each
 pub tabled-more : (row : ℕ → Record) (n i : ℕ) → tabled row (suc n) i ≡ tabled row n i ++ (row (i + n) ∷ [])
 unfolding tabled
 tabled-more row zero i = ap {B = List Record} (λ k. row k ∷ []) (sym (add-zero i))
@@ -185,10 +119,3 @@ unfolding tabled
 getD-tabled row zero i k d h = absurd (omega arith)
 getD-tabled row (suc n) i zero d h = ap row (sym (add-zero i))
 getD-tabled row (suc n) i (suc k) d h = getD-tabled row n (suc i) k d (omega arith) ∙ ap row (suc-add i k ∙ sym (add-suc i k))
-
-pub tabled-same : (f g : ℕ → Record) (n i : ℕ) → ((k : ℕ) → i ≤ k → k < i + n → f k ≡ g k) → tabled f n i ≡ tabled g n i
-unfolding tabled
-tabled-same f g zero i h = refl
-tabled-same f g (suc n) i h =
-    let more : tabled f n (suc i) ≡ tabled g n (suc i) = tabled-same f g n (suc i) (λ k p q. h k (omega arith) (omega arith)) in
-    λ j. h i (omega arith) (omega arith) j ∷ more j

@@ -11,7 +11,7 @@ use Rattle.format.specs.Tree.{Items, withoutDefaults}
 use Rattle.format.specs.Tree.Items.{end, item}
 use Rattle.format.specs.Judge.{Judged, judge}
 use Rattle.format.specs.Judge.Judged.{refused, accepted}
-use Rattle.format.specs.Meaning.{Meaning, tableOf, meaningOf, ifAccepted, meaning, encode, normalOf, normal}
+use Rattle.format.specs.Meaning.{Meaning, tableOf, meaningOf, ifAccepted, meaning, encode, normalOf}
 use Rattle.format.specs.WellFormed.{ObjectOk}
 use Rattle.format.proofs.Rules.{same-tree}
 use Rattle.format.proofs.Round.{reread, meaning-encode, encode-injective}
@@ -52,13 +52,3 @@ normal-bare o t u os h l e =
 -- two accepted objects have one normal form exactly where they mean the same
 pub same-normal : (o p : List ℕ) → Octets o → Octets p → (m n : Meaning) → meaning o ≡ some m → meaning p ≡ some n → length (encode m) ≤ 32_768 → encode m ≡ encode n ↔ m ≡ n
 same-normal o p os ps m n h g l = ((λ e. encode-injective m n (meaning-ok o os m h) (meaning-ok p ps n g) l e), (λ e. ap encode e))
-
--- the normal form is its own normal form
-pub normal-again : (o p : List ℕ) → Octets o → normal o ≡ some p → length p ≤ 32_768 → normal p ≡ some p
-unfolding normal meaning ifAccepted
-normal-again o p os h l =
-    let a = accepted-is normalOf (judge o) p h in
-    let m : Meaning = meaningOf (a .0) in
-    let again : meaning p ≡ some m = subst (λ x. meaning x ≡ some m) (a .2) (meaning-encode m (accepted-ok o (a .0) os (a .1)) (subst (λ x. length x ≤ 32_768) (sym (a .2)) l)) in
-    let b = accepted-is meaningOf (judge p) m again in
-    ap (ifAccepted normalOf) (b .1) ∙ ap some (ap encode (b .2) ∙ a .2)

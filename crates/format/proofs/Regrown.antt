@@ -2,11 +2,10 @@
 use mathlib.Core.Path.{_≡_, refl, sym, ap, _∙_, fun-ext, subst}
 use mathlib.Core.Bool.{Bool, true, false, cond, _||_}
 use mathlib.Core.Option.{none, some, Option·map}
-use mathlib.Core.List.{List, [], _∷_, _++_}
-use Prim.Native.Nat.{ℕ, zero, suc, _+_}
+use mathlib.Core.List.{List, _++_}
+use Prim.Native.Nat.{ℕ, suc, _+_}
 use native.Mathlib.Omega.{arith}
 use lib.Dec.{eqb}
-use lib.ListN.{length, getD}
 use borrow.Author.Tests.{eqb-true, eqb-false, ne-eqb}
 use Rattle.text.specs.Tokens.{Entries, expanded}
 use Rattle.values.specs.Table.{known, attribute}
@@ -20,7 +19,7 @@ use Rattle.format.specs.Judge.Judged.{accepted}
 use Rattle.format.specs.Meaning.{opens, valueIn, counted, attributesIn, cdataIn, means, tableOf, meaningOf}
 use Rattle.format.specs.Writer.{bodyIn, here, tree, isEnd, tabled}
 use Rattle.format.proofs.Induction.{Cases, judged-all}
-use Rattle.format.proofs.Spans.{Part, Located, part-span, located, records-count}
+use Rattle.format.proofs.Spans.{Part, Located, part-span}
 use Rattle.format.proofs.Means.{opens-items, means-table}
 use Rattle.format.proofs.Force.{attribute-four}
 use Rattle.format.proofs.Kept.{end-is}
@@ -117,23 +116,6 @@ module _ (row : ℕ → Record) (n : ℕ) (lent : List ℕ) where
       let all : left row n 0 ≡ recordsOf t ++ left row n n = left-all row n ∙ (sym e ∙ sym (left-none row n (recordsOf t))) in
       whole-tree row n lent 1 ∙ regrows t 1 0 0 n sh l all (omega arith) (stops-end row n 1)
 
--- the records of a list by number
-pub blank : Record
-blank = record { tag = 0; kind = 0; depth = 0; parent = 0; start = 0; size = 0 }
-
-abbrev pub rowOf : List Record → ℕ → Record
-rowOf rs i = getD rs i blank
-
-tabled-shift : (row : ℕ → Record) (m i : ℕ) → tabled row m (suc i) ≡ tabled (λ j. row (suc j)) m i
-unfolding tabled
-tabled-shift row zero i = refl
-tabled-shift row (suc m) i = ap {B = List Record} (λ rs. row (suc i) ∷ rs) (tabled-shift row m (suc i))
-
-pub tabled-rows : (rs : List Record) → tabled (rowOf rs) (length rs) 0 ≡ rs
-unfolding tabled
-tabled-rows [] = refl
-tabled-rows (r ∷ rs) = ap {B = List Record} (λ x. r ∷ x) (tabled-shift (rowOf (r ∷ rs)) (length rs) 0 ∙ tabled-rows rs)
-
 abbrev Shapes : Context → ℕ → List ℕ → Items → Type 0
 Shapes c at part t = Shaped t
 
@@ -148,13 +130,6 @@ shapes-cases = record {
 
 pub shaped : (o : List ℕ) (t : Items) → judge o ≡ accepted t → Shaped t
 shaped o t h = judged-all Shapes shapes-cases o t h
-
--- the records of an accepted object's tree, taken by number, say that tree again
-pub regrown : (o : List ℕ) (t : Items) → judge o ≡ accepted t
-    → tree (suc (length (recordsOf t))) (rowOf (recordsOf t)) (length (recordsOf t)) o 1 0 ≡ (untabled t, length (recordsOf t))
-regrown o t h =
-    let rs = recordsOf t in
-    regrows-all (rowOf rs) (length rs) o t (shaped o t h) (located o t h) (sym (tabled-rows rs)) (records-count t 1 0 0)
 
 -- what a tree means, without its token tables: they are no child elements, and no attribute or CDATA is among them
 find-untabled : (a : ℕ) → eqb a 4 ≡ false → (t : Items) → find a (untabled t) ≡ find a t

@@ -1,7 +1,7 @@
 -- The meaning of well-formed records is well-formed.
 use mathlib.Core.Path.{_≡_, refl, ap, subst}
 use mathlib.Core.Bool.{Bool, true, false, cond, not, _&&_, _||_}
-use mathlib.Core.Option.{none, some}
+use mathlib.Core.Option.{some}
 use mathlib.Core.List.{List, []}
 use Prim.Native.Nat.{ℕ, _<_}
 use native.Mathlib.Omega.{arith}
@@ -19,31 +19,17 @@ use Rattle.text.proofs.Words.{plain-text, plain-text-covered}
 use Rattle.text.proofs.Expansion.{sound-empty}
 use Rattle.values.proofs.Known.{row-holds}
 use Rattle.format.specs.declared.Record.{Record}
-use Rattle.format.specs.Tree.{Items, find, count}
+use Rattle.format.specs.Tree.{Items, count}
 use Rattle.format.specs.Tree.Items.{end, item}
 use Rattle.format.specs.Judge.{isText, shown}
-use Rattle.format.specs.Meaning.{means, tableIn, tableOf}
+use Rattle.format.specs.Meaning.{means}
 use Rattle.format.specs.WellFormed.{ObjectOk}
 use Rattle.format.specs.Writer.{Spot, below, past, atTop, rebuilt, ruled}
 use Rattle.format.proofs.Spans.{Located, part-span}
-use Rattle.format.proofs.Force.{swap-eqb}
 use Rattle.format.proofs.Told.{ItemTold, Told}
 use Rattle.format.proofs.Fine.{known-is, told-ok}
-use Rattle.format.proofs.Kept.{Ruled, keeps-parts, keeps-tag, ruled-parts}
+use Rattle.format.proofs.Kept.{Ruled, keeps-parts, ruled-parts}
 use Rattle.format.proofs.Rebuilt.{rebuilt-whole, whole-count}
-
--- a tree that keeps the writer's rules has no token table
-pub ruled-no-table : (t : Items) (s : Spot) → ruled s t ≡ true → find 4 t ≡ none
-unfolding find
-ruled-no-table end s h = refl
-ruled-no-table (item tag at body inside after) s h =
-    let u = ruled-parts s tag at body inside after h in
-    rw (swap-eqb tag 4 (keeps-tag s tag body (u .rules))) (ruled-no-table after (past s tag) (u .beside))
-
-pub ruled-empty-table : (t : Items) (s : Spot) → ruled s t ≡ true → tableOf t ≡ []
-unfolding tableOf tableIn
-ruled-empty-table end s h = refl
-ruled-empty-table (item tag at body inside after) s h = rw (ruled-no-table inside (below s tag) (ruled-parts s tag at body inside after h .within))
 
 -- the bodies of a tree are octets
 abbrev pub Bytes : Items → Type 0

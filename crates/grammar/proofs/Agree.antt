@@ -1,7 +1,6 @@
 -- The grammar and the judgement say the same.
 use mathlib.Core.Path.{_≡_, sym, _∙_}
 use mathlib.Core.List.{List}
-use mathlib.Core.Logic.{_↔_}
 use Prim.Native.Nat.{ℕ}
 use Rattle.octets.specs.Numbers.{Octets}
 use Rattle.format.specs.Tree.{Items}
@@ -19,10 +18,6 @@ sound = accepts-judged
 -- an accepted object is one of the grammar, with its tree
 pub complete : (o : List ℕ) (t : Items) → Octets o → judge o ≡ accepted t → Accepts o t
 complete = judged-accepts
-
--- octets are an object of the grammar with a tree exactly where they are accepted with it
-pub exactly : (o : List ℕ) → Octets o → (t : Items) → Accepts o t ↔ (judge o ≡ accepted t)
-exactly o os t = (sound o t, complete o t os)
 
 -- octets are an object with one tree at most
 pub one-tree : (o : List ℕ) (t u : Items) → Accepts o t → Accepts o u → t ≡ u

@@ -51,13 +51,7 @@ module _ (index : List ℕ) (t start : ℕ) (r : Bool) (k : r ≡ token t) where
 
 pub ruleset note-ways = (note-plain, note-inside, note-met, note-new)
 
--- ---- `longer`
-pub longer-second : (a b : ℕ) → a < b → b ≡ max a b
-longer-second a b h = sym (max-eq-right (omega arith))
-
-pub longer-first : (a b : ℕ) → b ≤ a → a ≡ max a b
-longer-first a b h = sym (max-eq-left h)
-
+-- ---- the loop of `index_of`
 max-three : (a b c : ℕ) → max (max a b) c ≡ max a (max b c)
 max-three a b c =
     let up : max (max a b) c ≤ max a (max b c) =
@@ -66,7 +60,6 @@ max-three a b c =
     max-le (omega (arith, le-max-left a b, le-max-left (max a b) c)) (max-le (omega (arith, le-max-right a b, le-max-left (max a b) c)) (le-max-right (max a b) c)) in
     omega arith
 
--- ---- the loop of `index_of`
 -- where the text begins that stands for an octet by entries of which the first begins at a place
 abbrev later : ℕ → Entries → ℕ → ℕ
 later at es k = startOf (cond (token k) (found at es k) Nothing)
@@ -412,12 +405,6 @@ pub ruleset by-ways = (by-plain, by-inside, by-none, by-past, by-long, by-wide, 
 -- ---- `width_at`, `widest_by` and `fits`: so many octets stand for an octet at most
 pub width-self : (index table : List ℕ) (b : ℕ) (f : Found) → f ≡ placeBy index table b → f ≡ Nothing → 1 ≡ length (stands (entriesBy index table) b)
 width-self index table b f e q = sym (ap length (self-by index table b f e q))
-
-pub bounds-none : (index : List ℕ) → getD index 0 0 ≡ 0 → Bounds index 1
-bounds-none index e = record { some = omega arith; widest = omega arith }
-
-pub bounds-some : (index : List ℕ) → (getD index 0 0 ≡ 0 → ⊥) → Bounds index (getD index 0 0)
-bounds-some index e = record { some = omega arith; widest = omega arith }
 
 module _ (index table : List ℕ) (n : ℕ) (bound : Bounds index n) where
   stands-bound : (b : ℕ) → length (stands (entriesBy index table) b) ≤ n

@@ -107,11 +107,6 @@ module _ (least most : ℕ) where
           → RunTo least most s at (end + 16)
       run-sixteen h r e y = run-more 16 (omega (arith, run .inside)) (ap (λ q. allWithin least most (take 16 q)) (sym (part-to-end s end)) ∙ sym e ∙ y)
 
-      pub run-join : (to : ℕ) → RunTo least most s end to → RunTo least most s at to
-      run-join to more =
-          let all : end + (to - end) ≡ to = omega (arith, more .onward) in
-          subst (λ (n : ℕ). RunTo least most s at n) all (run-more (to - end) (omega (arith, more .onward, more .inside)) (more .all))
-
       pub run-one : end < length s → (r : Bool) → r ≡ within least most (getD s end 0) → r ≡ true → RunTo least most s at (end + 1)
       unfolding allWithin
       run-one h r e y = run-more 1 (omega arith) (ap (λ q. allWithin least most (take 1 q)) (drop-next s end 0 h) ∙ rw (← e, y))

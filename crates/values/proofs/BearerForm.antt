@@ -19,7 +19,7 @@ use Rattle.values.specs.declared.Bearer.{Bearer}
 use Rattle.values.specs.declared.TakenBearer.the-variants.{Good, Bad}
 use Rattle.values.specs.Bearers.{ensembleFlag, longSidFlag, ensembleOf, bearerOf, isBearer, ensembleBit, ensembleOctets, bearerOctets}
 use Rattle.values.specs.Calls.{takenBearer, bearerInRange}
-use Rattle.values.specs.Proper.{BearerOk, EnsembleOk, SidOk}
+use Rattle.values.specs.Proper.{BearerOk, SidOk}
 use Rattle.values.proofs.Shifts.{sets-append}
 use Rattle.values.proofs.Laws.{bearer-size}
 
@@ -223,10 +223,3 @@ ok-valid b ok =
     go : (l : Bool) → SidOk l (b .sid) → l || leb (b .sid) 0xFFFF ≡ true
     go true h = refl
     go false h = le-leb (b .sid) 0xFFFF (omega arith)
-
-pub valid-ok : (b : Bearer) → EnsembleOk (b .ensemble) → b .sid < 256 ^ 4 → bearerInRange b ≡ true → BearerOk b
-valid-ok b e s v = record { ensemble = e; sid = go (b .long) (sid-small b v); scids = scids-small b v }
-  where
-    go : (l : Bool) → l || leb (b .sid) 0xFFFF ≡ true → SidOk l (b .sid)
-    go true h = s
-    go false h = omega (arith, leb-true (b .sid) 0xFFFF h)

@@ -133,15 +133,6 @@ time-round t h =
     let ok = canonical-ok t h in
     ap takenTime (sym (canonical-octets t)) ∙ rw (time-fits (canonical t) ok) (ap ofTime.Good (time-means (canonical t) ok))
 
-pub read-canonical : (o : List ℕ) → canonical (timeOf o) ≡ timeOf o
-unfolding canonical timeOf
-read-canonical o = go (eqb (offsetOctet o / 32 % 2) 1) (eqb (offsetOctet o % 32) 0) refl refl
-  where
-    go : (x y : Bool) → eqb (offsetOctet o / 32 % 2) 1 ≡ x → eqb (offsetOctet o % 32) 0 ≡ y → canonical (timeOf o) ≡ timeOf o
-    go true true p q = rw (p, q) refl
-    go true false p q = rw (p, q) refl
-    go false y p q = rw p refl
-
 pub bearer-round : (b : Bearer) → BearerOk b → takenBearer (bearerOctets b) ≡ ofBearer.Good b
 unfolding takenBearer
 bearer-round b ok = rw (bearer-fits b ok) (ap ofBearer.Good (bearer-means b ok))
@@ -223,17 +214,7 @@ normal-proper table HoldsTime o h = refl
 normal-proper table HoldsBearer o h = refl
 normal-proper table (HoldsNumber n) o h = refl
 
--- the normal octets of a value are one of its kind, mean what it means, and are their own normal octets
-pub normal-fits : (k : Kind) (o : List ℕ) → Octets o → fits k o ≡ true → fits k (normalOctets k o) ≡ true
-unfolding fits normalOctets meant octetsOf
-normal-fits HoldsItems o os f = refl
-normal-fits HoldsTokens o os f = refl
-normal-fits HoldsText o os f = refl
-normal-fits HoldsPlain o os f = refl
-normal-fits HoldsTime o os f = time-fits (timeOf o) (time-ok o f)
-normal-fits HoldsBearer o os f = bearer-fits (bearerOf o) (bearer-ok o os f)
-normal-fits (HoldsNumber n) o os f = eq-eqb (length (digits (width n) (value o))) (width n) (length-digits (width n) (value o))
-
+-- the normal octets of a value mean what it means
 pub normal-means : (k : Kind) (o : List ℕ) → Octets o → fits k o ≡ true → meant [] k (normalOctets k o) ≡ meant [] k o
 unfolding fits normalOctets meant octetsOf
 normal-means HoldsItems o os f = refl
@@ -243,10 +224,6 @@ normal-means HoldsPlain o os f = refl
 normal-means HoldsTime o os f = ap time (time-means (timeOf o) (time-ok o f))
 normal-means HoldsBearer o os f = ap bearer (bearer-means (bearerOf o) (bearer-ok o os f))
 normal-means (HoldsNumber n) o os f = ap (λ s. number (width n) (value s)) (number-normal n o os f)
-
-pub normal-again : (k : Kind) (o : List ℕ) → Octets o → fits k o ≡ true → normalOctets k (normalOctets k o) ≡ normalOctets k o
-unfolding normalOctets
-normal-again k o os f = ap octetsOf (normal-means k o os f)
 
 -- normal octets are no more than they were
 pub time-size : (t : Time) → length (timeOctets t) ≡ 4 + 2 * sign (t .second) + sign (t .halves)

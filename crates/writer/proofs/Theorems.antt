@@ -27,7 +27,6 @@ use Rattle.values.specs.Table.{known, attribute}
 use Rattle.values.specs.Values.{meant}
 use Rattle.values.specs.Values.Value.{octets}
 use Rattle.values.proofs.Known.{known-anywhere, known-cdata, element-kind, attribute-kind}
-use Rattle.format.specs.declared.Refusal.{Refusal}
 use Rattle.format.specs.declared.WriteAnswer.{WriteAnswer}
 use Rattle.format.specs.declared.WriteAnswer.the-variants.{Octets, NotWritten}
 use Rattle.format.specs.Answers.{refusal}
@@ -81,19 +80,6 @@ module _ (n : ℕ) (l : Lists) (lent before after : List ℕ) where
       go : (o : Option Items) → treeGiven n l lent ≡ o → Octets k ≡ writeAnswer (sizeOf before) o → after ≡ sets before 0 (writeOctets (sizeOf before) o) → Fits k
       go none e a g = let z : _≡_ {A = ℕ} 0 1 = cc in absurd (omega arith)
       go (some t) e a g = some-tree t e (leb (length (encode (means [] t))) (min (length before) 32_768)) refl a g
-
-  -- on a refusal the room is as it was
-  pub refused-untouched : (r : Refusal) → WriteClaim n l lent before after (NotWritten r) → after ≡ before
-  unfolding writeAnswer writeOctets
-  refused-untouched r c = go (treeGiven n l lent) (c .answers) (c .leaves)
-    where
-      some-tree : (t : Items) (b : Bool) → NotWritten r ≡ cond b (Octets (sizeOf (encode (means [] t)))) (NotWritten (refusal 15 0)) → after ≡ sets before 0 (cond b (encode (means [] t)) []) → after ≡ before
-      some-tree t true a g = let z : _≡_ {A = ℕ} 0 1 = cc in absurd (omega arith)
-      some-tree t false a g = g
-
-      go : (o : Option Items) → NotWritten r ≡ writeAnswer (sizeOf before) o → after ≡ sets before 0 (writeOctets (sizeOf before) o) → after ≡ before
-      go none a g = g
-      go (some t) a g = some-tree t (roomy (sizeOf before) (encode (means [] t))) a g
 
   -- what is written is accepted, and means what the records mean
   pub delivered : AllOctets lent → (k : OctetCount) → WriteClaim n l lent before after (Octets k) → Delivered n l lent before after k

@@ -236,9 +236,6 @@ date-one n m p q r =
     let z = yearFrom 275 1858 m in
     year-one 275 1858 n m p (month-one 12 (y .0) 1 (y .1) (z .1) (rw (sym p) at q) (rw (sym p) at r))
 
-pub date-injective : (n m : ℕ) → dateOf n ≡ dateOf m → n ≡ m
-date-injective n m e = date-one n m (ap (λ d. d .year) e) (ap (λ d. d .month) e) (ap (λ d. d .day) e)
-
 -- ---- times
 
 -- the days of a time in range, by its minutes from the day before day 0
