@@ -1,10 +1,10 @@
 -- Octets that pass the test are the normal form of what they mean, and the normal form passes the test: one induction over accepted parts.
 use mathlib.Core.Path.{_≡_, refl, sym, ap, ap₂, _∙_, subst}
-use mathlib.Core.Bool.{Bool, true, false, cond, not, _&&_, _||_, false≢true}
+use mathlib.Core.Bool.{Bool, true, false, cond, not, _&&_, _||_, false≢true, or-true}
 use mathlib.Core.Logic.{_↔_}
 use mathlib.Core.Option.{Option, none, some, Option·some-injective, Option·none-ne-some}
 use mathlib.Core.List.{List, [], _∷_, _++_, append-assoc, append-nil}
-use Prim.Native.Nat.{ℕ, suc, _+_, _-_, _^_, _≤_, _<_}
+use Prim.Native.Nat.{ℕ, suc, _-_, _^_, _≤_, _<_}
 use native.Mathlib.Omega.{arith}
 use lib.Dec.{eqb, ltb}
 use lib.ListN.{length, getD}
@@ -12,7 +12,7 @@ use borrow.Author.Tests.{eqb-true, eqb-false, eq-eqb, ne-eqb, leb-true, ltb-true
 use Rattle.octets.specs.Numbers.{Octets}
 use Rattle.octets.specs.Header.{headerSize, bodySize, framed}
 use Rattle.octets.proofs.Frames.{framed-longer}
-use Rattle.octets.proofs.Tests.{and-left, and-right, or-true, cond-same}
+use Rattle.octets.proofs.Tests.{and-left, and-right, cond-same}
 use Rattle.text.specs.Tokens.{Entries, expanded}
 use Rattle.text.proofs.Words.{expanded-empty}
 use Rattle.values.specs.declared.Kind.{Kind}

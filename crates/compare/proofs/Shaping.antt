@@ -1,6 +1,6 @@
 -- The test of octets for the normal form: what it says of one item, and the ways through the functions of normal.
 use mathlib.Core.Path.{_≡_, refl, sym, ap, ap₂, _∙_}
-use mathlib.Core.Bool.{Bool, true, false, cond, _&&_, and-true as and-yes}
+use mathlib.Core.Bool.{Bool, true, false, cond, _&&_, and-true as and-yes, and-false}
 use mathlib.Core.Option.{some}
 use mathlib.Core.List.{List, [], _∷_, _++_}
 use Prim.Native.Nat.{ℕ, zero, suc, _+_, _-_, _*_, _≤_, _<_}
@@ -15,7 +15,7 @@ use Rattle.octets.specs.declared.counts.Octets.{Octets as OctetCount}
 use Rattle.octets.specs.Counts.{asOctets}
 use Rattle.octets.specs.Header.{headerSize, bodySize, lengthField}
 use Rattle.octets.proofs.Frames.{header-two}
-use Rattle.octets.proofs.Tests.{and-left, and-false}
+use Rattle.octets.proofs.Tests.{and-left}
 use Rattle.octets.specs.Puts.{putAnswer, Puts}
 use Rattle.octets.specs.declared.Put.{Put}
 use Rattle.octets.specs.declared.Put.the-variants.{Done, NoRoom, Invalid}

@@ -1,6 +1,6 @@
 -- Demand 1: from each call's claim alone.
 use mathlib.Core.Path.{_≡_, refl, sym, ap, _∙_, subst}
-use mathlib.Core.Bool.{Bool, true, false, cond, false≢true}
+use mathlib.Core.Bool.{Bool, true, false, cond, false≢true, and-false}
 use mathlib.Core.Logic.{_⊎_, inl, inr}
 use mathlib.Core.Option.{Option, none, some, Option·some-injective, Option·none-ne-some}
 use mathlib.Core.List.{List, [], _∷_, _++_}
@@ -14,7 +14,6 @@ use Rattle.octets.specs.declared.counts.Octets.{Octets as OctetCount}
 use Rattle.octets.specs.Counts.{asOctets, sizeOf}
 use Rattle.octets.specs.Numbers.{among}
 use Rattle.octets.proofs.Lists.{sets-none}
-use Rattle.octets.proofs.Tests.{and-false}
 use Rattle.octets.specs.declared.Put.{Put}
 use Rattle.octets.specs.Puts.{putAnswer, putOut}
 use Rattle.format.specs.declared.Refusal.{Refusal}

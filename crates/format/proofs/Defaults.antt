@@ -1,6 +1,6 @@
 -- Defaults in a tree (change request 2026-05): which attribute counts, by its octets; how many defaults there are; and that an element has at most two.
 use mathlib.Core.Path.{_≡_, refl, sym, ap, ap₂, _∙_, fun-ext}
-use mathlib.Core.Bool.{Bool, true, false, cond, _||_, false≢true}
+use mathlib.Core.Bool.{Bool, true, false, cond, false≢true, and-false}
 use mathlib.Core.Option.{Option, none, some, Option·map, Option·none-ne-some}
 use mathlib.Core.List.{List}
 use Prim.Native.Nat.{ℕ, _+_, _≤_}
@@ -12,9 +12,8 @@ use Rattle.octets.specs.Numbers.{among, Octets}
 use Rattle.text.specs.Tokens.{Entries, expanded}
 use Rattle.values.specs.declared.Kind.{Kind}
 use Rattle.values.specs.Table.{known, attribute, defaults, defaultIn}
-use Rattle.values.specs.Values.{Value, fits, meant, octetsOf, isDefault}
+use Rattle.values.specs.Values.{Value, fits, meant, isDefault}
 use Rattle.values.specs.Calls.{defaultOctets}
-use Rattle.octets.proofs.Tests.{and-false}
 use Rattle.values.proofs.DefaultValues.{no-default, element-keeps, default-meant, default-none}
 use Rattle.format.specs.Tree.{Items, find, withoutDefaults}
 use Rattle.format.specs.Tree.Items.{end, item}

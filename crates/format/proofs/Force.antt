@@ -1,6 +1,6 @@
 -- Which token table is in force for the items of an element, and when it is settled.
 use mathlib.Core.Path.{_≡_, refl, sym, ap, _∙_, subst}
-use mathlib.Core.Bool.{Bool, true, false, cond, not, _&&_, _||_, false≢true}
+use mathlib.Core.Bool.{Bool, true, false, cond, not, _&&_, _||_, false≢true, or-true}
 use mathlib.Core.Option.{Option, none, some}
 use mathlib.Core.List.{List, [], _∷_, _++_}
 use Prim.Native.Nat.{ℕ}
@@ -14,7 +14,7 @@ use Rattle.values.specs.Table.{known, attribute}
 use Rattle.format.specs.Tree.{Items, find}
 use Rattle.format.specs.Tree.Items.{item}
 use Rattle.format.specs.Judge.{isTokens, isText, Context, isTop, allowed, latest, stageAfter, ofTop, late, lateBefore, within, waits, next}
-use Rattle.octets.proofs.Tests.{and-left, or-true, or-elim}
+use Rattle.octets.proofs.Tests.{and-left, or-elim}
 use Rattle.text.proofs.Expansion.{Sound, table-sound}
 use Rattle.values.proofs.Known.{known-two, known-three, known-four, known-anywhere}
 use Rattle.format.proofs.Rules.{Held, KindHeld}

@@ -1,6 +1,6 @@
 -- The loaded tree of an accepted object means what the object means, keeps the writer's rules, and lies in its store.
 use mathlib.Core.Path.{_≡_, refl, sym, ap, ap₂, _∙_, subst, fun-ext}
-use mathlib.Core.Bool.{Bool, true, false, cond, not, _&&_, _||_, false≢true}
+use mathlib.Core.Bool.{Bool, true, false, cond, not, _&&_, _||_, false≢true, or-true}
 use mathlib.Core.Option.{Option, none, some, Option·map, Option·some-injective}
 use mathlib.Core.List.{List, [], _∷_, _++_, append-assoc}
 use Prim.Native.Nat.{ℕ, _+_, _≤_}
@@ -25,7 +25,7 @@ use Rattle.format.specs.Meaning.Meaning.{leaf}
 use Rattle.format.specs.WellFormed.{ValueOk}
 use Rattle.format.specs.Writer.{Spot, below, past, atTop, placed, bodyKeeps, keeps, isEnd, ruled}
 use Rattle.format.specs.Loaded.{stored, storeIn, loadedIn, storeOf, loadedOf}
-use Rattle.octets.proofs.Tests.{or-elim, or-true}
+use Rattle.octets.proofs.Tests.{or-elim}
 use Rattle.text.proofs.Words.{expanded-empty}
 use Rattle.text.proofs.Expansion.{Sound, shown-expanded}
 use Rattle.values.proofs.Values.{valueKind, proper-means, proper-fits}

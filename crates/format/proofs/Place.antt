@@ -1,6 +1,6 @@
 -- Where the items of a normal form stand, and that they keep the rules there.
 use mathlib.Core.Path.{_≡_, refl, ap, _∙_}
-use mathlib.Core.Bool.{Bool, true, false, cond, _||_}
+use mathlib.Core.Bool.{Bool, true, false, cond, _||_, and-false, or-true}
 use mathlib.Core.Option.{none, some}
 use mathlib.Core.List.{List, []}
 use Prim.Native.Nat.{ℕ, suc, _≤_, _<_}
@@ -19,7 +19,6 @@ use Rattle.values.specs.Proper.{Proper}
 use Rattle.values.specs.Proper.Proper.{words, plain, counted, timed, carried}
 use Rattle.format.specs.Judge.{isKnown, isTokens, isText, isValue, Context, isTop, allowed, latest, stageAfter, shown, ofTop, late, lateBefore, lateAfter, within, waits, next}
 use Rattle.format.specs.WellFormed.{PlaceOk}
-use Rattle.octets.proofs.Tests.{and-false, or-true}
 use Rattle.text.proofs.Words.{plain-text, plain-text-covered}
 use Rattle.values.proofs.Values.{proper-fits}
 use Rattle.values.proofs.Known.{ElementTag, known-cdata}

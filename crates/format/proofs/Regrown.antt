@@ -1,6 +1,6 @@
 -- The records of an accepted object's tree grow back to it, but for the token table, which has no record; and the tree without it means the same.
 use mathlib.Core.Path.{_≡_, refl, sym, ap, _∙_, fun-ext, subst}
-use mathlib.Core.Bool.{Bool, true, false, cond, _||_}
+use mathlib.Core.Bool.{Bool, true, false, cond, _||_, or-true}
 use mathlib.Core.Option.{none, some, Option·map}
 use mathlib.Core.List.{List, _++_}
 use Prim.Native.Nat.{ℕ, suc, _+_}
@@ -9,7 +9,6 @@ use lib.Dec.{eqb}
 use borrow.Author.Tests.{eqb-true, eqb-false, ne-eqb}
 use Rattle.text.specs.Tokens.{Entries, expanded}
 use Rattle.values.specs.Table.{known, attribute}
-use Rattle.octets.proofs.Tests.{or-true}
 use Rattle.values.proofs.Known.{known-anywhere, items-no-attribute}
 use Rattle.format.specs.declared.Record.{Record}
 use Rattle.format.specs.Tree.{Items, find, count, records, recordOf, recordsOf}

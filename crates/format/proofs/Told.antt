@@ -1,6 +1,6 @@
 -- What acceptance says of a tree, item by item, under the token table in force, with no order of judging left.
 use mathlib.Core.Path.{_≡_, refl, sym, ap, _∙_, subst}
-use mathlib.Core.Bool.{Bool, true, false, not, _&&_, _||_, false≢true}
+use mathlib.Core.Bool.{Bool, true, false, not, _&&_, _||_, false≢true, or-true}
 use mathlib.Core.Option.{Option, none, some, Option·none-ne-some}
 use mathlib.Core.List.{List, [], _∷_}
 use Prim.Native.Nat.{ℕ, suc, _+_, _≤_, _<_}
@@ -24,7 +24,7 @@ use Rattle.format.specs.Judge.{isKnown, isItems, isText, isValue, Contex
 use Rattle.format.specs.Judge.Judged.{accepted}
 use Rattle.format.specs.Meaning.{opens, tableIn, tableOf}
 use Rattle.format.specs.Writer.{Spot, below, past, atTop, placed, isEnd}
-use Rattle.octets.proofs.Tests.{or-elim, or-true}
+use Rattle.octets.proofs.Tests.{or-elim}
 use Rattle.text.proofs.Expansion.{Sound, sound-empty}
 use Rattle.values.proofs.Known.{known-four, known-anywhere, items-no-attribute, items-tag, not-zero, unknown-four}
 use Rattle.format.proofs.Rules.{Held, KindHeld, held, fitting, never}

@@ -1,6 +1,6 @@
 -- Octets that are accepted are taken by the grammar, with their tree.
 use mathlib.Core.Path.{_≡_, refl, sym, ap, _∙_, subst}
-use mathlib.Core.Bool.{Bool, true, false, cond, not, _&&_, _||_, false≢true}
+use mathlib.Core.Bool.{Bool, true, false, cond, not, _&&_, _||_, false≢true, or-true}
 use mathlib.Core.Option.{none, some, Option·none-ne-some}
 use mathlib.Core.List.{List, [], _∷_}
 use Prim.Native.Nat.{ℕ, zero, suc, _+_, _≤_}
@@ -11,7 +11,7 @@ use lib.ListN.{length, drop, length-drop, drop-of-length-le}
 use borrow.Author.Tests.{leb-true, eqb-true, eq-eqb}
 use Rattle.octets.specs.Numbers.{among, Octets}
 use Rattle.octets.specs.Header.{headerSize, bodySize}
-use Rattle.octets.proofs.Tests.{and-left, and-right, or-elim, or-true}
+use Rattle.octets.proofs.Tests.{and-left, and-right, or-elim}
 use Rattle.text.specs.Tokens.{Entries, entries, covered, shownLength}
 use Rattle.text.proofs.Expansion.{Sound, sound-empty}
 use Rattle.values.specs.declared.Kind.{Kind}

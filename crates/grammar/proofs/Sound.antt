@@ -1,6 +1,6 @@
 -- Octets that the grammar takes are accepted, with the tree that it gives.
 use mathlib.Core.Path.{_≡_, refl, sym, ap, _∙_, subst}
-use mathlib.Core.Bool.{Bool, true, false, cond, not, _&&_, _||_, false≢true}
+use mathlib.Core.Bool.{Bool, true, false, cond, not, _&&_, _||_, false≢true, and-false, or-true}
 use mathlib.Core.Option.{Option, none, some, Option·some-ne-none}
 use mathlib.Core.List.{List, [], _∷_}
 use Prim.Native.Nat.{ℕ, suc, _+_, _≤_}
@@ -10,7 +10,7 @@ use lib.Dec.{eqb, leb}
 use lib.ListN.{length}
 use borrow.Author.Tests.{le-leb, eqb-true, eq-eqb}
 use Rattle.octets.specs.Numbers.{among}
-use Rattle.octets.proofs.Tests.{and-false, or-elim, or-left, or-true, cond-same}
+use Rattle.octets.proofs.Tests.{or-elim, or-left, cond-same}
 use Rattle.text.specs.Text.{text}
 use Rattle.text.specs.Tokens.{Entries, entries, isTable, covered, shownLength}
 use Rattle.values.specs.declared.Kind.{Kind}

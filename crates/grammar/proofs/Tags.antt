@@ -1,12 +1,11 @@
 -- Tags by their class and where each may stand, and rule 8 as a fact of a tree.
 use mathlib.Core.Path.{_≡_, sym, ap, _∙_}
-use mathlib.Core.Bool.{true, false, _||_, false≢true}
+use mathlib.Core.Bool.{true, false, _||_, false≢true, or-true}
 use mathlib.Core.Option.{none, some}
 use Prim.Native.Nat.{ℕ}
 use lib.Dec.{eqb}
 use borrow.Author.Tests.{ne-eqb}
 use Rattle.octets.specs.Numbers.{among}
-use Rattle.octets.proofs.Tests.{or-true}
 use Rattle.values.specs.declared.Kind.the-variants.{HoldsItems}
 use Rattle.values.specs.Table.{known, attribute}
 use Rattle.values.proofs.Known.{known-one, known-four, known-six}

@@ -1,6 +1,6 @@
 -- The rules of one item, on each way through the code's tests.
 use mathlib.Core.Path.{_≡_, refl, sym, ap, _∙_}
-use mathlib.Core.Bool.{Bool, true, false, cond, not, _&&_, _||_, false≢true}
+use mathlib.Core.Bool.{Bool, true, false, cond, not, _&&_, _||_, false≢true, or-true}
 use mathlib.Core.Logic.{⊎-elim}
 use mathlib.Core.Option.{Option, none, some}
 use mathlib.Core.List.{List, [], _∷_}
@@ -12,7 +12,6 @@ use types.Run.{OneOf}
 use denote.Enum.Declared.{tagOf}
 use borrow.Author.Tests.{le-leb, lt-leb, leb-true, leb-false, eq-eqb}
 use Rattle.octets.specs.Numbers.{among}
-use Rattle.octets.proofs.Tests.{or-true}
 use Rattle.octets.specs.declared.counts.Characters.{Characters}
 use Rattle.octets.specs.Counts.{asCharacters}
 use Rattle.text.specs.Text.{text}

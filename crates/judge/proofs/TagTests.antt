@@ -1,11 +1,10 @@
 -- The ways through the tests of tags that the judgement alone asks: for each return, what it returns is what the definition says.
 use mathlib.Core.Path.{_≡_, sym, _∙_}
-use mathlib.Core.Bool.{Bool, true, false, not, _&&_, _||_}
+use mathlib.Core.Bool.{Bool, true, false, not, _&&_, _||_, or-true}
 use Prim.Native.Nat.{ℕ, _-_, _≤_, _<_}
 use native.Mathlib.Omega.{arith}
 use lib.Dec.{eqb, ltb}
 use borrow.Author.Tests.{le-leb, ne-eqb}
-use Rattle.octets.proofs.Tests.{or-true}
 use Rattle.values.specs.Table.{attribute}
 use Rattle.format.specs.Judge.{isTop}
 use Rattle.tags.specs.Rules.{withinDepth}

@@ -1,7 +1,7 @@
 -- The body of a record, one law for each way through the code.
 use Prim.Native.Nat.{ℕ}
 use mathlib.Core.Path.{_≡_, refl, sym, ap, _∙_}
-use mathlib.Core.Bool.{Bool, true, false, _&&_}
+use mathlib.Core.Bool.{Bool, true, false, _&&_, and-true as and-yes}
 use mathlib.Core.Option.{Option, none, some}
 use mathlib.Core.List.{List, []}
 use lib.ListN.{take}
@@ -45,15 +45,11 @@ module _ (parent tag : ℕ) (body : List ℕ) (t : Bool) (e : t ≡ text false b
 
 pub ruleset text-ways = (text-good, text-bad)
 
-and-one : (b : Bool) → b && true ≡ b
-and-one true = refl
-and-one false = refl
-
 module _ (parent tag : ℕ) (body : List ℕ) where
   -- a value keeps the rules where it is one
   held-value : (k : Kind) → isItems (some k) ≡ false → isTokens (some k) ≡ false → isText (some k) ≡ false → heldAs parent tag body (some k) ≡ octetsIf (fits k body)
   unfolding heldAs bodyKeeps isKnown isValue octetsIf
-  held-value k i t x = rw (i, t, x, and-one (fits k body))
+  held-value k i t x = rw (i, t, x, and-yes (fits k body))
 
   module _ (k : Kind) where
     pub kind-items : k ≡ HoldsItems → Inner ≡ heldAs parent tag body (some k)

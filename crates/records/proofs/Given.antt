@@ -3,11 +3,10 @@ use Prim.Native.Nat.{ℕ, suc}
 use mathlib.Core.Path.{_≡_, refl, sym, ap, _∙_}
 use mathlib.Core.List.{List}
 use mathlib.Core.Option.{Option, none, some}
-use mathlib.Core.Bool.{Bool, true, false, cond, _&&_}
+use mathlib.Core.Bool.{Bool, true, false, cond, _&&_, and-false}
 use lib.Dec.{eqb, leb}
 use native.Mathlib.Omega.{arith}
 use borrow.Author.Tests.{lt-ltb}
-use Rattle.octets.proofs.Tests.{and-false}
 use Rattle.format.specs.Writer.{atTop, walk, tree, toEnd, rebuilt}
 use Rattle.format.specs.Calls.{Lists, row, places, treeGiven}
 use Rattle.format.proofs.Walk.{whole-walk}

@@ -1,10 +1,9 @@
 -- The place of a record among the items of an element and what it leaves behind, one law for each way through the code.
 use Prim.Native.Nat.{ℕ, _≤_, _<_}
 use mathlib.Core.Path.{_≡_, refl, sym, subst, _∙_}
-use mathlib.Core.Bool.{Bool, true, false, _&&_}
+use mathlib.Core.Bool.{Bool, true, false, _&&_, and-false}
 use lib.Dec.{leb}
 use borrow.Author.Tests.{lt-leb, le-leb, eq-eqb, ne-eqb}
-use Rattle.octets.proofs.Tests.{and-false}
 use Rattle.format.specs.Judge.{allowed, latest, stageAfter}
 use Rattle.tags.specs.Rules.{withinDepth, hasBit, withBit}
 use Rattle.records.specs.Check.{placedBy, stateAfter, itemOf}

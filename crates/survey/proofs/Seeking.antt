@@ -1,6 +1,6 @@
 -- An item of a part by its tag: the ways through find_item, and what its answer says of a part that is accepted.
 use mathlib.Core.Path.{_≡_, refl, sym, ap, _∙_, subst}
-use mathlib.Core.Bool.{Bool, true, false, cond, not, _&&_, _||_, false≢true}
+use mathlib.Core.Bool.{Bool, true, false, cond, not, _&&_, _||_, false≢true, or-true}
 use mathlib.Core.Option.{none, some}
 use mathlib.Core.List.{List, [], _∷_}
 use Prim.Native.Nat.{ℕ, zero, suc, _+_, _-_, _≤_, _<_}
@@ -11,7 +11,7 @@ use lib.ListN.{length, drop, getD, drop-of-length-le}
 use lib.Seq.{getD-drop}
 use borrow.Author.Tests.{eqb-true, eqb-false, eq-eqb, ne-eqb, leb-true, le-leb, ltb-true, ltb-false}
 use Rattle.octets.specs.Header.{headerSize, bodySize}
-use Rattle.octets.proofs.Tests.{and-left, and-right, or-elim, or-left, or-true, cond-same}
+use Rattle.octets.proofs.Tests.{and-left, and-right, or-elim, or-left, cond-same}
 use Rattle.values.specs.Table.{known, attribute}
 use Rattle.format.specs.Tree.{Items, find}
 use Rattle.format.specs.Tree.Items.{end, item}

@@ -1,7 +1,7 @@
 -- The four ways of an item in a tree that keeps the writer's rules: an attribute, CDATA with nothing behind it, an element that holds items, any other element.
 -- What each adds to the normal form.
 use mathlib.Core.Path.{_≡_, refl, sym, ap, _∙_}
-use mathlib.Core.Bool.{Bool, true, false, false≢true}
+use mathlib.Core.Bool.{Bool, true, false, false≢true, or-true}
 use mathlib.Core.Option.{some}
 use mathlib.Core.List.{List, []}
 use Prim.Native.Nat.{ℕ}
@@ -14,7 +14,6 @@ use Rattle.values.specs.declared.Kind.the-variants.{HoldsItems, HoldsTokens, Ho
 use Rattle.values.specs.Table.{known, attribute}
 use Rattle.values.specs.Values.{fits, meant, octetsOf}
 use Rattle.values.specs.Calls.{defaultOctets}
-use Rattle.octets.proofs.Tests.{or-true}
 use Rattle.octets.proofs.Answers.{framed-length as header-and-body}
 use Rattle.values.proofs.Known.{ElementTag, element-kind, known-anywhere}
 use Rattle.format.specs.Tree.{Items}

@@ -1,6 +1,6 @@
 -- Whether an item is written: the ways through the code, and what the answer says of the item.
 use mathlib.Core.Path.{_≡_, refl, sym, ap, _∙_}
-use mathlib.Core.Bool.{Bool, true, false}
+use mathlib.Core.Bool.{Bool, true, false, or-true}
 use mathlib.Core.Logic.{_⊎_, inl, inr, ⊎-elim}
 use mathlib.Core.Option.{Option, none, some, Option·some-ne-none}
 use mathlib.Core.List.{List, []}
@@ -15,7 +15,6 @@ use Rattle.values.specs.declared.KnownKind.{KnownKind}
 use Rattle.values.specs.declared.KnownKind.the-variants.{Unknown, Known}
 use Rattle.values.specs.Table.{rows, kindIn, known, attribute}
 use Rattle.values.specs.Calls.{asKnown, knownKind, defaultOctets}
-use Rattle.octets.proofs.Tests.{or-true}
 use Rattle.values.proofs.Laws.{known-kind, unknown-kind}
 use Rattle.format.specs.Judge.{isItems}
 use Rattle.format.specs.Meaning.{opens, maybe}

@@ -1,6 +1,6 @@
 -- The mask of known attributes: the code's tests of it, and that it tells which tags were seen.
 use mathlib.Core.Path.{_≡_, refl, sym, ap, _∙_}
-use mathlib.Core.Bool.{Bool, true, false, cond, _&&_, _||_, false≢true}
+use mathlib.Core.Bool.{Bool, true, false, cond, _&&_, _||_, false≢true, and-false}
 use mathlib.Core.Option.{Option, none, some}
 use mathlib.Core.List.{List, [], _∷_}
 use Prim.Native.Nat.{ℕ, _-_, _*_, _/_, _%_, _^_, _≤_, _<_}
@@ -11,7 +11,6 @@ use lib.Bits.{bitOr, bitAnd}
 use lib.Pow.{shl-exact}
 use borrow.Author.Tests.{le-leb, lt-leb, eq-eqb, ne-eqb, eqb-false, eqb-true, ltb-true, ltb-false, leb-true, leb-false}
 use Rattle.octets.specs.Numbers.{among}
-use Rattle.octets.proofs.Tests.{and-false}
 use Rattle.text.specs.Weighing.{bit}
 use Rattle.text.proofs.Masks.{bit-test, bit-more, bit-none}
 use Rattle.values.specs.declared.Kind.{Kind}

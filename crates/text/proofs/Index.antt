@@ -3,7 +3,7 @@
 use Prim.Native.Nat.{ℕ, zero, suc, _+_, _-_, _*_, _/_, _^_, _≤_, _<_, max}
 use mathlib.Core.Path.{_≡_, refl, sym, ap, ap₂, subst, _∙_}
 use mathlib.Core.List.{List, [], _∷_, _++_}
-use mathlib.Core.Bool.{Bool, true, false, cond, _&&_}
+use mathlib.Core.Bool.{Bool, true, false, cond, _&&_, and-false}
 use mathlib.Core.Option.{none, some}
 use lib.ListN.{length, getD, take, drop, set, replicate, length-set, length-append, length-drop, drop-of-length-le, getD-replicate}
 use lib.Seq.{drop-drop, getD-drop, getD-set-same, getD-set-other, length-take-le, ext-getD}
@@ -16,7 +16,7 @@ use borrow.Author.Tests.{eqb-true, eqb-false, eq-eqb, ne-eqb, leb-true, le-leb, 
 use Rattle.octets.specs.Puts.{Puts}
 use Rattle.octets.specs.declared.Put.{Put}
 use Rattle.octets.proofs.Puts.{puts-same}
-use Rattle.octets.proofs.Tests.{and-left, and-right, and-false}
+use Rattle.octets.proofs.Tests.{and-left, and-right}
 use Rattle.text.specs.Text.{token}
 use Rattle.text.specs.Tokens.{Entries, entries, cut, entry, orItself, stands, expanded, expandedSize}
 use Rattle.text.specs.Found.{found, foundIn, Inside}

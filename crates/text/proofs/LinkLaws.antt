@@ -2,22 +2,21 @@
 use Prim.Native.Nat.{ℕ, zero, suc, _+_, _-_, _*_, _/_, _%_, _≤_, _<_}
 use mathlib.Core.Path.{_≡_, refl, sym, ap, ap₂, subst, _∙_}
 use mathlib.Core.List.{List, [], _∷_, _++_}
-use mathlib.Core.Bool.{Bool, true, false, not, _&&_, _||_, false≢true}
+use mathlib.Core.Bool.{Bool, true, false, not, _&&_, _||_, false≢true, or-true, and-assoc, or-false}
 use lib.ListN.{length, getD, take, drop, length-drop}
 use lib.Seq.{getD-drop}
 use lib.Dec.{eqb, leb, ltb}
 use native.Mathlib.Omega.{arith}
-use borrow.Author.Tests.{lt-ltb, le-ltb, le-leb, lt-leb, leb-false, eq-eqb, ne-eqb, eqb-true, ltb-true, ltb-false}
+use borrow.Author.Tests.{le-ltb, le-leb, lt-leb, leb-false, eq-eqb, ne-eqb, eqb-true, ltb-true, ltb-false}
 use Rattle.octets.specs.Numbers.{among}
-use Rattle.octets.proofs.Tests.{and-left, and-right, and-true, or-elim, or-true}
+use Rattle.octets.proofs.Tests.{and-left, and-right, and-true, or-elim}
 use Rattle.octets.proofs.Lists.{part-to-end, part-split, drop-next}
 use Rattle.text.specs.Text.{layout, token, character, single, goesOn, utf8, text}
 use Rattle.text.specs.Runs.{within, PlainTo}
 use Rattle.text.specs.Links.{awaits, begins, linked, allLinked, linkedAt, LinkedTo, PassedTo}
-use Rattle.text.proofs.Masks.{or-false}
 use Rattle.text.proofs.Laws.{ascii-text}
 use Rattle.text.proofs.Sequences.{allBelow, below, character-below, utf8-zero, text-low}
-use Rattle.text.proofs.RunLaws.{and-assoc, bounds, split-at, plain-passed, passed-none, passed-join, passed-plain}
+use Rattle.text.proofs.RunLaws.{bounds, split-at, plain-passed, passed-none, passed-join, passed-plain}
 
 -- ---- what `is_beginning` and `is_linked` answer
 pub begins-is : (c : ℕ) (p q r t : Bool) → p ≡ within 0x01 0x13 c → q ≡ within 0x20 0x7F c → r ≡ within 0xC2 0xDF c → t ≡ within 0xE1 0xEC c
@@ -68,7 +67,7 @@ unfolding allLinked
 links-split zero m a b s la lb ls = let e : 0 + m ≡ m = omega arith in rw e
 links-split (suc n) m (x ∷ a) (y ∷ b) (z ∷ s) la lb ls =
     let e : suc n + m ≡ suc (n + m) = omega arith in
-    rw (e, links-split n m a b s (omega arith) (omega arith) (omega arith)) (and-assoc (linked x y z) _ _)
+    rw (e, links-split n m a b s (omega arith) (omega arith) (omega arith)) (sym (and-assoc (linked x y z) _ _))
 links-split (suc n) m [] b s la lb ls = absurd (omega arith)
 links-split (suc n) m (x ∷ a) [] s la lb ls = absurd (omega arith)
 links-split (suc n) m (x ∷ a) (y ∷ b) [] la lb ls = absurd (omega arith)

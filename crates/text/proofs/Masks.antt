@@ -2,7 +2,7 @@
 use Prim.Native.Nat.{ℕ, zero, suc, _+_, _-_, _*_, _/_, _%_, _^_, _<_, min}
 use mathlib.Core.Path.{_≡_, refl, sym, ap, ap₂, _∙_}
 use mathlib.Core.List.{List, [], _∷_}
-use mathlib.Core.Bool.{Bool, true, false, cond, _&&_, _||_}
+use mathlib.Core.Bool.{Bool, true, false, cond, _&&_, _||_, and-false, or-true, or-false}
 use lib.Dec.{eqb, ltb}
 use lib.Arith.{bin-ind}
 use lib.Bits.{bitOr, bitAnd, or-shr, or-mod, or-zero-r, and-shr, and-mod, and-step, and-mask}
@@ -11,7 +11,6 @@ use native.Mathlib.Nat.{one-mul, mul-mod-left, mod-lt, div-eq-of-lt, div-one, di
 use native.Mathlib.Omega.{arith}
 use borrow.Author.Tests.{eqb-true, eqb-false, eq-eqb, ltb-true, ltb-false}
 use Rattle.octets.specs.Numbers.{among}
-use Rattle.octets.proofs.Tests.{and-false, or-true}
 use Rattle.text.specs.Text.{token}
 use Rattle.text.specs.Leaves.{maskOf, tokenBit}
 use Rattle.text.specs.Weighing.{bit, Marks}
@@ -112,10 +111,6 @@ within-kept a =
     a
 
 -- ---- the tokens among octets as a mask: what a loop over them knows with so many octets left
-pub or-false : (a : Bool) → a || false ≡ a
-or-false true = refl
-or-false false = refl
-
 pub record Marking (mask : ℕ) (left octets : List ℕ) : Type 0 where
   pub bits : (t : ℕ) → bit mask t || token t && among t left ≡ token t && among t octets
 

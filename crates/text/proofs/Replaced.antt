@@ -2,7 +2,7 @@
 use Prim.Native.Nat.{ℕ, _+_, _-_, _≤_, _<_, _^_, min}
 use mathlib.Core.Path.{_≡_, refl, sym, ap, ap₂, subst, _∙_}
 use mathlib.Core.List.{List, [], _∷_, _++_}
-use mathlib.Core.Bool.{Bool, true, false, _&&_, _||_, cond, false≢true}
+use mathlib.Core.Bool.{Bool, true, false, _&&_, _||_, cond, false≢true, or-true}
 use mathlib.Core.Option.{some}
 use lib.ListN.{length, getD, take, drop, set, length-append, length-set, drop-of-length-le}
 use lib.Seq.{sets, length-sets}
@@ -14,7 +14,7 @@ use mir.Val.{Fits}
 use mir.Syntax.{w64}
 use borrow.Author.Tests.{le-leb, lt-leb, leb-true, leb-false, eq-eqb, eqb-true, eqb-false}
 use Rattle.octets.specs.Numbers.{among}
-use Rattle.octets.proofs.Tests.{and-left, and-right, and-true, or-elim, or-left, or-true}
+use Rattle.octets.proofs.Tests.{and-left, and-right, and-true, or-elim, or-left}
 use Rattle.text.specs.Text.{token}
 use Rattle.octets.specs.declared.counts.Octets.{Octets}
 use Rattle.octets.specs.Counts.{asOctets}

@@ -2,7 +2,7 @@
 use Prim.Native.Nat.{ℕ, zero, suc, _+_, _-_, _/_, _≤_, _<_}
 use mathlib.Core.Path.{_≡_, refl, sym, ap, ap₂, subst, _∙_}
 use mathlib.Core.List.{List, [], _∷_, _++_}
-use mathlib.Core.Bool.{Bool, true, false, _&&_}
+use mathlib.Core.Bool.{Bool, true, false, _&&_, and-assoc}
 use lib.ListN.{length, getD, take, drop, length-drop, length-append, drop-of-length-le, take-append-drop}
 use lib.Seq.{drop-drop}
 use lib.Dec.{leb}
@@ -20,10 +20,6 @@ use Rattle.text.proofs.Widths.{width-high}
 use Rattle.text.proofs.ShownLaws.{shown-on, shown-first}
 use Rattle.text.proofs.Words.{high-octet, covered-cons}
 use Rattle.text.proofs.Laws.{ascii-text, expanded-append, bare-expanded}
-
-pub and-assoc : (a b c : Bool) → a && (b && c) ≡ a && b && c
-and-assoc true b c = refl
-and-assoc false b c = refl
 
 -- ---- what `are_eight_within` answers
 from-right : (a b c d e f g h : Bool) → a && b && c && d && e && f && g && h ≡ a && (b && (c && (d && (e && (f && (g && (h && true)))))))
@@ -119,7 +115,7 @@ pub ruleset sixteen-ways = (run-begin, run-sixteen, run-last)
 all-both : (least most : ℕ) (a b : List ℕ) → allWithin least most (a ++ b) ≡ allWithin least most a && allWithin least most b
 unfolding allWithin
 all-both least most [] b = refl
-all-both least most (x ∷ a) b = rw (all-both least most a b) (and-assoc (within least most x) (allWithin least most a) (allWithin least most b))
+all-both least most (x ∷ a) b = rw (all-both least most a b) (sym (and-assoc (within least most x) (allWithin least most a) (allWithin least most b)))
 
 pub two-eights : (s : List ℕ) (a b : Bool) → a ≡ allWithin 0x20 0x7F (take 8 s) → b ≡ allWithin 0x20 0x7F (take 8 (take (length s - 8) (drop 8 s)))
     → a && b ≡ allWithin 0x20 0x7F (take 16 s)

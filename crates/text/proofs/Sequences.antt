@@ -2,7 +2,7 @@
 use Prim.Native.Nat.{ℕ, zero, suc, _+_, _-_, _*_, _/_, _%_, _^_, _≤_, _<_}
 use mathlib.Core.Path.{_≡_, refl, sym, ap, _∙_}
 use mathlib.Core.List.{List, [], _∷_}
-use mathlib.Core.Bool.{Bool, true, false, _&&_, _||_, not, cond, false≢true}
+use mathlib.Core.Bool.{Bool, true, false, _&&_, not, cond, false≢true, and-false, or-false, and-true as and-yes}
 use lib.ListN.{length, getD, take, drop, drop-of-length-le}
 use lib.Seq.{length-take-le}
 use lib.Dec.{eqb, leb, ltb}
@@ -15,7 +15,7 @@ use mir.Val.{Fits}
 use mir.Syntax.{w32}
 use borrow.Author.Tests.{lt-ltb, le-ltb, le-leb, lt-leb, eq-eqb, ne-eqb, eqb-false, eqb-true, leb-true}
 use Rattle.octets.specs.Numbers.{among}
-use Rattle.octets.proofs.Tests.{and-left, and-right, and-true, and-false, cond-elim}
+use Rattle.octets.proofs.Tests.{and-left, and-right, and-true, cond-elim}
 use Rattle.text.specs.Text.{layout, token, character, single, goesOn, utf8, text}
 use Rattle.text.specs.Leaves.{following, several, tokenBit, Lead, onward, Steps}
 use Rattle.text.specs.Runs.{within, allWithin}
@@ -34,10 +34,6 @@ module _ (b : ℕ) where
   pub layout-rest : (b ≡ 0x09 → ⊥) → (b ≡ 0x0A → ⊥) → eqb b 0x0D ≡ layout b
   unfolding layout among
   layout-rest p q = rw (ne-eqb b 0x09 p, ne-eqb b 0x0A q) (sym (or-false (eqb b 0x0D)))
-    where
-      or-false : (a : Bool) → a || false ≡ a
-      or-false true = refl
-      or-false false = refl
 
 pub ruleset layout-ways = (layout-tab, layout-line, layout-rest)
 
@@ -80,11 +76,7 @@ module _ (tokens : Bool) (b : ℕ) where
       single-is = rw (lt-leb 0x20 b h, sym p ∙ e, q)
 
       pub single-token : t ≡ true → tokens ≡ single tokens b
-      single-token y = sym (single-is ∙ rw y (and-one tokens))
-        where
-          and-one : (a : Bool) → a && true ≡ a
-          and-one true = refl
-          and-one false = refl
+      single-token y = sym (single-is ∙ rw y (and-yes tokens))
 
       pub single-no : t ≡ false → false ≡ single tokens b
       single-no y = sym (single-is ∙ rw y (and-false tokens))

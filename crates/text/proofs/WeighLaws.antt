@@ -3,9 +3,9 @@
 use Prim.Native.Nat.{ℕ, zero, suc, _+_, _-_, _/_, _^_, _≤_, _<_, min}
 use mathlib.Core.Path.{_≡_, refl, sym, ap, ap₂, subst, _∙_}
 use mathlib.Core.List.{List, [], _∷_, _++_}
-use mathlib.Core.Bool.{Bool, true, false, cond, not, _&&_, _||_, false≢true}
+use mathlib.Core.Bool.{Bool, true, false, cond, not, _&&_, _||_, false≢true, or-true, and-true as and-yes, and-assoc, or-not-self}
 use lib.ListN.{length, getD, take, drop, length-drop, drop-of-length-le, take-append-drop}
-use lib.Seq.{drop-drop, getD-drop}
+use lib.Seq.{drop-drop, getD-drop, ext-getD}
 use lib.Dec.{eqb, leb}
 use lib.Bits.{bitAnd, bitOr, and-comm}
 use native.Mathlib.Nat.{add-zero, min-eq-left, min-eq-right, min-le-left}
@@ -16,7 +16,7 @@ use borrow.Author.Tests.{le-leb, lt-leb, leb-true, leb-false, eq-eqb, eqb-true}
 use Rattle.octets.specs.declared.counts.Characters.{Characters}
 use Rattle.octets.specs.Counts.{asCharacters}
 use Rattle.octets.specs.Numbers.{among}
-use Rattle.octets.proofs.Tests.{and-left, and-right, and-true, or-elim, or-left, or-true}
+use Rattle.octets.proofs.Tests.{and-left, and-right, and-true, or-elim, or-left}
 use Rattle.octets.proofs.Lists.{part-to-end}
 use Rattle.text.specs.Text.{layout, token, single, text}
 use Rattle.text.specs.Tokens.{Entries, entry, present, covers, covered, shownLength}
@@ -30,7 +30,7 @@ use Rattle.text.proofs.Masks.{mark-one, kept-within, within-kept}
 use Rattle.text.proofs.Sequences.{one-yes, one-no}
 use Rattle.text.proofs.ShownLaws.{shown-is, shown-first}
 use Rattle.text.proofs.Replaced.{tag-present}
-use Rattle.text.proofs.RunLaws.{and-assoc, run-split, run-length, run-shown, tail-shown, bounds, plain-passed, Holds, check-done, check-stop, check-again, behind}
+use Rattle.text.proofs.RunLaws.{run-split, run-length, run-shown, tail-shown, bounds, plain-passed, Holds, check-done, check-stop, check-again, behind}
 
 -- ---- tokens kept as a mask: with one octet more, the marks have each of them where they had each before and that octet wants no entry or has one
 module _ (marks used b : ℕ) where
@@ -120,11 +120,7 @@ min-again most a b = go (leb a most) refl
 -- ---- octets below 0x14: each is text by itself where tokens may stand, but for 0
 low-single : (b : ℕ) → (b ≡ 0 → ⊥) → b < 0x14 → single true b ≡ true
 unfolding single token
-low-single b z h = rw (lt-leb 0x20 b (omega arith), le-leb 1 b (omega (arith, z)), le-leb b 0x13 (omega arith)) (either (layout b))
-  where
-    either : (l : Bool) → l || not l ≡ true
-    either true = refl
-    either false = refl
+low-single b z h = rw (lt-leb 0x20 b (omega arith), le-leb 1 b (omega (arith, z)), le-leb b 0x13 (omega arith)) (or-not-self (layout b))
 
 -- ---- the loop of `weigh`: its places
 module _ (s : List ℕ) (at from : ℕ) (run : PlainTo s at from) where
@@ -180,10 +176,6 @@ pub record Weighing (marks : ℕ) (w s : List ℕ) (most at used width : ℕ) : 
   pub covering : coveredBy marks s ≡ allMarked marks used && coveredBy marks (drop at s)
   pub weighing : min most (shownBy w s) ≡ min most (width + shownBy w (drop at s))
 
-and-one : (a : Bool) → a && true ≡ a
-and-one true = refl
-and-one false = refl
-
 module _ (marks : ℕ) (w s : List ℕ) (lim : Characters) where
   pub weigh-begin : Weighing marks w s (lim .0) 0 0 0
   unfolding allMarked
@@ -197,7 +189,7 @@ module _ (marks : ℕ) (w s : List ℕ) (lim : Characters) where
     unfolding weighedBy coveredBy shownBy
     weigh-done h r e =
         let none = drop-of-length-le s h in
-        let c : coveredBy marks s ≡ allMarked marks used = inv .covering ∙ ap (λ q. allMarked marks used && coveredBy marks q) none ∙ and-one (allMarked marks used) in
+        let c : coveredBy marks s ≡ allMarked marks used = inv .covering ∙ ap (λ q. allMarked marks used && coveredBy marks q) none ∙ and-yes (allMarked marks used) in
         let k : min (lim .0) (shownBy w s) ≡ shown .0 =
         inv .weighing ∙ ap (λ q. min (lim .0) (shown .0 + shownBy w q)) none ∙ ap (min (lim .0)) (add-zero (shown .0)) ∙ min-eq-right (inv .short) in
         e ∙ rw (← check-done true s at in-text h, c, k)
@@ -253,7 +245,7 @@ module _ (marks : ℕ) (w s : List ℕ) (lim : Characters) where
                   ∙ ap (λ c. allMarked marks used && c)
                   (first-covers marks w (drop from s) n here (some-left s at from run q) z
                   ∙ ap₂ (λ b r. marked marks b && coveredBy marks r) (first s at from run q) after)
-                  ∙ and-assoc (allMarked marks used) (marked marks (getD s from 0)) (coveredBy marks (drop (from + n) s))
+                  ∙ sym (and-assoc (allMarked marks used) (marked marks (getD s from 0)) (coveredBy marks (drop (from + n) s)))
                   ∙ ap (λ c. c && coveredBy marks (drop (from + n) s)) (sym f);
               weighing =
                   let ahead : shownBy w (drop from s) ≡ more + left =
@@ -271,7 +263,7 @@ module _ (marks : ℕ) (w s : List ℕ) (lim : Characters) where
             let begun : getD s from 0 / 64 ≡ 2 → ⊥ =
             λ e. z (step-here s at from run n step .begun (ap (λ (b : ℕ). b / 64) (first s at from run q) ∙ e)) in
             let want : marked marks (getD s from 0) ≡ true = rw (high-octet (getD s from 0) (omega arith)) in
-            weigh-again used (sym (ap (λ c. allMarked marks used && c) want ∙ and-one (allMarked marks used))) 1 (shown-first w (getD s from 0) h begun) k l j
+            weigh-again used (sym (ap (λ c. allMarked marks used && c) want ∙ and-yes (allMarked marks used))) 1 (shown-first w (getD s from 0) h begun) k l j
 
       pub low-again : (h : getD s from 0 < 0x14) → (getD s from 0 ≡ 0 → ⊥) → (own : ℕ) → own ≡ tokenBit (getD s from 0)
           → (more : ℕ) → more ≡ shownAt w (getD s from 0) → (k : ℕ) → k ≡ min (lim .0) (shown .0 + (from - at + more)) → k ≤ lim .0
@@ -328,16 +320,10 @@ pub marks-one : (m k : ℕ) (octets : List ℕ) → Marks m octets → Marks k o
 marks-one m k octets a b =
     sym (within-kept m k (λ t h. b .bits t ∙ sym (a .bits t) ∙ h)) ∙ and-comm m k ∙ within-kept k m (λ t h. a .bits t ∙ sym (b .bits t) ∙ h)
 
-same-places : (a b : List ℕ) → length a ≡ length b → ((i : ℕ) → i < length a → getD a i 0 ≡ getD b i 0) → a ≡ b
-same-places [] [] e f = refl
-same-places [] (y ∷ b) e f = absurd (omega arith)
-same-places (x ∷ a) [] e f = absurd (omega arith)
-same-places (x ∷ a) (y ∷ b) e f = ap₂ (λ (h : ℕ) t. h ∷ t) (f 0 (omega arith)) (same-places a b (omega arith) (λ i h. f (suc i) (omega arith)))
-
 pub widths-one : (es : Entries) (a b : List ℕ) → Widths 32 es a → Widths 32 es b → a ≡ b
 widths-one es a b p q =
-    same-places a b (p .long ∙ sym (q .long)) (λ i h. p .each i (omega (arith, p .long)) ∙ sym (q .each i (omega (arith, p .long))))
+    ext-getD 0 a b (p .long ∙ sym (q .long)) (λ i h. p .each i (omega (arith, p .long)) ∙ sym (q .each i (omega (arith, p .long))))
 
 pub shows-one : (es : Entries) (a b : List ℕ) → Shows 32 es a → Shows 32 es b → a ≡ b
 shows-one es a b p q =
-    same-places a b (p .long ∙ sym (q .long)) (λ i h. p .each i (omega (arith, p .long)) ∙ sym (q .each i (omega (arith, p .long))))
+    ext-getD 0 a b (p .long ∙ sym (q .long)) (λ i h. p .each i (omega (arith, p .long)) ∙ sym (q .each i (omega (arith, p .long))))

@@ -1,6 +1,6 @@
 -- Text without token octets: it is text, needs no table, and is its own expansion.
 use mathlib.Core.Path.{_≡_, refl}
-use mathlib.Core.Bool.{true, false, not, _&&_, _||_, false≢true}
+use mathlib.Core.Bool.{true, false, not, _&&_, _||_, false≢true, and-false}
 use mathlib.Core.List.{List, [], _∷_}
 use Prim.Native.Nat.{ℕ, zero, suc, _+_, _*_, _/_, _%_, _<_}
 use native.Mathlib.Omega.{arith}
@@ -8,7 +8,7 @@ use lib.Dec.{eqb, leb, ltb}
 use borrow.Author.Tests.{leb-true, ltb-false, lt-leb, eqb-true}
 use Rattle.text.specs.Text.{layout, token, character, single, goesOn, utf8, text}
 use Rattle.text.specs.Tokens.{entry, orItself, stands, expanded, covers, covered}
-use Rattle.octets.proofs.Tests.{and-left, and-right, and-false, and-map, or-elim, or-left, cond-elim, cond-map, cond-same}
+use Rattle.octets.proofs.Tests.{and-left, and-right, and-map, or-elim, or-left, cond-elim, cond-map, cond-same}
 
 pub expanded-empty : (o : List ℕ) → expanded [] o ≡ o
 unfolding expanded stands entry orItself

@@ -1,16 +1,16 @@
 -- Attributes with a default: all are enumerated, and what their octets mean is the default exactly where they are its octet (change request 2026-05).
 use mathlib.Core.Path.{_≡_, refl, sym, ap, ap₂, _∙_, subst}
-use mathlib.Core.Bool.{Bool, true, false, _&&_, _||_, false≢true}
-use mathlib.Core.Option.{Option, some, Option·some-injective}
+use mathlib.Core.Bool.{Bool, true, false, _&&_, _||_, false≢true, and-false, or-false}
+use mathlib.Core.Option.{some, Option·some-injective}
 use mathlib.Core.List.{List, [], _∷_}
-use Prim.Native.Nat.{ℕ, _+_, _*_, _^_}
+use Prim.Native.Nat.{ℕ}
 use native.Mathlib.Omega.{arith}
 use lib.Dec.{eqb}
 use lib.ListN.{length, getD}
 use borrow.Author.Tests.{eqb-true, eq-eqb, ne-eqb, eqb-false}
 use Rattle.octets.specs.Numbers.{value}
 use Rattle.octets.proofs.Numbers.{length-digits}
-use Rattle.octets.proofs.Tests.{and-left, and-right, and-false, or-elim}
+use Rattle.octets.proofs.Tests.{and-left, and-right, or-elim}
 use Rattle.text.specs.Tokens.{Entries}
 use Rattle.values.specs.declared.Kind.{Kind}
 use Rattle.values.specs.declared.Kind.the-variants.{HoldsNumber}
@@ -117,23 +117,19 @@ default-length-one T p t k o e h =
     rw same (length-digits 1 (value o))
 
 -- ---- `has_default`
-or-none : (b : Bool) → b || false ≡ b
-or-none true = refl
-or-none false = refl
-
 module _ (p t : ℕ) where
   pub default-genre : p ≡ 0x14 → eqb t 0x81 ≡ defaultIn p t 1 defaults
   unfolding defaultIn defaults
-  default-genre e = rw e (sym (or-none (eqb t 0x81)))
+  default-genre e = rw e (sym (or-false (eqb t 0x81)))
 
   module _ (r : Bool) (f : r ≡ eqb t 0x83 || eqb t 0x84) where
     pub default-programme : p ≡ 0x1C → r ≡ defaultIn p t 1 defaults
     unfolding defaultIn defaults
-    default-programme e = f ∙ rw (e, or-none (eqb t 0x84))
+    default-programme e = f ∙ rw (e, or-false (eqb t 0x84))
 
     pub default-event : p ≡ 0x2E → r ≡ defaultIn p t 1 defaults
     unfolding defaultIn defaults
-    default-event e = f ∙ rw (e, or-none (eqb t 0x84))
+    default-event e = f ∙ rw (e, or-false (eqb t 0x84))
 
   pub default-none : (p ≡ 0x14 → ⊥) → (p ≡ 0x1C → ⊥) → (p ≡ 0x2E → ⊥) → false ≡ defaultIn p t 1 defaults
   unfolding defaultIn defaults

@@ -1,6 +1,6 @@
 -- What callers of this crate cite: what an answer says of the octets, and what normal octets are.
 use mathlib.Core.Path.{_≡_, refl, sym, ap, _∙_}
-use mathlib.Core.Bool.{Bool, true, false, cond, _&&_, false≢true}
+use mathlib.Core.Bool.{Bool, true, false, cond, false≢true, and-false, and-true as and-yes}
 use mathlib.Core.Option.{Option, none, some}
 use mathlib.Core.List.{List, []}
 use Prim.Native.Nat.{ℕ, suc, _+_, _*_, _/_, _%_, _^_, _≤_, _<_}
@@ -13,7 +13,7 @@ use Rattle.octets.specs.declared.counts.Octets.{Octets as OctetCount}
 use Rattle.octets.specs.Counts.{sizeOf}
 use Rattle.octets.specs.Numbers.{value, digits, Octets}
 use Rattle.octets.proofs.Numbers.{digits-value, length-digits}
-use Rattle.octets.proofs.Tests.{and-false, and-left}
+use Rattle.octets.proofs.Tests.{and-left}
 use Rattle.text.specs.Tokens.{Entries, expanded}
 use Rattle.text.proofs.Words.{expanded-empty}
 use Rattle.values.specs.declared.Kind.{Kind}
@@ -111,10 +111,6 @@ module _ (s : List ℕ) (r : TakenBearer) (e : r ≡ takenBearer s) where
       go false f q = refl
 
 -- canonical form: the same octets, and what they are read as
-and-yes : (m : Bool) → m && true ≡ m
-and-yes true = refl
-and-yes false = refl
-
 pub canonical-octets : (t : Time) → timeOctets (canonical t) ≡ timeOctets t
 unfolding canonical timeOctets
 canonical-octets t = go (eqb (t .halves) 0) refl

@@ -1,6 +1,6 @@
 -- The ways through a time's methods, in the words of the code.
 use mathlib.Core.Path.{_≡_, refl, sym, ap, ap₂, subst, _∙_}
-use mathlib.Core.Bool.{Bool, true, false, cond, not, _&&_}
+use mathlib.Core.Bool.{Bool, true, false, cond, not, _&&_, and-false}
 use mathlib.Core.List.{List, [], _∷_, _++_, append-assoc}
 use Prim.Native.Nat.{ℕ, zero, suc, zero-le, _+_, _-_, _*_, _/_, _%_, _^_, _≤_, _<_}
 use native.Mathlib.Nat.{one-mul, zero-mul, mod-lt, div-one}
@@ -19,7 +19,6 @@ use borrow.Author.Tests.{le-leb, lt-leb, le-ltb, eq-eqb, ne-eqb}
 use Rattle.octets.specs.Counts.{asOctets, sizeOf}
 use Rattle.octets.specs.Numbers.{value, digits}
 use Rattle.octets.proofs.Numbers.{length-digits}
-use Rattle.octets.proofs.Tests.{and-false}
 use Rattle.values.specs.declared.Time.{Time}
 use Rattle.values.specs.declared.Local.{Local}
 use Rattle.values.specs.declared.TakenTime.the-variants.{Good, Bad}

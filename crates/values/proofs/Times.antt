@@ -1,6 +1,6 @@
 -- The normal octets of a time are a time and mean it, and the octets of a time mean one that is in range. Local time of one in range.
 use mathlib.Core.Path.{_≡_, refl, sym, ap, _∙_}
-use mathlib.Core.Bool.{Bool, true, false, cond, not, _&&_, false≢true}
+use mathlib.Core.Bool.{Bool, true, false, cond, not, _&&_, false≢true, and-false}
 use mathlib.Core.List.{List, append-assoc}
 use Prim.Native.Nat.{ℕ, suc, _+_, _-_, _*_, _/_, _%_, _^_, _≤_, _<_}
 use native.Mathlib.Omega.{arith}
@@ -13,7 +13,7 @@ use Rattle.octets.specs.Numbers.{digits}
 use Rattle.values.specs.declared.Time.{Time}
 use Rattle.values.specs.Times.{bits, longFlag, offsetFlag, offsetOctet, timeOf, inRange, isTime, sign, timeOctets, localMinutes, localOf}
 use Rattle.values.specs.Proper.{TimeOk}
-use Rattle.octets.proofs.Tests.{and-left, and-right, and-false}
+use Rattle.octets.proofs.Tests.{and-left, and-right}
 use Rattle.octets.proofs.Numbers.{length-digits, value-digits}
 
 pub record Bounds (t : Time) : Type 0 where
