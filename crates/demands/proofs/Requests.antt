@@ -12,6 +12,7 @@ use borrow.Author.Tests.{ltb-true}
 use Rattle.octets.specs.Numbers.{Octets}
 use Rattle.octets.proofs.Tests.{and-left, and-right}
 use Rattle.octets.specs.Counts.{sizeOf}
+use Rattle.octets.proofs.Numbers.{octets-none, octets-cons}
 use Rattle.format.specs.declared.WriteAnswer.{WriteAnswer}
 use Rattle.format.specs.declared.WriteAnswer.the-variants.{NotWritten}
 use Rattle.format.specs.declared.SameAnswer.{SameAnswer}
@@ -25,7 +26,6 @@ use Rattle.format.specs.Same.{sameAnswer}
 use Rattle.format.specs.Bench.{Outcome, outcome, accented, slips}
 use Rattle.format.specs.Bench.Outcome.{refuses, normally}
 use Rattle.format.proofs.Bench.{slipped}
-use Rattle.format.proofs.OctetLists.{octets-none, octets-cons}
 use Rattle.format.proofs.Defaults.{defaults-nothing}
 use Rattle.format.proofs.Normal.{normal-bare, same-normal}
 use Rattle.records.specs.Check.{isGiven}

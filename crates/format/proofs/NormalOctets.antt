@@ -9,8 +9,9 @@ use lib.Dec.{eqb}
 use lib.ListN.{length, length-append}
 use Rattle.octets.specs.Numbers.{Octets}
 use Rattle.octets.specs.Header.{framed}
-use Rattle.octets.proofs.Answers.{framed-length}
+use Rattle.octets.proofs.Answers.{framed-length, framed-octets}
 use Rattle.octets.proofs.Frames.{framed-longer}
+use Rattle.octets.proofs.Numbers.{octets-none, octets-append}
 use Rattle.text.specs.Tokens.{Entries, expanded}
 use Rattle.text.proofs.Expansion.{Sound}
 use Rattle.values.specs.declared.Kind.{Kind}
@@ -30,7 +31,7 @@ use Rattle.format.proofs.Means.{text-known}
 use Rattle.format.proofs.Told.{Told, ItemTold, accepted-told, accepted-sound}
 use Rattle.format.proofs.Fine.{fine, told-text}
 use Rattle.format.proofs.Defaults.{counted-some}
-use Rattle.format.proofs.OctetLists.{octets-none, octets-append, framed-octets, text-octets, proper-octets}
+use Rattle.format.proofs.OctetLists.{text-octets, proper-octets}
 
 -- the body of an item that is told
 found-octets : (T : Entries) (a : ℕ) (o : List ℕ) (t : Items) (s : Spot) → Told T s t → find a t ≡ some o → Octets o

@@ -1,16 +1,13 @@
--- Lists whose numbers are octets: lists put together, numbers, an item with its header, valid text, the normal octets of a value.
+-- Lists whose numbers are octets: valid text, the normal octets of a value.
 use mathlib.Core.Path.{_≡_, refl}
 use mathlib.Core.Bool.{Bool, true, false, cond, false≢true}
 use mathlib.Core.List.{List, [], _∷_, _++_}
 use Prim.Native.Nat.{ℕ, zero, suc, _+_, _*_, _/_, _%_, _^_, _<_}
 use native.Mathlib.Omega.{arith}
-use native.Mathlib.Nat.{mod-lt, pow-succ', div-lt-iff-lt-mul}
-use lib.Dec.{eqb, leb, ltb}
-use lib.ListN.{length}
-use borrow.Author.Tests.{eqb-true, leb-true, ltb-true}
+use lib.Dec.{eqb, ltb}
+use borrow.Author.Tests.{eqb-true, ltb-true}
 use Rattle.octets.specs.Numbers.{digits, Octets}
-use Rattle.octets.specs.Header.{lengthField, framed}
-use Rattle.octets.proofs.Numbers.{pow-pos}
+use Rattle.octets.proofs.Numbers.{octets-none, octets-cons, octets-append, octets-digits}
 use Rattle.octets.proofs.Tests.{and-left, and-right, cond-elim}
 use Rattle.text.specs.Text.{single, goesOn, utf8, text}
 use Rattle.values.specs.declared.Kind.{Kind}
@@ -25,37 +22,6 @@ use Rattle.values.specs.Values.{Value, octetsOf, width}
 use Rattle.values.specs.Proper.{Proper, BearerOk, EnsembleOk, SidOk}
 use Rattle.values.specs.Proper.Proper.{words, plain, counted, timed, carried}
 use Rattle.values.proofs.Times.{bounds, sign-le}
-
--- ---- lists, numbers and headers
-
-pub octets-none : Octets []
-octets-none i = omega arith
-
-pub octets-cons : (b : ℕ) (o : List ℕ) → b < 256 → Octets o → Octets (b ∷ o)
-octets-cons b o h g zero = h
-octets-cons b o h g (suc i) = g i
-
-pub octets-append : (a b : List ℕ) → Octets a → Octets b → Octets (a ++ b)
-octets-append [] b h g = g
-octets-append (x ∷ a) b h g = octets-cons x (a ++ b) (h 0) (octets-append a b (λ i. h (suc i)) g)
-
-pub octets-digits : (w n : ℕ) → n < 256 ^ w → Octets (digits w n)
-unfolding digits
-octets-digits zero n h = octets-none
-octets-digits (suc w) n h = octets-cons (n / 256 ^ w) (digits w (n % 256 ^ w)) (div-lt-iff-lt-mul (pow-pos w) .1 (rw pow-succ' at h)) (octets-digits w (n % 256 ^ w) (mod-lt n (pow-pos w)))
-
-length-octets : (n : ℕ) → n < 256 ^ 3 → Octets (lengthField n)
-unfolding lengthField
-length-octets n h = go (leb n 0xFD) refl (leb n 0xFFFF) refl
-  where
-    go : (a : Bool) → leb n 0xFD ≡ a → (b : Bool) → leb n 0xFFFF ≡ b → Octets (cond a (n ∷ []) (cond b (0xFE ∷ digits 2 n) (0xFF ∷ digits 3 n)))
-    go true p b q = octets-cons n [] (omega (arith, leb-true n 0xFD p)) octets-none
-    go false p true q = octets-cons 0xFE (digits 2 n) (omega arith) (octets-digits 2 n (omega (arith, leb-true n 0xFFFF q)))
-    go false p false q = octets-cons 0xFF (digits 3 n) (omega arith) (octets-digits 3 n h)
-
-pub framed-octets : (tag : ℕ) (body : List ℕ) → tag < 256 → length body < 256 ^ 3 → Octets body → Octets (framed tag body)
-unfolding framed
-framed-octets tag body t l os = octets-cons tag (lengthField (length body) ++ body) t (octets-append (lengthField (length body)) body (length-octets (length body) l) os)
 
 -- ---- text: each octet of a character is one
 

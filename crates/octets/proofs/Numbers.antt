@@ -4,7 +4,7 @@ use mathlib.Core.Bool.{Bool, true, false}
 use mathlib.Core.List.{List, [], _∷_, _++_}
 use Prim.Native.Nat.{ℕ, zero, suc, _+_, _*_, _/_, _%_, _^_, _<_}
 use native.Mathlib.Omega.{arith}
-use native.Mathlib.Nat.{div-add-mod', mod-lt, pow-suc, pow-succ', mul-assoc, add-mul, add-assoc}
+use native.Mathlib.Nat.{div-add-mod', mod-lt, pow-suc, pow-succ', mul-assoc, add-mul, add-assoc, div-lt-iff-lt-mul}
 use lib.Arith.{digits-lt, digits-div, digits-mod, mod-mul}
 use lib.Dec.{ltb}
 use lib.ListN.{length, take, drop, getD, length-append, length-take, List·getD-eq-default}
@@ -36,6 +36,23 @@ octets-take n o h i = go (ltb i n) refl
     go : (b : Bool) → ltb i n ≡ b → getD (take n o) i 0 < 256
     go true e = let l = ltb-true i n e in rw (getD-take n o i 0) (h i)
     go false e = rw (List·getD-eq-default (take n o) 0 {n = i} (simp length-take (omega (arith, ltb-false i n e)))) (omega arith)
+
+-- lists of octets put together, and the digits of a number
+pub octets-none : Octets []
+octets-none i = omega arith
+
+pub octets-cons : (b : ℕ) (o : List ℕ) → b < 256 → Octets o → Octets (b ∷ o)
+octets-cons b o h g zero = h
+octets-cons b o h g (suc i) = g i
+
+pub octets-append : (a b : List ℕ) → Octets a → Octets b → Octets (a ++ b)
+octets-append [] b h g = g
+octets-append (x ∷ a) b h g = octets-cons x (a ++ b) (h 0) (octets-append a b (λ i. h (suc i)) g)
+
+pub octets-digits : (w n : ℕ) → n < 256 ^ w → Octets (digits w n)
+unfolding digits
+octets-digits zero n h = octets-none
+octets-digits (suc w) n h = octets-cons (n / 256 ^ w) (digits w (n % 256 ^ w)) (div-lt-iff-lt-mul (pow-pos w) .1 (rw pow-succ' at h)) (octets-digits w (n % 256 ^ w) (mod-lt n (pow-pos w)))
 
 pub value-lt : (o : List ℕ) → Octets o → value o < 256 ^ length o
 unfolding value
