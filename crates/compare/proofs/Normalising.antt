@@ -8,7 +8,7 @@ use Prim.Native.Nat.{ℕ, suc, _-_, _^_, _≤_, _<_}
 use native.Mathlib.Omega.{arith}
 use lib.Dec.{eqb, ltb}
 use lib.ListN.{length, getD}
-use borrow.Author.Tests.{eqb-true, eqb-false, eq-eqb, ne-eqb, leb-true, ltb-true, lt-ltb}
+use borrow.Author.Tests.{eqb-true, eqb-false, ne-eqb, leb-true, ltb-true, lt-ltb}
 use Rattle.octets.specs.Numbers.{Octets}
 use Rattle.octets.specs.Header.{headerSize, bodySize, framed}
 use Rattle.octets.proofs.Frames.{framed-longer}
@@ -22,7 +22,7 @@ use Rattle.values.specs.Table.{known, attribute}
 use Rattle.values.specs.Values.{Value, fits, meant, octetsOf}
 use Rattle.values.proofs.Laws.{asItStands}
 use Rattle.values.proofs.DefaultValues.{element-keeps}
-use Rattle.values.proofs.Known.{ElementTag, items-tag, items-no-attribute, known-anywhere, known-cdata, known-four, attribute-kind, element-kind, elementRow}
+use Rattle.values.proofs.Known.{ElementTag, items-tag, items-no-attribute, known-anywhere, known-cdata, known-four, attribute-kind, element-kind, elementRow, not-attribute}
 use Rattle.format.specs.Tree.{Items, find}
 use Rattle.format.specs.Tree.Items.{end, item}
 use Rattle.format.specs.Judge.{Context, isKnown, isItems, isText, isValue, latest, stageAfter, next, within, outermost, judge}
@@ -32,14 +32,13 @@ use Rattle.format.specs.Meaning.Meaning.{element, leaf}
 use Rattle.format.specs.Same.{sameOctets}
 use Rattle.format.proofs.Rules.{held}
 use Rattle.format.proofs.Force.{top-known}
-use Rattle.format.proofs.Defaults.{counted-octets, counted-some}
+use Rattle.format.proofs.Defaults.{counted-some, present-attribute}
 use Rattle.format.proofs.Told.{top, some-octet}
-use Rattle.format.proofs.Means.{items-opens, items-known, value-no-items, child-element, means-attribute, means-cdata}
+use Rattle.format.proofs.Means.{items-opens, items-known, value-no-items, child-element, means-attribute, means-cdata, other-attribute, absent-attribute, find-first}
 use Rattle.format.proofs.Induction.{Cases, judged-all, Unbroken, bodyOf, laterOf, inAt, body-octets, later-octets, shorter}
 use Rattle.reader.proofs.Reading.{small}
 use Rattle.survey.specs.Places.{isWhole, firstBody, afterFirst}
 use Rattle.survey.specs.Normal.{writtenAs}
-use Rattle.survey.proofs.Found.{not-attribute}
 use Rattle.survey.proofs.Rising.{rising-none, rising-same}
 use Rattle.compare.specs.Normal.{isShortest, isWritten, isRising, shaped}
 use Rattle.format.proofs.Same.{octets-same, same-octets}
@@ -53,24 +52,6 @@ abbrev N : Entries → (p last : ℕ) → Items → List ℕ
 N es p last t = rising (255 - last) (suc last) (attributesIn es p t) ++ (encode (means es t) ++ maybe (framed 1) (cdataIn es t))
 
 -- ---- attributes of a tree
-
-absent-attribute : (es : Entries) (p : ℕ) (t : Items) (b : ℕ) → (attribute b ≡ true → find b t ≡ none) → attributesIn es p t b ≡ none
-unfolding attributesIn valueIn counted
-absent-attribute es p t b h = go (attribute b) refl
-  where
-    go : (x : Bool) → attribute b ≡ x → cond x (counted p b (valueIn es (find b t) (known p b))) none ≡ none
-    go true e = rw (h e)
-    go false e = refl
-
--- one that is present counts unless it is its default
-present-attribute : (es : Entries) (p tag from : ℕ) (body : List ℕ) (w u : Items) (k : Kind) → attribute tag ≡ true → known p tag ≡ some k → fits k body ≡ true
-    → attributesIn es p (item tag from body w u) tag ≡ cond (defaultOctets p tag body) none (some (meant es k body))
-unfolding attributesIn valueIn find
-present-attribute es p tag from body w u k a e f = rw (a, eq-eqb tag tag refl, e) (counted-octets es p tag k body e f)
-
-other-attribute : (es : Entries) (p tag from : ℕ) (body : List ℕ) (w u : Items) (b : ℕ) → (b ≡ tag → ⊥) → attributesIn es p (item tag from body w u) b ≡ attributesIn es p u b
-unfolding attributesIn find
-other-attribute es p tag from body w u b d = rw (ne-eqb b tag d)
 
 -- an attribute that counts is known
 attribute-known : (es : Entries) (p : ℕ) (t : Items) (b : ℕ) (v : Value) → attributesIn es p t b ≡ some v → (attribute b ≡ true) × (isKnown (known p b) ≡ true)
@@ -182,7 +163,7 @@ attribute-adds es p last tag from body w u k a e v c l m h =
     let R = encode (means es t) ++ maybe (framed 1) (cdataIn es t) in
     let d : tag ≡ 1 → ⊥ = λ q. omega (arith, ltb-true 0x7F tag a) in
     let r : rising (255 - last) (suc last) (attributesIn es p t) ≡ framed tag (octetsOf (meant es k body)) ++ rising (255 - tag) (suc tag) (attributesIn es p u) =
-    rising-first last tag (attributesIn es p t) (meant es k body) l m h (present-attribute es p tag from body w u k a e v ∙ ap (λ b. cond b none (some (meant es k body))) c)
+    rising-first last tag (attributesIn es p t) (meant es k body) l m h (present-attribute es p t tag k body a e (find-first tag from body w u) v ∙ ap (λ b. cond b none (some (meant es k body))) c)
     ∙ ap (λ o. framed tag (octetsOf (meant es k body)) ++ o) (rising-same (255 - tag) (suc tag) (attributesIn es p t) (attributesIn es p u) (λ b y. other-attribute es p tag from body w u b (λ q. omega arith))) in
     let s : R ≡ encode (means es u) ++ maybe (framed 1) (cdataIn es u) = ap₂ (λ x y. encode x ++ maybe (framed 1) y) (means-attribute es tag from body w u a) (cdata-later es tag from body w u d) in
     ap₂ (λ x y. x ++ y) r s ∙ append-assoc (framed tag (octetsOf (meant es k body))) (rising (255 - tag) (suc tag) (attributesIn es p u)) (encode (means es u) ++ maybe (framed 1) (cdataIn es u))
@@ -463,7 +444,7 @@ module _ (c : Context) (at tag : ℕ) (rest : List ℕ) (u : Items) (q : Unbroke
       no = no-shape p tag rest u (ap (λ z. isWritten z body) (unwritten-default p tag body d))
 
       uncounted : (es : Entries) → attributesIn es p (item tag from body end u) tag ≡ none
-      uncounted es = present-attribute es p tag from body end u k a e (value-here k e) ∙ ap (λ b. cond b none (some (meant es k body))) d
+      uncounted es = present-attribute es p (item tag from body end u) tag k body a e (find-first tag from body end u) (value-here k e) ∙ ap (λ b. cond b none (some (meant es k body))) d
 
   -- any other
   module _ (k : Kind) (a : attribute tag ≡ true) (e : known p tag ≡ some k) (d : defaultOctets p tag body ≡ false) where

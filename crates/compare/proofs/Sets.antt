@@ -27,6 +27,7 @@ use Rattle.format.specs.Judge.{isKnown, isValue}
 use Rattle.format.specs.Meaning.{valueIn, counted, attributesIn, cdataIn}
 use Rattle.format.specs.Same.{sameOctets, sameValue, sameMaybe, sameAttributes}
 use Rattle.format.proofs.Defaults.{counted-octets}
+use Rattle.format.proofs.Means.{unknown-attribute}
 use Rattle.reader.specs.Filling.{Accepts}
 use Rattle.survey.specs.declared.Lies.{Lies}
 use Rattle.survey.specs.declared.Lies.the-variants.{Outside, Between}
@@ -34,7 +35,7 @@ use Rattle.survey.proofs.Rising.{known-few}
 use Rattle.survey.specs.Places.{between, spanOfTag, bodyBy, bodyOfTag}
 use Rattle.compare.specs.Bodies.{sameBody}
 use Rattle.compare.specs.Items.{countedBody, countedOfTag, countedLies, countedSpan, isAbsent, sameFound, sameFrom, sameSets, sameText}
-use Rattle.survey.proofs.Seeking.{Sought, sought, sought-ordered, sought-inside, missing, span-says}
+use Rattle.survey.proofs.Seeking.{Sought, sought, missing, span-says, span-ordered, span-inside}
 
 pub absent-yes : (r : Lies) → r ≡ Outside → true ≡ isAbsent r
 unfolding isAbsent
@@ -76,12 +77,6 @@ module _ (part : List ℕ) (tag : ℕ) (r : Lies) (e : r ≡ spanOfTag tag part)
     pub body-some : bodyOfTag tag part ≡ some (between part from to)
     unfolding bodyBy
     body-some = sym body-at ∙ ap (bodyBy part) q
-
-    pub span-ordered : from ≤ to
-    span-ordered = sought-ordered part tag r (span-says part tag r e) from to q
-
-    pub span-inside : to ≤ length part
-    span-inside = sought-inside part tag r (span-says part tag r e) from to q
 
 absent-says : (part : List ℕ) (f : List ℕ → List ℕ → Bool) (r : Lies) (o : Option (List ℕ)) → bodyBy part r ≡ o → isAbsent r ≡ sameMaybe f none o
 unfolding isAbsent bodyBy sameMaybe
@@ -223,14 +218,6 @@ module _ (parent tag : ℕ) (kind : Kind) (own : known parent tag ≡ some kind)
       go none e = refl
       go (some b) e = counted-octets T parent tag kind b own (body-fits b e) ∙ by b (defaultOctets parent tag b)
 
-unknown-means : (T : Entries) (parent tag : ℕ) (t : Items) → attribute tag ≡ true → known parent tag ≡ none → attributesIn T parent t tag ≡ none
-unfolding attributesIn valueIn counted
-unknown-means T parent tag t a n = rw (a, n) (go (find tag t))
-  where
-    go : (o : Option (List ℕ)) → counted parent tag (valueIn T o none) ≡ none
-    go none = refl
-    go (some o) = refl
-
 -- two bodies that are values of a kind
 same-meant : (es fs : Entries) (k : Kind) (x y : Option (List ℕ)) → ((o : List ℕ) → x ≡ some o → fits k o ≡ true) → ((o : List ℕ) → y ≡ some o → fits k o ≡ true)
     → sameMaybe (sameBody es fs k) x y ≡ sameMaybe sameValue (Option·map (meant es k) x) (Option·map (meant fs k) y)
@@ -247,7 +234,7 @@ module _ (parent tag : ℕ) (es : Entries) (a : List ℕ) (fs : Entries) (b : Li
     where
       go : (l : Option Kind) → known parent tag ≡ l
           → sameFound es fs l (countedOfTag parent tag a) (countedOfTag parent tag b) ≡ sameMaybe sameValue (attributesIn es parent t tag) (attributesIn fs parent u tag)
-      go none q = sym (ap₂ (sameMaybe sameValue) (unknown-means es parent tag t y q) (unknown-means fs parent tag u y q))
+      go none q = sym (ap₂ (sameMaybe sameValue) (unknown-attribute es parent t tag q) (unknown-attribute fs parent u tag q))
       go (some k) q =
           same-meant es fs k (countedOfTag parent tag a) (countedOfTag parent tag b) (counted-fits parent tag k q a d i t x) (counted-fits parent tag k q b e j u z)
           ∙ sym (ap₂ (sameMaybe sameValue) (counted-means parent tag k q a d i t x es y) (counted-means parent tag k q b e j u z fs y))

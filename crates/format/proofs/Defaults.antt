@@ -34,6 +34,12 @@ pub counted-octets : (T : Entries) (p a : ℕ) (k : Kind) (o : List ℕ) → kno
 unfolding counted
 counted-octets T p a k o e f = ap (λ b. cond b none (some (meant T k o))) (sym (default-meant T p a k o e f))
 
+-- so one that is there
+pub present-attribute : (T : Entries) (p : ℕ) (t : Items) (a : ℕ) (k : Kind) (o : List ℕ) → attribute a ≡ true → known p a ≡ some k → find a t ≡ some o → fits k o ≡ true
+    → attributesIn T p t a ≡ cond (defaultOctets p a o) none (some (meant T k o))
+unfolding attributesIn valueIn
+present-attribute T p t a k o h e f i = rw (h, e, f) (counted-octets T p a k o e i)
+
 -- what counts is what is there
 pub counted-some : (p a : ℕ) (o : Option Value) (v : Value) → counted p a o ≡ some v → o ≡ some v
 unfolding counted

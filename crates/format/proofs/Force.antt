@@ -96,6 +96,10 @@ attribute-four tag a = attribute-other tag 4 a (omega arith)
 pub attribute-one : (tag : ℕ) → attribute tag ≡ true → eqb tag 1 ≡ false
 attribute-one tag a = attribute-other tag 1 a (omega arith)
 
+pub attribute-latest : (tag : ℕ) → attribute tag ≡ true → latest tag ≡ 0
+unfolding latest
+attribute-latest tag h = rw h
+
 pub not-both : (b : Bool) → b ≡ false → b ≡ true → ⊥
 not-both b p q = false≢true (sym p ∙ q)
 

@@ -29,9 +29,9 @@ use Rattle.octets.proofs.Tests.{or-elim}
 use Rattle.text.proofs.Words.{expanded-empty}
 use Rattle.text.proofs.Expansion.{Sound, shown-expanded}
 use Rattle.values.proofs.Values.{valueKind, proper-means, proper-fits}
-use Rattle.values.proofs.Known.{ElementTag, items-tag, plain-tag, language-tag, known-anywhere, known-cdata, known-one, known-four, known-six, element-kind, no-attribute, attribute-kind}
+use Rattle.values.proofs.Known.{ElementTag, items-tag, plain-tag, language-tag, known-anywhere, known-cdata, known-one, known-four, known-six, element-kind, attribute-kind}
 use Rattle.format.proofs.Spans.{Located}
-use Rattle.format.proofs.Means.{items-known, opens-items, opens-leaf, means-table, means-element, means-leaf}
+use Rattle.format.proofs.Means.{opens-items, opens-leaf, means-table, means-element, means-leaf, attribute-shut, attribute-no-child}
 use Rattle.format.proofs.Force.{attribute-four, not-both}
 use Rattle.format.proofs.Told.{Told, ItemTold, KindTold, Among, among-more, among-both, accepted-told, accepted-sound}
 use Rattle.format.proofs.Fine.{Fine, fine, Placed, placed-parts, told-text, told-proper, known-is, stage-past, stage-up}
@@ -51,15 +51,7 @@ pub loaded-single : (T : Entries) (p at tag from : ℕ) (body : List ℕ) (x u :
 unfolding loadedIn
 loaded-single T p at tag from body x u f o = rw (f, o)
 
--- no attribute holds items, nor does CDATA
-pub attribute-shut : (tag : ℕ) → attribute tag ≡ true → opens tag ≡ false
-unfolding opens
-attribute-shut tag a = go (isItems (known 0 tag)) refl
-  where
-    go : (b : Bool) → isItems (known 0 tag) ≡ b → b ≡ false
-    go false q = refl
-    go true q = absurd (false≢true (sym (no-attribute tag HoldsItems (items-known (known 0 tag) q)) ∙ a))
-
+-- CDATA holds no items
 cdata-shut : opens 1 ≡ false
 unfolding opens isItems
 cdata-shut = rw known-one
@@ -162,10 +154,6 @@ meant-leaf T s tag from body x u k t e l later at =
     ∙ (means-leaf [] tag at o end (loadedIn T (s .parent) n u) k t e l
     ∙ (ap₂ (λ a b. leaf tag a b) (loaded-leaf T (s .parent) tag body k (t .notAttribute) e l (t .notTable)) (later n) ∙ sym (means-leaf T tag from body x u k t e l)))
 
-child-not : (tag : ℕ) → attribute tag ≡ true → isChild tag ≡ false
-unfolding isChild
-child-not tag a = rw a
-
 cdata-not : isChild 1 ≡ false
 unfolding isChild attribute
 cdata-not = refl
@@ -193,7 +181,7 @@ unfolding attribute
 meant-item T s tag from body x u i f inside later = go (attribute tag) refl (known-is (known (s .parent) tag) (i .kind .isOne))
   where
     go : (a : Bool) → attribute tag ≡ a → (k : Kind) × (known (s .parent) tag ≡ some k) → Meant T s (item tag from body x u)
-    go true a k = meant-silent T s tag from body x u (child-not tag a) (attribute-four tag a) (attribute-shut tag a) later
+    go true a k = meant-silent T s tag from body x u (attribute-no-child tag a) (attribute-four tag a) (attribute-shut tag a) later
     go false a k = meant-known T s tag from body x u (k .0) (sym (known-anywhere (s .parent) tag a) ∙ k .1) f inside later
 
 loaded-meant : (T : Entries) → Sound T → (t : Items) (s : Spot) → Told T s t → Meant T s t

@@ -5,7 +5,7 @@ use mathlib.Core.Option.{Option, none, some, Option·map}
 use mathlib.Core.List.{List, []}
 use Prim.Native.Nat.{ℕ}
 use lib.Dec.{eqb}
-use borrow.Author.Tests.{eqb-true}
+use borrow.Author.Tests.{eqb-true, eqb-false, eq-eqb, ne-eqb}
 use Rattle.text.specs.Tokens.{Entries, expanded}
 use Rattle.values.specs.declared.Kind.{Kind}
 use Rattle.values.specs.declared.Kind.the-variants.{HoldsItems, HoldsTokens, HoldsText, HoldsPlain, HoldsTime, HoldsBearer, HoldsNumber}
@@ -18,7 +18,7 @@ use Rattle.format.specs.Meaning.{opens, isChild, valueIn, counted, attri
 use Rattle.format.specs.Meaning.Meaning.{element, leaf}
 use Rattle.text.proofs.Words.{expanded-empty}
 use Rattle.values.proofs.Values.{valueKind}
-use Rattle.values.proofs.Known.{ElementTag, items-tag, known-anywhere, attribute-kind}
+use Rattle.values.proofs.Known.{ElementTag, items-tag, known-anywhere, attribute-kind, not-attribute}
 
 pub items-known : (k : Option Kind) → isItems k ≡ true → k ≡ some HoldsItems
 unfolding isItems
@@ -68,6 +68,10 @@ attribute-no-items p tag a = go (known p tag) refl
     go none e = refl
     go (some k) e = value-no-items k (attribute-kind p tag k a e)
 
+pub attribute-shut : (tag : ℕ) → attribute tag ≡ true → opens tag ≡ false
+unfolding opens
+attribute-shut tag a = attribute-no-items 0 tag a
+
 -- what holds items, holds them wherever it stands
 pub items-opens : (p tag : ℕ) → isItems (known p tag) ≡ opens tag
 unfolding opens
@@ -81,7 +85,7 @@ pub child-element : (tag : ℕ) → ElementTag tag → isChild tag ≡ true
 unfolding isChild
 child-element tag t = rw (t .notAttribute, t .notCdata, t .notTable)
 
-attribute-no-child : (tag : ℕ) → attribute tag ≡ true → isChild tag ≡ false
+pub attribute-no-child : (tag : ℕ) → attribute tag ≡ true → isChild tag ≡ false
 unfolding isChild
 attribute-no-child tag h = rw h
 
@@ -130,3 +134,46 @@ default-nothing table parent tag at body t u k e d n = fun-ext (λ b. go b (eqb 
         → cond (attribute b) (counted parent b (valueIn table (cond s (some body) (find b u)) (known parent b))) none ≡ cond (attribute b) (counted parent b (valueIn table (find b u) (known parent b))) none
     go b false q = refl
     go b true q = rw (eqb-true b tag q, e, d, n)
+
+-- ---- what an item leaves as it is: an attribute of another tag; all attributes, if it is none; the CDATA, if it isn't that
+
+pub other-attribute : (table : Entries) (p tag at : ℕ) (body : List ℕ) (t u : Items) (a : ℕ) → (a ≡ tag → ⊥) → attributesIn table p (item tag at body t u) a ≡ attributesIn table p u a
+unfolding attributesIn find
+other-attribute table p tag at body t u a d = rw (ne-eqb a tag d)
+
+pub same-attributes : (table : Entries) (p tag at : ℕ) (body : List ℕ) (t u : Items) → attribute tag ≡ false → attributesIn table p (item tag at body t u) ≡ attributesIn table p u
+unfolding attributesIn find
+same-attributes table p tag at body t u n = fun-ext (λ a. go a (attribute a) refl)
+  where
+    go : (a : ℕ) (b : Bool) → attribute a ≡ b
+        → cond b (counted p a (valueIn table (cond (eqb a tag) (some body) (find a u)) (known p a))) none ≡ cond b (counted p a (valueIn table (find a u) (known p a))) none
+    go a false q = refl
+    go a true q = rw (not-attribute a tag q n)
+
+pub same-cdata : (table : Entries) (tag at : ℕ) (body : List ℕ) (t u : Items) → eqb tag 1 ≡ false → cdataIn table (item tag at body t u) ≡ cdataIn table u
+unfolding cdataIn find
+same-cdata table tag at body t u o = rw (ne-eqb 1 tag (λ e. eqb-false tag 1 o (sym e)))
+
+-- ---- when an attribute isn't there: no item has its tag, or no kind of it is known
+
+pub absent-attribute : (table : Entries) (p : ℕ) (t : Items) (a : ℕ) → (attribute a ≡ true → find a t ≡ none) → attributesIn table p t a ≡ none
+unfolding attributesIn valueIn counted
+absent-attribute table p t a h = go (attribute a) refl
+  where
+    go : (x : Bool) → attribute a ≡ x → cond x (counted p a (valueIn table (find a t) (known p a))) none ≡ none
+    go true e = rw (h e)
+    go false e = refl
+
+pub unknown-attribute : (table : Entries) (p : ℕ) (t : Items) (a : ℕ) → known p a ≡ none → attributesIn table p t a ≡ none
+unfolding attributesIn valueIn counted
+unknown-attribute table p t a h = rw h (go (attribute a) (find a t))
+  where
+    go : (b : Bool) (o : Option (List ℕ)) → cond b (counted p a (valueIn table o none)) none ≡ none
+    go true none = refl
+    go true (some x) = refl
+    go false o = refl
+
+-- the first item is found by its tag
+pub find-first : (tag at : ℕ) (body : List ℕ) (t u : Items) → find tag (item tag at body t u) ≡ some body
+unfolding find
+find-first tag at body t u = rw (eq-eqb tag tag refl)

@@ -34,6 +34,7 @@ use Rattle.format.proofs.Read.{Reads, Alone, reads-element, reads-leaf,
 use Rattle.format.proofs.Place.{Ready, within-ready, next-ready, next-attribute, attribute-tag, shown-other, words-held, items-held, plain-held, attribute-held, cdata-held, element-held}
 use Rattle.format.proofs.Means.{value-no-items, means-attribute, means-cdata, means-element, means-leaf, leaf-text, leaf-plain, cdata-itself}
 use Rattle.format.proofs.Defaults.{counts-none, defaultsIn}
+use Rattle.format.proofs.Force.{attribute-one}
 
 -- the tree of children and CDATA
 record Body (cd : Option (List ℕ)) (m : Meaning) (t : Items) : Type 0 where
@@ -51,10 +52,6 @@ record Inside (parent : ℕ) (f : ℕ → Option Value) (a : ℕ) (cd : Option (
   below : (b : ℕ) → attribute b ≡ true → b < a → find b t ≡ none
   above : (b : ℕ) → attribute b ≡ true → a ≤ b → valueIn [] (find b t) (known parent b) ≡ f b
   bare : defaultsIn parent t ≡ 0
-
-not-one : (b : ℕ) → attribute b ≡ true → eqb b 1 ≡ false
-unfolding attribute
-not-one b h = ne-eqb b 1 (λ e. omega (arith, ltb-true 0x7F b h))
 
 inside-parent : (c : Context) (parent depth stage : ℕ) (rest : List ℕ) → Ready c parent depth stage → eqb parent 0 ≡ false → Alone c rest
 inside-parent c parent depth stage rest r z =
@@ -78,7 +75,7 @@ cdata-reads c parent depth stage at (some o) r z s ok h =
     let n = next-ready c parent depth stage at 1 o r cdata-no-attribute refl in (
       item 1 (at + headed (length o)) o end end,
       rw (append-nil (framed 1 o)) at (reads-leaf c at 1 o [] small (cdata-held c parent depth stage o r z s (ok .0) (ok .1)) (inside-parent c parent depth stage [] r z) HoldsText (known-cdata (c .parent)) text-no-items (reads-end (next c at 1 o) (at + headed (length o) + length o) (n .quiet))),
-      record { children = means-cdata [] (at + headed (length o)) o end end; cdata = refl; table = refl; attributes = λ b q. rw (not-one b q); bare = λ p. rw (element-keeps p 1 o cdata-no-attribute) },
+      record { children = means-cdata [] (at + headed (length o)) o end end; cdata = refl; table = refl; attributes = λ b q. rw (attribute-one b q); bare = λ p. rw (element-keeps p 1 o cdata-no-attribute) },
     )
 
 -- tags of brothers so far are below

@@ -1,7 +1,7 @@
 -- What is written of an accepted object takes what its meaning says: so many records, so long a store, so long a normal form. Each is a sum over its items, in which
 -- an attribute counts the same wherever it stands, and the token table and a default nothing. What is listed and stored of the object is as much and its defaults
 -- besides, each a record and an octet.
-use mathlib.Core.Path.{_≡_, refl, sym, ap, _∙_, subst, fun-ext}
+use mathlib.Core.Path.{_≡_, refl, sym, ap, _∙_, subst}
 use mathlib.Core.Bool.{Bool, true, false, cond, _||_, false≢true}
 use mathlib.Core.Option.{Option, none, some}
 use mathlib.Core.List.{List, []}
@@ -28,14 +28,13 @@ use Rattle.format.specs.Meaning.{Meaning, opens, valueIn, counted, attri
 use Rattle.format.specs.Meaning.Meaning.{nothing, element, leaf}
 use Rattle.format.specs.Writer.{Spot, below, past, atTop, isEnd}
 use Rattle.format.specs.Loaded.{stored, storeIn, storeOf}
-use Rattle.format.proofs.Means.{items-known, opens-items, opens-leaf, child-element, means-attribute, means-cdata, means-table, means-element, means-leaf, leaf-text, leaf-plain}
-use Rattle.format.proofs.Force.{attribute-four, attribute-one, swap-eqb, top-known}
+use Rattle.format.proofs.Means.{items-known, opens-items, opens-leaf, child-element, means-attribute, means-cdata, means-table, means-element, means-leaf, leaf-text, leaf-plain, attribute-shut, same-attributes, same-cdata, absent-attribute, find-first}
+use Rattle.format.proofs.Force.{attribute-four, attribute-one, top-known}
 use Rattle.format.proofs.Told.{Told, ItemTold, top, accepted-told}
 use Rattle.format.proofs.Fine.{known-is}
-use Rattle.format.proofs.Loading.{attribute-shut}
 use Rattle.format.proofs.Order.{told-order, seen-none, three-end, cdata-three}
 use Rattle.format.proofs.Sums.{sum, sum-none, sum-more}
-use Rattle.format.proofs.Defaults.{counted-octets, default-attribute, defaultsIn}
+use Rattle.format.proofs.Defaults.{default-attribute, defaultsIn, present-attribute}
 
 -- a way to measure: an element that holds items by what these take, any other item by its octets in the store
 pub record Measure : Type 0 where
@@ -68,20 +67,6 @@ takes c T parent (item tag at body inside after) =
     cond (eqb tag 4 || defaultOctets parent tag body) 0 (cond (opens tag) (c .holder (takes c T tag inside)) (c .single (stored T (known parent tag) body)))
     + takes c T parent after
 
--- an item that is no attribute leaves the attributes of its element as they are, and one that is not CDATA its CDATA
-other-set : (T : Entries) (p tag at : ℕ) (body : List ℕ) (x u : Items) → attribute tag ≡ false → attributesIn T p (item tag at body x u) ≡ attributesIn T p u
-unfolding attributesIn find
-other-set T p tag at body x u n = fun-ext (λ a. go a (attribute a) refl)
-  where
-    go : (a : ℕ) (b : Bool) → attribute a ≡ b
-        → cond b (counted p a (valueIn T (cond (eqb a tag) (some body) (find a u)) (known p a))) none ≡ cond b (counted p a (valueIn T (find a u) (known p a))) none
-    go a false q = refl
-    go a true q = rw (ne-eqb a tag (λ e. false≢true (sym n ∙ (ap attribute (sym e) ∙ q))))
-
-other-cdata : (T : Entries) (tag at : ℕ) (body : List ℕ) (x u : Items) → eqb tag 1 ≡ false → cdataIn T (item tag at body x u) ≡ cdataIn T u
-unfolding cdataIn find
-other-cdata T tag at body x u o = rw (swap-eqb tag 1 o)
-
 module _ (c : Measure) (T : Entries) where
   -- the sum for the items in an element, by what they mean
   abbrev meansTake : ℕ → Items → ℕ
@@ -108,15 +93,15 @@ module _ (c : Measure) (T : Entries) where
       let one = takes-single p tag at body x u k (attribute-four tag a) (attribute-shut tag a) e in
       let gone : find tag u ≡ none = seen-none u (past s tag) tag a (rw (eq-eqb tag tag refl)) (told-order T u (past s tag) h) in
       let fit : fits k body ≡ true = rw e at (i .kind .value) in
-      let now : attributesIn T p (item tag at body x u) tag ≡ cond (defaultOctets p tag body) none (some (meant T k body)) = rw (a, eq-eqb tag tag refl, e) (counted-octets T p tag k body e fit) in
-      let later : attributesIn T p u tag ≡ none = rw (a, gone) in
+      let now : attributesIn T p (item tag at body x u) tag ≡ cond (defaultOctets p tag body) none (some (meant T k body)) = present-attribute T p (item tag at body x u) tag k body a e (find-first tag at body x u) fit in
+      let later : attributesIn T p u tag ≡ none = absent-attribute T p u tag (λ _. gone) in
       let own = cond (defaultOctets p tag body) 0 (c .single (octetsOf (meant T k body))) in
       let more =
       sum-more 128 0x80 tag own (λ b. ifAny (λ v. c .single (octetsOf v)) (attributesIn T p (item tag at body x u) b))
       (λ b. ifAny (λ v. c .single (octetsOf v)) (attributesIn T p u b)) (rw (now, later) (if-counted (defaultOctets p tag body) (meant T k body))) (λ b d. rw (ne-eqb b tag d))
       (omega (arith, ltb-true 0x7F tag a)) (omega (arith, i .octet)) in
       let m : means T (item tag at body x u) ≡ means T u = means-attribute T tag at body x u a in
-      let l : cdataIn T (item tag at body x u) ≡ cdataIn T u = other-cdata T tag at body x u (attribute-one tag a) in
+      let l : cdataIn T (item tag at body x u) ≡ cdataIn T u = same-cdata T tag at body x u (attribute-one tag a) in
       rw (m, l) (omega arith)
     where
       if-counted : (b : Bool) (v : Value) → ifAny (λ v. c .single (octetsOf v)) (cond b none (some v)) ≡ cond b 0 (c .single (octetsOf v)) + ifAny (λ v. c .single (octetsOf v)) none
@@ -134,7 +119,7 @@ module _ (c : Measure) (T : Entries) where
   taken-cdata s at body x u h =
       let p = s .parent in
       let one = takes-other p 1 at body x end HoldsText refl refl (opens-leaf 1 HoldsText known-one refl) (known-cdata p) in
-      let a : attributesIn T p (item 1 at body x end) ≡ attributesIn T p end = other-set T p 1 at body x end refl in
+      let a : attributesIn T p (item 1 at body x end) ≡ attributesIn T p end = same-attributes T p 1 at body x end refl in
       let m : means T (item 1 at body x end) ≡ means T end = means-cdata T at body x end in
       let rest = taken-end p in
       subst (λ v. Taken p (item 1 at body x v)) (three-end u (past s 1) (cdata-three s) (told-order T u (past s 1) h)) (rw (a, m) (omega arith))
@@ -142,17 +127,17 @@ module _ (c : Measure) (T : Entries) where
   taken-table : (p at : ℕ) (body : List ℕ) (x u : Items) → Taken p u → Taken p (item 4 at body x u)
   unfolding takes attribute
   taken-table p at body x u ih =
-      let a : attributesIn T p (item 4 at body x u) ≡ attributesIn T p u = other-set T p 4 at body x u refl in
+      let a : attributesIn T p (item 4 at body x u) ≡ attributesIn T p u = same-attributes T p 4 at body x u refl in
       let m : means T (item 4 at body x u) ≡ means T u = means-table T at body x u in
-      let l : cdataIn T (item 4 at body x u) ≡ cdataIn T u = other-cdata T 4 at body x u refl in
+      let l : cdataIn T (item 4 at body x u) ≡ cdataIn T u = same-cdata T 4 at body x u refl in
       rw (a, m, l) (omega arith)
 
   taken-element : (p tag at : ℕ) (body : List ℕ) (x u : Items) → known 0 tag ≡ some HoldsItems → Taken tag x → Taken p u → Taken p (item tag at body x u)
   unfolding takes ofMeaning
   taken-element p tag at body x u e inside later =
       let g = items-tag tag e in
-      let a : attributesIn T p (item tag at body x u) ≡ attributesIn T p u = other-set T p tag at body x u (g .notAttribute) in
-      let l : cdataIn T (item tag at body x u) ≡ cdataIn T u = other-cdata T tag at body x u (g .notCdata) in
+      let a : attributesIn T p (item tag at body x u) ≡ attributesIn T p u = same-attributes T p tag at body x u (g .notAttribute) in
+      let l : cdataIn T (item tag at body x u) ≡ cdataIn T u = same-cdata T tag at body x u (g .notCdata) in
       rw (a, l, means-element T tag at body x u e, g .notTable, element-keeps p tag body (g .notAttribute), opens-items tag e, inside) (omega arith)
 
   taken-leaf : (p tag at : ℕ) (body : List ℕ) (x u : Items) (k : Kind) → ElementTag tag → known 0 tag ≡ some k → isItems (some k) ≡ false → leafOctets T tag body ≡ octetsOf (meant T k body)
@@ -160,8 +145,8 @@ module _ (c : Measure) (T : Entries) where
   unfolding ofMeaning
   taken-leaf p tag at body x u k g e l o later =
       let one = takes-other p tag at body x u k (g .notAttribute) (g .notTable) (opens-leaf tag k e l) (known-anywhere p tag (g .notAttribute) ∙ e) in
-      let a : attributesIn T p (item tag at body x u) ≡ attributesIn T p u = other-set T p tag at body x u (g .notAttribute) in
-      let d : cdataIn T (item tag at body x u) ≡ cdataIn T u = other-cdata T tag at body x u (g .notCdata) in
+      let a : attributesIn T p (item tag at body x u) ≡ attributesIn T p u = same-attributes T p tag at body x u (g .notAttribute) in
+      let d : cdataIn T (item tag at body x u) ≡ cdataIn T u = same-cdata T tag at body x u (g .notCdata) in
       rw (a, d, means-leaf T tag at body x u k g e l, o) (omega arith)
 
   -- an item that is no attribute, by its kind

@@ -27,6 +27,7 @@ use Rattle.format.proofs.Rules.{KindHeld, Held, Fitting, unbroken}
 use Rattle.format.proofs.Place.{shown-other, attribute-other, allowed-attribute, allowed-cdata}
 use Rattle.format.proofs.Fuel.{read-end, read-item, judge-read}
 use Rattle.format.proofs.Late.{late-append}
+use Rattle.format.proofs.Means.{value-no-items}
 use Rattle.grammar.specs.Grammar.{Begins, TextIn, ValueIn, Part, Child, Inside, Accepts}
 use Rattle.grammar.specs.Grammar.Part.{attributes, table, language, elements, cdata, nothing}
 use Rattle.grammar.specs.Grammar.Inside.{knownAttribute, unknownAttribute, attributesOfTop, attributesOfOther, someTable, noTable, someLanguage, noLanguage, heldElement, plainElement, unknownElement, noElement, someCdata, noCdata, filled}
@@ -137,18 +138,7 @@ OnceIn nothing c t = Unit {0}
 record Reads (T : Entries) (p : Part) (e d at : ℕ) (o : List ℕ) (t : Items) : Type 0 where
   run : (c : Context) → c .parent ≡ e → c .depth ≡ d → Fits T p c → OnceIn p c t → read c at o ≡ accepted t
 
--- attributes
-value-leaf : (k : Kind) → valueKind k ≡ true → isItems (some k) ≡ false
-unfolding isItems
-value-leaf HoldsItems v = absurd (false≢true v)
-value-leaf HoldsTokens v = absurd (false≢true v)
-value-leaf HoldsText v = refl
-value-leaf HoldsPlain v = refl
-value-leaf HoldsTime v = refl
-value-leaf HoldsBearer v = refl
-value-leaf (HoldsNumber n) v = refl
-
--- the rules of a kind that is not text
+-- attributes: the rules of a kind that is not text
 kind-other : (c : Context) (tag : ℕ) (body : List ℕ) (k : Option Kind) → isValue k body ≡ true → isText k ≡ false → isTokens k ≡ false → KindHeld c tag body k
 kind-other c tag body k v t s = record { value = v; valid = rw t; table = rw s; covers = rw t; short = rw t }
 
@@ -254,7 +244,7 @@ known-step T c at start tag body rest o k u b a e v n f s r =
     let fresh : among tag (c .seen) ≡ false = once-here c (at + start) tag body u s a (ap isKnown e) in
     let kind : KindHeld c tag body (known (c .parent) tag) = rw e (kind-attribute T c tag body k vk (attribute-other tag 1 a (omega arith)) v (covered-attribute T c tag body f a)) in
     let held = held-attribute T c tag body f a (rw (fresh, and-false (isKnown (known (c .parent) tag)))) kind in
-    reads-leaf c at tag start body rest o k u b held (f .inner) e (value-leaf k vk)
+    reads-leaf c at tag start body rest o k u b held (f .inner) e (value-no-items k vk)
     (r (fits-attribute T c at tag body f a (rw e (waits-text T (c .waiting) at body k v))) (once-after c at (at + start) tag body u s n))
 
 unknown-step : (T : Entries) (c : Context) (at start tag : ℕ) (body rest o : List ℕ) (u : Items) → Begins tag body rest o start → attribute tag ≡ true

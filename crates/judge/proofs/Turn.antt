@@ -31,6 +31,7 @@ use Rattle.format.specs.Judge.Judged.{refused, accepted}
 use Rattle.format.proofs.Fuel.{read-end, read-item, judge-read}
 use Rattle.format.proofs.Rules.{Held, held}
 use Rattle.format.proofs.Means.{items-known}
+use Rattle.format.proofs.Force.{attribute-latest}
 use Rattle.tags.specs.Rules.{Seen}
 use Rattle.tags.proofs.Masks.{none-marked}
 use Rattle.judge.specs.Says.{ctx, depthOf, sorted, tableSort, Framed, Waits, WaitsWhen, brokenOf, AllIs, Passed, Says, oneMore, counted, EndSays, CountsAtMost}
@@ -104,10 +105,6 @@ stage-zero tag = go (attribute tag) (eqb tag 4) (eqb tag 1)
     go false true d = refl
     go false false true = refl
     go false false false = refl
-
-attribute-latest : (tag : ℕ) → attribute tag ≡ true → latest tag ≡ 0
-unfolding latest
-attribute-latest tag h = rw h
 
 -- what a sort says of a kind
 elementSort : Sort → Bool

@@ -1,7 +1,7 @@
 -- What an item adds to the sizes of items: its share alone, by what is measured of it, and then the items after it.
 use mathlib.Core.Path.{_≡_, refl, sym, ap, _∙_}
 use mathlib.Core.Bool.{Bool, true, false, cond, not, _&&_}
-use mathlib.Core.Option.{Option, some}
+use mathlib.Core.Option.{Option}
 use mathlib.Core.List.{List}
 use Prim.Native.Nat.{ℕ, _+_, min}
 use native.Mathlib.Omega.{arith}
@@ -21,9 +21,8 @@ use Rattle.format.specs.Tree.Items.{end, item}
 use Rattle.format.specs.Judge.{isKnown, isItems, isTokens}
 use Rattle.format.specs.Meaning.{opens}
 use borrow.Author.Tests.{leb-true, leb-false}
-use Rattle.format.proofs.Means.{items-known, items-opens}
+use Rattle.format.proofs.Means.{items-known, items-opens, attribute-shut}
 use Rattle.format.proofs.Force.{attribute-four}
-use Rattle.format.proofs.Loading.{attribute-shut}
 use Rattle.format.proofs.Defaults.{default-attribute}
 use Rattle.judge.proofs.AllWays.{tokens-four}
 use Rattle.reader.specs.Filling.{share}

@@ -1,19 +1,21 @@
 -- Where an attribute can be found in an element: none is found behind the first item that is no attribute.
-use mathlib.Core.Path.{_≡_, refl, sym, ap, _∙_}
-use mathlib.Core.Bool.{Bool, true, false, cond, false≢true}
+use mathlib.Core.Path.{_≡_, refl}
+use mathlib.Core.Bool.{Bool, true, false, cond}
 use mathlib.Core.Option.{none, some}
 use mathlib.Core.List.{List}
 use Prim.Native.Nat.{ℕ, _≤_}
 use native.Mathlib.Omega.{arith}
 use lib.Dec.{eqb}
-use borrow.Author.Tests.{leb-true, ne-eqb}
+use borrow.Author.Tests.{leb-true}
 use Rattle.values.specs.Table.{attribute}
+use Rattle.values.proofs.Known.{not-attribute}
 use Rattle.format.specs.Tree.{Items, find}
 use Rattle.format.specs.Tree.Items.{end, item}
 use Rattle.format.specs.Judge.{latest, stageAfter}
 use Rattle.format.specs.Writer.{Spot, past, ruled}
 use Rattle.format.proofs.Kept.{keeps-parts, ruled-parts}
 use Rattle.format.proofs.Fine.{Placed, placed-parts, stage-past}
+use Rattle.format.proofs.Force.{attribute-latest}
 
 placed-item : (s : Spot) (tag at : ℕ) (body : List ℕ) (x y : Items) → ruled s (item tag at body x y) ≡ true → Placed s tag
 placed-item s tag at body x y h = placed-parts s tag (keeps-parts s tag body (ruled-parts s tag at body x y h .rules) .place)
@@ -26,14 +28,6 @@ stage-on tag h = rw h (go (eqb tag 4) (eqb tag 1))
     go true c = omega arith
     go false true = omega arith
     go false false = omega arith
-
-attribute-latest : (a : ℕ) → attribute a ≡ true → latest a ≡ 0
-unfolding latest
-attribute-latest a h = rw h
-
--- an attribute's tag is not that of another item
-pub not-attribute : (a tag : ℕ) → attribute a ≡ true → attribute tag ≡ false → eqb a tag ≡ false
-not-attribute a tag q e = ne-eqb a tag (λ z. false≢true (sym e ∙ (ap attribute (sym z) ∙ q)))
 
 pub no-more : (t : Items) (s : Spot) (a : ℕ) → attribute a ≡ true → 1 ≤ s .stage → ruled s t ≡ true → find a t ≡ none
 unfolding find

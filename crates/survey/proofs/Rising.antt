@@ -1,6 +1,6 @@
 -- Attributes by rising tag: what one more adds, and that seven tags are all.
 use mathlib.Core.Path.{_≡_, refl, sym, ap, ap₂, _∙_}
-use mathlib.Core.Bool.{Bool, true, false, cond}
+use mathlib.Core.Bool.{cond}
 use mathlib.Core.Option.{Option, none, some}
 use mathlib.Core.List.{List, [], _++_, append-assoc, append-nil}
 use Prim.Native.Nat.{ℕ, zero, suc, _+_, _-_, _≤_, _<_}
@@ -14,9 +14,10 @@ use Rattle.values.specs.declared.Kind.{Kind}
 use Rattle.values.specs.Table.{rows, known, attribute}
 use Rattle.values.specs.Values.{Value, octetsOf}
 use Rattle.values.proofs.Known.{row-holds}
-use Rattle.format.specs.Tree.{Items, find}
-use Rattle.format.specs.Meaning.{valueIn, counted, attributesIn, maybe, rising}
+use Rattle.format.specs.Tree.{Items}
+use Rattle.format.specs.Meaning.{attributesIn, maybe, rising}
 use Rattle.format.proofs.Sums.{sum, sum-more}
+use Rattle.format.proofs.Means.{unknown-attribute}
 use Rattle.survey.specs.Normal.{attributeOctets}
 
 -- the octets of one attribute of a set
@@ -67,14 +68,11 @@ known-few p tag k h = leb-true tag 0x86 (row-holds (λ e t l. leb t 0x86) (cond 
 
 -- so no element has an attribute above it, whatever the token table
 pub past-known : (table : Entries) (p : ℕ) (t : Items) (a : ℕ) → 0x87 ≤ a → attributesIn table p t a ≡ none
-unfolding attributesIn counted valueIn
-past-known table p t a h = go (attribute a) (known p a) refl (find a t)
+past-known table p t a h = go (known p a) refl
   where
-    go : (b : Bool) (k : Option Kind) → known p a ≡ k → (o : Option (List ℕ)) → cond b (counted p a (valueIn table o k)) none ≡ none
-    go false k e o = refl
-    go true none e none = refl
-    go true none e (some v) = refl
-    go true (some k) e o = absurd (omega (arith, known-few p a k e))
+    go : (k : Option Kind) → known p a ≡ k → attributesIn table p t a ≡ none
+    go none e = unknown-attribute table p t a e
+    go (some k) e = absurd (omega (arith, known-few p a k e))
 
 -- and seven tags are all that an element's attributes have
 pub rising-seven : (p : ℕ) (t : Items) → attributeOctets p t ≡ rising 7 0x80 (attributesIn [] p t)

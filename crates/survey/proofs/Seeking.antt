@@ -13,6 +13,7 @@ use borrow.Author.Tests.{eqb-true, eqb-false, eq-eqb, ne-eqb, leb-true, le-leb, 
 use Rattle.octets.specs.Header.{headerSize, bodySize}
 use Rattle.octets.proofs.Tests.{and-left, and-right, or-elim, or-left, cond-same}
 use Rattle.values.specs.Table.{known, attribute}
+use Rattle.values.proofs.Known.{not-attribute}
 use Rattle.format.specs.Tree.{Items, find}
 use Rattle.format.specs.Tree.Items.{end, item}
 use Rattle.format.specs.Judge.{Context, isKnown, isItems, isValue, latest, stageAfter, next}
@@ -25,7 +26,6 @@ use Rattle.survey.specs.declared.Lies.the-variants.{Outside, Between}
 use Rattle.survey.specs.Places.{isWhole, afterFirst, liesAt, between, spanWithin, spanOfTag}
 use Rattle.survey.proofs.Places.{Lying, lying, lies-inside, not-whole, bounds, later-is, met}
 use Rattle.survey.proofs.Tables.{fewer-after, none-whole}
-use Rattle.survey.proofs.Found.{not-attribute}
 
 module _ (sought met : ℕ) (a : Bool) (ae : a ≡ attribute sought) where
   pub behind-no : a ≡ false → false ≡ attribute sought && not (attribute met)
@@ -338,3 +338,10 @@ module _ (part : List ℕ) (tag : ℕ) where
 
   pub span-says : (r : Lies) → r ≡ spanOfTag tag part → Sought part tag r
   span-says r e = subst (Sought part tag) (sym e) (says-within (length part) 0 (omega arith) (seek-begin part tag) (span-begin part tag))
+
+  module _ (r : Lies) (e : r ≡ spanOfTag tag part) (from to : ℕ) (q : r ≡ Between from to) where
+    pub span-ordered : from ≤ to
+    span-ordered = sought-ordered part tag r (span-says r e) from to q
+
+    pub span-inside : to ≤ length part
+    span-inside = sought-inside part tag r (span-says r e) from to q

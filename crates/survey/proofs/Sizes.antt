@@ -7,7 +7,7 @@ use Prim.Native.Nat.{ℕ, _+_, _≤_}
 use native.Mathlib.Omega.{arith}
 use lib.Dec.{eqb}
 use lib.ListN.{length, length-append}
-use borrow.Author.Tests.{eq-eqb, ne-eqb, eqb-true, eqb-false, ltb-true, lt-ltb}
+use borrow.Author.Tests.{eq-eqb, ne-eqb, eqb-true, eqb-false}
 use Rattle.octets.specs.Numbers.{among}
 use Rattle.octets.specs.Header.{framed}
 use Rattle.text.specs.Tokens.{expanded}
@@ -18,20 +18,20 @@ use Rattle.values.specs.Values.{fits, meant, octetsOf}
 use Rattle.values.specs.Calls.{defaultOctets}
 use Rattle.octets.proofs.Tests.{cond-same}
 use Rattle.values.proofs.DefaultValues.{element-keeps}
-use Rattle.values.proofs.Known.{known-anywhere, known-cdata, known-one, no-attribute, items-tag}
+use Rattle.values.proofs.Known.{known-anywhere, known-cdata, known-one, no-attribute, items-tag, attribute-high}
 use Rattle.format.specs.Tree.{Items, find}
 use Rattle.format.specs.Tree.Items.{end, item}
 use Rattle.format.specs.Judge.{isItems, allowed, isTop}
-use Rattle.format.specs.Meaning.{opens, valueIn, counted, attributesIn, cdataIn, means, maybe, encode}
+use Rattle.format.specs.Meaning.{opens, valueIn, counted, attributesIn, cdataIn, means, maybe, encode, rising}
 use Rattle.format.specs.Writer.{Spot, below, past, atTop, ruled}
-use Rattle.format.proofs.Defaults.{counted-octets}
 use Rattle.format.proofs.Kept.{keeps-parts, Ruled, ruled-parts}
 use Rattle.format.proofs.Fine.{placed-parts}
-use Rattle.format.proofs.Means.{items-known, means-attribute, means-cdata, means-element, means-leaf, opens-items, opens-leaf}
+use Rattle.format.proofs.Means.{items-known, means-attribute, means-cdata, means-element, means-leaf, opens-items, opens-leaf, attribute-shut, same-attributes, same-cdata, other-attribute, absent-attribute, unknown-attribute, find-first}
 use Rattle.format.proofs.Order.{ruled-order, seen-none, three-end}
+use Rattle.format.proofs.Defaults.{present-attribute}
+use Rattle.format.proofs.Force.{attribute-one}
 use Rattle.survey.specs.Normal.{valueOctets, normalSize, attributeOctets}
 use Rattle.survey.proofs.Rising.{rising-same, rising-none, rising-more, known-few}
-use Rattle.survey.proofs.Found.{not-attribute}
 use Rattle.survey.proofs.Ways.{framed-length, value-fits, item-known, item-default, Way, way}
 use Rattle.survey.proofs.Ways.Way.{isAttribute, isCdata, isElement, isLeaf}
 
@@ -40,35 +40,10 @@ pub opens-no-attribute : (tag : ℕ) → opens tag ≡ true → attribute tag �
 unfolding opens
 opens-no-attribute tag o = no-attribute tag HoldsItems (items-known (known 0 tag) o)
 
-pub opens-attribute : (tag : ℕ) → attribute tag ≡ true → opens tag ≡ false
-opens-attribute tag a = go (opens tag) refl
-  where
-    go : (b : Bool) → opens tag ≡ b → b ≡ false
-    go false e = refl
-    go true e = absurd (false≢true (sym (opens-no-attribute tag e) ∙ a))
-
-pub attribute-high : (tag : ℕ) → attribute tag ≡ true → 0x80 ≤ tag
-unfolding attribute
-attribute-high tag h = omega (arith, ltb-true 0x7F tag h)
-
-pub high-attribute : (tag : ℕ) → 0x80 ≤ tag → attribute tag ≡ true
-unfolding attribute
-high-attribute tag h = lt-ltb 0x7F tag (omega arith)
-
--- what an item leaves as it is: the attributes of other tags, all attributes, the CDATA
-attributes-other : (p tag at : ℕ) (body : List ℕ) (x y : Items) (t : ℕ) → (t ≡ tag → ⊥) → attributesIn [] p (item tag at body x y) t ≡ attributesIn [] p y t
-unfolding attributesIn find
-attributes-other p tag at body x y t h = rw (ne-eqb t tag h)
-
+-- the octets of its attributes, which any other item leaves as they are
 pub attributes-same : (p tag at : ℕ) (body : List ℕ) (x y : Items) → attribute tag ≡ false → attributeOctets p (item tag at body x y) ≡ attributeOctets p y
 unfolding attributeOctets
-attributes-same p tag at body x y a =
-    rising-same 128 0x80 (attributesIn [] p (item tag at body x y)) (attributesIn [] p y)
-    (λ t w. attributes-other p tag at body x y t (eqb-false t tag (not-attribute t tag (high-attribute t w) a)))
-
-pub cdata-same : (tag at : ℕ) (body : List ℕ) (x y : Items) → (1 ≡ tag → ⊥) → cdataIn [] (item tag at body x y) ≡ cdataIn [] y
-unfolding cdataIn find
-cdata-same tag at body x y h = rw (ne-eqb 1 tag h)
+attributes-same p tag at body x y a = ap (rising 128 0x80) (same-attributes [] p tag at body x y a)
 
 pub no-attributes : (p : ℕ) → attributeOctets p end ≡ []
 unfolding attributeOctets attributesIn counted find valueIn
@@ -108,31 +83,31 @@ sum-attribute s tag at body x y k a e f r ih = go (defaultOctets p tag body) ref
     high = attribute-high tag a
 
     later : attributesIn [] p y tag ≡ none
-    later = rw (a, seen-none y (past s tag) tag a (rw (eq-eqb tag tag refl)) (ruled-order y (past s tag) r))
+    later = absent-attribute [] p y tag (λ _. seen-none y (past s tag) tag a (rw (eq-eqb tag tag refl)) (ruled-order y (past s tag) r))
 
     now : attributesIn [] p (item tag at body x y) tag ≡ cond (defaultOctets p tag body) none (some (meant [] k body))
-    now = rw (a, eq-eqb tag tag refl, e) (counted-octets [] p tag k body e f)
+    now = present-attribute [] p (item tag at body x y) tag k body a e (find-first tag at body x y) f
 
     unchanged : (kids (item tag at body x y) ≡ kids y) × (last (item tag at body x y) ≡ last y)
     unchanged = (
       ap (λ z. length (encode z)) (means-attribute [] tag at body x y a),
-      ap (λ z. length (maybe (framed 1) z)) (cdata-same tag at body x y (λ z. omega (arith, high))),
+      ap (λ z. length (maybe (framed 1) z)) (same-cdata [] tag at body x y (attribute-one tag a)),
     )
 
     same-at : (d : defaultOctets p tag body ≡ true) (t : ℕ) (b : Bool) → eqb t tag ≡ b → attributesIn [] p (item tag at body x y) t ≡ attributesIn [] p y t
     same-at d t true q = rw (eqb-true t tag q) (now ∙ (rw d (sym later)))
-    same-at d t false q = attributes-other p tag at body x y t (eqb-false t tag q)
+    same-at d t false q = other-attribute [] p tag at body x y t (eqb-false t tag q)
 
     go : (b : Bool) → defaultOctets p tag body ≡ b → Summed p (item tag at body x y)
     go true d =
-        let one = default-size p tag at body x y (opens-attribute tag a) d in
+        let one = default-size p tag at body x y (attribute-shut tag a) d in
         let same = rising-same 128 0x80 (attributesIn [] p (item tag at body x y)) (attributesIn [] p y) (λ t w. same-at d t (eqb t tag) refl) in
         rw (one, same, unchanged .0, unchanged .1) ih
     go false d =
-        let one = single-size p tag at body x y k (opens-attribute tag a) (ne-eqb tag 4 (λ z. omega (arith, high))) d e in
+        let one = single-size p tag at body x y k (attribute-shut tag a) (ne-eqb tag 4 (λ z. omega (arith, high))) d e in
         let more =
         rising-more 128 0x80 tag (attributesIn [] p (item tag at body x y)) (attributesIn [] p y) (meant [] k body) (now ∙ rw d) later
-        (λ t ne. attributes-other p tag at body x y t ne) high (omega (arith, known-few p tag k e)) in
+        (λ t ne. other-attribute [] p tag at body x y t ne) high (omega (arith, known-few p tag k e)) in
         let v : length (framed tag (valueOctets k body)) ≡ length (framed tag (octetsOf (meant [] k body))) = ap (λ o. length (framed tag o)) (value-fits k body f) in
         omega (arith, unchanged .0, unchanged .1)
 
@@ -155,7 +130,7 @@ sum-element p tag at body x y e fx fy =
     let m : kids (item tag at body x y) ≡ length (framed tag whole) + kids y =
     ap (λ z. length (encode z)) (means-element [] tag at body x y e) ∙ length-append (framed tag whole) (encode (means [] y)) in
     let a : attrs p (item tag at body x y) ≡ attrs p y = ap length (attributes-same p tag at body x y (g .notAttribute)) in
-    let l : last (item tag at body x y) ≡ last y = ap (λ z. length (maybe (framed 1) z)) (cdata-same tag at body x y (λ z. eqb-false tag 1 (g .notCdata) (sym z))) in
+    let l : last (item tag at body x y) ≡ last y = ap (λ z. length (maybe (framed 1) z)) (same-cdata [] tag at body x y (g .notCdata)) in
     omega arith
 
 abbrev Sized : Items → Type 0
@@ -179,7 +154,7 @@ sized-item tag at body x y fx fy s h = go (way s tag body x y u)
         ap (λ z. length (encode z)) (means-leaf [] tag at body x y k g e l)
         ∙ (ap (λ v. length (framed tag v ++ encode (means [] y))) o ∙ length-append (framed tag (valueOctets k body)) (encode (means [] y))) in
         let a : attrs p (item tag at body x y) ≡ attrs p y = ap length (attributes-same p tag at body x y (g .notAttribute)) in
-        let q : last (item tag at body x y) ≡ last y = ap (λ z. length (maybe (framed 1) z)) (cdata-same tag at body x y (λ z. eqb-false tag 1 (g .notCdata) (sym z))) in
+        let q : last (item tag at body x y) ≡ last y = ap (λ z. length (maybe (framed 1) z)) (same-cdata [] tag at body x y (g .notCdata)) in
         let later : Summed p y = fy (past s tag) (u .beside) in
         omega arith
 
@@ -194,14 +169,11 @@ pub record Alone (t : Items) : Type 0 where
   pub cdata : cdataIn [] t ≡ none
 
 no-top-attribute : (t : ℕ) (i : Items) → attributesIn [] 0 i t ≡ none
-unfolding attributesIn counted valueIn
-no-top-attribute t i = go (attribute t) (known 0 t) refl refl (find t i)
+no-top-attribute t i = go (known 0 t) refl
   where
-    go : (b : Bool) (k : Option Kind) → attribute t ≡ b → known 0 t ≡ k → (o : Option (List ℕ)) → cond b (counted 0 t (valueIn [] o k)) none ≡ none
-    go false k p q o = refl
-    go true none p q none = refl
-    go true none p q (some v) = refl
-    go true (some k) p q o = absurd (false≢true (sym (no-attribute t k q) ∙ p))
+    go : (k : Option Kind) → known 0 t ≡ k → attributesIn [] 0 i t ≡ none
+    go none e = unknown-attribute [] 0 i t e
+    go (some k) e = absent-attribute [] 0 i t (λ a. absurd (false≢true (sym (no-attribute t k e) ∙ a)))
 
 pub top-alone : (t : Items) → ruled atTop t ≡ true → Alone t
 unfolding attributeOctets cdataIn find past atTop allowed isTop

@@ -25,9 +25,9 @@ use Rattle.format.specs.Writer.{Spot, below, past, atTop}
 use Rattle.format.specs.Loaded.{stored, storeIn, storeOf}
 use Rattle.format.proofs.Told.{Told, accepted-told}
 use Rattle.format.proofs.Sums.{sum}
-use Rattle.format.proofs.Loading.{attribute-shut}
 use Rattle.format.proofs.Defaults.{default-attribute, ownDefaults, own-none, own-few}
 use Rattle.format.proofs.Takes.{Measure, ifAny, ofSet, ofMeaning, takes, takes-means}
+use Rattle.format.proofs.Means.{attribute-shut}
 use Rattle.survey.specs.Normal.{framedSize}
 use Rattle.survey.specs.declared.measure.Measured.{Measured}
 use Rattle.survey.specs.Places.{tableBody}

@@ -18,9 +18,8 @@ use Rattle.values.specs.Calls.{asKnown, knownKind, defaultOctets}
 use Rattle.values.proofs.Laws.{known-kind, unknown-kind}
 use Rattle.format.specs.Judge.{isItems}
 use Rattle.format.specs.Meaning.{opens, maybe}
-use Rattle.format.proofs.Means.{items-opens}
+use Rattle.format.proofs.Means.{items-opens, attribute-shut}
 use Rattle.format.proofs.Force.{attribute-four}
-use Rattle.format.proofs.Loading.{attribute-shut}
 use Rattle.format.proofs.Defaults.{default-attribute}
 use Rattle.survey.specs.Normal.{valueOctets, writtenAs, itemOctets}
 use Rattle.survey.proofs.Ways.{item-known}

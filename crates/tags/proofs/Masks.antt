@@ -9,13 +9,13 @@ use native.Mathlib.Nat.{one-mul}
 use lib.Dec.{eqb, leb}
 use lib.Bits.{bitOr, bitAnd}
 use lib.Pow.{shl-exact}
-use borrow.Author.Tests.{le-leb, lt-leb, eq-eqb, ne-eqb, eqb-false, eqb-true, ltb-true, ltb-false, leb-true, leb-false}
+use borrow.Author.Tests.{le-leb, lt-leb, eq-eqb, ne-eqb, eqb-false, eqb-true, ltb-false, leb-true, leb-false}
 use Rattle.octets.specs.Numbers.{among}
 use Rattle.text.specs.Weighing.{bit}
 use Rattle.text.proofs.Masks.{bit-test, bit-more, bit-none}
 use Rattle.values.specs.declared.Kind.{Kind}
 use Rattle.values.specs.Table.{rows, known, attribute}
-use Rattle.values.proofs.Known.{row-holds}
+use Rattle.values.proofs.Known.{row-holds, attribute-high}
 use Rattle.format.specs.Judge.{isKnown}
 use Rattle.tags.specs.Rules.{hasBit, withBit, Seen}
 
@@ -61,10 +61,6 @@ known-low p tag h = go (known p tag) refl h
     go : (o : Option Kind) → known p tag ≡ o → isKnown o ≡ true → tag ≤ 0xBF
     go none e q = absurd (false≢true q)
     go (some k) e q = leb-true tag 0xBF (row-holds (λ e t k. leb t 0xBF) (cond (attribute tag) p 0) tag k rows refl e)
-
-attribute-high : (tag : ℕ) → attribute tag ≡ true → 0x80 ≤ tag
-unfolding attribute
-attribute-high tag h = omega (arith, ltb-true 0x7F tag h)
 
 small-tag : (mask tag : ℕ) → attribute tag ≡ false → hasBit mask tag ≡ false
 unfolding attribute

@@ -3,10 +3,10 @@ use mathlib.Core.Path.{_≡_, refl, sym, ap, _∙_, subst}
 use mathlib.Core.Bool.{Bool, true, false, cond, not, _&&_, _||_, false≢true}
 use mathlib.Core.Option.{Option, none, some, Option·some-injective, Option·none-ne-some, Option·some-ne-none}
 use mathlib.Core.List.{List, [], _∷_}
-use Prim.Native.Nat.{ℕ}
+use Prim.Native.Nat.{ℕ, _≤_}
 use native.Mathlib.Omega.{arith}
 use lib.Dec.{eqb, ltb}
-use borrow.Author.Tests.{eqb-true, ne-eqb}
+use borrow.Author.Tests.{eqb-true, ne-eqb, ltb-true, lt-ltb}
 use Rattle.values.specs.declared.Kind.{Kind}
 use Rattle.values.specs.declared.Kind.the-variants.{HoldsItems, HoldsTokens, HoldsText, HoldsPlain, HoldsTime, HoldsBearer, HoldsNumber}
 use Rattle.values.specs.Table.{rows, kindIn, known, attribute}
@@ -109,6 +109,18 @@ items-no-attribute p tag e = go (attribute tag) refl
     go : (b : Bool) → attribute tag ≡ b → b ≡ false
     go false a = refl
     go true a = absurd (false≢true (attribute-kind p tag HoldsItems a e))
+
+-- attributes have the tags from 0x80 on, and nothing else has the tag of one
+pub attribute-high : (tag : ℕ) → attribute tag ≡ true → 0x80 ≤ tag
+unfolding attribute
+attribute-high tag h = omega (arith, ltb-true 0x7F tag h)
+
+pub high-attribute : (tag : ℕ) → 0x80 ≤ tag → attribute tag ≡ true
+unfolding attribute
+high-attribute tag h = lt-ltb 0x7F tag (omega arith)
+
+pub not-attribute : (a tag : ℕ) → attribute a ≡ true → attribute tag ≡ false → eqb a tag ≡ false
+not-attribute a tag q e = ne-eqb a tag (λ z. false≢true (sym e ∙ (ap attribute (sym z) ∙ q)))
 
 -- what the tag of an element other than 0x04 is not
 pub record ElementTag (tag : ℕ) : Type 0 where

@@ -70,10 +70,7 @@ module _ (s : List ℕ) (r : TakenTime) (e : r ≡ takenTime s) where
   pub field-of-good : (t : Time) → r ≡ ofTime.Good t → 0 ≡ wrongTime s
   field-of-good t g = field-good s (time-taken s r e t g .fit)
 
-  pub field-of-bad : (n : ℕ) → r ≡ ofTime.Bad n → n ≡ wrongTime s
-  field-of-bad n g = time-wrong s r e n g
-
-pub ruleset time-ways = (field-of-good, field-of-bad, is-time, no-time, time-sized, time-not-sized, time-put, time-not-put)
+pub ruleset time-ways = (field-of-good, time-wrong, is-time, no-time, time-sized, time-not-sized, time-put, time-not-put)
 
 -- a bearer that was taken, or not
 module _ (s : List ℕ) (r : TakenBearer) (e : r ≡ takenBearer s) where

@@ -1,35 +1,33 @@
 -- What writing does with a record, with an element's attributes, and with the items of an element from a record on.
 use mathlib.Core.Path.{_≡_, refl, sym, ap, _∙_, subst}
 use mathlib.Core.Bool.{Bool, true, false, cond}
-use mathlib.Core.List.{List, [], _∷_, _++_, append-assoc, append-nil}
+use mathlib.Core.List.{List, [], _++_, append-assoc, append-nil}
 use Prim.Native.Nat.{ℕ, suc, _+_, _-_, _≤_, _<_}
 use native.Mathlib.Omega.{arith}
 use native.Mathlib.Nat.{add-sub-cancel-left}
 use lib.Dec.{eqb}
-use lib.ListN.{length, take, drop, getD, length-append}
+use lib.ListN.{length, take, drop, getD}
 use borrow.Author.Tests.{le-ltb, eq-eqb, ne-eqb}
 use Rattle.octets.specs.Header.{framed}
-use Rattle.values.specs.declared.Kind.{Kind}
-use Rattle.values.specs.declared.KnownKind.{KnownKind}
-use Rattle.values.specs.declared.KnownKind.the-variants.{Known}
 use Rattle.values.specs.Table.{attribute}
-use Rattle.values.specs.Calls.{asKnown}
+use Rattle.values.proofs.Known.{high-attribute}
 use Rattle.format.specs.Tree.{Items}
 use Rattle.format.specs.Tree.Items.{end, item}
 use Rattle.format.specs.Meaning.{opens, attributesIn, rising}
 use Rattle.format.specs.Writer.{below, past, bodyIn, here, ruled}
 use Rattle.format.specs.Calls.{Lists, row}
 use Rattle.format.proofs.Kept.{ruled-parts}
+use Rattle.format.proofs.Means.{attribute-shut}
 use Rattle.writer.specs.declared.emit.Lowest.{Lowest}
 use Rattle.writer.specs.declared.emit.Role.{Role}
 use Rattle.writer.specs.declared.emit.Role.the-variants.{Gone, Element, Attribute, Other}
 use Rattle.writer.specs.declared.emit.Reached.{Reached}
-use Rattle.survey.specs.Normal.{valueOctets, writtenAs, itemOctets, attributeOctets, laterOctets}
+use Rattle.survey.specs.Normal.{itemOctets, attributeOctets, laterOctets}
 use Rattle.writer.specs.Steps.{fourOf, itemsFrom, Holding, roleOf, bodyAt, BodyAt, Lays, Fitting, Ordered, Stands, FindsLowest, elementOctets, between, Framable, Emits, Standing, AsLaid}
 use Rattle.survey.proofs.Rising.{rising-seven, rising-skip}
 use Rattle.writer.proofs.Copied.{laid-inside, laid-own, laid-after, laid-found}
 use Rattle.writer.proofs.Finding.{found-octets, none-between, found-body}
-use Rattle.survey.proofs.Sizes.{high-attribute, opens-attribute, opens-no-attribute}
+use Rattle.survey.proofs.Sizes.{opens-no-attribute}
 use Rattle.writer.proofs.Lays.{lays-none, lays-append, lays-length, fitting-left, fitting-right}
 use Rattle.writer.proofs.Framing.{first-fits, second-fits, framable, frame-laid}
 use Rattle.writer.proofs.Rows.{here-end, here-not, here-is, from-stop, from-single, from-nested, from-ahead, from-within}
@@ -45,7 +43,7 @@ module _ (depth own tag d : ℕ) (e : d ≡ own) where
     unfolding roleOf
     role-attribute a =
         let q : attribute tag ≡ true = high-attribute tag a in
-        rw (eq-eqb own depth (sym e ∙ h), opens-attribute tag q, q)
+        rw (eq-eqb own depth (sym e ∙ h), attribute-shut tag q, q)
 
     module _ (o : Bool) (oe : o ≡ opens tag) where
       pub role-element : o ≡ true → Element tag ≡ roleOf depth own tag
@@ -131,7 +129,7 @@ module _ (p n : ℕ) (tags depths starts sizes lent : List ℕ) (at depth : ℕ)
       risen-stands : AsLaid p inside → Standing p (a .tag) (bodyAt (a .place) starts sizes lent)
       unfolding bodyIn bodyAt
       risen-stands s =
-          let shut : opens (a .tag) ≡ false = opens-attribute (a .tag) (high-attribute (a .tag) (inv .high)) in
+          let shut : opens (a .tag) ≡ false = attribute-shut (a .tag) (high-attribute (a .tag) (inv .high)) in
           laid-found p (a .tag) shut inside (bodyAt (a .place) starts sizes lent) s (inv .stands .body lt starts sizes lent (o .spot) (o .rules))
 
       pub risen-fits : (stored : Bool) → Holding n (fourOf tags depths starts sizes) lent → (stored ≡ true → AsLaid p inside) → Fitting (attributeOctets p inside) to (length before)

@@ -13,22 +13,23 @@ use Rattle.values.specs.Table.{known, attribute}
 use Rattle.values.specs.declared.Kind.{Kind}
 use Rattle.values.specs.Values.{fits, meant}
 use Rattle.values.specs.Calls.{defaultOctets}
+use Rattle.values.proofs.Known.{attribute-high, high-attribute}
 use Rattle.format.specs.Tree.{Items, find}
 use Rattle.format.specs.Tree.Items.{end, item}
 use Rattle.format.specs.Judge.{isValue}
-use Rattle.format.specs.Meaning.{valueIn, counted, attributesIn, maybe}
+use Rattle.format.specs.Meaning.{valueIn, attributesIn, maybe}
 use Rattle.format.specs.Writer.{Spot, past, bodyIn, here, ruled}
 use Rattle.format.specs.Calls.{row}
 use Rattle.format.proofs.Kept.{Kept, keeps-parts, ruled-parts}
 use Rattle.format.proofs.Fine.{known-is}
-use Rattle.format.proofs.Defaults.{counted-octets}
+use Rattle.format.proofs.Means.{attribute-shut, absent-attribute}
+use Rattle.format.proofs.Defaults.{present-attribute}
 use Rattle.writer.specs.declared.emit.Lowest.{Lowest}
 use Rattle.survey.specs.Normal.{itemOctets}
 use Rattle.writer.specs.Steps.{fourOf, itemsFrom, Holding, lowerOf, Stands, FindsLowest, bodyAt, BodyAt, Ordered}
 use Rattle.survey.proofs.Ways.{value-fits, item-known, item-default}
 use Rattle.survey.proofs.Rising.{oneAttribute}
 use Rattle.survey.proofs.Found.{none-behind}
-use Rattle.survey.proofs.Sizes.{attribute-high, opens-attribute, high-attribute}
 use Rattle.writer.proofs.Rows.{here-end, here-not, here-is, from-stop, from-single, from-item}
 
 -- one record more
@@ -100,7 +101,7 @@ module _ (n : ℕ) (tags depths : List ℕ) (at depth least : ℕ) where
           single : (b c o : List ℕ)
               → itemsAt b c o i
               ≡ item (row (fourOf tags depths b c) i .tag) (row (fourOf tags depths b c) i .start) (bodyIn o (row (fourOf tags depths b c) i)) end (itemsAt b c o (i + 1))
-          single b c o = ap (λ x. x .0) (from-single (fourOf tags depths b c) n o depth i (at-here b c) (opens-attribute (getD tags i 0) (high-attribute (getD tags i 0) high)))
+          single b c o = ap (λ x. x .0) (from-single (fourOf tags depths b c) n o depth i (at-here b c) (attribute-shut (getD tags i 0) (high-attribute (getD tags i 0) high)))
 
           other-same : (t : ℕ) → (t ≡ getD tags i 0 → ⊥) → (b c o : List ℕ) → find t (itemsAt b c o i) ≡ find t (itemsAt b c o (i + 1))
           unfolding find
@@ -154,10 +155,6 @@ found-kept (item tag′ at body′ x y) s tag body h f =
     go true e g ih = rw (eqb-true tag tag′ e, ← Option·some-injective body′ body g) (s, keeps-parts s tag′ body′ (ruled-parts s tag′ at body′ x y h .rules))
 
 module _ (p : ℕ) (t : Items) (tag : ℕ) (a : attribute tag ≡ true) where
-  attribute-none : find tag t ≡ none → attributesIn [] p t tag ≡ none
-  unfolding attributesIn counted valueIn
-  attribute-none f = rw (a, f)
-
   attribute-some : Ordered p t → (body : List ℕ) → find tag t ≡ some body → oneAttribute tag (attributesIn [] p t tag) ≡ itemOctets p tag body
   unfolding attributesIn valueIn maybe isValue
   attribute-some o body f =
@@ -165,11 +162,8 @@ module _ (p : ℕ) (t : Items) (tag : ℕ) (a : attribute tag ≡ true) where
       let kept : Kept (k .0) tag body (known p tag) = subst (λ q. Kept (k .0) tag body (known q tag)) (o .element) (k .1) in
       let kind = known-is (known p tag) (kept .isOne) in
       let fit : fits (kind .0) body ≡ true = rw (kind .1) at (kept .value) in
-      ap (oneAttribute tag) (now (kind .0) (kind .1) fit) ∙ go (kind .0) (kind .1) fit (defaultOctets p tag body) refl
+      ap (oneAttribute tag) (present-attribute [] p t tag (kind .0) body a (kind .1) f fit) ∙ go (kind .0) (kind .1) fit (defaultOctets p tag body) refl
     where
-      now : (k : Kind) → known p tag ≡ some k → fits k body ≡ true → attributesIn [] p t tag ≡ cond (defaultOctets p tag body) none (some (meant [] k body))
-      now k e i = rw (a, f, e) (counted-octets [] p tag k body e i)
-
       go : (k : Kind) → known p tag ≡ some k → fits k body ≡ true → (d : Bool) → defaultOctets p tag body ≡ d → oneAttribute tag (cond d none (some (meant [] k body))) ≡ itemOctets p tag body
       go k e i true d = sym (item-default p tag body d)
       go k e i false d = sym (item-known p tag body k (ne-eqb tag 4 (λ z. omega (arith, attribute-high tag a))) d e ∙ ap (framed tag) (value-fits k body i))
@@ -183,7 +177,7 @@ module _ (p n : ℕ) (tags depths starts sizes lent : List ℕ) (at depth : ℕ)
 
   pub none-between : (least : ℕ) → 0x80 ≤ least → FindsLowest n tags depths at depth least a → (t : ℕ) → least ≤ t → t < a .tag
       → attributesIn [] p (itemsFrom (fourOf tags depths starts sizes) n lent depth at .0) t ≡ none
-  none-between least g f t x y = attribute-none p _ t (high-attribute t (omega arith)) (f .between t x y starts sizes lent (o .spot) (o .rules))
+  none-between least g f t x y = absent-attribute [] p _ t (λ _. f .between t x y starts sizes lent (o .spot) (o .rules))
 
 pub found-body : (n : ℕ) (tags depths starts sizes lent : List ℕ) (at depth : ℕ) → Holding n (fourOf tags depths starts sizes) lent → (a : Lowest) → Stands n tags depths at depth a → a .tag < 0x87
     → BodyAt (a .place) starts sizes lent

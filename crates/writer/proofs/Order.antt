@@ -4,7 +4,6 @@ use mathlib.Core.Bool.{true, cond}
 use mathlib.Core.Option.{none}
 use mathlib.Core.List.{List, [], _++_, append-assoc, append-nil}
 use Prim.Native.Nat.{ℕ}
-use borrow.Author.Tests.{eqb-false}
 use Rattle.octets.specs.Header.{framed}
 use Rattle.text.specs.Tokens.{expanded}
 use Rattle.values.specs.declared.Kind.the-variants.{HoldsText}
@@ -18,12 +17,12 @@ use Rattle.format.specs.Judge.{isItems}
 use Rattle.format.specs.Meaning.{opens, cdataIn, means, maybe, encode}
 use Rattle.format.specs.Writer.{Spot, below, past, atTop, ruled}
 use Rattle.format.proofs.Kept.{Ruled, ruled-parts}
-use Rattle.format.proofs.Means.{means-attribute, means-cdata, means-element, means-leaf, opens-items, opens-leaf}
-use native.Mathlib.Omega.{arith}
+use Rattle.format.proofs.Means.{means-attribute, means-cdata, means-element, means-leaf, opens-items, opens-leaf, same-cdata}
+use Rattle.format.proofs.Force.{attribute-one}
 use Rattle.survey.specs.Normal.{valueOctets, itemOctets, attributeOctets, laterOctets}
 use Rattle.survey.proofs.Ways.{item-known, Way, way}
 use Rattle.survey.proofs.Ways.Way.{isAttribute, isCdata, isElement, isLeaf}
-use Rattle.survey.proofs.Sizes.{attribute-high, cdata-same, top-alone}
+use Rattle.survey.proofs.Sizes.{top-alone}
 
 abbrev cdata : Items → List ℕ
 cdata t = maybe (framed 1) (cdataIn [] t)
@@ -33,9 +32,7 @@ Laid p t = laterOctets p t ≡ encode (means [] t) ++ cdata t
 
 laid-attribute : (p tag at : ℕ) (body : List ℕ) (x y : Items) → attribute tag ≡ true → Laid p y → Laid p (item tag at body x y)
 unfolding laterOctets
-laid-attribute p tag at body x y a h =
-    let g = attribute-high tag a in
-    rw (a, means-attribute [] tag at body x y a, cdata-same tag at body x y (λ z. omega arith)) h
+laid-attribute p tag at body x y a h = rw (a, means-attribute [] tag at body x y a, same-cdata [] tag at body x y (attribute-one tag a)) h
 
 laid-cdata : (p at : ℕ) (body : List ℕ) (x : Items) → Laid p (item 1 at body x end)
 unfolding laterOctets means find cdataIn attribute encode maybe valueOctets fits meant octetsOf isItems
@@ -49,7 +46,7 @@ laid-front : (p tag at : ℕ) (body own : List ℕ) (x y : Items) → ElementTag
     → encode (means [] (item tag at body x y)) ≡ own ++ encode (means [] y) → Laid p y → Laid p (item tag at body x y)
 unfolding laterOctets
 laid-front p tag at body own x y g o m h =
-    rw (g .notAttribute, o, m, cdata-same tag at body x y (λ z. eqb-false tag 1 (g .notCdata) (sym z)), h) (sym (append-assoc own (encode (means [] y)) (cdata y)))
+    rw (g .notAttribute, o, m, same-cdata [] tag at body x y (g .notCdata), h) (sym (append-assoc own (encode (means [] y)) (cdata y)))
 
 laid-item : (tag at : ℕ) (body : List ℕ) (x y : Items) → ((s : Spot) → ruled s x ≡ true → Laid (s .parent) x) → ((s : Spot) → ruled s y ≡ true → Laid (s .parent) y)
     → (s : Spot) → ruled s (item tag at body x y) ≡ true → Laid (s .parent) (item tag at body x y)
