@@ -391,58 +391,42 @@ module _ (c : Context) (at tag : ℕ) (rest : List ℕ) (u : Items) (q : Unbroke
   unfolding isValue
   value-here k e = sym (ap (λ l. isValue l body) e) ∙ held c at tag (headerSize whole) (bodySize whole) (suc (length rest)) body q .rules .kind .value
 
-  shape-unknown : known p tag ≡ none → Shape p (c .stage) whole u
-  unfolding isWritten isKnown
-  shape-unknown e = record {
-    allKnown = later .allKnown;
+  -- octets that begin with an item that no normal form has
+  shape-never : (t : Items) → AllKnown p t → ((b : ℕ) → attribute b ≡ true → ltb 0 (c .stage) || not (attribute tag) ≡ true → find b t ≡ none)
+      → isWritten (writtenAs p tag body) body ≡ false → ((es : Entries) → Head p 0x7F (attributesIn es p t) tag → ⊥) → Shape p (c .stage) whole t
+  shape-never t knows bars n head = record {
+    allKnown = knows;
     ended = λ z. absurd (some-octet tag rest z);
     closed = is-closed;
-    barred = λ b a h. later-bare (behind-attributes c at tag rest q h) b a;
+    barred = bars;
     noTable = λ last h. absurd (no last h);
     tableless = λ last h. absurd (no last h);
     above = λ last b h a l. absurd (no last h);
     forth = λ last l m h. absurd (no last h);
-    back = λ es last l m s x. absurd (no-normal p tag rest u (later .allKnown) (λ fs h. false≢true (sym (ap isKnown e) ∙ h .isOne)) es last l m x);
+    back = λ es last l m s x. absurd (no-normal p tag rest t knows head es last l m x);
   }
     where
       no : (last : ℕ) → shaped p last whole ≡ true → ⊥
-      no = no-shape p tag rest u (ap (λ k. isWritten k body) (unwritten p tag body e))
+      no = no-shape p tag rest u n
+
+  shape-unknown : known p tag ≡ none → Shape p (c .stage) whole u
+  unfolding isWritten isKnown
+  shape-unknown e =
+      shape-never u (later .allKnown) (λ b a h. later-bare (behind-attributes c at tag rest q h) b a) (ap (λ k. isWritten k body) (unwritten p tag body e))
+      (λ fs h. false≢true (sym (ap isKnown e) ∙ h .isOne))
 
   shape-table : eqb tag 4 ≡ true → known p tag ≡ some HoldsTokens → Shape p (c .stage) whole (item tag from body end u)
   unfolding isWritten isKnown
-  shape-table f e = record {
-    allKnown = (ap isKnown e, later .allKnown);
-    ended = λ z. absurd (some-octet tag rest z);
-    closed = is-closed;
-    barred = is-barred end;
-    noTable = λ last h. absurd (no last h);
-    tableless = λ last h. absurd (no last h);
-    above = λ last b h a l. absurd (no last h);
-    forth = λ last l m h. absurd (no last h);
-    back = λ es last l m s x. absurd (no-normal p tag rest (item tag from body end u) (ap isKnown e, later .allKnown) (λ fs h. h .notTable (eqb-true tag 4 f)) es last l m x);
-  }
-    where
-      no : (last : ℕ) → shaped p last whole ≡ true → ⊥
-      no = no-shape p tag rest u (ap (λ k. isWritten k body) (unwritten-table p tag body f))
+  shape-table f e =
+      shape-never (item tag from body end u) (ap isKnown e, later .allKnown) (is-barred end) (ap (λ k. isWritten k body) (unwritten-table p tag body f))
+      (λ fs h. h .notTable (eqb-true tag 4 f))
 
   -- an attribute that is its default
   shape-default : (k : Kind) → attribute tag ≡ true → known p tag ≡ some k → defaultOctets p tag body ≡ true → Shape p (c .stage) whole (item tag from body end u)
   unfolding isWritten isKnown
-  shape-default k a e d = record {
-    allKnown = (ap isKnown e, later .allKnown);
-    ended = λ z. absurd (some-octet tag rest z);
-    closed = is-closed;
-    barred = is-barred end;
-    noTable = λ last h. absurd (no last h);
-    tableless = λ last h. absurd (no last h);
-    above = λ last b h g l. absurd (no last h);
-    forth = λ last l m h. absurd (no last h);
-    back = λ es last l m s x. absurd (no-normal p tag rest (item tag from body end u) (ap isKnown e, later .allKnown) (λ fs h. h .counts a (uncounted fs)) es last l m x);
-  }
+  shape-default k a e d =
+      shape-never (item tag from body end u) (ap isKnown e, later .allKnown) (is-barred end) (ap (λ z. isWritten z body) (unwritten-default p tag body d)) (λ fs h. h .counts a (uncounted fs))
     where
-      no : (last : ℕ) → shaped p last whole ≡ true → ⊥
-      no = no-shape p tag rest u (ap (λ z. isWritten z body) (unwritten-default p tag body d))
-
       uncounted : (es : Entries) → attributesIn es p (item tag from body end u) tag ≡ none
       uncounted es = present-attribute es p (item tag from body end u) tag k body a e (find-first tag from body end u) (value-here k e) ∙ ap (λ b. cond b none (some (meant es k body))) d
 
