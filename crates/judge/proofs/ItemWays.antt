@@ -1,16 +1,14 @@
 -- The rules of one item, on each way through the code's tests.
 use mathlib.Core.Path.{_≡_, refl, sym, ap, _∙_}
-use mathlib.Core.Bool.{Bool, true, false, cond, not, _&&_, _||_, false≢true, or-true}
+use mathlib.Core.Bool.{Bool, true, false, _&&_, _||_, false≢true, or-true}
 use mathlib.Core.Logic.{⊎-elim}
 use mathlib.Core.Option.{Option, none, some}
 use mathlib.Core.List.{List, [], _∷_}
-use Prim.Native.Nat.{ℕ, _≤_, _<_, min}
-use native.Mathlib.Nat.{min-eq-left, min-eq-right}
-use native.Mathlib.Omega.{arith}
-use lib.Dec.{eqb, leb}
+use Prim.Native.Nat.{ℕ, _≤_, _<_}
+use lib.Dec.{eqb}
 use types.Run.{OneOf}
 use denote.Enum.Declared.{tagOf}
-use borrow.Author.Tests.{le-leb, lt-leb, leb-true, leb-false, eq-eqb}
+use borrow.Author.Tests.{le-leb, lt-leb, eq-eqb}
 use Rattle.octets.specs.Numbers.{among}
 use Rattle.octets.specs.declared.counts.Characters.{Characters}
 use Rattle.octets.specs.Counts.{asCharacters}
@@ -27,13 +25,14 @@ use Rattle.values.specs.Table.{known, attribute}
 use Rattle.values.specs.Values.{fits, wrongField}
 use Rattle.format.specs.declared.Refusal.{Refusal}
 use Rattle.format.specs.Answers.{refusal, wrongValue}
-use Rattle.format.specs.Judge.{isTop, isKnown, isText, isTokens, isValue, wrongIn, latest, limit, notAbove, shown, ofTop, rule, valueRule, first, kindRules, itemRules}
+use Rattle.format.specs.Judge.{isTop, isKnown, isText, isTokens, isValue, wrongIn, latest, shown, ofTop, rule, valueRule, first, kindRules, itemRules}
 use Rattle.format.proofs.Rules.{first-one}
 use Rattle.values.specs.Calls.{asKnown, knownKind}
 use Rattle.values.specs.declared.KnownKind.{KnownKind}
 use Rattle.values.specs.declared.KnownKind.the-variants.{Unknown, Known}
 use Rattle.tags.specs.Rules.{withinDepth, hasBit, Seen}
 use Rattle.tags.proofs.Masks.{twice-is}
+use Rattle.tags.proofs.TagTests.{capped-shown}
 use Rattle.judge.specs.Says.{ctx, bare, InForce, depthOf, asKind, checked, sorted, ItemSays}
 use Rattle.judge.specs.declared.Check.{Check}
 use Rattle.judge.specs.declared.Check.the-variants.{Kept, Broken}
@@ -58,41 +57,6 @@ module _ (parent tag : ℕ) (holds t : Bool) (e : t ≡ (attribute tag && isTop 
   held-now f = rw (sym e ∙ f)
 
 pub ruleset held-ways = (held-later, held-now)
-
--- characters that are counted up to more than each limit keep to a limit as all of them do
-Below : ℕ → Option Characters → Type 0
-Below most none = Unit {0}
-Below most (some m) = m .0 < most
-
-limit-below : (parent : ℕ) → Below 32_769 (limit parent)
-unfolding limit Below
-limit-below parent = go (eqb parent 0x10) (eqb parent 0x11) (eqb parent 0x12) (eqb parent 0x1A) (eqb parent 0x1B)
-  where
-    go : (a b c d e : Bool) → Below 32_769 (cond a (some (asCharacters 8)) (cond b (some (asCharacters 16)) (cond c (some (asCharacters 128)) (cond d (some (asCharacters 180)) (cond e (some (asCharacters 1_200)) none)))))
-    go true b c d e = omega arith
-    go false true c d e = omega arith
-    go false false true d e = omega arith
-    go false false false true e = omega arith
-    go false false false false true = omega arith
-    go false false false false false = tt
-
-capped-leb : (most n m : ℕ) → m < most → leb (min most n) m ≡ leb n m
-capped-leb most n m h = go (leb n most) refl
-  where
-    go : (b : Bool) → leb n most ≡ b → leb (min most n) m ≡ leb n m
-    go true e = ap (λ (k : ℕ). leb k m) (min-eq-right (leb-true n most e))
-    go false e =
-        let past : most < n = omega (arith, leb-false n most e) in
-        ap (λ (k : ℕ). leb k m) (min-eq-left (omega arith)) ∙ lt-leb most m h ∙ sym (lt-leb n m (omega arith))
-
-capped-above : (most : ℕ) (n : Characters) (o : Option Characters) → Below most o → notAbove (asCharacters (min most (n .0))) o ≡ notAbove n o
-unfolding notAbove Below
-capped-above most n none h = refl
-capped-above most n (some m) h = capped-leb most (n .0) (m .0) h
-
-capped-shown : (parent tag : ℕ) (n : Characters) → shown parent tag (asCharacters (min 32_769 (n .0))) ≡ shown parent tag n
-unfolding shown
-capped-shown parent tag n = ap (λ b. not (eqb tag 1) || b) (capped-above 32_769 n (limit parent) (limit-below parent))
 
 -- rules 10, 12 and 13
 module _ (parent tag place : ℕ) (table body : List ℕ) (marks : ℕ) (shows : List ℕ) (told : InForce table marks shows)

@@ -22,13 +22,12 @@ use format::refuse;
 use octets::Characters;
 use octets::Header;
 use octets::read_header;
-use tags::Limit;
 use tags::has_bit;
 use tags::is_allowed;
+use tags::is_short;
 use tags::is_top;
 use tags::is_within_depth;
 use tags::latest_of;
-use tags::limit_of;
 use tags::stage_after;
 use tags::with_bit;
 use text::Weighed;
@@ -79,19 +78,6 @@ fn is_held(parent: u8, tag: u8, covered: bool) -> bool
         return true;
     }
     covered
-}
-
-// Rule 13, for text of which so many characters are shown.
-fn is_short(parent: u8, tag: u8, count: Characters) -> bool
-    ensures { λ r. ⌜ r ≡ shown parent tag count ⌝ }
-{
-    if tag != 1 {
-        return true;
-    }
-    match limit_of(parent) {
-        Limit::Unlimited => true,
-        Limit::AtMost(most) => count.0 <= most.0,
-    }
 }
 
 // Rules 10, 12 and 13, for text, in one look at it. No limit of rule 13 is as large as the most that is counted.

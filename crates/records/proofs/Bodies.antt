@@ -1,12 +1,20 @@
 -- The body of a record, one law for each way through the code.
-use Prim.Native.Nat.{ℕ}
+use Prim.Native.Nat.{ℕ, min}
 use mathlib.Core.Path.{_≡_, refl, sym, ap, _∙_}
-use mathlib.Core.Bool.{Bool, true, false, _&&_, and-true as and-yes}
+use mathlib.Core.Bool.{Bool, true, false, _&&_, and-true as and-yes, false≢true}
 use mathlib.Core.Option.{Option, none, some}
 use mathlib.Core.List.{List, []}
 use lib.ListN.{take}
 use Rattle.text.specs.Text.{text}
-use Rattle.text.specs.Tokens.{entries, cut, shownLength}
+use Rattle.text.specs.Tokens.{entries, cut, shownLength, covered}
+use Rattle.text.specs.Weighing.{tags, Marks, Shows, weighedBy}
+use Rattle.text.specs.declared.Weighed.{Weighed}
+use Rattle.text.specs.declared.Weighed.the-variants.{NoText, Text}
+use Rattle.text.proofs.Words.{plain-text, plain-text-covered}
+use Rattle.text.proofs.Expansion.{text-plain}
+use Rattle.text.proofs.WeighLaws.{weighed-none, weighed-text, weighed-covered, weighed-shown}
+use Rattle.octets.specs.Counts.{asCharacters}
+use Rattle.octets.specs.declared.counts.Characters.{Characters}
 use Rattle.values.specs.declared.NumberKind.{NumberKind}
 use Rattle.values.specs.declared.Kind.{Kind}
 use Rattle.values.specs.declared.Kind.the-variants.{HoldsItems, HoldsTokens, HoldsText, HoldsPlain, HoldsTime, HoldsBearer, HoldsNumber}
@@ -14,6 +22,7 @@ use Rattle.values.specs.Table.{known}
 use Rattle.values.specs.Values.{fits}
 use Rattle.format.specs.Judge.{isKnown, isItems, isTokens, isText, isValue, shown}
 use Rattle.format.specs.Writer.{bodyKeeps}
+use Rattle.tags.proofs.TagTests.{capped-shown, short-other}
 use Rattle.values.specs.Calls.{asKnown, knownKind}
 use Rattle.records.specs.Check.{octetsIf, heldAs}
 use Rattle.values.specs.declared.KnownKind.{KnownKind}
@@ -36,14 +45,40 @@ pub no-entries : (o : List ℕ) → entries (take 0 o) ≡ []
 unfolding entries cut
 no-entries o = refl
 
-module _ (parent tag : ℕ) (body : List ℕ) (t : Bool) (e : t ≡ text false body) where
-  pub text-good : (o : List ℕ) (b : Bool) → b ≡ shown parent tag (shownLength (entries (take 0 o)) body) → t ≡ true → b ≡ text false body && shown parent tag (shownLength [] body)
-  text-good o b f g = rw (sym e ∙ g) (f ∙ ap (λ x. shown parent tag (shownLength x body)) (no-entries o))
+module _ (parent tag : ℕ) (body o : List ℕ) (marks : ℕ) (m : Marks marks (tags (entries (take 0 o)))) (shows : List ℕ) (k : Shows 32 (entries (take 0 o)) shows)
+    (r : Weighed) (e : r ≡ weighedBy marks shows body (asCharacters 32_769)) where
+  abbrev Kept : Bool
+  Kept = text false body && shown parent tag (shownLength [] body)
 
-  pub text-bad : t ≡ false → false ≡ text false body && shown parent tag (shownLength [] body)
-  text-bad g = rw (sym e ∙ g)
+  no-text : (text false body ≡ true → ⊥) → false ≡ Kept
+  no-text n = go (text false body) refl
+    where
+      go : (b : Bool) → text false body ≡ b → false ≡ b && shown parent tag (shownLength [] body)
+      go true q = absurd (n q)
+      go false q = refl
 
-pub ruleset text-ways = (text-good, text-bad)
+  pub text-none : r ≡ NoText → false ≡ Kept
+  text-none f = no-text (λ q. false≢true (sym (weighed-none (entries (take 0 o)) marks shows m k body (asCharacters 32_769) r e f) ∙ plain-text body q))
+
+  module _ (c : Bool) (n : Characters) (f : r ≡ Text c n) where
+    covers : c ≡ covered [] body
+    covers = weighed-covered (entries (take 0 o)) marks shows m k body (asCharacters 32_769) r e c n f ∙ ap (λ es. covered es body) (no-entries o)
+
+    pub text-tokens : c ≡ false → false ≡ Kept
+    text-tokens g = no-text (λ q. false≢true (sym g ∙ covers ∙ plain-text-covered body q))
+
+    pub text-bare : c ≡ true → (b : Bool) → b ≡ shown parent tag n → b ≡ Kept
+    text-bare g b h =
+        let t : text false body ≡ true = text-plain body (weighed-text (entries (take 0 o)) marks shows m k body (asCharacters 32_769) r e c n f) (sym covers ∙ g) in
+        let s : n ≡ asCharacters (min 32_769 (shownLength [] body .0)) =
+        weighed-shown (entries (take 0 o)) marks shows m k body (asCharacters 32_769) r e c n f ∙ ap (λ es. asCharacters (min 32_769 (shownLength es body .0))) (no-entries o) in
+        rw t (h ∙ ap (shown parent tag) s ∙ capped-shown parent tag (shownLength [] body))
+
+-- only CDATA may have a limit
+pub text-other : (parent tag : ℕ) (body : List ℕ) → (tag ≡ 1 → ⊥) → (b : Bool) → b ≡ text false body → b ≡ text false body && shown parent tag (shownLength [] body)
+text-other parent tag body h b e = e ∙ sym (ap (λ c. text false body && c) (sym (short-other parent tag (shownLength [] body) h)) ∙ and-yes (text false body))
+
+pub ruleset text-ways = (text-none, text-tokens, text-bare, text-other)
 
 module _ (parent tag : ℕ) (body : List ℕ) where
   -- a value keeps the rules where it is one

@@ -1,5 +1,5 @@
 // Whether records are a well-formed tree (document 01, Refusal numbers: 16). One walk in reading order looks at each record once. A text's
-// octets are looked at once, those of a CDATA with a limit once more, up to the limit; no other body is looked at but by its value's fields.
+// octets are looked at once; no other body is looked at but by its value's fields.
 ghost use mathlib.Core.Path.{_≡_};
 ghost use mathlib.Core.Bool.{false, _&&_};
 ghost use mathlib.Core.List.{[]};
@@ -8,22 +8,25 @@ ghost use Prim.Native.Nat.{_+_, _≤_, _<_};
 ghost use lib.Dec.{leb};
 ghost use Rattle.values.specs.Table.{known};
 ghost use Rattle.text.specs.Text.{text};
-ghost use Rattle.text.specs.Tokens.{entries, shownLength};
+ghost use Rattle.text.specs.Tokens.{shownLength};
 ghost use Rattle.format.specs.Judge.{shown};
 ghost use Rattle.format.specs.Calls.{row, places, treeGiven};
 ghost use Rattle.format.specs.Lent.{lent};
 ghost use Rattle.records.specs.Check.{isGiven, HasPlaces, octetsIf, heldAs, placedBy, stateAfter, itemOf, itemAs, firstIn, walked, told};
 use format::Record;
 use format::kind_of;
-use tags::Limit;
+use octets::Characters;
 use tags::has_bit;
 use tags::is_allowed;
+use tags::is_short;
 use tags::is_within_depth;
 use tags::latest_of;
-use tags::limit_of;
 use tags::stage_after;
 use tags::with_bit;
-use text::is_shown;
+use text::Weighed;
+use text::characters_of;
+use text::tokens_of;
+use text::weigh;
 use values::Kind;
 use values::KnownKind;
 use values::fits_kind;
@@ -70,27 +73,26 @@ fn octets_if(good: bool) -> Held
     if good { Held::Octets } else { Held::Broken }
 }
 
-// Rule 13: CDATA has no more characters than may be shown, once its tokens are replaced by their entries in a table. Other text has no limit.
-fn is_short(parent: u8, tag: u8, table: &[u8], body: &[u8]) -> bool
-    ensures { λ r. ⌜ r ≡ shown parent tag (shownLength (entries (now (table .entry))) (now (body .entry))) ⌝ }
-{
-    if tag != 1 {
-        return true;
-    }
-    match limit_of(parent) {
-        Limit::AtMost(most) => is_shown(table, body, most),
-        Limit::Unlimited => true,
-    }
-}
-
-// Rules 10, 12 and 13 where there is no token table: a token octet is a fault of the text.
+// Rules 10, 12 and 13 where there is no token table: a token octet is a fault of the text. CDATA alone may have a limit, and so it alone is weighed; no limit is
+// as large as the most that is counted.
 fn is_text_kept(parent: u8, tag: u8, body: &[u8]) -> bool
     ensures { λ r. ⌜ r ≡ (text false (now (body .entry)) && shown parent tag (shownLength [] (now (body .entry)))) ⌝ }
 {
-    if text::check(body, false) {
-        return is_short(parent, tag, &body[0..0], body);
+    if tag != 1 {
+        return text::check(body, false);
     }
-    false
+    let none = &body[0..0];
+    let marks = tokens_of(none);
+    let shows = characters_of(none);
+    match weigh(marks, &shows, body, Characters(32_769)) {
+        Weighed::NoText => false,
+        Weighed::Text { covered, shown } => {
+            if covered {
+                return is_short(parent, tag, shown);
+            }
+            false
+        }
+    }
 }
 
 fn check_kind(kind: Kind, parent: u8, tag: u8, body: &[u8]) -> Held

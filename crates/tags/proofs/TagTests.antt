@@ -1,18 +1,17 @@
 -- The ways through the tests of tags: for each return, what it returns is what the definition says.
-use mathlib.Core.Path.{_≡_, refl, sym, _∙_}
-use mathlib.Core.Bool.{Bool, true, false, not}
+use mathlib.Core.Path.{_≡_, refl, sym, _∙_, ap}
+use mathlib.Core.Bool.{Bool, true, false, not, cond, _||_}
 use mathlib.Core.Option.{Option, none, some}
-use Prim.Native.Nat.{ℕ}
+use Prim.Native.Nat.{ℕ, _<_, min}
+use native.Mathlib.Nat.{min-eq-left, min-eq-right}
 use native.Mathlib.Omega.{arith}
 use lib.Dec.{eqb, leb}
-use borrow.Author.Tests.{ne-eqb}
+use borrow.Author.Tests.{ne-eqb, leb-true, leb-false, lt-leb}
 use Rattle.values.specs.Table.{attribute}
 use Rattle.octets.specs.declared.counts.Characters.{Characters}
-use Rattle.octets.specs.Counts.{asCharacters, charactersWithin}
+use Rattle.octets.specs.Counts.{asCharacters}
 use Rattle.format.specs.Judge.{isTop, allowed, latest, stageAfter, limit, notAbove, shown}
-use Rattle.tags.specs.Rules.{withinDepth, asLimit, limited}
-use Rattle.tags.specs.declared.Limit.{Limit}
-use Rattle.tags.specs.declared.Limit.the-variants.{Unlimited, AtMost}
+use Rattle.tags.specs.Rules.{withinDepth}
 
 pub top-2 : (tag : ℕ) → tag ≡ 2 → true ≡ isTop tag
 unfolding isTop
@@ -104,56 +103,75 @@ pub ruleset after-ways = (after-attribute, after-four, after-cdata, after-other)
 
 pub ruleset deep-ways = (deep-attribute, deep-cdata, deep-element)
 
-module _ (parent : ℕ) where
-  pub limit-short : parent ≡ 0x10 → AtMost (asCharacters 8) ≡ asLimit parent
-  unfolding asLimit limited limit
-  limit-short e = rw e
-
-  pub limit-medium : parent ≡ 0x11 → AtMost (asCharacters 16) ≡ asLimit parent
-  unfolding asLimit limited limit
-  limit-medium e = rw e
-
-  pub limit-long : parent ≡ 0x12 → AtMost (asCharacters 128) ≡ asLimit parent
-  unfolding asLimit limited limit
-  limit-long e = rw e
-
-  pub limit-brief : parent ≡ 0x1A → AtMost (asCharacters 180) ≡ asLimit parent
-  unfolding asLimit limited limit
-  limit-brief e = rw e
-
-  pub limit-full : parent ≡ 0x1B → AtMost (asCharacters 1_200) ≡ asLimit parent
-  unfolding asLimit limited limit
-  limit-full e = rw e
-
-  pub limit-none : (parent ≡ 0x10 → ⊥) → (parent ≡ 0x11 → ⊥) → (parent ≡ 0x12 → ⊥) → (parent ≡ 0x1A → ⊥) → (parent ≡ 0x1B → ⊥) → Unlimited ≡ asLimit parent
-  unfolding asLimit limited limit
-  limit-none a b c d e = rw (ne-eqb parent 0x10 a, ne-eqb parent 0x11 b, ne-eqb parent 0x12 c, ne-eqb parent 0x1A d, ne-eqb parent 0x1B e)
-
-pub ruleset limit-ways = (limit-short, limit-medium, limit-long, limit-brief, limit-full, limit-none)
-
--- rule 13 as the callers ask it: by the limit, of a text that is shown with so many characters
+-- rule 13, of a text of which so many characters are shown
 module _ (parent tag : ℕ) (n : Characters) where
-  pub short-no-cdata : (tag ≡ 1 → ⊥) → true ≡ shown parent tag n
+  pub short-other : (tag ≡ 1 → ⊥) → true ≡ shown parent tag n
   unfolding shown
-  short-no-cdata h = rw (ne-eqb tag 1 h)
+  short-other h = rw (ne-eqb tag 1 h)
 
-  limit-is : (most : Characters) (o : Option Characters) → limited o ≡ AtMost most → notAbove n o ≡ charactersWithin n most
-  unfolding limited notAbove
-  limit-is most none h = let z : _≡_ {A = ℕ} 0 1 = cc in absurd (omega arith)
-  limit-is most (some m) h = let e : m ≡ most = cc in rw e
+  module _ (h : tag ≡ 1) where
+    by-limit : shown parent tag n ≡ notAbove n (limit parent)
+    unfolding shown
+    by-limit = rw h
 
-  no-limit : (o : Option Characters) → limited o ≡ Unlimited → notAbove n o ≡ true
-  unfolding limited notAbove
-  no-limit none h = refl
-  no-limit (some m) h = let z : _≡_ {A = ℕ} 0 1 = cc in absurd (omega arith)
+    pub short-name : parent ≡ 0x10 → leb (n .0) 8 ≡ shown parent tag n
+    unfolding limit notAbove
+    short-name e = sym (by-limit ∙ rw e)
 
-  module _ (h : tag ≡ 1) (l : Limit) (e : l ≡ asLimit parent) where
-    pub short-unlimited : l ≡ Unlimited → true ≡ shown parent tag n
-    unfolding shown asLimit
-    short-unlimited q = rw h (sym (no-limit (limit parent) (sym e ∙ q)))
+    pub medium-name : parent ≡ 0x11 → leb (n .0) 16 ≡ shown parent tag n
+    unfolding limit notAbove
+    medium-name e = sym (by-limit ∙ rw e)
 
-    pub short-limited : (most : Characters) → l ≡ AtMost most → (b : Bool) → b ≡ charactersWithin n most → b ≡ shown parent tag n
-    unfolding shown asLimit
-    short-limited most q b f = rw h (f ∙ sym (limit-is most (limit parent) (sym e ∙ q)))
+    pub long-name : parent ≡ 0x12 → leb (n .0) 128 ≡ shown parent tag n
+    unfolding limit notAbove
+    long-name e = sym (by-limit ∙ rw e)
 
-pub ruleset short-ways = (short-no-cdata, short-unlimited, short-limited)
+    pub short-description : parent ≡ 0x1A → leb (n .0) 180 ≡ shown parent tag n
+    unfolding limit notAbove
+    short-description e = sym (by-limit ∙ rw e)
+
+    pub long-description : parent ≡ 0x1B → leb (n .0) 1_200 ≡ shown parent tag n
+    unfolding limit notAbove
+    long-description e = sym (by-limit ∙ rw e)
+
+    pub without-limit : (parent ≡ 0x10 → ⊥) → (parent ≡ 0x11 → ⊥) → (parent ≡ 0x12 → ⊥) → (parent ≡ 0x1A → ⊥) → (parent ≡ 0x1B → ⊥) → true ≡ shown parent tag n
+    unfolding limit notAbove
+    without-limit a b c d e =
+        sym (by-limit ∙ rw (ne-eqb parent 0x10 a, ne-eqb parent 0x11 b, ne-eqb parent 0x12 c, ne-eqb parent 0x1A d, ne-eqb parent 0x1B e))
+
+pub ruleset short-ways = (short-other, short-name, medium-name, long-name, short-description, long-description, without-limit)
+
+-- characters that are counted up to more than each limit keep to a limit as all of them do
+Below : ℕ → Option Characters → Type 0
+Below most none = Unit {0}
+Below most (some m) = m .0 < most
+
+limit-below : (parent : ℕ) → Below 32_769 (limit parent)
+unfolding limit Below
+limit-below parent = go (eqb parent 0x10) (eqb parent 0x11) (eqb parent 0x12) (eqb parent 0x1A) (eqb parent 0x1B)
+  where
+    go : (a b c d e : Bool) → Below 32_769 (cond a (some (asCharacters 8)) (cond b (some (asCharacters 16)) (cond c (some (asCharacters 128)) (cond d (some (asCharacters 180)) (cond e (some (asCharacters 1_200)) none)))))
+    go true b c d e = omega arith
+    go false true c d e = omega arith
+    go false false true d e = omega arith
+    go false false false true e = omega arith
+    go false false false false true = omega arith
+    go false false false false false = tt
+
+capped-leb : (most n m : ℕ) → m < most → leb (min most n) m ≡ leb n m
+capped-leb most n m h = go (leb n most) refl
+  where
+    go : (b : Bool) → leb n most ≡ b → leb (min most n) m ≡ leb n m
+    go true e = ap (λ (k : ℕ). leb k m) (min-eq-right (leb-true n most e))
+    go false e =
+        let past : most < n = omega (arith, leb-false n most e) in
+        ap (λ (k : ℕ). leb k m) (min-eq-left (omega arith)) ∙ lt-leb most m h ∙ sym (lt-leb n m (omega arith))
+
+capped-above : (most : ℕ) (n : Characters) (o : Option Characters) → Below most o → notAbove (asCharacters (min most (n .0))) o ≡ notAbove n o
+unfolding notAbove Below
+capped-above most n none h = refl
+capped-above most n (some m) h = capped-leb most (n .0) (m .0) h
+
+pub capped-shown : (parent tag : ℕ) (n : Characters) → shown parent tag (asCharacters (min 32_769 (n .0))) ≡ shown parent tag n
+unfolding shown
+capped-shown parent tag n = ap (λ b. not (eqb tag 1) || b) (capped-above 32_769 n (limit parent) (limit-below parent))

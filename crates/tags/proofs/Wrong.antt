@@ -1,17 +1,15 @@
 -- Wrong answers, refuted by computing the definitions: for each public call two, of the kind that slips make.
-use mathlib.Core.Path.{_≡_, ap}
+use mathlib.Core.Path.{_≡_}
 use mathlib.Core.Bool.{true, false, false≢true, true≢false}
 use Prim.Native.Nat.{ℕ}
 use native.Mathlib.Omega.{arith}
 use Rattle.octets.specs.Counts.{asCharacters}
 use Rattle.values.specs.declared.Kind.the-variants.{HoldsItems, HoldsTokens}
 use Rattle.values.specs.Table.{rows, kindIn, known, attribute}
-use Rattle.format.specs.Judge.{isTop, allowed, latest, stageAfter, limit}
-use Rattle.tags.specs.Rules.{withinDepth, limited, asLimit, hasBit, withBit}
+use Rattle.format.specs.Judge.{isTop, allowed, latest, stageAfter, limit, notAbove, shown}
+use Rattle.tags.specs.Rules.{withinDepth, hasBit, withBit}
 use Rattle.tags.specs.Listed.{listedAs}
 use Rattle.tags.specs.declared.Listed.the-variants.{Nothing, Value}
-use Rattle.tags.specs.declared.Limit.{Limit}
-use Rattle.tags.specs.declared.Limit.the-variants.{Unlimited, AtMost}
 
 -- `is_top`: epg alone; the token table taken for a top
 pub epg-alone : isTop 3 ≡ false → ⊥
@@ -58,19 +56,18 @@ pub cdata-at-seventeen : withinDepth 1 17 ≡ false → ⊥
 unfolding attribute
 cdata-at-seventeen h = true≢false h
 
--- the number of characters in a limit
-abbrev most : Limit → ℕ
-most Unlimited = 0
-most (AtMost n) = n .0
+-- `is_short`: the limit of mediumName for shortName; no limit for longDescription; a limit itself refused
+pub medium-for-short : true ≡ shown 0x10 1 (asCharacters 16) → ⊥
+unfolding shown notAbove limit
+medium-for-short h = true≢false h
 
--- `limit_of`: the limit of mediumName for shortName; no limit for longDescription
-pub medium-for-short : asLimit 0x10 ≡ AtMost (asCharacters 16) → ⊥
-unfolding asLimit limited limit
-medium-for-short h = let z : _≡_ {A = ℕ} 8 16 = ap most h in omega arith
+pub no-limit-of-long : true ≡ shown 0x1B 1 (asCharacters 1_201) → ⊥
+unfolding shown notAbove limit
+no-limit-of-long h = true≢false h
 
-pub no-limit-of-long : asLimit 0x1B ≡ Unlimited → ⊥
-unfolding asLimit limited limit
-no-limit-of-long h = let z : _≡_ {A = ℕ} 0 1 = cc in omega arith
+pub limit-refused : false ≡ shown 0x10 1 (asCharacters 8) → ⊥
+unfolding shown notAbove limit
+limit-refused h = false≢true h
 
 -- `has_bit`: the bit of one tag taken for the next one's; a tag without a bit that has one
 pub bit-of-next : hasBit 1 0x81 ≡ true → ⊥

@@ -1,4 +1,4 @@
--- What the calls answer that format's definitions don't say alone (document 01, Refusal numbers: 7, 8 and 13).
+-- What the calls answer that format's definitions don't say alone (document 01, Refusal numbers: 7 and 8).
 use mathlib.Core.Path.{_≡_}
 use mathlib.Core.Bool.{Bool, true, cond, _&&_, _||_}
 use mathlib.Core.Option.{Option, none, some}
@@ -11,20 +11,10 @@ use Rattle.octets.specs.Numbers.{among}
 use Rattle.text.specs.Weighing.{bit}
 use Rattle.values.specs.Table.{known, attribute}
 use Rattle.format.specs.Judge.{isKnown, limit}
-use Rattle.tags.specs.declared.Limit.{Limit}
-use Rattle.tags.specs.declared.Limit.the-variants.{Unlimited, AtMost}
 
 -- rule 7: an element stands at depth 16 or above it; attributes and CDATA are not held to this
 abbrev pub withinDepth : (tag depth : ℕ) → Bool
 withinDepth tag depth = attribute tag || eqb tag 1 || leb depth 16
-
--- rule 13: the limit for the CDATA of an element, in the code's words
-unfoldable pub limited : Option Characters → Limit
-limited none = Unlimited
-limited (some n) = AtMost n
-
-unfoldable pub asLimit : ℕ → Limit
-asLimit parent = limited (limit parent)
 
 -- rule 8: the tags of an element's attributes so far are bits of one number, the lowest that of 0x80. Only the 64 tags up to 0xBF have one; no tag above them is
 -- known. The bit of a tag is set;

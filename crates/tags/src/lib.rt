@@ -4,23 +4,16 @@ mod rules;
 mod seen;
 mod sorts;
 
-use octets::Characters;
 pub use rules::is_allowed;
+pub use rules::is_short;
 pub use rules::is_top;
 pub use rules::is_within_depth;
 pub use rules::latest_of;
-pub use rules::limit_of;
 pub use rules::stage_after;
 pub use seen::has_bit;
 pub use seen::with_bit;
 pub use sorts::listed_as;
 use values::Kind;
-
-// How many characters a shown text may have, where that is limited.
-pub enum Limit {
-    Unlimited,
-    AtMost(Characters),
-}
 
 // What is listed of an item: nothing; its record and those of the items inside it; its record, with a value of a kind.
 pub enum Listed {

@@ -1,8 +1,7 @@
 // What a tag alone says, by the tag of the element in which its item stands (0 for the object).
 ghost use mathlib.Core.Path.{_≡_};
-ghost use Rattle.format.specs.Judge.{allowed, isTop, latest, stageAfter};
-ghost use Rattle.tags.specs.Rules.{asLimit, withinDepth};
-use crate::Limit;
+ghost use Rattle.format.specs.Judge.{allowed, isTop, latest, stageAfter, shown};
+ghost use Rattle.tags.specs.Rules.{withinDepth};
 use octets::Characters;
 use values::is_attribute;
 
@@ -84,16 +83,19 @@ pub fn is_within_depth(tag: u8, depth: u8) -> bool
     depth <= 16
 }
 
-// Rule 13: the limit for the CDATA of an element, in characters.
-pub fn limit_of(parent: u8) -> Limit
-    ensures { λ r. ⌜ r ≡ asLimit parent ⌝ }
+// Rule 13: CDATA of which so many characters are shown keeps to the limit of its element. Other text has none.
+pub fn is_short(parent: u8, tag: u8, count: Characters) -> bool
+    ensures { λ r. ⌜ r ≡ shown parent tag count ⌝ }
 {
+    if tag != 1 {
+        return true;
+    }
     match parent {
-        0x10 => Limit::AtMost(Characters(8)),
-        0x11 => Limit::AtMost(Characters(16)),
-        0x12 => Limit::AtMost(Characters(128)),
-        0x1A => Limit::AtMost(Characters(180)),
-        0x1B => Limit::AtMost(Characters(1_200)),
-        _ => Limit::Unlimited,
+        0x10 => count.0 <= 8,
+        0x11 => count.0 <= 16,
+        0x12 => count.0 <= 128,
+        0x1A => count.0 <= 180,
+        0x1B => count.0 <= 1_200,
+        _ => true,
     }
 }

@@ -16,19 +16,11 @@ use Rattle.text.proofs.Sequences.{text-low, single-high}
 pub ascii-text : (t : Bool) (b : ℕ) (s : List ℕ) → 0x20 ≤ b → b < 0x80 → text t (b ∷ s) ≡ text t s
 ascii-text t b s h g = text-low t b s g ∙ rw (← single-high t b h)
 
-pub letter-text : (t : Bool) (b : ℕ) → 0x20 ≤ b → b < 0x80 → text t (b ∷ []) ≡ true
-unfolding text utf8
-letter-text t b h g = ascii-text t b [] h g
-
 -- ---- texts put together
 pub expanded-append : (es : Entries) (a b : List ℕ) → expanded es (a ++ b) ≡ expanded es a ++ expanded es b
 unfolding expanded
 expanded-append es [] b = refl
 expanded-append es (c ∷ a) b = rw (expanded-append es a b, append-assoc (stands es c) (expanded es a) (expanded es b))
-
-pub expandedSize-append : (es : Entries) (a b : List ℕ) → expandedSize es (a ++ b) .0 ≡ expandedSize es a .0 + expandedSize es b .0
-unfolding expandedSize
-expandedSize-append es a b = ap length (expanded-append es a b) ∙ length-append (expanded es a) (expanded es b)
 
 -- ---- texts without token octets: `covered []` is the test that there is none, and valid text in which none may stand passes it (Words, plain-text-covered)
 bare-octet : (b : ℕ) → covers [] b ≡ true → token b ≡ false
@@ -43,20 +35,3 @@ pub bare-expanded : (es : Entries) (s : List ℕ) → covered [] s ≡ true → 
 unfolding covered expanded stands
 bare-expanded es [] h = refl
 bare-expanded es (b ∷ s) h = rw (bare-octet b (and-left (covers [] b) (covered [] s) h), bare-expanded es s (and-right (covers [] b) (covered [] s) h))
-
-pub bare-size : (es : Entries) (s : List ℕ) → covered [] s ≡ true → expandedSize es s ≡ sizeOf s
-unfolding expandedSize
-bare-size es s h = ap sizeOf (bare-expanded es s h)
-
-pub bare-shown : (es : Entries) (s : List ℕ) → covered [] s ≡ true → shownLength es s ≡ shownLength [] s
-unfolding shownLength
-bare-shown es s h = rw (bare-expanded es s h, expanded-empty s)
-
--- the two flags say the same of such a text
-pub bare-text : (s : List ℕ) → covered [] s ≡ true → text true s ≡ text false s
-bare-text s h = go (text true s) (text false s) refl refl
-  where
-    go : (a b : Bool) → text true s ≡ a → text false s ≡ b → text true s ≡ text false s
-    go true b p q = p ∙ sym (text-plain s p h)
-    go false true p q = absurd (false≢true (sym p ∙ plain-text s q))
-    go false false p q = p ∙ sym q

@@ -3,16 +3,14 @@ use Prim.Native.Nat.{ℕ, suc, _+_, _-_, _/_, _≤_, _<_}
 use mathlib.Core.Path.{_≡_, refl, sym, ap, ap₂, _∙_}
 use mathlib.Core.Bool.{Bool, true, false, cond}
 use mathlib.Core.List.{List, [], _∷_, _++_}
-use lib.Dec.{eqb, leb, ltb}
+use lib.Dec.{eqb, ltb}
 use lib.ListN.{length, getD, take, drop, set, replicate, length-set, length-take, drop-of-length-le, getD-replicate}
 use lib.Seq.{getD-set-same, getD-set-other}
 use native.Mathlib.Omega.{arith}
-use borrow.Author.Tests.{eqb-true, eqb-false, eq-eqb, ne-eqb, lt-ltb, le-ltb, ltb-true, ltb-false, le-leb, lt-leb, leb-true, leb-false}
-use Rattle.octets.specs.declared.counts.Characters.{Characters}
-use Rattle.octets.specs.Counts.{charactersWithin}
+use borrow.Author.Tests.{eqb-true, eqb-false, eq-eqb, ne-eqb, lt-ltb, le-ltb, ltb-true, ltb-false}
 use Rattle.octets.specs.Numbers.{Octets}
 use Rattle.octets.proofs.Lists.{drop-next}
-use Rattle.text.specs.Tokens.{Entries, entries, cut, stands, expanded, starts, shownLength}
+use Rattle.text.specs.Tokens.{Entries, entries, cut, stands, expanded, starts}
 use Rattle.text.specs.Weighing.{Shows, shownAt, shownBy}
 use Rattle.text.specs.Index.{Indexes, placeBy}
 use Rattle.text.specs.declared.expanding.Found.{Found}
@@ -154,16 +152,6 @@ module _ (w : List ℕ) (b : ℕ) where
   pub shown-first : 0x14 ≤ b → (b / 64 ≡ 2 → ⊥) → 1 ≡ shownAt w b
   shown-first h e = shown-high h 1 (begun-one b e)
 
--- ---- what is shown of a text at a place
-module _ (w s : List ℕ) (at : ℕ) where
-  pub shown-none : length s ≤ at → shownBy w (drop at s) ≡ 0
-  unfolding shownBy
-  shown-none h = ap (shownBy w) (drop-of-length-le s h)
-
-  pub shown-next : at < length s → (size : ℕ) → size ≡ shownAt w (getD s at 0) → shownBy w (drop at s) ≡ size + shownBy w (drop (at + 1) s)
-  unfolding shownBy
-  shown-next h size e = ap (shownBy w) (drop-next s at 0 h) ∙ rw e
-
 -- ---- a text by such counts
 pub shown-is : (es : Entries) (w : List ℕ) → Shows 32 es w → (s : List ℕ) → shownBy w s ≡ starts (expanded es s)
 unfolding shownBy shownAt expanded starts
@@ -174,37 +162,3 @@ shown-is es w known (b ∷ s) =
     one : (l : Bool) → ltb b 0x14 ≡ l → shownAt w b ≡ starts (stands es b)
     one true e = rw e (known .each b (omega (arith, ltb-true b 0x14 e)))
     one false e = rw (e, plain-stands es b (high-octet b (omega (arith, ltb-false b 0x14 e)))) (omega arith)
-
--- ---- the loop of `shows_within`: `left` of the limit is left for what is left of the text
-leb-left : (n m l : ℕ) → n ≤ l → leb (n + m) l ≡ leb m (l - n)
-leb-left n m l h = go (leb m (l - n)) refl
-  where
-    go : (b : Bool) → leb m (l - n) ≡ b → leb (n + m) l ≡ b
-    go true e = le-leb (n + m) l (omega (arith, leb-true m (l - n) e))
-    go false e = lt-leb (n + m) l (omega (arith, leb-false m (l - n) e))
-
-pub record Fitting (w s : List ℕ) (limit left at : ℕ) : Type 0 where
-  pub within : at ≤ length s
-  pub same : leb (shownBy w s) limit ≡ leb (shownBy w (drop at s)) left
-
-module _ (w s : List ℕ) (limit : ℕ) where
-  pub fit-begin : Fitting w s limit limit 0
-  fit-begin = record { within = omega arith; same = refl }
-
-  module _ (left at : ℕ) (inv : Fitting w s limit left at) where
-    pub fit-done : length s ≤ at → true ≡ leb (shownBy w s) limit
-    fit-done h = sym (inv .same ∙ le-leb (shownBy w (drop at s)) left (omega (arith, shown-none w s at h)))
-
-    module _ (h : at < length s) (size : ℕ) (e : size ≡ shownAt w (getD s at 0)) where
-      pub fit-stop : left < size → false ≡ leb (shownBy w s) limit
-      fit-stop g = sym (inv .same ∙ lt-leb (shownBy w (drop at s)) left (omega (arith, shown-next w s at h size e)))
-
-      pub fit-again : size ≤ left → Fitting w s limit (left - size) (at + 1)
-      fit-again g = record { within = omega arith; same = inv .same ∙ rw (shown-next w s at h size e) (leb-left size (shownBy w (drop (at + 1) s)) left g) }
-
-pub ruleset fit-ways = (fit-begin, fit-done, fit-stop, fit-again)
-
--- ---- `is_shown`
-pub shown-fits : (es : Entries) (w s : List ℕ) (limit : Characters) → Shows 32 es w → (r : Bool) → r ≡ leb (shownBy w s) (limit .0) → r ≡ charactersWithin (shownLength es s) limit
-unfolding shownLength
-shown-fits es w s limit counts r e = e ∙ ap (λ n. leb n (limit .0)) (shown-is es w counts s)

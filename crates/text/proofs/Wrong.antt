@@ -5,12 +5,12 @@ use mathlib.Core.List.{List, [], _∷_}
 use Prim.Native.Nat.{ℕ, _^_, min}
 use native.Mathlib.Omega.{arith}
 use lib.ListN.{getD, replicate}
-use Rattle.octets.specs.Counts.{asOctets, asCharacters, charactersWithin}
+use Rattle.octets.specs.Counts.{asOctets, asCharacters}
 use Rattle.octets.specs.Numbers.{among}
 use Rattle.octets.specs.Puts.{putAnswer, putOut, Puts}
 use Rattle.octets.specs.declared.Put.the-variants.{Done, NoRoom}
 use Rattle.text.specs.Text.{layout, token, character, single, goesOn, utf8, text}
-use Rattle.text.specs.Tokens.{entries, cut, filled, isTable, entry, orItself, stands, expanded, present, covers, covered, starts, shownLength}
+use Rattle.text.specs.Tokens.{entries, cut, filled, isTable, entry, orItself, stands, expanded, present, covers, covered, starts}
 use Rattle.text.specs.Leaves.{replacedBy}
 use Rattle.text.specs.Index.{startOf, longest, Indexes, usable, placeAt, placeBy, withPlace, entriesBelow, entriesBy}
 use Rattle.text.specs.Found.{found}
@@ -153,19 +153,6 @@ bare-passes h = false≢true (sym h)
 pub tab-refused : false ≡ covered (entries abc) (0x09 ∷ []) → ⊥
 unfolding covered covers token layout among
 tab-refused h = false≢true h
-
--- is_shown: the token counts as one character; a text of just the limit is refused; octets are counted
-pub shown-unexpanded : true ≡ charactersWithin (shownLength (entries abc) (0x01 ∷ 0x44 ∷ [])) (asCharacters 2) → ⊥
-unfolding starts shownLength expanded stands token layout among entries cut entry orItself
-shown-unexpanded h = false≢true (sym h)
-
-pub limit-refused : false ≡ charactersWithin (shownLength (entries abc) (0x01 ∷ 0x44 ∷ [])) (asCharacters 4) → ⊥
-unfolding starts shownLength expanded stands token layout among entries cut entry orItself
-limit-refused h = false≢true h
-
-pub octets-counted : false ≡ charactersWithin (shownLength [] (0xC3 ∷ 0xA9 ∷ [])) (asCharacters 1) → ⊥
-unfolding starts shownLength expanded stands token layout among entry orItself
-octets-counted h = false≢true h
 
 -- expanded_size: the token counts as one octet; characters are counted; it does not stop at the most that is asked for
 pub size-unexpanded : asOctets 2 ≡ asOctets (min 9 (weight (1 ∷ 3 ∷ []) (0x01 ∷ 0x44 ∷ []))) → ⊥

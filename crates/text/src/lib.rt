@@ -15,7 +15,6 @@ pub use expanding::expanded_size;
 pub use expanding::is_covered;
 use octets::Characters;
 pub use shown::characters_of;
-pub use shown::is_shown;
 pub use tables::index_of;
 pub use tables::is_table;
 pub use tables::tokens_of;

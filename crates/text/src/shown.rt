@@ -1,10 +1,9 @@
-// How many characters are shown: of the entries of a table, and of a text. A character is counted by its first octet, which alone doesn't begin with the bits 10.
+// How many characters are shown: of the entries of a table, and of an octet of a text. A character is counted by its first octet, which alone doesn't begin
+// with the bits 10.
 ghost use mathlib.Core.Path.{_≡_};
 ghost use Prim.Native.Nat.{_<_};
-ghost use lib.Dec.{leb};
-ghost use Rattle.octets.specs.Counts.{charactersWithin};
-ghost use Rattle.text.specs.Tokens.{entries, stands, starts, shownLength};
-ghost use Rattle.text.specs.Weighing.{Shows, shownAt, shownBy};
+ghost use Rattle.text.specs.Tokens.{entries, stands, starts};
+ghost use Rattle.text.specs.Weighing.{Shows, shownAt};
 ghost use Rattle.text.specs.Index.{Indexes};
 use crate::characters::begun;
 use crate::expanding::Found;
@@ -69,30 +68,4 @@ pub fn shown_at(counts: &[u8; 32], b: u8) -> Characters
         return Characters(size_of(counts[size_of(b)]));
     }
     begun(b)
-}
-
-// What is shown of a text keeps to a limit, by the counts of a table and octet by octet. It counts down from the limit, so that no sum can be too large, and
-// stops where the text passes it.
-fn shows_within(counts: &[u8; 32], s: &[u8], limit: Characters) -> bool
-    ensures { λ r. ⌜ r ≡ leb (shownBy (now (counts .entry)) (now (s .entry))) (limit .0) ⌝ }
-{
-    let mut left = limit.0;
-    let mut at: usize = 0;
-    while at < s.len() {
-        let more = shown_at(counts, s[at]);
-        if more.0 > left {
-            return false;
-        }
-        left -= more.0;
-        at += 1;
-    }
-    true
-}
-
-// What is shown of a text keeps to a limit of characters (rule 13).
-pub fn is_shown(table: &[u8], s: &[u8], limit: Characters) -> bool
-    ensures { λ r. ⌜ r ≡ charactersWithin (shownLength (entries (now (table .entry))) (now (s .entry))) limit ⌝ }
-{
-    let counts = characters_of(table);
-    shows_within(&counts, s, limit)
 }
