@@ -9,7 +9,7 @@ use lib.Dec.{eqb, leb, ltb}
 use native.Mathlib.Omega.{arith}
 use borrow.Author.Tests.{le-ltb, le-leb, lt-leb, leb-false, eq-eqb, ne-eqb, eqb-true, ltb-true, ltb-false}
 use Rattle.octets.specs.Numbers.{among}
-use Rattle.octets.proofs.Tests.{and-left, and-right, and-true, or-elim}
+use Rattle.octets.proofs.Tests.{and-left, and-right, and-true, or-elim, or-right-false}
 use Rattle.octets.proofs.Lists.{part-to-end, part-split, drop-next}
 use Rattle.text.specs.Text.{layout, token, character, single, goesOn, utf8, text}
 use Rattle.text.specs.Runs.{within, PlainTo}
@@ -201,10 +201,6 @@ module _ (c d : ℕ) (h : within 0x80 0xBF d ≡ true) where
       (utf8-zero r true bits 0x800)
 
 -- ---- what two octets say of the next one
-or-right-false : (x y : Bool) → x || y ≡ false → y ≡ false
-or-right-false false y e = e
-or-right-false true y e = absurd (false≢true (sym e))
-
 module _ (a b : ℕ) where
   none-due : a < 0xE0 → b < 0xC0 → awaits a b ≡ false
   unfolding awaits
