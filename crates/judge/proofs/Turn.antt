@@ -303,44 +303,26 @@ module _ (part : List ℕ) (base parent left : ℕ) (before : Counts) (given : L
           inv .same
           ∙ ap (counted counts) (read-framed c (base + at) (drop at part) start size some-left (p .framed) clean ∙ rw (after-is, kind-is .items, kind-is .isknown) (simp (drop-drop, add-assoc)))
 
+      -- behind the item, by what is counted then and by the table in force
+      behind : (counts′ : Counts) (table′ : List ℕ) → counts′ .records ≤ base + (at + start + size)
+          → Whole
+          ≡ counted counts′ (read (ctx parent (depthOf left) (nx .stage) (tag ∷ inv .seen) (entries table′) waiting′) (base + (at + start + size)) (drop (at + start + size) part))
+          → Holds part base parent left before given (at + start + size) nx counts′ table′
+      behind counts′ table′ f s = record { bound = item-in; levels = inv .levels; few = f; seen = tag ∷ inv .seen; waiting = waiting′; sees = sees′; waited = waited′; same = s }
+
       pub past-skip : sort ≡ Skip → Holds part base parent left before given (at + start + size) nx counts table
       unfolding elementSort knownSort tableSort
-      past-skip q = record {
-        bound = item-in;
-        levels = inv .levels;
-        few = omega (arith, inv .few);
-        seen = tag ∷ inv .seen;
-        waiting = waiting′;
-        sees = sees′;
-        waited = waited′;
-        same = turn ∙ rw q;
-      }
+      past-skip q = behind counts table (omega (arith, inv .few)) (turn ∙ rw q)
 
       pub past-leaf : sort ≡ Leaf → Holds part base parent left before given (at + start + size) nx (oneMore counts) table
       unfolding elementSort knownSort tableSort
-      past-leaf q = record {
-        bound = item-in;
-        levels = inv .levels;
-        few = omega (arith, item-few);
-        seen = tag ∷ inv .seen;
-        waiting = waiting′;
-        sees = sees′;
-        waited = waited′;
-        same = turn ∙ rw q (counted-leaf counts tag (base + at + start) body _ (rw q at four));
-      }
+      past-leaf q = behind (oneMore counts) table (omega (arith, item-few)) (turn ∙ rw q (counted-leaf counts tag (base + at + start) body _ (rw q at four)))
 
       pub past-table : sort ≡ Table → Holds part base parent left before given (at + start + size) nx counts (take (at + start + size - (at + start)) (drop (at + start) part))
       unfolding elementSort knownSort tableSort
-      past-table q = record {
-        bound = item-in;
-        levels = inv .levels;
-        few = omega (arith, inv .few);
-        seen = tag ∷ inv .seen;
-        waiting = waiting′;
-        sees = sees′;
-        waited = waited′;
-        same = turn ∙ rw (q, body-at part at start size) (counted-table counts tag (base + at + start) body _ (rw q at four));
-      }
+      past-table q =
+          behind counts (take (at + start + size - (at + start)) (drop (at + start) part)) (omega (arith, inv .few))
+          (turn ∙ rw (q, body-at part at start size) (counted-table counts tag (base + at + start) body _ (rw q at four)))
 
       module _ (q : sort ≡ Element) where
         holds-items : known parent tag ≡ some HoldsItems
@@ -373,16 +355,7 @@ module _ (part : List ℕ) (base parent left : ℕ) (before : Counts) (given : L
 
           pub past-element : (m : Counts) → v ≡ Records m → CountsAtMost (base + (at + start + size)) v → Holds part base parent left before given (at + start + size) nx m table
           unfolding onward
-          past-element m g b = record {
-            bound = item-in;
-            levels = inv .levels;
-            few = rw g at b;
-            seen = tag ∷ inv .seen;
-            waiting = waiting′;
-            sees = sees′;
-            waited = waited′;
-            same = turn-element ∙ rw g;
-          }
+          past-element m g b = behind m table (rw g at b) (turn-element ∙ rw g)
 
 pub part-most : (part : List ℕ) (base from to : ℕ) (v : ReadAnswer) → from ≤ to → to ≤ length part → CountsAtMost (base + from + length (take (to - from) (drop from part))) v → CountsAtMost (base + to) v
 part-most part base from to (Records n) h g b = omega (arith, length-take (to - from) (drop from part), length-drop from part)
