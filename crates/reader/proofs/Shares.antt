@@ -1,6 +1,6 @@
 -- An item's share of a tree: its records and their number, apart from those of the items after it.
 use mathlib.Core.Path.{_≡_, refl, sym, ap, ap₂, _∙_}
-use mathlib.Core.Bool.{Bool, true, false, cond, not, _&&_}
+use mathlib.Core.Bool.{Bool, true, false, cond}
 use mathlib.Core.Option.{Option}
 use mathlib.Core.List.{List, [], _∷_, _++_, append-nil}
 use Prim.Native.Nat.{ℕ, _+_}
@@ -12,9 +12,8 @@ use Rattle.values.specs.Table.{known}
 use Rattle.format.specs.declared.Record.{Record}
 use Rattle.format.specs.Tree.{Items, count, recordOf, records}
 use Rattle.format.specs.Tree.Items.{end, item}
-use Rattle.format.specs.Judge.{isKnown, isItems, isTokens}
+use Rattle.format.specs.Judge.{isKnown, isItems}
 use Rattle.format.specs.Calls.{Lists, lay}
-use Rattle.format.proofs.Means.{items-known}
 use Rattle.format.proofs.Spans.{records-count}
 use Rattle.format.proofs.Lays.{lay-append}
 use Rattle.judge.proofs.AllWays.{tokens-four}

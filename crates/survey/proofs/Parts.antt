@@ -32,10 +32,9 @@ use Rattle.tags.specs.declared.Listed.{Listed}
 use Rattle.tags.specs.declared.Listed.the-variants as listed
 use Rattle.tags.specs.Listed.{listedAs}
 use Rattle.tags.proofs.Listing.{is-nothing, is-inside, is-value}
-use Rattle.format.specs.Judge.{isKnown, isItems, isTokens}
+use Rattle.format.specs.Judge.{isKnown, isTokens}
 use Rattle.survey.specs.Normal.{framedSize, valueOctets}
 use Rattle.survey.proofs.Ways.{value-fits}
-use Rattle.survey.specs.declared.measure.Part.{Part}
 use Rattle.survey.specs.declared.measure.Part.the-variants.{Nothing, Kept, Inside, Octets}
 use Rattle.survey.specs.declared.measure.Measured.the-variants.{Over, Sizes}
 use Rattle.survey.specs.Sizes.{taken, partOf, partIn, sizesOf, Small}

@@ -1,15 +1,11 @@
 -- Laws for those who call: texts without token octets, and texts put together.
-use mathlib.Core.Path.{_≡_, refl, sym, ap, _∙_}
+use mathlib.Core.Path.{_≡_, refl, _∙_}
 use mathlib.Core.Bool.{Bool, true, false, false≢true}
 use mathlib.Core.List.{List, [], _∷_, _++_, append-assoc}
-use Prim.Native.Nat.{ℕ, _+_, _≤_, _<_}
-use lib.ListN.{length, length-append}
+use Prim.Native.Nat.{ℕ, _≤_, _<_}
 use Rattle.octets.proofs.Tests.{and-left, and-right}
-use Rattle.octets.specs.Counts.{sizeOf}
-use Rattle.text.specs.Text.{token, utf8, text}
-use Rattle.text.specs.Tokens.{Entries, entry, stands, expanded, present, covers, covered, shownLength, expandedSize}
-use Rattle.text.proofs.Words.{expanded-empty, plain-text}
-use Rattle.text.proofs.Expansion.{text-plain}
+use Rattle.text.specs.Text.{token, text}
+use Rattle.text.specs.Tokens.{Entries, entry, stands, expanded, present, covers, covered}
 use Rattle.text.proofs.Sequences.{text-low, single-high}
 
 -- ---- ASCII from 0x20 on

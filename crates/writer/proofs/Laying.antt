@@ -14,13 +14,7 @@ use mir.Val.{Fits}
 use Rattle.octets.proofs.Lists.{sets-none}
 use Rattle.text.specs.Tokens.{Entries, entries}
 use Rattle.values.specs.declared.Kind.{Kind}
-use Rattle.values.specs.declared.Kind.the-variants.{HoldsItems, HoldsTokens, HoldsText, HoldsPlain, HoldsTime, HoldsBearer, HoldsNumber}
-use Rattle.values.specs.declared.NumberKind.{NumberKind}
-use Rattle.values.specs.declared.KnownKind.{KnownKind}
-use Rattle.values.specs.declared.KnownKind.the-variants.{Unknown, Known}
 use Rattle.values.specs.Table.{known}
-use Rattle.values.specs.Calls.{knownKind}
-use Rattle.values.proofs.Laws.{known-kind, unknown-kind}
 use Rattle.format.specs.declared.Record.{Record}
 use Rattle.format.specs.Tree.{Items, count, records}
 use Rattle.format.specs.Tree.Items.{end, item}

@@ -1,7 +1,7 @@
 -- What is loaded of an item's share of a tree: apart from the items after it, and by what is laid of it.
 use mathlib.Core.Path.{_≡_, refl, sym, ap, ap₂, _∙_}
 use mathlib.Core.Bool.{Bool, true, false, cond}
-use mathlib.Core.Option.{Option, none, some}
+use mathlib.Core.Option.{Option, some}
 use mathlib.Core.List.{List, [], _++_, append-nil}
 use Prim.Native.Nat.{ℕ, _+_}
 use native.Mathlib.Nat.{add-zero}
@@ -12,12 +12,11 @@ use lib.Seq.{sets}
 use Rattle.octets.proofs.Lists.{sets-append}
 use Rattle.text.specs.Tokens.{Entries}
 use Rattle.values.specs.declared.Kind.{Kind}
-use Rattle.values.specs.declared.Kind.the-variants.{HoldsItems, HoldsTokens, HoldsText, HoldsPlain, HoldsTime, HoldsBearer, HoldsNumber}
 use Rattle.values.specs.Table.{known}
 use Rattle.format.specs.declared.Record.{Record}
 use Rattle.format.specs.Tree.{Items, count, records}
 use Rattle.format.specs.Tree.Items.{end, item}
-use Rattle.format.specs.Judge.{isKnown, isItems, isTokens}
+use Rattle.format.specs.Judge.{isKnown, isItems}
 use Rattle.format.specs.Meaning.{opens}
 use Rattle.format.specs.Loaded.{stored, storeIn, loadedIn}
 use Rattle.format.specs.Calls.{Lists, lay}
