@@ -137,10 +137,10 @@ attribute-is parent tag k a h =
     rw a (same-octets x (ascii (nameIn parent tag names)) s)
 
 module _ (emit : Bool) (parent tag at : ℕ) (before after : List ℕ) (to : ℕ) where
-  pub attribute-put : (g : ℕ) → parent / 8 ≡ g → (r : List ℕ) → r ≡ entryText (attributeTable g) parent → Puts emit (entryText r tag) at before after to → NamePut emit parent tag at before after to
+  pub attribute-put : (g : ℕ) → parent / 8 ≡ g → Puts emit (entryText (entryText (attributeTable g) parent) tag) at before after to → NamePut emit parent tag at before after to
   unfolding NamePut
-  attribute-put g e r d p k a h =
-      reworded emit (entryText r tag) (name parent tag) at before after to (ap (λ x. entryText x tag) (d ∙ ap (λ x. entryText (attributeTable x) parent) (sym e)) ∙ attribute-is parent tag k a h) p
+  attribute-put g e p k a h =
+      reworded emit (entryText (entryText (attributeTable g) parent) tag) (name parent tag) at before after to (ap (λ x. entryText (entryText (attributeTable x) parent) tag) (sym e) ∙ attribute-is parent tag k a h) p
 
 -- no element of another group has attributes
 attributes-grouped : every (λ e t k. ltb t 0x80 || among (e / 8) (7 ∷ 6 ∷ 5 ∷ 4 ∷ 3 ∷ 2 ∷ 0 ∷ [])) rows ≡ true
@@ -181,12 +181,11 @@ word-is parent tag n a h l =
     (below (λ m. sameOctets (orDigits (entryText row m) m) (word parent tag m)) 256 (row-holds wordListed parent tag (HoldsNumber Enumerated) rows words-listed (rw a at h)) n l)
 
 module _ (emit : Bool) (parent tag n at : ℕ) (before after : List ℕ) (to : ℕ) (l : n < 256) where
-  pub word-put : (g : ℕ) → parent / 8 ≡ g → (q r s : List ℕ) → q ≡ entryText (wordTable g) parent → r ≡ entryText q tag → s ≡ entryText r n → Puts emit (orDigits s n) at before after to
-      → WordPut emit parent tag n at before after to
+  pub word-put : (g : ℕ) → parent / 8 ≡ g → Puts emit (orDigits (entryText (entryText (entryText (wordTable g) parent) tag) n) n) at before after to → WordPut emit parent tag n at before after to
   unfolding WordPut
-  word-put g e q r s d f i p a h =
-      let whole : s ≡ entryText (entryText (entryText (wordTable (parent / 8)) parent) tag) n = i ∙ ap (λ x. entryText x n) (f ∙ ap (λ x. entryText x tag) (d ∙ ap (λ x. entryText (wordTable x) parent) (sym e))) in
-      reworded emit (orDigits s n) (word parent tag n) at before after to (ap (λ x. orDigits x n) whole ∙ word-is parent tag n a h l) p
+  word-put g e p a h =
+      reworded emit (orDigits (entryText (entryText (entryText (wordTable g) parent) tag) n) n) (word parent tag n) at before after to
+      (ap (λ x. orDigits (entryText (entryText (entryText (wordTable x) parent) tag) n) n) (sym e) ∙ word-is parent tag n a h l) p
 
 -- no element of another group has enumerated attributes
 abbrev wordGrouped : ℕ → ℕ → Kind → Bool
