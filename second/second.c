@@ -3,12 +3,14 @@
  *
  * Reads a stream of cases on standard input and prints one answer for each: the listing of a
  * binary SPI object (L), its normal form (N), the octets that records stand for (W), whether two
- * objects mean the same (S), and the XML of an object (X).  Written from documents 01 (the rules)
- * and 02 (the requests that amend them), from 002, TS 102 371 V3.2.1 (the layouts), and for the XML and the
- * defaults from document 003, TS 102 818, alone, so that it can be held against the proved program.
+ * objects mean the same (S), the XML of an object (X), and what a run of edits makes of an object (E).
+ * Written from documents 01 (the rules) and 02 (the requests that amend them), from 002, TS 102 371 V3.2.1
+ * (the layouts), and for the XML and the defaults from document 003, TS 102 818, alone, so that it can be
+ * held against the proved program.
  *
  * All memory is fixed; nothing is allocated.  Each octet of an object is looked at once while it is
  * judged and once more while its normal form is written or its meaning compared; twice more for its XML.
+ * An edit makes the whole edited tree anew, and takes it in the place of the old one only where it fits.
  */
 #include <stdbool.h>
 #include <stdint.h>
@@ -20,6 +22,7 @@ enum {
     FIELD_LIMIT = 65536,    /* largest object, store or room that a case may name */
     LIST_LIMIT = 65535,     /* records that a 16-bit count can name */
     RECORD_OCTETS = 9,      /* one record in a W case */
+    EDITS_LIMIT = 255,      /* edits in an E case */
     DEPTH_LIMIT = 16,       /* deepest element; the top has depth 1 */
     FIRST_ATTRIBUTE = 0x80,
     ATTRIBUTE_TAGS = 8,     /* annex E goes no further than 0x87 */
@@ -46,7 +49,8 @@ enum {
     TOO_FEW_PLACES = 14,
     OUTPUT_TOO_LARGE = 15,
     NOT_WELL_FORMED = 16,
-    PLAIN_OCTETS = 17 /* of document 02, request 2026-02 */
+    PLAIN_OCTETS = 17,  /* of document 02, request 2026-02 */
+    NO_SUCH_RECORD = 18 /* and 2026-06; a place, a wrong kind of record and the top to be removed too */
 };
 
 /* Which field of a time is wrong, where 9 refuses it (document 02, request 2026-04); 0 for other kinds. */
@@ -1717,6 +1721,220 @@ static struct verdict export_xml(const struct tree *tree, uint32_t room, uint8_t
     return accepted;
 }
 
+/* ---- Edits (02, request 2026-06) --------------------------------------------------------------- */
+
+/* A tree that is edited.  Its records lie over a store of its own, which holds their bodies as the normal
+ * form has them, packed in record order; so no token is left in it.  The store has room for all that a case
+ * may lend and for the octets that one edit brings, so that a state can be made before it is known to fit. */
+struct state {
+    struct tree tree;
+    uint32_t used;                /* octets of the store */
+    size_t open[DEPTH_LIMIT + 1]; /* the last element of each depth: what comes one deeper stands in it */
+    uint8_t store[2 * FIELD_LIMIT];
+};
+
+static void clear_state(struct state *state)
+{
+    clear_tree(&state->tree, state->store);
+    state->used = 0;
+    state->open[0] = 0; /* the top is its own parent */
+}
+
+/* Adds an item of a tree behind all records of a state, at the depth that it has in that tree. */
+static void add_record(struct state *state, const struct tree *from, const struct node *node)
+{
+    size_t index = state->tree.count++;
+    struct node *added = &state->tree.nodes[index];
+    uint8_t *body = state->store + state->used;
+
+    *added = *node;
+    added->parent = (uint16_t)state->open[node->depth - 1];
+    added->start = state->used;
+    added->length = (uint32_t)(write_body(body, from, node) - body);
+    added->has_tokens = false;
+    added->normal_size = added->length;
+    state->used += added->length;
+    if (node->body == ITEMS)
+        state->open[node->depth] = index;
+}
+
+static void add_records(struct state *state, const struct tree *from, size_t first, size_t end)
+{
+    for (size_t i = first; i < end; i++)
+        add_record(state, from, &from->nodes[i]);
+}
+
+/* What is edited: the state as it is, the one that an edit makes, and what both must fit. */
+struct editing {
+    struct state *now, *next;
+    uint32_t places, store;
+};
+
+/* Counts the sizes of the state that was made, and takes it over where it fits. */
+static int take_over(struct editing *editing)
+{
+    struct state *made = editing->next;
+    struct sizes sizes = measure(&made->tree);
+
+    if (sizes.store > editing->store || sizes.output > OBJECT_LIMIT)
+        return OUTPUT_TOO_LARGE;
+    editing->next = editing->now;
+    editing->now = made;
+    return ACCEPTED;
+}
+
+/* Takes an accepted object in.  Tokens can make of it far more than any store holds, so it is measured
+ * before its texts are expanded. */
+static int take_in(struct editing *editing, struct tree *object)
+{
+    if (object->count > editing->places)
+        return TOO_FEW_PLACES;
+    if (measure(object).store > editing->store)
+        return OUTPUT_TOO_LARGE;
+    clear_state(editing->next);
+    add_records(editing->next, object, 0, object->count);
+    return take_over(editing);
+}
+
+/* Every edit is this: the records of `given` come in the place of those from `first` to before `end`.  A
+ * text comes in the place of a text, nothing in the place of an item with all below it, an element with all
+ * below it in the place of nothing. */
+static int exchange(struct editing *editing, size_t first, size_t end, const struct tree *given)
+{
+    const struct tree *tree = &editing->now->tree;
+
+    if (tree->count - (end - first) + given->count > editing->places)
+        return TOO_FEW_PLACES;
+    clear_state(editing->next);
+    add_records(editing->next, tree, 0, first);
+    add_records(editing->next, given, 0, given->count);
+    add_records(editing->next, tree, end, tree->count);
+    return take_over(editing);
+}
+
+/* The index behind an item and all below it. */
+static size_t behind(const struct tree *tree, size_t index)
+{
+    size_t end = index + 1;
+
+    while (end < tree->count && tree->nodes[end].depth > tree->nodes[index].depth)
+        end++;
+    return end;
+}
+
+/* One edit as it stands in the stream.  `given` is over the octets that come with it, and gets the records
+ * that these stand for; it has none before they are judged. */
+struct edit {
+    uint8_t letter;
+    uint32_t number; /* of the record that is edited, or of the element that gets a child */
+    uint32_t place;  /* among the child elements there */
+    uint32_t size;   /* of the octets */
+    struct tree *given;
+};
+
+/* Replaces a text: CDATA, a text attribute or 0x06.  No table is there, so a token octet has no entry. */
+static int replace_text(struct editing *editing, const struct edit *edit)
+{
+    const struct tree *tree = &editing->now->tree;
+    struct node *text = &edit->given->nodes[0];
+
+    if (edit->number >= tree->count || tree->nodes[edit->number].body != TEXT)
+        return NO_SUCH_RECORD;
+    *text = tree->nodes[edit->number];
+    text->start = 0;
+    text->length = edit->size;
+    edit->given->count = 1;
+    if (judge_body(edit->given, text, tree->nodes[text->parent].tag) != ACCEPTED)
+        return NOT_WELL_FORMED;
+    return exchange(editing, edit->number, edit->number + 1, edit->given);
+}
+
+/* Removes an item with all below it.  What is left breaks no rule and needs no more than before. */
+static int remove_item(struct editing *editing, const struct edit *edit)
+{
+    const struct tree *tree = &editing->now->tree;
+
+    if (edit->number == 0 || edit->number >= tree->count)
+        return NO_SUCH_RECORD;
+    return exchange(editing, edit->number, behind(tree, edit->number), edit->given);
+}
+
+/* Where an element is put in, to be the child element of this number: behind the attributes and so many
+ * child elements.  False where there aren't as many. */
+static bool find_place(const struct tree *tree, size_t parent, uint32_t place, size_t *found)
+{
+    size_t end = behind(tree, parent), at = attributes_at(tree, parent + 1).end;
+
+    for (; place > 0; place--) {
+        if (at == end || tree->nodes[at].tag == CDATA)
+            return false;
+        at = behind(tree, at);
+    }
+    *found = at;
+    return true;
+}
+
+/* Whether the list of an element obeys rules 4, 6 and 7 with an element of this tag put in at `place`. */
+static bool may_stand(const struct tree *tree, size_t parent, size_t place, uint8_t tag)
+{
+    struct open_element list = open_list(tree, parent);
+    size_t end = behind(tree, parent);
+
+    for (size_t at = parent + 1;; at = behind(tree, at)) {
+        if (at == place && judge_placement(&list, tag, element_body[tag]) != ACCEPTED)
+            return false;
+        if (at == end)
+            return true;
+        if (judge_placement(&list, tree->nodes[at].tag, tree->nodes[at].body) != ACCEPTED)
+            return false;
+    }
+}
+
+/* Reads octets that are to be one known element, 0x04 apart, where it will stand: below a record of the
+ * tree, with no token table.  Unknown items in it are passed over, as in an object. */
+static bool read_element(struct tree *given, uint32_t size, const struct tree *tree, size_t parent,
+                         size_t place)
+{
+    struct open_element list = open_list(tree, parent);
+    struct item item;
+
+    if (frame_item(given->octets, 0, size, &item) != ACCEPTED || item.end != size || !is_element(item.tag))
+        return false;
+    uint8_t body = element_body[item.tag];
+    if (body == UNKNOWN || body == ENTRIES || !may_stand(tree, parent, place, item.tag))
+        return false;
+    list.node = 0; /* numbers of records are those of `given` here, and go by depths when it is put in */
+    return read_known(given, &list, &item, body).number == ACCEPTED;
+}
+
+/* Puts an element in, with all below it, among the child elements of one that holds items. */
+static int put_in(struct editing *editing, const struct edit *edit)
+{
+    const struct tree *tree = &editing->now->tree;
+    size_t place;
+
+    if (edit->number >= tree->count || tree->nodes[edit->number].body != ITEMS)
+        return NO_SUCH_RECORD;
+    if (!find_place(tree, edit->number, edit->place, &place))
+        return NO_SUCH_RECORD;
+    if (!read_element(edit->given, edit->size, tree, edit->number, place))
+        return NOT_WELL_FORMED;
+    return exchange(editing, place, place, edit->given);
+}
+
+/* Makes one edit, or answers 18, 16, 14 or 15, the first of them that holds, and changes nothing. */
+static int make_edit(struct editing *editing, const struct edit *edit)
+{
+    switch (edit->letter) {
+    case 'T':
+        return replace_text(editing, edit);
+    case 'D':
+        return remove_item(editing, edit);
+    default: /* I */
+        return put_in(editing, edit);
+    }
+}
+
 /* ---- The stream of cases ----------------------------------------------------------------------- */
 
 static struct {
@@ -1877,10 +2095,12 @@ static void put_octets(const char *word, const uint8_t *octets, size_t size)
 /* ---- One function for each letter -------------------------------------------------------------- */
 
 static struct tree first_tree, second_tree;
+static struct state first_state, second_state;
 static struct object first_object, second_object;
 static uint8_t normal_form[OBJECT_LIMIT];
 static uint8_t lent_records[LIST_LIMIT * RECORD_OCTETS];
 static uint8_t xml_octets[FIELD_LIMIT];
+static uint8_t given_octets[FIELD_LIMIT];
 
 /* Writes the normal form of an accepted object, or answers 14 or 15 and writes nothing. */
 static int normalise(struct tree *tree, uint32_t places, uint32_t store, uint32_t room, uint8_t *out,
@@ -1995,6 +2215,80 @@ static bool answer_xml(void)
     return true;
 }
 
+static bool take_given(struct edit *edit)
+{
+    return take_short(&edit->size) && take_octets(given_octets, edit->size);
+}
+
+static bool take_edit(struct edit *edit)
+{
+    clear_tree(edit->given, given_octets);
+    if (!take_octets(&edit->letter, 1) || !take_short(&edit->number))
+        return false;
+    switch (edit->letter) {
+    case 'T':
+        return take_given(edit);
+    case 'D':
+        return true;
+    case 'I':
+        return take_short(&edit->place) && take_given(edit);
+    default:
+        return false;
+    }
+}
+
+static void put_edits(const int *numbers, size_t count)
+{
+    for (size_t i = 0; i < count; i++) {
+        if (numbers[i] == ACCEPTED)
+            put_string("edited");
+        else
+            put_refusal(refused(numbers[i], 0));
+        put_char('\n');
+    }
+}
+
+static void put_state(const struct tree *tree)
+{
+    write_tree(normal_form, tree);
+    put_octets("written ", normal_form, header_size(tree->nodes[0].normal_size) + tree->nodes[0].normal_size);
+    put_string("\nsizes");
+    for (size_t i = 0; i < tree->count; i++) {
+        put_char(' ');
+        put_number(tree->nodes[i].normal_size);
+    }
+}
+
+/* Nothing may be printed before the whole case is there, so the edits are made as they come and what each
+ * answered is kept.  Edits of an object that isn't taken in are passed over. */
+static bool answer_edits(void)
+{
+    struct editing editing = {.now = &first_state, .next = &second_state};
+    struct edit edit = {.given = &second_tree};
+    int numbers[EDITS_LIMIT];
+    uint8_t count;
+
+    if (!take_short(&editing.places) || !take_bounded(&editing.store) || !take_object(&first_object))
+        return false;
+    struct verdict verdict = read_object(&first_tree, first_object.octets, first_object.size);
+    if (verdict.number == ACCEPTED)
+        verdict.number = (uint8_t)take_in(&editing, &first_tree);
+    if (!take_octets(&count, 1))
+        return false;
+    for (size_t i = 0; i < count; i++) {
+        if (!take_edit(&edit))
+            return false;
+        numbers[i] = verdict.number == ACCEPTED ? make_edit(&editing, &edit) : ACCEPTED;
+    }
+    if (verdict.number != ACCEPTED) {
+        put_refusal(verdict);
+        return true;
+    }
+    put_edits(numbers, count);
+    put_state(&editing.now->tree);
+    return true;
+}
+
 static bool answer_case(uint8_t letter)
 {
     switch (letter) {
@@ -2008,6 +2302,8 @@ static bool answer_case(uint8_t letter)
         return answer_same();
     case 'X':
         return answer_xml();
+    case 'E':
+        return answer_edits();
     default:
         return false;
     }
