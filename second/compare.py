@@ -1,5 +1,5 @@
 #!/usr/bin/env python3
-"""Compares the answers of two programs:  compare.py PROGRAM_A PROGRAM_B SEED COUNT [--letters LNWSX]
+"""Compares the answers of two programs:  compare.py PROGRAM_A PROGRAM_B SEED COUNT [--letters LNWSXE]
 
 Both get the fixed edge cases, then COUNT random cases of the seed.  The first three differences are
 printed; the last line is `compared N cases of seed S: equal` or `...: DIFFERENT`, N counting both
@@ -7,11 +7,11 @@ streams, and the exit status is 0 only where all answers are equal.
 """
 import argparse
 import sys
-from itertools import zip_longest
+from itertools import takewhile, zip_longest
 
 from edges import edge_cases
 from make_cases import CASE_LETTERS, random_cases
-from streams import run, split_answers
+from streams import ask
 
 SHOWN_DIFFERENCES = 3
 SHOWN_WIDTH = 200
@@ -21,23 +21,26 @@ def cut(text):
     return text if len(text) <= SHOWN_WIDTH else text[:SHOWN_WIDTH] + "..."
 
 
-def show(answer):
-    return "(no answer)" if answer is None else cut(" | ".join(answer))
+def show(answer, other):
+    """An answer from the first line on that differs from the other's."""
+    if answer is None:
+        return "(no answer)"
+    same = sum(1 for _ in takewhile(lambda pair: pair[0] == pair[1], zip(answer, other or [])))
+    return cut(" | ".join((["(as the other)"] if same else []) + answer[same:]))
 
 
 def differences(programs, kind, cases):
     """Yields what to print for each case that the programs answer differently."""
-    ran = [run(program, b"".join(cases)) for program in programs]
-    for name, (_, status) in zip("AB", ran):
+    asked = [ask(program, cases) for program in programs]
+    for name, (_, status) in zip("AB", asked):
         if status != 0:
             yield f"{kind} cases: program {name} ended with status {status}"
-    answers = [split_answers(lines) for lines, _ in ran]
-    for index, (case, a, b) in enumerate(zip_longest(cases, *answers)):
+    for index, (case, a, b) in enumerate(zip_longest(cases, *(answers for answers, _ in asked))):
         if case is None:
-            yield f"{kind} cases: answers after the last case\n  A: {show(a)}\n  B: {show(b)}"
+            yield f"{kind} cases: answers after the last case\n  A: {show(a, b)}\n  B: {show(b, a)}"
             return
         if a != b or a is None:
-            yield f"{kind} case {index}, letter {chr(case[0])}: {cut(case.hex())}\n  A: {show(a)}\n  B: {show(b)}"
+            yield f"{kind} case {index}, letter {chr(case[0])}: {cut(case.hex())}\n  A: {show(a, b)}\n  B: {show(b, a)}"
 
 
 def main():

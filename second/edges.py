@@ -749,3 +749,5 @@ def edge_cases():
             changed = ANNEX_C[:at] + bytes([ANNEX_C[at] ^ change]) + ANNEX_C[at + 1:]
             yield from both(changed)
             yield whole_xml(changed)
+    from edit_edges import edit_edge_cases  # which stands on this file
+    yield from edit_edge_cases()

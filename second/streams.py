@@ -3,6 +3,10 @@ import shlex
 import subprocess
 
 LISTING = "depth tag kind offset length"
+# How many lines an answer to E has, the lines alone don't tell: a refusal in the first may be the object's or an edit's.  So a mark follows each E, a case of
+# S, whose answer is no line of E's.
+MARK = b"S" + 2 * bytes.fromhex("000002 0300")
+MARKED = "same"
 
 
 def run(program, stream):
@@ -11,21 +15,32 @@ def run(program, stream):
     return done.stdout.decode("utf-8", "backslashreplace").split("\n"), done.returncode
 
 
-def split_answers(lines):
-    """Groups printed lines into answers.
+def split_answers(lines, letters=""):
+    """Groups printed lines into answers; `letters` are those of the cases, where an E is among them.
 
-    A listing goes on to its "records" line; "touched" belongs to the answer above it.  What follows
-    the last newline is an answer of its own where it isn't empty: the program was cut short.
+    A listing goes on to its "records" line, an E to its mark; "touched" belongs to the answer above it.
+    What follows the last newline is an answer of its own where it isn't empty: the program was cut short.
     """
-    answers, open_listing = [], False
+    answers, last = [], None
     for line in lines[:-1]:
-        if open_listing or (line == "touched" and answers):
+        if last is not None or (line == "touched" and answers):
             answers[-1].append(line)
         else:
+            last = MARKED if letters[len(answers):len(answers) + 1] == "E" else "records " if line == LISTING else None
             answers.append([line])
-            open_listing = line == LISTING
-        if line.startswith("records "):
-            open_listing = False
+        if last is not None and line.startswith(last):
+            last = None
     if lines[-1]:
         answers.append([lines[-1], "(no newline)"])
     return answers
+
+
+def ask(program, cases):
+    """A program's answers to cases, each a list of lines, and its exit status."""
+    letters = "".join(chr(case[0]) for case in cases)
+    lines, status = run(program, b"".join(case + MARK if case[:1] == b"E" else case for case in cases))
+    answers = split_answers(lines, letters)
+    for letter, answer in zip(letters, answers):
+        if letter == "E" and MARKED in answer:
+            answer.remove(MARKED)
+    return answers, status
