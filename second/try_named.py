@@ -1,15 +1,18 @@
 #!/usr/bin/env python3
-"""Runs a program on the named cases of expected.txt:  try_named.py PROGRAM
+"""Runs a program on the named cases of expected.txt:  try_named.py PROGRAM [--letters LNWSXE]
+
+Those of edits stand in expected_edits.txt, and are tried where E is among the letters.
 
 Prints each mismatch with its name and a last line `named cases: N held, M not`; the exit status is 0
 only where there are cases and all of them hold.
 """
+import argparse
 import os
 import re
 import sys
 
-from make_cases import case_l, case_n, case_s, case_w, case_x
-from streams import run, split_answers
+from make_cases import CASE_LETTERS, case_e, case_l, case_n, case_s, case_w, case_x, edit_d, edit_i, edit_t
+from streams import ask, run
 
 HEX_PART = re.compile(r'''\s*(?:(["'])((?:(?!\1).)*)\1|([0-9A-Fa-f]{2})|\(([^()]*)\)|(-))(?:\*(\d+))?(?=\s|$)''')
 
@@ -33,11 +36,20 @@ def answer_line(text):
     return f"{word} {octets_of(rest).hex()}" if word in ("normal", "written", "xml") else text
 
 
+EDITS = {"text": (edit_t, 1), "remove": (edit_d, 1), "insert": (edit_i, 2)}  # how many numbers stand before the octets
+
+
+def edit_of(word, rest):
+    edit, count = EDITS[word]
+    *numbers, octets = (rest + " ").split(" ", count)
+    return edit(*map(int, numbers), *([octets_of(octets)] if word != "remove" else []))
+
+
 class Named:
-    """One case: its name, its head line, its octets and records, and the lines of its answer."""
+    """One case: its name, its head line, its octets, records and edits, and the lines of its answer."""
 
     def __init__(self, name):
-        self.name, self.head, self.octets, self.records, self.answer = name, None, [], [], []
+        self.name, self.head, self.octets, self.records, self.edits, self.answer = name, None, [], [], [], []
 
     def add(self, line):
         word, _, rest = line.partition(" ")
@@ -46,6 +58,8 @@ class Named:
         elif word == "record":
             tag, *fields = rest.split()
             self.records.append([int(tag, 16)] + [int(field) for field in fields])
+        elif word in EDITS:
+            self.edits.append(edit_of(word, rest))
         elif word == ">":
             self.answer.append(answer_line(rest))
         elif self.head is None:
@@ -65,6 +79,8 @@ class Named:
             return case_s(*self.octets)
         if letter == "X":
             return case_x(*numbers, *self.octets)
+        if letter == "E":
+            return case_e(*numbers, *self.octets, self.edits)
         if letter == "stream":
             return b"".join(self.octets)
         raise ValueError(f"in case {self.name}: letter {letter}")
@@ -98,8 +114,7 @@ def alone(program, named):
 def answers_of(program, cases):
     """Each case's answer: all good cases in one stream, or one by one where that goes wrong."""
     whole = [named for named in cases if named.head[0] != "stream"]
-    lines, status = run(program, b"".join(named.stream() for named in whole))
-    answers = split_answers(lines)
+    answers, status = ask(program, [named.stream() for named in whole])
     if status != 0 or len(answers) != len(whole):
         return {named.name: alone(program, named) for named in cases}
     got = {named.name: answer for named, answer in zip(whole, answers)}
@@ -112,12 +127,16 @@ def cut(lines):
 
 
 def main():
-    if len(sys.argv) != 2:
-        sys.exit("usage: try_named.py PROGRAM")
-    cases = read_named(os.path.join(os.path.dirname(os.path.abspath(__file__)), "expected.txt"))
+    parser = argparse.ArgumentParser(description="Runs a program on the named cases.")
+    parser.add_argument("program")
+    parser.add_argument("--letters", default=CASE_LETTERS)
+    options = parser.parse_args()
+    files = ["expected.txt"] + ["expected_edits.txt"] * ("E" in options.letters)
+    here = os.path.dirname(os.path.abspath(__file__))
+    cases = [named for file in files for named in read_named(os.path.join(here, file))]
     if len({named.name for named in cases}) != len(cases):
-        sys.exit("expected.txt: two cases have one name")
-    got = answers_of(sys.argv[1], cases)
+        sys.exit(f"{' and '.join(files)}: two cases have one name")
+    got = answers_of(options.program, cases)
     wrong = [named for named in cases if got[named.name] != named.answer]
     for named in wrong:
         print(f"{named.name}\n  expected: {cut(named.answer)}\n  answered: {cut(got[named.name])}")
