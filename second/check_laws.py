@@ -1,5 +1,5 @@
 #!/usr/bin/env python3
-"""Checks laws that hold for any right program:  check_laws.py PROGRAM SEED COUNT
+"""Checks laws that hold for any right program:  check_laws.py PROGRAM SEED COUNT [--letters LNWSXE]
 
 For random trees, of which the maker knows the meaning: each way to write a tree has the tree's normal
 form, its number of records and just its needs in store and room; a normal form is its own normal form
@@ -15,14 +15,18 @@ COUNT is at least the number of ways.  Then such pairs whose normal forms are no
 Of XML: a tree without plain octets has the XML that the maker makes of it, however it is written, in just its room; with
 plain octets it is refused at the first of them.  Two objects of a pair without plain octets have the same XML exactly where
 they mean the same, and that is UTF-8 and well-formed, by Python's own parser.
+
+Of edits, where E is among the letters: the laws of edit_laws.py, on runs of three kinds, COUNT of each; no others where E is the only one.
 """
+import argparse
 import random
 import sys
 from xml.parsers import expat
 
 from as_xml import KINDS, has_plain, xml
-from make_cases import (COORDINATES, DEFAULT, FIELD_LIMIT, JUDGED, OBJECT_LIMIT, PLAIN, TIME, Bad, Encoder, Fixed, Maker, Node, case_l, case_n, case_s,
-                        case_w, case_x, make_records, named_tree, random_raw)
+from edit_laws import broken_edit_laws
+from make_cases import (CASE_LETTERS, COORDINATES, DEFAULT, FIELD_LIMIT, JUDGED, OBJECT_LIMIT, PLAIN, TIME, Bad, Encoder, Fixed, Maker, Node, case_l, case_n,
+                        case_s, case_w, case_x, make_records, named_tree, random_raw)
 from meanings import NAMED_WAYS, SWOLLEN_WAYS, WAYS, known_pair, random_tree, valued, written
 from streams import run, split_answers
 
@@ -210,10 +214,8 @@ def broken_pair(answer, first, second):
     return None
 
 
-def main():
-    if len(sys.argv) != 4 or int(sys.argv[3]) < len(WAYS):
-        sys.exit(f"usage: check_laws.py PROGRAM SEED COUNT, COUNT at least {len(WAYS)}")
-    program, seed, count = sys.argv[1], sys.argv[2], int(sys.argv[3])
+def broken_laws(program, seed, count):
+    """What was tried, in words, and what is broken."""
     tried, tried_pairs = list(laws(seed, count)), list(xml_pairs(seed, count))
     cases = [case for _, case, _ in tried] + [case for _, _, pair in tried_pairs for case in pair]
     lines, status = run(program, b"".join(cases))
@@ -225,13 +227,30 @@ def main():
         wrong = broken_pair(answer, first, second)
         if wrong is not None:
             broken.append(f"{what}: {pair[0].hex()[:200]} {pair[1].hex()[:200]}\n  {wrong}")
+    if status != 0 or len(answers) != len(cases):
+        broken.append(f"the program ended with status {status} after {len(answers)} of {len(cases)} answers")
+    if of_pairs.count(TOO_LARGE) * 10 >= len(of_pairs):
+        broken.append("too many pairs whose XML doesn't fit the room")
+    pairs = count + len(SWOLLEN_WAYS)
+    return f"{len(tried)} answers, {pairs} of pairs in {len(WAYS)} ways, XML of {len(tried_pairs)} pairs in {len(NAMED_WAYS)} ways", broken
+
+
+def main():
+    parser = argparse.ArgumentParser(description="Checks laws that hold for any right program.")
+    parser.add_argument("program")
+    parser.add_argument("seed")
+    parser.add_argument("count", type=int)
+    parser.add_argument("--letters", default=CASE_LETTERS)
+    options = parser.parse_args()
+    if options.count < len(WAYS):
+        parser.error(f"COUNT is at least {len(WAYS)}")
+    parts = [broken_laws] * (options.letters != "E") + [broken_edit_laws] * ("E" in options.letters)
+    results = [part(options.program, options.seed, options.count) for part in parts]
+    broken = [what for _, found in results for what in found]
     for what in broken[:3]:
         print(what)
-    good = not broken and status == 0 and len(answers) == len(cases) and of_pairs.count(TOO_LARGE) * 10 < len(of_pairs)
-    pairs = count + len(SWOLLEN_WAYS)
-    print(f"laws: {len(tried)} answers of seed {seed}, {pairs} of pairs in {len(WAYS)} ways, XML of {len(tried_pairs)} pairs in {len(NAMED_WAYS)} ways: "
-          f"{'all hold' if good else 'NOT ALL HOLD'}")
-    sys.exit(0 if good else 1)
+    print(f"laws of seed {options.seed}: {', '.join(tried for tried, _ in results)}: {'NOT ALL HOLD' if broken else 'all hold'}")
+    sys.exit(1 if broken else 0)
 
 
 if __name__ == "__main__":
