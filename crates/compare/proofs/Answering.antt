@@ -27,9 +27,8 @@ use Rattle.format.specs.Meaning.{opens, isChild, valueIn, counted, attributesIn
 use Rattle.format.specs.Meaning.Meaning.{element, leaf}
 use Rattle.format.specs.Calls.{judgeAnswer}
 use Rattle.format.specs.Same.{sameOctets, sameMeaning, sameAnswer, hasNormal, isNormal}
-use Rattle.reader.proofs.Reading.{was-refused, was-accepted}
+use Rattle.reader.proofs.Reading.{was-refused, was-accepted, whole}
 use Rattle.survey.specs.Places.{tableBody}
-use Rattle.survey.proofs.Places.{whole}
 use Rattle.survey.proofs.Tables.{table-told}
 use Rattle.compare.specs.Normal.{shaped}
 use Rattle.format.proofs.Same.{same-octets, octets-exactly, tests-agree, same-exactly}

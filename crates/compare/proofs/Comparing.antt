@@ -8,6 +8,7 @@ use native.Mathlib.Omega.{arith}
 use lib.Dec.{eqb}
 use lib.ListN.{length, drop, getD}
 use borrow.Author.Tests.{eqb-true, eqb-false, eq-eqb, ne-eqb}
+use Rattle.octets.specs.Places.{between}
 use Rattle.text.specs.Tokens.{Entries, expanded}
 use Rattle.values.specs.declared.Kind.{Kind}
 use Rattle.values.specs.declared.Kind.the-variants.{HoldsItems, HoldsTokens, HoldsText, HoldsPlain, HoldsTime, HoldsBearer, HoldsNumber}
@@ -24,7 +25,7 @@ use Rattle.format.specs.Meaning.{opens, isChild, attributesIn, cdataIn, leafOct
 use Rattle.format.specs.Meaning.Meaning.{nothing, element, leaf}
 use Rattle.format.specs.Same.{sameOctets, sameMaybe, sameAttributes, sameMeaning}
 use Rattle.reader.specs.Filling.{Accepts}
-use Rattle.survey.specs.Places.{between, bodyOfTag}
+use Rattle.survey.specs.Places.{bodyOfTag}
 use Rattle.compare.specs.declared.walks.Child.{Child}
 use Rattle.compare.specs.declared.walks.Child.the-variants.{End, Found}
 use Rattle.compare.specs.declared.items.Content.{Content}

@@ -9,6 +9,9 @@ use lib.Dec.{eqb, leb, ltb}
 use lib.ListN.{length, take, drop, getD, length-append, length-drop, drop-of-length-le}
 use lib.Seq.{drop-drop, length-take-le, getD-take, getD-drop}
 use borrow.Author.Tests.{ltb-true, ltb-false, lt-ltb, le-ltb, lt-leb, leb-true, leb-false, eqb-true, eqb-false, eq-eqb, ne-eqb}
+use Rattle.octets.specs.declared.Lies.{Lies}
+use Rattle.octets.specs.declared.Lies.the-variants.{Outside, Between}
+use Rattle.octets.specs.Places.{between}
 use Rattle.octets.proofs.Tests.{and-left, and-right}
 use Rattle.octets.proofs.Lists.{part-to-end, part-split, take-of-take, take-next, drop-next, length-part}
 use Rattle.text.specs.Text.{token}
@@ -16,10 +19,7 @@ use Rattle.text.specs.Tokens.{Entries, stands, expanded}
 use Rattle.text.specs.Index.{entriesBy}
 use Rattle.text.proofs.Index.{self-by, part-by, by-plain, by-inside, by-none, by-past, by-long, by-wide, by-found}
 use Rattle.format.specs.Same.{sameOctets}
-use Rattle.survey.specs.declared.Lies.{Lies}
-use Rattle.survey.specs.declared.Lies.the-variants.{Outside, Between}
 use Rattle.compare.specs.declared.texts.Rest.{Rest}
-use Rattle.survey.specs.Places.{between}
 use Rattle.compare.specs.Bodies.{allBy}
 use Rattle.compare.specs.Texts.{Entry, Standing, left, Inside, Opened, ahead, beyond, isOver, orOne, shared, Shared, Common}
 

@@ -12,11 +12,11 @@ use lib.Seq.{length-take-le}
 use borrow.Author.Tests.{eqb-true, eqb-false, eq-eqb, leb-true, le-leb}
 use Rattle.octets.specs.Numbers.{value, digits, Octets}
 use Rattle.octets.specs.Header.{headerSize, bodySize, lengthField, framed}
+use Rattle.octets.specs.Places.{isWhole, firstBody, afterFirst}
 use Rattle.octets.proofs.Numbers.{length-digits, digits-value, value-of-length, octets-take}
 use Rattle.octets.proofs.Frames.{header-two, headed, behind, split, framed-behind}
 use Rattle.values.specs.Values.{Value, octetsOf}
 use Rattle.format.specs.Meaning.{maybe, rising}
-use Rattle.survey.specs.Places.{isWhole, firstBody, afterFirst}
 use Rattle.compare.specs.Normal.{isShortest}
 
 -- ---- octets that begin with a framed item

@@ -11,8 +11,10 @@ use lib.ListN.{length, getD}
 use borrow.Author.Tests.{eqb-true, eqb-false, ne-eqb, leb-true, ltb-true, lt-ltb}
 use Rattle.octets.specs.Numbers.{Octets}
 use Rattle.octets.specs.Header.{headerSize, bodySize, framed}
+use Rattle.octets.specs.Places.{firstBody, afterFirst, isWhole}
 use Rattle.octets.proofs.Frames.{framed-longer}
 use Rattle.octets.proofs.Tests.{and-left, and-right, cond-same}
+use Rattle.octets.proofs.Places.{body-octets, later-octets}
 use Rattle.text.specs.Tokens.{Entries, expanded}
 use Rattle.text.proofs.Words.{expanded-empty}
 use Rattle.values.specs.declared.Kind.{Kind}
@@ -35,9 +37,8 @@ use Rattle.format.proofs.Force.{top-known}
 use Rattle.format.proofs.Defaults.{counted-some, present-attribute}
 use Rattle.format.proofs.Told.{top, some-octet}
 use Rattle.format.proofs.Means.{items-opens, items-known, value-no-items, child-element, means-attribute, means-cdata, other-attribute, absent-attribute, find-first}
-use Rattle.format.proofs.Induction.{Cases, judged-all, Unbroken, bodyOf, laterOf, inAt, body-octets, later-octets, shorter}
+use Rattle.format.proofs.Induction.{Cases, judged-all, Unbroken, inAt, shorter}
 use Rattle.reader.proofs.Reading.{small}
-use Rattle.survey.specs.Places.{isWhole, firstBody, afterFirst}
 use Rattle.survey.specs.Normal.{writtenAs}
 use Rattle.survey.proofs.Rising.{rising-none, rising-same}
 use Rattle.compare.specs.Normal.{isShortest, isWritten, isRising, shaped}
@@ -358,7 +359,7 @@ leaf-itself tag o = go (isText (known 0 tag))
     go false = refl
 
 module _ (c : Context) (at tag : ℕ) (rest : List ℕ) (u : Items) (q : Unbroken c at tag rest) (os : Octets (tag ∷ rest))
-    (later : Shape (c .parent) (stageAfter tag) (laterOf (tag ∷ rest)) u) where
+    (later : Shape (c .parent) (stageAfter tag) (afterFirst (tag ∷ rest)) u) where
   abbrev whole : List ℕ
   whole = tag ∷ rest
 
@@ -369,7 +370,7 @@ module _ (c : Context) (at tag : ℕ) (rest : List ℕ) (u : Items) (q : Unbroke
   from = inAt at whole
 
   abbrev body : List ℕ
-  body = bodyOf whole
+  body = firstBody whole
 
   is-closed : 3 ≤ c .stage → whole ≡ []
   is-closed h =
@@ -377,14 +378,14 @@ module _ (c : Context) (at tag : ℕ) (rest : List ℕ) (u : Items) (q : Unbroke
       absurd (omega (arith, leb-true (c .stage) (latest tag) o, latest-two tag))
 
   later-bare : attribute tag ≡ false → (b : ℕ) → attribute b ≡ true → find b u ≡ none
-  later-bare n b a = later .barred b a (stage-behind tag (getD (laterOf whole) 0 0) n)
+  later-bare n b a = later .barred b a (stage-behind tag (getD (afterFirst whole) 0 0) n)
 
   is-barred : (w : Items) (b : ℕ) → attribute b ≡ true → ltb 0 (c .stage) || not (attribute tag) ≡ true → find b (item tag from body w u) ≡ none
   is-barred w b a h =
       let n = behind-attributes c at tag rest q h in
       find-other b tag from body w u (eqb-false b tag (not-attribute b tag a n)) ∙ later-bare n b a
 
-  later-small : length whole < 256 ^ 3 → length (laterOf whole) < 256 ^ 3
+  later-small : length whole < 256 ^ 3 → length (afterFirst whole) < 256 ^ 3
   later-small h = omega (arith, shorter c at tag rest q)
 
   value-here : (k : Kind) → known p tag ≡ some k → fits k body ≡ true
@@ -474,7 +475,7 @@ module _ (c : Context) (at tag : ℕ) (rest : List ℕ) (u : Items) (q : Unbroke
     attribute-forth last l m h =
         let o = own-parts p last tag rest h in
         let r = rising-higher last tag a (o .rises) in
-        let y : shaped p tag (laterOf whole) ≡ true = subst (λ z. shaped p z (laterOf whole) ≡ true) (later-last last) (o .later) in
+        let y : shaped p tag (afterFirst whole) ≡ true = subst (λ z. shaped p z (afterFirst whole) ≡ true) (later-last last) (o .later) in
         let v : octetsOf (meant [] k body) ≡ body = value-written k body (sym (ap (λ z. isWritten z body) written-here) ∙ o .written) in
         let none-between : (b : ℕ) → last < b → b < tag → attributesIn [] p tree b ≡ none = λ b i j.
         other-attribute [] p tag from body end u b (λ z. omega arith) ∙ absent-attribute [] p u b (λ g. later .above tag b y g (omega arith)) in
@@ -495,7 +496,7 @@ module _ (c : Context) (at tag : ℕ) (rest : List ℕ) (u : Items) (q : Unbroke
           rises = higher-rising last tag a r;
           written = ap (λ z. isWritten z body) written-here ∙ written-value k body (value-here k e) (own-normal es k body (sym (f .inside)));
           inside = rw no-items;
-          later = subst (λ z. shaped p z (laterOf whole) ≡ true) (sym (later-last last)) (later .back es tag (omega (arith, above-tag)) (os 0) (later-small s) (f .after));
+          later = subst (λ z. shaped p z (afterFirst whole) ≡ true) (sym (later-last last)) (later .back es tag (omega (arith, above-tag)) (os 0) (later-small s) (f .after));
         })
 
     shape-attribute : Shape p (c .stage) whole tree
@@ -505,12 +506,12 @@ module _ (c : Context) (at tag : ℕ) (rest : List ℕ) (u : Items) (q : Unbroke
       ended = λ z. absurd (some-octet tag rest z);
       closed = is-closed;
       barred = is-barred end;
-      noTable = λ last h. find-other 4 tag from body end u (λ z. omega (arith, above-tag)) ∙ later .noTable tag (subst (λ z. shaped p z (laterOf whole) ≡ true) (later-last last) (own-parts p last tag rest h .later));
+      noTable = λ last h. find-other 4 tag from body end u (λ z. omega (arith, above-tag)) ∙ later .noTable tag (subst (λ z. shaped p z (afterFirst whole) ≡ true) (later-last last) (own-parts p last tag rest h .later));
       tableless = λ last h. refl;
       above = λ last b h g l.
           let o = own-parts p last tag rest h in
           let r = rising-higher last tag a (o .rises) in
-          find-other b tag from body end u (λ z. omega arith) ∙ later .above tag b (subst (λ z. shaped p z (laterOf whole) ≡ true) (later-last last) (o .later)) g (omega arith);
+          find-other b tag from body end u (λ z. omega arith) ∙ later .above tag b (subst (λ z. shaped p z (afterFirst whole) ≡ true) (later-last last) (o .later)) g (omega arith);
       forth = attribute-forth;
       back = attribute-back;
     }
@@ -553,7 +554,7 @@ module _ (c : Context) (at tag : ℕ) (rest : List ℕ) (u : Items) (q : Unbroke
     child-forth : (last : ℕ) → 0x7F ≤ last → last < 256 → shaped p last whole ≡ true → whole ≡ N [] p last grown
     child-forth last l m h =
         let o = own-parts p last tag rest h in
-        let y : shaped p last (laterOf whole) ≡ true = subst (λ z. shaped p z (laterOf whole) ≡ true) (same-last last) (o .later) in
+        let y : shaped p last (afterFirst whole) ≡ true = subst (λ z. shaped p z (afterFirst whole) ≡ true) (same-last last) (o .later) in
         let b : body ≡ content [] tag body w = body-forth (opens tag) refl (subst (λ z. cond z (shaped tag 0x7F body) true ≡ true) is-items (o .inside)) in
         framed-back whole os (o .whole) (o .shortest) ∙ ap₂ (λ x z. framed tag x ++ z) b (later .forth last l m y) ∙ sym (adds [] last)
 
@@ -579,7 +580,7 @@ module _ (c : Context) (at tag : ℕ) (rest : List ℕ) (u : Items) (q : Unbroke
           rises = not-rising last tag no-attribute;
           written = ap (λ z. isWritten z body) (known-here ∙ e) ∙ written-body (opens tag) refl;
           inside = subst (λ z. cond z (shaped tag 0x7F body) true ≡ true) (sym is-items) (body-back es s (f .inside) (opens tag) refl);
-          later = subst (λ z. shaped p z (laterOf whole) ≡ true) (sym (same-last last)) (later .back es last l m (later-small s) (f .after));
+          later = subst (λ z. shaped p z (afterFirst whole) ≡ true) (sym (same-last last)) (later .back es last l m (later-small s) (f .after));
         })
 
     inner-tableless : (b : Bool) → opens tag ≡ b → cond b (shaped tag 0x7F body) true ≡ true → tableOf grown ≡ []
@@ -596,7 +597,7 @@ module _ (c : Context) (at tag : ℕ) (rest : List ℕ) (u : Items) (q : Unbroke
       barred = is-barred w;
       noTable = λ last h.
           find-other 4 tag from body w u (λ z. eqb-false tag 4 (child-tag tag ch .notTable) (sym z))
-          ∙ later .noTable last (subst (λ z. shaped p z (laterOf whole) ≡ true) (same-last last) (own-parts p last tag rest h .later));
+          ∙ later .noTable last (subst (λ z. shaped p z (afterFirst whole) ≡ true) (same-last last) (own-parts p last tag rest h .later));
       tableless = λ last h. inner-tableless (opens tag) refl (subst (λ z. cond z (shaped tag 0x7F body) true ≡ true) is-items (own-parts p last tag rest h .inside));
       above = λ last b h g l. all-barred b g;
       forth = child-forth;
@@ -605,17 +606,17 @@ module _ (c : Context) (at tag : ℕ) (rest : List ℕ) (u : Items) (q : Unbroke
 
 -- CDATA, behind which nothing comes
 module _ (c : Context) (at : ℕ) (rest : List ℕ) (u : Items) (q : Unbroken c at 1 rest) (os : Octets (1 ∷ rest))
-    (later : Shape (c .parent) (stageAfter 1) (laterOf (1 ∷ rest)) u) where
+    (later : Shape (c .parent) (stageAfter 1) (afterFirst (1 ∷ rest)) u) where
   abbrev all : List ℕ
   all = 1 ∷ rest
 
   abbrev text : List ℕ
-  text = bodyOf all
+  text = firstBody all
 
   abbrev place : ℕ
   place = inAt at all
 
-  last-one : laterOf all ≡ []
+  last-one : afterFirst all ≡ []
   unfolding stageAfter attribute
   last-one = later .closed (omega arith)
 
@@ -672,8 +673,8 @@ module _ (c : Context) (at : ℕ) (rest : List ℕ) (u : Items) (q : Unbroken c 
 
 -- an element that holds items
 shape-element : (c : Context) (at tag : ℕ) (rest : List ℕ) (w u : Items) → Unbroken c at tag rest → known (c .parent) tag ≡ some HoldsItems → Octets (tag ∷ rest)
-    → Shape tag 0 (bodyOf (tag ∷ rest)) w → Shape (c .parent) (stageAfter tag) (laterOf (tag ∷ rest)) u
-    → Shape (c .parent) (c .stage) (tag ∷ rest) (item tag (inAt at (tag ∷ rest)) (bodyOf (tag ∷ rest)) w u)
+    → Shape tag 0 (firstBody (tag ∷ rest)) w → Shape (c .parent) (stageAfter tag) (afterFirst (tag ∷ rest)) u
+    → Shape (c .parent) (c .stage) (tag ∷ rest) (item tag (inAt at (tag ∷ rest)) (firstBody (tag ∷ rest)) w u)
 unfolding isItems opens
 shape-element c at tag rest w u q e os inside later =
     let z : known 0 tag ≡ some HoldsItems = sym (known-anywhere (c .parent) tag (items-no-attribute (c .parent) tag e)) ∙ e in
@@ -681,20 +682,20 @@ shape-element c at tag rest w u q e os inside later =
 
 -- any other known item
 shape-leaf : (c : Context) (at tag : ℕ) (rest : List ℕ) (u : Items) (k : Kind) → Unbroken c at tag rest → known (c .parent) tag ≡ some k → isItems (some k) ≡ false → Octets (tag ∷ rest)
-    → Shape (c .parent) (stageAfter tag) (laterOf (tag ∷ rest)) u → Shape (c .parent) (c .stage) (tag ∷ rest) (item tag (inAt at (tag ∷ rest)) (bodyOf (tag ∷ rest)) end u)
+    → Shape (c .parent) (stageAfter tag) (afterFirst (tag ∷ rest)) u → Shape (c .parent) (c .stage) (tag ∷ rest) (item tag (inAt at (tag ∷ rest)) (firstBody (tag ∷ rest)) end u)
 unfolding isChild
 shape-leaf c at tag rest u k q e l os later = go (attribute tag) refl (eqb tag 4) refl (eqb tag 1) refl
   where
     go : (a : Bool) → attribute tag ≡ a → (f : Bool) → eqb tag 4 ≡ f → (g : Bool) → eqb tag 1 ≡ g
-        → Shape (c .parent) (c .stage) (tag ∷ rest) (item tag (inAt at (tag ∷ rest)) (bodyOf (tag ∷ rest)) end u)
-    go true a f y g z = held-by (defaultOctets (c .parent) tag (bodyOf (tag ∷ rest))) refl
+        → Shape (c .parent) (c .stage) (tag ∷ rest) (item tag (inAt at (tag ∷ rest)) (firstBody (tag ∷ rest)) end u)
+    go true a f y g z = held-by (defaultOctets (c .parent) tag (firstBody (tag ∷ rest))) refl
       where
-        held-by : (d : Bool) → defaultOctets (c .parent) tag (bodyOf (tag ∷ rest)) ≡ d → Shape (c .parent) (c .stage) (tag ∷ rest) (item tag (inAt at (tag ∷ rest)) (bodyOf (tag ∷ rest)) end u)
+        held-by : (d : Bool) → defaultOctets (c .parent) tag (firstBody (tag ∷ rest)) ≡ d → Shape (c .parent) (c .stage) (tag ∷ rest) (item tag (inAt at (tag ∷ rest)) (firstBody (tag ∷ rest)) end u)
         held-by true d = shape-default c at tag rest u q os later k a e d
         held-by false d = shape-attribute c at tag rest u q os later k a e d
     go false a true y g z = shape-table c at tag rest u q os later y (known-anywhere (c .parent) tag a ∙ ap (known 0) (eqb-true tag 4 y) ∙ known-four)
     go false a false y true z =
-        subst (λ n. Unbroken c at n rest → Octets (n ∷ rest) → Shape (c .parent) (stageAfter n) (laterOf (n ∷ rest)) u → Shape (c .parent) (c .stage) (n ∷ rest) (item n (inAt at (n ∷ rest)) (bodyOf (n ∷ rest)) end u))
+        subst (λ n. Unbroken c at n rest → Octets (n ∷ rest) → Shape (c .parent) (stageAfter n) (afterFirst (n ∷ rest)) u → Shape (c .parent) (c .stage) (n ∷ rest) (item n (inAt at (n ∷ rest)) (firstBody (n ∷ rest)) end u))
         (sym (eqb-true tag 1 z)) (λ q os later. shape-cdata c at rest u q os later) q os later
     go false a false y false z =
         shape-child c at tag rest u q os later end k (rw (a, z, y)) e

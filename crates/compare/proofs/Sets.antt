@@ -10,6 +10,9 @@ use lib.Dec.{eqb}
 use lib.ListN.{length}
 use borrow.Author.Tests.{lt-ltb, eqb-true, eqb-false, ne-eqb}
 use Rattle.octets.specs.Numbers.{value, digits}
+use Rattle.octets.specs.declared.Lies.{Lies}
+use Rattle.octets.specs.declared.Lies.the-variants.{Outside, Between}
+use Rattle.octets.specs.Places.{between}
 use Rattle.text.specs.Tokens.{Entries, expanded}
 use Rattle.values.specs.declared.Kind.{Kind}
 use Rattle.values.specs.declared.Kind.the-variants.{HoldsNumber}
@@ -29,10 +32,8 @@ use Rattle.format.specs.Same.{sameOctets, sameValue, sameMaybe, sameAttributes}
 use Rattle.format.proofs.Defaults.{counted-octets}
 use Rattle.format.proofs.Means.{unknown-attribute}
 use Rattle.reader.specs.Filling.{Accepts}
-use Rattle.survey.specs.declared.Lies.{Lies}
-use Rattle.survey.specs.declared.Lies.the-variants.{Outside, Between}
 use Rattle.survey.proofs.Rising.{known-few}
-use Rattle.survey.specs.Places.{between, spanOfTag, bodyBy, bodyOfTag}
+use Rattle.survey.specs.Places.{spanOfTag, bodyBy, bodyOfTag}
 use Rattle.compare.specs.Bodies.{sameBody}
 use Rattle.compare.specs.Items.{countedBody, countedOfTag, countedLies, countedSpan, isAbsent, sameFound, sameFrom, sameSets, sameText}
 use Rattle.survey.proofs.Seeking.{Sought, sought, missing, span-says, span-ordered, span-inside}

@@ -19,7 +19,11 @@ use Rattle.octets.proofs.Tests.{and-left}
 use Rattle.octets.specs.Puts.{putAnswer, Puts}
 use Rattle.octets.specs.declared.Put.{Put}
 use Rattle.octets.specs.declared.Put.the-variants.{Done, NoRoom, Invalid}
+use Rattle.octets.specs.declared.Lies.{Lies}
+use Rattle.octets.specs.declared.Lies.the-variants.{Outside, Between}
+use Rattle.octets.specs.Places.{isWhole, firstBody, afterFirst, liesAt, between}
 use Rattle.octets.proofs.Puts.{PutDone, put-done}
+use Rattle.octets.proofs.Places.{Lying, lying, not-whole, bounds, body-is, later-is, tag-is}
 use Rattle.values.specs.declared.Kind.{Kind}
 use Rattle.values.specs.declared.Kind.the-variants.{HoldsItems, HoldsTokens, HoldsText, HoldsPlain, HoldsTime, HoldsBearer, HoldsNumber}
 use Rattle.values.specs.declared.NumberKind.{NumberKind}
@@ -33,11 +37,7 @@ use Rattle.values.specs.Values.{width, fits}
 use Rattle.values.proofs.Laws.{asItStands, stands-fits, stands-normal, number-normal}
 use Rattle.format.specs.Judge.{isItems}
 use Rattle.format.specs.Same.{sameOctets}
-use Rattle.survey.specs.declared.Lies.{Lies}
-use Rattle.survey.specs.declared.Lies.the-variants.{Outside, Between}
-use Rattle.survey.specs.Places.{isWhole, firstBody, afterFirst, liesAt, between}
 use Rattle.survey.specs.Normal.{writtenAs}
-use Rattle.survey.proofs.Places.{Lying, lying, not-whole, bounds, body-is, later-is, tag-is}
 use Rattle.survey.proofs.WrittenAs.{written-some, written-none}
 use Rattle.compare.specs.Normal.{isShortest, isWritten, isRising, shapedWithin, shaped, shapedBody}
 use Rattle.format.proofs.Same.{octets-same, same-octets}

@@ -8,7 +8,11 @@ use native.Mathlib.Omega.{arith}
 use lib.Dec.{eqb, ltb}
 use lib.ListN.{length, getD}
 use borrow.Author.Tests.{eqb-true, eqb-false, eq-eqb, ne-eqb, ltb-true, ltb-false, lt-ltb, le-ltb}
+use Rattle.octets.specs.declared.Lies.{Lies}
+use Rattle.octets.specs.declared.Lies.the-variants.{Outside, Between}
+use Rattle.octets.specs.Places.{liesAt, between}
 use Rattle.octets.proofs.Tests.{and-left}
+use Rattle.octets.proofs.Places.{lying, bounds}
 use Rattle.text.specs.Tokens.{Entries}
 use Rattle.values.specs.declared.Kind.{Kind}
 use Rattle.values.specs.declared.KnownKind.{KnownKind}
@@ -17,10 +21,7 @@ use Rattle.values.specs.Calls.{knownKind}
 use Rattle.values.specs.Table.{known, attribute}
 use Rattle.values.proofs.Laws.{known-kind, unknown-kind}
 use Rattle.format.specs.Same.{sameMaybe}
-use Rattle.survey.specs.declared.Lies.{Lies}
-use Rattle.survey.specs.declared.Lies.the-variants.{Outside, Between}
-use Rattle.survey.specs.Places.{liesAt, between, spanOfTag, bodyOfTag}
-use Rattle.survey.proofs.Places.{lying, bounds}
+use Rattle.survey.specs.Places.{spanOfTag, bodyOfTag}
 use Rattle.survey.proofs.Rising.{known-few}
 use Rattle.survey.proofs.Seeking.{Spans, span-begin, span-ended, span-behind, span-found, span-again}
 use Rattle.compare.specs.declared.steps.Due.{Due}

@@ -8,7 +8,11 @@ use native.Mathlib.Omega.{arith}
 use lib.ListN.{length, drop, getD, drop-of-length-le}
 use borrow.Author.Tests.{eq-eqb, ne-eqb, le-leb}
 use Rattle.octets.specs.Header.{headerSize, bodySize}
+use Rattle.octets.specs.declared.Lies.{Lies}
+use Rattle.octets.specs.declared.Lies.the-variants.{Outside, Between}
+use Rattle.octets.specs.Places.{isWhole, firstBody, afterFirst, liesAt, between}
 use Rattle.octets.proofs.Tests.{and-left, and-right}
+use Rattle.octets.proofs.Places.{Lying, lying, not-whole, bounds, tag-is, body-is, later-is, fewer-after, none-whole}
 use Rattle.text.specs.Tokens.{Entries}
 use Rattle.values.specs.declared.Kind.{Kind}
 use Rattle.values.specs.declared.KnownKind.{KnownKind}
@@ -26,11 +30,6 @@ use Rattle.format.proofs.Means.{items-opens}
 use Rattle.format.proofs.NormalOctets.{child-no-attribute}
 use Rattle.reader.specs.Filling.{Accepts, share}
 use Rattle.reader.proofs.Opening.{Opened, fits-in, opened, opened-end}
-use Rattle.survey.specs.declared.Lies.{Lies}
-use Rattle.survey.specs.declared.Lies.the-variants.{Outside, Between}
-use Rattle.survey.specs.Places.{isWhole, firstBody, afterFirst, liesAt, between}
-use Rattle.survey.proofs.Places.{Lying, lying, not-whole, bounds, tag-is, body-is, later-is}
-use Rattle.survey.proofs.Tables.{fewer-after, none-whole}
 use Rattle.compare.specs.declared.walks.Child.the-variants.{End, Found}
 use Rattle.compare.specs.Walks.{isMeant, childrenWithin, childrenIn, Children}
 

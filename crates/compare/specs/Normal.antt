@@ -7,13 +7,13 @@ use Prim.Native.Nat.{ℕ, zero, suc}
 use lib.Dec.{eqb, ltb}
 use lib.ListN.{length}
 use Rattle.octets.specs.Header.{headerSize, bodySize, lengthField}
+use Rattle.octets.specs.Places.{isWhole, firstBody, afterFirst}
 use Rattle.values.specs.declared.Kind.{Kind}
 use Rattle.values.specs.Table.{attribute}
 use Rattle.values.specs.Values.{fits}
 use Rattle.values.specs.Calls.{normalOctets}
 use Rattle.format.specs.Judge.{isItems}
 use Rattle.format.specs.Same.{sameOctets}
-use Rattle.survey.specs.Places.{isWhole, firstBody, afterFirst}
 use Rattle.survey.specs.Normal.{writtenAs}
 
 -- the length of the first item stands in its shortest form

@@ -5,10 +5,10 @@ use mathlib.Core.List.{List}
 use Prim.Native.Nat.{ℕ}
 use lib.Dec.{eqb, ltb}
 use lib.ListN.{length, getD}
+use Rattle.octets.specs.declared.Lies.{Lies}
+use Rattle.octets.specs.declared.Lies.the-variants.{Outside, Between}
+use Rattle.octets.specs.Places.{liesAt}
 use Rattle.values.specs.Table.{attribute}
-use Rattle.survey.specs.declared.Lies.{Lies}
-use Rattle.survey.specs.declared.Lies.the-variants.{Outside, Between}
-use Rattle.survey.specs.Places.{liesAt}
 use Rattle.compare.specs.declared.steps.Due.{Due}
 use Rattle.compare.specs.declared.steps.Due.the-variants.{None, Lost, Found}
 use Rattle.compare.specs.declared.steps.InStep.{InStep}

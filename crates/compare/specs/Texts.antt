@@ -5,11 +5,11 @@ use mathlib.Core.List.{List, [], _∷_, _++_}
 use Prim.Native.Nat.{ℕ, _+_, _≤_, _<_}
 use lib.Dec.{eqb, leb, ltb}
 use lib.ListN.{length, getD, take, drop}
+use Rattle.octets.specs.declared.Lies.{Lies}
+use Rattle.octets.specs.declared.Lies.the-variants.{Outside, Between}
+use Rattle.octets.specs.Places.{between}
 use Rattle.text.specs.Tokens.{Entries, stands, expanded}
-use Rattle.survey.specs.declared.Lies.{Lies}
-use Rattle.survey.specs.declared.Lies.the-variants.{Outside, Between}
 use Rattle.compare.specs.declared.texts.Rest.{Rest}
-use Rattle.survey.specs.Places.{between}
 
 -- what stands for an octet: itself, or an entry that lies in the table
 pub record Entry (es : Entries) (table : List ℕ) (b from to : ℕ) : Type 0 where

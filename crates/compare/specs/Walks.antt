@@ -4,10 +4,10 @@ use mathlib.Core.Bool.{Bool, cond, _&&_}
 use mathlib.Core.List.{List, [], _∷_}
 use Prim.Native.Nat.{ℕ, zero, suc, _≤_, _<_}
 use lib.ListN.{length, drop, getD}
+use Rattle.octets.specs.Places.{isWhole, firstBody, afterFirst, between}
 use Rattle.values.specs.Table.{known}
 use Rattle.format.specs.Judge.{isKnown}
 use Rattle.format.specs.Meaning.{isChild}
-use Rattle.survey.specs.Places.{isWhole, firstBody, afterFirst, between}
 use Rattle.compare.specs.declared.walks.Child.{Child}
 use Rattle.compare.specs.declared.walks.Child.the-variants.{End, Found}
 

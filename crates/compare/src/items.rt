@@ -14,7 +14,7 @@ use crate::steps::compare_in_step;
 use crate::texts::same_texts;
 use crate::walks::Child;
 use crate::walks::next_child;
-use survey::Lies;
+use octets::Lies;
 use survey::find_item;
 use values::Kind;
 use values::KnownKind;

@@ -9,7 +9,7 @@ ghost use Rattle.text.specs.Index.{entriesBy};
 ghost use Rattle.format.specs.Same.{sameOctets};
 ghost use Rattle.compare.specs.Bodies.{allBy};
 ghost use Rattle.compare.specs.Texts.{Standing, Inside, Opened, ahead, beyond, isOver, orOne, shared, Shared, Common};
-use survey::Lies;
+use octets::Lies;
 use text::is_token;
 
 // What is left of an expansion: the octets of the table from one place up to another, and behind them the text from a place on.

@@ -10,6 +10,7 @@ use lib.Dec.{eqb, leb}
 use lib.ListN.{length}
 use borrow.Author.Tests.{leb-false}
 use Rattle.octets.specs.Header.{headerSize, bodySize}
+use Rattle.octets.specs.Places.{firstBody, afterFirst}
 use Rattle.text.specs.Tokens.{Entries, entries, covered}
 use Rattle.values.specs.declared.Kind.{Kind}
 use Rattle.values.specs.Table.{known, attribute}
@@ -19,7 +20,6 @@ use Rattle.format.specs.Tree.{Items}
 use Rattle.format.specs.Tree.Items.{end, item}
 use Rattle.format.specs.Judge.{Judged, isKnown, isItems, wrongIn, isValue, Context, rule, valueRule, first, kindRules, itemRules, own, late, lateBefore, lateAfter, broken, within, next, unless, followed, joined, byKind, items, outermost, judge}
 use Rattle.format.specs.Judge.Judged.{refused, accepted}
-use Rattle.format.proofs.Induction.{bodyOf, laterOf}
 
 abbrev Other : Option Refusal → Type 0
 Other none = Unit {0}
@@ -116,9 +116,9 @@ other-items (suc k) c at (tag ∷ rest) =
     let p = tag ∷ rest in
     let h = headerSize p in
     let n = bodySize p in
-    other-unless (broken c at tag h n (suc (length rest)) (bodyOf p)) _ (other-broken c at tag h n (suc (length rest)) (bodyOf p))
-    (other-by-kind (known (c .parent) tag) (item tag (at + h) (bodyOf p)) (items k (within c tag) (at + h) (bodyOf p)) (items k (next c at tag (bodyOf p)) (at + h + n) (laterOf p))
-    (other-items k (within c tag) (at + h) (bodyOf p)) (other-items k (next c at tag (bodyOf p)) (at + h + n) (laterOf p)))
+    other-unless (broken c at tag h n (suc (length rest)) (firstBody p)) _ (other-broken c at tag h n (suc (length rest)) (firstBody p))
+    (other-by-kind (known (c .parent) tag) (item tag (at + h) (firstBody p)) (items k (within c tag) (at + h) (firstBody p)) (items k (next c at tag (firstBody p)) (at + h + n) (afterFirst p))
+    (other-items k (within c tag) (at + h) (firstBody p)) (other-items k (next c at tag (firstBody p)) (at + h + n) (afterFirst p)))
 
 -- 1 is given at 0, to an object that is empty or above 32,768
 pub one-only : (object : List ℕ) (r : Refusal) → judge object ≡ refused r → r .number ≡ 1 → (r .place ≡ 0) × ((length object ≡ 0) ⊎ (32_768 < length object))

@@ -17,10 +17,10 @@ use Rattle.xml.specs.Export.{ExportClaim}
 use Rattle.spi_c.specs.Claims.{ReadsC, SpansC, WritesC, NormalisesC, SameC, ExportsC}
 
 -- every call whose claim is one equation for its answer; none of them is lent anything to write.
--- octets: read_header, header_size, read_number. text: check, is_token, is_table, is_covered, weigh, expanded_size. values: is_attribute, known_kind,
+-- octets: read_header, item_at, header_size, read_number. text: check, is_token, is_table, is_covered, weigh, expanded_size. values: is_attribute, known_kind,
 -- is_default, Time::take, valid, canonical, local, size, Bearer::take, valid, size, fits_kind, wrong_field, normal_size. format: kind_of, refuse, and outcome
 -- of ReadAnswer, WriteAnswer, SameAnswer. tags: is_top, is_allowed, latest_of, stage_after, is_within_depth, is_short, has_bit, with_bit, listed_as. judge:
--- judge. reader: places, span, body. records: is_well_formed. survey: survey, item_at, find_item, table_of, written_as. compare: same, is_normal, same_texts,
+-- judge. reader: places, span, body. records: is_well_formed. survey: survey, find_item, table_of, written_as. compare: same, is_normal, same_texts,
 -- same_bodies, same_octets, same_attribute, same_attributes, same_cdata, same_child, same_children. spi_c: spi_check_text.
 -- For body and table_of, which hand back a part of the caller's octets, the equation is for what the part holds
 abbrev pub OneAnswer : Type 1

@@ -6,10 +6,10 @@ use mathlib.Core.List.{List, [], _∷_}
 use Prim.Native.Nat.{ℕ, zero, suc, _+_, _*_, _≤_}
 use native.Mathlib.Omega.{arith}
 use lib.Dec.{eqb, leb}
-use lib.ListN.{length, take, drop, length-drop}
+use lib.ListN.{length, drop, length-drop}
 use lib.Seq.{length-take-le}
-use Rattle.octets.specs.Numbers.{Octets}
 use Rattle.octets.specs.Header.{headerSize, bodySize}
+use Rattle.octets.specs.Places.{firstBody, afterFirst}
 use Rattle.values.specs.declared.Kind.{Kind}
 use Rattle.values.specs.Table.{known}
 use Rattle.values.specs.declared.Kind.the-variants.{HoldsItems, HoldsText, HoldsPlain, HoldsTokens, HoldsTime, HoldsBearer, HoldsNumber}
@@ -18,29 +18,15 @@ use Rattle.format.specs.Tree.{Items, count}
 use Rattle.format.specs.Tree.Items.{end, item}
 use Rattle.format.specs.Judge.{Judged, isKnown, isItems, Context, items, broken, byKind, joined, followed, late, within, next, judge, outermost, rule}
 use Rattle.format.specs.Judge.Judged.{refused, accepted}
-use Rattle.octets.proofs.Numbers.{octets-take, octets-drop}
 use Rattle.octets.proofs.Frames.{header-two}
 use Rattle.format.proofs.Rules.{fitting, unless-none, unless-accepted, never, same-tree}
 
--- the body of a part's first item, and what comes after it
-abbrev pub bodyOf : List ℕ → List ℕ
-bodyOf p = take (bodySize p) (drop (headerSize p) p)
-
-abbrev pub laterOf : List ℕ → List ℕ
-laterOf p = drop (bodySize p) (drop (headerSize p) p)
-
-pub body-octets : (p : List ℕ) → Octets p → Octets (bodyOf p)
-body-octets p os = octets-take (bodySize p) (drop (headerSize p) p) (octets-drop (headerSize p) p os)
-
-pub later-octets : (p : List ℕ) → Octets p → Octets (laterOf p)
-later-octets p os = octets-drop (bodySize p) (drop (headerSize p) p) (octets-drop (headerSize p) p os)
-
--- its rules hold
+-- the rules of a part's first item hold
 abbrev pub Unbroken : Context → ℕ → ℕ → List ℕ → Type 0
-Unbroken c at tag rest = broken c at tag (headerSize (tag ∷ rest)) (bodySize (tag ∷ rest)) (suc (length rest)) (bodyOf (tag ∷ rest)) ≡ none
+Unbroken c at tag rest = broken c at tag (headerSize (tag ∷ rest)) (bodySize (tag ∷ rest)) (suc (length rest)) (firstBody (tag ∷ rest)) ≡ none
 
 abbrev pub Nexts : Context → ℕ → ℕ → List ℕ → Context
-Nexts c at tag rest = next c at tag (bodyOf (tag ∷ rest))
+Nexts c at tag rest = next c at tag (firstBody (tag ∷ rest))
 
 abbrev pub inAt : ℕ → List ℕ → ℕ
 inAt at p = at + headerSize p
@@ -48,13 +34,13 @@ inAt at p = at + headerSize p
 pub record Cases (P : Context → ℕ → List ℕ → Items → Type 0) : Type 0 where
   pub atEnd : (c : Context) (at : ℕ) → late [] (c .waiting) ≡ none → P c at [] end
   pub atUnknown : (c : Context) (at tag : ℕ) (rest : List ℕ) (u : Items) → Unbroken c at tag rest → known (c .parent) tag ≡ none
-      → P (Nexts c at tag rest) (inAt at (tag ∷ rest) + bodySize (tag ∷ rest)) (laterOf (tag ∷ rest)) u → P c at (tag ∷ rest) u
+      → P (Nexts c at tag rest) (inAt at (tag ∷ rest) + bodySize (tag ∷ rest)) (afterFirst (tag ∷ rest)) u → P c at (tag ∷ rest) u
   pub atElement : (c : Context) (at tag : ℕ) (rest : List ℕ) (s u : Items) → Unbroken c at tag rest → known (c .parent) tag ≡ some HoldsItems
-      → P (within c tag) (inAt at (tag ∷ rest)) (bodyOf (tag ∷ rest)) s → P (Nexts c at tag rest) (inAt at (tag ∷ rest) + bodySize (tag ∷ rest)) (laterOf (tag ∷ rest)) u
-      → P c at (tag ∷ rest) (item tag (inAt at (tag ∷ rest)) (bodyOf (tag ∷ rest)) s u)
+      → P (within c tag) (inAt at (tag ∷ rest)) (firstBody (tag ∷ rest)) s → P (Nexts c at tag rest) (inAt at (tag ∷ rest) + bodySize (tag ∷ rest)) (afterFirst (tag ∷ rest)) u
+      → P c at (tag ∷ rest) (item tag (inAt at (tag ∷ rest)) (firstBody (tag ∷ rest)) s u)
   pub atLeaf : (c : Context) (at tag : ℕ) (rest : List ℕ) (u : Items) (k : Kind) → Unbroken c at tag rest → known (c .parent) tag ≡ some k → isItems (some k) ≡ false
-      → P (Nexts c at tag rest) (inAt at (tag ∷ rest) + bodySize (tag ∷ rest)) (laterOf (tag ∷ rest)) u
-      → P c at (tag ∷ rest) (item tag (inAt at (tag ∷ rest)) (bodyOf (tag ∷ rest)) end u)
+      → P (Nexts c at tag rest) (inAt at (tag ∷ rest) + bodySize (tag ∷ rest)) (afterFirst (tag ∷ rest)) u
+      → P c at (tag ∷ rest) (item tag (inAt at (tag ∷ rest)) (firstBody (tag ∷ rest)) end u)
 
 module _ (P : Context → ℕ → List ℕ → Items → Type 0) (cases : Cases P) where
   via-followed : (Q : Items → Type 0) (f : Items → Items) (a : Judged) (t : Items) → ((u : Items) → a ≡ accepted u → Q (f u)) → followed f a ≡ accepted t → Q t
@@ -96,12 +82,12 @@ module _ (P : Context → ℕ → List ℕ → Items → Type 0) (cases : Cases 
   unfolding items
   all-item k c at tag rest t ih q =
       let p = tag ∷ rest in
-      let b = broken c at tag (headerSize p) (bodySize p) (suc (length rest)) (bodyOf p) in
+      let b = broken c at tag (headerSize p) (bodySize p) (suc (length rest)) (firstBody p) in
       let ok = unless-none b _ t q in
-      via-kind (P c at p) (known (c .parent) tag) (item tag (inAt at p) (bodyOf p)) (items k (within c tag) (inAt at p) (bodyOf p)) (items k (Nexts c at tag rest) (inAt at p + bodySize p) (laterOf p)) t
-      (λ e h. cases .atUnknown c at tag rest t ok e (ih (Nexts c at tag rest) (inAt at p + bodySize p) (laterOf p) t h))
-      (λ e s u x y. cases .atElement c at tag rest s u ok e (ih (within c tag) (inAt at p) (bodyOf p) s x) (ih (Nexts c at tag rest) (inAt at p + bodySize p) (laterOf p) u y))
-      (λ kd e l u y. cases .atLeaf c at tag rest u kd ok e l (ih (Nexts c at tag rest) (inAt at p + bodySize p) (laterOf p) u y))
+      via-kind (P c at p) (known (c .parent) tag) (item tag (inAt at p) (firstBody p)) (items k (within c tag) (inAt at p) (firstBody p)) (items k (Nexts c at tag rest) (inAt at p + bodySize p) (afterFirst p)) t
+      (λ e h. cases .atUnknown c at tag rest t ok e (ih (Nexts c at tag rest) (inAt at p + bodySize p) (afterFirst p) t h))
+      (λ e s u x y. cases .atElement c at tag rest s u ok e (ih (within c tag) (inAt at p) (firstBody p) s x) (ih (Nexts c at tag rest) (inAt at p + bodySize p) (afterFirst p) u y))
+      (λ kd e l u y. cases .atLeaf c at tag rest u kd ok e l (ih (Nexts c at tag rest) (inAt at p + bodySize p) (afterFirst p) u y))
       (unless-accepted b _ t q)
 
   all-next : (k : ℕ) → All k → All (suc k)
@@ -113,10 +99,10 @@ module _ (P : Context → ℕ → List ℕ → Items → Type 0) (cases : Cases 
   accepted-all (suc k) = all-next k (accepted-all k)
 
 -- an item's body and what comes after it are shorter than the part by its header
-pub shorter : (c : Context) (at tag : ℕ) (rest : List ℕ) → Unbroken c at tag rest → length (bodyOf (tag ∷ rest)) + length (laterOf (tag ∷ rest)) + 2 ≤ suc (length rest)
+pub shorter : (c : Context) (at tag : ℕ) (rest : List ℕ) → Unbroken c at tag rest → length (firstBody (tag ∷ rest)) + length (afterFirst (tag ∷ rest)) + 2 ≤ suc (length rest)
 shorter c at tag rest q =
     let p = tag ∷ rest in
-    let f = fitting c at tag (headerSize p) (bodySize p) (suc (length rest)) (bodyOf p) q .body in
+    let f = fitting c at tag (headerSize p) (bodySize p) (suc (length rest)) (firstBody p) q .body in
     let d = length-drop (headerSize p) p in
     let b = length-take-le (bodySize p) (drop (headerSize p) p) (omega arith) in
     let l = length-drop (bodySize p) (drop (headerSize p) p) in
@@ -146,8 +132,8 @@ unfolding count
 few-cases = record {
   atEnd = λ c at q. omega arith;
   atUnknown = λ c at tag rest u q e h. omega (arith, shorter c at tag rest q);
-  atElement = λ c at tag rest s u q e x y. omega (arith, shorter c at tag rest q, count-item tag (inAt at (tag ∷ rest)) (bodyOf (tag ∷ rest)) s u);
-  atLeaf = λ c at tag rest u k q e l y. omega (arith, shorter c at tag rest q, count-item tag (inAt at (tag ∷ rest)) (bodyOf (tag ∷ rest)) end u);
+  atElement = λ c at tag rest s u q e x y. omega (arith, shorter c at tag rest q, count-item tag (inAt at (tag ∷ rest)) (firstBody (tag ∷ rest)) s u);
+  atLeaf = λ c at tag rest u k q e l y. omega (arith, shorter c at tag rest q, count-item tag (inAt at (tag ∷ rest)) (firstBody (tag ∷ rest)) end u);
 }
 
 pub few : (o : List ℕ) (t : Items) → judge o ≡ accepted t → 2 * count t ≤ length o

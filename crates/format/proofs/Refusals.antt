@@ -10,6 +10,7 @@ use lib.Dec.{eqb, leb}
 use lib.ListN.{length, drop, length-take, length-drop}
 use borrow.Author.Tests.{leb-false}
 use Rattle.octets.specs.Header.{headerSize, bodySize}
+use Rattle.octets.specs.Places.{firstBody, afterFirst}
 use Rattle.text.specs.Tokens.{Entries, entries, covered}
 use Rattle.values.specs.declared.Kind.{Kind}
 use Rattle.values.specs.Table.{known, attribute}
@@ -20,7 +21,7 @@ use Rattle.format.specs.Judge.{Judged, isKnown, isItems, isText, isValue
 use Rattle.format.specs.Judge.Judged.{refused, accepted}
 use Rattle.values.proofs.Fields.{field-few}
 use Rattle.format.proofs.Rules.{fitting}
-use Rattle.format.proofs.Induction.{bodyOf, laterOf, shorter}
+use Rattle.format.proofs.Induction.{shorter}
 
 -- a refusal inside an object of a size; only 9 names a field, one of five
 pub record Inside (size : ℕ) (r : Refusal) : Type 0 where
@@ -166,17 +167,17 @@ answers-item k ih size c at tag rest l fits w =
     let p = tag ∷ rest in
     let h = headerSize p in
     let n = bodySize p in
-    let all = byKind (known (c .parent) tag) (item tag (at + h) (bodyOf p)) (items k (within c tag) (at + h) (bodyOf p)) (items k (next c at tag (bodyOf p)) (at + h + n) (laterOf p)) in
-    answered-unless size (broken c at tag h n (suc (length rest)) (bodyOf p)) all
-    (sited-broken size c at tag (bodyOf p) (omega arith) w h n (suc (length rest)) fits)
+    let all = byKind (known (c .parent) tag) (item tag (at + h) (firstBody p)) (items k (within c tag) (at + h) (firstBody p)) (items k (next c at tag (firstBody p)) (at + h + n) (afterFirst p)) in
+    answered-unless size (broken c at tag h n (suc (length rest)) (firstBody p)) all
+    (sited-broken size c at tag (firstBody p) (omega arith) w h n (suc (length rest)) fits)
     (λ q.
-    let f = fitting c at tag h n (suc (length rest)) (bodyOf p) q in
+    let f = fitting c at tag h n (suc (length rest)) (firstBody p) q in
     let s = shorter c at tag rest q in
-    let b : length (bodyOf p) ≤ n = simp length-take (omega arith) in
-    let d : length (laterOf p) ≤ suc (length rest) - h - n = simp (length-drop n (drop h p), length-drop h p) (omega arith) in
-    answered-kind size (known (c .parent) tag) (item tag (at + h) (bodyOf p)) (items k (within c tag) (at + h) (bodyOf p)) (items k (next c at tag (bodyOf p)) (at + h + n) (laterOf p))
-    (ih size (within c tag) (at + h) (bodyOf p) (omega arith) (omega (arith, f .body)) tt)
-    (ih size (next c at tag (bodyOf p)) (at + h + n) (laterOf p) (omega arith) (omega (arith, f .body)) (waiting-next size c at tag (bodyOf p) (omega arith) w)))
+    let b : length (firstBody p) ≤ n = simp length-take (omega arith) in
+    let d : length (afterFirst p) ≤ suc (length rest) - h - n = simp (length-drop n (drop h p), length-drop h p) (omega arith) in
+    answered-kind size (known (c .parent) tag) (item tag (at + h) (firstBody p)) (items k (within c tag) (at + h) (firstBody p)) (items k (next c at tag (firstBody p)) (at + h + n) (afterFirst p))
+    (ih size (within c tag) (at + h) (firstBody p) (omega arith) (omega (arith, f .body)) tt)
+    (ih size (next c at tag (firstBody p)) (at + h + n) (afterFirst p) (omega arith) (omega (arith, f .body)) (waiting-next size c at tag (firstBody p) (omega arith) w)))
 
 answers-next : (k : ℕ) → Answers k → Answers (suc k)
 unfolding items

@@ -8,13 +8,14 @@ use lib.Dec.{eqb}
 use lib.ListN.{length, take, drop, getD, length-append, take-append-drop, length-drop}
 use lib.Seq.{take-append-seam, drop-append-seam, length-take-le}
 use Rattle.octets.specs.Header.{headerSize, bodySize}
+use Rattle.octets.specs.Places.{firstBody, afterFirst}
 use Rattle.format.specs.declared.Record.{Record}
 use Rattle.format.specs.Tree.{Items, records, recordOf, count, bodiesOf}
 use Rattle.format.specs.Tree.Items.{end, item}
 use Rattle.format.specs.Judge.{Context, judge}
 use Rattle.format.specs.Judge.Judged.{accepted}
 use Rattle.format.proofs.Rules.{fitting}
-use Rattle.format.proofs.Induction.{Cases, judged-all, Unbroken, bodyOf, laterOf, inAt}
+use Rattle.format.proofs.Induction.{Cases, judged-all, Unbroken, inAt}
 
 -- a list is the part of an object at an offset
 abbrev pub Part : List ℕ → ℕ → List ℕ → Type 0
@@ -46,17 +47,17 @@ Located o end = Unit {0}
 Located o (item tag at body inside after) = Part o at body × Located o inside × Located o after
 
 -- where an item's body and what comes after it lie
-body-part : (o : List ℕ) (c : Context) (at tag : ℕ) (rest : List ℕ) → Unbroken c at tag rest → Part o at (tag ∷ rest) → Part o (inAt at (tag ∷ rest)) (bodyOf (tag ∷ rest))
+body-part : (o : List ℕ) (c : Context) (at tag : ℕ) (rest : List ℕ) → Unbroken c at tag rest → Part o at (tag ∷ rest) → Part o (inAt at (tag ∷ rest)) (firstBody (tag ∷ rest))
 body-part o c at tag rest q h =
     let p = tag ∷ rest in
-    let f = fitting c at tag (headerSize p) (bodySize p) (suc (length rest)) (bodyOf p) q in
+    let f = fitting c at tag (headerSize p) (bodySize p) (suc (length rest)) (firstBody p) q in
     part-take o (inAt at p) (bodySize p) (drop (headerSize p) p) (part-drop o at (headerSize p) p (f .header) h)
 
 later-part : (o : List ℕ) (c : Context) (at tag : ℕ) (rest : List ℕ) → Unbroken c at tag rest → Part o at (tag ∷ rest)
-    → Part o (inAt at (tag ∷ rest) + bodySize (tag ∷ rest)) (laterOf (tag ∷ rest))
+    → Part o (inAt at (tag ∷ rest) + bodySize (tag ∷ rest)) (afterFirst (tag ∷ rest))
 later-part o c at tag rest q h =
     let p = tag ∷ rest in
-    let f = fitting c at tag (headerSize p) (bodySize p) (suc (length rest)) (bodyOf p) q in
+    let f = fitting c at tag (headerSize p) (bodySize p) (suc (length rest)) (firstBody p) q in
     part-drop o (inAt at p) (bodySize p) (drop (headerSize p) p) (simp (length-drop (headerSize p) p) (omega (arith, f .body))) (part-drop o at (headerSize p) p (f .header) h)
 
 abbrev Lies : List ℕ → Context → ℕ → List ℕ → Items → Type 0

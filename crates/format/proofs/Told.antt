@@ -11,6 +11,7 @@ use lib.Seq.{drop-drop}
 use borrow.Author.Tests.{leb-true, le-leb, eqb-true}
 use Rattle.octets.specs.Numbers.{among, Octets}
 use Rattle.octets.specs.Header.{headerSize, bodySize}
+use Rattle.octets.specs.Places.{firstBody, afterFirst}
 use Rattle.text.specs.Text.{text}
 use Rattle.text.specs.Tokens.{Entries, entries, covered, shownLength}
 use Rattle.values.specs.declared.Kind.{Kind}
@@ -25,10 +26,11 @@ use Rattle.format.specs.Judge.Judged.{accepted}
 use Rattle.format.specs.Meaning.{opens, tableIn, tableOf}
 use Rattle.format.specs.Writer.{Spot, below, past, atTop, placed, isEnd}
 use Rattle.octets.proofs.Tests.{or-elim}
+use Rattle.octets.proofs.Places.{body-octets, later-octets}
 use Rattle.text.proofs.Expansion.{Sound, sound-empty}
 use Rattle.values.proofs.Known.{known-four, known-anywhere, items-no-attribute, items-tag, not-zero, unknown-four}
 use Rattle.format.proofs.Rules.{Held, KindHeld, held, fitting, never}
-use Rattle.format.proofs.Induction.{body-octets, later-octets, Cases, judged-all, Unbroken, bodyOf, laterOf, inAt, Nexts}
+use Rattle.format.proofs.Induction.{Cases, judged-all, Unbroken, inAt, Nexts}
 use Rattle.format.proofs.Place.{shown-other}
 use Rattle.format.proofs.Means.{opens-items, text-known}
 use Rattle.format.proofs.Force.{held-stage, settled, settled-next, settled-within, not-four, attribute-four, attribute-one, swap-eqb, Valid, valid-within, valid-next, quiet-now, quiet-before, quiet-attribute, covered-attribute, inForce, forced, force-next, force-skip, force-after, force-table, top-known}
@@ -266,8 +268,8 @@ tells-leaf c at tag from body u kd o os k e g = go (attribute tag) refl (eqb tag
         subst (λ n. n < 256 → Held c n body → known (c .parent) n ≡ some kd → Tells (next c at n body) u → Tells c (item n from body end u)) (sym (eqb-true tag 4 q))
         (λ o k e g. tells-table c at from body u kd o os k e g) o k e g
 
-held-of : (c : Context) (at tag : ℕ) (rest : List ℕ) → Unbroken c at tag rest → Held c tag (bodyOf (tag ∷ rest))
-held-of c at tag rest q = held c at tag (headerSize (tag ∷ rest)) (bodySize (tag ∷ rest)) (suc (length rest)) (bodyOf (tag ∷ rest)) q
+held-of : (c : Context) (at tag : ℕ) (rest : List ℕ) → Unbroken c at tag rest → Held c tag (firstBody (tag ∷ rest))
+held-of c at tag rest q = held c at tag (headerSize (tag ∷ rest)) (bodySize (tag ∷ rest)) (suc (length rest)) (firstBody (tag ∷ rest)) q
 
 -- a whole object is one element, and its items are told
 pub record Top (t : Items) : Type 0 where
@@ -298,16 +300,16 @@ top-item c at tag rest q e =
     ap (λ x. known x tag) p ∙ top-known tag (sym (ap (λ x. allowed x tag) p) ∙ held-of c at tag rest q .allow)
 
 -- and nothing follows it
-top-last : (c : Context) (at tag : ℕ) (rest : List ℕ) → Unbroken c at tag rest → c ≡ outermost → laterOf (tag ∷ rest) ≡ []
+top-last : (c : Context) (at tag : ℕ) (rest : List ℕ) → Unbroken c at tag rest → c ≡ outermost → afterFirst (tag ∷ rest) ≡ []
 unfolding outermost
 top-last c at tag rest q e =
     let p = tag ∷ rest in
-    let f = fitting c at tag (headerSize p) (bodySize p) (suc (length rest)) (bodyOf p) q .alone in
+    let f = fitting c at tag (headerSize p) (bodySize p) (suc (length rest)) (firstBody p) q .alone in
     let l : leb (suc (length rest)) (headerSize p + bodySize p) ≡ true = sym (ap (λ x. not (eqb (x .parent) 0) || leb (suc (length rest)) (headerSize p + bodySize p)) e) ∙ f in
     drop-drop (bodySize p) (headerSize p) p ∙ drop-of-length-le p (leb-true (suc (length rest)) (headerSize p + bodySize p) l)
 
 comes-element : (c : Context) (at tag : ℕ) (rest : List ℕ) (s u : Items) → Unbroken c at tag rest → known (c .parent) tag ≡ some HoldsItems → Octets (tag ∷ rest)
-    → Comes (within c tag) (bodyOf (tag ∷ rest)) s → Comes (Nexts c at tag rest) (laterOf (tag ∷ rest)) u → Comes c (tag ∷ rest) (item tag (inAt at (tag ∷ rest)) (bodyOf (tag ∷ rest)) s u)
+    → Comes (within c tag) (firstBody (tag ∷ rest)) s → Comes (Nexts c at tag rest) (afterFirst (tag ∷ rest)) u → Comes c (tag ∷ rest) (item tag (inAt at (tag ∷ rest)) (firstBody (tag ∷ rest)) s u)
 comes-element c at tag rest s u q e os inside later = record {
   empty = λ n. absurd (some-octet tag rest n);
   tells = tells-element c at tag (inAt at (tag ∷ rest)) body s u (os 0) (body-octets (tag ∷ rest) os) (held-of c at tag rest q) e (inside .tells) (later .tells);
@@ -325,7 +327,7 @@ comes-element c at tag rest s u q e os inside later = record {
 }
   where
     body : List ℕ
-    body = bodyOf (tag ∷ rest)
+    body = firstBody (tag ∷ rest)
 
 abbrev Coming : Context → ℕ → List ℕ → Items → Type 0
 Coming c at part t = Octets part → Comes c part t
@@ -336,13 +338,13 @@ coming-cases = record {
   atEnd = λ c at q os. record { empty = λ n. refl; tells = tells-end c q; whole = λ o n. absurd (n refl) };
   atUnknown = λ c at tag rest u q e later os. record {
     empty = λ n. absurd (some-octet tag rest n);
-    tells = tells-unknown c at tag (bodyOf (tag ∷ rest)) u (held-of c at tag rest q) e (later (later-octets (tag ∷ rest) os) .tells);
+    tells = tells-unknown c at tag (firstBody (tag ∷ rest)) u (held-of c at tag rest q) e (later (later-octets (tag ∷ rest) os) .tells);
     whole = λ o n. absurd (Option·none-ne-some HoldsItems (sym e ∙ top-item c at tag rest q o));
   };
   atElement = λ c at tag rest s u q e inside later os. comes-element c at tag rest s u q e os (inside (body-octets (tag ∷ rest) os)) (later (later-octets (tag ∷ rest) os));
   atLeaf = λ c at tag rest u k q e l later os. record {
     empty = λ n. absurd (some-octet tag rest n);
-    tells = tells-leaf c at tag (inAt at (tag ∷ rest)) (bodyOf (tag ∷ rest)) u k (os 0) (body-octets (tag ∷ rest) os) (held-of c at tag rest q) e (later (later-octets (tag ∷ rest) os) .tells);
+    tells = tells-leaf c at tag (inAt at (tag ∷ rest)) (firstBody (tag ∷ rest)) u k (os 0) (body-octets (tag ∷ rest) os) (held-of c at tag rest q) e (later (later-octets (tag ∷ rest) os) .tells);
     whole = λ o n. absurd (false≢true (sym l ∙ ap isItems (sym e ∙ top-item c at tag rest q o)));
   };
 }

@@ -11,7 +11,9 @@ use lib.ListN.{length, drop, length-drop, drop-of-length-le}
 use borrow.Author.Tests.{leb-true, eqb-true, eq-eqb}
 use Rattle.octets.specs.Numbers.{among, Octets}
 use Rattle.octets.specs.Header.{headerSize, bodySize}
+use Rattle.octets.specs.Places.{firstBody, afterFirst}
 use Rattle.octets.proofs.Tests.{and-left, and-right, or-elim}
+use Rattle.octets.proofs.Places.{body-octets, later-octets}
 use Rattle.text.specs.Tokens.{Entries, entries, covered, shownLength}
 use Rattle.text.proofs.Expansion.{Sound, sound-empty}
 use Rattle.values.specs.declared.Kind.{Kind}
@@ -23,7 +25,7 @@ use Rattle.format.specs.Tree.Items.{end, item}
 use Rattle.format.specs.Judge.{isKnown, isItems, isTokens, isText, isValue, Context, isTop, allowed, latest, stageAfter, limit, notAbove, shown, ofTop, late, lateAfter, within, next, outermost, judge}
 use Rattle.format.specs.Judge.Judged.{accepted}
 use Rattle.format.proofs.Rules.{KindHeld, Held, Fitting, held, fitting, rule-true, unless-none}
-use Rattle.format.proofs.Induction.{Cases, judged-all, Unbroken, Nexts, bodyOf, laterOf, inAt, body-octets, later-octets}
+use Rattle.format.proofs.Induction.{Cases, judged-all, Unbroken, Nexts, inAt}
 use Rattle.format.proofs.Force.{settled, settled-after, settled-next, settled-within, not-four, inner-tag, not-both, Valid, valid-within, valid-next, quiet-now, quiet-before, quiet-attribute, covered-attribute, forced, inForce, force-next, force-skip, force-after}
 use Rattle.format.proofs.Place.{attribute-other}
 use Rattle.grammar.specs.Grammar.{Begins, TextIn, Part, Child, Inside, Accepts}
@@ -272,26 +274,26 @@ good-end c at q = record { once = λ a x y z. refl; settled = λ w. refl; derive
 
 -- the first item of a part
 module _ (c : Context) (at tag : ℕ) (rest : List ℕ) (q : Unbroken c at tag rest) where
-  item-held : Held c tag (bodyOf (tag ∷ rest))
-  item-held = held c at tag (headerSize (tag ∷ rest)) (bodySize (tag ∷ rest)) (suc (length rest)) (bodyOf (tag ∷ rest)) q
+  item-held : Held c tag (firstBody (tag ∷ rest))
+  item-held = held c at tag (headerSize (tag ∷ rest)) (bodySize (tag ∷ rest)) (suc (length rest)) (firstBody (tag ∷ rest)) q
 
   item-fits : Fitting c (headerSize (tag ∷ rest)) (bodySize (tag ∷ rest)) (suc (length rest))
-  item-fits = fitting c at tag (headerSize (tag ∷ rest)) (bodySize (tag ∷ rest)) (suc (length rest)) (bodyOf (tag ∷ rest)) q
+  item-fits = fitting c at tag (headerSize (tag ∷ rest)) (bodySize (tag ∷ rest)) (suc (length rest)) (firstBody (tag ∷ rest)) q
 
-  item-begins : Octets (tag ∷ rest) → Begins tag (bodyOf (tag ∷ rest)) (laterOf (tag ∷ rest)) (tag ∷ rest) (headerSize (tag ∷ rest))
+  item-begins : Octets (tag ∷ rest) → Begins tag (firstBody (tag ∷ rest)) (afterFirst (tag ∷ rest)) (tag ∷ rest) (headerSize (tag ∷ rest))
   item-begins os = begins tag rest os (item-fits .header) (item-fits .body)
 
   -- what is derived of the items after it
-  next-derived : (u : Items) → Good (Nexts c at tag rest) (inAt at (tag ∷ rest) + bodySize (tag ∷ rest)) (laterOf (tag ∷ rest)) u → (T : Entries) → inForce (Nexts c at tag rest) u ≡ T
-      → Octets (tag ∷ rest) → Valid c → Derived T (Nexts c at tag rest) (at + headerSize (tag ∷ rest) + length (bodyOf (tag ∷ rest))) (laterOf (tag ∷ rest)) u
+  next-derived : (u : Items) → Good (Nexts c at tag rest) (inAt at (tag ∷ rest) + bodySize (tag ∷ rest)) (afterFirst (tag ∷ rest)) u → (T : Entries) → inForce (Nexts c at tag rest) u ≡ T
+      → Octets (tag ∷ rest) → Valid c → Derived T (Nexts c at tag rest) (at + headerSize (tag ∷ rest) + length (firstBody (tag ∷ rest))) (afterFirst (tag ∷ rest)) u
   next-derived u g T e os r =
-      subst (λ m. Derived T (Nexts c at tag rest) (at + headerSize (tag ∷ rest) + m) (laterOf (tag ∷ rest)) u) (sym (body-length (tag ∷ rest) (item-fits .body)))
-      (g .derived T e (later-octets (tag ∷ rest) os) (valid-next c at tag (bodyOf (tag ∷ rest)) item-held r))
+      subst (λ m. Derived T (Nexts c at tag rest) (at + headerSize (tag ∷ rest) + m) (afterFirst (tag ∷ rest)) u) (sym (body-length (tag ∷ rest) (item-fits .body)))
+      (g .derived T e (later-octets (tag ∷ rest) os) (valid-next c at tag (firstBody (tag ∷ rest)) item-held r))
 
-  good-unknown : (u : Items) → known (c .parent) tag ≡ none → Good (Nexts c at tag rest) (inAt at (tag ∷ rest) + bodySize (tag ∷ rest)) (laterOf (tag ∷ rest)) u → Good c at (tag ∷ rest) u
+  good-unknown : (u : Items) → known (c .parent) tag ≡ none → Good (Nexts c at tag rest) (inAt at (tag ∷ rest) + bodySize (tag ∷ rest)) (afterFirst (tag ∷ rest)) u → Good c at (tag ∷ rest) u
   good-unknown u e g = record {
-    once = once-skip c at tag (bodyOf (tag ∷ rest)) u (g .once);
-    settled = settled-skip c at tag (bodyOf (tag ∷ rest)) u item-held (g .settled);
+    once = once-skip c at tag (firstBody (tag ∷ rest)) u (g .once);
+    settled = settled-skip c at tag (firstBody (tag ∷ rest)) u item-held (g .settled);
     derived = λ T x os r. go T x os r (attribute tag) refl;
   }
     where
@@ -300,25 +302,25 @@ module _ (c : Context) (at tag : ℕ) (rest : List ℕ) (q : Unbroken c at tag r
 
       go : (T : Entries) → inForce c u ≡ T → Octets (tag ∷ rest) → Valid c → (b : Bool) → attribute tag ≡ b → Derived T c at (tag ∷ rest) u
       go T x os r true a =
-          let y = force-skip c at tag (bodyOf (tag ∷ rest)) u f ∙ x in
-          derived-unknown-attribute T c at (headerSize (tag ∷ rest)) tag (bodyOf (tag ∷ rest)) (laterOf (tag ∷ rest)) (tag ∷ rest) u (item-begins os) item-held r (next-derived u g T y os r) a e
+          let y = force-skip c at tag (firstBody (tag ∷ rest)) u f ∙ x in
+          derived-unknown-attribute T c at (headerSize (tag ∷ rest)) tag (firstBody (tag ∷ rest)) (afterFirst (tag ∷ rest)) (tag ∷ rest) u (item-begins os) item-held r (next-derived u g T y os r) a e
       go T x os r false a =
-          let y = force-skip c at tag (bodyOf (tag ∷ rest)) u f ∙ x in
-          derived-unknown-element T c at (headerSize (tag ∷ rest)) tag (bodyOf (tag ∷ rest)) (laterOf (tag ∷ rest)) (tag ∷ rest) u (item-begins os) item-held r (next-derived u g T y os r)
-          a (sym (known-anywhere (c .parent) tag a) ∙ e) (force-after c at tag (bodyOf (tag ∷ rest)) u (g .settled) a f ∙ y)
+          let y = force-skip c at tag (firstBody (tag ∷ rest)) u f ∙ x in
+          derived-unknown-element T c at (headerSize (tag ∷ rest)) tag (firstBody (tag ∷ rest)) (afterFirst (tag ∷ rest)) (tag ∷ rest) u (item-begins os) item-held r (next-derived u g T y os r)
+          a (sym (known-anywhere (c .parent) tag a) ∙ e) (force-after c at tag (firstBody (tag ∷ rest)) u (g .settled) a f ∙ y)
 
-  within-derived : (T : Entries) (s : Items) → c .table ≡ T → Octets (tag ∷ rest) → Valid c → Good (within c tag) (inAt at (tag ∷ rest)) (bodyOf (tag ∷ rest)) s
-      → Derived T (within c tag) (inAt at (tag ∷ rest)) (bodyOf (tag ∷ rest)) s
+  within-derived : (T : Entries) (s : Items) → c .table ≡ T → Octets (tag ∷ rest) → Valid c → Good (within c tag) (inAt at (tag ∷ rest)) (firstBody (tag ∷ rest)) s
+      → Derived T (within c tag) (inAt at (tag ∷ rest)) (firstBody (tag ∷ rest)) s
   unfolding within
   within-derived T s same os r g =
-      let n : find 4 s ≡ none = g .settled (settled-within c tag (bodyOf (tag ∷ rest)) item-held r) in
-      g .derived T (ap (forced (c .table)) n ∙ same) (body-octets (tag ∷ rest) os) (valid-within c tag (bodyOf (tag ∷ rest)) item-held r)
+      let n : find 4 s ≡ none = g .settled (settled-within c tag (firstBody (tag ∷ rest)) item-held r) in
+      g .derived T (ap (forced (c .table)) n ∙ same) (body-octets (tag ∷ rest) os) (valid-within c tag (firstBody (tag ∷ rest)) item-held r)
 
-  good-element : (s u : Items) → known (c .parent) tag ≡ some HoldsItems → Good (within c tag) (inAt at (tag ∷ rest)) (bodyOf (tag ∷ rest)) s
-      → Good (Nexts c at tag rest) (inAt at (tag ∷ rest) + bodySize (tag ∷ rest)) (laterOf (tag ∷ rest)) u → Good c at (tag ∷ rest) (item tag (inAt at (tag ∷ rest)) (bodyOf (tag ∷ rest)) s u)
+  good-element : (s u : Items) → known (c .parent) tag ≡ some HoldsItems → Good (within c tag) (inAt at (tag ∷ rest)) (firstBody (tag ∷ rest)) s
+      → Good (Nexts c at tag rest) (inAt at (tag ∷ rest) + bodySize (tag ∷ rest)) (afterFirst (tag ∷ rest)) u → Good c at (tag ∷ rest) (item tag (inAt at (tag ∷ rest)) (firstBody (tag ∷ rest)) s u)
   unfolding isText isTokens
   good-element s u e i g =
-      let body = bodyOf (tag ∷ rest) in
+      let body = firstBody (tag ∷ rest) in
       let a = items-no-attribute (c .parent) tag e in
       let z : known 0 tag ≡ some HoldsItems = sym (known-anywhere (c .parent) tag a) ∙ e in
       let f = child-tag tag (ap isText z) (ap isTokens z) .notTable in
@@ -328,7 +330,7 @@ module _ (c : Context) (at tag : ℕ) (rest : List ℕ) (q : Unbroken c at tag r
         derived = λ T x os r.
             let y = force-next c at tag (inAt at (tag ∷ rest)) body s u f ∙ x in
             let same = force-after c at tag body u (g .settled) a f ∙ y in
-            derived-held T c at (headerSize (tag ∷ rest)) tag body (laterOf (tag ∷ rest)) (tag ∷ rest) u (item-begins os) item-held r (next-derived u g T y os r)
+            derived-held T c at (headerSize (tag ∷ rest)) tag body (afterFirst (tag ∷ rest)) (tag ∷ rest) u (item-begins os) item-held r (next-derived u g T y os r)
             s a z same (within-derived T s same os r i);
       }
 
@@ -351,14 +353,14 @@ unfolding next among isKnown
 once-next c at tag body u kd a e n = n tag a (ap isKnown e) (rw (eq-eqb tag tag refl))
 
 good-leaf : (c : Context) (at tag : ℕ) (rest : List ℕ) (q : Unbroken c at tag rest) (u : Items) (kd : Kind) → known (c .parent) tag ≡ some kd → isItems (some kd) ≡ false
-    → Good (Nexts c at tag rest) (inAt at (tag ∷ rest) + bodySize (tag ∷ rest)) (laterOf (tag ∷ rest)) u → Good c at (tag ∷ rest) (item tag (inAt at (tag ∷ rest)) (bodyOf (tag ∷ rest)) end u)
+    → Good (Nexts c at tag rest) (inAt at (tag ∷ rest) + bodySize (tag ∷ rest)) (afterFirst (tag ∷ rest)) u → Good c at (tag ∷ rest) (item tag (inAt at (tag ∷ rest)) (firstBody (tag ∷ rest)) end u)
 good-leaf c at tag rest q u kd e l g = record { once = once-item c at from tag body end u k (g .once); settled = settled; derived = λ T x os r. go T x os r (attribute tag) refl (eqb tag 4) refl }
   where
     from : ℕ
     from = inAt at (tag ∷ rest)
 
     body : List ℕ
-    body = bodyOf (tag ∷ rest)
+    body = firstBody (tag ∷ rest)
 
     k : Held c tag body
     k = item-held c at tag rest q
@@ -370,15 +372,15 @@ good-leaf c at tag rest q u kd e l g = record { once = once-item c at from tag b
         → Derived T c at (tag ∷ rest) (item tag from body end u)
     go T x os r true a f p =
         let y = force-next c at tag from body end u (attribute-other tag 4 a (omega arith)) ∙ x in
-        derived-known-attribute T c at (headerSize (tag ∷ rest)) tag body (laterOf (tag ∷ rest)) (tag ∷ rest) u (item-begins c at tag rest q os) k r (next-derived c at tag rest q u g T y os r)
+        derived-known-attribute T c at (headerSize (tag ∷ rest)) tag body (afterFirst (tag ∷ rest)) (tag ∷ rest) u (item-begins c at tag rest q os) k r (next-derived c at tag rest q u g T y os r)
         kd a e (λ w. force-settled T c (item tag from body end u) (settled w) x) (once-next c at tag body u kd a e (g .once))
     go T x os r false a false p =
         let y = force-next c at tag from body end u p ∙ x in
-        derived-leaf T c at (headerSize (tag ∷ rest)) tag body (laterOf (tag ∷ rest)) (tag ∷ rest) u kd (item-begins c at tag rest q os) k r (next-derived c at tag rest q u g T y os r)
+        derived-leaf T c at (headerSize (tag ∷ rest)) tag body (afterFirst (tag ∷ rest)) (tag ∷ rest) u kd (item-begins c at tag rest q os) k r (next-derived c at tag rest q u g T y os r)
         a (sym (known-anywhere (c .parent) tag a) ∙ e) l (λ _. force-after c at tag body u (g .settled) a p ∙ y) (λ w. absurd (not-both (eqb tag 4) p w))
     go T x os r false a true p =
         let z = table-entries T c from tag body end u p x in
-        derived-leaf T c at (headerSize (tag ∷ rest)) tag body (laterOf (tag ∷ rest)) (tag ∷ rest) u kd (item-begins c at tag rest q os) k r
+        derived-leaf T c at (headerSize (tag ∷ rest)) tag body (afterFirst (tag ∷ rest)) (tag ∷ rest) u kd (item-begins c at tag rest q os) k r
         (next-derived c at tag rest q u g T (table-next T c at tag body u a p (g .settled) z) os r) a (sym (known-anywhere (c .parent) tag a) ∙ e) l (λ w. absurd (not-both (eqb tag 4) w p)) (λ _. z)
 
 -- what is shown of the object besides: it is one of the two tops with nothing behind it
@@ -404,7 +406,7 @@ unfolding within
 valid-top c tag t e = record { sound = subst (λ X. Sound X) (sym e) sound-empty; opened = λ w. e; closed = λ w. refl; inner = not-zero tag HoldsItems (top-items tag t) }
 
 -- nothing is behind an object
-none-behind : (c : Context) (p : List ℕ) → eqb (c .parent) 0 ≡ true → Fitting c (headerSize p) (bodySize p) (length p) → laterOf p ≡ []
+none-behind : (c : Context) (p : List ℕ) → eqb (c .parent) 0 ≡ true → Fitting c (headerSize p) (bodySize p) (length p) → afterFirst p ≡ []
 none-behind c p z f =
     let a : leb (length p) (headerSize p + bodySize p) ≡ true = rw z at (f .alone) in
     let l = leb-true (length p) (headerSize p + bodySize p) a in
@@ -419,8 +421,8 @@ top-tree : (at start tag : ℕ) (body : List ℕ) (s u : Items) → at ≡ 0 →
 top-tree at start tag body s u z e = rw (z, zero-add start, e)
 
 module _ (c : Context) (at tag : ℕ) (rest : List ℕ) (q : Unbroken c at tag rest) where
-  top-accepts : (s u : Items) → Good (within c tag) (inAt at (tag ∷ rest)) (bodyOf (tag ∷ rest)) s → (laterOf (tag ∷ rest) ≡ [] → u ≡ end) → eqb (c .parent) 0 ≡ true → c .depth ≡ 1
-      → c .table ≡ [] → at ≡ 0 → Octets (tag ∷ rest) → length (tag ∷ rest) ≤ 32_768 → Accepts (tag ∷ rest) (item tag (inAt at (tag ∷ rest)) (bodyOf (tag ∷ rest)) s u)
+  top-accepts : (s u : Items) → Good (within c tag) (inAt at (tag ∷ rest)) (firstBody (tag ∷ rest)) s → (afterFirst (tag ∷ rest) ≡ [] → u ≡ end) → eqb (c .parent) 0 ≡ true → c .depth ≡ 1
+      → c .table ≡ [] → at ≡ 0 → Octets (tag ∷ rest) → length (tag ∷ rest) ≤ 32_768 → Accepts (tag ∷ rest) (item tag (inAt at (tag ∷ rest)) (firstBody (tag ∷ rest)) s u)
   unfolding within
   top-accepts s u g f p d e z os l =
       let t = allowed-object (c .parent) tag p (item-held c at tag rest q .allow) in
@@ -429,14 +431,14 @@ module _ (c : Context) (at tag : ℕ) (rest : List ℕ) (q : Unbroken c at tag r
       record {
         tokens = inForce (within c tag) s;
         tag = tag;
-        body = bodyOf (tag ∷ rest);
+        body = firstBody (tag ∷ rest);
         start = headerSize (tag ∷ rest);
         inside = s;
         small = l;
         top = t;
-        whole = subst (λ m. Begins tag (bodyOf (tag ∷ rest)) m (tag ∷ rest) (headerSize (tag ∷ rest))) n (item-begins c at tag rest q os);
-        holds = top-inside (inForce (within c tag) s) (c .depth) at (headerSize (tag ∷ rest)) tag (bodyOf (tag ∷ rest)) s d z (i .inside);
-        tree = top-tree at (headerSize (tag ∷ rest)) tag (bodyOf (tag ∷ rest)) s u z (f n);
+        whole = subst (λ m. Begins tag (firstBody (tag ∷ rest)) m (tag ∷ rest) (headerSize (tag ∷ rest))) n (item-begins c at tag rest q os);
+        holds = top-inside (inForce (within c tag) s) (c .depth) at (headerSize (tag ∷ rest)) tag (firstBody (tag ∷ rest)) s d z (i .inside);
+        tree = top-tree at (headerSize (tag ∷ rest)) tag (firstBody (tag ∷ rest)) s u z (f n);
       }
 
   object-known : eqb (c .parent) 0 ≡ true → known (c .parent) tag ≡ some HoldsItems

@@ -10,9 +10,9 @@ use lib.Seq.{take-append-seam, drop-append-seam, take-at, length-take-le}
 use borrow.Author.Tests.{eqb-true, eqb-false, ne-eqb}
 use Rattle.octets.specs.Numbers.{value, digits, Octets}
 use Rattle.octets.specs.Header.{headerSize, bodySize}
+use Rattle.octets.specs.Places.{firstBody, afterFirst}
 use Rattle.octets.proofs.Numbers.{length-digits, value-digits, value-of-length, octets-take, digits-value}
 use Rattle.octets.proofs.Frames.{header-two}
-use Rattle.format.proofs.Induction.{bodyOf, laterOf}
 use Rattle.grammar.specs.Grammar.{Form, header, Says, Begins}
 use Rattle.grammar.specs.Grammar.Form.{short, middle, long}
 
@@ -82,8 +82,8 @@ value-take n o os l = value-of-length n (take n o) (octets-take n o os) (length-
 digits-front : (n : ℕ) (o : List ℕ) → Octets o → n ≤ length o → o ≡ digits n (value (take n o)) ++ drop n o
 digits-front n o os l = rw (digits-take n o os l) (sym (take-append-drop n o))
 
-begins-cons : (tag b : ℕ) (bs : List ℕ) → Octets (tag ∷ b ∷ bs) → headerSize (tag ∷ b ∷ bs) ≤ suc (suc (length bs)) → length (bodyOf (tag ∷ b ∷ bs)) ≡ bodySize (tag ∷ b ∷ bs)
-    → Begins tag (bodyOf (tag ∷ b ∷ bs)) (laterOf (tag ∷ b ∷ bs)) (tag ∷ b ∷ bs) (headerSize (tag ∷ b ∷ bs))
+begins-cons : (tag b : ℕ) (bs : List ℕ) → Octets (tag ∷ b ∷ bs) → headerSize (tag ∷ b ∷ bs) ≤ suc (suc (length bs)) → length (firstBody (tag ∷ b ∷ bs)) ≡ bodySize (tag ∷ b ∷ bs)
+    → Begins tag (firstBody (tag ∷ b ∷ bs)) (afterFirst (tag ∷ b ∷ bs)) (tag ∷ b ∷ bs) (headerSize (tag ∷ b ∷ bs))
 unfolding headerSize bodySize
 begins-cons tag b bs os r l = go (eqb b 0xFE) refl (eqb b 0xFF) refl
   where
@@ -91,7 +91,7 @@ begins-cons tag b bs os r l = go (eqb b 0xFE) refl (eqb b 0xFF) refl
     behind i = os (suc (suc i))
 
     go : (x : Bool) → eqb b 0xFE ≡ x → (y : Bool) → eqb b 0xFF ≡ y
-        → Begins tag (bodyOf (tag ∷ b ∷ bs)) (laterOf (tag ∷ b ∷ bs)) (tag ∷ b ∷ bs) (headerSize (tag ∷ b ∷ bs))
+        → Begins tag (firstBody (tag ∷ b ∷ bs)) (afterFirst (tag ∷ b ∷ bs)) (tag ∷ b ∷ bs) (headerSize (tag ∷ b ∷ bs))
     go true e y f =
         let q : 2 ≤ length bs = let g : 4 ≤ suc (suc (length bs)) = rw e at r in omega arith in
         let d : bs ≡ digits 2 (value (take 2 bs)) ++ drop 2 bs = digits-front 2 bs behind q in
@@ -102,10 +102,10 @@ begins-cons tag b bs os r l = go (eqb b 0xFE) refl (eqb b 0xFF) refl
         rw (e, f) (built long tag 5 (value (take 3 bs)) (tag ∷ b ∷ bs) (rw (e, f) at l) (value-take 3 bs behind q) (rw length-digits) (ap₂ (λ x o. tag ∷ x ∷ o) (eqb-true b 0xFF f) d))
     go false e false f = rw (e, f) (built short tag 2 b (tag ∷ b ∷ bs) (rw (e, f) at l) (omega (arith, os 1, eqb-false b 0xFE e, eqb-false b 0xFF f)) refl refl)
 
-pub body-length : (p : List ℕ) → headerSize p + bodySize p ≤ length p → length (bodyOf p) ≡ bodySize p
+pub body-length : (p : List ℕ) → headerSize p + bodySize p ≤ length p → length (firstBody p) ≡ bodySize p
 body-length p l = length-take-le (bodySize p) (drop (headerSize p) p) (rw (length-drop (headerSize p) p) (omega arith))
 
 pub begins : (tag : ℕ) (rest : List ℕ) → Octets (tag ∷ rest) → headerSize (tag ∷ rest) ≤ suc (length rest) → headerSize (tag ∷ rest) + bodySize (tag ∷ rest) ≤ suc (length rest)
-    → Begins tag (bodyOf (tag ∷ rest)) (laterOf (tag ∷ rest)) (tag ∷ rest) (headerSize (tag ∷ rest))
+    → Begins tag (firstBody (tag ∷ rest)) (afterFirst (tag ∷ rest)) (tag ∷ rest) (headerSize (tag ∷ rest))
 begins tag [] os r l = absurd (omega (arith, header-two (tag ∷ [])))
 begins tag (b ∷ bs) os r l = begins-cons tag b bs os r (body-length (tag ∷ b ∷ bs) l)

@@ -6,5 +6,6 @@ pub mod Puts
 pub mod Writing
 pub mod Answers
 pub mod Frames
+pub mod Places
 pub mod Anchors
 pub mod Wrong

@@ -9,9 +9,11 @@ use lib.ListN.{length, take, drop, getD}
 use Rattle.octets.specs.Counts.{asOctets}
 use Rattle.octets.specs.Numbers.{value, digits}
 use Rattle.octets.specs.Header.{headerSize, bodySize, lengthField}
+use Rattle.octets.specs.Places.{liesIn, liesAt}
 use Rattle.octets.specs.Calls.{headerOf, numberOf, fitsWidth}
 use Rattle.octets.specs.Puts.{putAnswer, putOut, Puts}
 use Rattle.octets.specs.declared.Header.{Header}
+use Rattle.octets.specs.declared.Lies.the-variants.{Between}
 use Rattle.octets.specs.declared.Number.{Number}
 use Rattle.octets.specs.declared.Put.{Put}
 use Rattle.octets.proofs.Lists.{part-of-sets}
@@ -35,6 +37,15 @@ header-cut h = let z : _≡_ {A = ℕ} 0 1 = cc h in omega arith
 pub header-body : headerOf (0x03 ∷ 0x05 ∷ []) ≡ Header.Past → ⊥
 unfolding headerOf headerSize bodySize
 header-body h = let z : _≡_ {A = ℕ} 0 1 = cc h in omega arith
+
+-- ---- item_at: an item that runs past the part; places counted from where the item begins, and not from where the part does
+pub past-lies : liesAt (0x06 ∷ 0x02 ∷ 0x65 ∷ []) 0 ≡ Between 2 4 → ⊥
+unfolding liesAt liesIn headerSize bodySize
+past-lies h = let z : _≡_ {A = ℕ} 0 1 = cc h in omega arith
+
+pub counted-from-item : liesAt (0x10 ∷ 0x00 ∷ 0x06 ∷ 0x01 ∷ 0x65 ∷ []) 2 ≡ Between 2 3 → ⊥
+unfolding liesAt liesIn headerSize bodySize
+counted-from-item h = let z : _≡_ {A = ℕ} 4 2 = cc h in omega arith
 
 -- ---- header_size: one octet long forms from 253 on, and up to 254; 65,536 in two octets
 pub size-early : asOctets 4 ≡ asOctets (suc (length (lengthField 0xFD))) → ⊥

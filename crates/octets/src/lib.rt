@@ -15,15 +15,23 @@ ghost use Rattle.octets.specs.Calls.{headerOf, numberOf, fitsWidth, endO
 ghost use Rattle.octets.specs.Puts.{Puts};
 
 mod counts;
+mod items;
 
 pub use counts::Characters;
 pub use counts::Octets;
+pub use items::item_at;
 
 // The header with which a part begins. Found: the span of the body, which begins behind the tag and the length and may run past the part. Past: the part ends
 // within the header.
 pub enum Header {
     Past,
     Found { start: usize, size: usize },
+}
+
+// Where the body of an item lies, if it lies in the part.
+pub enum Lies {
+    Outside,
+    Between { from: usize, to: usize },
 }
 
 // The number that octets write. TooLong: there are more than four.

@@ -8,9 +8,13 @@ use Prim.Native.Nat.{ℕ, suc, _+_, _≤_, _<_}
 use native.Mathlib.Numerals.{add-one}
 use native.Mathlib.Omega.{arith}
 use lib.Dec.{eqb, leb}
-use lib.ListN.{length, getD}
-use borrow.Author.Tests.{leb-true}
+use lib.ListN.{length, drop, getD, length-drop}
+use borrow.Author.Tests.{leb-true, leb-false}
 use Rattle.octets.specs.Header.{headerSize, bodySize}
+use Rattle.octets.specs.declared.Lies.{Lies}
+use Rattle.octets.specs.declared.Lies.the-variants.{Outside}
+use Rattle.octets.specs.Places.{liesAt, firstBody, afterFirst, between}
+use Rattle.octets.proofs.Places.{Lying, not-whole, body-is, later-is, tag-is}
 use Rattle.values.specs.Table.{known, attribute}
 use Rattle.values.proofs.Known.{items-no-attribute, items-tag, known-anywhere}
 use Rattle.format.specs.declared.Refusal.{Refusal}
@@ -21,7 +25,6 @@ use Rattle.format.specs.Judge.Judged.{refused, accepted}
 use Rattle.format.proofs.Rules.{held, fitting, unless-none, unless-accepted, never, same-tree}
 use Rattle.format.proofs.Means.{items-known}
 use Rattle.format.proofs.Fuel.{read-item, read-end}
-use Rattle.format.proofs.Induction.{bodyOf, laterOf}
 use Rattle.reader.specs.Filling.{Accepts, share}
 
 -- what an accepted item's parts are
@@ -73,50 +76,50 @@ module _ (c : Context) (base tag : ℕ) (rest : List ℕ) (t : Items) (q : read 
   s = tag ∷ rest
 
   abbrev wrong : Option Refusal
-  wrong = broken c base tag (headerSize s) (bodySize s) (suc (length rest)) (bodyOf s)
+  wrong = broken c base tag (headerSize s) (bodySize s) (suc (length rest)) (firstBody s)
 
   abbrev inner : Judged
-  inner = read (within c tag) (base + headerSize s) (bodyOf s)
+  inner = read (within c tag) (base + headerSize s) (firstBody s)
 
   abbrev later : Judged
-  later = read (next c base tag (bodyOf s)) (base + headerSize s + bodySize s) (laterOf s)
+  later = read (next c base tag (firstBody s)) (base + headerSize s + bodySize s) (afterFirst s)
 
-  step : unless wrong (byKind (known (c .parent) tag) (item tag (base + headerSize s) (bodyOf s)) inner later) ≡ accepted t
-  step = sym (read-item c base tag rest (headerSize s) (bodySize s) (bodyOf s) (laterOf s) refl refl refl refl) ∙ q
+  step : unless wrong (byKind (known (c .parent) tag) (item tag (base + headerSize s) (firstBody s)) inner later) ≡ accepted t
+  step = sym (read-item c base tag rest (headerSize s) (bodySize s) (firstBody s) (afterFirst s) refl refl refl refl) ∙ q
 
   sound : wrong ≡ none
-  sound = unless-none wrong (byKind (known (c .parent) tag) (item tag (base + headerSize s) (bodyOf s)) inner later) t step
+  sound = unless-none wrong (byKind (known (c .parent) tag) (item tag (base + headerSize s) (firstBody s)) inner later) t step
 
-  parts : Parted (isItems (known (c .parent) tag)) (isKnown (known (c .parent) tag)) tag (base + headerSize s) (bodyOf s) inner later t
+  parts : Parted (isItems (known (c .parent) tag)) (isKnown (known (c .parent) tag)) tag (base + headerSize s) (firstBody s) inner later t
   unfolding byKind
-  parts = parted tag (base + headerSize s) (bodyOf s) t (isItems (known (c .parent) tag)) (isKnown (known (c .parent) tag)) inner later
-      (unless-accepted wrong (byKind (known (c .parent) tag) (item tag (base + headerSize s) (bodyOf s)) inner later) t step)
+  parts = parted tag (base + headerSize s) (firstBody s) t (isItems (known (c .parent) tag)) (isKnown (known (c .parent) tag)) inner later
+      (unless-accepted wrong (byKind (known (c .parent) tag) (item tag (base + headerSize s) (firstBody s)) inner later) t step)
 
-  within-accepts : isItems (known (c .parent) tag) ≡ true → Accepts tag (c .depth + 1) (base + headerSize s) (bodyOf s) (parts .u)
+  within-accepts : isItems (known (c .parent) tag) ≡ true → Accepts tag (c .depth + 1) (base + headerSize s) (firstBody s) (parts .u)
   unfolding within
   within-accepts k = record { context = within c tag; isElement = refl; isDepth = sym (add-one (c .depth)); reads = parts .inside k }
 
-  next-accepts : Accepts (c .parent) (c .depth) (base + headerSize s + bodySize s) (laterOf s) (parts .v)
+  next-accepts : Accepts (c .parent) (c .depth) (base + headerSize s + bodySize s) (afterFirst s) (parts .v)
   unfolding next
-  next-accepts = record { context = next c base tag (bodyOf s); isElement = refl; isDepth = refl; reads = parts .after }
+  next-accepts = record { context = next c base tag (firstBody s); isElement = refl; isDepth = refl; reads = parts .after }
 
   fits-item : headerSize s + bodySize s ≤ length s
-  fits-item = fitting c base tag (headerSize s) (bodySize s) (suc (length rest)) (bodyOf s) sound .body
+  fits-item = fitting c base tag (headerSize s) (bodySize s) (suc (length rest)) (firstBody s) sound .body
 
-  opened-item : Opened (c .parent) (c .depth) tag (base + headerSize s) (base + headerSize s + bodySize s) (bodyOf s) (laterOf s) t
+  opened-item : Opened (c .parent) (c .depth) tag (base + headerSize s) (base + headerSize s + bodySize s) (firstBody s) (afterFirst s) t
   unfolding share
   opened-item = record {
     u = parts .u;
     v = parts .v;
-    value = held c base tag (headerSize s) (bodySize s) (suc (length rest)) (bodyOf s) sound .rules .kind .value;
-    deep = not-deep (c .parent) tag (c .depth) (held c base tag (headerSize s) (bodySize s) (suc (length rest)) (bodyOf s) sound .rules .deep);
+    value = held c base tag (headerSize s) (bodySize s) (suc (length rest)) (firstBody s) sound .rules .kind .value;
+    deep = not-deep (c .parent) tag (c .depth) (held c base tag (headerSize s) (bodySize s) (suc (length rest)) (firstBody s) sound .rules .deep);
     inside = within-accepts;
     after = next-accepts;
     tree = parts .tree;
   }
 
 opened-in : (c : Context) (base : ℕ) (s : List ℕ) (t : Items) → 0 < length s → read c base s ≡ accepted t
-    → (headerSize s + bodySize s ≤ length s) × Opened (c .parent) (c .depth) (getD s 0 0) (base + headerSize s) (base + headerSize s + bodySize s) (bodyOf s) (laterOf s) t
+    → (headerSize s + bodySize s ≤ length s) × Opened (c .parent) (c .depth) (getD s 0 0) (base + headerSize s) (base + headerSize s + bodySize s) (firstBody s) (afterFirst s) t
 opened-in c base [] t h q = absurd (omega arith)
 opened-in c base (tag ∷ rest) t h q = (fits-item c base tag rest t q, opened-item c base tag rest t q)
 
@@ -124,8 +127,24 @@ module _ (parent depth base : ℕ) (s : List ℕ) (t : Items) (h : 0 < length s)
   pub fits-in : headerSize s + bodySize s ≤ length s
   fits-in = opened-in (a .context) base s t h (a .reads) .0
 
-  pub opened : Opened parent depth (getD s 0 0) (base + headerSize s) (base + headerSize s + bodySize s) (bodyOf s) (laterOf s) t
+  pub opened : Opened parent depth (getD s 0 0) (base + headerSize s) (base + headerSize s + bodySize s) (firstBody s) (afterFirst s) t
   opened = rw (sym (a .isElement), sym (a .isDepth)) (opened-in (a .context) base s t h (a .reads) .1)
+
+-- it lies where item_at says
+pub lies-inside : (part : List ℕ) (at : ℕ) (r : Lies) → r ≡ liesAt part at → at < length part → r ≡ Outside
+    → (parent depth base : ℕ) (t : Items) → Accepts parent depth base (drop at part) t → ⊥
+lies-inside part at r e l q parent depth base t a =
+    let s = drop at part in
+    omega (arith, leb-false (headerSize s + bodySize s) (length s) (not-whole part at r e q), fits-in parent depth base s t (omega (arith, length-drop at part)) a)
+
+-- the rest of an accepted part, in the words of code that goes by item_at
+module _ {part : List ℕ} {at from to : ℕ} (k : Lying part at from to) (h : at ≤ length part) where
+  pub met : at < length part → (parent depth base : ℕ) (t : Items) → Accepts parent depth (base + at) (drop at part) t
+      → Opened parent depth (getD part at 0) (base + from) (base + to) (between part from to) (drop to part) t
+  met l parent depth base t a =
+      let x : base + at + headerSize (drop at part) ≡ base + from = omega (arith, k .begins) in
+      let y : base + at + headerSize (drop at part) + bodySize (drop at part) ≡ base + to = omega (arith, k .ends) in
+      rw (tag-is k h, y, x, body-is k h, later-is k h) at (opened parent depth (base + at) (drop at part) t (omega (arith, length-drop at part)) a)
 
 -- a part of length 0 has no items
 pub opened-end : (parent depth base : ℕ) (t : Items) → Accepts parent depth base [] t → t ≡ end

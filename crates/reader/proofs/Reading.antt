@@ -7,7 +7,7 @@ use native.Mathlib.Omega.{arith}
 use lib.Dec.{leb}
 use lib.ListN.{length}
 use borrow.Author.Tests.{leb-true, le-leb, lt-leb}
-use Rattle.octets.proofs.Tests.{and-right}
+use Rattle.octets.proofs.Tests.{and-left, and-right}
 use Rattle.format.specs.declared.Refusal.{Refusal}
 use Rattle.format.specs.declared.Counts.{Counts}
 use Rattle.format.specs.declared.ReadAnswer.{ReadAnswer}
@@ -38,14 +38,21 @@ unfolding judgeAnswer
 was-accepted (refused q) c h = let z : _≡_ {A = ℕ} 0 1 = cc in absurd (omega arith)
 was-accepted (accepted t) c h = let e : c ≡ record { records = count t } = cc in record { tree = t; is = refl; many = ap (λ x. x .records) e }
 
--- an accepted object has no more octets than rule 1 allows
-pub small : (o : List ℕ) (t : Items) → judge o ≡ accepted t → length o ≤ 32_768
-unfolding judge
-small o t h = leb-true (length o) 32_768 (and-right (leb 1 (length o)) (leb (length o) 32_768) (rule-true 1 0 (leb 1 (length o) && leb (length o) 32_768) (unless-none (rule 1 0 (leb 1 (length o) && leb (length o) 32_768)) (read outermost 0 o) t h)))
+-- an accepted object has octets, no more than rule 1 allows, and they are accepted as the items of the object
+module _ (o : List ℕ) (t : Items) (h : judge o ≡ accepted t) where
+  sized : leb 1 (length o) && leb (length o) 32_768 ≡ true
+  unfolding judge
+  sized = rule-true 1 0 (leb 1 (length o) && leb (length o) 32_768) (unless-none (rule 1 0 (leb 1 (length o) && leb (length o) 32_768)) (read outermost 0 o) t h)
 
-whole-accepts : (o : List ℕ) (t : Items) → judge o ≡ accepted t → Accepts 0 1 0 o t
-unfolding judge outermost
-whole-accepts o t h = record { context = outermost; isElement = refl; isDepth = refl; reads = unless-accepted (rule 1 0 (leb 1 (length o) && leb (length o) 32_768)) (read outermost 0 o) t h }
+  pub some-octets : 0 < length o
+  some-octets = leb-true 1 (length o) (and-left (leb 1 (length o)) (leb (length o) 32_768) sized)
+
+  pub small : length o ≤ 32_768
+  small = leb-true (length o) 32_768 (and-right (leb 1 (length o)) (leb (length o) 32_768) sized)
+
+  pub whole : Accepts 0 1 0 o t
+  unfolding judge outermost
+  whole = record { context = outermost; isElement = refl; isDepth = refl; reads = unless-accepted (rule 1 0 (leb 1 (length o) && leb (length o) 32_768)) (read outermost 0 o) t h }
 
 -- where the top stands
 abbrev top : Place
@@ -71,7 +78,7 @@ module _ (o : List ℕ) (most : ℕ) (l : Lists) (v : ReadAnswer) (e : v ≡ jud
         pub read-can : Fillable top o l
         read-can = record {
           tree = taken .tree;
-          accepts = whole-accepts o (taken .tree) (taken .is);
+          accepts = whole o (taken .tree) (taken .is);
           room = record {
             above = omega arith;
             few = omega (arith, few o (taken .tree) (taken .is), small o (taken .tree) (taken .is));
@@ -84,7 +91,7 @@ module _ (o : List ℕ) (most : ℕ) (l : Lists) (v : ReadAnswer) (e : v ≡ jud
         unfolding Fills readAnswer readRecords
         read-filled l′ m g =
             let k : leb (count (taken .tree)) (min most (places l)) ≡ true = le-leb (count (taken .tree)) (min most (places l)) (omega (arith, taken .many)) in
-            let d : Filled top (taken .tree) l l′ m = g (taken .tree) (whole-accepts o (taken .tree) (taken .is)) in
+            let d : Filled top (taken .tree) l l′ m = g (taken .tree) (whole o (taken .tree) (taken .is)) in
             let same : c ≡ record { records = count (taken .tree) } = λ i. record { records = taken .many i } in
             record { answers = rw (taken .is, k) (ap Records same); leaves = rw (taken .is, k) (d .laid) }
 

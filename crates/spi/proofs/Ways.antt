@@ -11,7 +11,11 @@ use lib.ListN.{length, take, drop, getD, drop-of-length-le}
 use mir.Syntax.{w64}
 use mir.Val.{Fits}
 use borrow.Author.Tests.{eq-eqb, ne-eqb}
+use Rattle.octets.specs.declared.Lies.{Lies}
+use Rattle.octets.specs.declared.Lies.the-variants.{Between}
+use Rattle.octets.specs.Places.{liesAt}
 use Rattle.octets.proofs.Lists.{drop-next, length-part}
+use Rattle.octets.proofs.Places.{Lying, lying, bounds, nearer}
 use Rattle.io.specs.Counts.{Counts}
 use Rattle.io.proofs.Counting.{counts}
 use Rattle.format.specs.declared.WriteAnswer.{WriteAnswer}
@@ -20,10 +24,6 @@ use Rattle.format.specs.Answers.{writeOutcome}
 use Rattle.format.specs.Calls.{Lists, NormaliseClaim}
 use Rattle.xml.specs.Export.{ExportClaim}
 use Rattle.xml.proofs.Objects.{export-inside}
-use Rattle.survey.specs.declared.Lies.{Lies}
-use Rattle.survey.specs.declared.Lies.the-variants.{Between}
-use Rattle.survey.specs.Places.{liesAt}
-use Rattle.survey.proofs.Places.{Lying, lying, bounds, nearer}
 use Rattle.writer.proofs.Normalised.{written-inside}
 use Rattle.spi.specs.Common.{common}
 use Rattle.spi.specs.declared.objects.Made.{Made}

@@ -10,6 +10,7 @@ use lib.ListN.{length, take, drop, getD, length-take, length-drop}
 use lib.Seq.{getD-drop, ext-getD}
 use Rattle.octets.specs.Numbers.{value}
 use Rattle.octets.specs.Header.{headerSize, bodySize}
+use Rattle.octets.specs.Places.{firstBody, afterFirst}
 use Rattle.octets.proofs.Frames.{header-two}
 use Rattle.octets.proofs.Lists.{getD-part, length-part}
 use Rattle.values.specs.declared.Kind.{Kind}
@@ -19,10 +20,9 @@ use Rattle.format.specs.Tree.Items.{end, item}
 use Rattle.format.specs.Judge.{isKnown, isItems, judge}
 use Rattle.format.specs.Judge.Judged.{accepted}
 use Rattle.format.proofs.Means.{items-known}
-use Rattle.format.proofs.Induction.{bodyOf, laterOf}
 use Rattle.reader.specs.Filling.{Accepts, share}
 use Rattle.reader.proofs.Opening.{opened, opened-end, fits-in}
-use Rattle.survey.proofs.Places.{whole}
+use Rattle.reader.proofs.Reading.{whole}
 use Rattle.survey.specs.First.{orElse, firstIn, picks, placeIn, placeAt, itemAt, asItem}
 
 -- ---- inside the object
@@ -114,13 +114,13 @@ module _ (o : List ℕ) (at : ℕ) (s : List ℕ) (w : Lain o at s) where
       go false false m = refl
 
 first-item : (o : List ℕ) (at tag : ℕ) (rest : List ℕ) → Lain o at (tag ∷ rest) → headerSize (tag ∷ rest) + bodySize (tag ∷ rest) ≤ length (tag ∷ rest)
-    → (tag, at + headerSize (tag ∷ rest), length (bodyOf (tag ∷ rest))) ≡ itemAt o at
+    → (tag, at + headerSize (tag ∷ rest), length (firstBody (tag ∷ rest))) ≡ itemAt o at
 first-item o at tag rest w f =
     let s : List ℕ = tag ∷ rest in
     let z : at + 0 ≡ at = omega arith in
     let t : tag ≡ getD o at 0 = sym (ap (λ j. getD o j 0) (sym z) ∙ w .same 0 (omega arith)) in
     let h : headerSize s ≡ headerSize (drop at o) = sym (same-header o at s w (omega (arith, f, header-two s))) in
-    let n : length (bodyOf s) ≡ bodySize (drop at o) = length-part s (headerSize s) (bodySize s) f ∙ sym (same-size o at s w (omega (arith, f))) in
+    let n : length (firstBody s) ≡ bodySize (drop at o) = length-part s (headerSize s) (bodySize s) f ∙ sym (same-size o at s w (omega (arith, f))) in
     ap₂ (λ a b. (a, at + headerSize s, b)) t n ∙ ap (λ a. (getD o at 0, at + a, bodySize (drop at o))) h
 
 known-holds : (k : Option Kind) → isItems k ≡ true → isKnown k ≡ true
@@ -151,10 +151,10 @@ one-more o P parent tag at from body u v inner later e f g = go (isItems (known 
 abbrev Says : (o : List ℕ) (P : ℕ → ℕ → Bool) (k parent at : ℕ) → List ℕ → Items → Type 0
 Says o P k parent at s t = firstIn P parent t ≡ asItem o (placeIn k P parent at s)
 
-pub shorter-body : (s : List ℕ) (k : ℕ) → headerSize s + bodySize s ≤ length s → length s < suc k → length (bodyOf s) < k
+pub shorter-body : (s : List ℕ) (k : ℕ) → headerSize s + bodySize s ≤ length s → length s < suc k → length (firstBody s) < k
 shorter-body s k h l = simp (length-take, length-drop) (omega (arith, header-two s))
 
-pub shorter-later : (s : List ℕ) (k : ℕ) → headerSize s + bodySize s ≤ length s → length s < suc k → length (laterOf s) < k
+pub shorter-later : (s : List ℕ) (k : ℕ) → headerSize s + bodySize s ≤ length s → length s < suc k → length (afterFirst s) < k
 shorter-later s k h l = simp length-drop (omega (arith, header-two s))
 
 says : (o : List ℕ) (P : ℕ → ℕ → Bool) (k parent depth at : ℕ) (s : List ℕ) (t : Items) → length s < k → Lain o at s → Accepts parent depth at s t → Says o P k parent at s t
@@ -166,9 +166,9 @@ says o P (suc k) parent depth at (tag ∷ rest) t l w a =
     let x = opened parent depth at s t (omega arith) a in
     let f = fits-in parent depth at s t (omega arith) a in
     ap (firstIn P parent) (x .tree)
-    ∙ one-more o P parent tag at (at + headerSize s) (bodyOf s) (x .u) (x .v) (placeIn k P tag (at + headerSize s) (bodyOf s)) (placeIn k P parent (at + headerSize s + bodySize s) (laterOf s)) (first-item o at tag rest w f)
-    (λ i. says o P k tag (depth + 1) (at + headerSize s) (bodyOf s) (x .u) (shorter-body s k f l) (body-lies o at s w (headerSize s) (bodySize s) f) (x .inside i))
-    (says o P k parent depth (at + headerSize s + bodySize s) (laterOf s) (x .v) (shorter-later s k f l) (later-lies o at s w (headerSize s) (bodySize s) f) (x .after))
+    ∙ one-more o P parent tag at (at + headerSize s) (firstBody s) (x .u) (x .v) (placeIn k P tag (at + headerSize s) (firstBody s)) (placeIn k P parent (at + headerSize s + bodySize s) (afterFirst s)) (first-item o at tag rest w f)
+    (λ i. says o P k tag (depth + 1) (at + headerSize s) (firstBody s) (x .u) (shorter-body s k f l) (body-lies o at s w (headerSize s) (bodySize s) f) (x .inside i))
+    (says o P k parent depth (at + headerSize s + bodySize s) (afterFirst s) (x .v) (shorter-later s k f l) (later-lies o at s w (headerSize s) (bodySize s) f) (x .after))
 
 itself : (o : List ℕ) → Lain o 0 o
 itself o = record { fits = omega arith; same = λ i q. let z : 0 + i ≡ i = omega arith in ap (λ j. getD o j 0) z }
@@ -215,10 +215,10 @@ seated o P (suc k) parent depth at (tag ∷ rest) t l w a p e =
     let s : List ℕ = tag ∷ rest in
     let x = opened parent depth at s t (omega arith) a in
     let f = fits-in parent depth at s t (omega arith) a in
-    found (Seated o p) (picks P parent tag) (isItems (known parent tag)) at p (placeIn k P tag (at + headerSize s) (bodyOf s)) (placeIn k P parent (at + headerSize s + bodySize s) (laterOf s)) e
+    found (Seated o p) (picks P parent tag) (isItems (known parent tag)) at p (placeIn k P tag (at + headerSize s) (firstBody s)) (placeIn k P parent (at + headerSize s + bodySize s) (afterFirst s)) e
     (λ b q. subst (Seated o) q (here o P parent at tag rest w f b))
-    (λ i. seated o P k tag (depth + 1) (at + headerSize s) (bodyOf s) (x .u) (shorter-body s k f l) (body-lies o at s w (headerSize s) (bodySize s) f) (x .inside i) p)
-    (seated o P k parent depth (at + headerSize s + bodySize s) (laterOf s) (x .v) (shorter-later s k f l) (later-lies o at s w (headerSize s) (bodySize s) f) (x .after) p)
+    (λ i. seated o P k tag (depth + 1) (at + headerSize s) (firstBody s) (x .u) (shorter-body s k f l) (body-lies o at s w (headerSize s) (bodySize s) f) (x .inside i) p)
+    (seated o P k parent depth (at + headerSize s + bodySize s) (afterFirst s) (x .v) (shorter-later s k f l) (later-lies o at s w (headerSize s) (bodySize s) f) (x .after) p)
 
 pub place-seated : (P : ℕ → ℕ → Bool) (o : List ℕ) (t : Items) → judge o ≡ accepted t → (p : ℕ) → placeAt P o ≡ some p → Seated o p
 unfolding placeAt

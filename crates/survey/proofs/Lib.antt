@@ -3,7 +3,6 @@ pub mod WrittenAs
 pub mod Rising
 pub mod Found
 pub mod Sizes
-pub mod Places
 pub mod Tables
 pub mod Seeking
 pub mod First

@@ -10,22 +10,23 @@ use lib.ListN.{length, take, drop, getD, length-drop, drop-of-length-le}
 use mir.Syntax.{w64}
 use mir.Val.{Fits}
 use Rattle.octets.specs.Header.{headerSize, bodySize}
+use Rattle.octets.specs.declared.Lies.{Lies}
+use Rattle.octets.specs.declared.Lies.the-variants.{Outside, Between}
+use Rattle.octets.specs.Places.{firstBody, afterFirst, liesAt}
 use Rattle.octets.proofs.Lists.{length-part}
+use Rattle.octets.proofs.Places.{Lying, lying, to-inside, ordered, nearer, bounds, body-is, later-is, tag-is}
 use Rattle.values.specs.Table.{known}
 use Rattle.format.specs.Tree.{Items}
 use Rattle.format.specs.Judge.{isItems}
-use Rattle.format.proofs.Induction.{bodyOf, laterOf}
 use Rattle.reader.specs.Filling.{Accepts}
-use Rattle.survey.specs.declared.Lies.{Lies}
-use Rattle.survey.specs.declared.Lies.the-variants.{Outside, Between}
+use Rattle.reader.proofs.Opening.{lies-inside, met}
+use Rattle.reader.proofs.Reading.{whole}
 use Rattle.survey.specs.declared.Place.{Place}
 use Rattle.survey.specs.declared.Place.the-variants.{Nowhere, At}
 use Rattle.survey.specs.declared.Step.{Step}
 use Rattle.survey.specs.declared.Step.the-variants.{Past, Into, Picked}
-use Rattle.survey.specs.Places.{liesAt}
 use Rattle.survey.specs.First.{orElse, picks, placeIn, placeAt}
 use Rattle.survey.specs.Looks.{stepOf, placeOf, ItemLooked, ItemsLooked, ObjectLooked}
-use Rattle.survey.proofs.Places.{Lying, lying, lies-inside, to-inside, ordered, nearer, met, bounds, body-is, later-is, tag-is, whole}
 
 -- ---- look_item
 
@@ -82,7 +83,7 @@ pub ruleset item-ways = (item-past, item-picked, item-deep, item-inside)
 -- one item, and those after it
 look-step : (P : ℕ → ℕ → Bool) (s : List ℕ) (k parent at : ℕ) → 0 < length s → placeIn (suc k) P parent at s
     ≡ cond (picks P parent (getD s 0 0)) (some at)
-    (orElse (cond (isItems (known parent (getD s 0 0))) (placeIn k P (getD s 0 0) (at + headerSize s) (bodyOf s)) none) (placeIn k P parent (at + headerSize s + bodySize s) (laterOf s)))
+    (orElse (cond (isItems (known parent (getD s 0 0))) (placeIn k P (getD s 0 0) (at + headerSize s) (firstBody s)) none) (placeIn k P parent (at + headerSize s + bodySize s) (afterFirst s)))
 unfolding placeIn
 look-step P [] k parent at h = absurd (omega arith)
 look-step P (tag ∷ rest) k parent at h = refl

@@ -12,25 +12,25 @@ use mir.Syntax.{w64}
 use mir.Val.{Fits}
 use Rattle.octets.specs.declared.counts.Octets.{Octets as OctetCount}
 use Rattle.octets.specs.Counts.{asOctets}
+use Rattle.octets.specs.declared.Lies.{Lies}
+use Rattle.octets.specs.declared.Lies.the-variants.{Outside, Between}
+use Rattle.octets.specs.Places.{liesAt}
 use Rattle.text.specs.Tokens.{Entries}
 use Rattle.values.specs.Table.{known, defaults, defaultIn}
 use Rattle.values.specs.Calls.{defaultOctets}
 use Rattle.octets.proofs.Tests.{and-left}
+use Rattle.octets.proofs.Places.{Lying, lying, to-inside}
 use Rattle.format.specs.Tree.{Items}
 use Rattle.format.specs.Tree.Items.{end}
 use Rattle.format.specs.Judge.{isKnown, isItems, isTokens}
 use Rattle.reader.specs.Filling.{Accepts, share}
-use Rattle.reader.proofs.Opening.{opened-end}
+use Rattle.reader.proofs.Opening.{opened-end, lies-inside, met}
 use Rattle.survey.specs.Normal.{framedSize}
-use Rattle.survey.specs.declared.Lies.{Lies}
-use Rattle.survey.specs.declared.Lies.the-variants.{Outside, Between}
 use Rattle.survey.specs.declared.measure.Part.{Part}
 use Rattle.survey.specs.declared.measure.Part.the-variants.{Nothing, Kept, Inside, Octets}
 use Rattle.survey.specs.declared.measure.Measured.{Measured}
 use Rattle.survey.specs.declared.measure.Measured.the-variants.{Over, Sizes}
-use Rattle.survey.specs.Places.{liesAt}
 use Rattle.survey.specs.Sizes.{taken, partOf, partIn, roomIn, sizeIn, sizesOf, sizesIn, Small, ItemMeasured, ItemsMeasured}
-use Rattle.survey.proofs.Places.{Lying, lying, lies-inside, met, to-inside}
 use Rattle.survey.proofs.Parts.{sizes-over, sizes-are, over-says, sizes-say, small-sizes}
 use Rattle.survey.proofs.Adding.{Has, share-adds, adds-nothing, adds-octets, adds-kept, holds-items, adds-inside, cut-same}
 

@@ -6,6 +6,7 @@ use native.Mathlib.Omega.{arith}
 use lib.ListN.{length, getD}
 use borrow.Author.Tests.{lt-leb}
 use Rattle.octets.specs.Header.{headerSize, bodySize}
+use Rattle.octets.specs.declared.Lies.the-variants.{Outside, Between}
 use Rattle.values.specs.declared.Kind.the-variants.{HoldsItems, HoldsTokens, HoldsNumber}
 use Rattle.values.specs.declared.NumberKind.the-variants.{Enumerated}
 use Rattle.values.specs.declared.KnownKind.the-variants.{Unknown, Known}
@@ -17,10 +18,9 @@ use Rattle.format.specs.Tree.{Items, count}
 use Rattle.format.specs.Judge.Judged.{refused, accepted}
 use Rattle.format.specs.Calls.{Lent}
 use Rattle.survey.specs.declared.Standing.the-variants.{Bad, Misfit, Fits}
-use Rattle.survey.specs.declared.Lies.the-variants.{Outside, Between}
 use Rattle.survey.specs.Normal.{writtenAs}
 use Rattle.survey.specs.Survey.{surveyed}
-use Rattle.survey.specs.Places.{liesIn, liesAt, tableWithin, firstTable, tableBody, spanWithin, spanOfTag}
+use Rattle.survey.specs.Places.{tableWithin, firstTable, tableBody, spanWithin, spanOfTag}
 
 -- ---- survey
 
@@ -44,18 +44,6 @@ store-before-places lent t h e =
     let w : Misfit (refusal 14 0) ≡ Misfit (refusal 15 0) = rw (lt-leb (count t) (lent .records) h) at e in
     let y : refusal 14 0 ≡ refusal 15 0 = cc in
     absurd (omega (arith, ap (λ x. x .number) y))
-
--- ---- item_at
-
--- an item that runs past the part, told as lying in it
-pub past-lies : liesAt (0x06 ∷ 0x02 ∷ 0x65 ∷ []) 0 ≡ Between 2 4 → ⊥
-unfolding liesAt liesIn headerSize bodySize
-past-lies h = let w : Outside ≡ Between 2 4 = h in let z : _≡_ {A = ℕ} 0 1 = cc in omega arith
-
--- places counted from where the item begins, not from where the part does
-pub counted-from-item : liesAt (0x10 ∷ 0x00 ∷ 0x06 ∷ 0x01 ∷ 0x65 ∷ []) 2 ≡ Between 2 3 → ⊥
-unfolding liesAt liesIn headerSize bodySize
-counted-from-item h = let w : Between 4 5 ≡ Between 2 3 = h in let z : _≡_ {A = ℕ} 4 2 = cc in omega arith
 
 -- ---- find_item
 

@@ -11,21 +11,21 @@ use lib.ListN.{length, drop, getD, drop-of-length-le}
 use lib.Seq.{getD-drop}
 use borrow.Author.Tests.{eqb-true, eqb-false, eq-eqb, ne-eqb, leb-true, le-leb, ltb-true, ltb-false}
 use Rattle.octets.specs.Header.{headerSize, bodySize}
+use Rattle.octets.specs.declared.Lies.{Lies}
+use Rattle.octets.specs.declared.Lies.the-variants.{Outside, Between}
+use Rattle.octets.specs.Places.{firstBody, afterFirst, isWhole, liesAt, between}
 use Rattle.octets.proofs.Tests.{and-left, and-right, or-elim, or-left, cond-same}
+use Rattle.octets.proofs.Places.{Lying, lying, not-whole, bounds, later-is, fewer-after, none-whole}
 use Rattle.values.specs.Table.{known, attribute}
 use Rattle.values.proofs.Known.{not-attribute}
 use Rattle.format.specs.Tree.{Items, find}
 use Rattle.format.specs.Tree.Items.{end, item}
 use Rattle.format.specs.Judge.{Context, isKnown, isItems, isValue, latest, stageAfter, next}
 use Rattle.format.proofs.Rules.{held}
-use Rattle.format.proofs.Induction.{Cases, accepted-all, Unbroken, bodyOf, laterOf}
+use Rattle.format.proofs.Induction.{Cases, accepted-all, Unbroken}
 use Rattle.reader.specs.Filling.{Accepts, share}
-use Rattle.reader.proofs.Opening.{Opened, opened-end}
-use Rattle.survey.specs.declared.Lies.{Lies}
-use Rattle.survey.specs.declared.Lies.the-variants.{Outside, Between}
-use Rattle.survey.specs.Places.{isWhole, afterFirst, liesAt, between, spanWithin, spanOfTag}
-use Rattle.survey.proofs.Places.{Lying, lying, lies-inside, not-whole, bounds, later-is, met}
-use Rattle.survey.proofs.Tables.{fewer-after, none-whole}
+use Rattle.reader.proofs.Opening.{Opened, opened-end, lies-inside, met}
+use Rattle.survey.specs.Places.{spanWithin, spanOfTag}
 
 module _ (sought met : ℕ) (a : Bool) (ae : a ≡ attribute sought) where
   pub behind-no : a ≡ false → false ≡ attribute sought && not (attribute met)
@@ -50,7 +50,7 @@ unfolding latest
 behind-attributes c at tag rest q h = go (attribute tag) refl h
   where
     order : leb (c .stage) (latest tag) ≡ true
-    order = held c at tag (headerSize (tag ∷ rest)) (bodySize (tag ∷ rest)) (suc (length rest)) (bodyOf (tag ∷ rest)) q .rules .order
+    order = held c at tag (headerSize (tag ∷ rest)) (bodySize (tag ∷ rest)) (suc (length rest)) (firstBody (tag ∷ rest)) q .rules .order
 
     go : (b : Bool) → attribute tag ≡ b → ltb 0 (c .stage) || not b ≡ true → b ≡ false
     go false e k = refl
@@ -70,13 +70,13 @@ barred-cases : (sought : ℕ) → Cases (Barred sought)
 unfolding find next
 barred-cases sought = record {
   atEnd = λ c at q a h. refl;
-  atUnknown = λ c at tag rest u q e later a h. later a (stage-behind tag (getD (laterOf (tag ∷ rest)) 0 0) (behind-attributes c at tag rest q h));
+  atUnknown = λ c at tag rest u q e later a h. later a (stage-behind tag (getD (afterFirst (tag ∷ rest)) 0 0) (behind-attributes c at tag rest q h));
   atElement = λ c at tag rest s u q e inside later a h.
       let n = behind-attributes c at tag rest q h in
-      rw (not-attribute sought tag a n) (later a (stage-behind tag (getD (laterOf (tag ∷ rest)) 0 0) n));
+      rw (not-attribute sought tag a n) (later a (stage-behind tag (getD (afterFirst (tag ∷ rest)) 0 0) n));
   atLeaf = λ c at tag rest u k q e l later a h.
       let n = behind-attributes c at tag rest q h in
-      rw (not-attribute sought tag a n) (later a (stage-behind tag (getD (laterOf (tag ∷ rest)) 0 0) n));
+      rw (not-attribute sought tag a n) (later a (stage-behind tag (getD (afterFirst (tag ∷ rest)) 0 0) n));
 }
 
 barred : (sought p depth offset : ℕ) (s : List ℕ) (t : Items) → Accepts p depth offset s t → attribute sought ≡ true → attribute (getD s 0 0) ≡ false → find sought t ≡ none

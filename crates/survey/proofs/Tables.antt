@@ -1,15 +1,18 @@
 -- The token table of an object: what is found of accepted octets, and the ways through table_in and table_of.
 use mathlib.Core.Path.{_≡_, refl, sym, ap, _∙_}
-use mathlib.Core.Bool.{Bool, true, false, cond}
+use mathlib.Core.Bool.{Bool, true, false, cond, _&&_}
 use mathlib.Core.Option.{Option, some}
 use mathlib.Core.List.{List, [], _∷_}
 use Prim.Native.Nat.{ℕ, zero, suc, _+_, _-_, _≤_, _<_}
 use native.Mathlib.Omega.{arith}
-use lib.Dec.{eqb}
-use lib.ListN.{length, take, drop, getD, length-drop, drop-of-length-le}
-use borrow.Author.Tests.{leb-true, le-leb, lt-leb, eqb-true, eqb-false, eq-eqb, ne-eqb}
+use lib.Dec.{eqb, leb}
+use lib.ListN.{length, take, drop, getD, drop-of-length-le}
+use borrow.Author.Tests.{le-leb, eqb-true, eqb-false, eq-eqb, ne-eqb}
 use Rattle.octets.specs.Header.{headerSize, bodySize}
-use Rattle.octets.proofs.Frames.{header-two}
+use Rattle.octets.specs.declared.Lies.{Lies}
+use Rattle.octets.specs.declared.Lies.the-variants.{Outside, Between}
+use Rattle.octets.specs.Places.{isWhole, liesAt, firstBody, afterFirst}
+use Rattle.octets.proofs.Places.{Lying, lying, not-whole, to-inside, body-is, later-is, tag-is, fewer-after, none-whole}
 use Rattle.text.specs.Tokens.{cut, entries}
 use Rattle.values.specs.declared.Kind.{Kind}
 use Rattle.values.specs.declared.Kind.the-variants.{HoldsItems}
@@ -17,25 +20,18 @@ use Rattle.values.specs.Table.{known, attribute}
 use Rattle.values.proofs.Known.{known-four, known-anywhere}
 use Rattle.format.specs.Tree.{Items, find}
 use Rattle.format.specs.Tree.Items.{end, item}
-use Rattle.format.specs.Judge.{isKnown, isItems, judge}
+use Rattle.format.specs.Judge.{isKnown, isItems, judge, outermost, read, rule}
 use Rattle.format.specs.Judge.Judged.{accepted}
 use Rattle.format.specs.Meaning.{tableIn, tableOf}
+use Rattle.format.proofs.Rules.{held, unless-none, unless-accepted}
+use Rattle.format.proofs.Fuel.{read-item}
+use Rattle.format.proofs.Force.{top-known}
 use Rattle.reader.specs.Filling.{Accepts, share}
 use Rattle.reader.proofs.Opening.{Opened, opened, opened-end, fits-in}
-use Rattle.survey.specs.declared.Lies.{Lies}
-use Rattle.survey.specs.declared.Lies.the-variants.{Outside, Between}
-use Rattle.survey.specs.Places.{isWhole, liesAt, firstBody, afterFirst, tableWithin, firstTable, tableBody}
-use Rattle.survey.proofs.Places.{Lying, lying, not-whole, to-inside, body-is, later-is, tag-is, whole, some-octets, top-holds}
+use Rattle.reader.proofs.Reading.{some-octets, whole}
+use Rattle.survey.specs.Places.{tableWithin, firstTable, tableBody}
 
 -- ---- the table among the items of octets, from one item to the next
-
--- octets that hold a whole item are more than those after it
-pub fewer-after : (s : List ℕ) → isWhole s ≡ true → length (afterFirst s) < length s
-fewer-after s h =
-    omega (arith, leb-true (headerSize s + bodySize s) (length s) h, header-two s, length-drop (bodySize s) (drop (headerSize s) s), length-drop (headerSize s) s)
-
-pub none-whole : (s : List ℕ) → length s ≤ 0 → isWhole s ≡ false
-none-whole s h = lt-leb (headerSize s + bodySize s) (length s) (omega (arith, header-two s))
 
 -- as many steps as there are octets suffice
 enough : (n m : ℕ) (s : List ℕ) → length s ≤ n → length s ≤ m → tableWithin n s ≡ tableWithin m s
@@ -126,6 +122,19 @@ told-first (tag ∷ rest) p depth offset t a later =
 told-within : (n : ℕ) (s : List ℕ) (p depth offset : ℕ) (t : Items) → length s ≤ n → Accepts p depth offset s t → Told s t
 told-within zero s p depth offset t h a = told-first s p depth offset t a (λ v behind l b. absurd (omega arith))
 told-within (suc n) s p depth offset t h a = told-first s p depth offset t a (λ v behind l b. told-within n (afterFirst s) p depth behind v (omega arith) b)
+
+-- the first item of an accepted object holds items
+top-opens : (o : List ℕ) (t : Items) → 0 < length o → read outermost 0 o ≡ accepted t → known 0 (getD o 0 0) ≡ some HoldsItems
+unfolding outermost
+top-opens [] t l q = absurd (omega arith)
+top-opens (tag ∷ rest) t l q =
+    let s = tag ∷ rest in
+    let b = unless-none _ _ t (sym (read-item outermost 0 tag rest (headerSize s) (bodySize s) (firstBody s) (afterFirst s) refl refl refl refl) ∙ q) in
+    top-known tag (held outermost 0 tag (headerSize s) (bodySize s) (suc (length rest)) (firstBody s) b .allow)
+
+top-holds : (o : List ℕ) (t : Items) → judge o ≡ accepted t → known 0 (getD o 0 0) ≡ some HoldsItems
+unfolding judge
+top-holds o t h = top-opens o t (some-octets o t h) (unless-accepted (rule 1 0 (leb 1 (length o) && leb (length o) 32_768)) (read outermost 0 o) t h)
 
 -- the table that is found in an accepted object is that of its meaning
 pub table-told : (o : List ℕ) (t : Items) → judge o ≡ accepted t → entries (tableBody o) ≡ tableOf t

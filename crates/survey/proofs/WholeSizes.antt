@@ -7,6 +7,7 @@ use Prim.Native.Nat.{ℕ, _+_, _≤_}
 use native.Mathlib.Omega.{arith}
 use lib.Dec.{eqb}
 use lib.ListN.{length, length-append}
+use Rattle.reader.proofs.Reading.{whole}
 use Rattle.octets.specs.Numbers.{Octets}
 use Rattle.octets.specs.Header.{framed}
 use Rattle.text.specs.Tokens.{Entries, entries}
@@ -36,7 +37,6 @@ use Rattle.survey.specs.Sizes.{taken, roomIn, sizeIn, sizesOf, sizesIn, 
 use Rattle.survey.proofs.Rising.{rising-length}
 use Rattle.survey.proofs.Ways.{framed-length}
 use Rattle.survey.proofs.Adding.{taken-one}
-use Rattle.survey.proofs.Places.{whole}
 use Rattle.survey.proofs.Tables.{table-told}
 
 -- an item that is told keeps rule 9, so that all its octets are taken

@@ -3,8 +3,8 @@ ghost use mathlib.Core.Path.{_≡_};
 ghost use mathlib.Core.Bool.{not, _&&_};
 ghost use Rattle.values.specs.Table.{attribute};
 ghost use Rattle.survey.specs.Places.{spanOfTag};
-use crate::Lies;
-use crate::table::item_at;
+use octets::Lies;
+use octets::item_at;
 use values::is_attribute;
 
 // An attribute that is sought isn't to be found from here on: attributes come first (document 01, Framing). So a search ends with the attributes.

@@ -1,4 +1,4 @@
-// An object is surveyed before anything is written: judged, and then measured and held against what is lent. Also where items lie in octets, and the token table of an
+// An object is surveyed before anything is written: judged, and then measured and held against what is lent. Also where an item of a tag lies, and the token table of an
 // object, for whoever walks over an object again, and whether an item is written in normal form. No call asks anything of its arguments, and none is lent memory to write to.
 ghost use mathlib.Core.Path.{_≡_};
 ghost use Rattle.format.specs.Judge.{judge};
@@ -17,7 +17,6 @@ use format::Refusal;
 use format::refuse;
 use judge::judge;
 use octets::Octets;
-pub use table::item_at;
 pub use table::table_of;
 pub use written::written_as;
 
@@ -26,12 +25,6 @@ pub enum Standing {
     Bad(Refusal),
     Misfit(Refusal),
     Fits,
-}
-
-// Where the body of an item lies, if it lies in the part.
-pub enum Lies {
-    Outside,
-    Between { from: usize, to: usize },
 }
 
 // Where the tag of an item lies that is looked for, if there is one.

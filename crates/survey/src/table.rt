@@ -1,29 +1,8 @@
-// Where items lie in a part, and the token table of an object.
+// The token table of an object.
 ghost use mathlib.Core.Path.{_≡_};
-ghost use Rattle.survey.specs.Places.{liesAt, firstTable, tableBody};
-use crate::Lies;
-use octets::Header;
-use octets::read_header;
-
-// The item that begins at a place of a part. None begins behind its end.
-pub fn item_at(part: &[u8], at: usize) -> Lies
-    ensures { λ r. ⌜ r ≡ liesAt (now (part .entry)) at ⌝ }
-{
-    if at > part.len() {
-        return Lies::Outside;
-    }
-    let Header::Found { start, size } = read_header(&part[at..]) else {
-        return Lies::Outside;
-    };
-    let from = at + start;
-    if size > part.len() - from {
-        return Lies::Outside;
-    }
-    Lies::Between {
-        from,
-        to: from + size,
-    }
-}
+ghost use Rattle.survey.specs.Places.{firstTable, tableBody};
+use octets::Lies;
+use octets::item_at;
 
 // The body of the first 0x04 among the items of a part; the empty part where there is none, or where an item before it runs past the end.
 fn table_in<'a>(part: &'a [u8]) -> &'a [u8]

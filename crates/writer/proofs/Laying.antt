@@ -11,7 +11,11 @@ use lib.ListN.{length, take, drop, getD, length-append, drop-of-length-le}
 use lib.Seq.{sets, length-sets}
 use mir.Syntax.{w8, w64}
 use mir.Val.{Fits}
+use Rattle.octets.specs.declared.Lies.{Lies}
+use Rattle.octets.specs.declared.Lies.the-variants.{Outside, Between}
+use Rattle.octets.specs.Places.{liesAt}
 use Rattle.octets.proofs.Lists.{sets-none}
+use Rattle.octets.proofs.Places.{Lying, lying, to-inside}
 use Rattle.text.specs.Tokens.{Entries, entries}
 use Rattle.values.specs.declared.Kind.{Kind}
 use Rattle.values.specs.Table.{known}
@@ -25,18 +29,14 @@ use Rattle.format.proofs.Lays.{SameLengths, places-same}
 use Rattle.reader.specs.Filling.{Accepts}
 use Rattle.reader.proofs.Laid.{same-laid, places-after, within-places}
 use Rattle.reader.proofs.Shares.{Written, written-item}
-use Rattle.reader.proofs.Opening.{Opened, opened-end}
-use Rattle.survey.specs.declared.Lies.{Lies}
-use Rattle.survey.specs.declared.Lies.the-variants.{Outside, Between}
+use Rattle.reader.proofs.Opening.{Opened, opened-end, lies-inside, met}
 use Rattle.writer.specs.declared.lay.Level.{Level}
 use Rattle.writer.specs.declared.lay.Laid.{Laid}
 use Rattle.tags.specs.declared.Listed.{Listed}
 use Rattle.tags.specs.declared.Listed.the-variants.{Nothing, Inside, Value}
 use Rattle.tags.specs.Listed.{listedAs}
-use Rattle.survey.specs.Places.{liesAt}
 use Rattle.writer.specs.Store.{BodyStorable, BodyStored}
 use Rattle.writer.specs.Lay.{recordAt, Placeable, ValueLayable, ValueLays, shareAt, ItemLayable, InsideLayable, ItemLays, ItemsLayable, ItemsLay}
-use Rattle.survey.proofs.Places.{Lying, lying, lies-inside, met, to-inside}
 use Rattle.writer.proofs.Pieces.{Splits, splits-share, split-lists, split-store, of-nothing, OfOctets, of-octets, OfItems, of-items}
 
 -- ---- lay_value

@@ -12,9 +12,8 @@ use Rattle.format.specs.Meaning.{tableOf}
 use Rattle.format.specs.Calls.{Lists, loadedRecords}
 use Rattle.format.proofs.Induction.{few}
 use Rattle.format.proofs.Loading.{loaded-count}
-use Rattle.reader.proofs.Reading.{small}
+use Rattle.reader.proofs.Reading.{small, whole}
 use Rattle.survey.specs.Places.{tableBody}
-use Rattle.survey.proofs.Places.{whole}
 use Rattle.survey.proofs.Tables.{table-told}
 use Rattle.writer.specs.declared.lay.Level.{Level}
 use Rattle.writer.specs.declared.lay.Laid.{Laid}

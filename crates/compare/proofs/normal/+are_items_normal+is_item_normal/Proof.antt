@@ -17,7 +17,7 @@ use Rattle.compare.proofs.normal.is_rewritten.Reads as is-rewritten-rea
 use Rattle.compare.proofs.normal.is_rising.Reads as is-rising-reads
 use Rattle.compare.proofs.normal.later_tag.Reads as later-tag-reads
 use Rattle.octets.proofs.header_size.Reads as header-size-reads
-use Rattle.survey.proofs.item_at.Reads as item-at-reads
+use Rattle.octets.proofs.item_at.Reads as item-at-reads
 use Rattle.survey.proofs.written_as.Reads as written-as-reads
 use Rattle.values.proofs.fits_kind.Reads as fits-kind-reads
 use Rattle.compare.proofs.normal.+are_items_normal+is_item_normal.{statement}

@@ -11,7 +11,7 @@ use Rattle.spi.proofs.tree.show_items.Reads as show-items
 use Rattle.spi.proofs.tree.show_items.Kinds as show-items-kinds
 use Rattle.spi.proofs.tree.+show_item+show_items.Lts-show_items as show-items-lts
 use Rattle.spi.proofs.tree.say_item.Reads as say-item-reads
-use Rattle.survey.proofs.item_at.Reads as item-at-reads
+use Rattle.octets.proofs.item_at.Reads as item-at-reads
 use Rattle.spi.proofs.tree.+show_item+show_items.{statement}
 use Rattle.spi.proofs.tree.+show_item+show_items.Tie.{close}
 

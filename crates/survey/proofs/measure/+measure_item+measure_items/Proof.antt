@@ -2,8 +2,8 @@ use Prim.Native.Nat.{ℕ, _+_, _-_, _<_}
 use native.Mathlib.Omega.{arith}
 use lib.ListN.{length}
 use borrow.Author.Needs.{needs}
+use Rattle.octets.proofs.Places.{to-inside, ordered, nearer}
 use Rattle.text.specs.Tokens.{entries}
-use Rattle.survey.proofs.Places.{to-inside, ordered, nearer}
 use Rattle.survey.proofs.Measuring.{item-nothing, item-kept, octets-few, item-octets, item-deep, item-over, inside-few, item-inside}
 use Rattle.survey.proofs.Measuring.{Sums, begin, ended, no-item, here, item-too-long, store-fits, octets-fit, too-long, again}
 use borrow.Fn.Kinds.{In}
@@ -16,7 +16,7 @@ use Rattle.survey.proofs.measure.measure_items.Kinds as measure-items-k
 use Rattle.survey.proofs.measure.+measure_item+measure_items.Lts-measure_items as measure-items-lts
 use Rattle.survey.proofs.measure.framed.Reads as framed-reads
 use Rattle.survey.proofs.measure.part_of.Reads as part-of-reads
-use Rattle.survey.proofs.table.item_at.Reads as item-at-reads
+use Rattle.octets.proofs.item_at.Reads as item-at-reads
 use Rattle.survey.proofs.measure.+measure_item+measure_items.{statement}
 use Rattle.survey.proofs.measure.+measure_item+measure_items.Tie.{close}
 

@@ -1,7 +1,7 @@
 use Prim.Native.Nat.{_-_}
 use lib.ListN.{length}
 use borrow.Author.Needs.{needs}
-use Rattle.survey.proofs.Places.{to-inside, ordered, nearer}
+use Rattle.octets.proofs.Places.{to-inside, ordered, nearer}
 use Rattle.survey.proofs.Tables.{Looks, begin, no-table, no-item, here, is-table, again}
 use Rattle.survey.proofs.table.table_in.Statement.{statement}
 use Rattle.survey.proofs.table.table_in.Tie as tie

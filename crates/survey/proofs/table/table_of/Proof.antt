@@ -1,6 +1,6 @@
 use native.Mathlib.Omega.{arith}
 use borrow.Author.Needs.{needs}
-use Rattle.survey.proofs.Places.{to-inside, ordered}
+use Rattle.octets.proofs.Places.{to-inside, ordered}
 use Rattle.survey.proofs.Tables.{no-top, top-here, top-table}
 use Rattle.survey.proofs.table.table_of.Statement.{statement}
 use Rattle.survey.proofs.table.table_of.Tie as tie

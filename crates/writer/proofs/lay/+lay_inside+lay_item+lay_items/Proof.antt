@@ -3,9 +3,9 @@ use Prim.Native.Nat.{ℕ, _+_, _-_, _*_, _<_}
 use native.Mathlib.Omega.{arith}
 use lib.ListN.{length}
 use borrow.Author.Needs.{needs}
+use Rattle.octets.proofs.Places.{to-inside, ordered, nearer}
 use Rattle.text.specs.Tokens.{entries}
 use Rattle.format.specs.Lent.{six}
-use Rattle.survey.proofs.Places.{to-inside, ordered, nearer}
 use Rattle.writer.proofs.Laying.{inside-deep, inside-deeper, inside-next, inside-placeable, inside-can, inside-laid}
 use Rattle.writer.proofs.Laying.{item-nothing, item-value-can, item-value, item-inside-can}
 use Rattle.writer.proofs.Laying.{Walks, begin, kept, kept-store, ended, no-item, here, item-can, again}
@@ -23,7 +23,7 @@ use Rattle.writer.proofs.lay.+lay_inside+lay_item+lay_items.Lts-lay_ite
 use Rattle.writer.proofs.lay.lay_value.Reads as lay-value-reads
 use Rattle.tags.proofs.listed_as.Reads as listed-as-reads
 use Rattle.writer.proofs.lay.put_record.Reads as put-record-reads
-use Rattle.survey.proofs.item_at.Reads as item-at-reads
+use Rattle.octets.proofs.item_at.Reads as item-at-reads
 use Rattle.writer.proofs.lay.+lay_inside+lay_item+lay_items.{statement}
 use Rattle.writer.proofs.lay.+lay_inside+lay_item+lay_items.Tie.{close}
 

@@ -13,7 +13,7 @@ use Rattle.xml.proofs.plain.look_items.Reads as look-items
 use Rattle.xml.proofs.plain.look_items.Kinds as look-items-kinds
 use Rattle.xml.proofs.plain.+look_item+look_items.Lts-look_items as look-items-lts
 use Rattle.xml.proofs.plain.step_of.Reads as step-of-reads
-use Rattle.survey.proofs.item_at.Reads as item-at-reads
+use Rattle.octets.proofs.item_at.Reads as item-at-reads
 use Rattle.xml.proofs.plain.+look_item+look_items.{statement}
 use Rattle.xml.proofs.plain.+look_item+look_items.Tie.{close}
 

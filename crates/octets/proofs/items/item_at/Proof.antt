@@ -1,8 +1,8 @@
 use native.Mathlib.Omega.{arith}
-use Rattle.survey.proofs.Places.{lies-behind, lies-past, from-inside, lies-outside, lies-between}
+use Rattle.octets.proofs.Places.{lies-behind, lies-past, from-inside, lies-outside, lies-between}
 use borrow.Author.Needs.{needs}
-use Rattle.survey.proofs.table.item_at.Statement.{statement}
-use Rattle.survey.proofs.table.item_at.Tie as tie
+use Rattle.octets.proofs.items.item_at.Statement.{statement}
+use Rattle.octets.proofs.items.item_at.Tie as tie
 
 returns : tie.Need-returns
 returns c =
