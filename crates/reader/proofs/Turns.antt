@@ -3,20 +3,17 @@ use mathlib.Core.Bool.{true}
 use mathlib.Core.Path.{_≡_, refl, sym, ap, _∙_}
 use mathlib.Core.List.{List}
 use Prim.Native.Nat.{ℕ, _+_, _-_, _≤_, _<_}
-use native.Mathlib.Nat.{add-zero, add-assoc, add-sub-cancel-left}
+use native.Mathlib.Nat.{add-zero}
 use native.Mathlib.Numerals.{add-one}
 use native.Mathlib.Omega.{arith}
-use lib.ListN.{length, take, drop, getD, length-drop, drop-of-length-le}
-use lib.Seq.{drop-drop, getD-drop}
+use lib.ListN.{length, drop, getD, drop-of-length-le}
 use mir.Syntax.{w8, w64}
 use mir.Val.{Fits}
-use Rattle.octets.specs.Header.{headerSize, bodySize}
-use Rattle.octets.specs.declared.Header.{Header}
-use Rattle.octets.specs.declared.Header.the-variants.{Past, Found}
-use Rattle.octets.specs.Calls.{headerOf}
-use Rattle.octets.proofs.Lists.{part-to-end, length-part}
-use Rattle.octets.proofs.Answers.{HeaderFound, header-found, header-past}
-use Rattle.octets.proofs.Frames.{header-two}
+use Rattle.octets.specs.declared.Lies.{Lies}
+use Rattle.octets.specs.declared.Lies.the-variants.{Outside, Between}
+use Rattle.octets.specs.Places.{liesAt, between}
+use Rattle.octets.proofs.Lists.{length-part}
+use Rattle.octets.proofs.Places.{Lying, lying, bounds, to-inside}
 use Rattle.values.specs.declared.Kind.{Kind}
 use Rattle.values.specs.Table.{known}
 use Rattle.format.specs.declared.Record.{Record}
@@ -33,7 +30,7 @@ use Rattle.reader.specs.Filling.{Narrow, Accepts, Fillable, Fills, share
 use Rattle.format.proofs.Lays.{SameLengths, places-same}
 use Rattle.reader.proofs.Laid.{same-lay, same-laid, places-after, within-places}
 use Rattle.reader.proofs.Shares.{count-share, lay-share, silent, Written, written-alone, written-items, holds-items}
-use Rattle.reader.proofs.Opening.{Opened, opened, fits-in, opened-end}
+use Rattle.reader.proofs.Opening.{Opened, opened-end, lies-inside, met}
 
 -- ---- one item
 
@@ -163,77 +160,39 @@ module _ (place : Place) (part : List ℕ) (before : Lists) (next at : ℕ) (l :
       let e : g .rest ≡ end = opened-end (place .element) (place .depth) (place .offset + at) (g .rest) (rw (drop-of-length-le part h) at (g .accepts)) in
       record { laid = sym (g .laid ∙ ap (λ x. lay next (records (place .depth) (place .number) next x) l) e); many = sym (g .many ∙ ap (λ x. next + count x) e ∙ add-zero next) }
 
-  module _ (h : at < length part) (r : Header) (e : r ≡ headerOf (take (length part - at) (drop at part))) where
-    header-here : r ≡ headerOf (drop at part)
-    header-here = e ∙ ap headerOf (part-to-end part at)
+  module _ (h : at < length part) (r : Lies) (e : r ≡ liesAt part at) where
+    pub no-item : r ≡ Outside → Fills place part before l next
+    no-item q = absurd (lies-inside part at r e h q (place .element) (place .depth) (place .offset + at) (sure .rest) (sure .accepts))
 
-    some-left : 0 < length (drop at part)
-    some-left = omega (arith, length-drop at part)
+    module _ (from to : ℕ) (q : r ≡ Between from to) where
+      pub here : Lying part at from to
+      here = lying part at r e from to q
 
-    fits : headerSize (drop at part) + bodySize (drop at part) ≤ length (drop at part)
-    fits = fits-in (place .element) (place .depth) (place .offset + at) (drop at part) (sure .rest) some-left (sure .accepts)
-
-    pub no-header : r ≡ Past → Fills place part before l next
-    no-header q = absurd (omega (arith, header-past (drop at part) r header-here q, fits))
-
-    module _ (start size : ℕ) (q : r ≡ Found start size) where
-      headed : HeaderFound (drop at part) start size
-      headed = header-found (drop at part) r header-here start size q
-
-      bounds : (2 ≤ start) × (at + start + size ≤ length part) × (place .offset + length part ≤ 32_768)
-      bounds = let k = headed in omega (arith, header-two (drop at part), fits, length-drop at part, inv .can .room .low)
-
-      pub from-fits : Fits w64 (at + start)
-      from-fits = omega (arith, bounds)
-
-      pub to-fits : Fits w64 (at + start + size)
-      to-fits = omega (arith, bounds)
-
-      pub offset-fits : Fits w64 (place .offset + (at + start))
-      offset-fits = omega (arith, bounds)
-
-      pub to-inside : at + start + size ≤ length part
-      to-inside = bounds .1
-
-      pub less : length part - (at + start + size) < length part - at
-      less = omega (arith, bounds)
+      pub offset-fits : Fits w64 (place .offset + from)
+      offset-fits = omega (arith, bounds here (inv .inside), inv .can .room .low)
 
       abbrev tag : ℕ
       tag = getD part at 0
 
       abbrev body : List ℕ
-      body = take (at + start + size - (at + start)) (drop (at + start) part)
+      body = between part from to
 
-      abbrev here : Place
-      here = record { element = place .element; number = place .number; depth = place .depth; offset = place .offset + (at + start); next = next }
+      abbrev spot : Place
+      spot = record { element = place .element; number = place .number; depth = place .depth; offset = place .offset + from; next = next }
 
-      tag-is : getD (drop at part) 0 0 ≡ tag
-      tag-is = getD-drop at part 0 0 ∙ ap (λ i. getD part i 0) (add-zero at)
-
-      body-is : take size (drop start (drop at part)) ≡ body
-      body-is = rw add-sub-cancel-left (simp drop-drop)
-
-      later-is : drop size (drop start (drop at part)) ≡ drop (at + start + size) part
-      later-is = simp drop-drop
-
-      body-length : length body ≡ size
-      body-length = rw add-sub-cancel-left (length-part part (at + start) size (omega (arith, bounds)))
-
-      -- an accepted rest in the code's words
       abbrev Met : Items → Type 0
-      Met t = Opened (place .element) (place .depth) tag (place .offset + (at + start)) (place .offset + (at + start + size)) body (drop (at + start + size) part) t
+      Met t = Opened (place .element) (place .depth) tag (place .offset + from) (place .offset + to) body (drop to part) t
 
-      met : (t : Items) → Accepts (place .element) (place .depth) (place .offset + at) (drop at part) t → Met t
-      met t a =
-          rw (tag-is, sym (headed .header), sym (headed .body), body-is, later-is, add-assoc (place .offset) at start, add-assoc (place .offset) (at + start) size) at
-          (opened (place .element) (place .depth) (place .offset + at) (drop at part) t some-left a)
+      meet : (t : Items) → Accepts (place .element) (place .depth) (place .offset + at) (drop at part) t → Met t
+      meet t a = met here (inv .inside) h (place .element) (place .depth) (place .offset) t a
 
-      met-count : (t : Items) (m : Met t) → count t ≡ count (shareOf here tag body (m .u)) + count (m .v)
-      met-count t m = ap count (m .tree) ∙ count-share tag (place .offset + (at + start)) body (known (place .element) tag) (m .u) (m .v)
+      met-count : (t : Items) (m : Met t) → count t ≡ count (shareOf spot tag body (m .u)) + count (m .v)
+      met-count t m = ap count (m .tree) ∙ count-share tag (place .offset + from) body (known (place .element) tag) (m .u) (m .v)
 
-      pub item-can : ItemFillable here tag body l
+      pub item-can : ItemFillable spot tag body l
       item-can =
-          let m = met (sure .rest) (sure .accepts) in
+          let m = meet (sure .rest) (sure .accepts) in
+          let b = bounds here (inv .inside) in
           let k = met-count (sure .rest) m in
           let r = inv .can .room in
           record {
@@ -243,27 +202,27 @@ module _ (place : Place) (part : List ℕ) (before : Lists) (next at : ℕ) (l :
             room = record {
               above = omega (arith, inv .above, r .above);
               few = omega (arith, r .few, sure .many);
-              low = omega (arith, bounds, body-length);
+              low = omega (arith, r .low, length-part part from (to - from) (omega (arith, b)));
               holds = omega (arith, r .holds, sure .many, places-same kept);
             };
           }
 
-      module _ (l′ : Lists) (m : ℕ) (f : ItemFills here tag body l l′ m) where
-        further : (t : Items) → Going place part before t next at l → Going place part before t m (at + start + size) l′
+      module _ (l′ : Lists) (m : ℕ) (f : ItemFills spot tag body l l′ m) where
+        further : (t : Items) → Going place part before t next at l → Going place part before t m to l′
         unfolding ItemFills
         further t g =
-            let o = met (g .rest) (g .accepts) in
+            let o = meet (g .rest) (g .accepts) in
             let k = f (o .u) (o .inside) in
             record {
               rest = o .v;
               accepts = o .after;
               laid = g .laid ∙ ap (λ x. lay next (records (place .depth) (place .number) next x) l) (o .tree)
-                  ∙ lay-share tag (place .offset + (at + start)) body (place .depth) (place .number) next (known (place .element) tag) (o .u) (o .v) l ∙ rw (← k .many, ← k .laid);
+                  ∙ lay-share tag (place .offset + from) body (place .depth) (place .number) next (known (place .element) tag) (o .u) (o .v) l ∙ rw (← k .many, ← k .laid);
               many = omega (arith, g .many, met-count (g .rest) o, k .many);
             }
 
-        pub again : Turns place part before m (at + start + size) l′
+        pub again : Turns place part before m to l′
         unfolding ItemFills
         again =
             let k = f (item-can .inside) (item-can .accepts) in
-            record { inside = to-inside; can = inv .can; above = omega (arith, inv .above, k .many); goes = λ t a. further t (inv .goes t a) }
+            record { inside = to-inside here (inv .inside); can = inv .can; above = omega (arith, inv .above, k .many); goes = λ t a. further t (inv .goes t a) }

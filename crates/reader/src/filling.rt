@@ -1,5 +1,5 @@
-// Filling lent lists with the records of an object that is accepted, and for whose records they have places. Nothing is judged again: an item's header says
-// where its body lies, and the table of known items what is written of it.
+// Filling lent lists with the records of an object that is accepted, and for whose records they have places. Nothing is judged again: `item_at` says where an
+// item's body lies, and `listed_as` what is written of it.
 ghost use mathlib.Core.Path.{_≡_};
 ghost use Prim.Native.Nat.{_+_, _<_, min};
 ghost use lib.ListN.{length};
@@ -10,8 +10,8 @@ ghost use Rattle.reader.specs.Lent.{Within};
 ghost use Rattle.reader.specs.Filling.{Narrow, Fillable, Fills, ItemFillable, ItemFills};
 use format::Record;
 use format::kind_of;
-use octets::Header;
-use octets::read_header;
+use octets::Lies;
+use octets::item_at;
 use tags::Listed;
 use tags::listed_as;
 
@@ -151,11 +151,9 @@ pub fn fill_items(
     let mut next = place.next;
     let mut at: usize = 0;
     while at < part.len() {
-        let Header::Found { start, size } = read_header(&part[at..]) else {
+        let Lies::Between { from, to } = item_at(part, at) else {
             return next;
         };
-        let from = at + start;
-        let to = from + size;
         let item = Place {
             element: place.element,
             number: place.number,

@@ -2,9 +2,10 @@ use Prim.Native.Nat.{ℕ, _+_, _-_, _<_}
 use native.Mathlib.Omega.{arith}
 use lib.ListN.{length}
 use borrow.Author.Needs.{needs}
+use Rattle.octets.proofs.Places.{to-inside, ordered, nearer}
 use Rattle.format.specs.Lent.{six}
 use Rattle.reader.proofs.Turns.{narrow, item-nothing, alone-within, alone-fits, item-alone, both-within, both-fits, both-deep, both-deeper, both-can, item-both, item-same}
-use Rattle.reader.proofs.Turns.{Turns, begin, kept, ended, no-header, from-fits, to-fits, offset-fits, to-inside, less, item-can, again}
+use Rattle.reader.proofs.Turns.{Turns, begin, kept, ended, no-item, here, offset-fits, item-can, again}
 use borrow.Fn.Kinds.{In}
 use borrow.Fn.PlainCycle.{Measures, is, falls, and}
 use Rattle.reader.proofs.filling.fill_item.Reads as fill-item
@@ -13,7 +14,7 @@ use Rattle.reader.proofs.filling.+fill_item+fill_items.Lts-fill_item as
 use Rattle.reader.proofs.filling.fill_items.Reads as fill-items
 use Rattle.reader.proofs.filling.fill_items.Kinds as fill-items-kinds
 use Rattle.reader.proofs.filling.+fill_item+fill_items.Lts-fill_items as fill-items-lts
-use Rattle.octets.proofs.read_header.Reads as read-header-reads
+use Rattle.octets.proofs.item_at.Reads as item-at-reads
 use Rattle.tags.proofs.listed_as.Reads as listed-as-reads
 use Rattle.reader.proofs.filling.put_record.Reads as put-record-reads
 use Rattle.reader.proofs.filling.record_of.Reads as record-of-reads
@@ -401,62 +402,35 @@ fill-items-μ-loop part place tags₀ kinds₀ depths₀ parents₀ starts₀ si
     length part - at
 
 fill-items-loop-holds : (t : ℕ) → fill-items-lts.Need-loop-holds (
-  read-header-reads.Asked,
-  read-header-reads.Learnt,
+  item-at-reads.Asked,
+  item-at-reads.Learnt,
   fill-item-below t,
   fill-item.Post,
 ) (fill-items-at t) fill-items.Post fill-items-Inv-loop fill-items-μ-loop
 fill-items-loop-holds t c =
     begin _ _ _ ((c .before .before .before .before .before .before .before .pre) .1)
 
-fill-items-sub-read-header : (t : ℕ) → fill-items-lts.Need-sub-read-header (
-  read-header-reads.Asked,
-  read-header-reads.Learnt,
+fill-items-item-at-requires : (t : ℕ) → fill-items-lts.Need-item-at-requires (
+  item-at-reads.Asked,
+  item-at-reads.Learnt,
   fill-item-below t,
   fill-item.Post,
 ) (fill-items-at t) fill-items.Post fill-items-Inv-loop fill-items-μ-loop
-fill-items-sub-read-header t c =
+fill-items-item-at-requires t c κs =
     search needs
 
-fill-items-part-read-header-start : (t : ℕ) → fill-items-lts.Need-part-read-header-start (
-  read-header-reads.Asked,
-  read-header-reads.Learnt,
+fill-items-enum-known-from : (t : ℕ) → fill-items-lts.Need-enum-known-from (
+  item-at-reads.Asked,
+  item-at-reads.Learnt,
   fill-item-below t,
   fill-item.Post,
 ) (fill-items-at t) fill-items.Post fill-items-Inv-loop fill-items-μ-loop
-fill-items-part-read-header-start t c =
-    search needs
-
-fill-items-part-read-header-end : (t : ℕ) → fill-items-lts.Need-part-read-header-end (
-  read-header-reads.Asked,
-  read-header-reads.Learnt,
-  fill-item-below t,
-  fill-item.Post,
-) (fill-items-at t) fill-items.Post fill-items-Inv-loop fill-items-μ-loop
-fill-items-part-read-header-end t c =
-    search needs
-
-fill-items-read-header-requires : (t : ℕ) → fill-items-lts.Need-read-header-requires (
-  read-header-reads.Asked,
-  read-header-reads.Learnt,
-  fill-item-below t,
-  fill-item.Post,
-) (fill-items-at t) fill-items.Post fill-items-Inv-loop fill-items-μ-loop
-fill-items-read-header-requires t c κs =
-    search needs
-
-fill-items-enum-known-start : (t : ℕ) → fill-items-lts.Need-enum-known-start (
-  read-header-reads.Asked,
-  read-header-reads.Learnt,
-  fill-item-below t,
-  fill-item.Post,
-) (fill-items-at t) fill-items.Post fill-items-Inv-loop fill-items-μ-loop
-fill-items-enum-known-start t c =
+fill-items-enum-known-from t c =
     search needs
 
 fill-items-enum-told : (t : ℕ) → fill-items-lts.Need-enum-told (
-  read-header-reads.Asked,
-  read-header-reads.Learnt,
+  item-at-reads.Asked,
+  item-at-reads.Learnt,
   fill-item-below t,
   fill-item.Post,
 ) (fill-items-at t) fill-items.Post fill-items-Inv-loop fill-items-μ-loop
@@ -464,161 +438,143 @@ fill-items-enum-told t c =
     search needs
 
 fill-items-same-length : (t : ℕ) → fill-items-lts.Need-same-length (
-  read-header-reads.Asked,
-  read-header-reads.Learnt,
+  item-at-reads.Asked,
+  item-at-reads.Learnt,
   fill-item-below t,
   fill-item.Post,
 ) (fill-items-at t) fill-items.Post fill-items-Inv-loop fill-items-μ-loop
 fill-items-same-length t c =
-    kept _ _ _ _ _ _ ((c .before .before .before .before .before .loop) .inv) .tags
+    kept _ _ _ _ _ _ ((c .before .before .before .before .loop) .inv) .tags
 
 fill-items-same-length-2 : (t : ℕ) → fill-items-lts.Need-same-length-2 (
-  read-header-reads.Asked,
-  read-header-reads.Learnt,
+  item-at-reads.Asked,
+  item-at-reads.Learnt,
   fill-item-below t,
   fill-item.Post,
 ) (fill-items-at t) fill-items.Post fill-items-Inv-loop fill-items-μ-loop
 fill-items-same-length-2 t c =
-    kept _ _ _ _ _ _ ((c .before .before .before .before .before .loop) .inv) .kinds
+    kept _ _ _ _ _ _ ((c .before .before .before .before .loop) .inv) .kinds
 
 fill-items-same-length-3 : (t : ℕ) → fill-items-lts.Need-same-length-3 (
-  read-header-reads.Asked,
-  read-header-reads.Learnt,
+  item-at-reads.Asked,
+  item-at-reads.Learnt,
   fill-item-below t,
   fill-item.Post,
 ) (fill-items-at t) fill-items.Post fill-items-Inv-loop fill-items-μ-loop
 fill-items-same-length-3 t c =
-    kept _ _ _ _ _ _ ((c .before .before .before .before .before .loop) .inv) .depths
+    kept _ _ _ _ _ _ ((c .before .before .before .before .loop) .inv) .depths
 
 fill-items-same-length-4 : (t : ℕ) → fill-items-lts.Need-same-length-4 (
-  read-header-reads.Asked,
-  read-header-reads.Learnt,
+  item-at-reads.Asked,
+  item-at-reads.Learnt,
   fill-item-below t,
   fill-item.Post,
 ) (fill-items-at t) fill-items.Post fill-items-Inv-loop fill-items-μ-loop
 fill-items-same-length-4 t c =
-    kept _ _ _ _ _ _ ((c .before .before .before .before .before .loop) .inv) .parents
+    kept _ _ _ _ _ _ ((c .before .before .before .before .loop) .inv) .parents
 
 fill-items-same-length-5 : (t : ℕ) → fill-items-lts.Need-same-length-5 (
-  read-header-reads.Asked,
-  read-header-reads.Learnt,
+  item-at-reads.Asked,
+  item-at-reads.Learnt,
   fill-item-below t,
   fill-item.Post,
 ) (fill-items-at t) fill-items.Post fill-items-Inv-loop fill-items-μ-loop
 fill-items-same-length-5 t c =
-    kept _ _ _ _ _ _ ((c .before .before .before .before .before .loop) .inv) .starts
+    kept _ _ _ _ _ _ ((c .before .before .before .before .loop) .inv) .starts
 
 fill-items-same-length-6 : (t : ℕ) → fill-items-lts.Need-same-length-6 (
-  read-header-reads.Asked,
-  read-header-reads.Learnt,
+  item-at-reads.Asked,
+  item-at-reads.Learnt,
   fill-item-below t,
   fill-item.Post,
 ) (fill-items-at t) fill-items.Post fill-items-Inv-loop fill-items-μ-loop
 fill-items-same-length-6 t c =
-    kept _ _ _ _ _ _ ((c .before .before .before .before .before .loop) .inv) .sizes
+    kept _ _ _ _ _ _ ((c .before .before .before .before .loop) .inv) .sizes
 
 fill-items-returns : (t : ℕ) → fill-items-lts.Need-returns (
-  read-header-reads.Asked,
-  read-header-reads.Learnt,
+  item-at-reads.Asked,
+  item-at-reads.Learnt,
   fill-item-below t,
   fill-item.Post,
 ) (fill-items-at t) fill-items.Post fill-items-Inv-loop fill-items-μ-loop
 fill-items-returns t c =
-    no-header _ _ _ _ _ _ ((c .before .before .before .before .before .loop) .inv) ((c .before .before .before .before .loop-test) .taken) _ ((c .before .before .read-header) .ensures) ((c .enum-told) .given .1)
-
-fill-items-add-from : (t : ℕ) → fill-items-lts.Need-add-from (
-  read-header-reads.Asked,
-  read-header-reads.Learnt,
-  fill-item-below t,
-  fill-item.Post,
-) (fill-items-at t) fill-items.Post fill-items-Inv-loop fill-items-μ-loop
-fill-items-add-from t c =
-    from-fits _ _ _ _ _ _ ((c .before .before .before .before .before .before .loop) .inv) ((c .before .before .before .before .before .loop-test) .taken) _ ((c .before .before .before .read-header) .ensures) _ _ ((c .before .start) .given .1)
-
-fill-items-add-to : (t : ℕ) → fill-items-lts.Need-add-to (
-  read-header-reads.Asked,
-  read-header-reads.Learnt,
-  fill-item-below t,
-  fill-item.Post,
-) (fill-items-at t) fill-items.Post fill-items-Inv-loop fill-items-μ-loop
-fill-items-add-to t c =
-    to-fits _ _ _ _ _ _ ((c .before .before .before .before .before .before .loop) .inv) ((c .before .before .before .before .before .loop-test) .taken) _ ((c .before .before .before .read-header) .ensures) _ _ ((c .before .start) .given .1)
+    no-item _ _ _ _ _ _ ((c .before .before .before .before .loop) .inv) ((c .before .before .before .loop-test) .taken) _ ((c .before .before .item-at) .ensures) ((c .enum-told) .given .1)
 
 fill-items-add-body : (t : ℕ) → fill-items-lts.Need-add-body (
-  read-header-reads.Asked,
-  read-header-reads.Learnt,
+  item-at-reads.Asked,
+  item-at-reads.Learnt,
   fill-item-below t,
   fill-item.Post,
 ) (fill-items-at t) fill-items.Post fill-items-Inv-loop fill-items-μ-loop
 fill-items-add-body t c =
-    offset-fits _ _ _ _ _ _ ((c .before .before .before .before .before .before .before .loop) .inv) ((c .before .before .before .before .before .before .loop-test) .taken) _ ((c .before .before .before .before .read-header) .ensures) _ _ ((c .before .before .start) .given .1)
+    offset-fits _ _ _ _ _ _ ((c .before .before .before .before .before .before .loop) .inv) ((c .before .before .before .before .before .loop-test) .taken) _ ((c .before .before .before .before .item-at) .ensures) _ _ ((c .before .before .from) .given .1)
 
 fill-items-shared-slice-read-tag : (t : ℕ) → fill-items-lts.Need-shared-slice-read-tag (
-  read-header-reads.Asked,
-  read-header-reads.Learnt,
+  item-at-reads.Asked,
+  item-at-reads.Learnt,
   fill-item-below t,
   fill-item.Post,
 ) (fill-items-at t) fill-items.Post fill-items-Inv-loop fill-items-μ-loop
 fill-items-shared-slice-read-tag t c =
-    ((c .before .before .before .before .before .before .before .loop-test) .taken)
+    (c .before .before .before .before .before .before .loop-test) .taken
 
 fill-items-sub-body : (t : ℕ) → fill-items-lts.Need-sub-body (
-  read-header-reads.Asked,
-  read-header-reads.Learnt,
+  item-at-reads.Asked,
+  item-at-reads.Learnt,
   fill-item-below t,
   fill-item.Post,
 ) (fill-items-at t) fill-items.Post fill-items-Inv-loop fill-items-μ-loop
 fill-items-sub-body t c =
-    search needs
+    ordered (here _ _ _ _ _ _ ((c .before .before .before .before .before .before .before .loop) .inv) ((c .before .before .before .before .before .before .loop-test) .taken) _ ((c .before .before .before .before .before .item-at) .ensures) _ _ ((c .before .before .before .from) .given .1)) ((c .before .before .before .before .before .before .before .loop) .inv .inside)
 
 fill-items-part-body-start : (t : ℕ) → fill-items-lts.Need-part-body-start (
-  read-header-reads.Asked,
-  read-header-reads.Learnt,
+  item-at-reads.Asked,
+  item-at-reads.Learnt,
   fill-item-below t,
   fill-item.Post,
 ) (fill-items-at t) fill-items.Post fill-items-Inv-loop fill-items-μ-loop
 fill-items-part-body-start t c =
-    search needs
+    ordered (here _ _ _ _ _ _ ((c .before .before .before .before .before .before .before .loop) .inv) ((c .before .before .before .before .before .before .loop-test) .taken) _ ((c .before .before .before .before .before .item-at) .ensures) _ _ ((c .before .before .before .from) .given .1)) ((c .before .before .before .before .before .before .before .loop) .inv .inside)
 
 fill-items-part-body-end : (t : ℕ) → fill-items-lts.Need-part-body-end (
-  read-header-reads.Asked,
-  read-header-reads.Learnt,
+  item-at-reads.Asked,
+  item-at-reads.Learnt,
   fill-item-below t,
   fill-item.Post,
 ) (fill-items-at t) fill-items.Post fill-items-Inv-loop fill-items-μ-loop
 fill-items-part-body-end t c =
-    to-inside _ _ _ _ _ _ ((c .before .before .before .before .before .before .before .before .loop) .inv) ((c .before .before .before .before .before .before .before .loop-test) .taken) _ ((c .before .before .before .before .before .read-header) .ensures) _ _ ((c .before .before .before .start) .given .1)
+    to-inside (here _ _ _ _ _ _ ((c .before .before .before .before .before .before .before .loop) .inv) ((c .before .before .before .before .before .before .loop-test) .taken) _ ((c .before .before .before .before .before .item-at) .ensures) _ _ ((c .before .before .before .from) .given .1)) ((c .before .before .before .before .before .before .before .loop) .inv .inside)
 
 fill-items-fill-item-requires : (t : ℕ) → fill-items-lts.Need-fill-item-requires (
-  read-header-reads.Asked,
-  read-header-reads.Learnt,
+  item-at-reads.Asked,
+  item-at-reads.Learnt,
   fill-item-below t,
   fill-item.Post,
 ) (fill-items-at t) fill-items.Post fill-items-Inv-loop fill-items-μ-loop
 fill-items-fill-item-requires t c κs =
-    (omega (arith, (c .before .before .before .before .before .before .before .before .before .before .before .before .before .before .before .before .before .before .before .before .before .before .before .pre) .0), item-can _ _ _ _ _ _ ((c .before .before .before .before .before .before .before .before .before .before .before .before .before .before .before .loop) .inv) ((c .before .before .before .before .before .before .before .before .before .before .before .before .before .before .loop-test) .taken) _ ((c .before .before .before .before .before .before .before .before .before .before .before .before .read-header) .ensures) _ _ ((c .before .before .before .before .before .before .before .before .before .before .start) .given .1))
+    (omega (arith, (c .before .before .before .before .before .before .before .before .before .before .before .before .before .before .before .before .before .before .before .before .before .before .pre) .0), item-can _ _ _ _ _ _ ((c .before .before .before .before .before .before .before .before .before .before .before .before .before .before .loop) .inv) ((c .before .before .before .before .before .before .before .before .before .before .before .before .before .loop-test) .taken) _ ((c .before .before .before .before .before .before .before .before .before .before .before .before .item-at) .ensures) _ _ ((c .before .before .before .before .before .before .before .before .before .before .from) .given .1))
 
 fill-items-loop-less : (t : ℕ) → fill-items-lts.Need-loop-less (
-  read-header-reads.Asked,
-  read-header-reads.Learnt,
+  item-at-reads.Asked,
+  item-at-reads.Learnt,
   fill-item-below t,
   fill-item.Post,
 ) (fill-items-at t) fill-items.Post fill-items-Inv-loop fill-items-μ-loop
 fill-items-loop-less t c =
-    omega (arith, less _ _ _ _ _ _ ((c .before .before .before .before .before .before .before .before .before .before .before .before .before .before .before .before .before .before .before .before .before .before .before .before .before .before .before .before .loop) .inv) ((c .before .before .before .before .before .before .before .before .before .before .before .before .before .before .before .before .before .before .before .before .before .before .before .before .before .before .before .loop-test) .taken) _ ((c .before .before .before .before .before .before .before .before .before .before .before .before .before .before .before .before .before .before .before .before .before .before .before .before .before .read-header) .ensures) _ _ ((c .before .before .before .before .before .before .before .before .before .before .before .before .before .before .before .before .before .before .before .before .before .before .before .start) .given .1))
+    nearer (here _ _ _ _ _ _ ((c .before .before .before .before .before .before .before .before .before .before .before .before .before .before .before .before .before .before .before .before .before .before .before .before .before .before .before .loop) .inv) ((c .before .before .before .before .before .before .before .before .before .before .before .before .before .before .before .before .before .before .before .before .before .before .before .before .before .before .loop-test) .taken) _ ((c .before .before .before .before .before .before .before .before .before .before .before .before .before .before .before .before .before .before .before .before .before .before .before .before .before .item-at) .ensures) _ _ ((c .before .before .before .before .before .before .before .before .before .before .before .before .before .before .before .before .before .before .before .before .before .before .before .from) .given .1)) ((c .before .before .before .before .before .before .before .before .before .before .before .before .before .before .before .before .before .before .before .before .before .before .before .before .before .before .before .loop) .inv .inside)
 
 fill-items-loop-again : (t : ℕ) → fill-items-lts.Need-loop-again (
-  read-header-reads.Asked,
-  read-header-reads.Learnt,
+  item-at-reads.Asked,
+  item-at-reads.Learnt,
   fill-item-below t,
   fill-item.Post,
 ) (fill-items-at t) fill-items.Post fill-items-Inv-loop fill-items-μ-loop
 fill-items-loop-again t c =
-    again _ _ _ _ _ _ ((c .before .before .before .before .before .before .before .before .before .before .before .before .before .before .before .before .before .before .before .before .before .before .before .before .before .before .before .before .loop) .inv) ((c .before .before .before .before .before .before .before .before .before .before .before .before .before .before .before .before .before .before .before .before .before .before .before .before .before .before .before .loop-test) .taken) _ ((c .before .before .before .before .before .before .before .before .before .before .before .before .before .before .before .before .before .before .before .before .before .before .before .before .before .read-header) .ensures) _ _ ((c .before .before .before .before .before .before .before .before .before .before .before .before .before .before .before .before .before .before .before .before .before .before .before .start) .given .1) _ _ ((c .before .before .before .before .before .before .before .before .before .before .before .before .fill-item) .ensures)
+    again _ _ _ _ _ _ ((c .before .before .before .before .before .before .before .before .before .before .before .before .before .before .before .before .before .before .before .before .before .before .before .before .before .before .before .loop) .inv) ((c .before .before .before .before .before .before .before .before .before .before .before .before .before .before .before .before .before .before .before .before .before .before .before .before .before .before .loop-test) .taken) _ ((c .before .before .before .before .before .before .before .before .before .before .before .before .before .before .before .before .before .before .before .before .before .before .before .before .before .item-at) .ensures) _ _ ((c .before .before .before .before .before .before .before .before .before .before .before .before .before .before .before .before .before .before .before .before .before .before .before .from) .given .1) _ _ ((c .before .before .before .before .before .before .before .before .before .before .before .before .fill-item) .ensures)
 
 fill-items-same-length-7 : (t : ℕ) → fill-items-lts.Need-same-length-7 (
-  read-header-reads.Asked,
-  read-header-reads.Learnt,
+  item-at-reads.Asked,
+  item-at-reads.Learnt,
   fill-item-below t,
   fill-item.Post,
 ) (fill-items-at t) fill-items.Post fill-items-Inv-loop fill-items-μ-loop
@@ -626,8 +582,8 @@ fill-items-same-length-7 t c =
     kept _ _ _ _ _ _ ((c .before .loop) .inv) .tags
 
 fill-items-same-length-8 : (t : ℕ) → fill-items-lts.Need-same-length-8 (
-  read-header-reads.Asked,
-  read-header-reads.Learnt,
+  item-at-reads.Asked,
+  item-at-reads.Learnt,
   fill-item-below t,
   fill-item.Post,
 ) (fill-items-at t) fill-items.Post fill-items-Inv-loop fill-items-μ-loop
@@ -635,8 +591,8 @@ fill-items-same-length-8 t c =
     kept _ _ _ _ _ _ ((c .before .loop) .inv) .kinds
 
 fill-items-same-length-9 : (t : ℕ) → fill-items-lts.Need-same-length-9 (
-  read-header-reads.Asked,
-  read-header-reads.Learnt,
+  item-at-reads.Asked,
+  item-at-reads.Learnt,
   fill-item-below t,
   fill-item.Post,
 ) (fill-items-at t) fill-items.Post fill-items-Inv-loop fill-items-μ-loop
@@ -644,8 +600,8 @@ fill-items-same-length-9 t c =
     kept _ _ _ _ _ _ ((c .before .loop) .inv) .depths
 
 fill-items-same-length-10 : (t : ℕ) → fill-items-lts.Need-same-length-10 (
-  read-header-reads.Asked,
-  read-header-reads.Learnt,
+  item-at-reads.Asked,
+  item-at-reads.Learnt,
   fill-item-below t,
   fill-item.Post,
 ) (fill-items-at t) fill-items.Post fill-items-Inv-loop fill-items-μ-loop
@@ -653,8 +609,8 @@ fill-items-same-length-10 t c =
     kept _ _ _ _ _ _ ((c .before .loop) .inv) .parents
 
 fill-items-same-length-11 : (t : ℕ) → fill-items-lts.Need-same-length-11 (
-  read-header-reads.Asked,
-  read-header-reads.Learnt,
+  item-at-reads.Asked,
+  item-at-reads.Learnt,
   fill-item-below t,
   fill-item.Post,
 ) (fill-items-at t) fill-items.Post fill-items-Inv-loop fill-items-μ-loop
@@ -662,8 +618,8 @@ fill-items-same-length-11 t c =
     kept _ _ _ _ _ _ ((c .before .loop) .inv) .starts
 
 fill-items-same-length-12 : (t : ℕ) → fill-items-lts.Need-same-length-12 (
-  read-header-reads.Asked,
-  read-header-reads.Learnt,
+  item-at-reads.Asked,
+  item-at-reads.Learnt,
   fill-item-below t,
   fill-item.Post,
 ) (fill-items-at t) fill-items.Post fill-items-Inv-loop fill-items-μ-loop
@@ -671,8 +627,8 @@ fill-items-same-length-12 t c =
     kept _ _ _ _ _ _ ((c .before .loop) .inv) .sizes
 
 fill-items-returns-2 : (t : ℕ) → fill-items-lts.Need-returns-2 (
-  read-header-reads.Asked,
-  read-header-reads.Learnt,
+  item-at-reads.Asked,
+  item-at-reads.Learnt,
   fill-item-below t,
   fill-item.Post,
 ) (fill-items-at t) fill-items.Post fill-items-Inv-loop fill-items-μ-loop
@@ -720,17 +676,14 @@ pub +fill-item+fill-items-spec : {M : Type 1} → statement M
     (fill-item-same-length-12 t)
     (fill-item-returns-3 t))
     λ t. fill-items-lts.spec
-    (read-header-reads.Asked, read-header-reads.Learnt, fill-item-below t, fill-item.Post)
+    (item-at-reads.Asked, item-at-reads.Learnt, fill-item-below t, fill-item.Post)
     (fill-items-at t)
     fill-items.Post
     fill-items-Inv-loop
     fill-items-μ-loop
     (fill-items-loop-holds t)
-    (fill-items-sub-read-header t)
-    (fill-items-part-read-header-start t)
-    (fill-items-part-read-header-end t)
-    (fill-items-read-header-requires t)
-    (fill-items-enum-known-start t)
+    (fill-items-item-at-requires t)
+    (fill-items-enum-known-from t)
     (fill-items-enum-told t)
     (fill-items-same-length t)
     (fill-items-same-length-2 t)
@@ -739,8 +692,6 @@ pub +fill-item+fill-items-spec : {M : Type 1} → statement M
     (fill-items-same-length-5 t)
     (fill-items-same-length-6 t)
     (fill-items-returns t)
-    (fill-items-add-from t)
-    (fill-items-add-to t)
     (fill-items-add-body t)
     (fill-items-shared-slice-read-tag t)
     (fill-items-sub-body t)
