@@ -7,23 +7,26 @@ use Prim.Native.Nat.{ℕ, zero, suc, _+_, _-_, _≤_, _<_}
 use native.Mathlib.Omega.{arith}
 use lib.Dec.{eqb}
 use lib.ListN.{length, drop, getD}
+use types.Run.{OneOf}
+use denote.Enum.Declared.{tagOf}
 use borrow.Author.Tests.{eqb-true, eqb-false, eq-eqb, ne-eqb}
 use Rattle.octets.specs.Places.{between}
 use Rattle.text.specs.Tokens.{Entries, expanded}
 use Rattle.values.specs.declared.Kind.{Kind}
-use Rattle.values.specs.declared.Kind.the-variants.{HoldsItems, HoldsTokens, HoldsText, HoldsPlain, HoldsTime, HoldsBearer, HoldsNumber}
-use Rattle.values.specs.declared.NumberKind.{NumberKind}
-use Rattle.values.specs.declared.KnownKind.{KnownKind}
-use Rattle.values.specs.declared.KnownKind.the-variants.{Unknown, Known}
-use Rattle.values.specs.Calls.{knownKind}
+use Rattle.values.specs.declared.Kind.the-variants.{HoldsText}
 use Rattle.values.specs.Table.{known}
-use Rattle.values.proofs.Laws.{known-kind, unknown-kind}
+use Rattle.values.proofs.Kind.{the-type}
 use Rattle.format.specs.Tree.{Items}
 use Rattle.format.specs.Tree.Items.{end, item}
 use Rattle.format.specs.Judge.{isItems, isText}
 use Rattle.format.specs.Meaning.{opens, isChild, attributesIn, cdataIn, leafOctets, means}
 use Rattle.format.specs.Meaning.Meaning.{nothing, element, leaf}
 use Rattle.format.specs.Same.{sameOctets, sameMaybe, sameAttributes, sameMeaning}
+use Rattle.tags.specs.declared.Listed.{Listed}
+use Rattle.tags.specs.declared.Listed.the-variants.{Nothing, Inside, Value}
+use Rattle.tags.specs.Listed.{listedAs}
+use Rattle.tags.proofs.Listing.{is-nothing, is-inside, OfValue, is-value}
+use Rattle.tags.proofs.Arms.{Untexted, not-text}
 use Rattle.reader.specs.Filling.{Accepts}
 use Rattle.survey.specs.Places.{bodyOfTag}
 use Rattle.compare.specs.declared.walks.Child.{Child}
@@ -38,44 +41,28 @@ use Rattle.compare.proofs.Sets.{SameData, sets-say, data-says}
 
 -- ---- content_of
 
-module _ (tag : ℕ) (k : KnownKind) (ke : k ≡ knownKind 0 tag) where
-  pub content-unknown : k ≡ Unknown → InOctets ≡ contentOf (known 0 tag)
-  unfolding contentOf isItems isText
-  content-unknown q = sym (ap contentOf (unknown-kind 0 tag k ke q))
+module _ (tag : ℕ) (g : Listed) (ge : g ≡ listedAs (known 0 tag)) where
+  pub content-nothing : g ≡ Nothing → InOctets ≡ contentOf (known 0 tag)
+  unfolding contentOf
+  content-nothing q = let w = is-nothing (known 0 tag) (sym q ∙ ge) in rw (w .0, w .2)
 
-  module _ (l : Kind) (q : k ≡ Known l) where
-    is-kind : (m : Kind) → l ≡ m → contentOf (known 0 tag) ≡ contentOf (some m)
-    is-kind m e = ap contentOf (known-kind 0 tag k ke l q ∙ ap some e)
+  pub content-inside : g ≡ Inside → InItems ≡ contentOf (known 0 tag)
+  unfolding contentOf
+  content-inside q = rw (is-inside (known 0 tag) (sym q ∙ ge) .0)
 
-    pub content-items : l ≡ HoldsItems → InItems ≡ contentOf (known 0 tag)
+  module _ (k : Kind) (q : g ≡ Value k) where
+    of-value : OfValue (known 0 tag) k
+    of-value = is-value (known 0 tag) k (sym q ∙ ge)
+
+    pub content-text : k ≡ HoldsText → InText ≡ contentOf (known 0 tag)
     unfolding contentOf isItems isText
-    content-items e = sym (is-kind HoldsItems e)
+    content-text e = sym (ap contentOf (of-value .is ∙ ap some e))
 
-    pub content-text : l ≡ HoldsText → InText ≡ contentOf (known 0 tag)
-    unfolding contentOf isItems isText
-    content-text e = sym (is-kind HoldsText e)
+    pub content-other : OneOf Untexted (tagOf the-type k) → InOctets ≡ contentOf (known 0 tag)
+    unfolding contentOf
+    content-other h = rw (of-value .shut, ap isText (of-value .is) ∙ not-text k h)
 
-    pub content-tokens : l ≡ HoldsTokens → InOctets ≡ contentOf (known 0 tag)
-    unfolding contentOf isItems isText
-    content-tokens e = sym (is-kind HoldsTokens e)
-
-    pub content-plain : l ≡ HoldsPlain → InOctets ≡ contentOf (known 0 tag)
-    unfolding contentOf isItems isText
-    content-plain e = sym (is-kind HoldsPlain e)
-
-    pub content-time : l ≡ HoldsTime → InOctets ≡ contentOf (known 0 tag)
-    unfolding contentOf isItems isText
-    content-time e = sym (is-kind HoldsTime e)
-
-    pub content-bearer : l ≡ HoldsBearer → InOctets ≡ contentOf (known 0 tag)
-    unfolding contentOf isItems isText
-    content-bearer e = sym (is-kind HoldsBearer e)
-
-    pub content-number : (n : NumberKind) → l ≡ HoldsNumber n → InOctets ≡ contentOf (known 0 tag)
-    unfolding contentOf isItems isText
-    content-number n e = sym (is-kind (HoldsNumber n) e)
-
-pub ruleset content-ways = (content-unknown, content-items, content-text, content-tokens, content-plain, content-time, content-bearer, content-number)
+pub ruleset content-ways = (content-nothing, content-inside, content-text, content-other)
 
 -- what it says
 module _ (tag : ℕ) (c : Content) (ce : c ≡ contentOf (known 0 tag)) where

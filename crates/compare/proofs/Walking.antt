@@ -1,6 +1,6 @@
 -- The walk over a part: the ways through next_child.
 use mathlib.Core.Path.{_≡_, refl, sym, ap, _∙_, subst}
-use mathlib.Core.Bool.{Bool, true, false, cond, _&&_, false≢true}
+use mathlib.Core.Bool.{Bool, true, false, cond, not, _&&_, false≢true, not-and-self}
 use mathlib.Core.Option.{Option, none, some}
 use mathlib.Core.List.{List, [], _∷_}
 use Prim.Native.Nat.{ℕ, zero, suc, _+_, _-_, _≤_, _<_}
@@ -15,36 +15,26 @@ use Rattle.octets.proofs.Tests.{and-left, and-right}
 use Rattle.octets.proofs.Places.{Lying, lying, not-whole, bounds, tag-is, body-is, later-is, fewer-after, none-whole}
 use Rattle.text.specs.Tokens.{Entries}
 use Rattle.values.specs.declared.Kind.{Kind}
-use Rattle.values.specs.declared.KnownKind.{KnownKind}
-use Rattle.values.specs.declared.KnownKind.the-variants.{Unknown, Known}
-use Rattle.values.specs.Calls.{knownKind}
 use Rattle.values.specs.Table.{known, attribute}
 use Rattle.values.proofs.Known.{known-anywhere}
-use Rattle.values.proofs.Laws.{known-kind, unknown-kind}
 use Rattle.format.specs.Tree.{Items}
 use Rattle.format.specs.Tree.Items.{end, item}
-use Rattle.format.specs.Judge.{isKnown, isItems}
+use Rattle.format.specs.Judge.{isKnown, isItems, isTokens}
 use Rattle.format.specs.Meaning.{opens, isChild, means}
 use Rattle.format.specs.Meaning.Meaning.{nothing}
 use Rattle.format.proofs.Means.{items-opens}
 use Rattle.format.proofs.NormalOctets.{child-no-attribute}
+use Rattle.tags.specs.declared.Listed.{Listed}
+use Rattle.tags.specs.declared.Listed.the-variants.{Nothing, Inside, Value}
+use Rattle.tags.specs.Listed.{listedAs}
+use Rattle.tags.proofs.Listing.{is-nothing, is-inside, is-value}
+use Rattle.judge.proofs.AllWays.{tokens-four}
 use Rattle.reader.specs.Filling.{Accepts, share}
 use Rattle.reader.proofs.Opening.{Opened, fits-in, opened, opened-end}
 use Rattle.compare.specs.declared.walks.Child.the-variants.{End, Found}
 use Rattle.compare.specs.Walks.{isMeant, childrenWithin, childrenIn, Children}
 
--- ---- what the lookup says
-
-module _ (p tag : ℕ) (r : KnownKind) (e : r ≡ knownKind p tag) where
-  pub is-unknown : r ≡ Unknown → false ≡ isKnown (known p tag)
-  unfolding isKnown
-  is-unknown q = sym (ap isKnown (unknown-kind p tag r e q))
-
-  pub is-some : (k : Kind) → r ≡ Known k → true ≡ isKnown (known p tag)
-  unfolding isKnown
-  is-some k q = sym (ap isKnown (known-kind p tag r e k q))
-
-pub ruleset known-ways = (is-unknown, is-some)
+-- ---- is_child
 
 module _ (tag : ℕ) (a : Bool) (e : a ≡ attribute tag) where
   pub child-attribute : a ≡ true → false ≡ isChild tag && isKnown (known 0 tag)
@@ -56,16 +46,22 @@ module _ (tag : ℕ) (a : Bool) (e : a ≡ attribute tag) where
     unfolding isChild
     child-cdata q = rw (sym e ∙ n, eq-eqb tag 1 q)
 
-    module _ (m : tag ≡ 1 → ⊥) where
-      pub child-table : tag ≡ 4 → false ≡ isChild tag && isKnown (known 0 tag)
+    module _ (m : tag ≡ 1 → ⊥) (g : Listed) (ge : g ≡ listedAs (known 0 tag)) where
+      is-child : isChild tag ≡ not (isTokens (known 0 tag))
       unfolding isChild
-      child-table q = rw (sym e ∙ n, ne-eqb tag 1 m, eq-eqb tag 4 q)
+      is-child = rw (sym e ∙ n, ne-eqb tag 1 m, tokens-four 0 tag)
 
-      pub child-other : (tag ≡ 4 → ⊥) → (r : Bool) → r ≡ isKnown (known 0 tag) → r ≡ isChild tag && isKnown (known 0 tag)
-      unfolding isChild
-      child-other q r h = rw (sym e ∙ n, ne-eqb tag 1 m, ne-eqb tag 4 q) h
+      pub child-nothing : g ≡ Nothing → false ≡ isChild tag && isKnown (known 0 tag)
+      child-nothing q = rw (is-child, is-nothing (known 0 tag) (sym q ∙ ge) .1) (sym (not-and-self (isTokens (known 0 tag))))
 
-pub ruleset child-ways = (child-attribute, child-cdata, child-table, child-other)
+      pub child-inside : g ≡ Inside → true ≡ isChild tag && isKnown (known 0 tag)
+      child-inside q = let w = is-inside (known 0 tag) (sym q ∙ ge) in rw (is-child, w .1, w .2)
+
+      pub child-value : (k : Kind) → g ≡ Value k → true ≡ isChild tag && isKnown (known 0 tag)
+      unfolding isKnown
+      child-value k q = let w = is-value (known 0 tag) k (sym q ∙ ge) in rw (is-child, w .noTable, ap isKnown (w .is))
+
+pub ruleset child-ways = (child-attribute, child-cdata, child-nothing, child-inside, child-value)
 
 -- ---- what an item adds to a meaning
 

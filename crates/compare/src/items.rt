@@ -16,6 +16,8 @@ use crate::walks::Child;
 use crate::walks::next_child;
 use octets::Lies;
 use survey::find_item;
+use tags::Listed;
+use tags::listed_as;
 use values::Kind;
 use values::KnownKind;
 use values::is_default;
@@ -162,16 +164,12 @@ enum Content {
 fn content_of(tag: u8) -> Content
     ensures { λ r. ⌜ r ≡ contentOf (known 0 tag) ⌝ }
 {
-    match known_kind(0, tag) {
-        KnownKind::Unknown => Content::Octets,
-        KnownKind::Known(kind) => match kind {
-            Kind::HoldsItems => Content::Items,
+    match listed_as(0, tag) {
+        Listed::Nothing => Content::Octets,
+        Listed::Inside => Content::Items,
+        Listed::Value(kind) => match kind {
             Kind::HoldsText => Content::Text,
-            Kind::HoldsTokens => Content::Octets,
-            Kind::HoldsPlain => Content::Octets,
-            Kind::HoldsTime => Content::Octets,
-            Kind::HoldsBearer => Content::Octets,
-            Kind::HoldsNumber(_) => Content::Octets,
+            _ => Content::Octets,
         },
     }
 }

@@ -1,27 +1,16 @@
 // Where the child elements of an element lie that have a meaning, in order. From item to item the walk goes by `item_at`.
 ghost use mathlib.Core.Path.{_≡_};
-ghost use Rattle.values.specs.Table.{known};
-ghost use Rattle.format.specs.Judge.{isKnown};
 ghost use Rattle.compare.specs.Walks.{isMeant, Children};
 use octets::Lies;
 use octets::item_at;
-use values::KnownKind;
+use tags::Listed;
+use tags::listed_as;
 use values::is_attribute;
-use values::known_kind;
 
 // A child element: where it begins, and between which places its body lies. End: there is no further one.
 pub enum Child {
     End,
     Found { at: usize, from: usize, to: usize },
-}
-
-fn is_known(tag: u8) -> bool
-    ensures { λ r. ⌜ r ≡ isKnown (known 0 tag) ⌝ }
-{
-    match known_kind(0, tag) {
-        KnownKind::Unknown => false,
-        KnownKind::Known(_) => true,
-    }
 }
 
 // An element that has a meaning of its own: known, and not the token table.
@@ -34,10 +23,11 @@ fn is_child(tag: u8) -> bool
     if tag == 1 {
         return false;
     }
-    if tag == 4 {
-        return false;
+    match listed_as(0, tag) {
+        Listed::Nothing => false,
+        Listed::Inside => true,
+        Listed::Value(_) => true,
     }
-    is_known(tag)
 }
 
 // The first child element from the item at a place on.

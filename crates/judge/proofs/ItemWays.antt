@@ -1,14 +1,12 @@
 -- The rules of one item, on each way through the code's tests.
 use mathlib.Core.Path.{_≡_, refl, sym, ap, _∙_}
-use mathlib.Core.Bool.{Bool, true, false, _&&_, _||_, false≢true, or-true}
-use mathlib.Core.Logic.{⊎-elim}
+use mathlib.Core.Bool.{Bool, true, false, _&&_, _||_}
 use mathlib.Core.Option.{Option, none, some}
 use mathlib.Core.List.{List, [], _∷_}
 use Prim.Native.Nat.{ℕ, _≤_, _<_}
-use lib.Dec.{eqb}
 use types.Run.{OneOf}
 use denote.Enum.Declared.{tagOf}
-use borrow.Author.Tests.{le-leb, lt-leb, eq-eqb}
+use borrow.Author.Tests.{le-leb, lt-leb}
 use Rattle.octets.specs.Numbers.{among}
 use Rattle.octets.specs.declared.counts.Characters.{Characters}
 use Rattle.octets.specs.Counts.{asCharacters}
@@ -31,6 +29,7 @@ use Rattle.values.specs.Calls.{asKnown, knownKind}
 use Rattle.values.specs.declared.KnownKind.{KnownKind}
 use Rattle.values.specs.declared.KnownKind.the-variants.{Unknown, Known}
 use Rattle.tags.specs.Rules.{withinDepth, hasBit, Seen}
+use Rattle.tags.proofs.Arms.{never, Untexted, not-text}
 use Rattle.tags.proofs.Masks.{twice-is}
 use Rattle.tags.proofs.TagTests.{capped-shown}
 use Rattle.judge.specs.Says.{ctx, bare, InForce, depthOf, asKind, checked, sorted, ItemSays}
@@ -129,29 +128,7 @@ module _ (parent tag place : ℕ) (table body : List ℕ) (k : Kind) where
     unfolding kindRules first rule valueRule checked isValue
     value-kind f x y = rw (sym e ∙ f, x, y)
 
--- the arm `_` of a match on an enum knows which variants are left: their numbers, in the order in which the enum declares them
-one-of : (ks : List ℕ) (x : ℕ) → OneOf ks x → among x ks ≡ true
-unfolding among
-one-of [] x h = absurd h
-one-of (k ∷ []) x h = rw (eq-eqb x k h)
-one-of (k ∷ j ∷ ks) x h = ⊎-elim (λ e. rw (eq-eqb x k e)) (λ q. rw (one-of (j ∷ ks) x q) (or-true (eqb x k))) h
-
-never : {C : Type 0} (ks : List ℕ) (x : ℕ) → among x ks ≡ false → OneOf ks x → C
-never ks x e h = absurd (false≢true (sym e ∙ one-of ks x h))
-
-abbrev Untexted : List ℕ
-Untexted = 0 ∷ 1 ∷ 3 ∷ 4 ∷ 5 ∷ 6 ∷ []
-
-not-text : (k : Kind) → OneOf Untexted (tagOf the-type k) → isText (some k) ≡ false
-unfolding isText among
-not-text HoldsItems h = refl
-not-text HoldsTokens h = refl
-not-text HoldsText h = never Untexted 2 refl h
-not-text HoldsPlain h = refl
-not-text HoldsTime h = refl
-not-text HoldsBearer h = refl
-not-text (HoldsNumber n) h = refl
-
+-- what the arms `_` know
 abbrev Formed : List ℕ
 Formed = 4 ∷ 5 ∷ 6 ∷ []
 

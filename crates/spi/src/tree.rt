@@ -8,9 +8,9 @@ use crate::memory::room;
 use octets::Lies;
 use octets::item_at;
 use survey::table_of;
+use tags::Listed;
+use tags::listed_as;
 use values::Kind;
-use values::KnownKind;
-use values::known_kind;
 ghost use Prim.Native.Nat.{_+_, _≤_, _<_, _^_};
 ghost use lib.ListN.{length};
 
@@ -31,16 +31,12 @@ enum Form {
 
 // The token table and items that aren't known have no line, as they have no record.
 fn form_of(parent: u8, tag: u8) -> Form {
-    match known_kind(parent, tag) {
-        KnownKind::Unknown => Form::Nothing,
-        KnownKind::Known(kind) => match kind {
-            Kind::HoldsItems => Form::Name,
-            Kind::HoldsTokens => Form::Nothing,
-            Kind::HoldsText => Form::Value,
+    match listed_as(parent, tag) {
+        Listed::Nothing => Form::Nothing,
+        Listed::Inside => Form::Name,
+        Listed::Value(kind) => match kind {
             Kind::HoldsPlain => Form::Octets,
-            Kind::HoldsTime => Form::Value,
-            Kind::HoldsBearer => Form::Value,
-            Kind::HoldsNumber(_) => Form::Value,
+            _ => Form::Value,
         },
     }
 }

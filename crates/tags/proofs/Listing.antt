@@ -12,7 +12,7 @@ use Rattle.values.specs.declared.KnownKind.the-variants.{Unknown, Known}
 use Rattle.values.specs.Table.{known}
 use Rattle.values.specs.Calls.{knownKind}
 use Rattle.values.proofs.Laws.{known-kind, unknown-kind}
-use Rattle.format.specs.Judge.{isKnown, isItems, isTokens}
+use Rattle.format.specs.Judge.{isKnown, isItems, isTokens, isText}
 use Rattle.tags.specs.declared.Listed.the-variants.{Nothing, Inside, Value}
 use Rattle.tags.specs.Listed.{listedAs}
 
@@ -57,21 +57,21 @@ module _ (p tag : ℕ) (r : KnownKind) (e : r ≡ knownKind p tag) where
 pub ruleset listed-ways = (listed-unknown, listed-items, listed-tokens, listed-text, listed-plain, listed-time, listed-bearer, listed-number)
 
 -- ---- what it says
-pub is-nothing : (k : Option Kind) → Nothing ≡ listedAs k → (isItems k ≡ false) × (isKnown k ≡ isTokens k)
-unfolding listedAs isItems isKnown isTokens
-is-nothing none h = (refl, refl)
+pub is-nothing : (k : Option Kind) → Nothing ≡ listedAs k → (isItems k ≡ false) × (isKnown k ≡ isTokens k) × (isText k ≡ false)
+unfolding listedAs isItems isKnown isTokens isText
+is-nothing none h = (refl, refl, refl)
 is-nothing (some HoldsItems) h = let z : _≡_ {A = ℕ} 0 1 = cc in absurd (omega arith)
-is-nothing (some HoldsTokens) h = (refl, refl)
+is-nothing (some HoldsTokens) h = (refl, refl, refl)
 is-nothing (some HoldsText) h = let z : _≡_ {A = ℕ} 0 1 = cc in absurd (omega arith)
 is-nothing (some HoldsPlain) h = let z : _≡_ {A = ℕ} 0 1 = cc in absurd (omega arith)
 is-nothing (some HoldsTime) h = let z : _≡_ {A = ℕ} 0 1 = cc in absurd (omega arith)
 is-nothing (some HoldsBearer) h = let z : _≡_ {A = ℕ} 0 1 = cc in absurd (omega arith)
 is-nothing (some (HoldsNumber n)) h = let z : _≡_ {A = ℕ} 0 1 = cc in absurd (omega arith)
 
-pub is-inside : (k : Option Kind) → Inside ≡ listedAs k → (isItems k ≡ true) × (isTokens k ≡ false)
-unfolding listedAs isItems isTokens
+pub is-inside : (k : Option Kind) → Inside ≡ listedAs k → (isItems k ≡ true) × (isTokens k ≡ false) × (isKnown k ≡ true)
+unfolding listedAs isItems isTokens isKnown
 is-inside none h = let z : _≡_ {A = ℕ} 0 1 = cc in absurd (omega arith)
-is-inside (some HoldsItems) h = (refl, refl)
+is-inside (some HoldsItems) h = (refl, refl, refl)
 is-inside (some HoldsTokens) h = let z : _≡_ {A = ℕ} 0 1 = cc in absurd (omega arith)
 is-inside (some HoldsText) h = let z : _≡_ {A = ℕ} 0 1 = cc in absurd (omega arith)
 is-inside (some HoldsPlain) h = let z : _≡_ {A = ℕ} 0 1 = cc in absurd (omega arith)

@@ -7,7 +7,8 @@ use values::Kind;
 use values::KnownKind;
 use values::known_kind;
 
-// An unknown item and the token table have no record. Whoever walks over the items of an object, to fill records, to measure or to lay them, asks this one call.
+// An unknown item and the token table have no record. Whoever walks over the items of an object, to fill records, to measure, to lay, to compare or to show
+// them, asks this one call.
 pub fn listed_as(parent: u8, tag: u8) -> Listed
     ensures { λ r. ⌜ r ≡ listedAs (known parent tag) ⌝ }
 {

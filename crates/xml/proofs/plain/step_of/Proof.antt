@@ -3,35 +3,20 @@ use Rattle.xml.proofs.Plainly.{step-ways}
 use Rattle.xml.proofs.plain.step_of.Statement.{statement}
 use Rattle.xml.proofs.plain.step_of.Tie as tie
 
-known-kind-requires : tie.Need-known-kind-requires
-known-kind-requires c κs = search needs
+listed-as-requires : tie.Need-listed-as-requires
+listed-as-requires c κs = search needs
 
 enum-told : tie.Need-enum-told
 enum-told c = search needs
 
-enum-known-kind : tie.Need-enum-known-kind
-enum-known-kind c = search needs
-
 enum-told-2 : tie.Need-enum-told-2
 enum-told-2 c = search needs
 
+enum-known-kind : tie.Need-enum-known-kind
+enum-known-kind c = search needs
+
 enum-told-3 : tie.Need-enum-told-3
 enum-told-3 c = search needs
-
-enum-told-4 : tie.Need-enum-told-4
-enum-told-4 c = search needs
-
-enum-told-5 : tie.Need-enum-told-5
-enum-told-5 c = search needs
-
-enum-told-6 : tie.Need-enum-told-6
-enum-told-6 c = search needs
-
-enum-told-7 : tie.Need-enum-told-7
-enum-told-7 c = search needs
-
-enum-told-8 : tie.Need-enum-told-8
-enum-told-8 c = search needs
 
 returns : tie.Need-returns
 returns c = search (step-ways, needs)
@@ -45,37 +30,16 @@ returns-3 c = search (step-ways, needs)
 returns-4 : tie.Need-returns-4
 returns-4 c = search (step-ways, needs)
 
-returns-5 : tie.Need-returns-5
-returns-5 c = search (step-ways, needs)
-
-returns-6 : tie.Need-returns-6
-returns-6 c = search (step-ways, needs)
-
-returns-7 : tie.Need-returns-7
-returns-7 c = search (step-ways, needs)
-
-returns-8 : tie.Need-returns-8
-returns-8 c = search (step-ways, needs)
-
 pub step-of-spec : {M : Type 1} → statement M
 step-of-spec =
     tie.close
     (tie.spec
-    known-kind-requires
+    listed-as-requires
     enum-told
-    enum-known-kind
     enum-told-2
+    enum-known-kind
     enum-told-3
-    enum-told-4
-    enum-told-5
-    enum-told-6
-    enum-told-7
-    enum-told-8
     returns
     returns-2
     returns-3
-    returns-4
-    returns-5
-    returns-6
-    returns-7
-    returns-8)
+    returns-4)
