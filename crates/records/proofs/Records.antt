@@ -1,6 +1,6 @@
 -- A record among the items of an element, and the places of lists, one law for each way through the code.
 use Prim.Native.Nat.{ℕ, _+_, _-_, _≤_, _<_}
-use mathlib.Core.Path.{_≡_, sym, ap, subst, _∙_}
+use mathlib.Core.Path.{_≡_, sym, ap, _∙_}
 use mathlib.Core.List.{List}
 use mathlib.Core.Bool.{Bool, true, false}
 use lib.Dec.{eqb, leb}
@@ -33,43 +33,36 @@ module _ (p : Parent) (s : State) (lent : List ℕ) (r : Record) where
     unfolding itemAs tied
     bad-kind h = rw (at-depth, ne-eqb (r .kind) (kindOf (r .tag)) (λ q. h (q ∙ sym ke)))
 
-    module _ (kk : r .kind ≡ k) (n : ℕ) (ne : n ≡ r .parent) where
+    module _ (kk : r .kind ≡ k) where
       same-kind : eqb (r .kind) (kindOf (r .tag)) ≡ true
       same-kind = eq-eqb (r .kind) (kindOf (r .tag)) (kk ∙ ke)
 
-      pub bad-parent : (n ≡ p .number → ⊥) → Bad ≡ itemAs p s lent r
+      pub bad-parent : (r .parent ≡ p .number → ⊥) → Bad ≡ itemAs p s lent r
       unfolding itemAs tied
-      bad-parent h = rw (at-depth, same-kind, ne-eqb (r .parent) (p .number) (λ q. h (ne ∙ q)))
+      bad-parent h = rw (at-depth, same-kind, ne-eqb (r .parent) (p .number) h)
 
-      module _ (nn : n ≡ p .number) (a m : ℕ) (ae : a ≡ r .start) (me : m ≡ r .size) where
+      module _ (nn : r .parent ≡ p .number) where
         same-parent : eqb (r .parent) (p .number) ≡ true
-        same-parent = eq-eqb (r .parent) (p .number) (sym ne ∙ nn)
+        same-parent = eq-eqb (r .parent) (p .number) nn
 
-        ends : a + m ≡ r .start + r .size
-        ends = ap (λ (x : ℕ). x + m) ae ∙ ap (λ (x : ℕ). r .start + x) me
-
-        pub bad-span : length lent < a + m → Bad ≡ itemAs p s lent r
+        pub bad-span : length lent < r .start + r .size → Bad ≡ itemAs p s lent r
         unfolding itemAs tied
-        bad-span h = rw (at-depth, same-kind, same-parent, lt-leb (r .start + r .size) (length lent) (subst (λ (x : ℕ). length lent < x) ends h))
+        bad-span h = rw (at-depth, same-kind, same-parent, lt-leb (r .start + r .size) (length lent) h)
 
-        module _ (fit : a + m ≤ length lent) (b : Bool) (be : b ≡ placedBy p s (r .tag)) where
+        module _ (fit : r .start + r .size ≤ length lent) (b : Bool) (be : b ≡ placedBy p s (r .tag)) where
           inside : leb (r .start + r .size) (length lent) ≡ true
-          inside = le-leb (r .start + r .size) (length lent) (subst (λ (x : ℕ). x ≤ length lent) ends fit)
+          inside = le-leb (r .start + r .size) (length lent) fit
 
           pub bad-place : b ≡ false → Bad ≡ itemAs p s lent r
           unfolding itemAs tied
           bad-place h = rw (at-depth, same-kind, same-parent, inside, sym be ∙ h)
 
-          module _ (bb : b ≡ true) (h : Held) (he : h ≡ heldAs (p .tag) (r .tag) (take (a + m - a) (drop a lent)) (known (p .tag) (r .tag))) where
-            body-is : take (a + m - a) (drop a lent) ≡ bodyIn lent r
-            unfolding bodyIn
-            body-is = ap (λ (x : ℕ). take x (drop a lent)) (add-sub-cancel-left a m ∙ me) ∙ ap (λ (x : ℕ). take (r .size) (drop x lent)) ae
-
+          module _ (bb : b ≡ true) (h : Held) (he : h ≡ heldAs (p .tag) (r .tag) (take (r .start + r .size - r .start) (drop (r .start) lent)) (known (p .tag) (r .tag))) where
             pub good-record : (t : State) → t ≡ stateAfter p s (r .tag) → (x : Item) → x ≡ itemOf h (r .tag) t → x ≡ itemAs p s lent r
-            unfolding itemAs tied
+            unfolding itemAs tied bodyIn
             good-record t te x xe =
                 rw (at-depth, same-kind, same-parent, inside, sym be ∙ bb)
-                (xe ∙ ap (itemOf h (r .tag)) te ∙ ap (λ y. itemOf y (r .tag) (stateAfter p s (r .tag))) (he ∙ ap (λ y. heldAs (p .tag) (r .tag) y (known (p .tag) (r .tag))) body-is))
+                (xe ∙ ap (itemOf h (r .tag)) te ∙ ap (λ y. itemOf y (r .tag) (stateAfter p s (r .tag))) (rw add-sub-cancel-left at he))
 
 pub ruleset record-ways = (record-past, bad-kind, bad-parent, bad-span, bad-place, good-record)
 

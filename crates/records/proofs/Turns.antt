@@ -27,7 +27,7 @@ use Rattle.text.specs.Text.{text}
 use Rattle.text.specs.Tokens.{shownLength}
 use Rattle.tags.specs.Rules.{Seen}
 use Rattle.tags.proofs.Masks.{marked, none-marked}
-use Rattle.records.specs.Check.{heldAs, placedBy, stateAfter, itemOf, tied, itemAs, firstIn, walked, told}
+use Rattle.records.specs.Check.{heldAs, placedBy, stateAfter, itemOf, tied, itemAs, firstIn, parentAt, walked, told}
 use Rattle.records.specs.declared.check.Parent.{Parent}
 use Rattle.records.specs.declared.check.State.{State}
 use Rattle.records.specs.declared.check.Held.the-variants.{Broken, Octets, Inner}
@@ -125,10 +125,7 @@ here-none : (l : Lists) (n d i : ℕ) → n ≤ i → here (row l) n d i ≡ fal
 unfolding here
 here-none l n d i h = rw (le-ltb i n h)
 
--- record i as a parent, the walk over what is inside it, and the walk that goes on behind that
-abbrev parentAt : Parent → (tag i : ℕ) → Parent
-parentAt p tag i = record { tag = tag; number = i; depth = p .depth + 1 }
-
+-- the walk over what is inside record i, and the walk that goes on behind that
 abbrev inner : Lists → ℕ → List ℕ → Parent → (tag i : ℕ) → Option ℕ
 inner l n lent p tag i = walked l n lent (firstIn (parentAt p tag i)) i (i + 1)
 

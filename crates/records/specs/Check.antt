@@ -71,6 +71,10 @@ itemAs p s lent r =
 abbrev pub firstIn : Parent → Spot
 firstIn p = record { parent = p .tag; depth = p .depth; stage = 0; seen = [] }
 
+-- record i as a parent of its own, among the items of a parent
+abbrev pub parentAt : Parent → (tag i : ℕ) → Parent
+parentAt p tag i = record { tag = tag; number = i; depth = p .depth + 1 }
+
 -- the walk of `rebuilt` from any record on; it goes over at most the records that are left
 unfoldable pub walked : Lists → ℕ → List ℕ → Spot → (p i : ℕ) → Option ℕ
 walked l n lent s p i = walk (suc (n - i)) (row l) n lent s p i

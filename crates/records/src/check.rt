@@ -12,7 +12,7 @@ ghost use Rattle.text.specs.Tokens.{shownLength};
 ghost use Rattle.format.specs.Judge.{shown};
 ghost use Rattle.format.specs.Calls.{row, places, treeGiven};
 ghost use Rattle.format.specs.Lent.{lent};
-ghost use Rattle.records.specs.Check.{isGiven, HasPlaces, octetsIf, heldAs, placedBy, stateAfter, itemOf, itemAs, firstIn, walked, told};
+ghost use Rattle.records.specs.Check.{isGiven, HasPlaces, octetsIf, heldAs, placedBy, stateAfter, itemOf, itemAs, firstIn, parentAt, walked, told};
 use format::Record;
 use format::kind_of;
 use octets::Characters;
@@ -158,12 +158,6 @@ fn item_of(held: Held, tag: u8, state: State) -> Item
     }
 }
 
-fn wide(x: u16) -> usize
-    ensures { λ r. ⌜ (r ≡ x) × (r < 65536) ⌝ }
-{
-    x as usize
-}
-
 // A record among the items of an element. A body's part may overlap others: it need only lie inside the lent octets.
 fn check_record(given: Record, octets: &[u8], parent: Parent, state: State) -> Item
     ensures { λ r. ⌜ r ≡ itemAs parent state (now (octets .entry)) given ⌝ }
@@ -175,12 +169,11 @@ fn check_record(given: Record, octets: &[u8], parent: Parent, state: State) -> I
     if given.kind != kind_of(tag) {
         return Item::Bad;
     }
-    let number = wide(given.parent);
-    if number != parent.number {
+    if given.parent as usize != parent.number {
         return Item::Bad;
     }
-    let start = wide(given.start);
-    let end = start + wide(given.size);
+    let start = given.start as usize;
+    let end = start + given.size as usize;
     if end > octets.len() {
         return Item::Bad;
     }
@@ -247,13 +240,7 @@ fn check_items(
                 state = next;
             }
             Item::Nested(tag, next) => {
-                let depth = parent.depth + 1;
-                let inner = Parent {
-                    tag,
-                    number: i,
-                    depth,
-                };
-                match check_items(
+                let Reached::Next(end) = check_nested(
                     count,
                     tags,
                     kinds,
@@ -262,21 +249,54 @@ fn check_items(
                     starts,
                     sizes,
                     octets,
-                    i + 1,
-                    inner,
-                ) {
-                    Reached::Ill => {
-                        return Reached::Ill;
-                    }
-                    Reached::Next(end) => {
-                        i = end;
-                        state = next;
-                    }
-                }
+                    i,
+                    tag,
+                    parent,
+                ) else {
+                    return Reached::Ill;
+                };
+                i = end;
+                state = next;
             }
         }
     }
     Reached::Next(i)
+}
+
+// The records of the items in an element: record `i`, of a tag, which stands itself among the items of `parent`.
+fn check_nested(
+    count: usize,
+    tags: &[u8],
+    kinds: &[u8],
+    depths: &[u8],
+    parents: &[u16],
+    starts: &[u16],
+    sizes: &[u16],
+    octets: &[u8],
+    i: usize,
+    tag: u8,
+    parent: Parent,
+) -> Reached
+    requires { ⌜ HasPlaces count (lent tags kinds depths parents starts sizes) × (i < count) × (parent .depth ≤ 16) ⌝ }
+    ensures { λ r. ⌜ r ≡ told (walked (lent (tags .entry) (kinds .entry) (depths .entry) (parents .entry) (starts .entry) (sizes .entry)) count (now (octets .entry)) (firstIn (parentAt parent tag i)) i (i + 1)) ⌝ }
+{
+    let inner = Parent {
+        tag,
+        number: i,
+        depth: parent.depth + 1,
+    };
+    check_items(
+        count,
+        tags,
+        kinds,
+        depths,
+        parents,
+        starts,
+        sizes,
+        octets,
+        i + 1,
+        inner,
+    )
 }
 
 // There are no more records than places in the shortest list.
@@ -328,31 +348,27 @@ pub fn is_well_formed(
     if count == 0 {
         return false;
     }
-    if has_places(count, tags, kinds, depths, parents, starts, sizes) {
-        let above = Parent {
-            tag: 0,
-            number: 0,
-            depth: 1,
-        };
-        match check_items(
-            count,
-            tags,
-            kinds,
-            depths,
-            parents,
-            starts,
-            sizes,
-            octets,
-            0,
-            above,
-        ) {
-            Reached::Ill => {
-                return false;
-            }
-            Reached::Next(end) => {
-                return end == count;
-            }
-        }
+    if !has_places(count, tags, kinds, depths, parents, starts, sizes) {
+        return false;
     }
-    false
+    let above = Parent {
+        tag: 0,
+        number: 0,
+        depth: 1,
+    };
+    match check_items(
+        count,
+        tags,
+        kinds,
+        depths,
+        parents,
+        starts,
+        sizes,
+        octets,
+        0,
+        above,
+    ) {
+        Reached::Ill => false,
+        Reached::Next(end) => end == count,
+    }
 }

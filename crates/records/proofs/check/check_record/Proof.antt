@@ -12,17 +12,17 @@ kind-of-requires c κs = search needs
 returns-2 : tie.Need-returns-2
 returns-2 c = search (record-ways, needs)
 
-wide-requires : tie.Need-wide-requires
-wide-requires c κs = search needs
+cast-if3 : tie.Need-cast-if3
+cast-if3 c = search needs
 
 returns-3 : tie.Need-returns-3
 returns-3 c = search (record-ways, needs)
 
-wide-requires-2 : tie.Need-wide-requires-2
-wide-requires-2 c κs = search needs
+cast-start : tie.Need-cast-start
+cast-start c = search needs
 
-wide-requires-3 : tie.Need-wide-requires-3
-wide-requires-3 c κs = search needs
+cast-end : tie.Need-cast-end
+cast-end c = search needs
 
 add-end : tie.Need-add-end
 add-end c = search needs
@@ -64,10 +64,10 @@ check-record-spec =
     returns
     kind-of-requires
     returns-2
-    wide-requires
+    cast-if3
     returns-3
-    wide-requires-2
-    wide-requires-3
+    cast-start
+    cast-end
     add-end
     returns-4
     is-placed-requires

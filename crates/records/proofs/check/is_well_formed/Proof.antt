@@ -1,5 +1,7 @@
 use Rattle.records.proofs.Given.{given-ways}
 use Rattle.records.proofs.Records.{has-all}
+use native.Mathlib.Omega.{arith}
+use borrow.Author.Tests.{not-true, not-false}
 use borrow.Author.Needs.{needs}
 use Rattle.records.proofs.check.is_well_formed.Statement.{statement}
 use Rattle.records.proofs.check.is_well_formed.Tie as tie
@@ -10,23 +12,24 @@ returns c = search (given-ways, needs)
 has-places-requires : tie.Need-has-places-requires
 has-places-requires c κs = search needs
 
+returns-2 : tie.Need-returns-2
+returns-2 c = search (given-ways, not-true, needs)
+
 check-items-requires : tie.Need-check-items-requires
-check-items-requires c κs = search (has-all, needs)
+check-items-requires c κs =
+    (has-all _ _ _ (c .before .has-places .ensures) (not-false _ (c .if2 .left)), omega arith, omega arith)
 
 enum-told : tie.Need-enum-told
 enum-told c = search needs
-
-returns-2 : tie.Need-returns-2
-returns-2 c = search (given-ways, needs)
 
 enum-known-end : tie.Need-enum-known-end
 enum-known-end c = search needs
 
 returns-3 : tie.Need-returns-3
-returns-3 c = search (given-ways, needs)
+returns-3 c = search (given-ways, not-false, needs)
 
 returns-4 : tie.Need-returns-4
-returns-4 c = search (given-ways, needs)
+returns-4 c = search (given-ways, not-false, needs)
 
 pub is-well-formed-spec : {M : Type 1} → statement M
 is-well-formed-spec =
@@ -34,9 +37,9 @@ is-well-formed-spec =
     (tie.spec
     returns
     has-places-requires
+    returns-2
     check-items-requires
     enum-told
-    returns-2
     enum-known-end
     returns-3
     returns-4)
