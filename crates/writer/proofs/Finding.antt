@@ -78,13 +78,13 @@ module _ (n : ℕ) (tags depths : List ℕ) (at depth least : ℕ) where
     pub pass-end : n ≤ i → FindsLowest n tags depths at depth least a
     pass-end h = stopped (λ b c. here-end (fourOf tags depths b c) n [] depth i h)
 
-    module _ (lt : i < n) (d : ℕ) (de : d ≡ getD depths i 0) where
-      pub pass-gone : (d ≡ depth → ⊥) → FindsLowest n tags depths at depth least a
-      pass-gone h = stopped (λ b c. here-not (fourOf tags depths b c) n [] depth i (ne-eqb (getD depths i 0) depth (λ q. h (de ∙ q))))
+    module _ (lt : i < n) where
+      pub pass-gone : (getD depths i 0 ≡ depth → ⊥) → FindsLowest n tags depths at depth least a
+      pass-gone h = stopped (λ b c. here-not (fourOf tags depths b c) n [] depth i (ne-eqb (getD depths i 0) depth h))
 
-      module _ (eq : d ≡ depth) where
+      module _ (eq : getD depths i 0 ≡ depth) where
         at-here : (starts sizes : List ℕ) → here (row (fourOf tags depths starts sizes)) n depth i ≡ true
-        at-here b c = here-is (fourOf tags depths b c) n [] depth i lt (eq-eqb (getD depths i 0) depth (sym de ∙ eq))
+        at-here b c = here-is (fourOf tags depths b c) n [] depth i lt (eq-eqb (getD depths i 0) depth eq)
 
         pub pass-other : 0x80 ≤ least → getD tags i 0 < 0x80 → FindsLowest n tags depths at depth least a
         unfolding attribute

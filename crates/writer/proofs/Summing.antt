@@ -1,9 +1,9 @@
--- One turn of the loop of `size_items`, by what the record at hand adds.
+-- One turn of the loop of `size_items`, by what the record at hand adds, and the size of an element.
 use mathlib.Core.Path.{_≡_, refl, sym, ap, _∙_, subst}
 use mathlib.Core.Bool.{Bool, true, false, cond}
 use mathlib.Core.Option.{some}
 use mathlib.Core.List.{List}
-use Prim.Native.Nat.{ℕ, _+_, _-_, _≤_, _<_}
+use Prim.Native.Nat.{ℕ, _+_, _-_, _*_, _≤_, _<_}
 use native.Mathlib.Omega.{arith}
 use native.Mathlib.Nat.{add-sub-cancel-left}
 use lib.Dec.{eqb, leb}
@@ -29,8 +29,8 @@ use Rattle.writer.specs.declared.size.Sized.the-variants.{Over, Size}
 use Rattle.survey.specs.Normal.{framedSize, valueOctets, writtenAs, itemOctets, normalSize}
 use Rattle.survey.proofs.Ways.{framed-length}
 use Rattle.survey.proofs.WrittenAs.{written-kind, written-octets, unwritten-octets, unwritten-opens}
-use Rattle.writer.specs.Steps.{itemsFrom, partOf, partAt, sizedOf, sizedFrom}
-use Rattle.writer.proofs.Items.{item-short, framed-short}
+use Rattle.writer.specs.Steps.{itemsFrom, partOf, partAt, sizedOf, sizedFrom, sizedElement}
+use Rattle.writer.proofs.Items.{item-short}
 use Rattle.format.proofs.Means.{items-opens}
 use Rattle.writer.proofs.Rows.{here-end, here-not, here-is, from-stop, from-single, from-nested, from-ahead, from-within}
 
@@ -53,15 +53,20 @@ module _ (p tag : ℕ) (body : List ℕ) (r : KnownKind) (e : r ≡ asKnown (wri
     part-single y n l m f =
         rw (holds ∙ y, written-octets p tag body r e k q) (ap (λ size. Single (asOctets size)) (f ∙ (ap framedSize l ∙ sym (framed-length tag (valueOctets k body)))))
 
-module _ (p depth : ℕ) (lent : List ℕ) (l : Lists) (i d : ℕ) (e : d ≡ getD (l .depths) i 0) where
-  pub part-past : (d ≡ depth → ⊥) → Past ≡ partAt p depth lent (row l i)
-  unfolding partAt
-  part-past h = rw (ne-eqb (getD (l .depths) i 0) depth (λ q. h (e ∙ q)))
+module _ (p depth : ℕ) (lent : List ℕ) (l : Lists) (i : ℕ) where
+  abbrev part : List ℕ
+  part = take (getD (l .starts) i 0 + getD (l .sizes) i 0 - getD (l .starts) i 0) (drop (getD (l .starts) i 0) lent)
 
-  pub part-here : d ≡ depth → (start size : ℕ) → start ≡ getD (l .starts) i 0 → size ≡ getD (l .sizes) i 0 → (r : Part)
-      → r ≡ partOf p (getD (l .tags) i 0) (take (start + size - start) (drop start lent)) → r ≡ partAt p depth lent (row l i)
+  pub part-short : Fits w16 (getD (l .sizes) i 0) → length part < 65536
+  part-short h = omega (arith, length-take (getD (l .starts) i 0 + getD (l .sizes) i 0 - getD (l .starts) i 0) (drop (getD (l .starts) i 0) lent))
+
+  pub part-past : (getD (l .depths) i 0 ≡ depth → ⊥) → Past ≡ partAt p depth lent (row l i)
+  unfolding partAt
+  part-past h = rw (ne-eqb (getD (l .depths) i 0) depth h)
+
+  pub part-here : getD (l .depths) i 0 ≡ depth → (r : Part) → r ≡ partOf p (getD (l .tags) i 0) part → r ≡ partAt p depth lent (row l i)
   unfolding partAt bodyIn
-  part-here h start size a b r q = rw (eq-eqb (getD (l .depths) i 0) depth (sym e ∙ h), ← a, ← b) (rw add-sub-cancel-left at q)
+  part-here h r q = rw (eq-eqb (getD (l .depths) i 0) depth h) (rw add-sub-cancel-left at q)
 
 -- and what such an answer says of the record
 module _ (p depth : ℕ) (lent : List ℕ) (r : Record) where
@@ -90,30 +95,49 @@ unfoldable SizeTells : ℕ → ℕ → Sized → Type 0
 SizeTells m j Over = 32_768 < m
 SizeTells m j (Size t k) = (m ≡ t .0) × (j ≡ k) × (t .0 ≤ 32_768)
 
-size-tells : (l : Lists) (n : ℕ) (lent : List ℕ) (p d i : ℕ) (v : Sized) → v ≡ sizedFrom l n lent p d i → SizeTells (sum l n lent p d i) (next l n lent d i) v
-unfolding sizedFrom sizedOf SizeTells
-size-tells l n lent p d i v e = subst (SizeTells (sum l n lent p d i) (next l n lent d i)) (sym e) (go (leb (sum l n lent p d i) 32_768) refl)
+size-tells : (m j : ℕ) (v : Sized) → v ≡ sizedOf m j → SizeTells m j v
+unfolding sizedOf SizeTells
+size-tells m j v e = subst (SizeTells m j) (sym e) (go (leb m 32_768) refl)
   where
-    go : (b : Bool) → leb (sum l n lent p d i) 32_768 ≡ b → SizeTells (sum l n lent p d i) (next l n lent d i) (cond b (Size (asOctets (sum l n lent p d i)) (next l n lent d i)) Over)
+    go : (b : Bool) → leb m 32_768 ≡ b → SizeTells m j (cond b (Size (asOctets m) j) Over)
     go true q = (refl, refl, leb-true _ _ q)
-    go false q = leb-false (sum l n lent p d i) 32_768 q
+    go false q = leb-false m 32_768 q
 
-pub size-over : (l : Lists) (n : ℕ) (lent : List ℕ) (p d i : ℕ) (v : Sized) → v ≡ sizedFrom l n lent p d i → v ≡ Over → 32_768 < sum l n lent p d i
+pub size-over : (m j : ℕ) (v : Sized) → v ≡ sizedOf m j → v ≡ Over → 32_768 < m
 unfolding SizeTells
-size-over l n lent p d i v e q = subst (SizeTells (sum l n lent p d i) (next l n lent d i)) q (size-tells l n lent p d i v e)
+size-over m j v e q = subst (SizeTells m j) q (size-tells m j v e)
 
-pub size-told : (l : Lists) (n : ℕ) (lent : List ℕ) (p d i : ℕ) (v : Sized) → v ≡ sizedFrom l n lent p d i → (t : Octets) (j : ℕ) → v ≡ Size t j
-    → (sum l n lent p d i ≡ t .0) × (next l n lent d i ≡ j) × (t .0 ≤ 32_768)
+pub size-told : (m j : ℕ) (v : Sized) → v ≡ sizedOf m j → (t : Octets) (k : ℕ) → v ≡ Size t k → (m ≡ t .0) × (j ≡ k) × (t .0 ≤ 32_768)
 unfolding SizeTells
-size-told l n lent p d i v e t j q = subst (SizeTells (sum l n lent p d i) (next l n lent d i)) q (size-tells l n lent p d i v e)
+size-told m j v e t k q = subst (SizeTells m j) q (size-tells m j v e)
 
-over-is : (l : Lists) (n : ℕ) (lent : List ℕ) (p d i : ℕ) → 32_768 < sum l n lent p d i → Over ≡ sizedFrom l n lent p d i
-unfolding sizedFrom sizedOf
-over-is l n lent p d i h = rw (lt-leb (sum l n lent p d i) 32_768 h)
+over-is : (m j : ℕ) → 32_768 < m → Over ≡ sizedOf m j
+unfolding sizedOf
+over-is m j h = rw (lt-leb m 32_768 h)
 
-size-is : (l : Lists) (n : ℕ) (lent : List ℕ) (p d i m j : ℕ) → sum l n lent p d i ≡ m → next l n lent d i ≡ j → m ≤ 32_768 → Size (asOctets m) j ≡ sizedFrom l n lent p d i
-unfolding sizedFrom sizedOf
-size-is l n lent p d i m j e f h = rw (e, f, le-leb m 32_768 h)
+size-is : (m j t k : ℕ) → m ≡ t → j ≡ k → t ≤ 32_768 → Size (asOctets t) k ≡ sizedOf m j
+unfolding sizedOf
+size-is m j t k e f h = rw (e, f, le-leb t 32_768 h)
+
+-- the ways through the code of an element: what its items take, and with its header
+module _ (m j : ℕ) (v : Sized) (ve : v ≡ sizedOf m j) where
+  pub element-over : v ≡ Over → Over ≡ sizedOf (framedSize m) j
+  unfolding framedSize
+  element-over q = let w = size-over m j v ve q in over-is (framedSize m) j (omega arith)
+
+  module _ (t : Octets) (k : ℕ) (q : v ≡ Size t k) where
+    pub element-small : t .0 < 131072
+    element-small = let w = size-told m j v ve t k q .2 in omega arith
+
+    module _ (whole : Octets) (e : whole .0 ≡ framedSize (t .0)) where
+      framed-is : framedSize m ≡ whole .0
+      framed-is = ap framedSize (size-told m j v ve t k q .0) ∙ sym e
+
+      pub element-long : 32_768 < whole .0 → Over ≡ sizedOf (framedSize m) j
+      element-long h = let w = framed-is in over-is (framedSize m) j (omega arith)
+
+      pub element-size : whole .0 ≤ 32_768 → Size whole k ≡ sizedOf (framedSize m) j
+      element-size h = size-is (framedSize m) j (whole .0) k framed-is (size-told m j v ve t k q .1) h
 
 -- the loop's invariant: the size so far with the size from record i on is the size of all, and both end at one record
 pub record Sums (l : Lists) (n : ℕ) (lent : List ℕ) (at depth p i total : ℕ) : Type 0 where
@@ -122,6 +146,13 @@ pub record Sums (l : Lists) (n : ℕ) (lent : List ℕ) (at depth p i total : �
   pub small : total ≤ 32_768
   pub added : sum l n lent p depth at ≡ total + sum l n lent p depth i
   pub same : next l n lent depth at ≡ next l n lent depth i
+
+-- one part more, up to record j: with it the size so far is t
+pub record Added (l : Lists) (n : ℕ) (lent : List ℕ) (at depth p i j t : ℕ) : Type 0 where
+  pub ahead : i < j
+  pub within : j ≤ n
+  pub added : sum l n lent p depth at ≡ t + sum l n lent p depth j
+  pub same : next l n lent depth at ≡ next l n lent depth j
 
 pub sums-start : (l : Lists) (n : ℕ) (lent : List ℕ) (at depth p : ℕ) → at ≤ n → Sums l n lent at depth p at 0
 sums-start l n lent at depth p h = record { low = omega arith; high = h; small = omega arith; added = omega arith; same = refl }
@@ -133,7 +164,7 @@ module _ (l : Lists) (n : ℕ) (lent : List ℕ) (at depth p i total : ℕ) (inv
       let t = from-stop l n lent depth i e in
       let z : sum l n lent p depth i ≡ 0 = ap (λ x. normalSize p (x .0)) t in
       let a = inv .added in
-      size-is l n lent p depth at total i (omega arith) (inv .same ∙ ap (λ x. x .1) t) (inv .small)
+      size-is _ _ total i (omega arith) (inv .same ∙ ap (λ x. x .1) t) (inv .small)
 
   pub sums-end : n ≤ i → Size (asOctets total) i ≡ sizedFrom l n lent p depth at
   sums-end h = ended (here-end l n lent depth i h)
@@ -164,13 +195,10 @@ module _ (l : Lists) (n : ℕ) (lent : List ℕ) (at depth p i total : ℕ) (inv
           let e = t .2 in
           (omega arith, inv .same ∙ ap (λ y. y .1) u)
 
-      pub single-over : 32_768 < total + m .0 → Over ≡ sizedFrom l n lent p depth at
-      single-over h = let a = single-turn .0 in over-is l n lent p depth at (omega arith)
+      pub single-added : (j t : ℕ) → j ≡ i + 1 → t ≡ total + m .0 → Added l n lent at depth p i j t
+      single-added j t e f = rw (e, f) (record { ahead = omega arith; within = omega arith; added = single-turn .0; same = single-turn .1 })
 
-      pub single-next : total + m .0 ≤ 32_768 → Sums l n lent at depth p (i + 1) (total + m .0)
-      single-next h = let a = single-turn in let k = inv .low in record { low = omega arith; high = omega arith; small = h; added = a .0; same = a .1 }
-
-    module _ (tag : ℕ) (f : x ≡ Holds tag) (v : Sized) (ve : v ≡ sizedFrom l n lent tag (depth + 1) (i + 1)) where
+    module _ (tag : ℕ) (f : x ≡ Holds tag) (v : Sized) (ve : v ≡ sizedElement l n lent tag (depth + 1) (i + 1)) where
       holds-turn : (sum l n lent p depth at ≡ total + framedSize (sum l n lent tag (depth + 1) (i + 1)) + sum l n lent p depth (next l n lent (depth + 1) (i + 1)))
           × (next l n lent depth at ≡ next l n lent depth (next l n lent (depth + 1) (i + 1)))
       unfolding Tells normalSize
@@ -183,47 +211,39 @@ module _ (l : Lists) (n : ℕ) (lent : List ℕ) (at depth p i total : ℕ) (inv
           (omega arith, inv .same ∙ ap (λ y. y .1) u)
 
       pub holds-over : v ≡ Over → Over ≡ sizedFrom l n lent p depth at
-      unfolding framedSize
-      holds-over q =
-          let w = size-over l n lent tag (depth + 1) (i + 1) v ve q in
-          let a = holds-turn .0 in
-          over-is l n lent p depth at (omega arith)
+      holds-over q = let w = size-over _ _ v ve q in let a = holds-turn .0 in over-is _ _ (omega arith)
 
       module _ (t : Octets) (j : ℕ) (q : v ≡ Size t j) where
-        pub inner-small : t .0 < 131072
-        inner-small = let k = size-told l n lent tag (depth + 1) (i + 1) v ve t j q .2 in omega arith
+        within : (framedSize (sum l n lent tag (depth + 1) (i + 1)) ≡ t .0) × (next l n lent (depth + 1) (i + 1) ≡ j) × (t .0 ≤ 32_768)
+        within = size-told _ _ v ve t j q
 
         between : (i + 1 ≤ j) × (j ≤ n)
         between =
-            let k = size-told l n lent tag (depth + 1) (i + 1) v ve t j q .1 in
+            let k = within .1 in
             (omega (arith, from-ahead l n lent (depth + 1) (i + 1)), omega (arith, from-within l n lent (depth + 1) (i + 1) (omega arith)))
 
-        pub holds-less : n - j < n - i
-        holds-less = let b = between in omega arith
+        pub inner-fits : Fits w64 (total + t .0)
+        inner-fits = let s = inv .small in let k = within .2 in omega arith
 
-        module _ (m : Octets) (me : m .0 ≡ framedSize (t .0)) where
-          pub inner-fits : Fits w64 (total + m .0)
-          inner-fits = let s = inv .small in omega (arith, inner-small, framed-short (t .0))
+        holds-both : (sum l n lent p depth at ≡ total + t .0 + sum l n lent p depth j) × (next l n lent depth at ≡ next l n lent depth j)
+        holds-both = rw (within .0, within .1) at holds-turn
 
-          holds-both : (sum l n lent p depth at ≡ total + m .0 + sum l n lent p depth j) × (next l n lent depth at ≡ next l n lent depth j)
-          holds-both =
-              let k = size-told l n lent tag (depth + 1) (i + 1) v ve t j q in
-              rw (k .0, k .1, ← me) at holds-turn
+        pub holds-added : (k m : ℕ) → k ≡ j → m ≡ total + t .0 → Added l n lent at depth p i k m
+        holds-added k m e f = let b = between in rw (e, f) (record { ahead = omega arith; within = b .1; added = holds-both .0; same = holds-both .1 })
 
-          pub inner-over : 32_768 < total + m .0 → Over ≡ sizedFrom l n lent p depth at
-          inner-over g = let a = holds-both .0 in over-is l n lent p depth at (omega arith)
+  module _ (j t : ℕ) (a : Added l n lent at depth p i j t) where
+    pub added-over : 32_768 < t → Over ≡ sizedFrom l n lent p depth at
+    added-over h = let e = a .added in over-is _ _ (omega arith)
 
-          pub inner-next : total + m .0 ≤ 32_768 → Sums l n lent at depth p j (total + m .0)
-          inner-next g = let b = between in let k = inv .low in record { low = omega arith; high = b .1; small = g; added = holds-both .0; same = holds-both .1 }
+    pub added-less : n - j < n - i
+    added-less = let e = a .ahead in let w = a .within in omega arith
 
--- the call for the items inside: fewer records are left, and no depth is beyond the number of its record
-pub falls-within : (n at i t : ℕ) → n - at ≡ t → at ≤ i → i < n → n - (i + 1) < t
+    pub added-next : t ≤ 32_768 → Sums l n lent at depth p j t
+    added-next h = let k = inv .low in let e = a .ahead in record { low = omega arith; high = a .within; small = h; added = a .added; same = a .same }
+
+-- the call for an element: fewer records are left, and no depth is beyond the number of its record
+pub falls-within : (n at i t : ℕ) → 2 * (n - at) ≡ t → at ≤ i → i < n → 2 * (n - (i + 1)) + 1 < t
 falls-within n at i t e a b = omega arith
 
 pub deeper : (at depth i : ℕ) → depth ≤ at + 1 → at ≤ i → depth + 1 ≤ i + 1 + 1
 deeper at depth i a b = omega arith
-
--- a body that the records hold ends in the lent octets
-pub body-end : (i start size : ℕ) (l : Lists) (lent : List ℕ) → ((j : ℕ) → j < i + 1 → getD (l .starts) j 0 + getD (l .sizes) j 0 ≤ length lent)
-    → start ≡ getD (l .starts) i 0 → size ≡ getD (l .sizes) i 0 → start + size ≤ length lent
-body-end i start size l lent h a b = let k = h i (omega arith) in omega arith

@@ -148,7 +148,7 @@ module _ (n : ℕ) (l : Lists) (lent : List ℕ) (t : Items) (e : treeGiven n l 
         let b = min-le-right (length room) 32_768 in
         rw tree-octets (record { inRoom = omega (arith, k, a); inObject = omega (arith, k, b) })
 
-    pub tree-written : (after : List ℕ) (r : Reached) → Emits (itemsFrom (fourIn l) n lent 1 0) 0 0 room after r → WriteClaim n l lent room after (Octets (asOctets (r .end)))
+    pub tree-written : (after : List ℕ) (r : Reached) → Emits (laterOctets 0) (itemsFrom (fourIn l) n lent 1 0) 0 room after r → WriteClaim n l lent room after (Octets (asOctets (r .end)))
     unfolding writeAnswer writeOctets
     tree-written after r g =
         let laid : Lays (encode (means [] t)) 0 room after (r .end) = rw tree-octets at (g .lays) in
@@ -156,11 +156,11 @@ module _ (n : ℕ) (l : Lists) (lent : List ℕ) (t : Items) (e : treeGiven n l 
 
   module _ (v : Sized) (ve : v ≡ sizedFrom (fourIn l) n lent 0 1 0) where
     over-claim : v ≡ Over → (room : List ℕ) → WriteClaim n l lent room room (NotWritten (refusal 15 0))
-    over-claim q room = too-many room (omega (arith, size-over (fourIn l) n lent 0 1 0 v ve q, tree-size, min-le-right (length room) 32_768))
+    over-claim q room = too-many room (omega (arith, size-over _ _ v ve q, tree-size, min-le-right (length room) 32_768))
 
     module _ (total : OctetCount) (next : ℕ) (q : v ≡ Size total next) (room : List ℕ) where
       length-is : length (encode (means [] t)) ≡ total .0
-      length-is = sym tree-size ∙ size-told (fourIn l) n lent 0 1 0 v ve total next q .0
+      length-is = sym tree-size ∙ size-told _ _ v ve total next q .0
 
       room-claim : length room < total .0 → WriteClaim n l lent room room (NotWritten (refusal 15 0))
       room-claim h = too-many room (omega (arith, length-is, min-le-left (length room) 32_768))
@@ -168,7 +168,7 @@ module _ (n : ℕ) (l : Lists) (lent : List ℕ) (t : Items) (e : treeGiven n l 
       whole-fit : total .0 ≤ length room → roomy (sizeOf room) (encode (means [] t)) ≡ true
       unfolding roomy
       whole-fit h =
-          let k = size-told (fourIn l) n lent 0 1 0 v ve total next q .2 in
+          let k = size-told _ _ v ve total next q .2 in
           le-leb (length (encode (means [] t))) (min (length room) 32_768) (le-min (omega (arith, length-is)) (omega (arith, length-is)))
 
 -- the ways through the code of `write`
@@ -207,5 +207,5 @@ module _ (n : ℕ) (l : Lists) (lent : List ℕ) (b : Bool) (be : b ≡ isGiven 
         pub given-fits : total .0 ≤ length room → Fitting (laterOctets 0 (itemsFrom (fourIn l) n lent 1 0 .0)) 0 (length room)
         given-fits h = tree-fits n l lent (given-some .0) (given-some .1) room (whole-fit n l lent (given-some .0) (given-some .1) v ve total next f room h)
 
-        pub given-written : total .0 ≤ length room → (after : List ℕ) (r : Reached) → Emits (itemsFrom (fourIn l) n lent 1 0) 0 0 room after r → WriteClaim n l lent room after (Octets (asOctets (r .end)))
+        pub given-written : total .0 ≤ length room → (after : List ℕ) (r : Reached) → Emits (laterOctets 0) (itemsFrom (fourIn l) n lent 1 0) 0 room after r → WriteClaim n l lent room after (Octets (asOctets (r .end)))
         given-written h after r g = tree-written n l lent (given-some .0) (given-some .1) room (whole-fit n l lent (given-some .0) (given-some .1) v ve total next f room h) after r g

@@ -8,13 +8,12 @@ ghost use mathlib.Core.Bool.{true};
 ghost use Prim.Native.Nat.{_+_, _≤_, _<_};
 ghost use lib.ListN.{length, getD};
 ghost use Rattle.survey.specs.Normal.{itemOctets, attributeOctets, laterOctets};
-ghost use Rattle.writer.specs.Steps.{four, itemsFrom, Holding, Lays, Ordered, Fitting, lowerOf, FindsLowest, BodyAt, bodyAt, roleOf, Emits, Standing, AsLaid};
+ghost use Rattle.writer.specs.Steps.{four, itemsFrom, Holding, Lays, Ordered, Fitting, lowerOf, FindsLowest, BodyAt, bodyAt};
+ghost use Rattle.writer.specs.Steps.{roleOf, elementOctets, Emits, Standing, AsLaid};
 use crate::frame::put_frame;
 use crate::item::holds_items;
 use crate::item::put_item;
 use crate::item::put_stored;
-use crate::item::wide;
-use crate::item::wide16;
 use survey::written_as;
 use values::KnownKind;
 
@@ -55,23 +54,23 @@ fn lower(lowest: Lowest, least: u8, tag: u8, i: usize) -> Lowest
 // The attribute with the lowest tag from `least` on in an element whose items begin with record `at`. Attributes come before all other
 // items, so an element without any is done with at its first record.
 fn next_attribute(
-    n: usize,
+    count: usize,
     tags: &[u8],
     depths: &[u8],
     at: usize,
     depth: usize,
     least: u8,
 ) -> Lowest
-    requires { ⌜ (n ≤ length (now tags)) × (n ≤ length (now depths)) × (0x80 ≤ least) × (least ≤ 0x87) ⌝ }
-    ensures { λ r. ⌜ FindsLowest n (now (tags .entry)) (now (depths .entry)) at depth least r ⌝ }
+    requires { ⌜ (count ≤ length (now tags)) × (count ≤ length (now depths)) × (0x80 ≤ least) × (least ≤ 0x87) ⌝ }
+    ensures { λ r. ⌜ FindsLowest count (now (tags .entry)) (now (depths .entry)) at depth least r ⌝ }
 {
     let mut lowest = Lowest {
         tag: 0x87,
         place: at,
     };
     let mut i = at;
-    while i < n {
-        if wide(depths[i]) != depth {
+    while i < count {
+        if depths[i] as usize != depth {
             return lowest;
         }
         let tag = tags[i];
@@ -116,14 +115,14 @@ fn put_body(
     requires { ⌜ Fitting (itemOctets parent tag (bodyAt i (now starts) (now sizes) (now octets))) to (length (now room)) ⌝ }
     ensures { λ r. ⌜ Lays (itemOctets parent tag (bodyAt i (now (starts .entry)) (now (sizes .entry)) (now (octets .entry)))) to (now (room .entry)) (now (room .exit)) r ⌝ }
 {
-    let start = wide16(starts[i]);
-    let end = start + wide16(sizes[i]);
+    let start = starts[i] as usize;
+    let end = start + sizes[i] as usize;
     put_written(room, to, parent, tag, &octets[start..end], stored)
 }
 
 // The attributes of an element by rising tag.
 fn emit_attributes(
-    n: usize,
+    count: usize,
     tags: &[u8],
     depths: &[u8],
     starts: &[u16],
@@ -136,13 +135,13 @@ fn emit_attributes(
     to: usize,
     stored: bool,
 ) -> usize
-    requires { ⌜ Holding n (four tags depths starts sizes) (now octets) × Ordered parent (itemsFrom (four tags depths starts sizes) n (now octets) depth at .0) ⌝ }
-    requires { ⌜ (stored ≡ true → AsLaid parent (itemsFrom (four tags depths starts sizes) n (now octets) depth at .0)) ⌝ }
-    requires { ⌜ Fitting (attributeOctets parent (itemsFrom (four tags depths starts sizes) n (now octets) depth at .0)) to (length (now room)) ⌝ }
-    ensures { λ r. ⌜ Lays (attributeOctets parent (itemsFrom (four (tags .entry) (depths .entry) (starts .entry) (sizes .entry)) n (now (octets .entry)) depth at .0)) to (now (room .entry)) (now (room .exit)) r ⌝ }
+    requires { ⌜ Holding count (four tags depths starts sizes) (now octets) × Ordered parent (itemsFrom (four tags depths starts sizes) count (now octets) depth at .0) ⌝ }
+    requires { ⌜ (stored ≡ true → AsLaid parent (itemsFrom (four tags depths starts sizes) count (now octets) depth at .0)) ⌝ }
+    requires { ⌜ Fitting (attributeOctets parent (itemsFrom (four tags depths starts sizes) count (now octets) depth at .0)) to (length (now room)) ⌝ }
+    ensures { λ r. ⌜ Lays (attributeOctets parent (itemsFrom (four (tags .entry) (depths .entry) (starts .entry) (sizes .entry)) count (now (octets .entry)) depth at .0)) to (now (room .entry)) (now (room .exit)) r ⌝ }
 {
     let mut end = to;
-    let mut next = next_attribute(n, tags, depths, at, depth, 0x80);
+    let mut next = next_attribute(count, tags, depths, at, depth, 0x80);
     while next.tag < 0x87 {
         end = put_body(
             room,
@@ -155,7 +154,7 @@ fn emit_attributes(
             next.place,
             stored,
         );
-        next = next_attribute(n, tags, depths, at, depth, next.tag + 1);
+        next = next_attribute(count, tags, depths, at, depth, next.tag + 1);
     }
     end
 }
@@ -165,7 +164,7 @@ fn role_at(tags: &[u8], depths: &[u8], i: usize, depth: usize) -> Role
     requires { ⌜ (i < length (now tags)) × (i < length (now depths)) ⌝ }
     ensures { λ r. ⌜ r ≡ roleOf depth (getD (now (depths .entry)) i 0) (getD (now (tags .entry)) i 0) ⌝ }
 {
-    if wide(depths[i]) != depth {
+    if depths[i] as usize != depth {
         return Role::Gone;
     }
     let tag = tags[i];
@@ -180,7 +179,7 @@ fn role_at(tags: &[u8], depths: &[u8], i: usize, depth: usize) -> Role
 
 // The items of an element of a tag but for its attributes, from record `at` on.
 pub fn emit_items(
-    n: usize,
+    count: usize,
     tags: &[u8],
     depths: &[u8],
     starts: &[u16],
@@ -193,14 +192,14 @@ pub fn emit_items(
     to: usize,
     stored: bool,
 ) -> Reached
-    requires { ⌜ Holding n (four tags depths starts sizes) (now octets) × Ordered parent (itemsFrom (four tags depths starts sizes) n (now octets) depth at .0) × (at ≤ n) × (depth ≤ at + 1) ⌝ }
-    requires { ⌜ (stored ≡ true → AsLaid parent (itemsFrom (four tags depths starts sizes) n (now octets) depth at .0)) ⌝ }
-    requires { ⌜ Fitting (laterOctets parent (itemsFrom (four tags depths starts sizes) n (now octets) depth at .0)) to (length (now room)) ⌝ }
-    ensures { λ r. ⌜ Emits (itemsFrom (four (tags .entry) (depths .entry) (starts .entry) (sizes .entry)) n (now (octets .entry)) depth at) parent to (now (room .entry)) (now (room .exit)) r ⌝ }
+    requires { ⌜ Holding count (four tags depths starts sizes) (now octets) × Ordered parent (itemsFrom (four tags depths starts sizes) count (now octets) depth at .0) × (at ≤ count) × (depth ≤ at + 1) ⌝ }
+    requires { ⌜ (stored ≡ true → AsLaid parent (itemsFrom (four tags depths starts sizes) count (now octets) depth at .0)) ⌝ }
+    requires { ⌜ Fitting (laterOctets parent (itemsFrom (four tags depths starts sizes) count (now octets) depth at .0)) to (length (now room)) ⌝ }
+    ensures { λ r. ⌜ Emits (laterOctets parent) (itemsFrom (four (tags .entry) (depths .entry) (starts .entry) (sizes .entry)) count (now (octets .entry)) depth at) to (now (room .entry)) (now (room .exit)) r ⌝ }
 {
     let mut i = at;
     let mut end = to;
-    while i < n {
+    while i < count {
         match role_at(tags, depths, i, depth) {
             Role::Gone => {
                 return Reached { end, next: i };
@@ -213,8 +212,8 @@ pub fn emit_items(
                 i = i + 1;
             }
             Role::Element(tag) => {
-                let from = emit_attributes(
-                    n,
+                let inner = emit_element(
+                    count,
                     tags,
                     depths,
                     starts,
@@ -224,27 +223,68 @@ pub fn emit_items(
                     depth + 1,
                     tag,
                     room,
-                    end + 2,
+                    end,
                     stored,
                 );
-                let inner = emit_items(
-                    n,
-                    tags,
-                    depths,
-                    starts,
-                    sizes,
-                    octets,
-                    i + 1,
-                    depth + 1,
-                    tag,
-                    room,
-                    from,
-                    stored,
-                );
-                end = put_frame(room, end, tag, inner.end);
+                end = inner.end;
                 i = inner.next;
             }
         }
     }
     Reached { end, next: i }
+}
+
+// An element of a tag whose items begin with record `at`: attributes and other items behind two places, then the header before them.
+fn emit_element(
+    count: usize,
+    tags: &[u8],
+    depths: &[u8],
+    starts: &[u16],
+    sizes: &[u16],
+    octets: &[u8],
+    at: usize,
+    depth: usize,
+    tag: u8,
+    room: &mut [u8],
+    to: usize,
+    stored: bool,
+) -> Reached
+    requires { ⌜ Holding count (four tags depths starts sizes) (now octets) × Ordered tag (itemsFrom (four tags depths starts sizes) count (now octets) depth at .0) × (at ≤ count) × (depth ≤ at + 1) ⌝ }
+    requires { ⌜ (stored ≡ true → AsLaid tag (itemsFrom (four tags depths starts sizes) count (now octets) depth at .0)) ⌝ }
+    requires { ⌜ Fitting (elementOctets tag (itemsFrom (four tags depths starts sizes) count (now octets) depth at .0)) to (length (now room)) ⌝ }
+    ensures { λ r. ⌜ Emits (elementOctets tag) (itemsFrom (four (tags .entry) (depths .entry) (starts .entry) (sizes .entry)) count (now (octets .entry)) depth at) to (now (room .entry)) (now (room .exit)) r ⌝ }
+{
+    let from = emit_attributes(
+        count,
+        tags,
+        depths,
+        starts,
+        sizes,
+        octets,
+        at,
+        depth,
+        tag,
+        room,
+        to + 2,
+        stored,
+    );
+    let inner = emit_items(
+        count,
+        tags,
+        depths,
+        starts,
+        sizes,
+        octets,
+        at,
+        depth,
+        tag,
+        room,
+        from,
+        stored,
+    );
+    let end = put_frame(room, to, tag, inner.end);
+    Reached {
+        end,
+        next: inner.next,
+    }
 }

@@ -19,19 +19,6 @@ use values::known_kind;
 use values::normal_size;
 use values::put_normal;
 
-pub fn wide(x: u8) -> usize
-    ensures { λ r. ⌜ r ≡ x ⌝ }
-{
-    x as usize
-}
-
-pub fn wide16(x: u16) -> usize
-    ensures { λ r. ⌜ r ≡ x ⌝ }
-    ensures { λ r. ⌜ r < 65536 ⌝ }
-{
-    x as usize
-}
-
 pub fn is_holder(kind: Kind) -> bool
     ensures { λ r. ⌜ r ≡ isItems (some kind) ⌝ }
 {

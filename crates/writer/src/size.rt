@@ -5,12 +5,10 @@ ghost use mathlib.Core.Path.{_≡_};
 ghost use Prim.Native.Nat.{_+_, _≤_, _<_};
 ghost use lib.ListN.{length};
 ghost use Rattle.format.specs.Calls.{row};
-ghost use Rattle.writer.specs.Steps.{four, Holding, partOf, partAt, sizedFrom};
+ghost use Rattle.writer.specs.Steps.{four, Holding, partOf, partAt, sizedFrom, sizedElement};
 use crate::item::framed_size;
 use crate::item::is_holder;
 use crate::item::value_size;
-use crate::item::wide;
-use crate::item::wide16;
 use octets::Octets;
 use survey::written_as;
 use values::KnownKind;
@@ -22,7 +20,7 @@ pub enum Part {
     Single(Octets),
 }
 
-// The size of the items of an element, and the number of the first record past them. Over: above 32,768.
+// The size of the items of an element, or of the element, and the number of the first record past them. Over: above 32,768.
 pub enum Sized {
     Over,
     Size { total: Octets, next: usize },
@@ -57,17 +55,17 @@ fn part_at(
     requires { ⌜ Holding (i + 1) (four tags depths starts sizes) (now octets) ⌝ }
     ensures { λ r. ⌜ r ≡ partAt parent depth (now (octets .entry)) (row (four (tags .entry) (depths .entry) (starts .entry) (sizes .entry)) i) ⌝ }
 {
-    if wide(depths[i]) != depth {
+    if depths[i] as usize != depth {
         return Part::Past;
     }
-    let start = wide16(starts[i]);
-    let end = start + wide16(sizes[i]);
+    let start = starts[i] as usize;
+    let end = start + sizes[i] as usize;
     part_of(parent, tags[i], &octets[start..end])
 }
 
 // The items of an element of a tag from record `at` on, at a depth.
 pub fn size_items(
-    n: usize,
+    count: usize,
     tags: &[u8],
     depths: &[u8],
     starts: &[u16],
@@ -77,12 +75,12 @@ pub fn size_items(
     depth: usize,
     parent: u8,
 ) -> Sized
-    requires { ⌜ Holding n (four tags depths starts sizes) (now octets) × (at ≤ n) × (depth ≤ at + 1) ⌝ }
-    ensures { λ r. ⌜ r ≡ sizedFrom (four (tags .entry) (depths .entry) (starts .entry) (sizes .entry)) n (now (octets .entry)) parent depth at ⌝ }
+    requires { ⌜ Holding count (four tags depths starts sizes) (now octets) × (at ≤ count) × (depth ≤ at + 1) ⌝ }
+    ensures { λ r. ⌜ r ≡ sizedFrom (four (tags .entry) (depths .entry) (starts .entry) (sizes .entry)) count (now (octets .entry)) parent depth at ⌝ }
 {
     let mut i = at;
     let mut total: usize = 0;
-    while i < n {
+    while i < count {
         match part_at(tags, depths, starts, sizes, octets, i, depth, parent) {
             Part::Past => {
                 return Sized::Size {
@@ -91,16 +89,12 @@ pub fn size_items(
                 };
             }
             Part::Single(size) => {
-                let sum = total + size.0;
-                if sum > 32768 {
-                    return Sized::Over;
-                }
-                total = sum;
+                total = total + size.0;
                 i = i + 1;
             }
             Part::Holds(tag) => {
-                match size_items(
-                    n,
+                let Sized::Size { total: inner, next } = size_element(
+                    count,
                     tags,
                     depths,
                     starts,
@@ -109,24 +103,46 @@ pub fn size_items(
                     i + 1,
                     depth + 1,
                     tag,
-                ) {
-                    Sized::Over => {
-                        return Sized::Over;
-                    }
-                    Sized::Size { total: inner, next } => {
-                        let sum = total + framed_size(inner).0;
-                        if sum > 32768 {
-                            return Sized::Over;
-                        }
-                        total = sum;
-                        i = next;
-                    }
-                }
+                ) else {
+                    return Sized::Over;
+                };
+                total = total + inner.0;
+                i = next;
             }
+        }
+        if total > 32768 {
+            return Sized::Over;
         }
     }
     Sized::Size {
         total: Octets(total),
         next: i,
+    }
+}
+
+// An element of a tag whose items begin with record `at`, at a depth: these and its header.
+fn size_element(
+    count: usize,
+    tags: &[u8],
+    depths: &[u8],
+    starts: &[u16],
+    sizes: &[u16],
+    octets: &[u8],
+    at: usize,
+    depth: usize,
+    tag: u8,
+) -> Sized
+    requires { ⌜ Holding count (four tags depths starts sizes) (now octets) × (at ≤ count) × (depth ≤ at + 1) ⌝ }
+    ensures { λ r. ⌜ r ≡ sizedElement (four (tags .entry) (depths .entry) (starts .entry) (sizes .entry)) count (now (octets .entry)) tag depth at ⌝ }
+{
+    match size_items(count, tags, depths, starts, sizes, octets, at, depth, tag) {
+        Sized::Over => Sized::Over,
+        Sized::Size { total, next } => {
+            let whole = framed_size(total);
+            if whole.0 > 32768 {
+                return Sized::Over;
+            }
+            Sized::Size { total: whole, next }
+        }
     }
 }

@@ -1,30 +1,33 @@
 use Rattle.writer.proofs.Finding.{Passed, pass-start, pass-gone, pass-other, pass-next, pass-end}
+use native.Mathlib.Omega.{arith}
 use borrow.Author.Needs.{needs}
 use Prim.Native.Nat.{_-_}
 use Rattle.writer.proofs.emit.next_attribute.Statement.{statement}
 use Rattle.writer.proofs.emit.next_attribute.Tie as tie
 
 abbrev Inv-loop : tie.InvT-loop
-Inv-loop n tags depths at depth least lowest₀ i₀ lowest i = Passed n tags depths at depth least lowest i
+Inv-loop count tags depths at depth least lowest₀ i₀ lowest i =
+    Passed count tags depths at depth least lowest i
 
 abbrev μ-loop : tie.MeasureT-loop
-μ-loop n tags depths at depth least lowest₀ i₀ lowest i = n - i
+μ-loop count tags depths at depth least lowest₀ i₀ lowest i =
+    count - i
 
 loop-holds : tie.Need-loop-holds Inv-loop μ-loop
 loop-holds c =
     pass-start _ _ _ _ _ _ ((c .before .before .pre) .3) _
 
-shared-slice-read-wide : tie.Need-shared-slice-read-wide Inv-loop μ-loop
-shared-slice-read-wide c =
+shared-slice-read-if1 : tie.Need-shared-slice-read-if1 Inv-loop μ-loop
+shared-slice-read-if1 c =
     search needs
 
-wide-requires : tie.Need-wide-requires Inv-loop μ-loop
-wide-requires c κs =
-    search needs
+cast-if1 : tie.Need-cast-if1 Inv-loop μ-loop
+cast-if1 c =
+    omega (arith, (c .before .before .before .shared-slice-known2) .given ((c .before .before .loop) .i))
 
 returns : tie.Need-returns Inv-loop μ-loop
 returns c =
-    pass-gone _ _ _ _ _ _ _ _ ((c .before .before .before .before .loop) .inv) ((c .before .before .before .loop-test) .taken) _ ((c .before .wide) .ensures) ((c .if1) .taken)
+    pass-gone _ _ _ _ _ _ _ _ ((c .before .before .before .loop) .inv) ((c .before .before .loop-test) .taken) ((c .if1) .taken)
 
 shared-slice-read-tag : tie.Need-shared-slice-read-tag Inv-loop μ-loop
 shared-slice-read-tag c =
@@ -32,7 +35,7 @@ shared-slice-read-tag c =
 
 returns-2 : tie.Need-returns-2 Inv-loop μ-loop
 returns-2 c =
-    pass-other _ _ _ _ _ _ _ _ ((c .before .before .before .before .before .before .loop) .inv) ((c .before .before .before .before .before .loop-test) .taken) _ ((c .before .before .before .wide) .ensures) ((c .before .before .if1) .left) ((c .before .before .before .before .before .before .before .before .before .pre) .2) ((c .if2) .taken)
+    pass-other _ _ _ _ _ _ _ _ ((c .before .before .before .before .before .loop) .inv) ((c .before .before .before .before .loop-test) .taken) ((c .before .before .if1) .left) ((c .before .before .before .before .before .before .before .before .pre) .2) ((c .if2) .taken)
 
 lower-requires : tie.Need-lower-requires Inv-loop μ-loop
 lower-requires c κs =
@@ -48,7 +51,7 @@ loop-less c =
 
 loop-again : tie.Need-loop-again Inv-loop μ-loop
 loop-again c =
-    pass-next _ _ _ _ _ _ _ _ ((c .before .before .before .before .before .before .before .loop) .inv) ((c .before .before .before .before .before .before .loop-test) .taken) _ ((c .before .before .before .before .wide) .ensures) ((c .before .before .before .if1) .left) ((c .before .if2) .left) _ ((c .lower) .ensures)
+    pass-next _ _ _ _ _ _ _ _ ((c .before .before .before .before .before .before .loop) .inv) ((c .before .before .before .before .before .loop-test) .taken) ((c .before .before .before .if1) .left) ((c .before .if2) .left) _ ((c .lower) .ensures)
 
 returns-3 : tie.Need-returns-3 Inv-loop μ-loop
 returns-3 c =
@@ -61,8 +64,8 @@ next-attribute-spec =
     Inv-loop
     μ-loop
     loop-holds
-    shared-slice-read-wide
-    wide-requires
+    shared-slice-read-if1
+    cast-if1
     returns
     shared-slice-read-tag
     returns-2
