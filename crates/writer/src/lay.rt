@@ -78,7 +78,7 @@ fn lay_value(
     requires { ⌜ Indexes (entries (now table)) (now index) ⌝ }
     ensures { λ r. ⌜ ValueLays (entries (now (table .entry))) kind tag level done (now (body .entry)) (lent (tags .entry) (kinds .entry) (depths .entry) (parents .entry) (starts .entry) (sizes .entry)) (lent (tags .exit) (kinds .exit) (depths .exit) (parents .exit) (starts .exit) (sizes .exit)) (now (store .entry)) (now (store .exit)) r ⌝ }
 {
-    let n = done.next;
+    let i = done.next;
     let at = done.end;
     let end = store_body(kind, index, table, body, store, at);
     put_record(
@@ -88,13 +88,13 @@ fn lay_value(
         parents,
         starts,
         sizes,
-        n,
+        i,
         tag,
         level,
         at,
         end - at,
     );
-    Laid { next: n + 1, end }
+    Laid { next: i + 1, end }
 }
 
 // An item that holds items: its record, whose span is the one of length 0 at the store's start, and all of the items inside it.
@@ -117,7 +117,7 @@ fn lay_inside(
     requires { ⌜ Indexes (entries (now table)) (now index) ⌝ }
     ensures { λ r. ⌜ ItemLays (entries (now (table .entry))) level done tag (now (body .entry)) (lent (tags .entry) (kinds .entry) (depths .entry) (parents .entry) (starts .entry) (sizes .entry)) (lent (tags .exit) (kinds .exit) (depths .exit) (parents .exit) (starts .exit) (sizes .exit)) (now (store .entry)) (now (store .exit)) r ⌝ }
 {
-    let n = done.next;
+    let i = done.next;
     put_record(
         tags,
         kinds,
@@ -125,7 +125,7 @@ fn lay_inside(
         parents,
         starts,
         sizes,
-        n,
+        i,
         tag,
         level,
         0,
@@ -133,11 +133,11 @@ fn lay_inside(
     );
     let inner = Level {
         element: tag,
-        number: n,
+        number: i,
         depth: level.depth + 1,
     };
     let begun = Laid {
-        next: n + 1,
+        next: i + 1,
         end: done.end,
     };
     lay_items(
@@ -218,7 +218,7 @@ fn lay_items(
     index: &[usize; 32],
     table: &[u8],
     level: Level,
-    before: Laid,
+    done: Laid,
     tags: &mut [u8],
     kinds: &mut [u8],
     depths: &mut [u8],
@@ -227,11 +227,11 @@ fn lay_items(
     sizes: &mut [u16],
     store: &mut [u8],
 ) -> Laid
-    requires { ⌜ ItemsLayable (entries (now table)) level before (now part) (lent tags kinds depths parents starts sizes) (now store) ⌝ }
+    requires { ⌜ ItemsLayable (entries (now table)) level done (now part) (lent tags kinds depths parents starts sizes) (now store) ⌝ }
     requires { ⌜ Indexes (entries (now table)) (now index) ⌝ }
-    ensures { λ r. ⌜ ItemsLay (entries (now (table .entry))) level before (now (part .entry)) (lent (tags .entry) (kinds .entry) (depths .entry) (parents .entry) (starts .entry) (sizes .entry)) (lent (tags .exit) (kinds .exit) (depths .exit) (parents .exit) (starts .exit) (sizes .exit)) (now (store .entry)) (now (store .exit)) r ⌝ }
+    ensures { λ r. ⌜ ItemsLay (entries (now (table .entry))) level done (now (part .entry)) (lent (tags .entry) (kinds .entry) (depths .entry) (parents .entry) (starts .entry) (sizes .entry)) (lent (tags .exit) (kinds .exit) (depths .exit) (parents .exit) (starts .exit) (sizes .exit)) (now (store .entry)) (now (store .exit)) r ⌝ }
 {
-    let mut done = before;
+    let mut done = done;
     let mut at: usize = 0;
     while at < part.len() {
         let Lies::Between { from, to } = item_at(part, at) else {
