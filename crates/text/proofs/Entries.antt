@@ -1,6 +1,6 @@
 -- Token tables an entry at a time: what the definitions are on each way through src/tables.rt, and where the text of an entry lies.
 use Prim.Native.Nat.{ℕ, zero, suc, _+_, _-_, _*_, _/_, _%_, _^_, _≤_, _<_}
-use mathlib.Core.Path.{_≡_, refl, sym, ap, ap₂, subst, _∙_}
+use mathlib.Core.Path.{_≡_, refl, sym, ap, subst, _∙_}
 use mathlib.Core.List.{List, [], _∷_}
 use mathlib.Core.Option.{some}
 use mathlib.Core.Bool.{Bool, true, false, _&&_, not, cond}
@@ -113,19 +113,19 @@ pub first-short : (s : List ℕ) → length s < 2 → Past ≡ ahead (entries s)
 unfolding ahead
 first-short s h = rw (ended-short s h .names)
 
-pub first-long : (s : List ℕ) (n : ℕ) → 2 ≤ length s → n ≡ getD s 1 0 → length s - 2 < n → Past ≡ ahead (entries s)
+pub first-long : (s : List ℕ) → 2 ≤ length s → length s - 2 < getD s 1 0 → Past ≡ ahead (entries s)
 unfolding ahead
-first-long [] n h e g = absurd (omega arith)
-first-long (t ∷ []) n h e g = absurd (omega arith)
-first-long (t ∷ m ∷ o) n h e g = rw (ended-long t m o (lt-leb m (length o) (omega arith)) .names)
+first-long [] h g = absurd (omega arith)
+first-long (t ∷ []) h g = absurd (omega arith)
+first-long (t ∷ m ∷ o) h g = rw (ended-long t m o (lt-leb m (length o) (omega arith)) .names)
 
-pub first-whole : (s : List ℕ) (n : ℕ) → 2 ≤ length s → n ≡ getD s 1 0 → n ≤ length s - 2 → Entry (getD s 0 0) n ≡ ahead (entries s)
+pub first-whole : (s : List ℕ) → 2 ≤ length s → getD s 1 0 ≤ length s - 2 → Entry (getD s 0 0) (getD s 1 0) ≡ ahead (entries s)
 unfolding ahead
-first-whole [] n h e g = absurd (omega arith)
-first-whole (t ∷ []) n h e g = absurd (omega arith)
-first-whole (t ∷ m ∷ o) n h e g =
+first-whole [] h g = absurd (omega arith)
+first-whole (t ∷ []) h g = absurd (omega arith)
+first-whole (t ∷ m ∷ o) h g =
     let k : m ≤ length o = omega arith in
-    rw (pieced-entry t m o (le-leb m (length o) k) .names, length-take-le m o k, e)
+    rw (pieced-entry t m o (le-leb m (length o) k) .names, length-take-le m o k)
 
 pub ruleset first-ways = (first-short, first-long, first-whole)
 
@@ -279,23 +279,23 @@ module _ (s : List ℕ) (mask : ℕ) (p : Piece) (e : p ≡ ahead (entries s)) w
       unfolding Rated
       good-tag q seen m h = part .fills seen ∙ rw (sym k ∙ q)
 
-      module _ (q : r ≡ true) (b : ℕ) (l : b ≡ t) where
-        pub good-bit : b < 32
+      module _ (q : r ≡ true) where
+        pub good-bit : t < 32
         good-bit = omega (arith, token-facts t (sym k ∙ q) .1)
 
-        seen-is : (seen : List ℕ) → mask ≡ maskOf seen → among t seen ≡ eqb (bitAnd (mask / 2 ^ b) 1) 1
-        seen-is seen m = sym (ap₂ (λ (x j : ℕ). eqb (bitAnd (x / 2 ^ j) 1) 1) m l ∙ mask-test t seen)
+        seen-is : (seen : List ℕ) → mask ≡ maskOf seen → among t seen ≡ eqb (bitAnd (mask / 2 ^ t) 1) 1
+        seen-is seen m = sym (ap (λ (x : ℕ). eqb (bitAnd (x / 2 ^ t) 1) 1) m ∙ mask-test t seen)
 
-        pub good-twice : bitAnd (mask / 2 ^ b) 1 ≡ 1 → (seen : List ℕ) → mask ≡ maskOf seen → Rated seen s Past
+        pub good-twice : bitAnd (mask / 2 ^ t) 1 ≡ 1 → (seen : List ℕ) → mask ≡ maskOf seen → Rated seen s Past
         unfolding Rated
         good-twice g seen m h = part .fills seen ∙ rw (sym k ∙ q, seen-is seen m, g)
 
-        module _ (g : bitAnd (mask / 2 ^ b) 1 ≡ 1 → ⊥) (v : Bool) (w : v ≡ text false (take (2 + n - 2) (drop 2 s))) where
+        module _ (g : bitAnd (mask / 2 ^ t) 1 ≡ 1 → ⊥) (v : Bool) (w : v ≡ text false (take (2 + n - 2) (drop 2 s))) where
           text-is : text false (take n (drop 2 s)) ≡ v
           text-is = let d : 2 + n - 2 ≡ n = omega arith in sym (rw d at w)
 
           step-is : (seen : List ℕ) → mask ≡ maskOf seen → filledAfter seen s ≡ v && filledAfter (t ∷ seen) (drop n (drop 2 s))
-          step-is seen m = part .fills seen ∙ rw (sym k ∙ q, seen-is seen m, ne-eqb (bitAnd (mask / 2 ^ b) 1) 1 g, text-is)
+          step-is seen m = part .fills seen ∙ rw (sym k ∙ q, seen-is seen m, ne-eqb (bitAnd (mask / 2 ^ t) 1) 1 g, text-is)
 
           pub good-text : v ≡ false → (seen : List ℕ) → mask ≡ maskOf seen → Rated seen s Past
           unfolding Rated
@@ -346,15 +346,15 @@ module _ (s : List ℕ) where
       pub table-fits-2 : length s < 2 ^ 63 → Fits w64 (at + 2 + n)
       table-fits-2 g = record { fits = omega (arith, table-room) }
 
-      pub table-bit : (b : ℕ) → b ≡ t → b < 32
-      table-bit b l = omega (arith, good .small)
+      pub table-bit : t < 32
+      table-bit = omega (arith, good .small)
 
-      pub table-again : (b : ℕ) → b ≡ t → Tabling s (at + 2 + n) (bitOr mask (1 * 2 ^ b % 2 ^ 32))
-      table-again b l =
+      pub table-again : Tabling s (at + 2 + n) (bitOr mask (1 * 2 ^ t % 2 ^ 32))
+      table-again =
           record {
             within = table-room;
             seen = t ∷ inv .seen;
-            mark = ap₂ (λ (x j : ℕ). bitOr x (1 * 2 ^ j % 2 ^ 32)) (inv .mark) l ∙ mask-more 32 t (inv .seen) (good .small);
+            mark = ap (λ (x : ℕ). bitOr x (1 * 2 ^ t % 2 ^ 32)) (inv .mark) ∙ mask-more 32 t (inv .seen) (good .small);
             same = inv .same ∙ good .same ∙ ap (filledAfter (t ∷ inv .seen)) (drop-more at n s);
           }
 

@@ -35,19 +35,19 @@ module _ (index : List ℕ) (t start : ℕ) (r : Bool) (k : r ≡ token t) where
   unfolding noted
   note-plain q = rw (sym k ∙ q)
 
-  module _ (q : r ≡ true) (p : ℕ) (l : p ≡ t) where
-    pub note-inside : p < 32
+  module _ (q : r ≡ true) where
+    pub note-inside : t < 32
     note-inside = omega (arith, token-facts t (sym k ∙ q) .1)
 
-    tested : (b : Bool) → eqb (getD index p 0) 0 ≡ b → noted index t start ≡ cond b (set index t start) index
+    tested : (b : Bool) → eqb (getD index t 0) 0 ≡ b → noted index t start ≡ cond b (set index t start) index
     unfolding noted
-    tested b e = rw (sym k ∙ q, ← l, e)
+    tested b e = rw (sym k ∙ q, e)
 
-    pub note-met : 0 < getD index p 0 → index ≡ noted index t start
-    note-met g = sym (tested false (ne-eqb (getD index p 0) 0 (λ e. omega arith)))
+    pub note-met : 0 < getD index t 0 → index ≡ noted index t start
+    note-met g = sym (tested false (ne-eqb (getD index t 0) 0 (λ e. omega arith)))
 
-    pub note-new : getD index p 0 ≤ 0 → set index p start ≡ noted index t start
-    note-new g = sym (tested true (eq-eqb (getD index p 0) 0 (omega arith)) ∙ rw (← l))
+    pub note-new : getD index t 0 ≤ 0 → set index t start ≡ noted index t start
+    note-new g = sym (tested true (eq-eqb (getD index t 0) 0 (omega arith)))
 
 pub ruleset note-ways = (note-plain, note-inside, note-met, note-new)
 
@@ -360,45 +360,50 @@ module _ (index table : List ℕ) (b : ℕ) (t : Bool) (k : t ≡ token b) where
   unfolding placeBy
   by-plain n = rw (sym k ∙ n)
 
-  module _ (y : t ≡ true) (p : ℕ) (l : p ≡ b) where
-    pub by-inside : p < 32
+  module _ (y : t ≡ true) where
+    pub by-inside : b < 32
     by-inside = omega (arith, token-facts b (sym k ∙ y) .1)
 
-    by-start : placeBy index table b ≡ placeAt index table (getD index p 0)
+    abbrev lies : ℕ
+    lies = getD index b 0
+
+    abbrev long : ℕ
+    long = getD table (lies - 1) 0
+
+    by-start : placeBy index table b ≡ placeAt index table lies
     unfolding placeBy
-    by-start = rw (sym k ∙ y, ← l)
+    by-start = rw (sym k ∙ y)
 
-    unusable : (start : ℕ) → usable index table start (getD table (start - 1) 0) ≡ false → placeAt index table start ≡ Nothing
+    unusable : usable index table lies long ≡ false → placeAt index table lies ≡ Nothing
     unfolding placeAt
-    unusable start e = rw e
+    unusable e = rw e
 
-    pub by-none : getD index p 0 ≡ 0 → Nothing ≡ placeBy index table b
+    pub by-none : lies ≡ 0 → Nothing ≡ placeBy index table b
     unfolding usable
-    by-none e = sym (by-start ∙ unusable (getD index p 0) (rw e))
+    by-none e = sym (by-start ∙ unusable (rw e))
 
-    module _ (g : getD index p 0 ≡ 0 → ⊥) where
-      pub by-past : length table < getD index p 0 → Nothing ≡ placeBy index table b
+    module _ (g : lies ≡ 0 → ⊥) where
+      pub by-past : length table < lies → Nothing ≡ placeBy index table b
       unfolding usable
-      by-past h = sym (by-start ∙ unusable (getD index p 0) (rw (lt-ltb 0 (getD index p 0) (omega arith), lt-leb (getD index p 0) (length table) h)))
+      by-past h = sym (by-start ∙ unusable (rw (lt-ltb 0 lies (omega arith), lt-leb lies (length table) h)))
 
-      module _ (h : getD index p 0 ≤ length table) (n : ℕ) (e : n ≡ getD table (getD index p 0 - 1) 0) where
-        so-far : usable index table (getD index p 0) (getD table (getD index p 0 - 1) 0) ≡ leb n (length table - getD index p 0) && leb n (getD index 0 0)
+      module _ (h : lies ≤ length table) where
+        so-far : usable index table lies long ≡ leb long (length table - lies) && leb long (getD index 0 0)
         unfolding usable
-        so-far = rw (lt-ltb 0 (getD index p 0) (omega arith), le-leb (getD index p 0) (length table) h, ← e)
+        so-far = rw (lt-ltb 0 lies (omega arith), le-leb lies (length table) h)
 
-        pub by-long : length table - getD index p 0 < n → Nothing ≡ placeBy index table b
-        by-long d = sym (by-start ∙ unusable (getD index p 0) (so-far ∙ rw (lt-leb n (length table - getD index p 0) d)))
+        pub by-long : length table - lies < long → Nothing ≡ placeBy index table b
+        by-long d = sym (by-start ∙ unusable (so-far ∙ rw (lt-leb long (length table - lies) d)))
 
-        module _ (d : n ≤ length table - getD index p 0) where
-          pub by-wide : getD index 0 0 < n → Nothing ≡ placeBy index table b
-          by-wide c = sym (by-start ∙ unusable (getD index p 0) (so-far ∙ rw (le-leb n (length table - getD index p 0) d, lt-leb n (getD index 0 0) c)))
+        module _ (d : long ≤ length table - lies) where
+          pub by-wide : getD index 0 0 < long → Nothing ≡ placeBy index table b
+          by-wide c = sym (by-start ∙ unusable (so-far ∙ rw (le-leb long (length table - lies) d, lt-leb long (getD index 0 0) c)))
 
-          pub by-found : n ≤ getD index 0 0 → At (getD index p 0) n ≡ placeBy index table b
+          pub by-found : long ≤ getD index 0 0 → At lies long ≡ placeBy index table b
           unfolding placeAt
           by-found c =
-              let is : usable index table (getD index p 0) (getD table (getD index p 0 - 1) 0) ≡ true =
-              so-far ∙ rw (le-leb n (length table - getD index p 0) d, le-leb n (getD index 0 0) c) in
-              sym (by-start ∙ rw (is, ← e))
+              let is : usable index table lies long ≡ true = so-far ∙ rw (le-leb long (length table - lies) d, le-leb long (getD index 0 0) c) in
+              sym (by-start ∙ rw is)
 
 pub ruleset by-ways = (by-plain, by-inside, by-none, by-past, by-long, by-wide, by-found)
 

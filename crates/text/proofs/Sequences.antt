@@ -118,8 +118,8 @@ small-enough (suc (suc zero)) c h g = omega arith
 small-enough (suc (suc (suc i))) c h g = absurd (omega arith)
 
 module _ (rest : List ℕ) (bits least : ℕ) where
-  pub follow-begin : (c : ℕ) → c ≡ bits → c < 256 → Follows rest bits least c 0
-  follow-begin c e h = record { within = omega arith; small = omega arith; same = rw e }
+  pub follow-begin : bits < 256 → Follows rest bits least bits 0
+  follow-begin h = record { within = omega arith; small = omega arith; same = refl }
 
   module _ (c i : ℕ) (inv : Follows rest bits least c i) where
     pub follow-done : (r : Bool) → length rest ≤ i → r ≡ character least c → r ≡ following least bits rest
@@ -130,8 +130,8 @@ module _ (rest : List ℕ) (bits least : ℕ) where
       pub follow-fits : length rest ≤ 3 → Fits w32 (c * 64)
       follow-fits g = record { fits = omega (arith, small-enough i c (omega arith) (inv .small)) }
 
-      pub follow-fits-2 : (w : ℕ) → length rest ≤ 3 → w < 256 → Fits w32 (c * 64 + w % 64)
-      follow-fits-2 w g k = record { fits = omega (arith, small-enough i c (omega arith) (inv .small)) }
+      pub follow-fits-2 : length rest ≤ 3 → Fits w32 (c * 64 + getD rest i 0 % 64)
+      follow-fits-2 g = record { fits = omega (arith, small-enough i c (omega arith) (inv .small)) }
 
       follow-step : following least bits rest ≡ eqb (getD rest i 0 / 64) 2 && following least (c * 64 + getD rest i 0 % 64) (drop (i + 1) rest)
       unfolding following
@@ -140,12 +140,12 @@ module _ (rest : List ℕ) (bits least : ℕ) where
       pub follow-stop : (getD rest i 0 / 64 ≡ 2 → ⊥) → false ≡ following least bits rest
       follow-stop k = sym (follow-step ∙ rw (ne-eqb (getD rest i 0 / 64) 2 k))
 
-      pub follow-again : getD rest i 0 / 64 ≡ 2 → (w : ℕ) → w ≡ getD rest i 0 → Follows rest bits least (c * 64 + w % 64) (i + 1)
-      follow-again k w e =
+      pub follow-again : getD rest i 0 / 64 ≡ 2 → Follows rest bits least (c * 64 + getD rest i 0 % 64) (i + 1)
+      follow-again k =
           record {
             within = omega arith;
             small = rw (add-one, pow-suc 64 i) (omega (arith, inv .small));
-            same = follow-step ∙ rw (eq-eqb (getD rest i 0 / 64) 2 k, e);
+            same = follow-step ∙ rw (eq-eqb (getD rest i 0 / 64) 2 k);
           }
 
 pub ruleset follow-ways = (follow-begin, follow-done, follow-stop, follow-again)
@@ -226,11 +226,9 @@ pub bit-high : (b : ℕ) → 0x13 < b → 0 ≡ tokenBit b
 unfolding tokenBit
 bit-high b h = rw (← token-no b (λ p q r s t. omega arith))
 
-pub bit-low : (b w : ℕ) → b ≤ 0x13 → w ≡ b → bitAnd (1 * 2 ^ w % 2 ^ 32) 0xFD9FE ≡ tokenBit b
+pub bit-low : (b : ℕ) → b ≤ 0x13 → bitAnd (1 * 2 ^ b % 2 ^ 32) 0xFD9FE ≡ tokenBit b
 unfolding maskTest
-bit-low b w h e =
-    ap (λ (n : ℕ). bitAnd (1 * 2 ^ n % 2 ^ 32) 0xFD9FE) e
-    ∙ eqb-true (bitAnd (1 * 2 ^ b % 2 ^ 32) 0xFD9FE) (tokenBit b) (below maskTest 0x14 all-masks b (omega arith))
+bit-low b h = eqb-true (bitAnd (1 * 2 ^ b % 2 ^ 32) 0xFD9FE) (tokenBit b) (below maskTest 0x14 all-masks b (omega arith))
 
 pub ruleset bit-ways = (bit-high, bit-low)
 

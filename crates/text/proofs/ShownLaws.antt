@@ -89,11 +89,11 @@ module _ (index table : List ℕ) (made : Indexes (entries table) index) (b : �
 pub ruleset counts-ways = (counts-itself, counts-entry)
 
 -- ---- the loop of `characters_of`: the octets before one have their counts, and the others still have 1
-pub record Filling (table counts : List ℕ) (b : ℕ) : Type 0 where
+pub record Filling (table shows : List ℕ) (b : ℕ) : Type 0 where
   pub few : b ≤ 0x14
-  pub long : length counts ≡ 32
-  pub before : (k : ℕ) → k < b → getD counts k 0 ≡ starts (stands (entries table) k)
-  pub behind : (k : ℕ) → b ≤ k → k < 32 → getD counts k 0 ≡ 1
+  pub long : length shows ≡ 32
+  pub before : (k : ℕ) → k < b → getD shows k 0 ≡ starts (stands (entries table) k)
+  pub behind : (k : ℕ) → b ≤ k → k < 32 → getD shows k 0 ≡ 1
 
 -- an octet above the tokens, or any without a table, stands for itself
 high-shows : (es : Entries) (k : ℕ) → 0x14 ≤ k → k < 32 → starts (stands es k) ≡ 1
@@ -112,35 +112,34 @@ module _ (table : List ℕ) where
   pub fill-begin : Filling table (replicate 32 1) 0
   fill-begin = record { few = omega arith; long = refl; before = λ k h. absurd (omega arith); behind = λ k h g. getD-replicate 32 k 1 0 g }
 
-  module _ (counts : List ℕ) (b : ℕ) (inv : Filling table counts b) where
-    pub fill-done : 0x14 ≤ b → Shows 32 (entries table) counts
+  module _ (shows : List ℕ) (b : ℕ) (inv : Filling table shows b) where
+    pub fill-done : 0x14 ≤ b → Shows 32 (entries table) shows
     fill-done h = record { long = inv .long; each = λ k g. go k g (ltb k 0x14) refl }
       where
-        go : (k : ℕ) → k < 32 → (l : Bool) → ltb k 0x14 ≡ l → getD counts k 0 ≡ starts (stands (entries table) k)
+        go : (k : ℕ) → k < 32 → (l : Bool) → ltb k 0x14 ≡ l → getD shows k 0 ≡ starts (stands (entries table) k)
         go k g true l = inv .before k (omega (arith, ltb-true k 0x14 l))
         go k g false l = let high = ltb-false k 0x14 l in inv .behind k (omega (arith, inv .few)) g ∙ sym (high-shows (entries table) k high g)
 
-    pub fill-again : b < 0x14 → (place : ℕ) → place ≡ b → (n : ℕ) → n ≡ starts (stands (entries table) b) → Filling table (set counts place n) (b + 1)
-    fill-again h place p n e =
-        rw p
+    pub fill-again : b < 0x14 → (n : ℕ) → n ≡ starts (stands (entries table) b) → Filling table (set shows b n) (b + 1)
+    fill-again h n e =
         record {
           few = omega arith;
-          long = length-set counts b n ∙ inv .long;
+          long = length-set shows b n ∙ inv .long;
           before = λ k g. go k g (eqb k b) refl;
-          behind = λ k g l. getD-set-other counts b k n 0 (λ q. omega arith) ∙ inv .behind k (omega arith) l;
+          behind = λ k g l. getD-set-other shows b k n 0 (λ q. omega arith) ∙ inv .behind k (omega arith) l;
         }
       where
-        go : (k : ℕ) → k < b + 1 → (q : Bool) → eqb k b ≡ q → getD (set counts b n) k 0 ≡ starts (stands (entries table) k)
-        go k g true q = rw (eqb-true k b q) (getD-set-same counts b n 0 (omega (arith, inv .long)) ∙ e)
-        go k g false q = getD-set-other counts b k n 0 (eqb-false k b q) ∙ inv .before k (omega (arith, eqb-false k b q))
+        go : (k : ℕ) → k < b + 1 → (q : Bool) → eqb k b ≡ q → getD (set shows b n) k 0 ≡ starts (stands (entries table) k)
+        go k g true q = rw (eqb-true k b q) (getD-set-same shows b n 0 (omega (arith, inv .long)) ∙ e)
+        go k g false q = getD-set-other shows b k n 0 (eqb-false k b q) ∙ inv .before k (omega (arith, eqb-false k b q))
 
 pub ruleset fill-ways = (fill-none, fill-begin, fill-done, fill-again)
 
 -- ---- `shown_at`
 module _ (w : List ℕ) (b : ℕ) where
-  pub shown-low : b < 0x14 → (place r : ℕ) → place ≡ b → r ≡ getD w place 0 → r ≡ shownAt w b
+  pub shown-low : b < 0x14 → getD w b 0 ≡ shownAt w b
   unfolding shownAt
-  shown-low h place r e f = f ∙ rw (e, lt-ltb b 0x14 h)
+  shown-low h = rw (lt-ltb b 0x14 h)
 
   pub shown-high : 0x14 ≤ b → (r : ℕ) → r ≡ cond (eqb (b / 64) 2) 0 1 → r ≡ shownAt w b
   unfolding shownAt

@@ -37,20 +37,17 @@ module _ (seen t : ℕ) (r : Bool) (k : r ≡ token t) where
   unfolding placeOf
   place-plain q = rw (sym k ∙ q)
 
-  module _ (q : r ≡ true) (b : ℕ) (l : b ≡ t) where
-    pub place-bit : b < 32
+  module _ (q : r ≡ true) where
+    pub place-bit : t < 32
     place-bit = omega (arith, token-facts t (sym k ∙ q) .1)
 
-    tested : bit seen t ≡ eqb (bitAnd (seen / 2 ^ b) 1) 1
-    tested = sym (ap (λ (j : ℕ). eqb (bitAnd (seen / 2 ^ j) 1) 1) l ∙ bit-test seen t)
-
-    pub place-seen : bitAnd (seen / 2 ^ b) 1 ≡ 1 → 31 ≡ placeOf seen t
+    pub place-seen : bitAnd (seen / 2 ^ t) 1 ≡ 1 → 31 ≡ placeOf seen t
     unfolding placeOf
-    place-seen g = rw (sym k ∙ q, tested, g)
+    place-seen g = rw (sym k ∙ q, ← bit-test seen t, g)
 
-    pub place-new : (bitAnd (seen / 2 ^ b) 1 ≡ 1 → ⊥) → (n : ℕ) → n ≡ t → n ≡ placeOf seen t
+    pub place-new : (bitAnd (seen / 2 ^ t) 1 ≡ 1 → ⊥) → t ≡ placeOf seen t
     unfolding placeOf
-    place-new g n e = e ∙ rw (sym k ∙ q, tested, ne-eqb (bitAnd (seen / 2 ^ b) 1) 1 g)
+    place-new g = rw (sym k ∙ q, ← bit-test seen t, ne-eqb (bitAnd (seen / 2 ^ t) 1) 1 g)
 
 pub ruleset place-ways = (place-plain, place-seen, place-new)
 
@@ -187,9 +184,9 @@ pub ruleset measure-ways = (measure-begin, measure-done, measure-past, measure-a
 
 -- ---- `width_by`
 module _ (w : List ℕ) (b : ℕ) where
-  pub width-low : b < 0x14 → (place r : ℕ) → place ≡ b → r ≡ getD w place 0 → r ≡ widthAt w b
+  pub width-low : b < 0x14 → (place : ℕ) → place ≡ b → getD w place 0 ≡ widthAt w b
   unfolding widthAt
-  width-low h place r e f = f ∙ rw (e, lt-ltb b 0x14 h)
+  width-low h place e = rw (e, lt-ltb b 0x14 h)
 
   pub width-high : 0x14 ≤ b → 1 ≡ widthAt w b
   unfolding widthAt

@@ -1,5 +1,5 @@
 -- A token table gone through once, and a text looked at once by what was found there: whether it is text (rule 10), whether each of its tokens has an entry
--- (rule 12), and how many characters are shown of it (rule 13). Under the marks and counts of a table that is what the definitions say (proofs/WeighLaws).
+-- (rule 12), and how many characters are shown of it (rule 13). By the marks of a table and what its tokens show that is what the definitions say (proofs/WeighLaws).
 use mathlib.Core.Path.{_≡_}
 use mathlib.Core.Bool.{Bool, true, cond, not, _&&_, _||_}
 use mathlib.Core.List.{List, [], _∷_}
@@ -33,9 +33,9 @@ pub record Widths (bound : ℕ) (es : Entries) (widths : List ℕ) : Type 0 wher
   pub each : (b : ℕ) → b < bound → getD widths b 0 ≡ length (stands es b)
 
 -- and how many characters
-pub record Shows (bound : ℕ) (es : Entries) (counts : List ℕ) : Type 0 where
-  pub long : length counts ≡ 32
-  pub each : (b : ℕ) → b < bound → getD counts b 0 ≡ starts (stands es b)
+pub record Shows (bound : ℕ) (es : Entries) (shows : List ℕ) : Type 0 where
+  pub long : length shows ≡ 32
+  pub each : (b : ℕ) → b < bound → getD shows b 0 ≡ starts (stands es b)
 
 -- an octet that wants no entry, or has one by a mask
 unfoldable pub marked : ℕ → ℕ → Bool
@@ -56,13 +56,13 @@ weight widths (b ∷ bs) = widthAt widths b + weight widths bs
 
 -- how many characters are shown for an octet: those at its place, or 1 above the tokens where it begins a character, and none where it goes on with one
 unfoldable pub shownAt : List ℕ → ℕ → ℕ
-shownAt counts b = cond (ltb b 0x14) (getD counts b 0) (cond (eqb (b / 64) 2) 0 1)
+shownAt shows b = cond (ltb b 0x14) (getD shows b 0) (cond (eqb (b / 64) 2) 0 1)
 
 -- how many are shown for a text
 unfoldable pub shownBy : List ℕ → List ℕ → ℕ
-shownBy counts [] = 0
-shownBy counts (b ∷ bs) = shownAt counts b + shownBy counts bs
+shownBy shows [] = 0
+shownBy shows (b ∷ bs) = shownAt shows b + shownBy shows bs
 
--- weigh: a text by the marks and counts of characters of a table, what is shown of it counted up to a most
+-- weigh: a text by the marks of a table and what its tokens show, what is shown of it counted up to a most
 unfoldable pub weighedBy : ℕ → List ℕ → List ℕ → Characters → Weighed
-weighedBy marks counts s most = cond (text true s) (Text (coveredBy marks s) (asCharacters (min (most .0) (shownBy counts s)))) NoText
+weighedBy marks shows s most = cond (text true s) (Text (coveredBy marks s) (asCharacters (min (most .0) (shownBy shows s)))) NoText

@@ -10,12 +10,12 @@ use crate::links::passed_end;
 use octets::Characters;
 use octets::Octets;
 
-// An octet as a number whose sums fit.
-pub fn wide(x: u8) -> u32
+// An octet out of an array, as a length. It is handed to a function since nothing is known of an array's octets where they lie, by which a cast there would fit.
+pub fn wide(x: u8) -> usize
     ensures { λ r. ⌜ r ≡ x ⌝ }
     ensures { λ r. ⌜ r < 256 ⌝ }
 {
-    x as u32
+    x as usize
 }
 
 // Tab, line feed or carriage return.
@@ -48,7 +48,7 @@ pub fn token_bit(b: u8) -> u32
     if b > 0x13 {
         return 0;
     }
-    (1u32 << wide(b)) & 0xFD9FE
+    (1u32 << (b as u32)) & 0xFD9FE
 }
 
 // How many characters begin with an octet: none where it begins with the bits 10 and so goes on with one, else one.
@@ -99,14 +99,14 @@ fn follows(rest: &[u8], bits: u8, least: u32) -> bool
     requires { ⌜ length (now rest) ≤ 3 ⌝ }
     ensures { λ r. ⌜ r ≡ following least bits (now (rest .entry)) ⌝ }
 {
-    let mut c = wide(bits);
+    let mut c = bits as u32;
     let mut i: usize = 0;
     while i < rest.len() {
         let b = rest[i];
         if b / 64 != 2 {
             return false;
         }
-        c = c * 64 + wide(b) % 64;
+        c = c * 64 + (b as u32) % 64;
         i += 1;
     }
     character_ok(least, c)

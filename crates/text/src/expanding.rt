@@ -14,8 +14,8 @@ ghost use Rattle.text.specs.Weighing.{Marks, widthAt, weight};
 ghost use Rattle.text.specs.Index.{placeBy, entriesBy, Bounds};
 use crate::characters::is_token;
 use crate::characters::token_bit;
+use crate::characters::wide;
 use crate::runs::untokened_end;
-use crate::tables::size_of;
 use crate::tables::tokens_of;
 use octets::Octets;
 use octets::Put;
@@ -52,7 +52,7 @@ fn width_by(widths: &[u8; 32], b: u8) -> Octets
     ensures { λ r. ⌜ r .0 < 256 ⌝ }
 {
     let k = if b < 0x14 { b } else { 0x14 };
-    let width = size_of(widths[size_of(k)]);
+    let width = wide(widths[k as usize]);
     if b < 0x14 { Octets(width) } else { Octets(1) }
 }
 
@@ -160,14 +160,14 @@ pub fn replacement(index: &[usize; 32], table: &[u8], b: u8) -> Found
     if !is_token(b) {
         return Found::Nothing;
     }
-    let start = index[size_of(b)];
+    let start = index[b as usize];
     if start == 0 {
         return Found::Nothing;
     }
     if start > table.len() {
         return Found::Nothing;
     }
-    let size = size_of(table[start - 1]);
+    let size = table[start - 1] as usize;
     if size > table.len() - start {
         return Found::Nothing;
     }

@@ -6,10 +6,10 @@ ghost use Rattle.text.specs.Tokens.{entries, stands, starts};
 ghost use Rattle.text.specs.Weighing.{Shows, shownAt};
 ghost use Rattle.text.specs.Index.{Indexes};
 use crate::characters::begun;
+use crate::characters::wide;
 use crate::expanding::Found;
 use crate::expanding::replacement;
 use crate::tables::index_of;
-use crate::tables::size_of;
 use octets::Characters;
 
 // How many characters octets of text are.
@@ -46,26 +46,26 @@ fn count_of(index: &[usize; 32], table: &[u8], b: u8) -> Characters
 pub fn characters_of(table: &[u8]) -> [u8; 32]
     ensures { λ r. ⌜ Shows 32 (entries (now (table .entry))) r ⌝ }
 {
-    let mut counts: [u8; 32] = [1; 32];
+    let mut shows: [u8; 32] = [1; 32];
     if table.len() == 0 {
-        return counts;
+        return shows;
     }
     let index = index_of(table);
     let mut b: u8 = 0;
     while b < 0x14 {
-        counts[size_of(b)] = count_of(&index, table, b).0 as u8;
+        shows[b as usize] = count_of(&index, table, b).0 as u8;
         b += 1;
     }
-    counts
+    shows
 }
 
 // How many characters are shown for an octet of a text: as many as its token stands for; 1 where it begins a character, and 0 where it goes on with one.
-pub fn shown_at(counts: &[u8; 32], b: u8) -> Characters
-    ensures { λ r. ⌜ r .0 ≡ shownAt (now (counts .entry)) b ⌝ }
+pub fn shown_at(shows: &[u8; 32], b: u8) -> Characters
+    ensures { λ r. ⌜ r .0 ≡ shownAt (now (shows .entry)) b ⌝ }
     ensures { λ r. ⌜ r .0 < 256 ⌝ }
 {
     if b < 0x14 {
-        return Characters(size_of(counts[size_of(b)]));
+        return Characters(wide(shows[b as usize]));
     }
     begun(b)
 }

@@ -8,7 +8,6 @@ ghost use Rattle.text.specs.Index.{noted, Indexes};
 use crate::characters::check;
 use crate::characters::is_token;
 use crate::characters::token_bit;
-use crate::characters::wide;
 use octets::Octets;
 
 // The entry with which a part of a table begins: its tag, and the size of its text, which lies inside that part.
@@ -17,21 +16,13 @@ enum Piece {
     Entry { tag: u8, size: usize },
 }
 
-// An octet as a length or a place.
-pub fn size_of(x: u8) -> usize
-    ensures { λ r. ⌜ r ≡ x ⌝ }
-    ensures { λ r. ⌜ r < 256 ⌝ }
-{
-    x as usize
-}
-
 fn first_entry(rest: &[u8]) -> Piece
     ensures { λ r. ⌜ r ≡ ahead (entries (now (rest .entry))) ⌝ }
 {
     if rest.len() < 2 {
         return Piece::Past;
     }
-    let size = size_of(rest[1]);
+    let size = rest[1] as usize;
     if rest.len() - 2 < size {
         return Piece::Past;
     }
@@ -66,10 +57,10 @@ fn place_of(tag: u8, seen: u32) -> usize
     if !is_token(tag) {
         return 31;
     }
-    if (seen >> wide(tag)) & 1 == 1 {
+    if (seen >> (tag as u32)) & 1 == 1 {
         return 31;
     }
-    size_of(tag)
+    tag as usize
 }
 
 // How many octets stand for each octet below 31, by one walk over the table: for a token those of its first entry, and for any other octet
@@ -111,7 +102,7 @@ fn note(index: &mut [usize; 32], tag: u8, start: usize)
     if !is_token(tag) {
         return;
     }
-    let k = size_of(tag);
+    let k = tag as usize;
     if index[k] > 0 {
         return;
     }
@@ -163,7 +154,7 @@ fn good_entry(rest: &[u8], seen: u32) -> Piece
             if !is_token(tag) {
                 return Piece::Past;
             }
-            if (seen >> wide(tag)) & 1 == 1 {
+            if (seen >> (tag as u32)) & 1 == 1 {
                 return Piece::Past;
             }
             let end = 2 + size;
@@ -187,7 +178,7 @@ pub fn is_table(s: &[u8]) -> bool
                 return false;
             }
             Piece::Entry { tag, size } => {
-                seen = seen | (1u32 << wide(tag));
+                seen = seen | (1u32 << (tag as u32));
                 at = at + 2 + size;
             }
         }

@@ -1,5 +1,5 @@
-// A text looked at once: whether it is text, whether each of its tokens has an entry, and how many characters are shown of it, by the marks and counts of
-// a table, which is gone through for them once and not once a text. Runs of octets that stand for themselves are passed over as `check` does.
+// A text looked at once: whether it is text, whether each of its tokens has an entry, and how many characters are shown of it, by the marks of a table and
+// what its tokens show, which are made once for all texts and not once a text. Runs of octets that stand for themselves are passed over as `check` does.
 ghost use mathlib.Core.Path.{_≡_};
 ghost use Prim.Native.Nat.{_+_, _≤_, min};
 ghost use Rattle.text.specs.Leaves.{allMarked};
@@ -38,8 +38,8 @@ fn capped(shown: Characters, more: Characters, most: Characters) -> Characters
 // A text weighed in one look, what is shown of it counted up to `most`. Each octet of a run is a character. Of what stands between runs, an octet below 0x14 is
 // a character by itself, unless it is 0, and of any other character the first octet counts. The two ways meet only at the next run, so that a processor guesses
 // once, and not at each question, which of them an octet goes.
-pub fn weigh(marks: u32, counts: &[u8; 32], s: &[u8], most: Characters) -> Weighed
-    ensures { λ r. ⌜ r ≡ weighedBy marks (now (counts .entry)) (now (s .entry)) most ⌝ }
+pub fn weigh(marks: u32, shows: &[u8; 32], s: &[u8], most: Characters) -> Weighed
+    ensures { λ r. ⌜ r ≡ weighedBy marks (now (shows .entry)) (now (s .entry)) most ⌝ }
 {
     let mut at: usize = 0;
     let mut used: u32 = 0;
@@ -56,7 +56,7 @@ pub fn weigh(marks: u32, counts: &[u8; 32], s: &[u8], most: Characters) -> Weigh
                 return Weighed::NoText;
             }
             used = used | token_bit(b);
-            let more = run + shown_at(counts, b).0;
+            let more = run + shown_at(shows, b).0;
             shown = capped(shown, Characters(more), most);
             at = from + 1;
         } else {

@@ -6,10 +6,10 @@ use Rattle.text.proofs.weighing.weigh.Statement.{statement}
 use Rattle.text.proofs.weighing.weigh.Tie as tie
 
 abbrev Inv-loop : tie.InvT-loop
-Inv-loop marks counts s most at₀ used₀ shown₀ at used shown = Weighing marks counts s (most .0) at used (shown .0)
+Inv-loop marks shows s most at₀ used₀ shown₀ at used shown = Weighing marks shows s (most .0) at used (shown .0)
 
 abbrev μ-loop : tie.MeasureT-loop
-μ-loop marks counts s most at₀ used₀ shown₀ at used shown = length s - at
+μ-loop marks shows s most at₀ used₀ shown₀ at used shown = length s - at
 
 loop-holds : tie.Need-loop-holds Inv-loop μ-loop
 loop-holds c = search (weigh-ways, needs)
@@ -60,7 +60,7 @@ loop-again c =
     let looked = c .before .before .before in
     let ran = looked .before .before .before .before .before in
     let args = ran .before .before .before .before .args in
-    low-again (args .marks) (args .counts .now) (args .s .now) (args .most) _ _ _ (ran .before .before .loop .inv) _ (ran .plain-end .ensures) (search needs)
+    low-again (args .marks) (args .shows .now) (args .s .now) (args .most) _ _ _ (ran .before .before .loop .inv) _ (ran .plain-end .ensures) (search needs)
     (search needs) (search needs) _ (looked .token-bit .ensures) _ (c .before .before .shown-at .ensures .0) _ (c .capped2 .ensures .0) (c .capped2 .ensures .1)
 
 sub-sequence : tie.Need-sub-sequence Inv-loop μ-loop
@@ -99,7 +99,7 @@ loop-again-2 c =
     let stepped = c .before .before in
     let ran = stepped .before .before .before .before .before in
     let args = ran .before .before .before .before .args in
-    high-again (args .marks) (args .counts .now) (args .s .now) (args .most) _ _ _ (ran .before .before .loop .inv) _ (ran .plain-end .ensures) (search needs) _
+    high-again (args .marks) (args .shows .now) (args .s .now) (args .most) _ _ _ (ran .before .before .loop .inv) _ (ran .plain-end .ensures) (search needs) _
     (stepped .sequence .ensures) (search needs) (search needs) _ (c .capped3 .ensures .0) (c .capped3 .ensures .1)
 
 weighed-requires-2 : tie.Need-weighed-requires-2 Inv-loop μ-loop
