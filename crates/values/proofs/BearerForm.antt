@@ -64,14 +64,13 @@ module _ (e : Ensemble) where
     present-bit = rw p refl
 
 -- the first octet
-pub first-octet : (e : Ensemble) (l : Bool) (s p q x r : ℕ) → s < 16 → p * 64 ≡ ensembleBit e → p < 2 → q * 16 ≡ cond l 16 0 → q < 2 → x ≡ s
-    → r ≡ bitOr (bitOr (p * 2 ^ 6 % 2 ^ 32) (q * 2 ^ 4 % 2 ^ 32)) x % 256 → r ≡ ensembleBit e + cond l 16 0 + s
-first-octet e l s p q x r h pe pl qe ql xe f =
+pub first-octet : (e : Ensemble) (l : Bool) (s p q r : ℕ) → s < 16 → p * 64 ≡ ensembleBit e → p < 2 → q * 16 ≡ cond l 16 0 → q < 2
+    → r ≡ bitOr (bitOr (p * 2 ^ 6 % 2 ^ 32) (q * 2 ^ 4 % 2 ^ 32)) s % 256 → r ≡ ensembleBit e + cond l 16 0 + s
+first-octet e l s p q r h pe pl qe ql f =
     let one : bitOr (p * 2 ^ 6 % 2 ^ 32) (q * 2 ^ 4 % 2 ^ 32) ≡ (p * 4 + q) * 2 ^ 4 =
     ap₂ bitOr (shl-exact 1 6 32 pl (omega arith)) (shl-exact 1 4 32 ql (omega arith)) ∙ or-shifted p 6 (q * 2 ^ 4) (omega arith) ∙ omega arith in
-    let all : bitOr (bitOr (p * 2 ^ 6 % 2 ^ 32) (q * 2 ^ 4 % 2 ^ 32)) x ≡ (p * 4 + q) * 2 ^ 4 + x =
-    ap (λ n. bitOr n x) one ∙ or-shifted (p * 4 + q) 4 x (omega (arith, xe)) in
-    omega (arith, f, all, pe, qe, xe)
+    let all : bitOr (bitOr (p * 2 ^ 6 % 2 ^ 32) (q * 2 ^ 4 % 2 ^ 32)) s ≡ (p * 4 + q) * 2 ^ 4 + s = ap (λ n. bitOr n s) one ∙ or-shifted (p * 4 + q) 4 s (omega arith) in
+    omega (arith, f, all, pe, qe)
 
 -- the size
 module _ (b : Bearer) (m : ℕ) (e : m ≡ length (ensembleOctets (b .ensemble))) where
@@ -100,9 +99,9 @@ module _ (e : Ensemble) (out : List ℕ) (at : ℕ) where
     pub present-end : at + 3 ≡ at + length (ensembleOctets e)
     present-end = omega (arith, present-size e ecc eid p)
 
-    pub present-out : (n : ℕ) (after : List ℕ) → n ≡ eid → after ≡ sets (set out at ecc) (at + 1) (digits 2 n) → after ≡ sets out at (ensembleOctets e)
+    pub present-out : (after : List ℕ) → after ≡ sets (set out at ecc) (at + 1) (digits 2 eid) → after ≡ sets out at (ensembleOctets e)
     unfolding ensembleOctets
-    present-out n after q z = rw p (z ∙ ap₂ (λ k m. sets (set out at ecc) k (digits 2 m)) (omega arith) q)
+    present-out after z = rw p (z ∙ ap (λ k. sets (set out at ecc) k (digits 2 eid)) (omega arith))
 
 pub ruleset ensemble-puts = (absent-end, absent-out, present-end, present-out)
 
@@ -183,28 +182,31 @@ module _ (s : List ℕ) (present long : ℕ) (h : length s ≡ 3 + 3 * present +
   pub sid-four : (r : ℕ) → long < 2 → (long ≡ 0 → ⊥) → r ≡ value (take 4 (drop (1 + 3 * present) s)) → r ≡ value (drop (1 + 3 * present) s)
   sid-four r l e f = f ∙ ap value (take-all 4 (drop (1 + 3 * present) s) (simp length-drop (omega arith)))
 
-module _ (s : List ℕ) (w : ℕ) (e : w ≡ getD s 0 0) where
-  ensemble-flag : bitAnd (w / 2 ^ 6) 1 ≡ ensembleFlag s
+module _ (s : List ℕ) where
+  abbrev first : ℕ
+  first = getD s 0 0
+
+  ensemble-flag : bitAnd (first / 2 ^ 6) 1 ≡ ensembleFlag s
   unfolding ensembleFlag
-  ensemble-flag = and-mask (w / 2 ^ 6) 1 ∙ ap (λ n. n / 2 ^ 6 % 2) e
+  ensemble-flag = and-mask (first / 2 ^ 6) 1
 
-  long-flag : bitAnd (w / 2 ^ 4) 1 ≡ longSidFlag s
+  long-flag : bitAnd (first / 2 ^ 4) 1 ≡ longSidFlag s
   unfolding longSidFlag
-  long-flag = and-mask (w / 2 ^ 4) 1 ∙ ap (λ n. n / 2 ^ 4 % 2) e
+  long-flag = and-mask (first / 2 ^ 4) 1
 
-  pub taken-size : (length s ≡ 3 + 3 * bitAnd (w / 2 ^ 6) 1 + 2 * bitAnd (w / 2 ^ 4) 1 → ⊥) → Bad ≡ takenBearer s
+  pub taken-size : (length s ≡ 3 + 3 * bitAnd (first / 2 ^ 6) 1 + 2 * bitAnd (first / 2 ^ 4) 1 → ⊥) → Bad ≡ takenBearer s
   unfolding takenBearer isBearer
   taken-size g = rw (ne-eqb (length s) (3 + 3 * ensembleFlag s + 2 * longSidFlag s) (λ q. g (q ∙ ap₂ (λ x y. 3 + 3 * x + 2 * y) (sym ensemble-flag) (sym long-flag)))) refl
 
-  pub taken-good : (m : Ensemble) (sid scids : ℕ) → length s ≡ 3 + 3 * bitAnd (w / 2 ^ 6) 1 + 2 * bitAnd (w / 2 ^ 4) 1
-      → m ≡ cond (eqb (bitAnd (w / 2 ^ 6) 1) 1) (Present (getD s 1 0) (value (take 2 (drop 2 s)))) Absent
-      → sid ≡ value (drop (1 + 3 * bitAnd (w / 2 ^ 6) 1) s) → scids ≡ bitAnd w 15 % 256
-      → Good (record { ensemble = m; long = eqb (bitAnd (w / 2 ^ 4) 1) 1; sid = sid; scids = scids }) ≡ takenBearer s
+  pub taken-good : (m : Ensemble) (sid scids : ℕ) → length s ≡ 3 + 3 * bitAnd (first / 2 ^ 6) 1 + 2 * bitAnd (first / 2 ^ 4) 1
+      → m ≡ cond (eqb (bitAnd (first / 2 ^ 6) 1) 1) (Present (getD s 1 0) (value (take 2 (drop 2 s)))) Absent
+      → sid ≡ value (drop (1 + 3 * bitAnd (first / 2 ^ 6) 1) s) → scids ≡ bitAnd first 15 % 256
+      → Good (record { ensemble = m; long = eqb (bitAnd (first / 2 ^ 4) 1) 1; sid = sid; scids = scids }) ≡ takenBearer s
   unfolding takenBearer isBearer bearerOf ensembleOf
   taken-good m sid scids h p q r =
       let z : eqb (length s) (3 + 3 * ensembleFlag s + 2 * longSidFlag s) ≡ true =
       eq-eqb (length s) (3 + 3 * ensembleFlag s + 2 * longSidFlag s) (h ∙ ap₂ (λ x y. 3 + 3 * x + 2 * y) ensemble-flag long-flag) in
-      let low : scids ≡ getD s 0 0 % 16 = r ∙ ap (λ n. n % 256) (and-mask w 4) ∙ omega (arith, e) in
+      let low : scids ≡ first % 16 = r ∙ ap (λ n. n % 256) (and-mask first 4) ∙ omega arith in
       rw z (λ i. Good (record {
         ensemble = (p ∙ ap (λ n. cond (eqb n 1) (Present (getD s 1 0) (value (take 2 (drop 2 s)))) Absent) ensemble-flag) i;
         long = eqb (long-flag i) 1;

@@ -234,12 +234,12 @@ unfolding known codeOf
 code-beyond parent tag h = sym (ap codeOf (no-kind (λ e t k. leb t 0x86) (cond (attribute tag) parent 0) tag all-tags (λ k. lt-leb tag 0x86 h)))
 
 module _ (parent tag : ℕ) (b : Bool) (a : b ≡ attribute tag) where
-  pub code-attribute : b ≡ true → tag ≤ 0x86 → (codes w code : ℕ) → codes ≡ codesOf parent → w ≡ tag → code ≡ codes / 16 ^ (w - 0x7F) % 16 → code ≡ codeOf (known parent tag)
+  pub code-attribute : b ≡ true → tag ≤ 0x86 → (codes code : ℕ) → codes ≡ codesOf parent → code ≡ codes / 16 ^ (tag - 0x7F) % 16 → code ≡ codeOf (known parent tag)
   unfolding known attribute
-  code-attribute t h codes w code c q d =
+  code-attribute t h codes code c d =
       let is : ltb 0x7F tag ≡ true = sym a ∙ t in
       let above : 0x7F < tag = ltb-true 0x7F tag is in
-      let place : w - 0x7F ≡ suc (tag - 0x80) = omega (arith, q) in
+      let place : tag - 0x7F ≡ suc (tag - 0x80) = omega arith in
       let same : 0x80 + (tag - 0x80) ≡ tag = omega arith in
       rw is (d ∙ ap₂ (λ n i. n / 16 ^ i % 16) c place ∙ upper-digit parent (tag - 0x80) (omega arith) ∙ ap (λ u. codeOf (kindIn parent u rows)) same)
 
@@ -249,9 +249,9 @@ module _ (parent tag : ℕ) (b : Bool) (a : b ≡ attribute tag) where
       let is : ltb 0x7F tag ≡ false = sym a ∙ t in
       rw is (d ∙ ap (λ n. n / 16 ^ 0 % 16) c ∙ lowest-digit tag)
 
-  pub place-above : b ≡ true → (w : ℕ) → w ≡ tag → 0x7F ≤ w
+  pub place-above : b ≡ true → 0x7F ≤ tag
   unfolding attribute
-  place-above t w q = omega (arith, ltb-true 0x7F tag (sym a ∙ t))
+  place-above t = omega (arith, ltb-true 0x7F tag (sym a ∙ t))
 
 pub ruleset code-ways = (code-beyond, code-attribute, code-own, place-above)
 

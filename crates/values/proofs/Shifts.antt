@@ -35,12 +35,15 @@ value-two-at s at h =
     value-two (drop at s) (simp length-drop (omega arith))
     ∙ ap₂ (λ x y. x * 256 + y) (getD-drop at s 0 0 ∙ ap (λ n. getD s n 0) (omega arith)) (getD-drop at s 1 0)
 
-module _ (s : List ℕ) (at : ℕ) (h : at + 2 ≤ length s) (x y : ℕ) (p : x ≡ getD s at 0) (g : x < 256) (q : y ≡ getD s (at + 1) 0) (k : y < 256) where
-  pub two-value : bitOr (x * 2 ^ 8 % 2 ^ 32) y ≡ value (take 2 (drop at s))
-  two-value = joined 8 8 x y (omega arith) g k ∙ ap₂ (λ a b. a * 256 + b) p q ∙ sym (value-two-at s at h)
+module _ (s : List ℕ) (at : ℕ) (h : at + 2 ≤ length s) (g : getD s at 0 < 256) (k : getD s (at + 1) 0 < 256) where
+  both : bitOr (getD s at 0 * 2 ^ 8 % 2 ^ 32) (getD s (at + 1) 0) ≡ getD s at 0 * 256 + getD s (at + 1) 0
+  both = joined 8 8 (getD s at 0) (getD s (at + 1) 0) (omega arith) g k
 
-  pub two-small : bitOr (x * 2 ^ 8 % 2 ^ 32) y < 65536
-  two-small = omega (arith, joined 8 8 x y (omega arith) g k)
+  pub two-value : bitOr (getD s at 0 * 2 ^ 8 % 2 ^ 32) (getD s (at + 1) 0) ≡ value (take 2 (drop at s))
+  two-value = both ∙ sym (value-two-at s at h)
+
+  pub two-small : bitOr (getD s at 0 * 2 ^ 8 % 2 ^ 32) (getD s (at + 1) 0) < 65536
+  two-small = omega (arith, both)
 
 -- four octets are two and two
 value-four : (l : List ℕ) → 4 ≤ length l → value (take 4 l) ≡ value (take 2 l) * 65536 + value (take 2 (drop 2 l))

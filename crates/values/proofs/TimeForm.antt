@@ -45,20 +45,20 @@ module _ (s : List ℕ) (long : ℕ) where
   pub second-none : long ≡ 0 → 0 ≡ long * (getD s 4 0 / 4)
   second-none e = zeroed long (getD s 4 0 / 4) e
 
-  pub second-some : (x : ℕ) → long < 2 → (long ≡ 0 → ⊥) → x ≡ getD s 4 0 → x / 2 ^ 2 ≡ long * (getD s 4 0 / 4)
-  second-some x h e f = ap (λ n. n / 4) f ∙ oned long (getD s 4 0 / 4) h e
+  pub second-some : long < 2 → (long ≡ 0 → ⊥) → getD s 4 0 / 2 ^ 2 ≡ long * (getD s 4 0 / 4)
+  second-some h e = oned long (getD s 4 0 / 4) h e
 
   module _ (moved : ℕ) where
     pub offset-none : moved ≡ 0 → 0 ≡ moved * getD s (4 + 2 * long) 0
     offset-none e = zeroed moved (getD s (4 + 2 * long) 0) e
 
-    pub offset-short : (x : ℕ) → moved < 2 → (moved ≡ 0 → ⊥) → long ≡ 0 → x ≡ getD s 4 0 → x ≡ moved * getD s (4 + 2 * long) 0
-    offset-short x h e l f = f ∙ ap (λ n. getD s (4 + 2 * n) 0) (sym l) ∙ oned moved (getD s (4 + 2 * long) 0) h e
+    pub offset-short : moved < 2 → (moved ≡ 0 → ⊥) → long ≡ 0 → getD s 4 0 ≡ moved * getD s (4 + 2 * long) 0
+    offset-short h e l = ap (λ n. getD s (4 + 2 * n) 0) (sym l) ∙ oned moved (getD s (4 + 2 * long) 0) h e
 
-    pub offset-long : (x : ℕ) → moved < 2 → (moved ≡ 0 → ⊥) → long < 2 → (long ≡ 0 → ⊥) → x ≡ getD s 6 0 → x ≡ moved * getD s (4 + 2 * long) 0
-    offset-long x h e k l f =
+    pub offset-long : moved < 2 → (moved ≡ 0 → ⊥) → long < 2 → (long ≡ 0 → ⊥) → getD s 6 0 ≡ moved * getD s (4 + 2 * long) 0
+    offset-long h e k l =
         let one : 1 ≡ long = omega arith in
-        f ∙ ap (λ n. getD s (4 + 2 * n) 0) one ∙ oned moved (getD s (4 + 2 * long) 0) h e
+        ap (λ n. getD s (4 + 2 * n) 0) one ∙ oned moved (getD s (4 + 2 * long) 0) h e
 
 pub ruleset second-ways = (second-none, second-some)
 
@@ -194,17 +194,14 @@ module _ (s : List ℕ) (w : ℕ) (e : w ≡ value (take 4 s)) where
 pub ruleset take-ways = (taken-short, taken-size, taken-good, taken-bad)
 
 -- local time
-module _ (t : Time) (d h m v : ℕ) (p : d ≡ t .day) (q : h ≡ t .hour) (r : m ≡ t .minute) (w : v ≡ t .halves) where
-  utc-is : (d * 24 + h) * 60 + m ≡ (t .day * 24 + t .hour) * 60 + t .minute
-  utc-is = omega (arith, p, q, r)
-
-  pub minutes-minus : t .minus ≡ true → (d * 24 + h) * 60 + m + (1440 - 30) * v ≡ localMinutes t
+module _ (t : Time) where
+  pub minutes-minus : t .minus ≡ true → (t .day * 24 + t .hour) * 60 + t .minute + (1440 - 30) * t .halves ≡ localMinutes t
   unfolding localMinutes
-  minutes-minus y = rw y (omega (arith, utc-is, w))
+  minutes-minus y = rw y (omega arith)
 
-  pub minutes-plus : t .minus ≡ false → (d * 24 + h) * 60 + m + (1440 + 30) * v ≡ localMinutes t
+  pub minutes-plus : t .minus ≡ false → (t .day * 24 + t .hour) * 60 + t .minute + (1440 + 30) * t .halves ≡ localMinutes t
   unfolding localMinutes
-  minutes-plus y = rw y (omega (arith, utc-is, w))
+  minutes-plus y = rw y (omega arith)
 
 pub ruleset minutes-ways = (minutes-minus, minutes-plus)
 
@@ -227,12 +224,12 @@ pub day-fits : (n v : ℕ) → n < 2 ^ 52 → v < 2 ^ 32 → SFits w64 (toZ w64 
 day-fits n v h k =
     subst (SFits w64) (sym (day-is (n / 1440) v (omega arith) (omega arith))) (record { sfits = day-small (n / 1440) v (omega arith) (omega arith) })
 
-pub local-is : (t : Time) (n v : ℕ) → n ≡ localMinutes t → n < 2 ^ 52 → v ≡ t .halves → v < 2 ^ 32
-    → _≡_ {A = Local} (record { day = toZ w64 (ofZ w64 (toZ w64 (n / 1440) -ℤ toZ w64 v)); hour = n / 60 % 24; minute = n % 60; second = t .second }) (localOf t)
+pub local-is : (t : Time) (n : ℕ) → n ≡ localMinutes t → n < 2 ^ 52 → t .halves < 2 ^ 32
+    → _≡_ {A = Local} (record { day = toZ w64 (ofZ w64 (toZ w64 (n / 1440) -ℤ toZ w64 (t .halves))); hour = n / 60 % 24; minute = n % 60; second = t .second }) (localOf t)
 unfolding localOf
-local-is t n v e h f k =
-    let d : toZ w64 (ofZ w64 (toZ w64 (n / 1440) -ℤ toZ w64 v)) ≡ subℕ (localMinutes t / 1440) (t .halves) =
-    toZ-ofZ (day-fits n v h k) ∙ day-is (n / 1440) v (omega arith) (omega arith) ∙ ap₂ (λ m x. subℕ (m / 1440) x) e f in
+local-is t n e h k =
+    let d : toZ w64 (ofZ w64 (toZ w64 (n / 1440) -ℤ toZ w64 (t .halves))) ≡ subℕ (localMinutes t / 1440) (t .halves) =
+    toZ-ofZ (day-fits n (t .halves) h k) ∙ day-is (n / 1440) (t .halves) (omega arith) (omega arith) ∙ ap (λ m. subℕ (m / 1440) (t .halves)) e in
     λ i. record { day = d i; hour = e i / 60 % 24; minute = e i % 60; second = t .second }
 
 -- the normal octets: their size

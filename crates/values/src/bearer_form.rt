@@ -20,7 +20,6 @@ use crate::numbers::low;
 use crate::numbers::put_four;
 use crate::numbers::put_two;
 use crate::numbers::two_at;
-use crate::numbers::wide;
 use octets::Octets;
 use octets::Put;
 
@@ -32,7 +31,7 @@ impl Bearer {
         if s.len() < 3 {
             return TakenBearer::Bad;
         }
-        let first = wide(s[0]);
+        let first = s[0] as u32;
         let present = (first >> 6) & 0x1;
         let long = (first >> 4) & 0x1;
         let size = (3 + 3 * present + 2 * long) as usize;
@@ -171,7 +170,7 @@ fn first_octet(ensemble: Ensemble, long: bool, scids: u8) -> u8
     requires { ⌜ scids < 16 ⌝ }
     ensures { λ r. ⌜ r ≡ ensembleBit ensemble + cond long 16 0 + scids ⌝ }
 {
-    low((ensemble_flag(ensemble) << 6) | (long_flag(long) << 4) | wide(scids))
+    low((ensemble_flag(ensemble) << 6) | (long_flag(long) << 4) | (scids as u32))
 }
 
 // ECC and EId, where there is an ensemble; the answer is where they end.
@@ -184,17 +183,10 @@ fn put_ensemble(ensemble: Ensemble, out: &mut [u8], at: usize) -> usize
         Ensemble::Absent => at,
         Ensemble::Present { ecc, eid } => {
             out[at] = ecc;
-            put_two(wide_eid(eid), out, at + 1);
+            put_two(eid as u32, out, at + 1);
             at + 3
         }
     }
-}
-
-fn wide_eid(eid: u16) -> u32
-    ensures { λ r. ⌜ r ≡ eid ⌝ }
-    ensures { λ r. ⌜ r < 65536 ⌝ }
-{
-    eid as u32
 }
 
 fn put_sid(long: bool, sid: u32, out: &mut [u8], at: usize)

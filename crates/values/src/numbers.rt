@@ -8,21 +8,14 @@ ghost use lib.Seq.{sets};
 ghost use Rattle.octets.specs.Numbers.{value, digits};
 use octets::Octets;
 
-pub fn wide(x: u8) -> u32
-    ensures { λ r. ⌜ r ≡ x ⌝ }
-    ensures { λ r. ⌜ r < 256 ⌝ }
-{
-    x as u32
-}
-
 // Two octets from a place on, as a number.
 pub fn two_at(s: &[u8], at: usize) -> u32
     requires { ⌜ at + 2 ≤ length (now s) ⌝ }
     ensures { λ r. ⌜ r ≡ value (take 2 (drop at (now (s .entry)))) ⌝ }
     ensures { λ r. ⌜ r < 65536 ⌝ }
 {
-    let high = wide(s[at]);
-    let low = wide(s[at + 1]);
+    let high = s[at] as u32;
+    let low = s[at + 1] as u32;
     (high << 8) | low
 }
 

@@ -7,7 +7,6 @@ ghost use Rattle.values.specs.Calls.{knownKind};
 use crate::Kind;
 use crate::KnownKind;
 use crate::NumberKind;
-use crate::numbers::wide;
 
 // The constant table of known items, a number an entry: an octet of element, one of tag, one of kind code. CDATA and the elements of annex D stand under 0, since
 // they are known in any element, and behind each element its attributes of annex E under its tag.
@@ -250,7 +249,7 @@ fn code_of(parent: u8, tag: u8) -> u32
         return 0;
     }
     if is_attribute(tag) {
-        return code_at(codes_of(parent), wide(tag) - 0x7F);
+        return code_at(codes_of(parent), tag as u32 - 0x7F);
     }
     code_at(codes_of(tag), 0)
 }

@@ -17,7 +17,6 @@ use crate::numbers::four_at;
 use crate::numbers::has_room;
 use crate::numbers::low;
 use crate::numbers::put_four;
-use crate::numbers::wide;
 use octets::Octets;
 use octets::Put;
 
@@ -113,7 +112,7 @@ impl Time {
         ensures { λ r. ⌜ r ≡ localOf self ⌝ }
     {
         let minutes = self.local_minutes();
-        let day = (minutes / 1440) as i64 - long(self.halves) as i64;
+        let day = (minutes / 1440) as i64 - self.halves as i64;
         Local {
             day,
             hour: minutes / 60 % 24,
@@ -127,8 +126,8 @@ impl Time {
         ensures { λ r. ⌜ r ≡ localMinutes self ⌝ }
         ensures { λ r. ⌜ r < 2 ^ 52 ⌝ }
     {
-        let utc = (long(self.day) * 24 + long(self.hour)) * 60 + long(self.minute);
-        let halves = long(self.halves);
+        let utc = (self.day as u64 * 24 + self.hour as u64) * 60 + self.minute as u64;
+        let halves = self.halves as u64;
         if self.minus {
             return utc + (1440 - 30) * halves;
         }
@@ -188,13 +187,6 @@ impl Time {
     }
 }
 
-fn long(x: u32) -> u64
-    ensures { λ r. ⌜ r ≡ x ⌝ }
-    ensures { λ r. ⌜ r < 2 ^ 32 ⌝ }
-{
-    x as u64
-}
-
 // Seconds, where the long form has them.
 fn second_at(s: &[u8], long: u32) -> u32
     requires { ⌜ long < 2 ⌝ }
@@ -204,7 +196,7 @@ fn second_at(s: &[u8], long: u32) -> u32
     if long == 0 {
         return 0;
     }
-    wide(s[4]) >> 2
+    (s[4] as u32) >> 2
 }
 
 // The octet of the offset, where there is one.
@@ -217,9 +209,9 @@ fn offset_at(s: &[u8], long: u32, moved: u32) -> u32
         return 0;
     }
     if long == 0 {
-        return wide(s[4]);
+        return s[4] as u32;
     }
-    wide(s[6])
+    s[6] as u32
 }
 
 // The sense of an offset: 1 is minus, and minus 0 is 0.

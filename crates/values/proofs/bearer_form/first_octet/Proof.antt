@@ -9,16 +9,13 @@ ensemble-flag-requires c κs = search needs
 long-flag-requires : tie.Need-long-flag-requires
 long-flag-requires c κs = search needs
 
-wide-requires : tie.Need-wide-requires
-wide-requires c κs = search needs
-
 low-requires : tie.Need-low-requires
 low-requires c κs = search needs
 
 returns : tie.Need-returns
-returns c = search (first-octet, needs)
+returns c =
+    search (first-octet, needs)
 
 pub first-octet-spec : {M : Type 1} → statement M
 first-octet-spec =
-    tie.close
-    (tie.spec ensemble-flag-requires long-flag-requires wide-requires low-requires returns)
+    tie.close (tie.spec ensemble-flag-requires long-flag-requires low-requires returns)

@@ -11,28 +11,33 @@ enum-known-ensemble : tie.Need-enum-known-ensemble
 enum-known-ensemble c = search needs
 
 slice-write-out : tie.Need-slice-write-out
-slice-write-out c = search (ensemble-puts, present-room, needs)
+slice-write-out c =
+    search (ensemble-puts, present-room, needs)
 
-wide-eid-requires : tie.Need-wide-eid-requires
-wide-eid-requires c κs = search needs
+cast-put-two : tie.Need-cast-put-two
+cast-put-two c = search needs
 
 add-put-two : tie.Need-add-put-two
 add-put-two c = search needs
 
 put-two-requires : tie.Need-put-two-requires
-put-two-requires c κs = (search needs, search (present-rest, needs))
+put-two-requires c κs =
+    (search needs, search (present-rest, needs))
 
 add-result : tie.Need-add-result
 add-result c = search needs
 
 returns : tie.Need-returns
-returns c = search (ensemble-puts, present-room, needs)
+returns c =
+    search (ensemble-puts, present-room, needs)
 
 same-length : tie.Need-same-length
-same-length c = search (stored-length, needs)
+same-length c =
+    search (stored-length, needs)
 
 returns-2 : tie.Need-returns-2
-returns-2 c = search (ensemble-puts, present-room, needs)
+returns-2 c =
+    search (ensemble-puts, present-room, needs)
 
 pub put-ensemble-spec : {M : Type 1} → statement M
 put-ensemble-spec =
@@ -41,7 +46,7 @@ put-ensemble-spec =
     enum-told
     enum-known-ensemble
     slice-write-out
-    wide-eid-requires
+    cast-put-two
     add-put-two
     put-two-requires
     add-result
