@@ -11,6 +11,7 @@ use Rattle.octets.specs.Numbers.{digits, Octets}
 use Rattle.octets.specs.Header.{headerSize, bodySize, lengthField, framed}
 use Rattle.octets.specs.Calls.{headerOf}
 use Rattle.octets.specs.declared.Header.{Header}
+use Rattle.octets.proofs.Tests.{never}
 use Rattle.octets.proofs.Numbers.{length-digits, octets-none, octets-cons, octets-append, octets-digits}
 
 -- ---- read_header
@@ -26,14 +27,14 @@ module _ (part : List ℕ) where
     where
       go : (b : Bool) → leb (headerSize part) (length part) ≡ b → Header.Found start size ≡ cond b (Header.Found (headerSize part) (bodySize part)) Header.Past → HeaderFound part start size
       go true f p = record { header = cc; body = cc; inside = leb-true (headerSize part) (length part) f }
-      go false f p = let z : _≡_ {A = ℕ} 0 1 = cc in absurd (omega arith)
+      go false f p = never (cc)
 
   pub header-past : (r : Header) → r ≡ headerOf part → r ≡ Header.Past → length part < headerSize part
   unfolding headerOf
   header-past r e q = go (leb (headerSize part) (length part)) refl (sym q ∙ e)
     where
       go : (b : Bool) → leb (headerSize part) (length part) ≡ b → Header.Past ≡ cond b (Header.Found (headerSize part) (bodySize part)) Header.Past → length part < headerSize part
-      go true f p = let z : _≡_ {A = ℕ} 0 1 = cc in absurd (omega arith)
+      go true f p = never (cc)
       go false f p = leb-false (headerSize part) (length part) f
 
 -- ---- header_size

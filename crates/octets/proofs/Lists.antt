@@ -103,6 +103,10 @@ module _ {ℓ} {A : Type ℓ} where
   pub getD-part : (l : List A) (i n k : ℕ) (d : A) → k < n → getD (take n (drop i l)) k d ≡ getD l (i + k) d
   getD-part l i n k d h = getD-take n (drop i l) k d h ∙ getD-drop i l k d
 
+  -- the first element of a part
+  pub getD-here : (l : List A) (i : ℕ) (d : A) → getD (drop i l) 0 d ≡ getD l i d
+  getD-here l i d = getD-drop i l 0 d ∙ ap (λ (n : ℕ). getD l n d) (add-zero i)
+
   -- one element more, at the code's i + 1
   pub drop-next : (l : List A) (i : ℕ) (d : A) → i < length l → drop i l ≡ getD l i d ∷ drop (i + 1) l
   drop-next l i d h = drop-cons l i d h ∙ ap (λ (n : ℕ). getD l i d ∷ drop n l) (sym (add-one i))

@@ -1,6 +1,6 @@
 -- The ways through the calls that write: room, forms of a length, numbers, headers, copies.
 use mathlib.Core.Path.{_≡_, refl, sym, ap, _∙_}
-use mathlib.Core.Bool.{Bool, true, false, cond}
+use mathlib.Core.Bool.{Bool, true, false}
 use mathlib.Core.List.{List, [], _∷_, _++_}
 use Prim.Native.Nat.{ℕ, zero, suc, _+_, _-_, _*_, _/_, _%_, _^_, _≤_, _<_}
 use native.Mathlib.Nat.{mod-eq-of-lt, div-eq-of-lt, div-lt-iff-lt-mul}
@@ -12,52 +12,18 @@ use lib.ListN.{length, drop, getD, set, length-append, length-set, drop-of-lengt
 use lib.Seq.{sets}
 use mir.Syntax.{w8, w64}
 use mir.Val.{Fits}
-use borrow.Author.Tests.{le-leb, lt-leb, leb-true, leb-false, lt-ltb, le-ltb, ltb-true, ltb-false, eq-eqb, ne-eqb}
+use borrow.Author.Tests.{le-leb, lt-leb, leb-true, lt-ltb, le-ltb, ltb-true, ltb-false, eq-eqb, ne-eqb}
 use Rattle.octets.specs.Counts.{asOctets}
 use Rattle.octets.specs.Numbers.{digits}
 use Rattle.octets.specs.Header.{lengthField}
-use Rattle.octets.specs.Calls.{fitsWidth, endOf, announced, widthOf, Formed}
-use Rattle.octets.specs.Puts.{Puts}
+use Rattle.octets.specs.Calls.{fitsWidth, announced, widthOf, Formed}
 use Rattle.octets.specs.declared.counts.Octets.{Octets}
-use Rattle.octets.specs.declared.Put.{Put}
-use Rattle.octets.specs.declared.End.{End}
 use Rattle.octets.specs.declared.LengthForm.{LengthForm}
 use Rattle.octets.specs.declared.LengthForm.the-variants.{One, Two, Three}
 use Rattle.octets.proofs.Tests.{and-left, and-right}
 use Rattle.octets.proofs.Lists.{drop-next}
 use Rattle.octets.proofs.Numbers.{pow-pos, pow-octets, length-digits, digits-more}
-use Rattle.octets.proofs.Puts.{puts-invalid, puts-none, puts-done}
-
--- ---- room
-pub record Ended (room at size end : ℕ) : Type 0 where
-  pub place : end ≡ at + size
-  pub inside : at + size ≤ room
-
-module _ (room at size : ℕ) where
-  pub end-outside : room < at + size → End.Outside ≡ endOf room at size
-  unfolding endOf
-  end-outside h = rw (lt-leb (at + size) room h)
-
-  pub end-within : at + size ≤ room → End.Within (at + size) ≡ endOf room at size
-  unfolding endOf
-  end-within h = rw (le-leb (at + size) room h)
-
-  -- what each answer says
-  pub told-within : (e : End) → e ≡ endOf room at size → (end : ℕ) → e ≡ End.Within end → Ended room at size end
-  unfolding endOf
-  told-within e k end q = go (leb (at + size) room) refl (sym q ∙ k)
-    where
-      go : (b : Bool) → leb (at + size) room ≡ b → End.Within end ≡ cond b (End.Within (at + size)) End.Outside → Ended room at size end
-      go true f p = record { place = cc; inside = leb-true (at + size) room f }
-      go false f p = let z : _≡_ {A = ℕ} 0 1 = cc in absurd (omega arith)
-
-  pub told-outside : (e : End) → e ≡ endOf room at size → e ≡ End.Outside → room < at + size
-  unfolding endOf
-  told-outside e k q = go (leb (at + size) room) refl (sym q ∙ k)
-    where
-      go : (b : Bool) → leb (at + size) room ≡ b → End.Outside ≡ cond b (End.Within (at + size)) End.Outside → room < at + size
-      go true f p = let z : _≡_ {A = ℕ} 0 1 = cc in absurd (omega arith)
-      go false f p = leb-false (at + size) room f
+use Rattle.octets.proofs.Puts.{puts-invalid, asked-room, asked-ways}
 
 -- ---- forms of a length
 module _ (n : ℕ) where
@@ -183,19 +149,6 @@ module _ (out₀ : List ℕ) (at : ℕ) (s : List ℕ) where
 
 pub ruleset copy-ways = (copy-begin, copy-done, copy-in, copy-fits, copy-again)
 
-module _ (out : List ℕ) (at : ℕ) (s : List ℕ) (e : End) (k : e ≡ endOf (length out) at (length s)) where
-  pub copied-none : e ≡ End.Outside → Puts true s at out out Put.NoRoom
-  copied-none q = puts-none true s at out refl (told-outside (length out) at (length s) e k q)
-
-  module _ (end : ℕ) (q : e ≡ End.Within end) where
-    pub copied-room : at + length s ≤ length out
-    copied-room = told-within (length out) at (length s) e k end q .inside
-
-    pub copied-done : (out′ : List ℕ) → out′ ≡ sets out at s → Puts true s at out out′ (Put.Done end)
-    copied-done out′ p = puts-done true s at out refl out′ end copied-room p (told-within (length out) at (length s) e k end q .place)
-
-pub ruleset copied-ways = (copied-none, copied-room, copied-done)
-
 -- ---- a number in so many octets
 module _ (width n : ℕ) where
   pub width-far : 4 < width → false ≡ fitsWidth width n
@@ -215,35 +168,27 @@ module _ (width n : ℕ) where
 
 pub ruleset width-ways = (width-far, width-near)
 
-module _ (out : List ℕ) (at width n : ℕ) (f : Bool) (g : f ≡ fitsWidth width n) where
-  pub number-no : f ≡ false → Puts (fitsWidth width n) (digits width n) at out out Put.Invalid
-  number-no q = puts-invalid (fitsWidth width n) (digits width n) at out (sym g ∙ q)
+module _ (width n : ℕ) where
+  pub width-sized : width ≡ length (digits width n)
+  width-sized = sym (length-digits width n)
 
-  module _ (u : f ≡ true) where
-    fits : fitsWidth width n ≡ true
-    fits = sym g ∙ u
+  module _ (f : Bool) (g : f ≡ fitsWidth width n) where
+    pub number-no : f ≡ false → fitsWidth width n ≡ false
+    number-no q = sym g ∙ q
 
-    pub number-width : width ≤ 4
-    unfolding fitsWidth
-    number-width = leb-true width 4 (and-left (leb width 4) (ltb n (256 ^ width)) fits)
+    module _ (u : f ≡ true) where
+      pub number-yes : fitsWidth width n ≡ true
+      number-yes = sym g ∙ u
 
-    pub number-small : n < 256 ^ width
-    unfolding fitsWidth
-    number-small = ltb-true n (256 ^ width) (and-right (leb width 4) (ltb n (256 ^ width)) fits)
+      pub number-width : width ≤ 4
+      unfolding fitsWidth
+      number-width = leb-true width 4 (and-left (leb width 4) (ltb n (256 ^ width)) number-yes)
 
-    module _ (e : End) (k : e ≡ endOf (length out) at width) where
-      pub number-none : e ≡ End.Outside → Puts (fitsWidth width n) (digits width n) at out out Put.NoRoom
-      number-none q = puts-none (fitsWidth width n) (digits width n) at out fits (rw length-digits (told-outside (length out) at width e k q))
+      pub number-small : n < 256 ^ width
+      unfolding fitsWidth
+      number-small = ltb-true n (256 ^ width) (and-right (leb width 4) (ltb n (256 ^ width)) number-yes)
 
-      module _ (end : ℕ) (q : e ≡ End.Within end) where
-        pub number-room : at + width ≤ length out
-        number-room = told-within (length out) at width e k end q .inside
-
-        pub number-done : (out′ : List ℕ) → out′ ≡ sets out at (digits width n) → Puts (fitsWidth width n) (digits width n) at out out′ (Put.Done end)
-        number-done out′ p =
-            puts-done (fitsWidth width n) (digits width n) at out fits out′ end (rw length-digits number-room) p (told-within (length out) at width e k end q .place ∙ ap (λ m. at + m) (sym (length-digits width n)))
-
-pub ruleset put-number-ways = (number-no, number-width, number-small, number-none, number-room, number-done)
+pub ruleset put-number-ways = (puts-invalid, asked-ways, width-sized, number-no, number-yes)
 
 -- ---- a length in its form
 module _ (out : List ℕ) (at n : ℕ) (f : LengthForm) (k : Formed n f) where
@@ -257,28 +202,28 @@ module _ (out : List ℕ) (at n : ℕ) (f : LengthForm) (k : Formed n f) where
     two-fits e = rw e at (k .fits h)
 
   module _ (r : at + length (lengthField n) ≤ length out) where
-    room-in : at + (length (announced f) + widthOf f) ≤ length out
-    room-in = rw (length-field n f k) at r
+    field-in : at + (length (announced f) + widthOf f) ≤ length out
+    field-in = rw (length-field n f k) at r
 
     pub one-room : f ≡ One → at + 1 ≤ length out
     unfolding announced widthOf
-    one-room e = rw e at room-in
+    one-room e = rw e at field-in
 
     pub two-in : f ≡ Two → at < length out
     unfolding announced widthOf
-    two-in e = let q = rw e at room-in in omega arith
+    two-in e = let q = rw e at field-in in omega arith
 
     pub two-room : (b : ℕ) → f ≡ Two → at + 1 + 2 ≤ length (set out at b)
     unfolding announced widthOf
-    two-room b e = let q = rw e at room-in in simp length-set (omega arith)
+    two-room b e = let q = rw e at field-in in simp length-set (omega arith)
 
     pub three-in : f ≡ Three → at < length out
     unfolding announced widthOf
-    three-in e = let q = rw e at room-in in omega arith
+    three-in e = let q = rw e at field-in in omega arith
 
     pub three-room : (b : ℕ) → f ≡ Three → at + 1 + 3 ≤ length (set out at b)
     unfolding announced widthOf
-    three-room b e = let q = rw e at room-in in simp length-set (omega arith)
+    three-room b e = let q = rw e at field-in in simp length-set (omega arith)
 
   laid : (out′ : List ℕ) → out′ ≡ sets out at (announced f ++ digits (widthOf f) n) → out′ ≡ sets out at (lengthField n)
   laid out′ e = e ∙ ap (sets out at) (sym (k .field))
@@ -301,33 +246,23 @@ same-after-set out at b out′ e = e ∙ length-set out at b
 pub ruleset length-ways = (one-fits, two-fits, one-room, two-in, two-room, three-in, three-room, one-done, two-done, three-done, same-after-set)
 
 -- ---- a header
-module _ (out : List ℕ) (at tag n : ℕ) where
-  pub header-long : 0xFFFFFF < n → Puts (ltb n (256 ^ 3)) (tag ∷ lengthField n) at out out Put.Invalid
-  header-long h = puts-invalid (ltb n (256 ^ 3)) (tag ∷ lengthField n) at out (le-ltb n (256 ^ 3) (omega arith))
+pub header-long : (n : ℕ) → 0xFFFFFF < n → ltb n (256 ^ 3) ≡ false
+header-long n h = le-ltb n (256 ^ 3) (omega arith)
 
-  module _ (h : n ≤ 0xFFFFFF) (size : Octets) (l : size ≡ asOctets (suc (length (lengthField n)))) (e : End) (k : e ≡ endOf (length out) at (size .0)) where
-    long : size .0 ≡ suc (length (lengthField n))
-    long = ap (λ m. m .0) l
+pub header-short : (n : ℕ) → n ≤ 0xFFFFFF → ltb n (256 ^ 3) ≡ true
+header-short n h = lt-ltb n (256 ^ 3) (omega arith)
 
-    short : ltb n (256 ^ 3) ≡ true
-    short = lt-ltb n (256 ^ 3) (omega arith)
+module _ (tag n : ℕ) (size : Octets) (l : size ≡ asOctets (suc (length (lengthField n)))) (out : List ℕ) (at : ℕ) (b : Bool) (k : b ≡ leb (at + size .0) (length out)) (q : b ≡ true) where
+  room : at + suc (length (lengthField n)) ≤ length out
+  room = asked-room true (tag ∷ lengthField n) at out (size .0) (ap (λ m. m .0) l) b k q
 
-    pub header-none : e ≡ End.Outside → Puts (ltb n (256 ^ 3)) (tag ∷ lengthField n) at out out Put.NoRoom
-    header-none q = puts-none (ltb n (256 ^ 3)) (tag ∷ lengthField n) at out short (rw (← long) (told-outside (length out) at (size .0) e k q))
+  pub header-in : at < length out
+  header-in = omega (arith, room)
 
-    module _ (end : ℕ) (q : e ≡ End.Within end) where
-      room : at + size .0 ≤ length out
-      room = told-within (length out) at (size .0) e k end q .inside
+  pub header-room : at + 1 + length (lengthField n) ≤ length (set out at tag)
+  header-room = simp length-set (omega (arith, room))
 
-      pub header-in : at < length out
-      header-in = omega (arith, room, long)
+pub header-laid : (out : List ℕ) (at tag : ℕ) (field out′ : List ℕ) → out′ ≡ sets (set out at tag) (at + 1) field → out′ ≡ sets out at (tag ∷ field)
+header-laid out at tag field out′ p = p ∙ ap (λ m. sets (set out at tag) m field) (add-one at)
 
-      pub header-room : at + 1 + length (lengthField n) ≤ length (set out at tag)
-      header-room = simp length-set (omega (arith, room, long))
-
-      pub header-done : (out′ : List ℕ) → out′ ≡ sets (set out at tag) (at + 1) (lengthField n) → Puts (ltb n (256 ^ 3)) (tag ∷ lengthField n) at out out′ (Put.Done end)
-      header-done out′ p =
-          puts-done (ltb n (256 ^ 3)) (tag ∷ lengthField n) at out short out′ end (rw (← long) room) (p ∙ ap (λ m. sets (set out at tag) m (lengthField n)) (add-one at))
-          (told-within (length out) at (size .0) e k end q .place ∙ ap (λ m. at + m) long)
-
-pub ruleset write-ways = (header-long, header-none, header-in, header-room, header-done, same-after-set)
+pub ruleset write-ways = (puts-invalid, asked-ways, header-long, header-short, header-in, header-room, header-laid, same-after-set)

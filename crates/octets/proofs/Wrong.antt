@@ -1,10 +1,10 @@
 -- Wrong answers of the calls, refuted at an input: what a slip in the definitions or in the code would answer.
-use mathlib.Core.Path.{_≡_, refl, ap, _∙_}
-use mathlib.Core.Bool.{Bool, true}
+use mathlib.Core.Path.{_≡_, refl, sym, ap, _∙_}
+use mathlib.Core.Bool.{Bool, true, false, false≢true}
 use mathlib.Core.List.{List, [], _∷_}
-use Prim.Native.Nat.{ℕ, suc, _^_}
+use Prim.Native.Nat.{ℕ, suc, _+_, _^_}
 use native.Mathlib.Omega.{arith}
-use lib.Dec.{ltb}
+use lib.Dec.{leb, ltb}
 use lib.ListN.{length, take, drop, getD}
 use Rattle.octets.specs.Counts.{asOctets}
 use Rattle.octets.specs.Numbers.{value, digits}
@@ -16,6 +16,7 @@ use Rattle.octets.specs.declared.Header.{Header}
 use Rattle.octets.specs.declared.Lies.the-variants.{Between}
 use Rattle.octets.specs.declared.Number.{Number}
 use Rattle.octets.specs.declared.Put.{Put}
+use Rattle.octets.proofs.Tests.{never}
 use Rattle.octets.proofs.Lists.{part-of-sets}
 use Rattle.octets.proofs.Puts.{put-done, put-no-room}
 
@@ -32,11 +33,11 @@ header-backwards h = let z : _≡_ {A = ℕ} 0x0102 0x0201 = cc long-header in o
 
 pub header-cut : headerOf (0x03 ∷ 0xFF ∷ 0x00 ∷ 0x00 ∷ []) ≡ Header.Found 5 0 → ⊥
 unfolding headerOf headerSize bodySize
-header-cut h = let z : _≡_ {A = ℕ} 0 1 = cc h in omega arith
+header-cut h = never (cc h)
 
 pub header-body : headerOf (0x03 ∷ 0x05 ∷ []) ≡ Header.Past → ⊥
 unfolding headerOf headerSize bodySize
-header-body h = let z : _≡_ {A = ℕ} 0 1 = cc h in omega arith
+header-body h = never (cc h)
 
 -- ---- item_at: an item that runs past the part; places counted from where the item begins, and not from where the part does
 pub past-lies : liesAt (0x06 ∷ 0x02 ∷ 0x65 ∷ []) 0 ≡ Between 2 4 → ⊥
@@ -63,7 +64,7 @@ size-middle h = omega (arith, ap (λ n. n .0) h)
 -- ---- write_header: no room where the octets just fit; what fits of it written; 2 to the 24th cut to three octets
 pub written-just : (after : List ℕ) → Puts (ltb 2 (256 ^ 3)) (0x03 ∷ lengthField 2) 1 (9 ∷ 9 ∷ 9 ∷ []) after Put.NoRoom → ⊥
 unfolding lengthField putAnswer
-written-just after p = let h = p .answers in let z : _≡_ {A = ℕ} 0 1 = cc h in omega arith
+written-just after p = let h = p .answers in never (cc h)
 
 pub written-part : Puts (ltb 0xFE (256 ^ 3)) (0x03 ∷ lengthField 0xFE) 0 (9 ∷ 9 ∷ 9 ∷ []) (0x03 ∷ 0xFE ∷ 0x00 ∷ []) Put.NoRoom → ⊥
 unfolding lengthField digits putOut
@@ -71,7 +72,7 @@ written-part p = let z : _≡_ {A = ℕ} 0x03 9 = ap (λ l. getD l 0 0) (p .leav
 
 pub written-long : (after : List ℕ) → Puts (ltb 0x1000000 (256 ^ 3)) (0x03 ∷ lengthField 0x1000000) 0 (9 ∷ 9 ∷ 9 ∷ 9 ∷ 9 ∷ []) after (Put.Done 5) → ⊥
 unfolding putAnswer
-written-long after p = let h = p .answers in let z : _≡_ {A = ℕ} 0 1 = cc h in omega arith
+written-long after p = let h = p .answers in never (cc h)
 
 -- ---- read_number: the least significant octet first; five octets for the zeros before a small number
 pub number-backwards : numberOf (0x01 ∷ 0x02 ∷ []) ≡ Number.Is 0x0201 → ⊥
@@ -80,7 +81,7 @@ number-backwards h = let z : _≡_ {A = ℕ} 0x0102 0x0201 = cc h in omega arith
 
 pub number-five : numberOf (0 ∷ 0 ∷ 0 ∷ 0 ∷ 7 ∷ []) ≡ Number.Is 7 → ⊥
 unfolding numberOf
-number-five h = let z : _≡_ {A = ℕ} 0 1 = cc h in omega arith
+number-five h = never (cc h)
 
 -- ---- put_number: the least significant octet first; a number cut to its width; the octets' count for the place behind them
 pub put-backwards : (answer : Put) → Puts (fitsWidth 2 0x0102) (digits 2 0x0102) 0 (9 ∷ 9 ∷ []) (0x02 ∷ 0x01 ∷ []) answer → ⊥
@@ -89,11 +90,18 @@ put-backwards answer p = let z : _≡_ {A = ℕ} 2 1 = ap (λ l. getD l 0 0) (p 
 
 pub put-cut : (after : List ℕ) → Puts (fitsWidth 1 0x0102) (digits 1 0x0102) 0 (9 ∷ 9 ∷ []) after (Put.Done 1) → ⊥
 unfolding fitsWidth putAnswer
-put-cut after p = let h = p .answers in let z : _≡_ {A = ℕ} 0 1 = cc h in omega arith
+put-cut after p = let h = p .answers in never (cc h)
 
 pub put-count : (after : List ℕ) → Puts (fitsWidth 1 7) (digits 1 7) 1 (9 ∷ 9 ∷ []) after (Put.Done 1) → ⊥
 unfolding fitsWidth digits putAnswer
 put-count after p = let h = p .answers in let z : _≡_ {A = ℕ} 1 2 = cc h in omega arith
+
+-- ---- has_room: none for octets that just fit; as much at every place as at the first
+pub room-just : false ≡ leb (1 + 2) 3 → ⊥
+room-just h = false≢true h
+
+pub room-anywhere : true ≡ leb (1 + 2) 2 → ⊥
+room-anywhere h = false≢true (sym h)
 
 -- ---- copy_into: as much as fits; at the start and not at the place; the place behind the lent slice for room
 pub copied-clipped : (answer : Put) → Puts true (1 ∷ 2 ∷ []) 1 (9 ∷ 9 ∷ []) (9 ∷ 1 ∷ []) answer → ⊥
@@ -106,7 +114,7 @@ copied-start answer p = let z : _≡_ {A = ℕ} 1 9 = ap (λ l. getD l 0 0) (p .
 
 pub copied-end : (after : List ℕ) → Puts true (1 ∷ []) 2 (9 ∷ 9 ∷ []) after (Put.Done 3) → ⊥
 unfolding putAnswer
-copied-end after p = let h = p .answers in let z : _≡_ {A = ℕ} 0 1 = cc h in omega arith
+copied-end after p = let h = p .answers in never (cc h)
 
 -- ---- two answers that no call may give which puts octets, whatever they are: that they were put, though they don't stand there; and that there is no room,
 -- though a part of them was left

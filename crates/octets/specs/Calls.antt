@@ -2,7 +2,7 @@
 use mathlib.Core.Path.{_≡_}
 use mathlib.Core.Bool.{Bool, cond, _&&_}
 use mathlib.Core.List.{List, [], _∷_, _++_}
-use Prim.Native.Nat.{ℕ, _+_, _^_, _<_}
+use Prim.Native.Nat.{ℕ, _^_, _<_}
 use lib.Dec.{leb, ltb}
 use lib.ListN.{length}
 use Rattle.octets.specs.Numbers.{value, digits}
@@ -10,7 +10,6 @@ use Rattle.octets.specs.Header.{headerSize, bodySize, lengthField}
 use Rattle.octets.specs.declared.Header.{Header}
 use Rattle.octets.specs.declared.Header.the-variants.{Past, Found}
 use Rattle.octets.specs.declared.Number.{Number}
-use Rattle.octets.specs.declared.End.{End}
 use Rattle.octets.specs.declared.LengthForm.{LengthForm}
 use Rattle.octets.specs.declared.LengthForm.the-variants.{One, Two, Three}
 
@@ -25,10 +24,6 @@ numberOf s = cond (leb (length s) 4) (Number.Is (value s)) Number.TooLong
 -- a number has octets of this width: four at most, and enough of them
 unfoldable pub fitsWidth : (width n : ℕ) → Bool
 fitsWidth width n = leb width 4 && ltb n (256 ^ width)
-
--- where so many octets put at a place of a room end
-unfoldable pub endOf : (room at size : ℕ) → End
-endOf room at size = cond (leb (at + size) room) (End.Within (at + size)) End.Outside
 
 -- a form of the length field: the octet that announces it, and how many octets the number then takes
 unfoldable pub announced : LengthForm → List ℕ

@@ -5,13 +5,13 @@ ghost use mathlib.Core.Path.{_≡_};
 ghost use mathlib.Core.Bool.{true};
 ghost use mathlib.Core.List.{_∷_};
 ghost use Prim.Native.Nat.{suc, _+_, _*_, _/_, _%_, _^_, _≤_, _<_};
-ghost use lib.Dec.{ltb};
+ghost use lib.Dec.{leb, ltb};
 ghost use lib.ListN.{length};
 ghost use lib.Seq.{sets};
 ghost use Rattle.octets.specs.Counts.{asOctets};
 ghost use Rattle.octets.specs.Numbers.{value, digits};
 ghost use Rattle.octets.specs.Header.{lengthField};
-ghost use Rattle.octets.specs.Calls.{headerOf, numberOf, fitsWidth, endOf, Formed};
+ghost use Rattle.octets.specs.Calls.{headerOf, numberOf, fitsWidth, Formed};
 ghost use Rattle.octets.specs.Puts.{Puts};
 
 mod counts;
@@ -53,11 +53,6 @@ enum LengthForm {
     One,
     Two,
     Three,
-}
-
-enum End {
-    Within(usize),
-    Outside,
 }
 
 // The header of the item with which a part begins. Looks at the octets of the length alone: at most four.
@@ -157,12 +152,12 @@ pub fn write_header(out: &mut [u8], at: usize, tag: u8, n: Octets) -> Put
         return Put::Invalid;
     }
     let size = header_size(n);
-    let End::Within(end) = end_of(Octets(out.len()), at, size) else {
+    if !has_room(Octets(out.len()), at, size) {
         return Put::NoRoom;
-    };
+    }
     out[at] = tag;
     store_length(out, at + 1, n);
-    Put::Done(end)
+    Put::Done(at + size.0)
 }
 
 fn store_length(out: &mut [u8], at: usize, n: Octets)
@@ -192,11 +187,11 @@ pub fn put_number(out: &mut [u8], at: usize, width: Octets, n: u32) -> Put
     if !fits_width(width, n) {
         return Put::Invalid;
     }
-    let End::Within(end) = end_of(Octets(out.len()), at, width) else {
+    if !has_room(Octets(out.len()), at, width) {
         return Put::NoRoom;
-    };
+    }
     store_number(out, at, width, n);
-    Put::Done(end)
+    Put::Done(at + width.0)
 }
 
 fn fits_width(width: Octets, n: u32) -> bool
@@ -235,11 +230,12 @@ fn digit(n: u32, place: usize) -> u8
 pub fn copy_into(out: &mut [u8], at: usize, s: &[u8]) -> Put
     ensures { λ r. ⌜ Puts true (now (s .entry)) at (now (out .entry)) (now (out .exit)) r ⌝ }
 {
-    let End::Within(end) = end_of(Octets(out.len()), at, Octets(s.len())) else {
+    let size = Octets(s.len());
+    if !has_room(Octets(out.len()), at, size) {
         return Put::NoRoom;
-    };
+    }
     copy(out, at, s);
-    Put::Done(end)
+    Put::Done(at + size.0)
 }
 
 fn copy(out: &mut [u8], at: usize, s: &[u8])
@@ -253,15 +249,13 @@ fn copy(out: &mut [u8], at: usize, s: &[u8])
     }
 }
 
-// Where so many octets put at a place end, if that is within the room. No sum is made before it is known to fit.
-fn end_of(room: Octets, at: usize, size: Octets) -> End
-    ensures { λ r. ⌜ r ≡ endOf (room .0) at (size .0) ⌝ }
+// Whether so many octets, put at a place, lie within the room. No sum is made before it is known to fit. Calls that put octets, here and above, ask this before
+// they write.
+pub fn has_room(room: Octets, at: usize, size: Octets) -> bool
+    ensures { λ r. ⌜ r ≡ leb (at + size .0) (room .0) ⌝ }
 {
     if at > room.0 {
-        return End::Outside;
+        return false;
     }
-    if size.0 > room.0 - at {
-        return End::Outside;
-    }
-    End::Within(at + size.0)
+    size.0 <= room.0 - at
 }
