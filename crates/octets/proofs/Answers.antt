@@ -11,7 +11,7 @@ use Rattle.octets.specs.Numbers.{digits, Octets}
 use Rattle.octets.specs.Header.{headerSize, bodySize, lengthField, framed}
 use Rattle.octets.specs.Calls.{headerOf}
 use Rattle.octets.specs.declared.Header.{Header}
-use Rattle.octets.proofs.Tests.{never}
+use Rattle.octets.proofs.Tests.{chosen, not-chosen, never}
 use Rattle.octets.proofs.Numbers.{length-digits, octets-none, octets-cons, octets-append, octets-digits}
 
 -- ---- read_header
@@ -23,19 +23,13 @@ pub record HeaderFound (part : List ℕ) (start size : ℕ) : Type 0 where
 module _ (part : List ℕ) where
   pub header-found : (r : Header) → r ≡ headerOf part → (start size : ℕ) → r ≡ Header.Found start size → HeaderFound part start size
   unfolding headerOf
-  header-found r e start size q = go (leb (headerSize part) (length part)) refl (sym q ∙ e)
-    where
-      go : (b : Bool) → leb (headerSize part) (length part) ≡ b → Header.Found start size ≡ cond b (Header.Found (headerSize part) (bodySize part)) Header.Past → HeaderFound part start size
-      go true f p = record { header = cc; body = cc; inside = leb-true (headerSize part) (length part) f }
-      go false f p = never (cc)
+  header-found r e start size q =
+      let w = chosen (leb (headerSize part) (length part)) (sym q ∙ e) (λ z. never (cc)) in
+      record { header = cc (w .1); body = cc (w .1); inside = leb-true (headerSize part) (length part) (w .0) }
 
   pub header-past : (r : Header) → r ≡ headerOf part → r ≡ Header.Past → length part < headerSize part
   unfolding headerOf
-  header-past r e q = go (leb (headerSize part) (length part)) refl (sym q ∙ e)
-    where
-      go : (b : Bool) → leb (headerSize part) (length part) ≡ b → Header.Past ≡ cond b (Header.Found (headerSize part) (bodySize part)) Header.Past → length part < headerSize part
-      go true f p = never (cc)
-      go false f p = leb-false (headerSize part) (length part) f
+  header-past r e q = leb-false (headerSize part) (length part) (not-chosen (leb (headerSize part) (length part)) (sym q ∙ e) (λ z. never (cc)) .0)
 
 -- ---- header_size
 pub size-five : (n : ℕ) → suc (length (lengthField n)) ≤ 5

@@ -3,6 +3,7 @@ pub mod Lists
 pub mod Numbers
 pub mod Reading
 pub mod Puts
+pub mod Left
 pub mod Writing
 pub mod Answers
 pub mod Frames

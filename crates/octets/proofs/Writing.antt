@@ -3,7 +3,7 @@ use mathlib.Core.Path.{_≡_, refl, sym, ap, _∙_}
 use mathlib.Core.Bool.{Bool, true, false}
 use mathlib.Core.List.{List, [], _∷_, _++_}
 use Prim.Native.Nat.{ℕ, zero, suc, _+_, _-_, _*_, _/_, _%_, _^_, _≤_, _<_}
-use native.Mathlib.Nat.{mod-eq-of-lt, div-eq-of-lt, div-lt-iff-lt-mul}
+use native.Mathlib.Nat.{add-zero, add-assoc, mod-eq-of-lt, div-eq-of-lt, div-lt-iff-lt-mul}
 use native.Mathlib.Numerals.{add-one}
 use native.Mathlib.Omega.{arith}
 use lib.Bits.{bitAnd, and-mask, mask-lt}
@@ -23,6 +23,7 @@ use Rattle.octets.specs.declared.LengthForm.the-variants.{One, Two, Thre
 use Rattle.octets.proofs.Tests.{and-left, and-right}
 use Rattle.octets.proofs.Lists.{drop-next}
 use Rattle.octets.proofs.Numbers.{pow-pos, pow-octets, length-digits, digits-more}
+use Rattle.octets.proofs.Left.{Left, left-begin, left-one}
 use Rattle.octets.proofs.Puts.{puts-invalid, asked-room, asked-ways}
 
 -- ---- forms of a length
@@ -73,79 +74,60 @@ pub ruleset digit-ways = (digit-fits, digit-is)
 -- ---- a number stored from its first octet on: what is left are the digits of its low octets
 pub record Storing (out₀ : List ℕ) (at width n : ℕ) (out : List ℕ) (to left : ℕ) : Type 0 where
   pub few : left ≤ 4
-  pub places : to + left ≡ at + width
-  pub room : at + width ≤ length out₀
-  pub long : length out ≡ length out₀
-  pub same : sets out to (digits left (n % 256 ^ left)) ≡ sets out₀ at (digits width n)
+  pub rest : Left (digits width n) at out₀ (digits left (n % 256 ^ left)) out to
 
 module _ (out₀ : List ℕ) (at width n : ℕ) where
   pub store-begin : width ≤ 4 → n < 256 ^ width → at + width ≤ length out₀ → Storing out₀ at width n out₀ at width
-  store-begin h g r = record { few = h; places = refl; room = r; long = refl; same = ap (λ m. sets out₀ at (digits width m)) (mod-eq-of-lt g) }
+  store-begin h g r = record { few = h; rest = rw (mod-eq-of-lt g) (left-begin (digits width n) at out₀ (rw length-digits r)) }
 
   pub store-done : (out : List ℕ) (to left : ℕ) → Storing out₀ at width n out to left → left ≤ 0 → out ≡ sets out₀ at (digits width n)
   unfolding digits
-  store-done out to zero v h = v .same
+  store-done out to zero v h = v .rest .same
   store-done out to (suc left) v h = absurd (omega arith)
 
-  step : (out : List ℕ) (to left b : ℕ) → Storing out₀ at width n out to (suc left) → b ≡ n / 256 ^ left % 256 → Storing out₀ at width n (set out to b) (to + 1) left
-  step out to left b v e =
-      record {
-        few = omega (arith, v .few);
-        places = omega (arith, v .places);
-        room = v .room;
-        long = length-set out to b ∙ v .long;
-        same = ap (λ m. sets (set out to b) m (digits left (n % 256 ^ left))) (add-one to) ∙ ap (λ m. sets out to (m ∷ digits left (n % 256 ^ left))) e ∙ ap (sets out to) (sym (digits-more left n)) ∙ v .same;
-      }
-
-  pub store-again : (out : List ℕ) (to left b : ℕ) → Storing out₀ at width n out to left → 0 < left → b ≡ n / 256 ^ (left - 1) % 256 → Storing out₀ at width n (set out to b) (to + 1) (left - 1)
-  store-again out to zero b v h e = absurd (omega arith)
-  store-again out to (suc left) b v h e =
-      let p : suc left - 1 ≡ left = omega arith in
-      rw p (step out to left b v (e ∙ ap (λ m. n / 256 ^ m % 256) p))
-
   module _ (out : List ℕ) (to left : ℕ) (v : Storing out₀ at width n out to left) (h : 0 < left) where
+    next : Left (digits width n) at out₀ (n / 256 ^ (left - 1) % 256 ∷ digits (left - 1) (n % 256 ^ (left - 1))) out to
+    next = let p : left ≡ suc (left - 1) = omega arith in rw (p, digits-more (left - 1) n) at (v .rest)
+
     pub store-place : left - 1 < 4
     store-place = omega (arith, v .few)
 
     pub store-in : to < length out
-    store-in = omega (arith, v .places, v .room, v .long)
+    store-in = omega (arith, next .room)
 
     pub store-fits : length out₀ < 2 ^ 64 → Fits w64 (to + 1)
-    store-fits l = record { fits = omega (arith, v .places, v .room) }
+    store-fits l = record { fits = omega (arith, next .room, next .long) }
+
+    pub store-again : (b : ℕ) → b ≡ n / 256 ^ (left - 1) % 256 → Storing out₀ at width n (set out to b) (to + 1) (left - 1)
+    store-again b e = record { few = omega (arith, v .few); rest = rw e (left-one (digits width n) at out₀ (n / 256 ^ (left - 1) % 256) (digits (left - 1) (n % 256 ^ (left - 1))) out to next) }
 
 pub ruleset store-ways = (store-begin, store-done, store-again, store-place, store-in, store-fits)
 
 -- ---- a copy
 pub record Copying (out₀ : List ℕ) (at : ℕ) (s out : List ℕ) (i : ℕ) : Type 0 where
   pub within : i ≤ length s
-  pub room : at + length s ≤ length out₀
-  pub long : length out ≡ length out₀
-  pub same : sets out (at + i) (drop i s) ≡ sets out₀ at s
+  pub rest : Left s at out₀ (drop i s) out (at + i)
 
 module _ (out₀ : List ℕ) (at : ℕ) (s : List ℕ) where
   pub copy-begin : at + length s ≤ length out₀ → Copying out₀ at s out₀ 0
-  copy-begin h = record { within = omega arith; room = h; long = refl; same = ap (λ m. sets out₀ m s) (omega arith) }
+  copy-begin h = record { within = omega arith; rest = rw add-zero (left-begin s at out₀ h) }
 
   module _ (out : List ℕ) (i : ℕ) (v : Copying out₀ at s out i) where
     pub copy-done : length s ≤ i → out ≡ sets out₀ at s
-    copy-done h = ap (λ o. sets out (at + i) o) (sym (drop-of-length-le s h)) ∙ v .same
+    copy-done h = (rw (drop-of-length-le s h) at (v .rest)) .same
 
     module _ (h : i < length s) where
+      to-copy : Left s at out₀ (getD s i 0 ∷ drop (i + 1) s) out (at + i)
+      to-copy = rw (drop-next s i 0 h) at (v .rest)
+
       pub copy-in : at + i < length out
-      copy-in = omega (arith, v .room, v .long)
+      copy-in = omega (arith, to-copy .room)
 
       pub copy-fits : length out₀ < 2 ^ 64 → Fits w64 (at + i)
-      copy-fits l = record { fits = omega (arith, v .room) }
+      copy-fits l = record { fits = omega (arith, to-copy .room, to-copy .long) }
 
       pub copy-again : Copying out₀ at s (set out (at + i) (getD s i 0)) (i + 1)
-      copy-again =
-          let e : at + (i + 1) ≡ suc (at + i) = omega arith in
-          record {
-            within = omega arith;
-            room = v .room;
-            long = length-set out (at + i) (getD s i 0) ∙ v .long;
-            same = ap (λ m. sets (set out (at + i) (getD s i 0)) m (drop (i + 1) s)) e ∙ ap (λ o. sets out (at + i) o) (sym (drop-next s i 0 h)) ∙ v .same;
-          }
+      copy-again = record { within = omega arith; rest = rw (← add-assoc) (left-one s at out₀ (getD s i 0) (drop (i + 1) s) out (at + i) to-copy) }
 
 pub ruleset copy-ways = (copy-begin, copy-done, copy-in, copy-fits, copy-again)
 

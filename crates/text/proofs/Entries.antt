@@ -280,9 +280,6 @@ module _ (s : List ℕ) (mask : ℕ) (p : Piece) (e : p ≡ ahead (entries s)) w
       good-tag q seen m h = part .fills seen ∙ rw (sym k ∙ q)
 
       module _ (q : r ≡ true) where
-        pub good-bit : t < 32
-        good-bit = omega (arith, token-facts t (sym k ∙ q) .1)
-
         seen-is : (seen : List ℕ) → mask ≡ maskOf seen → among t seen ≡ eqb (bitAnd (mask / 2 ^ t) 1) 1
         seen-is seen m = sym (ap (λ (x : ℕ). eqb (bitAnd (x / 2 ^ t) 1) 1) m ∙ mask-test t seen)
 
@@ -303,7 +300,7 @@ module _ (s : List ℕ) (mask : ℕ) (p : Piece) (e : p ≡ ahead (entries s)) w
 
           pub good-yes : v ≡ true → (seen : List ℕ) → mask ≡ maskOf seen → Rated seen s (Entry t n)
           unfolding Rated
-          good-yes z seen m = record { room = part .room; small = omega (arith, good-bit); same = step-is seen m ∙ rw z }
+          good-yes z seen m = record { room = part .room; small = omega (arith, token-facts t (sym k ∙ q) .1); same = step-is seen m ∙ rw z }
 
 pub ruleset good-ways = (good-past, good-tag, good-twice, good-text, good-yes)
 

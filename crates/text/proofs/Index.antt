@@ -26,7 +26,7 @@ use Rattle.text.specs.declared.expanding.Found.{Found}
 use Rattle.text.specs.declared.expanding.Found.the-variants.{At, Nothing}
 use Rattle.text.specs.declared.tables.Piece.{Piece}
 use Rattle.text.specs.declared.tables.Piece.the-variants.{Past, Entry}
-use Rattle.text.proofs.Sequences.{token-facts}
+use Rattle.text.proofs.Sequences.{token-facts, token-bit}
 use Rattle.text.proofs.Entries.{named, inside, no-more, room, next-names, text-length, next-fits, next-fits-2}
 
 -- ---- `note`
@@ -36,9 +36,6 @@ module _ (index : List ℕ) (t start : ℕ) (r : Bool) (k : r ≡ token t) where
   note-plain q = rw (sym k ∙ q)
 
   module _ (q : r ≡ true) where
-    pub note-inside : t < 32
-    note-inside = omega (arith, token-facts t (sym k ∙ q) .1)
-
     tested : (b : Bool) → eqb (getD index t 0) 0 ≡ b → noted index t start ≡ cond b (set index t start) index
     unfolding noted
     tested b e = rw (sym k ∙ q, e)
@@ -49,7 +46,7 @@ module _ (index : List ℕ) (t start : ℕ) (r : Bool) (k : r ≡ token t) where
     pub note-new : getD index t 0 ≤ 0 → set index t start ≡ noted index t start
     note-new g = sym (tested true (eq-eqb (getD index t 0) 0 (omega arith)))
 
-pub ruleset note-ways = (note-plain, note-inside, note-met, note-new)
+pub ruleset note-ways = (note-plain, token-bit, note-met, note-new)
 
 -- ---- the loop of `index_of`
 max-three : (a b c : ℕ) → max (max a b) c ≡ max a (max b c)
@@ -361,9 +358,6 @@ module _ (index table : List ℕ) (b : ℕ) (t : Bool) (k : t ≡ token b) where
   by-plain n = rw (sym k ∙ n)
 
   module _ (y : t ≡ true) where
-    pub by-inside : b < 32
-    by-inside = omega (arith, token-facts b (sym k ∙ y) .1)
-
     abbrev lies : ℕ
     lies = getD index b 0
 
@@ -405,7 +399,7 @@ module _ (index table : List ℕ) (b : ℕ) (t : Bool) (k : t ≡ token b) where
               let is : usable index table lies long ≡ true = so-far ∙ rw (le-leb long (length table - lies) d, le-leb long (getD index 0 0) c) in
               sym (by-start ∙ rw is)
 
-pub ruleset by-ways = (by-plain, by-inside, by-none, by-past, by-long, by-wide, by-found)
+pub ruleset by-ways = (by-plain, token-bit, by-none, by-past, by-long, by-wide, by-found)
 
 -- ---- `width_at`, `widest_by` and `fits`: so many octets stand for an octet at most
 pub width-self : (index table : List ℕ) (b : ℕ) (f : Found) → f ≡ placeBy index table b → f ≡ Nothing → 1 ≡ length (stands (entriesBy index table) b)

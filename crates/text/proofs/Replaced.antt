@@ -1,11 +1,11 @@
 -- Texts with their tokens replaced: what the definitions are on each way through src/expanding.rt.
 use Prim.Native.Nat.{ℕ, _+_, _-_, _≤_, _<_, _^_, min}
-use mathlib.Core.Path.{_≡_, refl, sym, ap, ap₂, subst, _∙_}
+use mathlib.Core.Path.{_≡_, refl, sym, ap, subst, _∙_}
 use mathlib.Core.List.{List, [], _∷_, _++_}
 use mathlib.Core.Bool.{Bool, true, false, _&&_, _||_, cond, false≢true, or-true}
 use mathlib.Core.Option.{some}
-use lib.ListN.{length, getD, take, drop, set, length-append, length-set, drop-of-length-le}
-use lib.Seq.{sets, length-sets}
+use lib.ListN.{length, getD, take, drop, set, length-append, drop-of-length-le}
+use lib.Seq.{sets}
 use lib.Dec.{eqb, leb}
 use lib.Bits.{bitOr, bitAnd}
 use native.Mathlib.Nat.{min-eq-left, min-eq-right}
@@ -28,11 +28,12 @@ use Rattle.text.specs.Index.{placeBy, entriesBy}
 use Rattle.text.specs.Runs.{UntokenedTo}
 use Rattle.text.specs.declared.expanding.Found.{Found}
 use Rattle.text.specs.declared.expanding.Found.the-variants.{At, Nothing}
-use Rattle.octets.proofs.Lists.{drop-next, sets-append}
+use Rattle.octets.proofs.Lists.{drop-next}
+use Rattle.octets.proofs.Left.{Left, left-begin, left-end, left-room, left-more}
 use Rattle.text.proofs.Masks.{bit-none, kept-within, within-kept, Marking, mark-begin, mark-done, mark-more}
 use Rattle.text.proofs.Index.{self-by, part-by, inside-by, width-by}
-use Rattle.text.proofs.Widths.{width-none, width-next, width-eight}
-use Rattle.text.proofs.RunLaws.{run-length, expanded-run, expanded-length-run, weight-run}
+use Rattle.text.proofs.Widths.{width-next, width-eight}
+use Rattle.text.proofs.RunLaws.{run-length, expanded-run, weight-run}
 
 -- ---- the loop of `tokens_in`
 pub record Gathering (s : List ℕ) (mask at : ℕ) : Type 0 where
@@ -120,38 +121,51 @@ module _ (es : Entries) (s : List ℕ) (used : ℕ) (m : Marks used s) where
 
 pub ruleset covered-ways = (covered-none, covered-some)
 
--- ---- the loops of `size_singly` and `size_from`: what is added up so far, and the width of what is left of the text
-pub record Sizing (w s : List ℕ) (whole most total at : ℕ) : Type 0 where
+-- ---- sums that stop: what is added up so far, and the measure of what is left of the text
+pub record Adding (rest : List ℕ → ℕ) (s : List ℕ) (whole most total at : ℕ) : Type 0 where
   pub within : at ≤ length s
   pub short : total ≤ most
-  pub same : total + weight w (drop at s) ≡ whole
+  pub same : total + rest (drop at s) ≡ whole
 
+module _ (rest : List ℕ → ℕ) (s : List ℕ) (whole most total at : ℕ) (inv : Adding rest s whole most total at) where
+  add-done : rest [] ≡ 0 → length s ≤ at → total ≡ min most whole
+  add-done e h =
+      let all : total ≡ whole = omega (arith, inv .same, ap rest (drop-of-length-le s h) ∙ e) in
+      sym (min-eq-right (omega (arith, inv .short)) ∙ sym all)
+
+  module _ (size n : ℕ) (e : rest (drop at s) ≡ size + rest (drop (at + n) s)) where
+    add-stop : most - total ≤ size → most ≡ min most whole
+    add-stop g = sym (min-eq-left (omega (arith, inv .short, inv .same)))
+
+    add-again : at + n ≤ length s → size < most - total → Adding rest s whole most (total + size) (at + n)
+    add-again h g = record { within = h; short = omega arith; same = omega (arith, inv .same) }
+
+-- ---- the loops of `size_singly` and `size_from`: the width of what is left
 module _ (w s : List ℕ) (most : ℕ) where
-  pub size-begin : (before from : ℕ) → from ≤ length s → before ≤ most → Sizing w s (before + weight w (drop from s)) most before from
+  pub size-begin : (before from : ℕ) → from ≤ length s → before ≤ most → Adding (weight w) s (before + weight w (drop from s)) most before from
   size-begin before from h g = record { within = h; short = g; same = refl }
 
-  module _ (whole total at : ℕ) (inv : Sizing w s whole most total at) where
+  module _ (whole total at : ℕ) (inv : Adding (weight w) s whole most total at) where
     pub size-done : length s ≤ at → total ≡ min most whole
-    size-done h =
-        let all : total ≡ whole = omega (arith, inv .same, width-none w s at h) in
-        sym (min-eq-right (omega (arith, inv .short)) ∙ sym all)
+    unfolding weight
+    size-done h = add-done (weight w) s whole most total at inv refl h
 
     pub size-rest : (r : ℕ) → r ≡ min most (total + weight w (drop at s)) → r ≡ min most whole
     size-rest r e = e ∙ ap (min most) (inv .same)
 
     module _ (h : at < length s) (size : ℕ) (e : size ≡ widthAt w (getD s at 0)) where
       pub size-stop : most - total ≤ size → most ≡ min most whole
-      size-stop g = sym (min-eq-left (omega (arith, inv .short, inv .same, width-next w s at h size e)))
+      size-stop = add-stop (weight w) s whole most total at inv size 1 (width-next w s at h size e)
 
-      pub size-again : size < most - total → Sizing w s whole most (total + size) (at + 1)
-      size-again g = record { within = omega arith; short = omega arith; same = omega (arith, inv .same, width-next w s at h size e) }
+      pub size-again : size < most - total → Adding (weight w) s whole most (total + size) (at + 1)
+      size-again = add-again (weight w) s whole most total at inv size 1 (width-next w s at h size e) (omega arith)
 
     module _ (h : 8 ≤ length s - at) (size : ℕ) (e : size ≡ weight w (take 8 (take (length s - at) (drop at s)))) where
       pub size-eight-stop : most - total ≤ size → most ≡ min most whole
-      size-eight-stop g = sym (min-eq-left (omega (arith, inv .short, inv .same, width-eight w s at size e)))
+      size-eight-stop = add-stop (weight w) s whole most total at inv size 8 (width-eight w s at size e)
 
-      pub size-eight-again : size < most - total → Sizing w s whole most (total + size) (at + 8)
-      size-eight-again g = record { within = omega arith; short = omega arith; same = omega (arith, inv .same, width-eight w s at size e) }
+      pub size-eight-again : size < most - total → Adding (weight w) s whole most (total + size) (at + 8)
+      size-eight-again = add-again (weight w) s whole most total at inv size 8 (width-eight w s at size e) (omega arith)
 
 pub ruleset size-ways = (size-begin, size-done, size-stop, size-again)
 
@@ -180,39 +194,6 @@ module _ (w s : List ℕ) (most : Octets) where
     sized-from r e = ap asOctets (e ∙ ap (min (most .0)) (omega (arith, weight-run w s 0 from run)))
 
 pub ruleset sized-ways = (sized-none, sized-past, sized-end, sized-from)
-
--- ---- `copy`
-pub record Copying (part out₀ : List ℕ) (at : ℕ) (out : List ℕ) (i : ℕ) : Type 0 where
-  pub within : i ≤ length part
-  pub room : at + length part ≤ length out₀
-  pub long : length out ≡ length out₀
-  pub same : sets out (at + i) (drop i part) ≡ sets out₀ at part
-
-module _ (part out₀ : List ℕ) (at : ℕ) where
-  pub copy-begin : at + length part ≤ length out₀ → Copying part out₀ at out₀ 0
-  copy-begin h = record { within = omega arith; room = h; long = refl; same = ap (λ (n : ℕ). sets out₀ n part) (omega arith) }
-
-  module _ (out : List ℕ) (i : ℕ) (inv : Copying part out₀ at out i) where
-    pub copy-done : length part ≤ i → out ≡ sets out₀ at part
-    copy-done h = ap (λ q. sets out (at + i) q) (sym (drop-of-length-le part h)) ∙ inv .same
-
-    module _ (h : i < length part) where
-      pub copy-in : at + i < length out
-      copy-in = omega (arith, inv .room, inv .long)
-
-      pub copy-fits : length out₀ < 2 ^ 63 → Fits w64 (at + i)
-      copy-fits g = record { fits = omega (arith, inv .room) }
-
-      pub copy-again : Copying part out₀ at (set out (at + i) (getD part i 0)) (i + 1)
-      copy-again =
-          record {
-            within = omega arith;
-            room = inv .room;
-            long = length-set out (at + i) (getD part i 0) ∙ inv .long;
-            same = ap (λ (n : ℕ). sets (set out (at + i) (getD part i 0)) n (drop (i + 1) part)) (omega arith) ∙ ap (λ q. sets out (at + i) q) (sym (drop-next part i 0 h)) ∙ inv .same;
-          }
-
-pub ruleset copy-ways = (copy-begin, copy-done, copy-in, copy-fits, copy-again)
 
 -- ---- `write_one`
 module _ (index table : List ℕ) (b : ℕ) (out : List ℕ) (at : ℕ) (h : at + length (stands (entriesBy index table) b) ≤ length out)
@@ -247,47 +228,43 @@ pub ruleset one-ways = (self-room, self-end, self-out, inside-by, part-room, par
 -- ---- the loop of `write_all`
 pub record Writing (es : Entries) (s out₀ : List ℕ) (at : ℕ) (out : List ℕ) (to i : ℕ) : Type 0 where
   pub within : i ≤ length s
-  pub room : at + length (expanded es s) ≤ length out₀
-  pub ends : to + length (expanded es (drop i s)) ≡ at + length (expanded es s)
-  pub long : length out ≡ length out₀
-  pub same : sets out to (expanded es (drop i s)) ≡ sets out₀ at (expanded es s)
+  pub rest : Left (expanded es s) at out₀ (expanded es (drop i s)) out to
 
 module _ (es : Entries) (s out₀ : List ℕ) (at : ℕ) where
   pub write-begin : at + length (expanded es s) ≤ length out₀ → Writing es s out₀ at out₀ at 0
-  write-begin h = record { within = omega arith; room = h; ends = refl; long = refl; same = refl }
+  write-begin h = record { within = omega arith; rest = left-begin (expanded es s) at out₀ h }
 
   module _ (out : List ℕ) (to i : ℕ) (inv : Writing es s out₀ at out to i) where
-    pub write-done : length s ≤ i → out ≡ sets out₀ at (expanded es s)
-    unfolding expanded
-    write-done h = ap (λ q. sets out to (expanded es q)) (sym (drop-of-length-le s h)) ∙ inv .same
+    pub write-long : length out ≡ length out₀
+    write-long = inv .rest .long
 
-    pub write-done-at : length s ≤ i → to ≡ at + length (expanded es s)
-    unfolding expanded
-    write-done-at h = omega (arith, inv .ends, ap (λ q. length (expanded es q)) (drop-of-length-le s h))
+    module _ (h : length s ≤ i) where
+      last : Left (expanded es s) at out₀ [] out to
+      unfolding expanded
+      last = rw (drop-of-length-le s h) at (inv .rest)
 
-    -- what comes first of the expansion that is still to be written is laid where it belongs
-    write-part : (part : List ℕ) (n : ℕ) → n ≤ length s → expanded es (drop i s) ≡ part ++ expanded es (drop n s)
-        → (to′ : ℕ) (out′ : List ℕ) → to′ ≡ to + length part → out′ ≡ sets out to part → Writing es s out₀ at out′ to′ n
-    write-part part n h split to′ out′ e f =
-        record {
-          within = h;
-          room = inv .room;
-          ends = omega (arith, inv .ends, ap length split ∙ length-append part (expanded es (drop n s)), e);
-          long = ap length f ∙ length-sets out to part ∙ inv .long;
-          same =
-              ap₂ (λ o (k : ℕ). sets o k (expanded es (drop n s))) f e
-              ∙ sets-append out to part (expanded es (drop n s)) ∙ ap (λ q. sets out to q) (sym split) ∙ inv .same;
-        }
+      pub write-done : out ≡ sets out₀ at (expanded es s)
+      write-done = last .same
+
+      pub write-done-at : to ≡ at + length (expanded es s)
+      write-done-at = left-end (expanded es s) at out₀ out to last
 
   module _ (out : List ℕ) (to i from : ℕ) (inv : Writing es s out₀ at out to i) (run : UntokenedTo s i from) where
+    to-copy : Left (expanded es s) at out₀ (take (from - i) (drop i s) ++ expanded es (drop from s)) out to
+    to-copy = rw (expanded-run es s i from run) at (inv .rest)
+
     pub copy-room : to + length (take (from - i) (drop i s)) ≤ length out
-    copy-room = omega (arith, inv .room, inv .ends, inv .long, expanded-length-run es s i from run, run-length 0x14 0xFF s i from run)
+    copy-room = left-room (expanded es s) at out₀ (take (from - i) (drop i s)) (expanded es (drop from s)) out to to-copy
 
     module _ (out′ : List ℕ) (f : out′ ≡ sets out to (take (from - i) (drop i s))) where
       write-behind : Writing es s out₀ at out′ (to + (from - i)) from
       write-behind =
-          write-part out to i inv (take (from - i) (drop i s)) from (run .inside) (expanded-run es s i from run) (to + (from - i)) out′
-          (omega (arith, run-length 0x14 0xFF s i from run)) f
+          record {
+            within = run .inside;
+            rest =
+                left-more (expanded es s) at out₀ (take (from - i) (drop i s)) (expanded es (drop from s)) out to to-copy out′ (to + (from - i)) f
+                (omega (arith, run-length 0x14 0xFF s i from run));
+          }
 
       pub write-end : from ≡ length s → out′ ≡ sets out₀ at (expanded es s)
       write-end q = write-done out′ (to + (from - i)) from write-behind (omega arith)
@@ -296,54 +273,43 @@ module _ (es : Entries) (s out₀ : List ℕ) (at : ℕ) where
       write-end-at q = write-done-at out′ (to + (from - i)) from write-behind (omega arith)
 
       module _ (h : from ≡ length s → ⊥) where
-        split : expanded es (drop from s) ≡ stands es (getD s from 0) ++ expanded es (drop (from + 1) s)
+        to-write : Left (expanded es s) at out₀ (stands es (getD s from 0) ++ expanded es (drop (from + 1) s)) out′ (to + (from - i))
         unfolding expanded
-        split = ap (expanded es) (drop-next s from 0 (omega (arith, run .inside)))
+        to-write = let next : from < length s = omega (arith, run .inside) in rw (drop-next s from 0) at (write-behind .rest)
 
         pub write-room : to + (from - i) + length (stands es (getD s from 0)) ≤ length out′
-        write-room =
-            omega
-            (arith, write-behind .room, write-behind .ends, write-behind .long, ap length split ∙ length-append (stands es (getD s from 0)) (expanded es (drop (from + 1) s)))
+        write-room = left-room (expanded es s) at out₀ (stands es (getD s from 0)) (expanded es (drop (from + 1) s)) out′ (to + (from - i)) to-write
 
         pub write-again : (to′ : ℕ) (out″ : List ℕ) → to′ ≡ to + (from - i) + length (stands es (getD s from 0))
             → out″ ≡ sets out′ (to + (from - i)) (stands es (getD s from 0)) → Writing es s out₀ at out″ to′ (from + 1)
-        write-again =
-            write-part out′ (to + (from - i)) from write-behind (stands es (getD s from 0)) (from + 1) (omega (arith, run .inside)) split
+        write-again to′ out″ f g =
+            record {
+              within = omega (arith, run .inside);
+              rest = left-more (expanded es s) at out₀ (stands es (getD s from 0)) (expanded es (drop (from + 1) s)) out′ (to + (from - i)) to-write out″ to′ g f;
+            }
 
-pub ruleset write-ways = (write-begin, write-done, write-done-at, copy-room, write-end, write-end-at, write-room, write-again)
+pub ruleset write-ways = (write-begin, write-long, write-done, write-done-at, copy-room, write-end, write-end-at, write-room, write-again)
 
--- ---- the loop of `size_by`: what is added up so far, and the expansion of what is left of the text
-pub record Adding (es : Entries) (s : List ℕ) (most total at : ℕ) : Type 0 where
-  pub within : at ≤ length s
-  pub short : total ≤ most
-  pub same : total + expandedSize es (drop at s) .0 ≡ expandedSize es s .0
+-- ---- the loop of `size_by`: how long the expansion of what is left is
+module _ (es : Entries) (s : List ℕ) (most total at : ℕ) (inv : Adding (λ q. expandedSize es q .0) s (expandedSize es s .0) most total at) where
+  pub by-done : length s ≤ at → total ≡ min most (expandedSize es s .0)
+  unfolding expandedSize expanded
+  by-done h = add-done (λ q. expandedSize es q .0) s (expandedSize es s .0) most total at inv refl h
 
-module _ (es : Entries) (s : List ℕ) (most : ℕ) where
-  pub add-begin : Adding es s most 0 0
-  add-begin = record { within = omega arith; short = omega arith; same = omega arith }
-
-  module _ (total at : ℕ) (inv : Adding es s most total at) where
-    pub add-done : length s ≤ at → total ≡ min most (expandedSize es s .0)
+  module _ (h : at < length s) (size : ℕ) (e : size ≡ length (stands es (getD s at 0))) where
+    next-size : expandedSize es (drop at s) .0 ≡ size + expandedSize es (drop (at + 1) s) .0
     unfolding expandedSize expanded
-    add-done h =
-        let none : expandedSize es (drop at s) .0 ≡ 0 = ap (λ q. expandedSize es q .0) (drop-of-length-le s h) in
-        let all : total ≡ expandedSize es s .0 = omega (arith, inv .same) in
-        sym (min-eq-right (omega (arith, inv .short)) ∙ sym all)
+    next-size =
+        ap (λ q. length (expanded es q)) (drop-next s at 0 h)
+        ∙ length-append (stands es (getD s at 0)) (expanded es (drop (at + 1) s)) ∙ rw (← e)
 
-    module _ (h : at < length s) (size : ℕ) (e : size ≡ length (stands es (getD s at 0))) where
-      next-size : expandedSize es (drop at s) .0 ≡ size + expandedSize es (drop (at + 1) s) .0
-      unfolding expandedSize expanded
-      next-size =
-          ap (λ q. length (expanded es q)) (drop-next s at 0 h)
-          ∙ length-append (stands es (getD s at 0)) (expanded es (drop (at + 1) s)) ∙ rw (← e)
+    pub by-stop : most - total ≤ size → most ≡ min most (expandedSize es s .0)
+    by-stop = add-stop (λ q. expandedSize es q .0) s (expandedSize es s .0) most total at inv size 1 next-size
 
-      pub add-stop : most - total ≤ size → most ≡ min most (expandedSize es s .0)
-      add-stop g = sym (min-eq-left (omega (arith, inv .short, inv .same, next-size)))
+    pub by-again : size < most - total → Adding (λ q. expandedSize es q .0) s (expandedSize es s .0) most (total + size) (at + 1)
+    by-again = add-again (λ q. expandedSize es q .0) s (expandedSize es s .0) most total at inv size 1 next-size (omega arith)
 
-      pub add-again : size < most - total → Adding es s most (total + size) (at + 1)
-      add-again g = record { within = omega arith; short = omega arith; same = omega (arith, inv .same, next-size) }
-
-pub ruleset add-ways = (add-begin, add-done, add-stop, add-again)
+pub ruleset by-ways = (by-done, by-stop, by-again)
 
 -- ---- `fits`
 pub fits-measured : (es : Entries) (s : List ℕ) (room n : ℕ) → n ≡ min (room + 1) (expandedSize es s .0) → leb n room ≡ leb (expandedSize es s .0) room

@@ -3,7 +3,7 @@ use Prim.Native.Nat.{ℕ, zero, suc, _+_, _-_, _/_, _≤_, _<_}
 use mathlib.Core.Path.{_≡_, refl, sym, ap, ap₂, subst, _∙_}
 use mathlib.Core.List.{List, [], _∷_, _++_}
 use mathlib.Core.Bool.{Bool, true, false, _&&_, and-assoc}
-use lib.ListN.{length, getD, take, drop, length-drop, length-append, drop-of-length-le, take-append-drop}
+use lib.ListN.{length, getD, take, drop, length-drop, drop-of-length-le, take-append-drop}
 use lib.Seq.{drop-drop}
 use lib.Dec.{leb}
 use native.Mathlib.Omega.{arith}
@@ -216,11 +216,6 @@ module _ (es : Entries) (s : List ℕ) (at end : ℕ) (run : UntokenedTo s at en
       ap (expanded es) (run-split 0x14 0xFF s at end run)
       ∙ expanded-append es (take (end - at) (drop at s)) (drop end s)
       ∙ ap (λ q. q ++ expanded es (drop end s)) (bare-expanded es (take (end - at) (drop at s)) bare)
-
-  pub expanded-length-run : length (expanded es (drop at s)) ≡ end - at + length (expanded es (drop end s))
-  expanded-length-run =
-      ap length expanded-run
-      ∙ length-append (take (end - at) (drop at s)) (expanded es (drop end s)) ∙ ap (λ (n : ℕ). n + length (expanded es (drop end s))) (run-length 0x14 0xFF s at end run)
 
 -- ---- the loop of `check`
 pub record Holds (t : Bool) (s : List ℕ) (at : ℕ) : Type 0 where

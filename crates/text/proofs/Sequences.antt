@@ -52,6 +52,10 @@ token-facts b e =
     let r = and-left (leb 1 b && leb b 0x13) (not (layout b)) e in
     (leb-true 1 b (and-left (leb 1 b) (leb b 0x13) r), leb-true b 0x13 (and-right (leb 1 b) (leb b 0x13) r), w .0, w .1, w .2)
 
+-- a token's bit or place is one of 32
+pub token-bit : (b : ℕ) (r : Bool) → r ≡ token b → r ≡ true → b < 32
+token-bit b r k q = omega (arith, token-facts b (sym k ∙ q) .1)
+
 pub token-no : (b : ℕ) → (1 ≤ b → b ≤ 0x13 → (b ≡ 0x09 → ⊥) → (b ≡ 0x0A → ⊥) → (b ≡ 0x0D → ⊥) → ⊥) → false ≡ token b
 token-no b f = go (token b) refl
   where

@@ -3,9 +3,9 @@
 use Prim.Native.Nat.{ℕ, zero, suc, _+_, _-_, _/_, _^_, _≤_, _<_, min}
 use mathlib.Core.Path.{_≡_, refl, sym, ap, ap₂, subst, _∙_}
 use mathlib.Core.List.{List, [], _∷_, _++_}
-use mathlib.Core.Bool.{Bool, true, false, cond, not, _&&_, _||_, false≢true, or-true, and-true as and-yes, and-assoc, or-not-self}
+use mathlib.Core.Bool.{Bool, true, false, not, _&&_, _||_, false≢true, or-true, and-true as and-yes, and-assoc, or-not-self}
 use lib.ListN.{length, getD, take, drop, length-drop, drop-of-length-le, take-append-drop}
-use lib.Seq.{drop-drop, getD-drop, ext-getD}
+use lib.Seq.{drop-drop, ext-getD}
 use lib.Dec.{eqb, leb}
 use lib.Bits.{bitAnd, bitOr, and-comm}
 use native.Mathlib.Nat.{add-zero, min-eq-left, min-eq-right, min-le-left}
@@ -16,8 +16,8 @@ use borrow.Author.Tests.{le-leb, lt-leb, leb-true, leb-false, eq-eqb, eqb-true}
 use Rattle.octets.specs.declared.counts.Characters.{Characters}
 use Rattle.octets.specs.Counts.{asCharacters}
 use Rattle.octets.specs.Numbers.{among}
-use Rattle.octets.proofs.Tests.{and-left, and-right, and-true, or-elim, or-left}
-use Rattle.octets.proofs.Lists.{part-to-end}
+use Rattle.octets.proofs.Tests.{and-left, and-right, and-true, or-elim, or-left, chosen, not-chosen, never}
+use Rattle.octets.proofs.Lists.{part-to-end, getD-here}
 use Rattle.text.specs.Text.{layout, token, single, text}
 use Rattle.text.specs.Tokens.{Entries, entry, present, covers, covered, shownLength}
 use Rattle.text.specs.Leaves.{tokenBit, allMarked, Steps}
@@ -150,23 +150,20 @@ module _ (s : List ℕ) (at from : ℕ) (run : PlainTo s at from) where
     some-left : 0 < length (drop from s)
     some-left = omega (arith, run-inside q, length-drop from s)
 
-    first : getD (drop from s) 0 0 ≡ getD s from 0
-    first = getD-drop from s 0 0 ∙ ap (λ (i : ℕ). getD s i 0) (add-zero from)
-
     module _ (h : getD s from 0 < 0x14) where
       low-first : getD (drop from s) 0 0 < 0x80
-      low-first = omega (arith, first)
+      low-first = omega (arith, getD-here s from 0)
 
       part-step : (n : ℕ) → Steps true (drop from s) n → Steps true (take (length s - from) (drop from s)) n
       part-step n step = subst (λ p. Steps true p n) (sym (part-to-end s from)) step
 
       pub low-step : (getD s from 0 ≡ 0 → ⊥) → Steps true (take (length s - from) (drop from s)) 1
       low-step z =
-          part-step 1 (one-yes true (drop from s) true some-left low-first (sym (ap (single true) first ∙ low-single (getD s from 0) z h)) refl)
+          part-step 1 (one-yes true (drop from s) true some-left low-first (sym (ap (single true) (getD-here s from 0) ∙ low-single (getD s from 0) z h)) refl)
 
       pub zero-step : getD s from 0 ≡ 0 → Steps true (take (length s - from) (drop from s)) 0
       unfolding single token layout among
-      zero-step e = part-step 0 (one-no true (drop from s) false some-left low-first (sym (ap (single true) (first ∙ e))) refl)
+      zero-step e = part-step 0 (one-no true (drop from s) false some-left low-first (sym (ap (single true) (getD-here s from 0 ∙ e))) refl)
 
 -- what is known with so many octets behind
 pub record Weighing (marks : ℕ) (w s : List ℕ) (most at used width : ℕ) : Type 0 where
@@ -244,13 +241,13 @@ module _ (marks : ℕ) (w s : List ℕ) (lim : Characters) where
                   passed .covering
                   ∙ ap (λ c. allMarked marks used && c)
                   (first-covers marks w (drop from s) n here (some-left s at from run q) z
-                  ∙ ap₂ (λ b r. marked marks b && coveredBy marks r) (first s at from run q) after)
+                  ∙ ap₂ (λ b r. marked marks b && coveredBy marks r) (getD-here s from 0) after)
                   ∙ sym (and-assoc (allMarked marks used) (marked marks (getD s from 0)) (coveredBy marks (drop (from + n) s)))
                   ∙ ap (λ c. c && coveredBy marks (drop (from + n) s)) (sym f);
               weighing =
                   let ahead : shownBy w (drop from s) ≡ more + left =
                   first-weighs marks w (drop from s) n here (some-left s at from run q) z
-                  ∙ ap₂ (λ b r. shownAt w b + shownBy w r) (first s at from run q) after ∙ ap (λ (x : ℕ). x + left) (sym d) in
+                  ∙ ap₂ (λ b r. shownAt w b + shownBy w r) (getD-here s from 0) after ∙ ap (λ (x : ℕ). x + left) (sym d) in
                   let sum : shown .0 + (from - at) + shownBy w (drop from s) ≡ shown .0 + (from - at + more) + left = omega arith in
                   passed .weighing ∙ min-again (lim .0) (shown .0 + (from - at)) (shownBy w (drop from s)) ∙ ap (min (lim .0)) sum
                   ∙ sym (min-again (lim .0) (shown .0 + (from - at + more)) left) ∙ ap (λ (x : ℕ). min (lim .0) (x + left)) (sym l);
@@ -261,7 +258,7 @@ module _ (marks : ℕ) (w s : List ℕ) (lim : Characters) where
         unfolding marked
         high-again h k l j =
             let begun : getD s from 0 / 64 ≡ 2 → ⊥ =
-            λ e. z (step-here s at from run n step .begun (ap (λ (b : ℕ). b / 64) (first s at from run q) ∙ e)) in
+            λ e. z (step-here s at from run n step .begun (ap (λ (b : ℕ). b / 64) (getD-here s from 0) ∙ e)) in
             let want : marked marks (getD s from 0) ≡ true = rw (high-octet (getD s from 0) (omega arith)) in
             weigh-again used (sym (ap (λ c. allMarked marks used && c) want ∙ and-yes (allMarked marks used))) 1 (shown-first w (getD s from 0) h begun) k l j
 
@@ -289,31 +286,22 @@ module _ (es : Entries) (marks : ℕ) (w : List ℕ) (m : Marks marks (tags es))
     (r : Weighed) (e : r ≡ weighedBy marks w s most) where
   pub weighed-none : r ≡ NoText → text true s ≡ false
   unfolding weighedBy
-  weighed-none q = go (text true s) (sym q ∙ e)
-    where
-      go : (b : Bool) → NoText ≡ cond b (Text (coveredBy marks s) (asCharacters (min (most .0) (shownBy w s)))) NoText → b ≡ false
-      go true h = let z : _≡_ {A = ℕ} 0 1 = cc in absurd (omega arith)
-      go false h = refl
+  weighed-none q = not-chosen (text true s) (sym q ∙ e) (λ z. never (cc)) .0
 
   module _ (c : Bool) (n : Characters) (q : r ≡ Text c n) where
-    pub weighed-text : text true s ≡ true
+    found : (text true s ≡ true) × (Text c n ≡ Text (coveredBy marks s) (asCharacters (min (most .0) (shownBy w s))))
     unfolding weighedBy
-    weighed-text = go (text true s) (sym q ∙ e)
-      where
-        go : (b : Bool) → Text c n ≡ cond b (Text (coveredBy marks s) (asCharacters (min (most .0) (shownBy w s)))) NoText → b ≡ true
-        go true h = refl
-        go false h = let z : _≡_ {A = ℕ} 0 1 = cc in absurd (omega arith)
+    found = chosen (text true s) (sym q ∙ e) (λ z. never (cc))
 
-    found : Text c n ≡ Text (coveredBy marks s) (asCharacters (min (most .0) (shownBy w s)))
-    unfolding weighedBy
-    found = sym q ∙ e ∙ rw weighed-text
+    pub weighed-text : text true s ≡ true
+    weighed-text = found .0
 
     pub weighed-covered : c ≡ covered es s
-    weighed-covered = let h = found in let z : c ≡ coveredBy marks s = cc in z ∙ covered-by-is es marks m s
+    weighed-covered = let h = found .1 in let z : c ≡ coveredBy marks s = cc in z ∙ covered-by-is es marks m s
 
     pub weighed-shown : n ≡ asCharacters (min (most .0) (shownLength es s .0))
     unfolding shownLength
-    weighed-shown = let h = found in let z : n ≡ asCharacters (min (most .0) (shownBy w s)) = cc in z ∙ ap (λ m. asCharacters (min (most .0) m)) (shown-is es w k s)
+    weighed-shown = let h = found .1 in let z : n ≡ asCharacters (min (most .0) (shownBy w s)) = cc in z ∙ ap (λ m. asCharacters (min (most .0) m)) (shown-is es w k s)
 
 -- ---- only one answer
 pub marks-one : (m k : ℕ) (octets : List ℕ) → Marks m octets → Marks k octets → m ≡ k

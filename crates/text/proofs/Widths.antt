@@ -38,9 +38,6 @@ module _ (seen t : ℕ) (r : Bool) (k : r ≡ token t) where
   place-plain q = rw (sym k ∙ q)
 
   module _ (q : r ≡ true) where
-    pub place-bit : t < 32
-    place-bit = omega (arith, token-facts t (sym k ∙ q) .1)
-
     pub place-seen : bitAnd (seen / 2 ^ t) 1 ≡ 1 → 31 ≡ placeOf seen t
     unfolding placeOf
     place-seen g = rw (sym k ∙ q, ← bit-test seen t, g)
@@ -97,19 +94,18 @@ module _ (w : List ℕ) (seen t n k : ℕ) (h : k < 31) where
   stays-other : eqb k t ≡ false → getD (set w (placeOf seen t) n) k 0 ≡ getD w k 0
   stays-other q = stays (rw q (and-false (token t && not (bit seen t))))
 
-  stays-met : bit seen k ≡ true → getD (set w (placeOf seen t) n) k 0 ≡ getD w k 0
-  stays-met p = go (eqb k t) refl
+  stays-unless : token k && not (bit seen k) ≡ false → getD (set w (placeOf seen t) n) k 0 ≡ getD w k 0
+  stays-unless p = go (eqb k t) refl
     where
       go : (e : Bool) → eqb k t ≡ e → getD (set w (placeOf seen t) n) k 0 ≡ getD w k 0
-      go true q = stays (let met : bit seen t ≡ true = ap (bit seen) (sym (eqb-true k t q)) ∙ p in rw (met, and-false (token t)))
+      go true q = stays (let none : token t && not (bit seen t) ≡ false = ap (λ j. token j && not (bit seen j)) (sym (eqb-true k t q)) ∙ p in rw none)
       go false q = stays-other q
 
+  stays-met : bit seen k ≡ true → getD (set w (placeOf seen t) n) k 0 ≡ getD w k 0
+  stays-met p = stays-unless (rw (p, and-false (token k)))
+
   stays-plain : token k ≡ false → getD (set w (placeOf seen t) n) k 0 ≡ getD w k 0
-  stays-plain p = go (eqb k t) refl
-    where
-      go : (e : Bool) → eqb k t ≡ e → getD (set w (placeOf seen t) n) k 0 ≡ getD w k 0
-      go true q = stays (let plain : token t ≡ false = ap token (sym (eqb-true k t q)) ∙ p in rw plain)
-      go false q = stays-other q
+  stays-plain p = stays-unless (rw p)
 
   own-place : token k ≡ true → bit seen k ≡ false → eqb k t ≡ true → placeOf seen t ≡ k
   unfolding placeOf

@@ -9,6 +9,7 @@ use Rattle.octets.specs.Counts.{asOctets, asCharacters}
 use Rattle.octets.specs.Numbers.{among}
 use Rattle.octets.specs.Puts.{putAnswer, putOut, Puts}
 use Rattle.octets.specs.declared.Put.the-variants.{Done, NoRoom}
+use Rattle.octets.proofs.Tests.{never}
 use Rattle.text.specs.Text.{layout, token, character, single, goesOn, utf8, text}
 use Rattle.text.specs.Tokens.{entries, cut, filled, isTable, entry, orItself, stands, expanded, present, covers, covered, starts}
 use Rattle.text.specs.Leaves.{replacedBy}
@@ -127,7 +128,7 @@ shownIn (Text c n) = n .0
 -- asked for
 pub weighed-overlong : Text true (asCharacters 1) ≡ weighedBy 0 [] (0xC0 ∷ 0x80 ∷ []) (asCharacters 9) → ⊥
 unfolding weighedBy text utf8 goesOn character
-weighed-overlong h = let z : _≡_ {A = ℕ} 0 1 = cc in omega arith
+weighed-overlong h = never (cc)
 
 pub weighed-unexpanded : Text true (asCharacters 2) ≡ weighedBy (2 ^ 0x01) (1 ∷ 3 ∷ []) (0x01 ∷ 0x44 ∷ []) (asCharacters 9) → ⊥
 unfolding weighedBy text utf8 single layout among token coveredBy marked shownBy shownAt
@@ -171,7 +172,7 @@ size-runs-on h = let z : _≡_ {A = ℕ} 4 3 = ap (λ n. n .0) h in omega arith
 -- that tells of no entry, one is taken from the table
 pub room-refused : (after : List ℕ) → Puts true (expanded (entriesBy abcIndex abc) (0x01 ∷ [])) 0 (0 ∷ 0 ∷ 0 ∷ []) after NoRoom → ⊥
 unfolding putAnswer expanded stands token layout among entry orItself entriesBy entriesBelow withPlace placeBy placeAt usable
-room-refused after h = let e = h .answers in let z : _≡_ {A = ℕ} 0 1 = cc in omega arith
+room-refused after h = let e = h .answers in never (cc)
 
 pub size-told : (after : List ℕ) → Puts true (expanded (entriesBy abcIndex abc) (0x01 ∷ [])) 1 (0 ∷ 0 ∷ 0 ∷ 0 ∷ []) after (Done 3) → ⊥
 unfolding putAnswer expanded stands token layout among entry orItself entriesBy entriesBelow withPlace placeBy placeAt usable

@@ -1,12 +1,12 @@
 use Prim.Native.Nat.{_-_}
 use lib.ListN.{length}
-use Rattle.text.proofs.Replaced.{Copying, copy-ways}
+use Rattle.octets.proofs.Writing.{Copying, copy-ways}
 use borrow.Author.Needs.{needs}
 use Rattle.text.proofs.expanding.copy.Statement.{statement}
 use Rattle.text.proofs.expanding.copy.Tie as tie
 
 abbrev Inv-loop : tie.InvT-loop
-Inv-loop part out₀ at i₀ out i = Copying part out₀ at out i
+Inv-loop part out₀ at i₀ out i = Copying out₀ at part out i
 
 abbrev μ-loop : tie.MeasureT-loop
 μ-loop part out₀ at i₀ out i = length part - i

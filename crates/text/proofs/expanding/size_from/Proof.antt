@@ -1,13 +1,13 @@
 use Prim.Native.Nat.{_+_, _-_}
 use lib.ListN.{length, drop}
 use Rattle.text.specs.Weighing.{weight}
-use Rattle.text.proofs.Replaced.{Sizing, size-eight-ways}
+use Rattle.text.proofs.Replaced.{Adding, size-eight-ways}
 use borrow.Author.Needs.{needs}
 use Rattle.text.proofs.expanding.size_from.Statement.{statement}
 use Rattle.text.proofs.expanding.size_from.Tie as tie
 
 abbrev Inv-loop : tie.InvT-loop
-Inv-loop widths s from most total₀ at₀ total at = Sizing widths s (from + weight widths (drop from s)) (most .0) total at
+Inv-loop widths s from most total₀ at₀ total at = Adding (weight widths) s (from + weight widths (drop from s)) (most .0) total at
 
 abbrev μ-loop : tie.MeasureT-loop
 μ-loop widths s from most total₀ at₀ total at = length s - at

@@ -1,6 +1,7 @@
 use borrow.Author.Needs.{needs}
 use borrow.Author.Tests.{not-true, not-false}
-use Rattle.text.proofs.Entries.{good-ways, good-room, good-fits, good-bit}
+use Rattle.text.proofs.Sequences.{token-bit}
+use Rattle.text.proofs.Entries.{good-ways, good-room, good-fits}
 use Rattle.text.proofs.tables.good_entry.Statement.{statement}
 use Rattle.text.proofs.tables.good_entry.Tie as tie
 
@@ -30,7 +31,7 @@ cast-if2 c =
 
 shr-if2 : tie.Need-shr-if2
 shr-if2 c =
-    search (good-bit, not-false, needs)
+    search (token-bit, not-false, needs)
 
 returns-2 : tie.Need-returns-2
 returns-2 c =

@@ -1,5 +1,6 @@
 use borrow.Author.Tests.{not-true, not-false}
-use Rattle.text.proofs.Widths.{place-bit, place-ways}
+use Rattle.text.proofs.Sequences.{token-bit}
+use Rattle.text.proofs.Widths.{place-ways}
 use borrow.Author.Needs.{needs}
 use Rattle.text.proofs.tables.place_of.Statement.{statement}
 use Rattle.text.proofs.tables.place_of.Tie as tie
@@ -13,7 +14,7 @@ returns c =
 
 shr-if2 : tie.Need-shr-if2
 shr-if2 c =
-    search (place-bit, not-false, needs)
+    search (token-bit, not-false, needs)
 
 returns-2 : tie.Need-returns-2
 returns-2 c =
