@@ -2,7 +2,7 @@
 use mathlib.Core.Path.{_≡_, refl, sym, ap, subst, _∙_}
 use mathlib.Core.Bool.{Bool, true, false}
 use mathlib.Core.List.{List, [], _∷_, _++_}
-use Prim.Native.Nat.{ℕ, zero, suc, _+_, _*_, _/_, _%_, _^_, _<_}
+use Prim.Native.Nat.{ℕ, zero, suc, _+_, _*_, _/_, _%_, _^_, _≤_, _<_}
 use native.Mathlib.Omega.{arith}
 use native.Mathlib.Nat.{div-add-mod', mod-lt, pow-suc, pow-succ', mul-assoc, add-mul, add-assoc, div-lt-iff-lt-mul}
 use lib.Arith.{digits-lt, digits-div, digits-mod, mod-mul}
@@ -12,6 +12,10 @@ use lib.Pow.{pow-add}
 use lib.Seq.{getD-drop, getD-take}
 use borrow.Author.Tests.{ltb-true, ltb-false}
 use Rattle.octets.specs.Numbers.{value, digits, Octets}
+
+-- a number that is none of those below, one after the other
+pub above : {k : ℕ} (n : ℕ) → k ≤ n → (n ≡ k → ⊥) → suc k ≤ n
+above n h e = omega arith
 
 pub pow-pos : (w : ℕ) → 0 < 256 ^ w
 pow-pos zero = omega arith

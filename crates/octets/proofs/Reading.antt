@@ -21,8 +21,12 @@ use Rattle.octets.specs.declared.Number.{Number}
 use Rattle.octets.proofs.Lists.{take-next}
 use Rattle.octets.proofs.Numbers.{value-append}
 
+-- a number of j bits above one of k bits, in 32
+pub joined : (j k x y : ℕ) → j + k ≤ 32 → x < 2 ^ j → y < 2 ^ k → bitOr (x * 2 ^ k % 2 ^ 32) y ≡ x * 2 ^ k + y
+joined j k x y l h g = ap (λ n. bitOr n y) (shl-exact j k 32 h l) ∙ or-shifted x k y g
+
 pub joined-is : (n b : ℕ) → n < 2 ^ 24 → b < 256 → bitOr (n * 2 ^ 8 % 2 ^ 32) b ≡ n * 256 + b
-joined-is n b h g = ap (λ (m : ℕ). bitOr m b) (shl-exact 24 8 32 h (omega arith)) ∙ or-shifted n 8 b g
+joined-is n b h g = joined 24 8 n b (omega arith) h g
 
 -- the number of the octets passed
 pub record Valued (s : List ℕ) (n i : ℕ) : Type 0 where

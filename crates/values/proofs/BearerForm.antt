@@ -13,6 +13,7 @@ use borrow.Author.Tests.{le-leb, lt-leb, leb-true, eq-eqb, ne-eqb}
 use Rattle.octets.specs.Counts.{asOctets, sizeOf}
 use Rattle.octets.specs.Numbers.{value, digits}
 use Rattle.octets.proofs.Tests.{and-left, and-right, and-true}
+use Rattle.octets.proofs.Lists.{sets-append}
 use Rattle.values.specs.declared.Ensemble.{Ensemble}
 use Rattle.values.specs.declared.Ensemble.the-variants.{Absent, Present}
 use Rattle.values.specs.declared.Bearer.{Bearer}
@@ -20,7 +21,6 @@ use Rattle.values.specs.declared.TakenBearer.the-variants.{Good, Bad}
 use Rattle.values.specs.Bearers.{ensembleFlag, longSidFlag, ensembleOf, bearerOf, isBearer, ensembleBit, ensembleOctets, bearerOctets}
 use Rattle.values.specs.Calls.{takenBearer, bearerInRange}
 use Rattle.values.specs.Proper.{BearerOk, SidOk}
-use Rattle.values.proofs.Shifts.{sets-append}
 use Rattle.values.proofs.Laws.{bearer-size}
 
 -- the fields fit their bits
@@ -160,7 +160,7 @@ module _ (b : Bearer) (out : List ℕ) (at : ℕ) (h : at + length (bearerOctets
       unfolding bearerOctets
       bearer-stored two f z =
           let D = digits (cond (b .long) 4 2) (b .sid) in
-          z ∙ ap₂ (λ l n. sets l n D) p q ∙ sets-append E D (set out at first) (at + 1)
+          z ∙ ap₂ (λ l n. sets l n D) p q ∙ sets-append (set out at first) (at + 1) E D
           ∙ ap₂ (λ n x. sets (set out at x) n (E ++ D)) (omega arith) f
 
 -- a bearer taken from octets

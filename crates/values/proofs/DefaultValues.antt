@@ -73,13 +73,17 @@ never-default p t (number w n) h = no-default p t n h
 never-default p t (time x) h = refl
 never-default p t (bearer b) h = refl
 
--- a value that is a default is enumerated
-pub default-value-kind : (p t : ℕ) (v : Value) → isDefault p t v ≡ true → known p t ≡ some (HoldsNumber Enumerated)
-default-value-kind p t v h = go (defaultIn p t 1 defaults) refl
+-- where not all is known to be no default, the kind is
+default-unless : (p t : ℕ) → (defaultIn p t 1 defaults ≡ false → ⊥) → known p t ≡ some (HoldsNumber Enumerated)
+default-unless p t n = go (defaultIn p t 1 defaults) refl
   where
     go : (b : Bool) → defaultIn p t 1 defaults ≡ b → known p t ≡ some (HoldsNumber Enumerated)
     go true e = default-kind p t e
-    go false e = absurd (false≢true (sym (never-default p t v e) ∙ h))
+    go false e = absurd (n e)
+
+-- a value that is a default is enumerated
+pub default-value-kind : (p t : ℕ) (v : Value) → isDefault p t v ≡ true → known p t ≡ some (HoldsNumber Enumerated)
+default-value-kind p t v h = default-unless p t (λ e. false≢true (sym (never-default p t v e) ∙ h))
 
 -- the default by octets is the default by meaning
 pub default-meant : (T : Entries) (p t : ℕ) (k : Kind) (o : List ℕ) → known p t ≡ some k → fits k o ≡ true → defaultOctets p t o ≡ isDefault p t (meant T k o)
@@ -96,11 +100,8 @@ default-meant T p t k o e f = go (defaultIn p t 1 defaults) refl
 -- octets that are a default are a number of one octet
 pub default-enumerated : (p t : ℕ) (o : List ℕ) → defaultOctets p t o ≡ true → known p t ≡ some (HoldsNumber Enumerated)
 unfolding defaultOctets
-default-enumerated p t o h = go (defaultIn p t 1 defaults) refl
-  where
-    go : (b : Bool) → defaultIn p t 1 defaults ≡ b → known p t ≡ some (HoldsNumber Enumerated)
-    go true e = default-kind p t e
-    go false e = absurd (false≢true (sym (no-default p t (getD o 0 0) e) ∙ and-right (eqb (length o) 1) (defaultIn p t (getD o 0 0) defaults) h))
+default-enumerated p t o h =
+    default-unless p t (λ e. false≢true (sym (no-default p t (getD o 0 0) e) ∙ and-right (eqb (length o) 1) (defaultIn p t (getD o 0 0) defaults) h))
 
 pub default-fits : (p t : ℕ) (o : List ℕ) → defaultOctets p t o ≡ true → fits (HoldsNumber Enumerated) o ≡ true
 unfolding defaultOctets fits width

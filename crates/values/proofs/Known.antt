@@ -6,11 +6,11 @@ use mathlib.Core.List.{List, [], _∷_}
 use Prim.Native.Nat.{ℕ, _≤_}
 use native.Mathlib.Omega.{arith}
 use lib.Dec.{eqb, ltb}
-use borrow.Author.Tests.{eqb-true, ne-eqb, ltb-true, lt-ltb}
+use borrow.Author.Tests.{eqb-true, ne-eqb, ltb-true, lt-ltb, not-true}
 use Rattle.values.specs.declared.Kind.{Kind}
 use Rattle.values.specs.declared.Kind.the-variants.{HoldsItems, HoldsTokens, HoldsText, HoldsPlain, HoldsTime, HoldsBearer, HoldsNumber}
 use Rattle.values.specs.Table.{rows, kindIn, known, attribute}
-use Rattle.octets.proofs.Tests.{and-left, and-right}
+use Rattle.octets.proofs.Tests.{and-left, and-right, or-elim, never}
 use Rattle.values.proofs.Values.{valueKind}
 
 abbrev pub every : (ℕ → ℕ → Kind → Bool) → List (ℕ × ℕ × Kind) → Bool
@@ -53,11 +53,7 @@ element-kind tag k h = under-zero elementRow tag k refl h
 
 pub no-attribute : (tag : ℕ) (k : Kind) → known 0 tag ≡ some k → attribute tag ≡ false
 unfolding rows attribute
-no-attribute tag k h = go (ltb 0x7F tag) (under-zero (λ t l. not (ltb 0x7F t)) tag k refl h)
-  where
-    go : (b : Bool) → not b ≡ true → b ≡ false
-    go true q = absurd (false≢true q)
-    go false q = refl
+no-attribute tag k h = not-true (ltb 0x7F tag) (under-zero (λ t l. not (ltb 0x7F t)) tag k refl h)
 
 pub attribute-kind : (p tag : ℕ) (k : Kind) → attribute tag ≡ true → known p tag ≡ some k → valueKind k ≡ true
 unfolding known rows attribute
@@ -132,32 +128,36 @@ pub record ElementTag (tag : ℕ) : Type 0 where
 differs : (tag other : ℕ) (k l : Kind) → known 0 tag ≡ some k → known 0 other ≡ some l → (_≡_ {A = Option Kind} (some k) (some l) → ⊥) → eqb tag other ≡ false
 differs tag other k l e f d = ne-eqb tag other (λ q. d (sym e ∙ (ap (known 0) q ∙ f)))
 
-items-text : _≡_ {A = Option Kind} (some HoldsItems) (some HoldsText) → ⊥
-items-text e = let z : _≡_ {A = ℕ} 0 1 = cc in omega arith
-
-items-tokens : _≡_ {A = Option Kind} (some HoldsItems) (some HoldsTokens) → ⊥
-items-tokens e = let z : _≡_ {A = ℕ} 0 1 = cc in omega arith
-
-plain-words : _≡_ {A = Option Kind} (some HoldsPlain) (some HoldsText) → ⊥
-plain-words e = let z : _≡_ {A = ℕ} 0 1 = cc in omega arith
-
-plain-tokens : _≡_ {A = Option Kind} (some HoldsPlain) (some HoldsTokens) → ⊥
-plain-tokens e = let z : _≡_ {A = ℕ} 0 1 = cc in omega arith
+element-tag : (tag : ℕ) (k : Kind) → known 0 tag ≡ some k → (_≡_ {A = Option Kind} (some k) (some HoldsText) → ⊥) → (_≡_ {A = Option Kind} (some k) (some HoldsTokens) → ⊥) → ElementTag tag
+element-tag tag k e f g = record { notAttribute = no-attribute tag k e; notCdata = differs tag 1 k HoldsText e known-one f; notTable = differs tag 4 k HoldsTokens e known-four g }
 
 pub items-tag : (tag : ℕ) → known 0 tag ≡ some HoldsItems → ElementTag tag
-items-tag tag e = record {
-  notAttribute = no-attribute tag HoldsItems e;
-  notCdata = differs tag 1 HoldsItems HoldsText e known-one items-text;
-  notTable = differs tag 4 HoldsItems HoldsTokens e known-four items-tokens;
-}
+items-tag tag e = element-tag tag HoldsItems e (λ q. never (cc)) (λ q. never (cc))
 
 pub plain-tag : (tag : ℕ) → known 0 tag ≡ some HoldsPlain → ElementTag tag
-plain-tag tag e = record {
-  notAttribute = no-attribute tag HoldsPlain e;
-  notCdata = differs tag 1 HoldsPlain HoldsText e known-one plain-words;
-  notTable = differs tag 4 HoldsPlain HoldsTokens e known-four plain-tokens;
-}
+plain-tag tag e = element-tag tag HoldsPlain e (λ q. never (cc)) (λ q. never (cc))
 
 pub language-tag : ElementTag 6
 unfolding attribute
 language-tag = record { notAttribute = refl; notCdata = refl; notTable = refl }
+
+-- the items there are that are no attributes, each with its kind: elements that hold items, elements that hold plain octets, CDATA, the token table, and the language
+pub data Stands : ℕ → Kind → Type 0 where
+  holder : {tag : ℕ} → known 0 tag ≡ some HoldsItems → Stands tag HoldsItems
+  plain : {tag : ℕ} → known 0 tag ≡ some HoldsPlain → Stands tag HoldsPlain
+  cdata : Stands 1 HoldsText
+  table : Stands 4 HoldsTokens
+  language : Stands 6 HoldsText
+
+pub stands : (tag : ℕ) (k : Kind) → known 0 tag ≡ some k → Stands tag k
+stands tag HoldsItems e = holder e
+stands tag HoldsPlain e = plain e
+stands tag HoldsTokens e = subst (λ n. Stands n HoldsTokens) (sym (eqb-true tag 4 (element-kind tag HoldsTokens e))) table
+stands tag HoldsText e =
+    or-elim (eqb tag 1) (eqb tag 6)
+    (λ q. subst (λ n. Stands n HoldsText) (sym (eqb-true tag 1 q)) cdata)
+    (λ q. subst (λ n. Stands n HoldsText) (sym (eqb-true tag 6 q)) language)
+    (element-kind tag HoldsText e)
+stands tag HoldsTime e = absurd (false≢true (element-kind tag HoldsTime e))
+stands tag HoldsBearer e = absurd (false≢true (element-kind tag HoldsBearer e))
+stands tag (HoldsNumber n) e = absurd (false≢true (element-kind tag (HoldsNumber n) e))

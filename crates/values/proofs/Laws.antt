@@ -10,10 +10,9 @@ use lib.Dec.{eqb}
 use lib.ListN.{length, getD, take, drop, length-append}
 use borrow.Author.Tests.{eqb-true, eqb-false, eq-eqb}
 use Rattle.octets.specs.declared.counts.Octets.{Octets as OctetCount}
-use Rattle.octets.specs.Counts.{sizeOf}
 use Rattle.octets.specs.Numbers.{value, digits, Octets}
 use Rattle.octets.proofs.Numbers.{digits-value, length-digits}
-use Rattle.octets.proofs.Tests.{and-left}
+use Rattle.octets.proofs.Tests.{and-left, chosen, not-chosen, never}
 use Rattle.text.specs.Tokens.{Entries, expanded}
 use Rattle.text.proofs.Words.{expanded-empty}
 use Rattle.values.specs.declared.Kind.{Kind}
@@ -37,7 +36,7 @@ use Rattle.values.specs.Values.{width, fits, meant, octetsOf}
 use Rattle.values.specs.Values.Value.{octets, number, time, bearer}
 use Rattle.values.specs.Proper.{TimeOk, BearerOk}
 use Rattle.values.specs.Calls.{asKnown, knownKind, takenTime, takenBearer, normalOctets, normalSize}
-use Rattle.values.proofs.Times.{time-means, time-fits, time-ok, sign-le}
+use Rattle.values.proofs.Times.{time-means, time-fits, time-ok, time-size, sign-le}
 use Rattle.values.proofs.Bearers.{bearer-means, bearer-fits, bearer-ok}
 
 -- what a lookup's answer says of the table
@@ -47,7 +46,7 @@ module _ (parent tag : ℕ) (r : KnownKind) (e : r ≡ knownKind parent tag) whe
   known-kind k g = go (known parent tag) (sym e ∙ g)
     where
       go : (o : Option Kind) → asKnown o ≡ Known k → o ≡ some k
-      go none q = let z : _≡_ {A = ℕ} 0 1 = cc in absurd (omega arith)
+      go none q = never (cc)
       go (some l) q = cc
 
   pub unknown-kind : r ≡ Unknown → known parent tag ≡ none
@@ -56,7 +55,7 @@ module _ (parent tag : ℕ) (r : KnownKind) (e : r ≡ knownKind parent tag) whe
     where
       go : (o : Option Kind) → asKnown o ≡ Unknown → o ≡ none
       go none q = refl
-      go (some l) q = let z : _≡_ {A = ℕ} 0 1 = cc in absurd (omega arith)
+      go (some l) q = never (cc)
 
 -- a time that was taken is what the octets mean, and octets that gave none are no time
 pub record TimeTaken (s : List ℕ) (t : Time) : Type 0 where
@@ -66,27 +65,18 @@ pub record TimeTaken (s : List ℕ) (t : Time) : Type 0 where
 module _ (s : List ℕ) (r : TakenTime) (e : r ≡ takenTime s) where
   pub time-taken : (t : Time) → r ≡ ofTime.Good t → TimeTaken s t
   unfolding takenTime
-  time-taken t g = go (isTime s) refl (sym g ∙ e)
-    where
-      go : (b : Bool) → isTime s ≡ b → ofTime.Good t ≡ cond b (ofTime.Good (timeOf s)) (ofTime.Bad (wrongTime s)) → TimeTaken s t
-      go true f q = record { fit = f; means = cc }
-      go false f q = let z : _≡_ {A = ℕ} 0 1 = cc in absurd (omega arith)
+  time-taken t g = let w = chosen (isTime s) (sym g ∙ e) (λ q. never (cc)) in record { fit = w .0; means = cc (w .1) }
 
-  pub time-refused : (n : ℕ) → r ≡ ofTime.Bad n → isTime s ≡ false
-  unfolding takenTime
-  time-refused n g = go (isTime s) refl (sym g ∙ e)
-    where
-      go : (b : Bool) → isTime s ≡ b → ofTime.Bad n ≡ cond b (ofTime.Good (timeOf s)) (ofTime.Bad (wrongTime s)) → b ≡ false
-      go true f q = let z : _≡_ {A = ℕ} 0 1 = cc in absurd (omega arith)
-      go false f q = refl
+  module _ (n : ℕ) (g : r ≡ ofTime.Bad n) where
+    refused : (isTime s ≡ false) × (ofTime.Bad n ≡ ofTime.Bad (wrongTime s))
+    unfolding takenTime
+    refused = not-chosen (isTime s) (sym g ∙ e) (λ q. never (cc))
 
-  pub time-wrong : (n : ℕ) → r ≡ ofTime.Bad n → n ≡ wrongTime s
-  unfolding takenTime
-  time-wrong n g = go (isTime s) (sym g ∙ e)
-    where
-      go : (b : Bool) → ofTime.Bad n ≡ cond b (ofTime.Good (timeOf s)) (ofTime.Bad (wrongTime s)) → n ≡ wrongTime s
-      go true q = let z : _≡_ {A = ℕ} 0 1 = cc in absurd (omega arith)
-      go false q = cc
+    pub time-refused : isTime s ≡ false
+    time-refused = refused .0
+
+    pub time-wrong : n ≡ wrongTime s
+    time-wrong = cc (refused .1)
 
 -- the same of bearers
 pub record BearerTaken (s : List ℕ) (b : Bearer) : Type 0 where
@@ -96,19 +86,11 @@ pub record BearerTaken (s : List ℕ) (b : Bearer) : Type 0 where
 module _ (s : List ℕ) (r : TakenBearer) (e : r ≡ takenBearer s) where
   pub bearer-taken : (b : Bearer) → r ≡ ofBearer.Good b → BearerTaken s b
   unfolding takenBearer
-  bearer-taken b g = go (isBearer s) refl (sym g ∙ e)
-    where
-      go : (x : Bool) → isBearer s ≡ x → ofBearer.Good b ≡ cond x (ofBearer.Good (bearerOf s)) ofBearer.Bad → BearerTaken s b
-      go true f q = record { fit = f; means = cc }
-      go false f q = let z : _≡_ {A = ℕ} 0 1 = cc in absurd (omega arith)
+  bearer-taken b g = let w = chosen (isBearer s) (sym g ∙ e) (λ q. never (cc)) in record { fit = w .0; means = cc (w .1) }
 
   pub bearer-refused : r ≡ ofBearer.Bad → isBearer s ≡ false
   unfolding takenBearer
-  bearer-refused g = go (isBearer s) refl (sym g ∙ e)
-    where
-      go : (x : Bool) → isBearer s ≡ x → ofBearer.Bad ≡ cond x (ofBearer.Good (bearerOf s)) ofBearer.Bad → x ≡ false
-      go true f q = let z : _≡_ {A = ℕ} 0 1 = cc in absurd (omega arith)
-      go false f q = refl
+  bearer-refused g = not-chosen (isBearer s) (sym g ∙ e) (λ q. never (cc)) .0
 
 -- canonical form: the same octets, and what they are read as
 pub canonical-octets : (t : Time) → timeOctets (canonical t) ≡ timeOctets t
@@ -141,19 +123,11 @@ pub record Sized (k : Kind) (s : List ℕ) (n : ℕ) : Type 0 where
 module _ (k : Kind) (s : List ℕ) (r : NormalSize) (e : r ≡ normalSize k s) where
   pub normal-sized : (n : OctetCount) → r ≡ sized.Octets n → Sized k s (n .0)
   unfolding normalSize
-  normal-sized n g = go (fits k s) refl (sym g ∙ e)
-    where
-      go : (b : Bool) → fits k s ≡ b → sized.Octets n ≡ cond b (sized.Octets (sizeOf (normalOctets k s))) sized.NoValue → Sized k s (n .0)
-      go true f q = record { fit = f; size = cc }
-      go false f q = let z : _≡_ {A = ℕ} 0 1 = cc in absurd (omega arith)
+  normal-sized n g = let w = chosen (fits k s) (sym g ∙ e) (λ q. never (cc)) in record { fit = w .0; size = cc (w .1) }
 
   pub not-sized : r ≡ sized.NoValue → fits k s ≡ false
   unfolding normalSize
-  not-sized g = go (fits k s) (sym g ∙ e)
-    where
-      go : (b : Bool) → sized.NoValue ≡ cond b (sized.Octets (sizeOf (normalOctets k s))) sized.NoValue → b ≡ false
-      go true q = let z : _≡_ {A = ℕ} 0 1 = cc in absurd (omega arith)
-      go false q = refl
+  not-sized g = not-chosen (fits k s) (sym g ∙ e) (λ q. never (cc)) .0
 
 -- the kinds whose octets are always a value, and their own normal octets
 abbrev pub asItStands : Kind → Bool
@@ -222,16 +196,6 @@ normal-means HoldsBearer o os f = ap bearer (bearer-means (bearerOf o) (bearer-o
 normal-means (HoldsNumber n) o os f = ap (λ s. number (width n) (value s)) (number-normal n o os f)
 
 -- normal octets are no more than they were
-pub time-size : (t : Time) → length (timeOctets t) ≡ 4 + 2 * sign (t .second) + sign (t .halves)
-unfolding timeOctets digits sign
-time-size t = go (eqb (t .second) 0) (eqb (t .halves) 0) refl refl
-  where
-    go : (x y : Bool) → eqb (t .second) 0 ≡ x → eqb (t .halves) 0 ≡ y → length (timeOctets t) ≡ 4 + 2 * sign (t .second) + sign (t .halves)
-    go true true p q = rw (p, q) refl
-    go true false p q = rw (p, q) refl
-    go false true p q = rw (p, q) refl
-    go false false p q = rw (p, q) refl
-
 -- what a flag switches off is 0
 flagged : (flag n : ℕ) → flag < 2 → sign (flag * n) ≤ flag
 unfolding sign

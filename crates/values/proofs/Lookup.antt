@@ -13,7 +13,8 @@ use lib.ListN.{length, getD, List·getD-eq-default}
 use lib.Pow.{pow-add}
 use mir.Syntax.{w32}
 use mir.Val.{Fits}
-use borrow.Author.Tests.{ltb-true, ltb-false, eqb-true, eqb-false, ne-eqb, lt-leb, lt-ltb}
+use borrow.Author.Tests.{ltb-true, eqb-true, eqb-false, ne-eqb, lt-leb, lt-ltb}
+use Rattle.octets.proofs.Numbers.{above}
 use Rattle.octets.proofs.Tests.{and-left, and-right}
 use Rattle.values.specs.declared.Kind.{Kind}
 use Rattle.values.specs.declared.Kind.the-variants.{HoldsItems, HoldsTokens, HoldsText, HoldsPlain, HoldsTime, HoldsBearer, HoldsNumber}
@@ -57,18 +58,13 @@ code-small (some (HoldsNumber Integer)) = omega arith
 pub code-is : (code n : ℕ) → code ≡ n → knownBy n ≡ knownBy code
 code-is code n e = ap knownBy (sym e)
 
-next : (code n : ℕ) → n ≤ code → (code ≡ n → ⊥) → suc n ≤ code
-next code n h e = omega arith
-
 pub code-last : (code : ℕ) → (code ≡ 1 → ⊥) → (code ≡ 2 → ⊥) → (code ≡ 3 → ⊥) → (code ≡ 4 → ⊥) → (code ≡ 5 → ⊥) → (code ≡ 6 → ⊥) → (code ≡ 7 → ⊥)
     → (code ≡ 8 → ⊥) → (code ≡ 9 → ⊥) → (code ≡ 10 → ⊥) → Unknown ≡ knownBy code
 unfolding knownBy answers
 code-last code n1 n2 n3 n4 n5 n6 n7 n8 n9 n10 = go (eqb code 0) refl
   where
     past : (code ≡ 0 → ⊥) → 11 ≤ code
-    past n0 =
-        next code 10 (next code 9 (next code 8 (next code 7 (next code 6 (next code 5 (next code 4 (next code 3 (next code 2 (next code 1
-        (next code 0 (zero-le) n0) n1) n2) n3) n4) n5) n6) n7) n8) n9) n10
+    past n0 = above code (above code (above code (above code (above code (above code (above code (above code (above code (above code (above code zero-le n0) n1) n2) n3) n4) n5) n6) n7) n8) n9) n10
 
     go : (b : Bool) → eqb code 0 ≡ b → Unknown ≡ knownBy code
     go true e = code-is code 0 (eqb-true code 0 e)

@@ -2,26 +2,17 @@
 use mathlib.Core.Path.{_≡_, sym, ap, ap₂, _∙_}
 use mathlib.Core.Bool.{Bool, true, false}
 use mathlib.Core.List.{List, [], _∷_, _++_}
-use Prim.Native.Nat.{ℕ, suc, _+_, _-_, _*_, _/_, _%_, _^_, _≤_, _<_}
+use Prim.Native.Nat.{ℕ, suc, _+_, _*_, _/_, _%_, _^_, _≤_, _<_}
 use native.Mathlib.Omega.{arith}
-use lib.Bits.{bitAnd, bitOr, and-mask, mask-lt, or-shifted}
-use lib.Dec.{leb}
+use lib.Bits.{bitAnd, bitOr, and-mask, mask-lt}
 use lib.ListN.{length, take, drop, getD, set, length-drop, length-set}
-use lib.Pow.{shl-exact}
 use lib.Seq.{sets, length-sets, getD-drop, drop-drop}
-use mir.Syntax.{w8, w64}
+use mir.Syntax.{w8}
 use mir.Val.{Fits}
-use borrow.Author.Tests.{le-leb, lt-leb, leb-true, leb-false}
-use Rattle.octets.specs.declared.counts.Octets.{Octets as OctetCount}
-use Rattle.octets.specs.Counts.{sizeOf}
 use Rattle.octets.specs.Numbers.{value, digits}
-use Rattle.octets.specs.declared.Put.{Put}
-use Rattle.octets.specs.Puts.{Puts}
-use Rattle.octets.proofs.Puts.{puts-invalid, puts-none, puts-done}
-
--- a number of j bits above one of k bits, in 32
-joined : (j k x y : ℕ) → j + k ≤ 32 → x < 2 ^ j → y < 2 ^ k → bitOr (x * 2 ^ k % 2 ^ 32) y ≡ x * 2 ^ k + y
-joined j k x y l h g = ap (λ n. bitOr n y) (shl-exact j k 32 h l) ∙ or-shifted x k y g
+use Rattle.octets.proofs.Reading.{joined}
+use Rattle.octets.proofs.Lists.{sets-append, getD-here}
+use Rattle.octets.proofs.Puts.{puts-invalid, asked-ways}
 
 -- two octets
 value-two : (l : List ℕ) → 2 ≤ length l → value (take 2 l) ≡ getD l 0 0 * 256 + getD l 1 0
@@ -33,7 +24,7 @@ value-two (a ∷ b ∷ l) h = omega arith
 value-two-at : (s : List ℕ) (at : ℕ) → at + 2 ≤ length s → value (take 2 (drop at s)) ≡ getD s at 0 * 256 + getD s (at + 1) 0
 value-two-at s at h =
     value-two (drop at s) (simp length-drop (omega arith))
-    ∙ ap₂ (λ x y. x * 256 + y) (getD-drop at s 0 0 ∙ ap (λ n. getD s n 0) (omega arith)) (getD-drop at s 1 0)
+    ∙ ap₂ (λ x y. x * 256 + y) (getD-here s at 0) (getD-drop at s 1 0)
 
 module _ (s : List ℕ) (at : ℕ) (h : at + 2 ≤ length s) (g : getD s at 0 < 256) (k : getD s (at + 1) 0 < 256) where
   both : bitOr (getD s at 0 * 2 ^ 8 % 2 ^ 32) (getD s (at + 1) 0) ≡ getD s at 0 * 256 + getD s (at + 1) 0
@@ -68,10 +59,6 @@ pub low-is : (n : ℕ) → bitAnd n 255 ≡ n % 256
 low-is n = and-mask n 8
 
 -- stores one after the other
-pub sets-append : (a b l : List ℕ) (i : ℕ) → sets (sets l i a) (i + length a) b ≡ sets l i (a ++ b)
-sets-append [] b l i = ap (λ n. sets l n b) (omega arith)
-sets-append (x ∷ a) b l i = ap (λ n. sets (sets (set l i x) (suc i) a) n b) (omega arith) ∙ sets-append a b (set l i x) (suc i)
-
 pub stored-length : (out after vs : List ℕ) (i v j : ℕ) → after ≡ sets (set out i v) j vs → length after ≡ length out
 stored-length out after vs i v j e = ap length e ∙ length-sets (set out i v) j vs ∙ length-set out i v
 
@@ -107,45 +94,14 @@ module _ (n : ℕ) (out : List ℕ) (at : ℕ) (first : List ℕ) (p : first ≡
   unfolding digits
   put-four after h q =
       q ∙ ap₂ (λ l m. sets l (at + 2) (digits 2 m)) p (and-mask n 16)
-      ∙ sets-append (digits 2 (n / 2 ^ 16)) (digits 2 (n % 2 ^ 16)) out at ∙ ap (sets out at) (sym (digits-four n h))
+      ∙ sets-append out at (digits 2 (n / 2 ^ 16)) (digits 2 (n % 2 ^ 16)) ∙ ap (sets out at) (sym (digits-four n h))
 
--- room
-module _ (room at size : ℕ) where
-  pub room-past : room < at → false ≡ leb (at + size) room
-  room-past h = sym (lt-leb (at + size) room (omega arith))
+-- what a test answered that is put only where it holds
+module _ (valid v : Bool) (e : v ≡ valid) where
+  pub put-valid : v ≡ true → valid ≡ true
+  put-valid y = sym e ∙ y
 
-  pub room-short : at ≤ room → room - at < size → false ≡ leb (at + size) room
-  room-short h g = sym (lt-leb (at + size) room (omega arith))
+  pub put-none : v ≡ false → valid ≡ false
+  put-none n = sym e ∙ n
 
-  pub room-enough : at ≤ room → size ≤ room - at → true ≡ leb (at + size) room
-  room-enough h g = sym (le-leb (at + size) room (omega arith))
-
-pub ruleset room-ways = (room-past, room-short, room-enough)
-
--- the ways through a call that puts octets: nothing to write, no room, written
-module _ (valid : Bool) (octets out : List ℕ) (at : ℕ) (v : Bool) (e : v ≡ valid) where
-  pub put-invalid : v ≡ false → Puts valid octets at out out Put.Invalid
-  put-invalid n = puts-invalid valid octets at out (sym e ∙ n)
-
-  module _ (y : v ≡ true) (size : OctetCount) (s : size ≡ sizeOf octets) (r : Bool) (f : r ≡ leb (at + size .0) (length out)) where
-    long : size .0 ≡ length octets
-    long = ap (λ n. n .0) s
-
-    pub put-no-room : r ≡ false → Puts valid octets at out out Put.NoRoom
-    put-no-room n = puts-none valid octets at out (sym e ∙ y) (omega (arith, long, leb-false (at + size .0) (length out) (sym f ∙ n)))
-
-    module _ (t : r ≡ true) where
-      pub put-done : (after : List ℕ) → after ≡ sets out at octets → Puts valid octets at out after (Put.Done (at + size .0))
-      put-done after q =
-          puts-done valid octets at out (sym e ∙ y) after (at + size .0) (omega (arith, long, leb-true (at + size .0) (length out) (sym f ∙ t))) q (ap (λ n. at + n) long)
-
-pub ruleset put-ways = (put-invalid, put-no-room, put-done)
-
-pub put-valid : (valid v : Bool) → v ≡ valid → v ≡ true → valid ≡ true
-put-valid valid v e y = sym e ∙ y
-
-pub put-room : (octets out : List ℕ) (at : ℕ) (size : OctetCount) (r : Bool) → r ≡ leb (at + size .0) (length out) → r ≡ true → size ≡ sizeOf octets → at + length octets ≤ length out
-put-room octets out at size r f t s = omega (arith, ap (λ n. n .0) s, leb-true (at + size .0) (length out) (sym f ∙ t))
-
-pub end-fits : (room at size : ℕ) (r : Bool) → r ≡ leb (at + size) room → r ≡ true → room < 2 ^ 64 → Fits w64 (at + size)
-end-fits room at size r f t h = record { fits = omega (arith, leb-true (at + size) room (sym f ∙ t)) }
+pub ruleset put-ways = (puts-invalid, asked-ways, put-valid, put-none)

@@ -19,13 +19,13 @@ use borrow.Author.Tests.{le-leb, lt-leb, le-ltb, eq-eqb, ne-eqb}
 use Rattle.octets.specs.Counts.{asOctets, sizeOf}
 use Rattle.octets.specs.Numbers.{value, digits}
 use Rattle.octets.proofs.Numbers.{length-digits}
+use Rattle.octets.proofs.Lists.{sets-append}
 use Rattle.values.specs.declared.Time.{Time}
 use Rattle.values.specs.declared.Local.{Local}
 use Rattle.values.specs.declared.TakenTime.the-variants.{Good, Bad}
 use Rattle.values.specs.Times.{bits, longFlag, offsetFlag, offsetOctet, timeOf, inRange, isTime, canonical, sign, timeOctets, localMinutes, localOf, wrongPart, wrongTime}
 use Rattle.values.specs.Layout.{firstBits, secondOctets, offsetOctets}
 use Rattle.values.specs.Calls.{takenTime}
-use Rattle.values.proofs.Shifts.{sets-append}
 use Rattle.values.proofs.Times.{bounds, sign-le}
 
 -- a flag times a value
@@ -369,10 +369,10 @@ module _ (t : Time) (out : List ℕ) (at : ℕ) (h : at + length (timeOctets t) 
           let D = digits 4 (firstBits t) in
           let S = secondOctets (t .second) in
           let O = offsetOctets (t .minus) (t .halves) in
-          z ∙ ap₂ (λ l n. sets l n O) v u ∙ sets-append S O one (at + 4)
+          z ∙ ap₂ (λ l n. sets l n O) v u ∙ sets-append one (at + 4) S O
           ∙ ap (λ l. sets l (at + 4) (S ++ O)) (q ∙ ap (λ n. sets out at (digits 4 n)) p)
           ∙ ap (λ n. sets (sets out at D) (at + n) (S ++ O)) (sym (length-digits 4 (firstBits t)))
-          ∙ sets-append D (S ++ O) out at ∙ ap (sets out at) (sym (time-parts t))
+          ∙ sets-append out at D (S ++ O) ∙ ap (sets out at) (sym (time-parts t))
 
 pub second-small : (t : Time) → inRange t ≡ true → t .second < 64
 second-small t v = omega (arith, bounds t v .second)

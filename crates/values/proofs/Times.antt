@@ -49,6 +49,16 @@ sign-le n = go (eqb n 0)
     go true = omega arith
     go false = omega arith
 
+pub time-size : (t : Time) → length (timeOctets t) ≡ 4 + 2 * sign (t .second) + sign (t .halves)
+unfolding timeOctets digits sign
+time-size t = go (eqb (t .second) 0) (eqb (t .halves) 0) refl refl
+  where
+    go : (z y : Bool) → eqb (t .second) 0 ≡ z → eqb (t .halves) 0 ≡ y → length (timeOctets t) ≡ 4 + 2 * sign (t .second) + sign (t .halves)
+    go true true e f = rw (e, f)
+    go true false e f = rw (e, f)
+    go false true e f = rw (e, f)
+    go false false e f = rw (e, f)
+
 module _ (t : Time) (b : Bounds t) where
   word : ℕ
   word = t .day * 2 ^ 14 + sign (t .halves) * 2 ^ 12 + sign (t .second) * 2 ^ 11 + t .hour * 2 ^ 6 + t .minute
@@ -126,19 +136,9 @@ module _ (t : Time) (b : Bounds t) where
     unfolding timeOf
     time-back = rw (day-back, hour-back, minute-back, second-back, offset-back, minus-back, halves-back)
 
-    time-length : length (timeOctets t) ≡ 4 + 2 * sign (t .second) + sign (t .halves)
-    unfolding timeOctets digits sign
-    time-length = go (eqb (t .second) 0) (eqb (t .halves) 0) refl refl
-      where
-        go : (z y : Bool) → eqb (t .second) 0 ≡ z → eqb (t .halves) 0 ≡ y → length (timeOctets t) ≡ 4 + 2 * sign (t .second) + sign (t .halves)
-        go true true e f = rw (e, f)
-        go true false e f = rw (e, f)
-        go false true e f = rw (e, f)
-        go false false e f = rw (e, f)
-
     time-is : isTime (timeOctets t) ≡ true
     unfolding isTime
-    time-is = rw (long-flag, offset-flag, time-back, eq-eqb (length (timeOctets t)) (4 + 2 * sign (t .second) + sign (t .halves)) time-length) (ok .range)
+    time-is = rw (long-flag, offset-flag, time-back, eq-eqb (length (timeOctets t)) (4 + 2 * sign (t .second) + sign (t .halves)) (time-size t)) (ok .range)
 
 pub time-means : (t : Time) → TimeOk t → timeOf (timeOctets t) ≡ t
 time-means t ok = time-back t (bounds t (ok .range)) ok

@@ -10,6 +10,7 @@ use Rattle.octets.specs.Counts.{asOctets, sizeOf}
 use Rattle.octets.specs.Numbers.{value, digits}
 use Rattle.octets.specs.Puts.{putAnswer, putOut, Puts}
 use Rattle.octets.specs.declared.Put.the-variants.{Done, NoRoom}
+use Rattle.octets.proofs.Tests.{never}
 use Rattle.values.specs.declared.Kind.the-variants.{HoldsText, HoldsPlain, HoldsTime, HoldsBearer, HoldsNumber}
 use Rattle.values.specs.declared.NumberKind.the-variants.{Duration, ShortId, Integer}
 use Rattle.values.specs.declared.KnownKind.the-variants.{Known}
@@ -39,15 +40,15 @@ attribute-from-0x7f h = false≢true h
 -- `known_kind`: a pair that annex E marks as not used; the void element 0x05; an attribute looked up without its element
 pub unused-pair-known : knownKind 0x28 0x81 ≡ Known (HoldsNumber Integer) → ⊥
 unfolding knownKind asKnown known attribute kindIn rows
-unused-pair-known h = let z : _≡_ {A = ℕ} 0 1 = cc in omega arith
+unused-pair-known h = never (cc)
 
 pub void-element-known : knownKind 0x03 0x05 ≡ Known HoldsText → ⊥
 unfolding knownKind asKnown known attribute kindIn rows
-void-element-known h = let z : _≡_ {A = ℕ} 0 1 = cc in omega arith
+void-element-known h = never (cc)
 
 pub attribute-anywhere : knownKind 0x02 0x80 ≡ knownKind 0x03 0x80 → ⊥
 unfolding knownKind asKnown known attribute kindIn rows
-attribute-anywhere h = let z : _≡_ {A = ℕ} 0 1 = cc in omega arith
+attribute-anywhere h = never (cc)
 
 -- `is_default`: an octet 0x01 that is no default; recommendation "yes"; a default asked for without its element
 pub logo-default : defaultOctets 0x2B 0x83 (1 ∷ []) ≡ true → ⊥
@@ -77,7 +78,7 @@ minus-zero-kept h = false≢true (ap minusOf h)
 
 pub late-date-taken : takenTime (0x61 ∷ 0xA8 ∷ 0x00 ∷ 0x00 ∷ []) ≡ ofTime.Good (at 100_000 0) → ⊥
 unfolding takenTime isTime inRange timeOf bits longFlag offsetFlag offsetOctet value
-late-date-taken h = let z : _≡_ {A = ℕ} 0 1 = cc in omega arith
+late-date-taken h = never (cc)
 
 pub short-time-seconds : takenTime (0x30 ∷ 0xD4 ∷ 0x10 ∷ 0x00 ∷ 0x1F ∷ []) ≡ ofTime.Good (record { day = 50_000; hour = 0; minute = 0; second = 7; minus = false; halves = 31 }) → ⊥
 unfolding takenTime isTime inRange timeOf bits longFlag offsetFlag offsetOctet value
@@ -85,11 +86,11 @@ short-time-seconds h = let z : _≡_ {A = ℕ} 0 7 = cc in omega arith
 
 pub reserved-bit-dated : (n : ℕ) → takenTime (0xB0 ∷ 0xD4 ∷ 0x00 ∷ 0x00 ∷ []) ≡ ofTime.Bad n → ⊥
 unfolding takenTime isTime inRange timeOf bits longFlag offsetFlag offsetOctet value
-reserved-bit-dated n h = let z : _≡_ {A = ℕ} 0 1 = cc in omega arith
+reserved-bit-dated n h = never (cc)
 
 pub spare-octet-taken : takenTime (0x30 ∷ 0xD4 ∷ 0x00 ∷ 0x00 ∷ 0x00 ∷ []) ≡ ofTime.Good (at 50_000 0) → ⊥
 unfolding takenTime isTime inRange timeOf bits longFlag offsetFlag offsetOctet value
-spare-octet-taken h = let z : _≡_ {A = ℕ} 0 1 = cc in omega arith
+spare-octet-taken h = never (cc)
 
 pub length-passed-over : takenTime (0x61 ∷ 0xA8 ∷ 0x00 ∷ 0x00 ∷ 0x00 ∷ []) ≡ ofTime.Bad 2 → ⊥
 unfolding takenTime isTime inRange timeOf wrongPart wrongTime bits longFlag offsetFlag offsetOctet value
@@ -132,7 +133,7 @@ local-sign-dropped h = omega arith
 
 pub local-day-held : localOf (record { day = 0; hour = 0; minute = 10; second = 0; minus = true; halves = 1 }) .day ≡ pos 0 → ⊥
 unfolding localOf localMinutes
-local-day-held h = let z : _≡_ {A = ℕ} 0 1 = cc in omega arith
+local-day-held h = never (cc)
 
 -- the same where the offset takes off more than a day: the day held at -1
 pub local-day-cut : localOf (record { day = 0; hour = 0; minute = 0; second = 0; minus = true; halves = 100 }) .day ≡ negsuc 0 → ⊥
@@ -154,7 +155,7 @@ five = 1 ∷ 2 ∷ 3 ∷ 4 ∷ 5 ∷ []
 
 pub time-past-room : (after : List ℕ) → Puts (inRange (at 50_000 0)) (timeOctets (at 50_000 0)) 2 five after (Done 6) → ⊥
 unfolding putAnswer inRange timeOctets digits sign
-time-past-room after p = let h = p .answers in let z : _≡_ {A = ℕ} 0 1 = cc in omega arith
+time-past-room after p = let h = p .answers in never (cc)
 
 pub time-part-written : Puts (inRange (at 50_000 0)) (timeOctets (at 50_000 0)) 2 five (1 ∷ 2 ∷ 0x30 ∷ 0xD4 ∷ 0x00 ∷ []) NoRoom → ⊥
 unfolding putOut inRange timeOctets digits sign
@@ -162,7 +163,7 @@ time-part-written p = let z : _≡_ {A = ℕ} 0x30 3 = ap (λ l. getD l 2 0) (p 
 
 pub late-date-written : (after : List ℕ) → Puts (inRange (at 100_000 0)) (timeOctets (at 100_000 0)) 0 five after (Done 4) → ⊥
 unfolding putAnswer inRange
-late-date-written after p = let h = p .answers in let z : _≡_ {A = ℕ} 0 1 = cc in omega arith
+late-date-written after p = let h = p .answers in never (cc)
 
 -- `Bearer::take`: a 16-bit service id as a 32-bit one; reserved bits refused; a spare octet ignored
 abbrev longOf : TakenBearer → Bool
@@ -175,11 +176,11 @@ short-sid-long h = false≢true (ap longOf h)
 
 pub reserved-bits-refused : takenBearer (0xA5 ∷ 0xC1 ∷ 0x23 ∷ []) ≡ ofBearer.Bad → ⊥
 unfolding takenBearer isBearer bearerOf ensembleOf ensembleFlag longSidFlag value
-reserved-bits-refused h = let z : _≡_ {A = ℕ} 0 1 = cc in omega arith
+reserved-bits-refused h = never (cc)
 
 pub spare-bearer-octet : takenBearer (0x05 ∷ 0xC1 ∷ 0x23 ∷ 0x00 ∷ []) ≡ ofBearer.Good (record { ensemble = Absent; long = false; sid = 0xC123; scids = 5 }) → ⊥
 unfolding takenBearer isBearer bearerOf ensembleOf ensembleFlag longSidFlag value
-spare-bearer-octet h = let z : _≡_ {A = ℕ} 0 1 = cc in omega arith
+spare-bearer-octet h = never (cc)
 
 -- `Bearer::valid`: SCIdS of five bits; a 17-bit service id as a short one
 pub scids-16-valid : bearerInRange (record { ensemble = Absent; long = false; sid = 1; scids = 16 }) ≡ true → ⊥
@@ -242,7 +243,7 @@ minus-zero-counted h = let z : _≡_ {A = ℕ} 4 5 = ap sizeIn h in omega arith
 
 pub no-value-sized : normalSize (HoldsNumber Duration) (0x3C ∷ []) ≡ Octets (asOctets 2) → ⊥
 unfolding normalSize fits width
-no-value-sized h = let z : _≡_ {A = ℕ} 0 1 = cc in omega arith
+no-value-sized h = never (cc)
 
 -- `put_normal`: reserved bits kept; octets that are no value written; zero seconds kept in the long form
 pub reserved-bits-kept : normalOctets HoldsBearer (0xA5 ∷ 0xC1 ∷ 0x23 ∷ []) ≡ 0xA5 ∷ 0xC1 ∷ 0x23 ∷ [] → ⊥
@@ -255,4 +256,4 @@ zero-seconds-kept h = omega arith
 
 pub no-value-written : (after : List ℕ) → Puts (fits (HoldsNumber Duration) (0x3C ∷ [])) (normalOctets (HoldsNumber Duration) (0x3C ∷ [])) 0 five after (Done 2) → ⊥
 unfolding putAnswer fits width
-no-value-written after p = let h = p .answers in let z : _≡_ {A = ℕ} 0 1 = cc in omega arith
+no-value-written after p = let h = p .answers in never (cc)

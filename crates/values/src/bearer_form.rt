@@ -15,13 +15,13 @@ use crate::Bearer;
 use crate::Ensemble;
 use crate::TakenBearer;
 use crate::numbers::four_at;
-use crate::numbers::has_room;
 use crate::numbers::low;
 use crate::numbers::put_four;
 use crate::numbers::put_two;
 use crate::numbers::two_at;
 use octets::Octets;
 use octets::Put;
+use octets::has_room;
 
 impl Bearer {
     // The bearer that octets hold: of exactly the size that the two flags say.

@@ -1,12 +1,9 @@
-// Octets as numbers and numbers as octets, by shifts and masks; and whether octets have room. The module is this crate's own: no other
-// crate can call what stands here.
+// Octets as numbers and numbers as octets, by shifts and masks. The module is this crate's own: no other crate can call what stands here.
 ghost use mathlib.Core.Path.{_≡_};
 ghost use Prim.Native.Nat.{_+_, _%_, _≤_, _<_};
-ghost use lib.Dec.{leb};
 ghost use lib.ListN.{length, take, drop};
 ghost use lib.Seq.{sets};
 ghost use Rattle.octets.specs.Numbers.{value, digits};
-use octets::Octets;
 
 // Two octets from a place on, as a number.
 pub fn two_at(s: &[u8], at: usize) -> u32
@@ -53,17 +50,4 @@ pub fn put_four(n: u32, out: &mut [u8], at: usize)
 {
     put_two(n >> 16, out, at);
     put_two(n & 0xFFFF, out, at + 2);
-}
-
-// Whether so many octets have room from a place on.
-pub fn has_room(room: Octets, at: usize, size: Octets) -> bool
-    ensures { λ r. ⌜ r ≡ leb (at + size .0) (room .0) ⌝ }
-{
-    if at > room.0 {
-        return false;
-    }
-    if room.0 - at < size.0 {
-        return false;
-    }
-    true
 }

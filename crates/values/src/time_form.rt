@@ -14,11 +14,11 @@ use crate::Local;
 use crate::TakenTime;
 use crate::Time;
 use crate::numbers::four_at;
-use crate::numbers::has_room;
 use crate::numbers::low;
 use crate::numbers::put_four;
 use octets::Octets;
 use octets::Put;
+use octets::has_room;
 
 impl Time {
     // The time that octets hold: of exactly the size that the two flags say, and in range.
