@@ -32,13 +32,12 @@ use Rattle.format.specs.Judge.Judged.{accepted}
 use Rattle.format.specs.Meaning.{opens, isChild, valueIn, counted, attributesIn, cdataIn, leafOctets, means, tableIn, tableOf, maybe, rising, encode, normalOf}
 use Rattle.format.specs.Meaning.Meaning.{element, leaf}
 use Rattle.format.specs.Same.{sameOctets}
-use Rattle.format.proofs.Rules.{held}
+use Rattle.format.proofs.Rules.{held, accepted-size}
 use Rattle.format.proofs.Force.{top-known}
 use Rattle.format.proofs.Defaults.{counted-some, present-attribute}
 use Rattle.format.proofs.Told.{top, some-octet}
 use Rattle.format.proofs.Means.{items-opens, items-known, value-no-items, child-element, means-attribute, means-cdata, other-attribute, absent-attribute, find-first}
 use Rattle.format.proofs.Induction.{Cases, judged-all, Unbroken, inAt, shorter}
-use Rattle.reader.proofs.Reading.{small}
 use Rattle.survey.specs.Normal.{writtenAs}
 use Rattle.survey.proofs.Rising.{rising-none, rising-same}
 use Rattle.compare.specs.Normal.{isShortest, isWritten, isRising, shaped}
@@ -736,5 +735,5 @@ module _ (o : List ℕ) (t : Items) (os : Octets o) (h : judge o ≡ accepted t)
   pub shaped-exactly : shaped 0 0x7F o ≡ true ↔ normalOf t ≡ o
   shaped-exactly = (
     (λ e. ap (λ es. encode (means es t)) (shape .tableless 0x7F e) ∙ sym (shape .forth 0x7F (omega arith) (omega arith) e ∙ alone [])),
-    (λ e. shape .back (tableOf t) 0x7F (omega arith) (omega arith) (omega (arith, small o t h)) (sym e ∙ sym (alone (tableOf t)))),
+    (λ e. shape .back (tableOf t) 0x7F (omega arith) (omega arith) (omega (arith, accepted-size o t h .1)) (sym e ∙ sym (alone (tableOf t)))),
   )

@@ -15,11 +15,10 @@ use Rattle.octets.proofs.Lists.{part-of-sets, drop-sets}
 use Rattle.format.specs.declared.WriteAnswer.the-variants.{Octets as Written}
 use Rattle.format.specs.declared.SameAnswer.{SameAnswer}
 use Rattle.format.specs.declared.SameAnswer.the-variants.{Same, Different, FirstRefused, SecondRefused}
-use Rattle.format.specs.Tree.{Items, count}
+use Rattle.format.specs.Tree.{Items}
 use Rattle.format.specs.Judge.{Judged, judge}
 use Rattle.format.specs.Judge.Judged.{refused, accepted}
 use Rattle.format.specs.Meaning.{means, meaningOf, meaning, encode, normalOf}
-use Rattle.format.specs.Loaded.{storeOf}
 use Rattle.format.specs.Calls.{Lists, Lent, lentBy, handed, NormaliseClaim}
 use Rattle.format.specs.Same.{sameAnswer}
 use Rattle.format.proofs.Normal.{accepted-ok, normal-means, same-normal}

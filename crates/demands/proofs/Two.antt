@@ -18,7 +18,7 @@ use Rattle.format.specs.Judge.Judged.{refused, accepted}
 use Rattle.format.specs.Meaning.{means, tableOf, encode}
 use Rattle.format.specs.Writer.{tabled}
 use Rattle.format.specs.Calls.{Lists, row, places, lay, judgeAnswer, readRecords, spanOf, bodyAt, WriteClaim}
-use Rattle.format.proofs.Lays.{places-lay, inside, row-lay-behind, tabled-laid, getD-tabled}
+use Rattle.format.proofs.Lays.{places-lay, within-places, row-lay-behind, tabled-laid, getD-tabled}
 use Rattle.format.proofs.Spans.{Part, part-span, Located, located, records-count, Bodied, bodied-length, bodied-at, records-bodied}
 use Rattle.format.proofs.Regrown.{shaped, regrows-all, regrown-means}
 use Rattle.grammar.specs.Grammar.{Accepts}
@@ -83,7 +83,7 @@ module _ (object : List ℕ) (t : Items) (lies : Located object t) (lists : List
   span-found : (i : ℕ) → i < n → spanOf object (lists .starts) (lists .sizes) i ≡ record { start = row lists i .start; size = row lists i .size }
   span-found i h =
       let p = record-lies i h in
-      let w = inside i lists (omega arith) in
+      let w = within-places i lists (omega arith) in
       let fits : row lists i .start + row lists i .size ≤ length object = omega (arith, p .1, part-span object (row lists i .start) (getD (bodiesOf t) i []) (p .0) .0) in
       sym (span-is object (lists .starts) (lists .sizes) i (w .starts) (w .sizes) (row lists i .start) (row lists i .size) refl refl fits)
 

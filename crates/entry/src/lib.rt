@@ -2,8 +2,7 @@
 ghost use mathlib.Core.Path.{_≡_};
 ghost use Rattle.format.specs.Answers.{readOutcome};
 ghost use Rattle.format.specs.Calls.{row, ReadRecordsClaim};
-ghost use Rattle.format.specs.Lent.{lent};
-ghost use Rattle.reader.specs.Lent.{Within};
+ghost use Rattle.format.specs.Lent.{lent, Within};
 ghost use Rattle.entry.specs.Copies.{Copyable, copied};
 use format::ReadAnswer;
 use format::Record;

@@ -1,7 +1,7 @@
 -- Defaults in a tree (change request 2026-05): which attribute counts, by its octets; how many defaults there are; and that an element has at most two.
 use mathlib.Core.Path.{_≡_, refl, sym, ap, ap₂, _∙_, fun-ext}
 use mathlib.Core.Bool.{Bool, true, false, cond, false≢true, and-false}
-use mathlib.Core.Option.{Option, none, some, Option·map, Option·none-ne-some}
+use mathlib.Core.Option.{Option, none, some, Option·map}
 use mathlib.Core.List.{List}
 use Prim.Native.Nat.{ℕ, _+_, _≤_}
 use native.Mathlib.Omega.{arith}
@@ -9,6 +9,7 @@ use lib.Dec.{eqb}
 use lib.ListN.{length, getD}
 use borrow.Author.Tests.{eq-eqb, ne-eqb, eqb-true, eqb-false, ltb-true, lt-ltb}
 use Rattle.octets.specs.Numbers.{among, Octets}
+use Rattle.octets.proofs.Tests.{not-chosen, never}
 use Rattle.text.specs.Tokens.{Entries, expanded}
 use Rattle.values.specs.declared.Kind.{Kind}
 use Rattle.values.specs.Table.{known, attribute, defaults, defaultIn}
@@ -44,20 +45,12 @@ present-attribute T p t a k o h e f i = rw (h, e, f) (counted-octets T p a k o e
 pub counted-some : (p a : ℕ) (o : Option Value) (v : Value) → counted p a o ≡ some v → o ≡ some v
 unfolding counted
 counted-some p a none v h = h
-counted-some p a (some w) v h = go (isDefault p a w) h
-  where
-    go : (b : Bool) → cond b none (some w) ≡ some v → some w ≡ some v
-    go false e = e
-    go true e = absurd (Option·none-ne-some v e)
+counted-some p a (some w) v h = sym (not-chosen (isDefault p a w) (sym h) (λ e. never (cc)) .1)
 
 -- and is no default
 pub counts-none : (p a : ℕ) (v : Value) → counted p a (some v) ≡ some v → isDefault p a v ≡ false
 unfolding counted
-counts-none p a v h = go (isDefault p a v) h
-  where
-    go : (b : Bool) → cond b none (some v) ≡ some v → b ≡ false
-    go false e = refl
-    go true e = absurd (Option·none-ne-some v e)
+counts-none p a v h = not-chosen (isDefault p a v) (sym h) (λ e. never (cc)) .0
 
 -- what is a default is an attribute
 pub default-attribute : (p tag : ℕ) (o : List ℕ) → defaultOctets p tag o ≡ true → attribute tag ≡ true

@@ -11,7 +11,7 @@ use Rattle.octets.specs.Numbers.{among, Octets}
 use Rattle.text.specs.Text.{text}
 use Rattle.text.specs.Tokens.{Entries, expanded}
 use Rattle.values.specs.declared.Kind.{Kind}
-use Rattle.values.specs.declared.Kind.the-variants.{HoldsItems, HoldsTokens, HoldsText, HoldsPlain, HoldsTime, HoldsBearer, HoldsNumber}
+use Rattle.values.specs.declared.Kind.the-variants.{HoldsItems, HoldsText, HoldsPlain}
 use Rattle.values.specs.Table.{known, attribute}
 use Rattle.values.specs.Values.{Value, meant, isDefault}
 use Rattle.values.specs.Proper.{Proper}
@@ -23,10 +23,11 @@ use Rattle.format.specs.Meaning.Meaning.{nothing, element, leaf}
 use Rattle.format.specs.WellFormed.{ValueOk, AttributeOk, CdataOk, PlaceOk, LeafOk, WellFormed, ObjectOk}
 use Rattle.format.specs.WellFormed.LeafOk.{language, plainly}
 use Rattle.format.specs.Writer.{Spot, below, past, atTop, placed}
-use Rattle.octets.proofs.Tests.{and-left, and-right, or-elim}
+use Rattle.octets.proofs.Tests.{and-left, and-right}
 use Rattle.text.proofs.Expansion.{Sound, expanded-text, shown-expanded}
 use Rattle.values.proofs.Values.{fits-proper}
-use Rattle.values.proofs.Known.{ElementTag, items-tag, plain-tag, language-tag, known-anywhere, known-cdata, known-six, element-kind, attribute-kind}
+use Rattle.values.proofs.Known.{ElementTag, items-tag, plain-tag, language-tag, known-anywhere, known-cdata, known-six, attribute-kind, Stands, stands}
+use Rattle.values.proofs.Known.Stands.{stands-items, stands-plain, stands-cdata, stands-table, stands-language}
 use Rattle.format.proofs.Means.{means-attribute, means-cdata, means-table, means-element, means-leaf, leaf-text}
 use Rattle.format.proofs.Force.{attribute-one, swap-eqb, top-known}
 use Rattle.format.proofs.Told.{Told, ItemTold, KindTold}
@@ -203,25 +204,16 @@ fine-leaf T s tag at body x u k p t e l ok g =
     (rw (means-leaf T tag at body x u k t e l) (place-ok s tag p (t .notAttribute) (t .notCdata), ok, next-children T s tag u g)) g
 
 -- an item that is no attribute, by its kind
-fine-known : (T : Entries) (s : Spot) (tag at : ℕ) (body : List ℕ) (x u : Items) (k : Kind) → Sound T → Placed s tag → known 0 tag ≡ some k → KindTold T (s .parent) tag body (known (s .parent) tag)
+fine-known : (T : Entries) (s : Spot) (tag at : ℕ) (body : List ℕ) (x u : Items) {k : Kind} → Sound T → Placed s tag → Stands tag k → KindTold T (s .parent) tag body (known (s .parent) tag)
     → Fine T (below s tag) x → Fine T (past s tag) u → Fine T s (item tag at body x u)
 unfolding isItems attribute
-fine-known T s tag at body x u HoldsItems ok p e h f g = fine-element T s tag at body x u p e f g
-fine-known T s tag at body x u HoldsPlain ok p e h f g =
-    fine-leaf T s tag at body x u HoldsPlain p (plain-tag tag e) e refl (plainly e) g
-fine-known T s tag at body x u HoldsTokens ok p e h f g =
-    subst (λ n. Placed s n → Fine T (past s n) u → Fine T s (item n at body x u)) (sym (eqb-true tag 4 (element-kind tag HoldsTokens e))) (λ p g. fine-table T s at body x u p g) p g
-fine-known T s tag at body x u HoldsText ok p e h f g =
-    or-elim (eqb tag 1) (eqb tag 6)
-    (λ q. subst (λ n. Placed s n → KindTold T (s .parent) n body (known (s .parent) n) → Fine T (past s n) u → Fine T s (item n at body x u)) (sym (eqb-true tag 1 q))
-    (λ p h g. fine-cdata T s at body x u ok p h g) p h g)
-    (λ q. subst (λ n. Placed s n → KindTold T (s .parent) n body (known (s .parent) n) → Fine T (past s n) u → Fine T s (item n at body x u)) (sym (eqb-true tag 6 q))
-    (λ p h g. fine-leaf T s 6 at body x u HoldsText p language-tag known-six refl
-    (language refl (rw (leaf-text T 6 body known-six) (told-text T (s .parent) 6 body ok (rw (known-anywhere (s .parent) 6 refl ∙ known-six) at h)))) g) p h g)
-    (element-kind tag HoldsText e)
-fine-known T s tag at body x u HoldsTime ok p e h f g = absurd (false≢true (element-kind tag HoldsTime e))
-fine-known T s tag at body x u HoldsBearer ok p e h f g = absurd (false≢true (element-kind tag HoldsBearer e))
-fine-known T s tag at body x u (HoldsNumber n) ok p e h f g = absurd (false≢true (element-kind tag (HoldsNumber n) e))
+fine-known T s tag at body x u ok p (stands-items e) h f g = fine-element T s tag at body x u p e f g
+fine-known T s tag at body x u ok p (stands-plain e) h f g = fine-leaf T s tag at body x u HoldsPlain p (plain-tag tag e) e refl (plainly e) g
+fine-known T s tag at body x u ok p stands-table h f g = fine-table T s at body x u p g
+fine-known T s tag at body x u ok p stands-cdata h f g = fine-cdata T s at body x u ok p h g
+fine-known T s tag at body x u ok p stands-language h f g =
+    fine-leaf T s 6 at body x u HoldsText p language-tag known-six refl
+    (language refl (rw (leaf-text T 6 body known-six) (told-text T (s .parent) 6 body ok (rw (known-anywhere (s .parent) 6 refl ∙ known-six) at h)))) g
 
 pub known-is : (o : Option Kind) → isKnown o ≡ true → (k : Kind) × (o ≡ some k)
 unfolding isKnown
@@ -236,7 +228,7 @@ fine-item T s tag at body x u ok i f g =
   where
     go : Placed s tag → (k : Kind) × (known (s .parent) tag ≡ some k) → (a : Bool) → attribute tag ≡ a → Fine T s (item tag at body x u)
     go p k true a = fine-attribute T s tag at body u (k .0) ok p (i .octet) (i .octets) a (k .1) (rw (k .1) at (i .kind)) x g
-    go p k false a = fine-known T s tag at body x u (k .0) ok p (sym (known-anywhere (s .parent) tag a) ∙ k .1) (i .kind) f g
+    go p k false a = fine-known T s tag at body x u ok p (stands tag (k .0) (sym (known-anywhere (s .parent) tag a) ∙ k .1)) (i .kind) f g
 
 pub fine : (T : Entries) → Sound T → (t : Items) (s : Spot) → Told T s t → Fine T s t
 fine T ok end s h = fine-end T s

@@ -14,7 +14,7 @@ use Rattle.values.specs.Table.{known, attribute}
 use Rattle.format.specs.Tree.{Items, find}
 use Rattle.format.specs.Tree.Items.{item}
 use Rattle.format.specs.Judge.{isTokens, isText, Context, isTop, allowed, latest, stageAfter, ofTop, late, lateBefore, within, waits, next}
-use Rattle.octets.proofs.Tests.{and-left, or-elim}
+use Rattle.octets.proofs.Tests.{and-left, or-elim, never}
 use Rattle.text.proofs.Expansion.{Sound, table-sound}
 use Rattle.values.proofs.Known.{known-two, known-three, known-four, known-anywhere}
 use Rattle.format.proofs.Rules.{Held, KindHeld}
@@ -100,9 +100,6 @@ pub attribute-latest : (tag : ℕ) → attribute tag ≡ true → latest tag ≡
 unfolding latest
 attribute-latest tag h = rw h
 
-pub not-both : (b : Bool) → b ≡ false → b ≡ true → ⊥
-not-both b p q = false≢true (sym p ∙ q)
-
 pub swap-eqb : (a b : ℕ) → eqb a b ≡ false → eqb b a ≡ false
 swap-eqb a b e = ne-eqb b a (λ q. eqb-false a b e (sym q))
 
@@ -128,7 +125,7 @@ pub valid-within : (c : Context) (tag : ℕ) (body : List ℕ) → Held c tag bo
 unfolding within
 valid-within c tag body k v = record {
   sound = v .sound;
-  opened = λ q. absurd (not-both (settled (within c tag)) q (settled-within c tag body k v));
+  opened = λ q. never (cc (settled-within c tag body k v));
   closed = λ q. refl;
   inner = inner-tag (c .parent) tag (v .inner) (k .allow) .1;
 }
@@ -151,11 +148,11 @@ valid-next c at tag body k v = record {
     sound false e = v .sound
 
     still : (b : Bool) → settled c ≡ b → not (isTop (c .parent)) || ltb 0 (stageAfter tag) ≡ false → c .table ≡ []
-    still true e q = absurd (not-both (not (isTop (c .parent)) || ltb 0 (stageAfter tag)) q (settled-next c at tag body k e))
+    still true e q = never (cc (settled-next c at tag body k e))
     still false e q = v .opened e
 
     opened : (a : Bool) → attribute tag ≡ a → not (isTop (c .parent)) || ltb 0 (stageAfter tag) ≡ false → cond (eqb tag 4) (entries body) (c .table) ≡ []
-    opened false a q = absurd (not-both (not (isTop (c .parent)) || ltb 0 (stageAfter tag)) q (settled-after c at tag body a))
+    opened false a q = never (cc (settled-after c at tag body a))
     opened true a q = rw (attribute-four tag a) (still (settled c) refl q)
 
     closed : (a t : Bool) → attribute tag ≡ a → isTop (c .parent) ≡ t → settled (next c at tag body) ≡ true → cond (a && t) (waits (known (c .parent) tag) (c .waiting) at body) [] ≡ []

@@ -1,11 +1,11 @@
 -- One induction for all that is said of accepted parts: at the end, at an unknown item, at an element that holds items, at any other known item.
 use mathlib.Core.Path.{_≡_, refl, subst}
-use mathlib.Core.Bool.{Bool, true, false, cond, _&&_}
+use mathlib.Core.Bool.{Bool, true, false, cond}
 use mathlib.Core.Option.{Option, none, some}
 use mathlib.Core.List.{List, [], _∷_}
 use Prim.Native.Nat.{ℕ, zero, suc, _+_, _*_, _≤_}
 use native.Mathlib.Omega.{arith}
-use lib.Dec.{eqb, leb}
+use lib.Dec.{eqb}
 use lib.ListN.{length, drop, length-drop}
 use lib.Seq.{length-take-le}
 use Rattle.octets.specs.Header.{headerSize, bodySize}
@@ -13,13 +13,13 @@ use Rattle.octets.specs.Places.{firstBody, afterFirst}
 use Rattle.values.specs.declared.Kind.{Kind}
 use Rattle.values.specs.Table.{known}
 use Rattle.values.specs.declared.Kind.the-variants.{HoldsItems, HoldsText, HoldsPlain, HoldsTokens, HoldsTime, HoldsBearer, HoldsNumber}
-use Rattle.format.specs.Answers.{refusal}
 use Rattle.format.specs.Tree.{Items, count}
 use Rattle.format.specs.Tree.Items.{end, item}
-use Rattle.format.specs.Judge.{Judged, isKnown, isItems, Context, items, broken, byKind, joined, followed, late, within, next, judge, outermost, rule}
+use Rattle.format.specs.Judge.{Judged, isKnown, isItems, Context, items, broken, byKind, joined, followed, late, within, next, judge, outermost}
 use Rattle.format.specs.Judge.Judged.{refused, accepted}
 use Rattle.octets.proofs.Frames.{header-two}
-use Rattle.format.proofs.Rules.{fitting, unless-none, unless-accepted, never, same-tree}
+use Rattle.octets.proofs.Tests.{never}
+use Rattle.format.proofs.Rules.{fitting, unless-none, unless-accepted, same-tree, accepted-read}
 
 -- the rules of a part's first item hold
 abbrev pub Unbroken : Context → ℕ → ℕ → List ℕ → Type 0
@@ -45,12 +45,12 @@ pub record Cases (P : Context → ℕ → List ℕ → Items → Type 0) : Type 
 module _ (P : Context → ℕ → List ℕ → Items → Type 0) (cases : Cases P) where
   via-followed : (Q : Items → Type 0) (f : Items → Items) (a : Judged) (t : Items) → ((u : Items) → a ≡ accepted u → Q (f u)) → followed f a ≡ accepted t → Q t
   unfolding followed
-  via-followed Q f (refused r) t g h = never r t h
+  via-followed Q f (refused r) t g h = never (cc)
   via-followed Q f (accepted u) t g h = subst Q (same-tree (f u) t h) (g u refl)
 
   via-joined : (Q : Items → Type 0) (f : Items → Items → Items) (a b : Judged) (t : Items) → ((s u : Items) → a ≡ accepted s → b ≡ accepted u → Q (f s u)) → joined f a b ≡ accepted t → Q t
   unfolding joined
-  via-joined Q f (refused r) b t g h = never r t h
+  via-joined Q f (refused r) b t g h = never (cc)
   via-joined Q f (accepted s) b t g h = via-followed Q (f s) b t (λ u e. g s u refl e) h
 
   via-kind : (Q : Items → Type 0) (kd : Option Kind) (f : Items → Items → Items) (a b : Judged) (t : Items)
@@ -71,7 +71,7 @@ module _ (P : Context → ℕ → List ℕ → Items → Type 0) (cases : Cases 
 
   all-zero : All zero
   unfolding items
-  all-zero c at part t h = never (refusal 0 0) t h
+  all-zero c at part t h = never (cc)
 
   all-end : (k : ℕ) (c : Context) (at : ℕ) (t : Items) → items (suc k) c at [] ≡ accepted t → P c at [] t
   unfolding items
@@ -110,10 +110,7 @@ shorter c at tag rest q =
 
 -- what holds of every accepted part holds of an accepted object
 pub judged-all : (P : Context → ℕ → List ℕ → Items → Type 0) → Cases P → (o : List ℕ) (t : Items) → judge o ≡ accepted t → P outermost 0 o t
-unfolding judge
-judged-all P cases o t h =
-    accepted-all P cases (suc (length o)) outermost 0 o t
-    (unless-accepted (rule 1 0 (leb 1 (length o) && leb (length o) 32_768)) (items (suc (length o)) outermost 0 o) t h)
+judged-all P cases o t h = accepted-all P cases (suc (length o)) outermost 0 o t (accepted-read o t h)
 
 -- no accepted object has more records than half its octets (document 01, change request 2026-09, counts unknown items too)
 abbrev Few : Context → ℕ → List ℕ → Items → Type 0

@@ -11,6 +11,7 @@ use lib.Seq.{getD-set-same, getD-set-other}
 use Rattle.format.specs.declared.Record.{Record}
 use Rattle.format.specs.Writer.{tabled}
 use Rattle.format.specs.Calls.{Lists, places, row, put, lay}
+use Rattle.format.specs.Lent.{Within}
 
 -- ---- one laying after another
 pub lay-none : (i : ℕ) (l : Lists) → lay i [] l ≡ l
@@ -53,17 +54,9 @@ pub places-lay : (i : ℕ) (rs : List Record) (l : Lists) → places (lay i rs l
 places-lay i rs l = places-same (lay-lengths i rs l)
 
 -- a place is one that every list has
-pub record Inside (i : ℕ) (l : Lists) : Type 0 where
-  pub tags : i < length (l .tags)
-  pub kinds : i < length (l .kinds)
-  pub depths : i < length (l .depths)
-  pub parents : i < length (l .parents)
-  pub starts : i < length (l .starts)
-  pub sizes : i < length (l .sizes)
-
-pub inside : (i : ℕ) (l : Lists) → i < places l → Inside i l
+pub within-places : (i : ℕ) (l : Lists) → i < places l → Within i l
 unfolding places
-inside i l h = record { tags = omega arith; kinds = omega arith; depths = omega arith; parents = omega arith; starts = omega arith; sizes = omega arith }
+within-places i l h = omega arith
 
 -- ---- the record of a number
 same-record : (a b : Record) → a .tag ≡ b .tag → a .kind ≡ b .kind → a .depth ≡ b .depth → a .parent ≡ b .parent → a .start ≡ b .start → a .size ≡ b .size → a ≡ b
@@ -71,7 +64,7 @@ same-record a b p q r s t u = λ i. record { tag = p i; kind = q i; depth = r i;
 
 pub row-put : (i : ℕ) (r : Record) (l : Lists) → i < places l → row (put i r l) i ≡ r
 row-put i r l h =
-    let w = inside i l h in
+    let w = within-places i l h in
     same-record _ _ (getD-set-same (l .tags) i (r .tag) 0 (w .tags)) (getD-set-same (l .kinds) i (r .kind) 0 (w .kinds)) (getD-set-same (l .depths) i (r .depth) 0 (w .depths))
     (getD-set-same (l .parents) i (r .parent) 0 (w .parents)) (getD-set-same (l .starts) i (r .start) 0 (w .starts)) (getD-set-same (l .sizes) i (r .size) 0 (w .sizes))
 

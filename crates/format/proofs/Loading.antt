@@ -25,14 +25,15 @@ use Rattle.format.specs.Meaning.Meaning.{leaf}
 use Rattle.format.specs.WellFormed.{ValueOk}
 use Rattle.format.specs.Writer.{Spot, below, past, atTop, placed, bodyKeeps, keeps, isEnd, ruled}
 use Rattle.format.specs.Loaded.{stored, storeIn, loadedIn, storeOf, loadedOf}
-use Rattle.octets.proofs.Tests.{or-elim}
+use Rattle.octets.proofs.Tests.{never}
 use Rattle.text.proofs.Words.{expanded-empty}
 use Rattle.text.proofs.Expansion.{Sound, shown-expanded}
 use Rattle.values.proofs.Values.{valueKind, proper-means, proper-fits}
-use Rattle.values.proofs.Known.{ElementTag, items-tag, plain-tag, language-tag, known-anywhere, known-cdata, known-one, known-four, known-six, element-kind, attribute-kind}
+use Rattle.values.proofs.Known.{ElementTag, items-tag, plain-tag, language-tag, known-anywhere, known-cdata, known-one, known-six, attribute-kind, Stands, stands}
+use Rattle.values.proofs.Known.Stands.{stands-items, stands-plain, stands-cdata, stands-table, stands-language}
 use Rattle.format.proofs.Spans.{Located}
 use Rattle.format.proofs.Means.{opens-items, opens-leaf, means-table, means-element, means-leaf, attribute-shut, attribute-no-child}
-use Rattle.format.proofs.Force.{attribute-four, not-both}
+use Rattle.format.proofs.Force.{attribute-four}
 use Rattle.format.proofs.Told.{Told, ItemTold, KindTold, Among, among-more, among-both, accepted-told, accepted-sound}
 use Rattle.format.proofs.Fine.{Fine, fine, Placed, placed-parts, told-text, told-proper, known-is, stage-past, stage-up}
 
@@ -66,7 +67,7 @@ loaded-find T p a s f (item tag from body x u) at = go (λ n. loaded-find T p a 
     Goal l = find a l ≡ Option·map (stored T (known p a)) (cond (eqb a tag) (some body) (find a u))
 
     held : ((n : ℕ) → find a (loadedIn T p n u) ≡ Option·map (stored T (known p a)) (find a u)) → opens tag ≡ true → (y : Items) (n : ℕ) → Goal (item tag 0 [] y (loadedIn T p n u))
-    held ih o y n = let e : eqb a tag ≡ false = ne-eqb a tag (λ q. not-both (opens a) s (ap opens q ∙ o)) in rw e (ih n)
+    held ih o y n = let e : eqb a tag ≡ false = ne-eqb a tag (λ q. never (cc (ap opens q))) in rw e (ih n)
 
     single : ((n : ℕ) → find a (loadedIn T p n u) ≡ Option·map (stored T (known p a)) (find a u)) → (b : Bool) → eqb a tag ≡ b → (n : ℕ)
         → cond b (some (stored T (known p tag) body)) (find a (loadedIn T p n u)) ≡ Option·map (stored T (known p a)) (cond b (some body) (find a u))
@@ -75,12 +76,9 @@ loaded-find T p a s f (item tag from body x u) at = go (λ n. loaded-find T p a 
 
     go : ((n : ℕ) → find a (loadedIn T p n u) ≡ Option·map (stored T (known p a)) (find a u)) → (b : Bool) → eqb tag 4 ≡ b → (c : Bool) → opens tag ≡ c
         → Goal (cond b (loadedIn T p at u) (cond c (item tag 0 [] (loadedIn T tag at x) (loadedIn T p (at + length (storeIn T tag x)) u)) (item tag at (stored T (known p tag) body) end (loadedIn T p (at + length (stored T (known p tag) body)) u))))
-    go ih true q c o = let e : eqb a tag ≡ false = ne-eqb a tag (λ w. not-both (eqb a 4) f (ap (λ n. eqb n 4) w ∙ q)) in rw e (ih at)
+    go ih true q c o = let e : eqb a tag ≡ false = ne-eqb a tag (λ w. never (cc (ap (λ n. eqb n 4) w))) in rw e (ih at)
     go ih false q true o = held ih o (loadedIn T tag at x) (at + length (storeIn T tag x))
     go ih false q false o = single ih (eqb a tag) refl (at + length (stored T (known p tag) body))
-
-text-not-table : (tag : ℕ) → known 0 tag ≡ some HoldsText → eqb tag 4 ≡ false
-text-not-table tag e = ne-eqb tag 4 (λ q. let w : _≡_ {A = Option Kind} (some HoldsText) (some HoldsTokens) = sym e ∙ (ap (known 0) q ∙ known-four) in let z : _≡_ {A = ℕ} 0 1 = cc in omega arith)
 
 -- the value of an attribute is read back from its stored octets
 loaded-value : (T : Entries) (p a : ℕ) (o : Option (List ℕ)) (k : Option Kind) → known p a ≡ k → ValueOk p a (valueIn T o k) → valueIn [] (Option·map (stored T k) o) k ≡ valueIn T o k
@@ -109,16 +107,14 @@ loaded-cdata T p t at = rw (loaded-find T p 1 cdata-shut refl t at, known-cdata 
     go (some o) = ap some (expanded-empty (expanded T o))
 
 -- the octets of an element without items are read back from its stored octets
-loaded-leaf : (T : Entries) (p tag : ℕ) (body : List ℕ) (k : Kind) → attribute tag ≡ false → known 0 tag ≡ some k → isItems (some k) ≡ false → eqb tag 4 ≡ false
+loaded-leaf : (T : Entries) (p tag : ℕ) (body : List ℕ) {k : Kind} → Stands tag k → known p tag ≡ some k → isItems (some k) ≡ false → eqb tag 4 ≡ false
     → leafOctets [] tag (stored T (known p tag) body) ≡ leafOctets T tag body
 unfolding stored meant octetsOf leafOctets isText isItems
-loaded-leaf T p tag body HoldsItems a e l f = absurd (false≢true (sym l))
-loaded-leaf T p tag body HoldsTokens a e l f = absurd (not-both (eqb tag 4) f (element-kind tag HoldsTokens e))
-loaded-leaf T p tag body HoldsText a e l f = rw (known-anywhere p tag a, e) (expanded-empty (expanded T body))
-loaded-leaf T p tag body HoldsPlain a e l f = rw (known-anywhere p tag a, e)
-loaded-leaf T p tag body HoldsTime a e l f = absurd (false≢true (element-kind tag HoldsTime e))
-loaded-leaf T p tag body HoldsBearer a e l f = absurd (false≢true (element-kind tag HoldsBearer e))
-loaded-leaf T p tag body (HoldsNumber n) a e l f = absurd (false≢true (element-kind tag (HoldsNumber n) e))
+loaded-leaf T p tag body (stands-items z) e l f = never (cc)
+loaded-leaf T p tag body (stands-plain z) e l f = rw (e, z)
+loaded-leaf T p tag body stands-table e l f = never (cc)
+loaded-leaf T p tag body stands-cdata e l f = rw (e, known-one) (expanded-empty (expanded T body))
+loaded-leaf T p tag body stands-language e l f = rw (e, known-six) (expanded-empty (expanded T body))
 
 -- what an item adds to a meaning, if it is neither attribute nor CDATA nor the token table
 abbrev Meant : Entries → Spot → Items → Type 0
@@ -152,28 +148,21 @@ meant-leaf T s tag from body x u k t e l later at =
     let n = at + length o in
     ap (means []) (loaded-single T (s .parent) at tag from body x u (t .notTable) (opens-leaf tag k e l))
     ∙ (means-leaf [] tag at o end (loadedIn T (s .parent) n u) k t e l
-    ∙ (ap₂ (λ a b. leaf tag a b) (loaded-leaf T (s .parent) tag body k (t .notAttribute) e l (t .notTable)) (later n) ∙ sym (means-leaf T tag from body x u k t e l)))
+    ∙ (ap₂ (λ a b. leaf tag a b) (loaded-leaf T (s .parent) tag body (stands tag k e) (known-anywhere (s .parent) tag (t .notAttribute) ∙ e) l (t .notTable)) (later n) ∙ sym (means-leaf T tag from body x u k t e l)))
 
 cdata-not : isChild 1 ≡ false
 unfolding isChild attribute
 cdata-not = refl
 
 -- an item that is no attribute, by its kind
-meant-known : (T : Entries) (s : Spot) (tag from : ℕ) (body : List ℕ) (x u : Items) (k : Kind) → known 0 tag ≡ some k → Fine T (below s tag) x → Meant T (below s tag) x → Meant T (past s tag) u
+meant-known : (T : Entries) (s : Spot) (tag from : ℕ) (body : List ℕ) (x u : Items) {k : Kind} → Stands tag k → Fine T (below s tag) x → Meant T (below s tag) x → Meant T (past s tag) u
     → Meant T s (item tag from body x u)
 unfolding isItems
-meant-known T s tag from body x u HoldsItems e f inside later = meant-element T s tag from body x u e f inside later
-meant-known T s tag from body x u HoldsPlain e f inside later = meant-leaf T s tag from body x u HoldsPlain (plain-tag tag e) e refl later
-meant-known T s tag from body x u HoldsTokens e f inside later =
-    subst (λ n. Meant T (past s n) u → Meant T s (item n from body x u)) (sym (eqb-true tag 4 (element-kind tag HoldsTokens e))) (λ g. meant-table T s from body x u g) later
-meant-known T s tag from body x u HoldsText e f inside later =
-    or-elim (eqb tag 1) (eqb tag 6)
-    (λ q. subst (λ n. Meant T (past s n) u → Meant T s (item n from body x u)) (sym (eqb-true tag 1 q)) (λ g. meant-silent T s 1 from body x u cdata-not refl cdata-shut g) later)
-    (λ q. subst (λ n. Meant T (past s n) u → Meant T s (item n from body x u)) (sym (eqb-true tag 6 q)) (λ g. meant-leaf T s 6 from body x u HoldsText language-tag known-six refl g) later)
-    (element-kind tag HoldsText e)
-meant-known T s tag from body x u HoldsTime e f inside later = absurd (false≢true (element-kind tag HoldsTime e))
-meant-known T s tag from body x u HoldsBearer e f inside later = absurd (false≢true (element-kind tag HoldsBearer e))
-meant-known T s tag from body x u (HoldsNumber n) e f inside later = absurd (false≢true (element-kind tag (HoldsNumber n) e))
+meant-known T s tag from body x u (stands-items e) f inside later = meant-element T s tag from body x u e f inside later
+meant-known T s tag from body x u (stands-plain e) f inside later = meant-leaf T s tag from body x u HoldsPlain (plain-tag tag e) e refl later
+meant-known T s tag from body x u stands-table f inside later = meant-table T s from body x u later
+meant-known T s tag from body x u stands-cdata f inside later = meant-silent T s 1 from body x u cdata-not refl cdata-shut later
+meant-known T s tag from body x u stands-language f inside later = meant-leaf T s 6 from body x u HoldsText language-tag known-six refl later
 
 meant-item : (T : Entries) (s : Spot) (tag from : ℕ) (body : List ℕ) (x u : Items) → ItemTold T s tag body x → Fine T (below s tag) x → Meant T (below s tag) x → Meant T (past s tag) u
     → Meant T s (item tag from body x u)
@@ -182,7 +171,7 @@ meant-item T s tag from body x u i f inside later = go (attribute tag) refl (kno
   where
     go : (a : Bool) → attribute tag ≡ a → (k : Kind) × (known (s .parent) tag ≡ some k) → Meant T s (item tag from body x u)
     go true a k = meant-silent T s tag from body x u (attribute-no-child tag a) (attribute-four tag a) (attribute-shut tag a) later
-    go false a k = meant-known T s tag from body x u (k .0) (sym (known-anywhere (s .parent) tag a) ∙ k .1) f inside later
+    go false a k = meant-known T s tag from body x u (stands tag (k .0) (sym (known-anywhere (s .parent) tag a) ∙ k .1)) f inside later
 
 loaded-meant : (T : Entries) → Sound T → (t : Items) (s : Spot) → Told T s t → Meant T s t
 unfolding means loadedIn
@@ -269,19 +258,17 @@ keeps-single T s tag from body x u k p e f o b later at stage seen l h =
     (ruled-item (lower s stage seen) tag at own end (loadedIn T (s .parent) n u) (or-true (opens tag)) (placed-lower s tag p stage seen l h) (rw e b) refl (keeps-after T s tag n u later stage seen h))
 
 -- an item that is no attribute, by its kind
-keeps-known : (T : Entries) (s : Spot) (tag from : ℕ) (body : List ℕ) (x u : Items) (k : Kind) → Sound T → Placed s tag → attribute tag ≡ false → known (s .parent) tag ≡ some k → known 0 tag ≡ some k
+keeps-known : (T : Entries) (s : Spot) (tag from : ℕ) (body : List ℕ) (x u : Items) {k : Kind} → Sound T → Placed s tag → known (s .parent) tag ≡ some k → Stands tag k
     → KindTold T (s .parent) tag body (some k) → Keeps T (below s tag) x → Keeps T (past s tag) u → Keeps T s (item tag from body x u)
 unfolding isItems meant
-keeps-known T s tag from body x u HoldsItems ok p a e z h inside later = keeps-held T s tag from body x u p e (items-tag tag z .notTable) (opens-items tag z) inside later
-keeps-known T s tag from body x u HoldsPlain ok p a e z h inside later =
+keeps-known T s tag from body x u ok p e (stands-items z) h inside later = keeps-held T s tag from body x u p e (items-tag tag z .notTable) (opens-items tag z) inside later
+keeps-known T s tag from body x u ok p e (stands-plain z) h inside later =
     keeps-single T s tag from body x u HoldsPlain p e (plain-tag tag z .notTable) (opens-leaf tag HoldsPlain z refl) (value-keeps T (s .parent) tag body HoldsPlain ok h refl (λ v. plain)) later
-keeps-known T s tag from body x u HoldsTokens ok p a e z h inside later =
-    subst (λ n. Placed s n → Keeps T (past s n) u → Keeps T s (item n from body x u)) (sym (eqb-true tag 4 (element-kind tag HoldsTokens z))) (λ p g. keeps-table T s from body x u p g) p later
-keeps-known T s tag from body x u HoldsText ok p a e z h inside later =
-    keeps-single T s tag from body x u HoldsText p e (text-not-table tag z) (opens-leaf tag HoldsText z refl) (words-keep T (s .parent) tag body ok h) later
-keeps-known T s tag from body x u HoldsTime ok p a e z h inside later = absurd (false≢true (element-kind tag HoldsTime z))
-keeps-known T s tag from body x u HoldsBearer ok p a e z h inside later = absurd (false≢true (element-kind tag HoldsBearer z))
-keeps-known T s tag from body x u (HoldsNumber n) ok p a e z h inside later = absurd (false≢true (element-kind tag (HoldsNumber n) z))
+keeps-known T s tag from body x u ok p e stands-table h inside later = keeps-table T s from body x u p later
+keeps-known T s tag from body x u ok p e stands-cdata h inside later =
+    keeps-single T s 1 from body x u HoldsText p e refl (opens-leaf 1 HoldsText known-one refl) (words-keep T (s .parent) 1 body ok h) later
+keeps-known T s tag from body x u ok p e stands-language h inside later =
+    keeps-single T s 6 from body x u HoldsText p e refl (opens-leaf 6 HoldsText known-six refl) (words-keep T (s .parent) 6 body ok h) later
 
 keeps-item : (T : Entries) (s : Spot) (tag from : ℕ) (body : List ℕ) (x u : Items) → Sound T → ItemTold T s tag body x → Keeps T (below s tag) x → Keeps T (past s tag) u
     → Keeps T s (item tag from body x u)
@@ -295,7 +282,7 @@ keeps-item T s tag from body x u ok i inside later = go (attribute tag) refl (kn
         let h : KindTold T (s .parent) tag body (some (k .0)) = rw (k .1) at (i .kind) in
         keeps-single T s tag from body x u (k .0) p (k .1) (attribute-four tag a) (attribute-shut tag a)
         (value-keeps T (s .parent) tag body (k .0) ok h (attribute-kind (s .parent) tag (k .0) a (k .1)) (λ v. told-proper T (s .parent) tag body (k .0) ok (i .octets) a (k .1) h)) later
-    go false a k = keeps-known T s tag from body x u (k .0) ok p a (k .1) (sym (known-anywhere (s .parent) tag a) ∙ k .1) (rw (k .1) at (i .kind)) inside later
+    go false a k = keeps-known T s tag from body x u ok p (k .1) (stands tag (k .0) (sym (known-anywhere (s .parent) tag a) ∙ k .1)) (rw (k .1) at (i .kind)) inside later
 
 loaded-keeps : (T : Entries) → Sound T → (t : Items) (s : Spot) → Told T s t → Keeps T s t
 unfolding loadedIn ruled

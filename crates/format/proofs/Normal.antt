@@ -4,11 +4,10 @@ use mathlib.Core.Logic.{_↔_}
 use mathlib.Core.Option.{some, Option·some-injective, Option·none-ne-some}
 use mathlib.Core.List.{List}
 use Prim.Native.Nat.{ℕ, _≤_}
-use native.Mathlib.Omega.{arith}
 use lib.ListN.{length}
 use Rattle.octets.specs.Numbers.{Octets}
+use Rattle.octets.proofs.Tests.{never}
 use Rattle.format.specs.Tree.{Items, withoutDefaults}
-use Rattle.format.specs.Tree.Items.{end, item}
 use Rattle.format.specs.Judge.{Judged, judge}
 use Rattle.format.specs.Judge.Judged.{refused, accepted}
 use Rattle.format.specs.Meaning.{Meaning, tableOf, meaningOf, ifAccepted, meaning, encode, normalOf}
@@ -19,14 +18,11 @@ use Rattle.format.proofs.Defaults.{none-without}
 use Rattle.format.proofs.Told.{top, accepted-told, accepted-sound}
 use Rattle.format.proofs.Fine.{told-ok}
 
-item-no-end : (tag at : ℕ) (body : List ℕ) (x u : Items) → item tag at body x u ≡ end → ⊥
-item-no-end tag at body x u e = let z : _≡_ {A = ℕ} 0 1 = cc in omega arith
-
 -- the meaning of any accepted object is well-formed
 pub accepted-ok : (o : List ℕ) (t : Items) → Octets o → judge o ≡ accepted t → ObjectOk (meaningOf t)
 accepted-ok o t os h =
     let w = top o t os h in
-    told-ok (tableOf t) (accepted-sound o t os h) t (λ e. item-no-end (w .tag) (w .from) (w .body) (w .inside) end (sym (w .is) ∙ e)) (accepted-told o t os h)
+    told-ok (tableOf t) (accepted-sound o t os h) t (λ e. never (cc (w .is))) (accepted-told o t os h)
 
 -- an accepted object has a tree, and it alone
 accepted-is : {A : Type 0} (f : Items → A) (a : Judged) (x : A) → ifAccepted f a ≡ some x → (t : Items) × (a ≡ accepted t) × (f t ≡ x)

@@ -4,10 +4,11 @@ use mathlib.Core.Bool.{Bool, true, false, not, _&&_, _||_}
 use mathlib.Core.Option.{Option, none, some, Option·some-ne-none}
 use mathlib.Core.List.{List, [], _∷_}
 use Prim.Native.Nat.{ℕ, _+_, _≤_}
-use native.Mathlib.Omega.{arith}
 use lib.Dec.{eqb, leb}
+use lib.ListN.{length}
 use borrow.Author.Tests.{leb-true, le-leb}
 use Rattle.octets.specs.Numbers.{among}
+use Rattle.octets.proofs.Tests.{and-left, and-right, never}
 use Rattle.text.specs.Text.{text}
 use Rattle.text.specs.Tokens.{isTable, covered, shownLength}
 use Rattle.values.specs.declared.Kind.{Kind}
@@ -15,8 +16,8 @@ use Rattle.values.specs.Table.{known, attribute}
 use Rattle.format.specs.declared.Refusal.{Refusal}
 use Rattle.format.specs.Answers.{refusal, wrongValue}
 use Rattle.format.specs.Tree.{Items}
-use Rattle.format.specs.Judge.{Judged, isKnown, isTokens, isText, isValue, wrongIn, Context, allowed, latest, shown, ofTop, rule, valueRule, first, kindRules, itemRules, own, lateBefore, lateAfter, broken, unless}
-use Rattle.format.specs.Judge.Judged.{refused, accepted}
+use Rattle.format.specs.Judge.{Judged, isKnown, isTokens, isText, isValue, wrongIn, Context, allowed, latest, shown, ofTop, rule, valueRule, first, kindRules, itemRules, own, lateBefore, lateAfter, broken, unless, outermost, read, judge}
+use Rattle.format.specs.Judge.Judged.{accepted}
 
 pub first-head : (x : Option Refusal) (xs : List (Option Refusal)) → first (x ∷ xs) ≡ none → x ≡ none
 unfolding first
@@ -46,18 +47,27 @@ value-true place field false h = absurd (Option·some-ne-none (wrongValue place 
 pub unless-none : (b : Option Refusal) (a : Judged) (t : Items) → unless b a ≡ accepted t → b ≡ none
 unfolding unless
 unless-none none a t h = refl
-unless-none (some r) a t h = let z : _≡_ {A = ℕ} 0 1 = cc in absurd (omega arith)
+unless-none (some r) a t h = never (cc)
 
 pub unless-accepted : (b : Option Refusal) (a : Judged) (t : Items) → unless b a ≡ accepted t → a ≡ accepted t
 unfolding unless
 unless-accepted none a t h = h
-unless-accepted (some r) a t h = let z : _≡_ {A = ℕ} 0 1 = cc in absurd (omega arith)
-
-pub never : {C : Type 0} (r : Refusal) (t : Items) → refused r ≡ accepted t → C
-never r t h = let z : _≡_ {A = ℕ} 0 1 = cc in absurd (omega arith)
+unless-accepted (some r) a t h = never (cc)
 
 pub same-tree : (t u : Items) → accepted t ≡ accepted u → t ≡ u
 same-tree t u h = cc
+
+-- an accepted object keeps rule 1, and its octets were read
+module _ (o : List ℕ) (t : Items) (h : judge o ≡ accepted t) where
+  pub accepted-size : (1 ≤ length o) × (length o ≤ 32_768)
+  unfolding judge
+  accepted-size =
+      let b = rule-true 1 0 (leb 1 (length o) && leb (length o) 32_768) (unless-none _ _ t h) in
+      (leb-true 1 (length o) (and-left (leb 1 (length o)) (leb (length o) 32_768) b), leb-true (length o) 32_768 (and-right (leb 1 (length o)) (leb (length o) 32_768) b))
+
+  pub accepted-read : read outermost 0 o ≡ accepted t
+  unfolding judge
+  accepted-read = unless-accepted (rule 1 0 (leb 1 (length o) && leb (length o) 32_768)) (read outermost 0 o) t h
 
 -- rules 9 to 13
 pub record KindHeld (c : Context) (tag : ℕ) (body : List ℕ) (k : Option Kind) : Type 0 where

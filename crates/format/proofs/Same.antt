@@ -11,7 +11,7 @@ use lib.Dec.{eqb, leb, ltb}
 use lib.ListN.{length}
 use borrow.Author.Tests.{eqb-true, eqb-false, eq-eqb, ltb-true, leb-true, le-leb, lt-ltb}
 use Rattle.octets.specs.Numbers.{Octets}
-use Rattle.octets.proofs.Tests.{and-left, and-right, and-true}
+use Rattle.octets.proofs.Tests.{and-left, and-right, and-true, never, chosen}
 use Rattle.values.specs.declared.Kind.{Kind}
 use Rattle.values.specs.Table.{attribute}
 use Rattle.values.specs.Values.{Value, meant, octetsOf}
@@ -125,15 +125,6 @@ attributes-exactly tag f g p q = (
 
 -- ---- meanings
 
-nothing-element : (tag : ℕ) (f : ℕ → Option Value) (c : Meaning) (d : Option (List ℕ)) (a : Meaning) → nothing ≡ element tag f c d a → ⊥
-nothing-element tag f c d a e = let z : _≡_ {A = ℕ} 0 1 = cc in omega arith
-
-nothing-leaf : (tag : ℕ) (o : List ℕ) (a : Meaning) → nothing ≡ leaf tag o a → ⊥
-nothing-leaf tag o a e = let z : _≡_ {A = ℕ} 0 1 = cc in omega arith
-
-leaf-element : (tag : ℕ) (o : List ℕ) (b : Meaning) (tag′ : ℕ) (f : ℕ → Option Value) (c : Meaning) (d : Option (List ℕ)) (a : Meaning) → leaf tag o b ≡ element tag′ f c d a → ⊥
-leaf-element tag o b tag′ f c d a e = let z : _≡_ {A = ℕ} 0 1 = cc in omega arith
-
 cdata-exactly : (d d′ : Option (List ℕ)) → sameMaybe sameOctets d d′ ≡ true ↔ d ≡ d′
 cdata-exactly d d′ = maybe-same sameOctets d d′ (λ x y e f. octets-exactly x y)
 
@@ -204,14 +195,14 @@ module _ (tag tag′ : ℕ) (o o′ : List ℕ) (a a′ : Meaning) (after : same
 pub meaning-exactly : (m n : Meaning) (p d s p′ d′ s′ : ℕ) → WellFormed p d s m → WellFormed p′ d′ s′ n → sameMeaning m n ≡ true ↔ m ≡ n
 unfolding sameMeaning
 meaning-exactly nothing nothing p d s p′ d′ s′ ok ok′ = ((λ h. refl), (λ e. refl))
-meaning-exactly nothing (element tag f c x a) p d s p′ d′ s′ ok ok′ = ((λ h. absurd (false≢true h)), (λ e. absurd (nothing-element tag f c x a e)))
-meaning-exactly nothing (leaf tag o a) p d s p′ d′ s′ ok ok′ = ((λ h. absurd (false≢true h)), (λ e. absurd (nothing-leaf tag o a e)))
-meaning-exactly (element tag f c x a) nothing p d s p′ d′ s′ ok ok′ = ((λ h. absurd (false≢true h)), (λ e. absurd (nothing-element tag f c x a (sym e))))
+meaning-exactly nothing (element tag f c x a) p d s p′ d′ s′ ok ok′ = ((λ h. absurd (false≢true h)), (λ e. never (cc)))
+meaning-exactly nothing (leaf tag o a) p d s p′ d′ s′ ok ok′ = ((λ h. absurd (false≢true h)), (λ e. never (cc)))
+meaning-exactly (element tag f c x a) nothing p d s p′ d′ s′ ok ok′ = ((λ h. absurd (false≢true h)), (λ e. never (cc)))
 meaning-exactly (element tag f c x a) (element tag′ f′ c′ x′ a′) p d s p′ d′ s′ ok ok′ =
     element-exactly tag tag′ f f′ c c′ x x′ a a′ (ok .2) (ok′ .2) (meaning-exactly c c′ _ _ _ _ _ _ (ok .3) (ok′ .3)) (meaning-exactly a a′ _ _ _ _ _ _ (ok .5) (ok′ .5))
-meaning-exactly (element tag f c x a) (leaf tag′ o a′) p d s p′ d′ s′ ok ok′ = ((λ h. absurd (false≢true h)), (λ e. absurd (leaf-element tag′ o a′ tag f c x a (sym e))))
-meaning-exactly (leaf tag o a) nothing p d s p′ d′ s′ ok ok′ = ((λ h. absurd (false≢true h)), (λ e. absurd (nothing-leaf tag o a (sym e))))
-meaning-exactly (leaf tag o a) (element tag′ f c x a′) p d s p′ d′ s′ ok ok′ = ((λ h. absurd (false≢true h)), (λ e. absurd (leaf-element tag o a tag′ f c x a′ e)))
+meaning-exactly (element tag f c x a) (leaf tag′ o a′) p d s p′ d′ s′ ok ok′ = ((λ h. absurd (false≢true h)), (λ e. never (cc)))
+meaning-exactly (leaf tag o a) nothing p d s p′ d′ s′ ok ok′ = ((λ h. absurd (false≢true h)), (λ e. never (cc)))
+meaning-exactly (leaf tag o a) (element tag′ f c x a′) p d s p′ d′ s′ ok ok′ = ((λ h. absurd (false≢true h)), (λ e. never (cc)))
 meaning-exactly (leaf tag o a) (leaf tag′ o′ a′) p d s p′ d′ s′ ok ok′ = leaf-exactly tag tag′ o o′ a a′ (meaning-exactly a a′ _ _ _ _ _ _ (ok .2) (ok′ .2))
 
 object-formed : (m : Meaning) → ObjectOk m → WellFormed 0 1 0 m
@@ -236,17 +227,13 @@ module _ (o p : List ℕ) (t u : Items) (os : Octets o) (ps : Octets p) (x : jud
 
   pub same-exactly : sameAnswer (judge o) (judge p) ≡ Same ↔ meaningOf t ≡ meaningOf u
   same-exactly = (
-    (λ h. objects-exactly o p t u os ps x y .0 (go (sameMeaning (meaningOf t) (meaningOf u)) (sym told ∙ h))),
+    (λ h. objects-exactly o p t u os ps x y .0 (chosen (sameMeaning (meaningOf t) (meaningOf u)) (sym h ∙ told) (λ z. never (cc)) .0)),
     (λ e. told ∙ rw (objects-exactly o p t u os ps x y .1 e)),
   )
-    where
-      go : (b : Bool) → cond b Same Different ≡ Same → b ≡ true
-      go true h = refl
-      go false h = let z : _≡_ {A = ℕ} 0 1 = cc in absurd (omega arith)
 
   pub different-exactly : sameAnswer (judge o) (judge p) ≡ Different ↔ (meaningOf t ≡ meaningOf u → ⊥)
   different-exactly = (
-    (λ h e. let z : Different ≡ Same = sym h ∙ same-exactly .1 e in let z : _≡_ {A = ℕ} 0 1 = cc in omega arith),
+    (λ h e. let z : Different ≡ Same = sym h ∙ same-exactly .1 e in never (cc)),
     (λ d. go (sameMeaning (meaningOf t) (meaningOf u)) refl d),
   )
     where

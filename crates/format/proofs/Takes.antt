@@ -13,13 +13,14 @@ use borrow.Author.Tests.{eq-eqb, ne-eqb, eqb-true, ltb-true}
 use Rattle.octets.specs.Numbers.{among, Octets}
 use Rattle.text.specs.Tokens.{Entries}
 use Rattle.values.specs.declared.Kind.{Kind}
-use Rattle.values.specs.declared.Kind.the-variants.{HoldsItems, HoldsTokens, HoldsText, HoldsPlain, HoldsTime, HoldsBearer, HoldsNumber}
+use Rattle.values.specs.declared.Kind.the-variants.{HoldsItems, HoldsText, HoldsPlain}
 use Rattle.values.specs.Table.{known, attribute}
 use Rattle.values.specs.Values.{Value, fits, meant, octetsOf}
 use Rattle.values.specs.Calls.{defaultOctets}
-use Rattle.octets.proofs.Tests.{or-elim, cond-same}
+use Rattle.octets.proofs.Tests.{cond-same}
 use Rattle.values.proofs.DefaultValues.{element-keeps, default-length-one}
-use Rattle.values.proofs.Known.{ElementTag, items-tag, plain-tag, language-tag, known-anywhere, known-cdata, known-one, known-six, element-kind}
+use Rattle.values.proofs.Known.{ElementTag, items-tag, plain-tag, language-tag, known-anywhere, known-cdata, known-one, known-six, Stands, stands}
+use Rattle.values.proofs.Known.Stands.{stands-items, stands-plain, stands-cdata, stands-table, stands-language}
 use Rattle.format.specs.Tree.{Items, find, count}
 use Rattle.format.specs.Tree.Items.{end, item}
 use Rattle.format.specs.Judge.{isItems, isValue, outermost, judge}
@@ -150,28 +151,21 @@ module _ (c : Measure) (T : Entries) where
       rw (a, d, means-leaf T tag at body x u k g e l, o) (omega arith)
 
   -- an item that is no attribute, by its kind
-  taken-known : (s : Spot) (tag at : ℕ) (body : List ℕ) (x u : Items) (k : Kind) → known 0 tag ≡ some k → Told T (past s tag) u → Taken tag x → Taken (s .parent) u
+  taken-known : (s : Spot) (tag at : ℕ) (body : List ℕ) (x u : Items) {k : Kind} → Stands tag k → Told T (past s tag) u → Taken tag x → Taken (s .parent) u
       → Taken (s .parent) (item tag at body x u)
   unfolding isItems meant octetsOf
-  taken-known s tag at body x u HoldsItems e h inside later = taken-element (s .parent) tag at body x u e inside later
-  taken-known s tag at body x u HoldsPlain e h inside later = taken-leaf (s .parent) tag at body x u HoldsPlain (plain-tag tag e) e refl (leaf-plain T tag body e) later
-  taken-known s tag at body x u HoldsTokens e h inside later =
-      subst (λ n. Taken (s .parent) (item n at body x u)) (sym (eqb-true tag 4 (element-kind tag HoldsTokens e))) (taken-table (s .parent) at body x u later)
-  taken-known s tag at body x u HoldsText e h inside later =
-      or-elim (eqb tag 1) (eqb tag 6)
-      (λ q. subst (λ n. Told T (past s n) u → Taken (s .parent) (item n at body x u)) (sym (eqb-true tag 1 q)) (λ g. taken-cdata s at body x u g) h)
-      (λ q. subst (λ n. Taken (s .parent) (item n at body x u)) (sym (eqb-true tag 6 q)) (taken-leaf (s .parent) 6 at body x u HoldsText language-tag known-six refl (leaf-text T 6 body known-six) later))
-      (element-kind tag HoldsText e)
-  taken-known s tag at body x u HoldsTime e h inside later = absurd (false≢true (element-kind tag HoldsTime e))
-  taken-known s tag at body x u HoldsBearer e h inside later = absurd (false≢true (element-kind tag HoldsBearer e))
-  taken-known s tag at body x u (HoldsNumber n) e h inside later = absurd (false≢true (element-kind tag (HoldsNumber n) e))
+  taken-known s tag at body x u (stands-items e) h inside later = taken-element (s .parent) tag at body x u e inside later
+  taken-known s tag at body x u (stands-plain e) h inside later = taken-leaf (s .parent) tag at body x u HoldsPlain (plain-tag tag e) e refl (leaf-plain T tag body e) later
+  taken-known s tag at body x u stands-table h inside later = taken-table (s .parent) at body x u later
+  taken-known s tag at body x u stands-cdata h inside later = taken-cdata s at body x u h
+  taken-known s tag at body x u stands-language h inside later = taken-leaf (s .parent) 6 at body x u HoldsText language-tag known-six refl (leaf-text T 6 body known-six) later
 
   taken-item : (s : Spot) (tag at : ℕ) (body : List ℕ) (x u : Items) → ItemTold T s tag body x → Told T (past s tag) u → Taken tag x → Taken (s .parent) u → Taken (s .parent) (item tag at body x u)
   taken-item s tag at body x u i h inside later = go (attribute tag) refl (known-is (known (s .parent) tag) (i .kind .isOne))
     where
       go : (a : Bool) → attribute tag ≡ a → (k : Kind) × (known (s .parent) tag ≡ some k) → Taken (s .parent) (item tag at body x u)
       go true a k = taken-attribute s tag at body x u (k .0) i a (k .1) h later
-      go false a k = taken-known s tag at body x u (k .0) (sym (known-anywhere (s .parent) tag a) ∙ k .1) h inside later
+      go false a k = taken-known s tag at body x u (stands tag (k .0) (sym (known-anywhere (s .parent) tag a) ∙ k .1)) h inside later
 
   taken-told : (t : Items) (s : Spot) → Told T s t → Taken (s .parent) t
   unfolding below past

@@ -2,7 +2,7 @@
 use mathlib.Core.Path.{_≡_, refl, sym, ap, _∙_, subst}
 use mathlib.Core.Bool.{Bool, true, false, not, _&&_, _||_, false≢true, or-true}
 use mathlib.Core.Option.{Option, none, some, Option·none-ne-some}
-use mathlib.Core.List.{List, [], _∷_}
+use mathlib.Core.List.{List, [], _∷_, cons≢nil}
 use Prim.Native.Nat.{ℕ, suc, _+_, _≤_, _<_}
 use native.Mathlib.Omega.{arith}
 use lib.Dec.{eqb, leb}
@@ -18,10 +18,9 @@ use Rattle.values.specs.declared.Kind.{Kind}
 use Rattle.values.specs.declared.Kind.the-variants.{HoldsItems, HoldsTokens}
 use Rattle.values.specs.Table.{known, attribute}
 use Rattle.values.specs.Values.{fits}
-use Rattle.format.specs.Answers.{refusal}
 use Rattle.format.specs.Tree.{Items, find}
 use Rattle.format.specs.Tree.Items.{end, item}
-use Rattle.format.specs.Judge.{isKnown, isItems, isText, isValue, Context, allowed, latest, stageAfter, shown, ofTop, late, lateAfter, within, next, outermost, judge, unless, rule}
+use Rattle.format.specs.Judge.{isKnown, isItems, isText, isValue, Context, allowed, latest, stageAfter, shown, ofTop, late, lateAfter, within, next, outermost, judge}
 use Rattle.format.specs.Judge.Judged.{accepted}
 use Rattle.format.specs.Meaning.{opens, tableIn, tableOf}
 use Rattle.format.specs.Writer.{Spot, below, past, atTop, placed, isEnd}
@@ -29,7 +28,7 @@ use Rattle.octets.proofs.Tests.{or-elim}
 use Rattle.octets.proofs.Places.{body-octets, later-octets}
 use Rattle.text.proofs.Expansion.{Sound, sound-empty}
 use Rattle.values.proofs.Known.{known-four, known-anywhere, items-no-attribute, items-tag, not-zero, unknown-four}
-use Rattle.format.proofs.Rules.{Held, KindHeld, held, fitting, never}
+use Rattle.format.proofs.Rules.{Held, KindHeld, held, fitting, accepted-size}
 use Rattle.format.proofs.Induction.{Cases, judged-all, Unbroken, inAt, Nexts}
 use Rattle.format.proofs.Place.{shown-other}
 use Rattle.format.proofs.Means.{opens-items, text-known}
@@ -289,9 +288,6 @@ record Comes (c : Context) (part : List ℕ) (t : Items) : Type 0 where
   tells : Tells c t
   whole : c ≡ outermost → (part ≡ [] → ⊥) → Top t
 
-pub some-octet : (tag : ℕ) (rest : List ℕ) → tag ∷ rest ≡ [] → ⊥
-some-octet tag rest e = let z : suc (length rest) ≡ 0 = ap length e in omega arith
-
 -- the first item of the outermost part holds items
 top-item : (c : Context) (at tag : ℕ) (rest : List ℕ) → Unbroken c at tag rest → c ≡ outermost → known (c .parent) tag ≡ some HoldsItems
 unfolding outermost
@@ -311,7 +307,7 @@ top-last c at tag rest q e =
 comes-element : (c : Context) (at tag : ℕ) (rest : List ℕ) (s u : Items) → Unbroken c at tag rest → known (c .parent) tag ≡ some HoldsItems → Octets (tag ∷ rest)
     → Comes (within c tag) (firstBody (tag ∷ rest)) s → Comes (Nexts c at tag rest) (afterFirst (tag ∷ rest)) u → Comes c (tag ∷ rest) (item tag (inAt at (tag ∷ rest)) (firstBody (tag ∷ rest)) s u)
 comes-element c at tag rest s u q e os inside later = record {
-  empty = λ n. absurd (some-octet tag rest n);
+  empty = λ n. absurd (cons≢nil n);
   tells = tells-element c at tag (inAt at (tag ∷ rest)) body s u (os 0) (body-octets (tag ∷ rest) os) (held-of c at tag rest q) e (inside .tells) (later .tells);
   whole = λ o n. record {
     tag = tag;
@@ -337,24 +333,20 @@ unfolding isItems
 coming-cases = record {
   atEnd = λ c at q os. record { empty = λ n. refl; tells = tells-end c q; whole = λ o n. absurd (n refl) };
   atUnknown = λ c at tag rest u q e later os. record {
-    empty = λ n. absurd (some-octet tag rest n);
+    empty = λ n. absurd (cons≢nil n);
     tells = tells-unknown c at tag (firstBody (tag ∷ rest)) u (held-of c at tag rest q) e (later (later-octets (tag ∷ rest) os) .tells);
     whole = λ o n. absurd (Option·none-ne-some HoldsItems (sym e ∙ top-item c at tag rest q o));
   };
   atElement = λ c at tag rest s u q e inside later os. comes-element c at tag rest s u q e os (inside (body-octets (tag ∷ rest) os)) (later (later-octets (tag ∷ rest) os));
   atLeaf = λ c at tag rest u k q e l later os. record {
-    empty = λ n. absurd (some-octet tag rest n);
+    empty = λ n. absurd (cons≢nil n);
     tells = tells-leaf c at tag (inAt at (tag ∷ rest)) (firstBody (tag ∷ rest)) u k (os 0) (body-octets (tag ∷ rest) os) (held-of c at tag rest q) e (later (later-octets (tag ∷ rest) os) .tells);
     whole = λ o n. absurd (false≢true (sym l ∙ ap isItems (sym e ∙ top-item c at tag rest q o)));
   };
 }
 
-judge-some : (o : List ℕ) (t : Items) → judge o ≡ accepted t → o ≡ [] → ⊥
-unfolding judge unless rule
-judge-some o t h e = let g : judge [] ≡ accepted t = subst (λ x. judge x ≡ accepted t) e h in never (refusal 1 0) t g
-
 pub top : (o : List ℕ) (t : Items) → Octets o → judge o ≡ accepted t → Top t
-top o t os h = judged-all Coming coming-cases o t h os .whole refl (judge-some o t h)
+top o t os h = judged-all Coming coming-cases o t h os .whole refl (λ e. omega (arith, accepted-size o t h .0, ap length e))
 
 top-valid : (tag : ℕ) → allowed 0 tag ≡ true → Valid (within outermost tag)
 unfolding within outermost

@@ -1,13 +1,13 @@
 -- The walk over records given to the writer, without fuel: as a derivation, and by its first record.
 use mathlib.Core.Path.{_≡_, refl, sym, ap, _∙_, subst}
-use mathlib.Core.Bool.{Bool, true, false}
+use mathlib.Core.Bool.{Bool, true, false, and-false}
 use mathlib.Core.Option.{Option, none, some, Option·some-injective, Option·none-ne-some}
 use mathlib.Core.List.{List}
 use Prim.Native.Nat.{ℕ, zero, suc, _-_, _≤_, _<_}
 use native.Mathlib.Omega.{arith}
 use native.Mathlib.Nat.{not-suc-le-zero}
 use lib.Dec.{eqb, ltb}
-use borrow.Author.Tests.{ltb-true, eqb-true}
+use borrow.Author.Tests.{lt-ltb, le-ltb, ltb-true, eqb-true}
 use Rattle.octets.proofs.Tests.{and-left, and-right}
 use Rattle.format.specs.declared.Record.{Record}
 use Rattle.format.specs.Meaning.{opens}
@@ -21,6 +21,19 @@ pub data Walked (row : ℕ → Record) (n : ℕ) (lent : List ℕ) : Spot → �
       → Walked row n lent (past s (row i .tag)) p (suc i) j → Walked row n lent s p i j
   nested : {s : Spot} {p i m j : ℕ} → here row n (s .depth) i ≡ true → good s p lent (row i) ≡ true → opens (row i .tag) ≡ true
       → Walked row n lent (below s (row i .tag)) i (suc i) m → Walked row n lent (past s (row i .tag)) p m j → Walked row n lent s p i j
+
+module _ (row : ℕ → Record) (n d i : ℕ) where
+  pub here-end : n ≤ i → here row n d i ≡ false
+  unfolding here
+  here-end h = rw (le-ltb i n h)
+
+  pub here-not : eqb (row i .depth) d ≡ false → here row n d i ≡ false
+  unfolding here
+  here-not h = rw h (and-false (ltb i n))
+
+  pub here-is : i < n → eqb (row i .depth) d ≡ true → here row n d i ≡ true
+  unfolding here
+  here-is h e = rw (lt-ltb i n h, e)
 
 pub here-less : (row : ℕ → Record) (n d i : ℕ) → here row n d i ≡ true → i < n
 unfolding here

@@ -2,7 +2,7 @@
 use mathlib.Core.Path.{_≡_, refl, sym, ap, _∙_, subst}
 use mathlib.Core.Bool.{Bool, true, false, cond, not, _&&_, _||_, false≢true, or-true}
 use mathlib.Core.Option.{none, some, Option·none-ne-some}
-use mathlib.Core.List.{List, [], _∷_}
+use mathlib.Core.List.{List, [], _∷_, cons≢nil}
 use Prim.Native.Nat.{ℕ, zero, suc, _+_, _≤_}
 use native.Mathlib.Omega.{arith}
 use native.Mathlib.Nat.{zero-add}
@@ -12,21 +12,22 @@ use borrow.Author.Tests.{leb-true, eqb-true, eq-eqb}
 use Rattle.octets.specs.Numbers.{among, Octets}
 use Rattle.octets.specs.Header.{headerSize, bodySize}
 use Rattle.octets.specs.Places.{firstBody, afterFirst}
-use Rattle.octets.proofs.Tests.{and-left, and-right, or-elim}
+use Rattle.octets.proofs.Tests.{never}
 use Rattle.octets.proofs.Places.{body-octets, later-octets}
 use Rattle.text.specs.Tokens.{Entries, entries, covered, shownLength}
 use Rattle.text.proofs.Expansion.{Sound, sound-empty}
 use Rattle.values.specs.declared.Kind.{Kind}
-use Rattle.values.specs.declared.Kind.the-variants.{HoldsItems, HoldsTokens, HoldsText, HoldsPlain, HoldsTime, HoldsBearer, HoldsNumber}
+use Rattle.values.specs.declared.Kind.the-variants.{HoldsItems, HoldsTokens, HoldsText, HoldsPlain}
 use Rattle.values.specs.Table.{known, attribute}
-use Rattle.values.proofs.Known.{known-anywhere, known-cdata, known-four, known-six, element-kind, unknown-four, items-no-attribute, not-zero}
+use Rattle.values.proofs.Known.{known-anywhere, known-cdata, known-four, known-six, unknown-four, items-no-attribute, not-zero, Stands, stands, plain-tag}
+use Rattle.values.proofs.Known.Stands.{stands-items, stands-plain, stands-cdata, stands-table, stands-language}
 use Rattle.format.specs.Tree.{Items, find}
 use Rattle.format.specs.Tree.Items.{end, item}
 use Rattle.format.specs.Judge.{isKnown, isItems, isTokens, isText, isValue, Context, isTop, allowed, latest, stageAfter, limit, notAbove, shown, ofTop, late, lateAfter, within, next, outermost, judge}
 use Rattle.format.specs.Judge.Judged.{accepted}
-use Rattle.format.proofs.Rules.{KindHeld, Held, Fitting, held, fitting, rule-true, unless-none}
+use Rattle.format.proofs.Rules.{KindHeld, Held, Fitting, held, fitting, accepted-size}
 use Rattle.format.proofs.Induction.{Cases, judged-all, Unbroken, Nexts, inAt}
-use Rattle.format.proofs.Force.{settled, settled-after, settled-next, settled-within, not-four, inner-tag, not-both, Valid, valid-within, valid-next, quiet-now, quiet-before, quiet-attribute, covered-attribute, forced, inForce, force-next, force-skip, force-after}
+use Rattle.format.proofs.Force.{settled, settled-after, settled-next, settled-within, not-four, inner-tag, Valid, valid-within, valid-next, quiet-now, quiet-before, quiet-attribute, covered-attribute, forced, inForce, force-next, force-skip, force-after}
 use Rattle.format.proofs.Place.{attribute-other}
 use Rattle.grammar.specs.Grammar.{Begins, TextIn, Part, Child, Inside, Accepts}
 use Rattle.grammar.specs.Grammar.Part.{attributes, table, language, elements, nothing}
@@ -240,27 +241,16 @@ module _ (T : Entries) (c : Context) (at start : ℕ) (body later o : List ℕ) 
       }
 
 -- an item that is no attribute and holds no items, by its kind
-derived-leaf : (T : Entries) (c : Context) (at start tag : ℕ) (body later o : List ℕ) (u : Items) (kd : Kind) → Begins tag body later o start → Held c tag body → Valid c
-    → Derived T (next c at tag body) (at + start + length body) later u → attribute tag ≡ false → known 0 tag ≡ some kd → isItems (some kd) ≡ false
+derived-leaf : (T : Entries) (c : Context) (at start tag : ℕ) (body later o : List ℕ) (u : Items) {kd : Kind} → Begins tag body later o start → Held c tag body → Valid c
+    → Derived T (next c at tag body) (at + start + length body) later u → Stands tag kd → isItems (some kd) ≡ false
     → (eqb tag 4 ≡ false → c .table ≡ T) → (eqb tag 4 ≡ true → entries body ≡ T) → Derived T c at o (item tag (at + start) body end u)
 unfolding isItems isText isTokens
-derived-leaf T c at start tag body later o u HoldsItems b k r n a e l same new = absurd (false≢true (sym l))
-derived-leaf T c at start tag body later o u HoldsTokens b k r n a e l same new =
-    let four : eqb tag 4 ≡ true = element-kind tag HoldsTokens e in
-    subst (λ m. Begins m body later o start → Held c m body → Derived T (next c at m body) (at + start + length body) later u → Derived T c at o (item m (at + start) body end u)) (sym (eqb-true tag 4 four))
-    (λ b k n. derived-table T c at start body later o u b k r n (new four)) b k n
-derived-leaf T c at start tag body later o u HoldsText b k r n a e l same new =
-    or-elim (eqb tag 1) (eqb tag 6)
-    (λ q. subst (λ m. (eqb m 4 ≡ false → c .table ≡ T) → Begins m body later o start → Held c m body → Derived T (next c at m body) (at + start + length body) later u → Derived T c at o (item m (at + start) body end u)) (sym (eqb-true tag 1 q))
-    (λ s b k n. derived-cdata T c at start body later o u b k r n (s refl)) same b k n)
-    (λ q. subst (λ m. (eqb m 4 ≡ false → c .table ≡ T) → Begins m body later o start → Held c m body → Derived T (next c at m body) (at + start + length body) later u → Derived T c at o (item m (at + start) body end u)) (sym (eqb-true tag 6 q))
-    (λ s b k n. derived-language T c at start body later o u b k r n (s refl)) same b k n)
-    (element-kind tag HoldsText e)
-derived-leaf T c at start tag body later o u HoldsPlain b k r n a e l same new =
-    derived-plain T c at start tag body later o u b k r n a e (same (child-tag tag (ap isText e) (ap isTokens e) .notTable))
-derived-leaf T c at start tag body later o u HoldsTime b k r n a e l same new = absurd (false≢true (element-kind tag HoldsTime e))
-derived-leaf T c at start tag body later o u HoldsBearer b k r n a e l same new = absurd (false≢true (element-kind tag HoldsBearer e))
-derived-leaf T c at start tag body later o u (HoldsNumber w) b k r n a e l same new = absurd (false≢true (element-kind tag (HoldsNumber w) e))
+derived-leaf T c at start tag body later o u b k r n (stands-items e) l same new = never (cc)
+derived-leaf T c at start tag body later o u b k r n (stands-plain e) l same new =
+    derived-plain T c at start tag body later o u b k r n (plain-tag tag e .notAttribute) e (same (plain-tag tag e .notTable))
+derived-leaf T c at start tag body later o u b k r n stands-table l same new = derived-table T c at start body later o u b k r n (new refl)
+derived-leaf T c at start tag body later o u b k r n stands-cdata l same new = derived-cdata T c at start body later o u b k r n (same refl)
+derived-leaf T c at start tag body later o u b k r n stands-language l same new = derived-language T c at start body later o u b k r n (same refl)
 
 -- what is shown of every accepted part
 record Good (c : Context) (at : ℕ) (part : List ℕ) (t : Items) : Type 0 where
@@ -376,21 +366,18 @@ good-leaf c at tag rest q u kd e l g = record { once = once-item c at from tag b
         kd a e (λ w. force-settled T c (item tag from body end u) (settled w) x) (once-next c at tag body u kd a e (g .once))
     go T x os r false a false p =
         let y = force-next c at tag from body end u p ∙ x in
-        derived-leaf T c at (headerSize (tag ∷ rest)) tag body (afterFirst (tag ∷ rest)) (tag ∷ rest) u kd (item-begins c at tag rest q os) k r (next-derived c at tag rest q u g T y os r)
-        a (sym (known-anywhere (c .parent) tag a) ∙ e) l (λ _. force-after c at tag body u (g .settled) a p ∙ y) (λ w. absurd (not-both (eqb tag 4) p w))
+        derived-leaf T c at (headerSize (tag ∷ rest)) tag body (afterFirst (tag ∷ rest)) (tag ∷ rest) u (item-begins c at tag rest q os) k r (next-derived c at tag rest q u g T y os r)
+        (stands tag kd (sym (known-anywhere (c .parent) tag a) ∙ e)) l (λ _. force-after c at tag body u (g .settled) a p ∙ y) (λ w. never (cc))
     go T x os r false a true p =
         let z = table-entries T c from tag body end u p x in
-        derived-leaf T c at (headerSize (tag ∷ rest)) tag body (afterFirst (tag ∷ rest)) (tag ∷ rest) u kd (item-begins c at tag rest q os) k r
-        (next-derived c at tag rest q u g T (table-next T c at tag body u a p (g .settled) z) os r) a (sym (known-anywhere (c .parent) tag a) ∙ e) l (λ w. absurd (not-both (eqb tag 4) w p)) (λ _. z)
+        derived-leaf T c at (headerSize (tag ∷ rest)) tag body (afterFirst (tag ∷ rest)) (tag ∷ rest) u (item-begins c at tag rest q os) k r
+        (next-derived c at tag rest q u g T (table-next T c at tag body u a p (g .settled) z) os r) (stands tag kd (sym (known-anywhere (c .parent) tag a) ∙ e)) l (λ w. never (cc)) (λ _. z)
 
 -- what is shown of the object besides: it is one of the two tops with nothing behind it
 record Whole (c : Context) (at : ℕ) (part : List ℕ) (t : Items) : Type 0 where
   good : Good c at part t
   finish : part ≡ [] → t ≡ end
   object : eqb (c .parent) 0 ≡ true → c .depth ≡ 1 → c .table ≡ [] → at ≡ 0 → Octets part → 1 ≤ length part → length part ≤ 32_768 → Accepts part t
-
-no-part : {A : Type 0} (tag : ℕ) (rest : List ℕ) → tag ∷ rest ≡ [] → A
-no-part tag rest e = let z : _≡_ {A = ℕ} 0 1 = cc in absurd (omega arith)
 
 allowed-object : (p tag : ℕ) → eqb p 0 ≡ true → allowed p tag ≡ true → isTop tag ≡ true
 unfolding allowed
@@ -450,28 +437,22 @@ whole-cases = record {
   atEnd = λ c at q. record { good = good-end c at q; finish = λ x. refl; object = λ z d e y os l m. absurd (omega arith) };
   atUnknown = λ c at tag rest u q e w. record {
     good = good-unknown c at tag rest q u e (w .good);
-    finish = no-part tag rest;
+    finish = λ e. absurd (cons≢nil e);
     object = λ z d f y os l m. absurd (Option·none-ne-some HoldsItems (sym e ∙ object-known c at tag rest q z));
   };
   atElement = λ c at tag rest s u q e i w. record {
     good = good-element c at tag rest q s u e (i .good) (w .good);
-    finish = no-part tag rest;
+    finish = λ e. absurd (cons≢nil e);
     object = λ z d f y os l m. top-accepts c at tag rest q s u (i .good) (w .finish) z d f y os m;
   };
   atLeaf = λ c at tag rest u k q e l w. record {
     good = good-leaf c at tag rest q u k e l (w .good);
-    finish = no-part tag rest;
+    finish = λ e. absurd (cons≢nil e);
     object = λ z d f y os x m. absurd (false≢true (sym l ∙ ap isItems (sym e ∙ object-known c at tag rest q z)));
   };
 }
 
-judged-size : (o : List ℕ) (t : Items) → judge o ≡ accepted t → (1 ≤ length o) × (length o ≤ 32_768)
-unfolding judge
-judged-size o t h =
-    let b = rule-true 1 0 (leb 1 (length o) && leb (length o) 32_768) (unless-none _ _ t h) in
-    (leb-true 1 (length o) (and-left (leb 1 (length o)) (leb (length o) 32_768) b), leb-true (length o) 32_768 (and-right (leb 1 (length o)) (leb (length o) 32_768) b))
-
 -- an accepted object is one of the grammar, with its tree
 pub judged-accepts : (o : List ℕ) (t : Items) → Octets o → judge o ≡ accepted t → Accepts o t
 unfolding outermost
-judged-accepts o t os h = judged-all Whole whole-cases o t h .object refl refl refl refl os (judged-size o t h .0) (judged-size o t h .1)
+judged-accepts o t os h = judged-all Whole whole-cases o t h .object refl refl refl refl os (accepted-size o t h .0) (accepted-size o t h .1)

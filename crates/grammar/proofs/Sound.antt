@@ -8,7 +8,7 @@ use native.Mathlib.Omega.{arith}
 use native.Mathlib.Nat.{zero-add}
 use lib.Dec.{eqb, leb}
 use lib.ListN.{length}
-use borrow.Author.Tests.{le-leb, eqb-true, eq-eqb}
+use borrow.Author.Tests.{le-leb, eqb-true}
 use Rattle.octets.specs.Numbers.{among}
 use Rattle.octets.proofs.Tests.{or-elim, or-left, cond-same}
 use Rattle.text.specs.Text.{text}
@@ -27,7 +27,7 @@ use Rattle.format.proofs.Rules.{KindHeld, Held, Fitting, unbroken}
 use Rattle.format.proofs.Place.{shown-other, attribute-other, allowed-attribute, allowed-cdata}
 use Rattle.format.proofs.Fuel.{read-end, read-item, judge-read}
 use Rattle.format.proofs.Late.{late-append}
-use Rattle.format.proofs.Means.{value-no-items}
+use Rattle.format.proofs.Means.{value-no-items, find-first}
 use Rattle.grammar.specs.Grammar.{Begins, TextIn, ValueIn, Part, Child, Inside, Accepts}
 use Rattle.grammar.specs.Grammar.Part.{attributes, table, language, elements, cdata, nothing}
 use Rattle.grammar.specs.Grammar.Inside.{knownAttribute, unknownAttribute, attributesOfTop, attributesOfOther, someTable, noTable, someLanguage, noLanguage, heldElement, plainElement, unknownElement, noElement, someCdata, noCdata, filled}
@@ -203,16 +203,12 @@ find-after a tag at body s u = go (eqb a tag)
     go true q = absurd (Option·some-ne-none body q)
     go false q = q
 
-find-here : (tag at : ℕ) (body : List ℕ) (s u : Items) → find tag (item tag at body s u) ≡ some body
-unfolding find
-find-here tag at body s u = rw (eq-eqb tag tag refl)
-
 once-here : (c : Context) (at tag : ℕ) (body : List ℕ) (u : Items) → Once c (item tag at body end u) → attribute tag ≡ true → isKnown (known (c .parent) tag) ≡ true
     → among tag (c .seen) ≡ false
 once-here c at tag body u o a k = go (among tag (c .seen)) refl
   where
     go : (b : Bool) → among tag (c .seen) ≡ b → b ≡ false
-    go true q = absurd (Option·some-ne-none body (sym (find-here tag at body end u) ∙ o tag a k q))
+    go true q = absurd (Option·some-ne-none body (sym (find-first tag at body end u) ∙ o tag a k q))
     go false q = refl
 
 once-after : (c : Context) (at from tag : ℕ) (body : List ℕ) (u : Items) → Once c (item tag from body end u) → find tag u ≡ none → Once (next c at tag body) u

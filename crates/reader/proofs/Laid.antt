@@ -1,12 +1,10 @@
 -- Lists of the same lengths, beyond format's proofs/Lays: from what code leaves to the lengths and places of what it was lent.
 use mathlib.Core.Path.{_≡_, sym, subst}
 use mathlib.Core.List.{List}
-use Prim.Native.Nat.{ℕ, _<_}
-use native.Mathlib.Omega.{arith}
+use Prim.Native.Nat.{ℕ}
 use Rattle.format.specs.declared.Record.{Record}
 use Rattle.format.specs.Calls.{Lists, places, put, lay}
 use Rattle.format.proofs.Lays.{SameLengths, same-lengths-then, lay-lengths, places-put}
-use Rattle.reader.specs.Lent.{Within}
 
 same-lengths-back : {l m : Lists} → SameLengths l m → SameLengths m l
 same-lengths-back s = record {
@@ -27,7 +25,3 @@ same-laid i j rs qs l m e = same-lengths-then (lay-lengths i rs l) (subst (λ (x
 
 pub places-after : (i : ℕ) (r : Record) (l m : Lists) → m ≡ put i r l → places m ≡ places l
 places-after i r l m e = subst (λ (x : Lists). places x ≡ places l) (sym e) (places-put i r l)
-
-pub within-places : (i : ℕ) (l : Lists) → i < places l → Within i l
-unfolding places
-within-places i l h = omega arith

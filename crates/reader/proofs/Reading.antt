@@ -1,23 +1,22 @@
 -- The ways through read_at_most: refused, too few places, or filled; and read, whose limit is none.
 use mathlib.Core.Path.{_≡_, refl, sym, ap, _∙_}
-use mathlib.Core.Bool.{true, false, _&&_}
+use mathlib.Core.Bool.{true, false}
 use mathlib.Core.List.{List}
 use Prim.Native.Nat.{ℕ, _≤_, _<_, min}
 use native.Mathlib.Omega.{arith}
 use lib.Dec.{leb}
 use lib.ListN.{length}
-use borrow.Author.Tests.{leb-true, le-leb, lt-leb}
-use Rattle.octets.proofs.Tests.{and-left, and-right}
+use borrow.Author.Tests.{le-leb, lt-leb}
 use Rattle.format.specs.declared.Refusal.{Refusal}
 use Rattle.format.specs.declared.Counts.{Counts}
 use Rattle.format.specs.declared.ReadAnswer.{ReadAnswer}
 use Rattle.format.specs.declared.ReadAnswer.the-variants.{Records, NotRead}
 use Rattle.format.specs.Answers.{refusal}
 use Rattle.format.specs.Tree.{Items, count, records}
-use Rattle.format.specs.Judge.{Judged, judge, outermost, read, rule}
+use Rattle.format.specs.Judge.{Judged, judge, outermost}
 use Rattle.format.specs.Judge.Judged.{refused, accepted}
 use Rattle.format.specs.Calls.{Lists, places, lay, judgeAnswer, readAnswer, readRecords, ReadClaim, ReadAtMostClaim}
-use Rattle.format.proofs.Rules.{rule-true, unless-none, unless-accepted}
+use Rattle.format.proofs.Rules.{accepted-size, accepted-read}
 use Rattle.format.proofs.Induction.{few}
 use Rattle.reader.specs.declared.filling.Place.{Place}
 use Rattle.reader.specs.Filling.{Accepts, Fillable, Filled, Fills}
@@ -38,21 +37,10 @@ unfolding judgeAnswer
 was-accepted (refused q) c h = let z : _≡_ {A = ℕ} 0 1 = cc in absurd (omega arith)
 was-accepted (accepted t) c h = let e : c ≡ record { records = count t } = cc in record { tree = t; is = refl; many = ap (λ x. x .records) e }
 
--- an accepted object has octets, no more than rule 1 allows, and they are accepted as the items of the object
-module _ (o : List ℕ) (t : Items) (h : judge o ≡ accepted t) where
-  sized : leb 1 (length o) && leb (length o) 32_768 ≡ true
-  unfolding judge
-  sized = rule-true 1 0 (leb 1 (length o) && leb (length o) 32_768) (unless-none (rule 1 0 (leb 1 (length o) && leb (length o) 32_768)) (read outermost 0 o) t h)
-
-  pub some-octets : 0 < length o
-  some-octets = leb-true 1 (length o) (and-left (leb 1 (length o)) (leb (length o) 32_768) sized)
-
-  pub small : length o ≤ 32_768
-  small = leb-true (length o) 32_768 (and-right (leb 1 (length o)) (leb (length o) 32_768) sized)
-
-  pub whole : Accepts 0 1 0 o t
-  unfolding judge outermost
-  whole = record { context = outermost; isElement = refl; isDepth = refl; reads = unless-accepted (rule 1 0 (leb 1 (length o) && leb (length o) 32_768)) (read outermost 0 o) t h }
+-- an accepted object is accepted as the items of the object
+pub whole : (o : List ℕ) (t : Items) → judge o ≡ accepted t → Accepts 0 1 0 o t
+unfolding outermost
+whole o t h = record { context = outermost; isElement = refl; isDepth = refl; reads = accepted-read o t h }
 
 -- where the top stands
 abbrev top : Place
@@ -81,8 +69,8 @@ module _ (o : List ℕ) (most : ℕ) (l : Lists) (v : ReadAnswer) (e : v ≡ jud
           accepts = whole o (taken .tree) (taken .is);
           room = record {
             above = omega arith;
-            few = omega (arith, few o (taken .tree) (taken .is), small o (taken .tree) (taken .is));
-            low = omega (arith, small o (taken .tree) (taken .is));
+            few = omega (arith, few o (taken .tree) (taken .is), accepted-size o (taken .tree) (taken .is) .1);
+            low = omega (arith, accepted-size o (taken .tree) (taken .is) .1);
             holds = omega (arith, taken .many);
           };
         }

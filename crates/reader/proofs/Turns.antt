@@ -25,10 +25,10 @@ use Rattle.reader.specs.declared.filling.Place.{Place}
 use Rattle.tags.specs.declared.Listed.{Listed}
 use Rattle.tags.specs.declared.Listed.the-variants.{Nothing, Inside, Value}
 use Rattle.tags.specs.Listed.{listedAs}
-use Rattle.reader.specs.Lent.{Within}
 use Rattle.reader.specs.Filling.{Narrow, Accepts, Fillable, Fills, shareOf, ItemFillable, ItemFills}
-use Rattle.format.proofs.Lays.{SameLengths, places-same}
-use Rattle.reader.proofs.Laid.{same-lay, same-laid, places-after, within-places}
+use Rattle.format.proofs.Lays.{SameLengths, places-same, within-places}
+use Rattle.format.specs.Lent.{Within}
+use Rattle.reader.proofs.Laid.{same-lay, same-laid, places-after}
 use Rattle.reader.proofs.Shares.{count-share, lay-share, silent, Written, written-alone, written-items, holds-items}
 use Rattle.reader.proofs.Opening.{Opened, opened-end, lies-inside, met}
 

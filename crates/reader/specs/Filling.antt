@@ -1,7 +1,7 @@
 -- What the functions that fill the lent lists ask and leave. They follow items that are accepted, but carry neither the token table nor the tags seen so far;
 -- so what they say holds of every tree that the octets have in some context with the element's tag and depth.
 use mathlib.Core.Path.{_≡_}
-use mathlib.Core.Bool.{true, cond, not, _&&_}
+use mathlib.Core.Bool.{true, cond}
 use mathlib.Core.Option.{Option}
 use mathlib.Core.List.{List}
 use Prim.Native.Nat.{ℕ, _+_, _^_, _≤_, _<_}
@@ -10,7 +10,7 @@ use Rattle.values.specs.declared.Kind.{Kind}
 use Rattle.values.specs.Table.{known}
 use Rattle.format.specs.Tree.{Items, count, records}
 use Rattle.format.specs.Tree.Items.{end, item}
-use Rattle.format.specs.Judge.{Context, isKnown, isItems, isTokens, read}
+use Rattle.format.specs.Judge.{Context, isKnown, isItems, read}
 use Rattle.format.specs.Judge.Judged.{accepted}
 use Rattle.format.specs.Calls.{Lists, places, lay}
 use Rattle.reader.specs.declared.filling.Place.{Place}

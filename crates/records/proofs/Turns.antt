@@ -4,11 +4,11 @@ use mathlib.Core.Path.{_≡_, refl, sym, ap, subst, _∙_}
 use mathlib.Core.List.{List, [], _∷_}
 use mathlib.Core.Option.{Option, none, some}
 use mathlib.Core.Bool.{Bool, true, false, cond, not, _&&_, _||_, and-false}
-use lib.Dec.{eqb, leb, ltb}
+use lib.Dec.{eqb, leb}
 use lib.ListN.{length}
 use native.Mathlib.Numerals.{add-one}
 use native.Mathlib.Omega.{arith}
-use borrow.Author.Tests.{lt-ltb, le-ltb, leb-true}
+use borrow.Author.Tests.{leb-true}
 use Rattle.octets.proofs.Tests.{and-left}
 use Rattle.values.specs.declared.Kind.{Kind}
 use Rattle.values.specs.Table.{known}
@@ -22,7 +22,7 @@ use Rattle.format.specs.Calls.{Lists, row}
 use Rattle.format.proofs.Means.{items-known, items-opens}
 use Rattle.format.proofs.Kept.{good-parts, keeps-parts}
 use Rattle.format.proofs.Fine.{placed-parts}
-use Rattle.format.proofs.Walk.{at-stop, at-bad, at-single, at-nested, walks-between}
+use Rattle.format.proofs.Walk.{at-stop, at-bad, at-single, at-nested, walks-between, here-end, here-not, here-is}
 use Rattle.text.specs.Text.{text}
 use Rattle.text.specs.Tokens.{shownLength}
 use Rattle.tags.specs.Rules.{Seen}
@@ -113,18 +113,6 @@ pub record Holds (l : Lists) (n : ℕ) (lent : List ℕ) (at : ℕ) (p : Parent)
 pub at-first : (l : Lists) (n : ℕ) (lent : List ℕ) (at : ℕ) (p : Parent) → at ≤ n → Holds l n lent at p at (record { stage = 0; mask = 0 })
 at-first l n lent at p h = record { low = omega arith; high = h; seen = []; sees = none-marked (p .tag); same = refl }
 
-here-no : (l : Lists) (n d i : ℕ) → eqb (row l i .depth) d ≡ false → here (row l) n d i ≡ false
-unfolding here
-here-no l n d i e = rw e (and-false (ltb i n))
-
-here-yes : (l : Lists) (n d i : ℕ) → i < n → eqb (row l i .depth) d ≡ true → here (row l) n d i ≡ true
-unfolding here
-here-yes l n d i h e = rw (lt-ltb i n h, e)
-
-here-none : (l : Lists) (n d i : ℕ) → n ≤ i → here (row l) n d i ≡ false
-unfolding here
-here-none l n d i h = rw (le-ltb i n h)
-
 -- the walk over what is inside record i, and the walk that goes on behind that
 abbrev inner : Lists → ℕ → List ℕ → Parent → (tag i : ℕ) → Option ℕ
 inner l n lent p tag i = walked l n lent (firstIn (parentAt p tag i)) i (i + 1)
@@ -141,7 +129,7 @@ module _ (l : Lists) (n : ℕ) (lent : List ℕ) (at : ℕ) (p : Parent) (i : �
   stops e = sym (ap told (inv .same ∙ at-stop (row l) n lent spot (p .number) i e))
 
   pub turns-end : n ≤ i → Next i ≡ told (walked l n lent (firstIn p) (p .number) at)
-  turns-end h = stops (here-none l n (p .depth) i h)
+  turns-end h = stops (here-end (row l) n (p .depth) i h)
 
   module _ (lt : i < n) (r : Record) (re : r ≡ row l i) (x : Item) (xe : x ≡ itemAs p s lent r) where
     told-so : (y : Item) → x ≡ y → Says p s lent (row l i) (inv .seen) (inv .sees) y
@@ -149,13 +137,13 @@ module _ (l : Lists) (n : ℕ) (lent : List ℕ) (at : ℕ) (p : Parent) (i : �
 
     pub turn-past : x ≡ Past → Next i ≡ told (walked l n lent (firstIn p) (p .number) at)
     unfolding Says
-    turn-past f = stops (here-no l n (p .depth) i (told-so Past f))
+    turn-past f = stops (here-not (row l) n (p .depth) i (told-so Past f))
 
     pub turn-bad : x ≡ Bad → Ill ≡ told (walked l n lent (firstIn p) (p .number) at)
     unfolding Says told walked spot
     turn-bad f =
         let t = told-so Bad f in
-        sym (ap told (inv .same ∙ at-bad (row l) n lent spot (p .number) i (here-yes l n (p .depth) i lt (t .0)) (t .1)))
+        sym (ap told (inv .same ∙ at-bad (row l) n lent spot (p .number) i (here-is (row l) n (p .depth) i lt (t .0)) (t .1)))
 
     pub turn-single : (u : State) → x ≡ Single u → Holds l n lent at p (i + 1) u
     unfolding Says walked spot past stateAfter
@@ -164,7 +152,7 @@ module _ (l : Lists) (n : ℕ) (lent : List ℕ) (at : ℕ) (p : Parent) (i : �
         let k = inv .low in
         let tag = row l i .tag in
         let e : walked l n lent (firstIn p) (p .number) at ≡ walked l n lent (spotOf p (stateAfter p s tag) (tag ∷ inv .seen)) (p .number) (suc i) =
-        inv .same ∙ at-single (row l) n lent spot (p .number) i (here-yes l n (p .depth) i lt (t .0)) (t .1) (t .2) in
+        inv .same ∙ at-single (row l) n lent spot (p .number) i (here-is (row l) n (p .depth) i lt (t .0)) (t .1) (t .2) in
         record {
           low = omega arith;
           high = omega arith;
@@ -182,7 +170,7 @@ module _ (l : Lists) (n : ℕ) (lent : List ℕ) (at : ℕ) (p : Parent) (i : �
       unfolding Says walked spot past stateAfter below
       nested =
           let t = told-so (Nested tag u) f in
-          inv .same ∙ at-nested (row l) n lent spot (p .number) i (here-yes l n (p .depth) i lt (t .0)) (t .1) (t .2) ∙ rw (t .3, t .4, add-one i, add-one (p .depth)) refl
+          inv .same ∙ at-nested (row l) n lent spot (p .number) i (here-is (row l) n (p .depth) i lt (t .0)) (t .1) (t .2) ∙ rw (t .3, t .4, add-one i, add-one (p .depth)) refl
 
       pub turn-ill : v ≡ Ill → Ill ≡ told (walked l n lent (firstIn p) (p .number) at)
       unfolding told onward

@@ -27,6 +27,7 @@ use Rattle.format.specs.Calls.{readAnswer, roomy, writeAnswer, Lent, storedWith
 use Rattle.format.specs.Same.{sameMeaning, sameAnswer}
 use Rattle.format.proofs.Induction.{few}
 use Rattle.format.proofs.Refusals.{refusal-inside}
+use Rattle.format.proofs.Rules.{accepted-size}
 use Rattle.xml.specs.Xml.{xml}
 use Rattle.xml.specs.Named.{plainAt}
 use Rattle.xml.specs.Export.{unlessPlain, exportOf, exportAnswer}
@@ -109,16 +110,8 @@ module _ (o : List ℕ) where
       go true e q = inside e
       go false e q = let p : refusal 1 0 ≡ r = cc in subst (λ x. Kept x) p (record { least = omega arith; most = omega arith; place = omega arith; field = omega arith })
 
-  accepted-sized : (t : Items) → judge o ≡ accepted t → length o ≤ 32_768
-  unfolding judge rule unless
-  accepted-sized t h = go sized refl h
-    where
-      go : (b : Bool) → sized ≡ b → unless (rule 1 0 b) (read outermost 0 o) ≡ accepted t → length o ≤ 32_768
-      go true e q = leb-true (length o) 32_768 (and-right (leb 1 (length o)) (leb (length o) 32_768) e)
-      go false e q = let z : _≡_ {A = ℕ} 0 1 = cc in absurd (omega arith)
-
   accepted-few : (t : Items) → judge o ≡ accepted t → count t ≤ 32_768
-  accepted-few t h = omega (arith, accepted-sized t h, few o t h)
+  accepted-few t h = omega (arith, accepted-size o t h .1, few o t h)
 
 late-refusal : (n : ℕ) → 1 ≤ n → n ≤ 16 → Kept (refusal n 0)
 late-refusal n l m = record { least = l; most = omega arith; place = omega arith; field = omega arith }
@@ -204,7 +197,7 @@ export-cases o room l (accepted t) h = plain (plainAt o) refl
 
     plain : (p : Option ℕ) → plainAt o ≡ p → Told (writeOutcome (exportAnswer room (unlessPlain p (xml (meaningOf t)))))
     plain none e = fits (xml (meaningOf t)) (leb (length (xml (meaningOf t))) (room .0)) refl
-    plain (some place) e = refuses (refusal 17 place) (record { least = omega arith; most = omega arith; place = omega (arith, plain-inside o place e, accepted-sized o t h); field = omega arith })
+    plain (some place) e = refuses (refusal 17 place) (record { least = omega arith; most = omega arith; place = omega (arith, plain-inside o place e, accepted-size o t h .1); field = omega arith })
 
 pub export-told : (o : List ℕ) (room : OctetCount) → room .0 < 0x100_0000_0000 → Told (writeOutcome (exportAnswer room (exportOf o (judge o))))
 export-told o room l = export-cases o room l (judge o) refl

@@ -20,15 +20,15 @@ use Rattle.values.specs.Table.{known, attribute}
 use Rattle.values.proofs.Known.{known-four, known-anywhere}
 use Rattle.format.specs.Tree.{Items, find}
 use Rattle.format.specs.Tree.Items.{end, item}
-use Rattle.format.specs.Judge.{isKnown, isItems, judge, outermost, read, rule}
+use Rattle.format.specs.Judge.{isKnown, isItems, judge, outermost, read}
 use Rattle.format.specs.Judge.Judged.{accepted}
 use Rattle.format.specs.Meaning.{tableIn, tableOf}
-use Rattle.format.proofs.Rules.{held, unless-none, unless-accepted}
+use Rattle.format.proofs.Rules.{held, unless-none, accepted-size, accepted-read}
 use Rattle.format.proofs.Fuel.{read-item}
 use Rattle.format.proofs.Force.{top-known}
 use Rattle.reader.specs.Filling.{Accepts, share}
 use Rattle.reader.proofs.Opening.{Opened, opened, opened-end, fits-in}
-use Rattle.reader.proofs.Reading.{some-octets, whole}
+use Rattle.reader.proofs.Reading.{whole}
 use Rattle.survey.specs.Places.{tableWithin, firstTable, tableBody}
 
 -- ---- the table among the items of octets, from one item to the next
@@ -133,14 +133,13 @@ top-opens (tag ∷ rest) t l q =
     top-known tag (held outermost 0 tag (headerSize s) (bodySize s) (suc (length rest)) (firstBody s) b .allow)
 
 top-holds : (o : List ℕ) (t : Items) → judge o ≡ accepted t → known 0 (getD o 0 0) ≡ some HoldsItems
-unfolding judge
-top-holds o t h = top-opens o t (some-octets o t h) (unless-accepted (rule 1 0 (leb 1 (length o) && leb (length o) 32_768)) (read outermost 0 o) t h)
+top-holds o t h = top-opens o t (accepted-size o t h .0) (accepted-read o t h)
 
 -- the table that is found in an accepted object is that of its meaning
 pub table-told : (o : List ℕ) (t : Items) → judge o ≡ accepted t → entries (tableBody o) ≡ tableOf t
 unfolding tableBody tableOf share isItems
 table-told o t h =
-    let l = some-octets o t h in
+    let l = accepted-size o t h .0 in
     let a = whole o t h in
     let k : known 0 (getD o 0 0) ≡ some HoldsItems = top-holds o t h in
     let m = opened 0 1 0 o t l a in

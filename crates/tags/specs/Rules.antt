@@ -1,16 +1,14 @@
 -- What the calls answer that format's definitions don't say alone (document 01, Refusal numbers: 7 and 8).
 use mathlib.Core.Path.{_≡_}
 use mathlib.Core.Bool.{Bool, true, cond, _&&_, _||_}
-use mathlib.Core.Option.{Option, none, some}
 use mathlib.Core.List.{List}
 use Prim.Native.Nat.{ℕ, _-_, _^_}
 use lib.Dec.{eqb, leb}
 use lib.Bits.{bitOr}
-use Rattle.octets.specs.declared.counts.Characters.{Characters}
 use Rattle.octets.specs.Numbers.{among}
 use Rattle.text.specs.Weighing.{bit}
 use Rattle.values.specs.Table.{known, attribute}
-use Rattle.format.specs.Judge.{isKnown, limit}
+use Rattle.format.specs.Judge.{isKnown}
 
 -- rule 7: an element stands at depth 16 or above it; attributes and CDATA are not held to this
 abbrev pub withinDepth : (tag depth : ℕ) → Bool

@@ -211,10 +211,6 @@ width-append w [] b = omega arith
 width-append w (x ∷ a) b = omega (arith, width-append w a b)
 
 module _ (w s : List ℕ) (at : ℕ) where
-  pub width-none : length s ≤ at → weight w (drop at s) ≡ 0
-  unfolding weight
-  width-none h = ap (weight w) (drop-of-length-le s h)
-
   pub width-next : at < length s → (size : ℕ) → size ≡ widthAt w (getD s at 0) → weight w (drop at s) ≡ size + weight w (drop (at + 1) s)
   unfolding weight
   width-next h size e = ap (weight w) (drop-next s at 0 h) ∙ rw e

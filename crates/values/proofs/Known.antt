@@ -143,20 +143,20 @@ language-tag = record { notAttribute = refl; notCdata = refl; notTable = refl }
 
 -- the items there are that are no attributes, each with its kind: elements that hold items, elements that hold plain octets, CDATA, the token table, and the language
 pub data Stands : ℕ → Kind → Type 0 where
-  holder : {tag : ℕ} → known 0 tag ≡ some HoldsItems → Stands tag HoldsItems
-  plain : {tag : ℕ} → known 0 tag ≡ some HoldsPlain → Stands tag HoldsPlain
-  cdata : Stands 1 HoldsText
-  table : Stands 4 HoldsTokens
-  language : Stands 6 HoldsText
+  stands-items : {tag : ℕ} → known 0 tag ≡ some HoldsItems → Stands tag HoldsItems
+  stands-plain : {tag : ℕ} → known 0 tag ≡ some HoldsPlain → Stands tag HoldsPlain
+  stands-cdata : Stands 1 HoldsText
+  stands-table : Stands 4 HoldsTokens
+  stands-language : Stands 6 HoldsText
 
 pub stands : (tag : ℕ) (k : Kind) → known 0 tag ≡ some k → Stands tag k
-stands tag HoldsItems e = holder e
-stands tag HoldsPlain e = plain e
-stands tag HoldsTokens e = subst (λ n. Stands n HoldsTokens) (sym (eqb-true tag 4 (element-kind tag HoldsTokens e))) table
+stands tag HoldsItems e = stands-items e
+stands tag HoldsPlain e = stands-plain e
+stands tag HoldsTokens e = subst (λ n. Stands n HoldsTokens) (sym (eqb-true tag 4 (element-kind tag HoldsTokens e))) stands-table
 stands tag HoldsText e =
     or-elim (eqb tag 1) (eqb tag 6)
-    (λ q. subst (λ n. Stands n HoldsText) (sym (eqb-true tag 1 q)) cdata)
-    (λ q. subst (λ n. Stands n HoldsText) (sym (eqb-true tag 6 q)) language)
+    (λ q. subst (λ n. Stands n HoldsText) (sym (eqb-true tag 1 q)) stands-cdata)
+    (λ q. subst (λ n. Stands n HoldsText) (sym (eqb-true tag 6 q)) stands-language)
     (element-kind tag HoldsText e)
 stands tag HoldsTime e = absurd (false≢true (element-kind tag HoldsTime e))
 stands tag HoldsBearer e = absurd (false≢true (element-kind tag HoldsBearer e))

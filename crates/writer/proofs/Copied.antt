@@ -1,7 +1,7 @@
 -- Items that are written as they stand: what is known of the parts of such items, and that those of a loaded tree are such.
 use mathlib.Core.Path.{_≡_, refl, sym, ap, _∙_}
 use mathlib.Core.Bool.{Bool, true, false, cond, false≢true}
-use mathlib.Core.Option.{none, some, Option·some-injective, Option·none-ne-some}
+use mathlib.Core.Option.{some, Option·some-injective, Option·none-ne-some}
 use mathlib.Core.List.{List, []}
 use Prim.Native.Nat.{ℕ, _+_}
 use lib.Dec.{eqb}
@@ -28,7 +28,7 @@ use Rattle.format.proofs.Means.{items-opens}
 use Rattle.format.proofs.Told.{Told, ItemTold, KindTold, accepted-told, accepted-sound}
 use Rattle.format.proofs.Fine.{told-text, known-is}
 use Rattle.judge.proofs.AllWays.{tokens-four}
-use Rattle.survey.specs.Normal.{valueOctets, itemOctets}
+use Rattle.survey.specs.Normal.{valueOctets}
 use Rattle.survey.proofs.Ways.{value-fits, item-known}
 use Rattle.writer.specs.Steps.{Standing, AsLaid}
 

@@ -18,6 +18,7 @@ use Rattle.format.specs.Writer.{below, past, bodyIn, here, ruled}
 use Rattle.format.specs.Calls.{Lists, row}
 use Rattle.format.proofs.Kept.{ruled-parts}
 use Rattle.format.proofs.Means.{attribute-shut}
+use Rattle.format.proofs.Walk.{here-end, here-not, here-is}
 use Rattle.writer.specs.declared.emit.Lowest.{Lowest}
 use Rattle.writer.specs.declared.emit.Role.{Role}
 use Rattle.writer.specs.declared.emit.Role.the-variants.{Gone, Element, Attribute, Other}
@@ -30,7 +31,7 @@ use Rattle.writer.proofs.Finding.{found-octets, none-between, found-bod
 use Rattle.survey.proofs.Sizes.{opens-no-attribute}
 use Rattle.writer.proofs.Lays.{lays-none, lays-append, lays-length, fitting-left, fitting-right}
 use Rattle.writer.proofs.Framing.{first-fits, second-fits, framable, frame-laid}
-use Rattle.writer.proofs.Rows.{here-end, here-not, here-is, from-stop, from-single, from-nested, from-ahead, from-within}
+use Rattle.writer.proofs.Rows.{from-stop, from-single, from-nested, from-ahead, from-within}
 
 -- the roles of a record, by the code's tests
 module _ (depth own tag : ℕ) where
@@ -204,7 +205,7 @@ module _ (stored : Bool) (l : Lists) (n : ℕ) (lent : List ℕ) (p depth at to 
       record { lays = rw all (inv .lays); next = sym (inv .same ∙ ap (λ x. x .1) t) }
 
   pub written-end : n ≤ i → Emits (laterOctets p) (itemsFrom l n lent depth at) to before room (record { end = stop; next = i })
-  written-end h = ended (here-end l n lent depth i h)
+  written-end h = ended (here-end (row l) n depth i h)
 
   -- one part more: octets that are the first of what is left
   module _ (own : List ℕ) (j : ℕ) (first : later l n lent p depth i ≡ own ++ later l n lent p depth j) where
@@ -234,7 +235,7 @@ module _ (stored : Bool) (l : Lists) (n : ℕ) (lent : List ℕ) (p depth at to 
   module _ (lt : i < n) (x : Role) (xe : x ≡ roleOf depth (row l i .depth) (row l i .tag)) where
     pub written-gone : x ≡ Gone → Emits (laterOctets p) (itemsFrom l n lent depth at) to before room (record { end = stop; next = i })
     unfolding Tells
-    written-gone q = ended (here-not l n lent depth i (subst (Tells depth (row l i .depth) (row l i .tag)) q (tells depth (row l i .depth) (row l i .tag) x xe)))
+    written-gone q = ended (here-not (row l) n depth i (subst (Tells depth (row l i .depth) (row l i .tag)) q (tells depth (row l i .depth) (row l i .tag) x xe)))
 
     -- the items behind an item keep the rules, and so do those inside it
     ordered-parts : (y z : Items) → itemsFrom l n lent depth i .0 ≡ item (row l i .tag) (row l i .start) (bodyIn lent (row l i)) y z
@@ -258,7 +259,7 @@ module _ (stored : Bool) (l : Lists) (n : ℕ) (lent : List ℕ) (p depth at to 
     module _ (d : eqb (row l i .depth) depth ≡ true) (o : opens (row l i .tag) ≡ false) where
       single : itemsFrom l n lent depth i
           ≡ (item (row l i .tag) (row l i .start) (bodyIn lent (row l i)) end (itemsFrom l n lent depth (i + 1) .0), itemsFrom l n lent depth (i + 1) .1)
-      single = from-single l n lent depth i (here-is l n lent depth i lt d) o
+      single = from-single l n lent depth i (here-is (row l) n depth i lt d) o
 
       single-next : (own : List ℕ) → later l n lent p depth i ≡ own ++ later l n lent p depth (i + 1) → (after : List ℕ) (next : ℕ) → Lays own stop room after next
           → Written stored l n lent p depth at to before after (i + 1) next
@@ -317,7 +318,7 @@ module _ (stored : Bool) (l : Lists) (n : ℕ) (lent : List ℕ) (p depth at to 
           )
       nested =
           let t = element-says in
-          from-nested l n lent depth i (here-is l n lent depth i lt (t .0)) (t .1) (itemsFrom l n lent (depth + 1) (i + 1) .0) (itemsFrom l n lent (depth + 1) (i + 1) .1) refl
+          from-nested l n lent depth i (here-is (row l) n depth i lt (t .0)) (t .1) (itemsFrom l n lent (depth + 1) (i + 1) .0) (itemsFrom l n lent (depth + 1) (i + 1) .1) refl
 
       pub element-ordered : Ordered m (itemsFrom l n lent (depth + 1) (i + 1) .0)
       element-ordered =

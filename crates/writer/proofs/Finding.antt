@@ -24,13 +24,14 @@ use Rattle.format.proofs.Kept.{Kept, keeps-parts, ruled-parts}
 use Rattle.format.proofs.Fine.{known-is}
 use Rattle.format.proofs.Means.{attribute-shut, absent-attribute}
 use Rattle.format.proofs.Defaults.{present-attribute}
+use Rattle.format.proofs.Walk.{here-end, here-not, here-is}
 use Rattle.writer.specs.declared.emit.Lowest.{Lowest}
 use Rattle.survey.specs.Normal.{itemOctets}
 use Rattle.writer.specs.Steps.{fourOf, itemsFrom, Holding, lowerOf, Stands, FindsLowest, bodyAt, BodyAt, Ordered}
 use Rattle.survey.proofs.Ways.{value-fits, item-known, item-default}
 use Rattle.survey.proofs.Rising.{oneAttribute}
 use Rattle.survey.proofs.Found.{none-behind}
-use Rattle.writer.proofs.Rows.{here-end, here-not, here-is, from-stop, from-single, from-item}
+use Rattle.writer.proofs.Rows.{from-stop, from-single, from-item}
 
 -- one record more
 module _ (a : Lowest) (least tag i : ℕ) where
@@ -76,15 +77,15 @@ module _ (n : ℕ) (tags depths : List ℕ) (at depth least : ℕ) where
     stopped e = concluded (λ t x b c o s z. ap (λ y. find t (y .0)) (from-stop (fourOf tags depths b c) n o depth i (e b c)))
 
     pub pass-end : n ≤ i → FindsLowest n tags depths at depth least a
-    pass-end h = stopped (λ b c. here-end (fourOf tags depths b c) n [] depth i h)
+    pass-end h = stopped (λ b c. here-end (row (fourOf tags depths b c)) n depth i h)
 
     module _ (lt : i < n) where
       pub pass-gone : (getD depths i 0 ≡ depth → ⊥) → FindsLowest n tags depths at depth least a
-      pass-gone h = stopped (λ b c. here-not (fourOf tags depths b c) n [] depth i (ne-eqb (getD depths i 0) depth h))
+      pass-gone h = stopped (λ b c. here-not (row (fourOf tags depths b c)) n depth i (ne-eqb (getD depths i 0) depth h))
 
       module _ (eq : getD depths i 0 ≡ depth) where
         at-here : (starts sizes : List ℕ) → here (row (fourOf tags depths starts sizes)) n depth i ≡ true
-        at-here b c = here-is (fourOf tags depths b c) n [] depth i lt (eq-eqb (getD depths i 0) depth eq)
+        at-here b c = here-is (row (fourOf tags depths b c)) n depth i lt (eq-eqb (getD depths i 0) depth eq)
 
         pub pass-other : 0x80 ≤ least → getD tags i 0 < 0x80 → FindsLowest n tags depths at depth least a
         unfolding attribute

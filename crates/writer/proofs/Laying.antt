@@ -25,9 +25,9 @@ use Rattle.format.specs.Tree.Items.{end, item}
 use Rattle.format.specs.Judge.{isItems, isValue}
 use Rattle.format.specs.Loaded.{stored, storeIn, loadedIn}
 use Rattle.format.specs.Calls.{Lists, put, lay}
-use Rattle.format.proofs.Lays.{SameLengths, places-same}
+use Rattle.format.proofs.Lays.{SameLengths, places-same, within-places}
 use Rattle.reader.specs.Filling.{Accepts}
-use Rattle.reader.proofs.Laid.{same-laid, places-after, within-places}
+use Rattle.reader.proofs.Laid.{same-laid, places-after}
 use Rattle.reader.proofs.Shares.{Written, written-item}
 use Rattle.reader.proofs.Opening.{Opened, opened-end, lies-inside, met}
 use Rattle.writer.specs.declared.lay.Level.{Level}

@@ -1,12 +1,10 @@
 -- Records by number in the lists that measuring and writing read: whether one is here, and the items from it on.
 use mathlib.Core.Path.{_≡_, refl, ap, _∙_, fun-ext}
-use mathlib.Core.Bool.{Bool, true, false, cond, and-false}
+use mathlib.Core.Bool.{Bool, true, false, cond}
 use mathlib.Core.List.{List}
 use Prim.Native.Nat.{ℕ, zero, suc, _+_, _≤_, _<_}
 use native.Mathlib.Omega.{arith}
 use native.Mathlib.Numerals.{add-one}
-use lib.Dec.{eqb, ltb}
-use borrow.Author.Tests.{lt-ltb, le-ltb}
 use Rattle.format.specs.Tree.{Items}
 use Rattle.format.specs.Tree.Items.{end, item}
 use Rattle.format.specs.Meaning.{opens}
@@ -16,18 +14,6 @@ use Rattle.format.proofs.Trees.{tree-stop, tree-single, tree-nested, tree-ahead
 use Rattle.writer.specs.Steps.{fourOf, itemsFrom, Holding}
 
 module _ (l : Lists) (n : ℕ) (lent : List ℕ) (d i : ℕ) where
-  pub here-end : n ≤ i → here (row l) n d i ≡ false
-  unfolding here
-  here-end h = rw (le-ltb i n h)
-
-  pub here-not : eqb (row l i .depth) d ≡ false → here (row l) n d i ≡ false
-  unfolding here
-  here-not h = rw h (and-false (ltb i n))
-
-  pub here-is : i < n → eqb (row l i .depth) d ≡ true → here (row l) n d i ≡ true
-  unfolding here
-  here-is h e = rw (lt-ltb i n h, e)
-
   -- the items from record i on: none, one that holds no items, one that does
   pub from-stop : here (row l) n d i ≡ false → itemsFrom l n lent d i ≡ (end, i)
   unfolding itemsFrom

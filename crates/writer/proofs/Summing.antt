@@ -32,7 +32,8 @@ use Rattle.survey.proofs.WrittenAs.{written-kind, written-octets, unwritten-oct
 use Rattle.writer.specs.Steps.{itemsFrom, partOf, partAt, sizedOf, sizedFrom, sizedElement}
 use Rattle.writer.proofs.Items.{item-short}
 use Rattle.format.proofs.Means.{items-opens}
-use Rattle.writer.proofs.Rows.{here-end, here-not, here-is, from-stop, from-single, from-nested, from-ahead, from-within}
+use Rattle.format.proofs.Walk.{here-end, here-not, here-is}
+use Rattle.writer.proofs.Rows.{from-stop, from-single, from-nested, from-ahead, from-within}
 
 -- what a record adds, by whether and as what it is written
 module _ (p tag : ℕ) (body : List ℕ) (r : KnownKind) (e : r ≡ asKnown (writtenAs p tag body)) where
@@ -167,12 +168,12 @@ module _ (l : Lists) (n : ℕ) (lent : List ℕ) (at depth p i total : ℕ) (inv
       size-is _ _ total i (omega arith) (inv .same ∙ ap (λ x. x .1) t) (inv .small)
 
   pub sums-end : n ≤ i → Size (asOctets total) i ≡ sizedFrom l n lent p depth at
-  sums-end h = ended (here-end l n lent depth i h)
+  sums-end h = ended (here-end (row l) n depth i h)
 
   module _ (lt : i < n) (x : Part) (xe : x ≡ partAt p depth lent (row l i)) where
     pub sums-past : x ≡ Past → Size (asOctets total) i ≡ sizedFrom l n lent p depth at
     unfolding Tells
-    sums-past f = ended (here-not l n lent depth i (subst (Tells p depth lent (row l i)) f (tells p depth lent (row l i) x xe)))
+    sums-past f = ended (here-not (row l) n depth i (subst (Tells p depth lent (row l i)) f (tells p depth lent (row l i) x xe)))
 
     module _ (m : Octets) (f : x ≡ Single m) where
       single-says : (eqb (row l i .depth) depth ≡ true) × (opens (row l i .tag) ≡ false) × (m .0 ≡ length (itemOctets p (row l i .tag) (bodyIn lent (row l i))))
@@ -189,7 +190,7 @@ module _ (l : Lists) (n : ℕ) (lent : List ℕ) (at depth p i total : ℕ) (inv
       unfolding normalSize
       single-turn =
           let t = single-says in
-          let u = from-single l n lent depth i (here-is l n lent depth i lt (t .0)) (t .1) in
+          let u = from-single l n lent depth i (here-is (row l) n depth i lt (t .0)) (t .1) in
           let z : sum l n lent p depth i ≡ length (itemOctets p (row l i .tag) (bodyIn lent (row l i))) + sum l n lent p depth (i + 1) = ap (λ y. normalSize p (y .0)) u ∙ rw (t .1) in
           let a = inv .added in
           let e = t .2 in
@@ -204,7 +205,7 @@ module _ (l : Lists) (n : ℕ) (lent : List ℕ) (at depth p i total : ℕ) (inv
       unfolding Tells normalSize
       holds-turn =
           let t : (eqb (row l i .depth) depth ≡ true) × (opens (row l i .tag) ≡ true) × (tag ≡ row l i .tag) = subst (Tells p depth lent (row l i)) f (tells p depth lent (row l i) x xe) in
-          let u = from-nested l n lent depth i (here-is l n lent depth i lt (t .0)) (t .1) (itemsFrom l n lent (depth + 1) (i + 1) .0) (next l n lent (depth + 1) (i + 1)) refl in
+          let u = from-nested l n lent depth i (here-is (row l) n depth i lt (t .0)) (t .1) (itemsFrom l n lent (depth + 1) (i + 1) .0) (next l n lent (depth + 1) (i + 1)) refl in
           let z : sum l n lent p depth i ≡ framedSize (sum l n lent tag (depth + 1) (i + 1)) + sum l n lent p depth (next l n lent (depth + 1) (i + 1)) =
           ap (λ y. normalSize p (y .0)) u ∙ rw (t .1, ← t .2) in
           let a = inv .added in

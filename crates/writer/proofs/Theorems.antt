@@ -26,7 +26,7 @@ use Rattle.values.specs.declared.Kind.the-variants.{HoldsItems, HoldsTokens, Ho
 use Rattle.values.specs.Table.{known, attribute}
 use Rattle.values.specs.Values.{meant}
 use Rattle.values.specs.Values.Value.{octets}
-use Rattle.values.proofs.Known.{known-anywhere, known-cdata, element-kind, attribute-kind}
+use Rattle.values.proofs.Known.{known-anywhere, known-cdata, element-kind, attribute-kind, items-tag}
 use Rattle.format.specs.declared.WriteAnswer.{WriteAnswer}
 use Rattle.format.specs.declared.WriteAnswer.the-variants.{Octets, NotWritten}
 use Rattle.format.specs.Answers.{refusal}
@@ -48,7 +48,6 @@ use Rattle.format.proofs.Fine.{known-is}
 use Rattle.format.proofs.Force.{top-known}
 use Rattle.format.proofs.Means.{means-attribute, means-cdata, means-element, means-leaf}
 use Rattle.format.proofs.Calls.{written-means}
-use Rattle.values.proofs.Known.{items-tag}
 use Rattle.writer.specs.Theorems.{tableless, Delivered}
 use Rattle.survey.proofs.Ways.{Way, way}
 use Rattle.survey.proofs.Ways.Way.{isAttribute, isCdata, isElement, isLeaf}

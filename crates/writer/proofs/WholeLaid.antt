@@ -12,7 +12,8 @@ use Rattle.format.specs.Meaning.{tableOf}
 use Rattle.format.specs.Calls.{Lists, loadedRecords}
 use Rattle.format.proofs.Induction.{few}
 use Rattle.format.proofs.Loading.{loaded-count}
-use Rattle.reader.proofs.Reading.{small, whole}
+use Rattle.format.proofs.Rules.{accepted-size}
+use Rattle.reader.proofs.Reading.{whole}
 use Rattle.survey.specs.Places.{tableBody}
 use Rattle.survey.proofs.Tables.{table-told}
 use Rattle.writer.specs.declared.lay.Level.{Level}
@@ -41,7 +42,7 @@ module _ (o table : List ℕ) (l : Lists) (store : List ℕ) (os : Octets o) (fo
         accepts = whole o t h;
         space = record {
           above = omega arith;
-          few = omega (arith, few o t h, small o t h);
+          few = omega (arith, few o t h, accepted-size o t h .1);
           holds = omega (arith, can .few);
           low = omega (arith, can .small);
           room = omega (arith, can .room);

@@ -2,14 +2,13 @@
 -- so far; so what it says holds of every tree that the octets have in some context with the element's tag and depth.
 use mathlib.Core.Path.{_≡_}
 use mathlib.Core.Bool.{true}
-use mathlib.Core.Option.{Option, none, some}
+use mathlib.Core.Option.{some}
 use mathlib.Core.List.{List}
 use Prim.Native.Nat.{ℕ, _+_, _^_, _≤_, _<_}
 use lib.ListN.{length}
 use lib.Seq.{sets}
 use Rattle.text.specs.Tokens.{Entries}
 use Rattle.values.specs.declared.Kind.{Kind}
-use Rattle.values.specs.declared.Kind.the-variants.{HoldsItems, HoldsTokens, HoldsText, HoldsPlain, HoldsTime, HoldsBearer, HoldsNumber}
 use Rattle.values.specs.Table.{known}
 use Rattle.values.specs.Values.{fits}
 use Rattle.format.specs.declared.Record.{Record}
@@ -19,7 +18,7 @@ use Rattle.format.specs.Judge.{isItems, isValue, judge}
 use Rattle.format.specs.Judge.Judged.{accepted}
 use Rattle.format.specs.Loaded.{stored, storeIn, loadedIn, storeOf}
 use Rattle.format.specs.Calls.{Lists, places, put, lay, loadedRecords}
-use Rattle.reader.specs.Lent.{Within}
+use Rattle.format.specs.Lent.{Within}
 use Rattle.reader.specs.Filling.{Accepts, share}
 use Rattle.writer.specs.declared.lay.Level.{Level}
 use Rattle.writer.specs.declared.lay.Laid.{Laid}

@@ -50,7 +50,7 @@ use Rattle.format.specs.Calls.{Lists, places, row}
 use Rattle.format.proofs.Record as T
 use Rattle.format.proofs.Record.Laws as T′
 use Rattle.format.specs.Lent.{lent}
-use Rattle.reader.proofs.Laid.{within-places}
+use Rattle.format.proofs.Lays.{within-places}
 use Rattle.entry.specs.Copies.{Copyable, copied}
 use Rattle.entry.proofs.Lending.{Slice, Shared, names, contents, Refs, refs, Machine, machine, Each, shared-twice}
 use Rattle.entry.proofs.Walking.{Blocks, Values, cells, lying, alloc-all, free-all, set-behind, pass-slice, arg, tests}

@@ -2,8 +2,6 @@ use Rattle.show.proofs.Writing.{Measuring, measure-ways}
 use borrow.Author.Needs.{needs}
 use Rattle.show.proofs.decimal_size.Statement.{statement}
 use Rattle.show.proofs.decimal_size.Tie as tie
-use Rattle.show.proofs.decimal_size.Reads as reads
-use Rattle.show.proofs.decimal_size.Lts as lts
 
 abbrev Inv-loop : tie.InvT-loop
 Inv-loop n rest₀ size₀ rest size = Measuring n rest size

@@ -2,8 +2,6 @@ use Rattle.show.proofs.Writing.{room-ways}
 use borrow.Author.Needs.{needs}
 use Rattle.show.proofs.has_room.Statement.{statement}
 use Rattle.show.proofs.has_room.Tie as tie
-use Rattle.show.proofs.has_room.Reads as reads
-use Rattle.show.proofs.has_room.Lts as lts
 
 returns : tie.Need-returns
 returns c = search (room-ways, needs)

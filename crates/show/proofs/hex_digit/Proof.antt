@@ -2,8 +2,6 @@ use Rattle.show.proofs.Writing.{digit-ways}
 use borrow.Author.Needs.{needs}
 use Rattle.show.proofs.hex_digit.Statement.{statement}
 use Rattle.show.proofs.hex_digit.Tie as tie
-use Rattle.show.proofs.hex_digit.Reads as reads
-use Rattle.show.proofs.hex_digit.Lts as lts
 
 add-result : tie.Need-add-result
 add-result c = search (digit-ways, needs)

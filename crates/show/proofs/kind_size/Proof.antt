@@ -5,8 +5,6 @@ use Rattle.show.specs.Lines.{ascii}
 use borrow.Author.Needs.{needs}
 use Rattle.show.proofs.kind_size.Statement.{statement}
 use Rattle.show.proofs.kind_size.Tie as tie
-use Rattle.show.proofs.kind_size.Reads as reads
-use Rattle.show.proofs.kind_size.Lts as lts
 
 returns : tie.Need-returns
 unfolding ascii

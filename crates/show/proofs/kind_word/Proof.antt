@@ -1,12 +1,8 @@
 use Rattle.show.specs.Lines.{ascii, line, headerLine, touchedLine}
-use Rattle.show.proofs.Writing.{puts-same}
 use Rattle.show.proofs.Writing.{kind-element, kind-attribute, kind-cdata, kind-other, wrote-same, word-same}
 use borrow.Author.Needs.{needs}
 use Rattle.show.proofs.kind_word.Statement.{statement}
 use Rattle.show.proofs.kind_word.Tie as tie
-use Rattle.show.proofs.kind_word.Reads as reads
-use Rattle.show.proofs.kind_word.Lts as lts
-use Rattle.show.proofs.octets_word.Reads as octets-word-reads
 
 slice-aggregate-octets-word : tie.Need-slice-aggregate-octets-word
 slice-aggregate-octets-word c = search (kind-element, kind-attribute, kind-cdata, kind-other, wrote-same, word-same, needs)

@@ -2,9 +2,6 @@ use Rattle.show.proofs.Writing.{word-ways}
 use borrow.Author.Needs.{needs}
 use Rattle.show.proofs.number_word.Statement.{statement}
 use Rattle.show.proofs.number_word.Tie as tie
-use Rattle.show.proofs.number_word.Reads as reads
-use Rattle.show.proofs.number_word.Lts as lts
-use Rattle.show.proofs.store_decimal.Reads as store-decimal-reads
 
 store-decimal-requires : tie.Need-store-decimal-requires
 store-decimal-requires c κs = search (word-ways, needs)

@@ -2,9 +2,6 @@ use Rattle.show.proofs.Writing.{word-ways}
 use borrow.Author.Needs.{needs}
 use Rattle.show.proofs.octets_word.Statement.{statement}
 use Rattle.show.proofs.octets_word.Tie as tie
-use Rattle.show.proofs.octets_word.Reads as reads
-use Rattle.show.proofs.octets_word.Lts as lts
-use Rattle.show.proofs.store_octets.Reads as store-octets-reads
 
 store-octets-requires : tie.Need-store-octets-requires
 store-octets-requires c κs = search (word-ways, needs)

@@ -3,11 +3,6 @@ use Rattle.show.proofs.Writing.{put-none, put-room, put-done}
 use borrow.Author.Needs.{needs}
 use Rattle.show.proofs.put_decimal.Statement.{statement}
 use Rattle.show.proofs.put_decimal.Tie as tie
-use Rattle.show.proofs.put_decimal.Reads as reads
-use Rattle.show.proofs.put_decimal.Lts as lts
-use Rattle.show.proofs.decimal_size.Reads as decimal-size-reads
-use Rattle.show.proofs.has_room.Reads as has-room-reads
-use Rattle.show.proofs.store_decimal.Reads as store-decimal-reads
 
 decimal-size-requires : tie.Need-decimal-size-requires
 decimal-size-requires c κs = search (put-none, put-room, put-done, not-true, not-false, needs)

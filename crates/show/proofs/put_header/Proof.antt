@@ -3,9 +3,6 @@ use Rattle.show.proofs.Writing.{puts-same}
 use borrow.Author.Needs.{needs}
 use Rattle.show.proofs.put_header.Statement.{statement}
 use Rattle.show.proofs.put_header.Tie as tie
-use Rattle.show.proofs.put_header.Reads as reads
-use Rattle.show.proofs.put_header.Lts as lts
-use Rattle.show.proofs.put_bytes.Reads as put-bytes-reads
 
 slice-aggregate-put-bytes : tie.Need-slice-aggregate-put-bytes
 slice-aggregate-put-bytes c = search (puts-same, needs)

@@ -5,10 +5,6 @@ use Rattle.show.proofs.Writing.{put-none, put-room, put-done, length-he
 use borrow.Author.Needs.{needs}
 use Rattle.show.proofs.put_hex.Statement.{statement}
 use Rattle.show.proofs.put_hex.Tie as tie
-use Rattle.show.proofs.put_hex.Reads as reads
-use Rattle.show.proofs.put_hex.Lts as lts
-use Rattle.show.proofs.has_room.Reads as has-room-reads
-use Rattle.show.proofs.store_all_hex.Reads as store-all-hex-reads
 
 mul-size : tie.Need-mul-size
 mul-size c = search (put-none, put-room, put-done, length-hex, not-true, not-false, needs)

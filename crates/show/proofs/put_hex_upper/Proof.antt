@@ -3,10 +3,6 @@ use Rattle.show.proofs.Writing.{put-none, put-room, put-done, length-tw
 use borrow.Author.Needs.{needs}
 use Rattle.show.proofs.put_hex_upper.Statement.{statement}
 use Rattle.show.proofs.put_hex_upper.Tie as tie
-use Rattle.show.proofs.put_hex_upper.Reads as reads
-use Rattle.show.proofs.put_hex_upper.Lts as lts
-use Rattle.show.proofs.has_room.Reads as has-room-reads
-use Rattle.show.proofs.store_hex.Reads as store-hex-reads
 
 has-room-requires : tie.Need-has-room-requires
 has-room-requires c κs = search (put-none, put-room, put-done, length-two, not-true, not-false, needs)

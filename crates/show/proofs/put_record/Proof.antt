@@ -3,11 +3,6 @@ use Rattle.show.proofs.Writing.{put-none, put-room, put-done}
 use borrow.Author.Needs.{needs}
 use Rattle.show.proofs.put_record.Statement.{statement}
 use Rattle.show.proofs.put_record.Tie as tie
-use Rattle.show.proofs.put_record.Reads as reads
-use Rattle.show.proofs.put_record.Lts as lts
-use Rattle.show.proofs.has_room.Reads as has-room-reads
-use Rattle.show.proofs.record_size.Reads as record-size-reads
-use Rattle.show.proofs.store_record.Reads as store-record-reads
 
 record-size-requires : tie.Need-record-size-requires
 record-size-requires c κs = search (put-none, put-room, put-done, not-true, not-false, needs)

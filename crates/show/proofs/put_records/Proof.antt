@@ -3,11 +3,6 @@ use Rattle.show.proofs.Writing.{put-none, put-room, put-done, records-l
 use borrow.Author.Needs.{needs}
 use Rattle.show.proofs.put_records.Statement.{statement}
 use Rattle.show.proofs.put_records.Tie as tie
-use Rattle.show.proofs.put_records.Reads as reads
-use Rattle.show.proofs.put_records.Lts as lts
-use Rattle.show.proofs.decimal_size.Reads as decimal-size-reads
-use Rattle.show.proofs.has_room.Reads as has-room-reads
-use Rattle.show.proofs.store_records.Reads as store-records-reads
 
 decimal-size-requires : tie.Need-decimal-size-requires
 decimal-size-requires c κs = search (put-none, put-room, put-done, records-length, not-true, not-false, needs)

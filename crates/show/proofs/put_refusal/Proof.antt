@@ -3,11 +3,6 @@ use Rattle.show.proofs.Writing.{put-none, put-room, put-done}
 use borrow.Author.Needs.{needs}
 use Rattle.show.proofs.put_refusal.Statement.{statement}
 use Rattle.show.proofs.put_refusal.Tie as tie
-use Rattle.show.proofs.put_refusal.Reads as reads
-use Rattle.show.proofs.put_refusal.Lts as lts
-use Rattle.show.proofs.has_room.Reads as has-room-reads
-use Rattle.show.proofs.refusal_size.Reads as refusal-size-reads
-use Rattle.show.proofs.store_refusal.Reads as store-refusal-reads
 
 refusal-size-requires : tie.Need-refusal-size-requires
 refusal-size-requires c κs = search (put-none, put-room, put-done, not-true, not-false, needs)

@@ -2,10 +2,6 @@ use Rattle.show.proofs.Writing.{record-length}
 use borrow.Author.Needs.{needs}
 use Rattle.show.proofs.record_size.Statement.{statement}
 use Rattle.show.proofs.record_size.Tie as tie
-use Rattle.show.proofs.record_size.Reads as reads
-use Rattle.show.proofs.record_size.Lts as lts
-use Rattle.show.proofs.decimal_size.Reads as decimal-size-reads
-use Rattle.show.proofs.kind_size.Reads as kind-size-reads
 
 cast-decimal-size : tie.Need-cast-decimal-size
 cast-decimal-size c = search (record-length, needs)

@@ -2,9 +2,6 @@ use Rattle.show.proofs.Writing.{refusal-size-ways}
 use borrow.Author.Needs.{needs}
 use Rattle.show.proofs.refusal_size.Statement.{statement}
 use Rattle.show.proofs.refusal_size.Tie as tie
-use Rattle.show.proofs.refusal_size.Reads as reads
-use Rattle.show.proofs.refusal_size.Lts as lts
-use Rattle.show.proofs.decimal_size.Reads as decimal-size-reads
 
 cast-decimal-size : tie.Need-cast-decimal-size
 cast-decimal-size c = search needs

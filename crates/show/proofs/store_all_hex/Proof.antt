@@ -4,9 +4,6 @@ use lib.ListN.{length}
 use borrow.Author.Needs.{needs}
 use Rattle.show.proofs.store_all_hex.Statement.{statement}
 use Rattle.show.proofs.store_all_hex.Tie as tie
-use Rattle.show.proofs.store_all_hex.Reads as reads
-use Rattle.show.proofs.store_all_hex.Lts as lts
-use Rattle.show.proofs.store_hex.Reads as store-hex-reads
 
 abbrev Inv-loop : tie.InvT-loop
 Inv-loop out₀ at s to₀ i₀ out to i = Hexing out₀ at s out to i

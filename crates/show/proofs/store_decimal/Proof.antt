@@ -2,10 +2,6 @@ use Rattle.show.proofs.Writing.{Spelling, spell-ways}
 use borrow.Author.Needs.{needs}
 use Rattle.show.proofs.store_decimal.Statement.{statement}
 use Rattle.show.proofs.store_decimal.Tie as tie
-use Rattle.show.proofs.store_decimal.Reads as reads
-use Rattle.show.proofs.store_decimal.Lts as lts
-use Rattle.show.proofs.decimal_size.Reads as decimal-size-reads
-use Rattle.show.proofs.digit.Reads as digit-reads
 
 abbrev Inv-loop : tie.InvT-loop
 Inv-loop out₀ at n end to₀ rest₀ out to rest = Spelling out₀ at n out to rest

@@ -2,9 +2,6 @@ use Rattle.show.proofs.Writing.{two-ways}
 use borrow.Author.Needs.{needs}
 use Rattle.show.proofs.store_hex.Statement.{statement}
 use Rattle.show.proofs.store_hex.Tie as tie
-use Rattle.show.proofs.store_hex.Reads as reads
-use Rattle.show.proofs.store_hex.Lts as lts
-use Rattle.show.proofs.hex_digit.Reads as hex-digit-reads
 
 hex-digit-requires : tie.Need-hex-digit-requires
 hex-digit-requires c κs = search (two-ways, needs)

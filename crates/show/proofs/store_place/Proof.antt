@@ -3,10 +3,6 @@ use Rattle.show.proofs.Writing.{room-word, room-after, room-last, line-
 use borrow.Author.Needs.{needs}
 use Rattle.show.proofs.store_place.Statement.{statement}
 use Rattle.show.proofs.store_place.Tie as tie
-use Rattle.show.proofs.store_place.Reads as reads
-use Rattle.show.proofs.store_place.Lts as lts
-use Rattle.show.proofs.number_word.Reads as number-word-reads
-use Rattle.show.proofs.octets_word.Reads as octets-word-reads
 
 number-word-requires : tie.Need-number-word-requires
 number-word-requires c κs = search (line-ways, place-ways, needs)

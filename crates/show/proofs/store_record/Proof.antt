@@ -3,11 +3,6 @@ use Rattle.show.proofs.Writing.{room-word, room-after, room-last, line-
 use borrow.Author.Needs.{needs}
 use Rattle.show.proofs.store_record.Statement.{statement}
 use Rattle.show.proofs.store_record.Tie as tie
-use Rattle.show.proofs.store_record.Reads as reads
-use Rattle.show.proofs.store_record.Lts as lts
-use Rattle.show.proofs.kind_word.Reads as kind-word-reads
-use Rattle.show.proofs.number_word.Reads as number-word-reads
-use Rattle.show.proofs.tag_word.Reads as tag-word-reads
 
 cast-number-word : tie.Need-cast-number-word
 cast-number-word c = search needs

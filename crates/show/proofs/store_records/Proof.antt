@@ -3,10 +3,6 @@ use Rattle.show.proofs.Writing.{line-ways, records-room}
 use borrow.Author.Needs.{needs}
 use Rattle.show.proofs.store_records.Statement.{statement}
 use Rattle.show.proofs.store_records.Tie as tie
-use Rattle.show.proofs.store_records.Reads as reads
-use Rattle.show.proofs.store_records.Lts as lts
-use Rattle.show.proofs.number_word.Reads as number-word-reads
-use Rattle.show.proofs.octets_word.Reads as octets-word-reads
 
 slice-aggregate-octets-word : tie.Need-slice-aggregate-octets-word
 slice-aggregate-octets-word c = search needs

@@ -3,11 +3,6 @@ use Rattle.show.proofs.Writing.{room-word, room-after, line-more, line-
 use borrow.Author.Needs.{needs}
 use Rattle.show.proofs.store_refusal.Statement.{statement}
 use Rattle.show.proofs.store_refusal.Tie as tie
-use Rattle.show.proofs.store_refusal.Reads as reads
-use Rattle.show.proofs.store_refusal.Lts as lts
-use Rattle.show.proofs.number_word.Reads as number-word-reads
-use Rattle.show.proofs.octets_word.Reads as octets-word-reads
-use Rattle.show.proofs.store_place.Reads as store-place-reads
 
 slice-aggregate-octets-word : tie.Need-slice-aggregate-octets-word
 slice-aggregate-octets-word c = search needs

@@ -2,9 +2,6 @@ use Rattle.show.proofs.Writing.{word-ways}
 use borrow.Author.Needs.{needs}
 use Rattle.show.proofs.tag_word.Statement.{statement}
 use Rattle.show.proofs.tag_word.Tie as tie
-use Rattle.show.proofs.tag_word.Reads as reads
-use Rattle.show.proofs.tag_word.Lts as lts
-use Rattle.show.proofs.store_hex.Reads as store-hex-reads
 
 store-hex-requires : tie.Need-store-hex-requires
 store-hex-requires c κs = search (word-ways, needs)

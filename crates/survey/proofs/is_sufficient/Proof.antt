@@ -2,8 +2,6 @@ use Rattle.survey.proofs.Surveying.{sufficient-ways}
 use borrow.Author.Needs.{needs}
 use Rattle.survey.proofs.is_sufficient.Statement.{statement}
 use Rattle.survey.proofs.is_sufficient.Tie as tie
-use Rattle.survey.proofs.is_sufficient.Reads as reads
-use Rattle.survey.proofs.is_sufficient.Lts as lts
 
 enum-told : tie.Need-enum-told
 enum-told c = search needs

@@ -2,11 +2,6 @@ use Rattle.survey.proofs.Surveying.{survey-ways}
 use borrow.Author.Needs.{needs}
 use Rattle.survey.proofs.survey.Statement.{statement}
 use Rattle.survey.proofs.survey.Tie as tie
-use Rattle.survey.proofs.survey.Reads as reads
-use Rattle.survey.proofs.survey.Lts as lts
-use Rattle.judge.proofs.judge.Reads as judge-reads
-use Rattle.survey.proofs.is_sufficient.Reads as is-sufficient-reads
-use Rattle.survey.proofs.measure.measure.Reads as measure-reads
 
 judge-requires : tie.Need-judge-requires
 judge-requires c κs = search needs

@@ -1,6 +1,5 @@
 use Rattle.compare.proofs.Telling.{eight-by}
 use borrow.Author.Needs.{needs}
-use borrow.Author.Needs.{needs}
 use Rattle.compare.proofs.bodies.are_eight_same.Statement.{statement}
 use Rattle.compare.proofs.bodies.are_eight_same.Tie as tie
 

@@ -1,7 +1,6 @@
 use Rattle.compare.proofs.Stepping.{due-ways}
 use borrow.Author.Tests.{not-true, not-false}
 use borrow.Author.Needs.{needs}
-use borrow.Author.Needs.{needs}
 use Rattle.compare.proofs.steps.due_at.Statement.{statement}
 use Rattle.compare.proofs.steps.due_at.Tie as tie
 

@@ -1,6 +1,5 @@
 use Rattle.compare.proofs.Stepping.{ends-ways}
 use borrow.Author.Needs.{needs}
-use borrow.Author.Needs.{needs}
 use Rattle.compare.proofs.steps.ends_by.Statement.{statement}
 use Rattle.compare.proofs.steps.ends_by.Tie as tie
 

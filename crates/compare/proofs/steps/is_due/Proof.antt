@@ -1,6 +1,5 @@
 use Rattle.compare.proofs.Stepping.{at-ways}
 use borrow.Author.Needs.{needs}
-use borrow.Author.Needs.{needs}
 use Rattle.compare.proofs.steps.is_due.Statement.{statement}
 use Rattle.compare.proofs.steps.is_due.Tie as tie
 

@@ -1,6 +1,5 @@
 use Rattle.compare.proofs.Stepping.{of-ways}
 use borrow.Author.Needs.{needs}
-use borrow.Author.Needs.{needs}
 use Rattle.compare.proofs.steps.item_of.Statement.{statement}
 use Rattle.compare.proofs.steps.item_of.Tie as tie
 

@@ -1,6 +1,5 @@
 use Rattle.compare.proofs.Stepping.{values-ways}
 use borrow.Author.Needs.{needs}
-use borrow.Author.Needs.{needs}
 use Rattle.compare.proofs.steps.same_values.Statement.{statement}
 use Rattle.compare.proofs.steps.same_values.Tie as tie
 

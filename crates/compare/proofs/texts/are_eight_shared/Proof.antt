@@ -1,6 +1,5 @@
 use Rattle.compare.proofs.Telling.{eight-by}
 use borrow.Author.Needs.{needs}
-use borrow.Author.Needs.{needs}
 use Rattle.compare.proofs.texts.are_eight_shared.Statement.{statement}
 use Rattle.compare.proofs.texts.are_eight_shared.Tie as tie
 

@@ -1,6 +1,5 @@
 use Rattle.compare.proofs.Expansions.{over-both, over-not}
 use borrow.Author.Needs.{needs}
-use borrow.Author.Needs.{needs}
 use Rattle.compare.proofs.texts.are_over.Statement.{statement}
 use Rattle.compare.proofs.texts.are_over.Tie as tie
 

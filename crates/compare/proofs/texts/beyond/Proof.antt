@@ -1,6 +1,5 @@
 use Rattle.compare.proofs.Expansions.{beyond-ways}
 use borrow.Author.Needs.{needs}
-use borrow.Author.Needs.{needs}
 use Rattle.compare.proofs.texts.beyond.Statement.{statement}
 use Rattle.compare.proofs.texts.beyond.Tie as tie
 

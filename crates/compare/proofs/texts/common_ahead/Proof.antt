@@ -1,6 +1,5 @@
 use Rattle.compare.proofs.Expansions.{first-ways}
 use borrow.Author.Needs.{needs}
-use borrow.Author.Needs.{needs}
 use Rattle.compare.proofs.texts.common_ahead.Statement.{statement}
 use Rattle.compare.proofs.texts.common_ahead.Tie as tie
 

@@ -1,6 +1,5 @@
 use Rattle.compare.proofs.Expansions.{second-ways}
 use borrow.Author.Needs.{needs}
-use borrow.Author.Needs.{needs}
 use Rattle.compare.proofs.texts.common_with.Statement.{statement}
 use Rattle.compare.proofs.texts.common_with.Tie as tie
 

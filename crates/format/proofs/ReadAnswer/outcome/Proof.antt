@@ -3,8 +3,6 @@ use borrow.Author.Needs.{needs}
 use Rattle.format.specs.Answers.{readOutcome}
 use Rattle.format.proofs.ReadAnswer.outcome.Statement.{statement}
 use Rattle.format.proofs.ReadAnswer.outcome.Tie as tie
-use Rattle.format.proofs.ReadAnswer.outcome.Reads as reads
-use Rattle.format.proofs.ReadAnswer.outcome.Lts as lts
 
 -- src/lib.rt:73:33
 enum-known-self : tie.Need-enum-known-self

@@ -3,8 +3,6 @@ use borrow.Author.Needs.{needs}
 use Rattle.format.specs.Answers.{sameOutcome}
 use Rattle.format.proofs.SameAnswer.outcome.Statement.{statement}
 use Rattle.format.proofs.SameAnswer.outcome.Tie as tie
-use Rattle.format.proofs.SameAnswer.outcome.Reads as reads
-use Rattle.format.proofs.SameAnswer.outcome.Lts as lts
 
 -- src/lib.rt:111:33
 enum-told : tie.Need-enum-told

@@ -3,8 +3,6 @@ use borrow.Author.Needs.{needs}
 use Rattle.format.specs.Answers.{writeOutcome}
 use Rattle.format.proofs.WriteAnswer.outcome.Statement.{statement}
 use Rattle.format.proofs.WriteAnswer.outcome.Tie as tie
-use Rattle.format.proofs.WriteAnswer.outcome.Reads as reads
-use Rattle.format.proofs.WriteAnswer.outcome.Lts as lts
 
 -- src/lib.rt:92:33
 enum-known-self : tie.Need-enum-known-self

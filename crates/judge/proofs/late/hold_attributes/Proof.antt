@@ -1,8 +1,7 @@
-use Rattle.judge.proofs.LateWays.{late-found, late-ways}
+use Rattle.judge.proofs.LateWays.{late-found, late-ways, Scans}
 use borrow.Author.Needs.{needs}
 use Prim.Native.Nat.{_-_}
 use lib.ListN.{length}
-use Rattle.judge.proofs.LateWays.{Scans}
 use Rattle.judge.proofs.late.hold_attributes.Statement.{statement}
 use Rattle.judge.proofs.late.hold_attributes.Tie as tie
 

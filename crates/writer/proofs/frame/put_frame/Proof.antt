@@ -4,9 +4,6 @@ use Rattle.writer.proofs.Framing.{frame-room, frame-behind, frame-ways}
 use borrow.Author.Needs.{needs}
 use Rattle.writer.proofs.frame.put_frame.Statement.{statement}
 use Rattle.writer.proofs.frame.put_frame.Tie as tie
-use Rattle.octets.proofs.header_size.Reads as header-size-reads
-use Rattle.writer.proofs.frame.move_up.Reads as move-up-reads
-use Rattle.writer.proofs.item.put_header.Reads as put-header-reads
 
 add-from : tie.Need-add-from
 add-from c = search needs

@@ -7,8 +7,7 @@ use Rattle.octets.proofs.Places.{to-inside, ordered, nearer}
 use Rattle.text.specs.Tokens.{entries}
 use Rattle.format.specs.Lent.{six}
 use Rattle.writer.proofs.Laying.{inside-deep, inside-deeper, inside-next, inside-placeable, inside-can, inside-laid}
-use Rattle.writer.proofs.Laying.{item-nothing, item-value-can, item-value, item-inside-can}
-use Rattle.writer.proofs.Laying.{Walks, begin, kept, kept-store, ended, no-item, here, item-can, again}
+use Rattle.writer.proofs.Laying.{item-nothing, item-value-can, item-value, item-inside-can, Walks, begin, kept, kept-store, ended, no-item, here, item-can, again}
 use borrow.Fn.Kinds.{In}
 use borrow.Fn.PlainCycle.{Measures, is, falls, and}
 use Rattle.writer.proofs.lay.lay_inside.Reads as lay-inside

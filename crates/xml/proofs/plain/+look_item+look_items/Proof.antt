@@ -1,9 +1,8 @@
 use Rattle.xml.specs.Named.{plainHere}
 use Rattle.survey.proofs.Looking.{item-ways, look-ways, Looks}
-use Prim.Native.Nat.{_+_, _*_, _-_}
+use Prim.Native.Nat.{_+_, _*_, _-_, ℕ, _<_}
 use lib.ListN.{length}
 use borrow.Author.Needs.{needs}
-use Prim.Native.Nat.{ℕ, _<_}
 use borrow.Fn.Kinds.{In}
 use borrow.Fn.PlainCycle.{Measures, is, falls, and}
 use Rattle.xml.proofs.plain.look_item.Reads as look-item
