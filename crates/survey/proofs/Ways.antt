@@ -9,22 +9,28 @@ use lib.Dec.{eqb}
 use lib.ListN.{length}
 use borrow.Author.Tests.{eqb-true}
 use Rattle.octets.specs.Header.{framed}
+use Rattle.text.specs.Tokens.{Entries}
+use Rattle.text.proofs.Expansion.{Sound}
 use Rattle.values.specs.declared.Kind.{Kind}
 use Rattle.values.specs.declared.Kind.the-variants.{HoldsItems, HoldsTokens, HoldsText, HoldsPlain, HoldsTime, HoldsBearer, HoldsNumber}
 use Rattle.values.specs.Table.{known, attribute}
 use Rattle.values.specs.Values.{fits, meant, octetsOf}
+use Rattle.values.specs.Proper.{Proper}
 use Rattle.values.specs.Calls.{defaultOctets}
 use Rattle.octets.proofs.Answers.{framed-length as header-and-body}
 use Rattle.values.proofs.Known.{ElementTag, element-kind, known-anywhere}
+use Rattle.values.proofs.Values.{valueKind, fits-proper}
 use Rattle.format.specs.Tree.{Items}
 use Rattle.format.specs.Tree.Items.{end}
 use Rattle.format.specs.Judge.{isItems, isTokens, isValue}
-use Rattle.format.specs.Meaning.{leafOctets, maybe}
+use Rattle.format.specs.Meaning.{opens, leafOctets, maybe}
 use Rattle.format.specs.Writer.{Spot, past}
 use Rattle.format.proofs.Kept.{Kept, keeps-parts, keeps-tag, Ruled}
-use Rattle.format.proofs.Fine.{known-is}
-use Rattle.format.proofs.Means.{leaf-text, leaf-plain}
+use Rattle.format.proofs.Told.{ItemTold, KindTold}
+use Rattle.format.proofs.Fine.{told-text, known-is}
+use Rattle.format.proofs.Means.{items-opens, leaf-text, leaf-plain}
 use Rattle.format.proofs.Order.{ruled-order, three-end, cdata-three}
+use Rattle.judge.proofs.AllWays.{tokens-four}
 use Rattle.survey.specs.Normal.{framedSize, valueOctets, writtenAs, itemOctets}
 
 pub framed-length : (tag : ℕ) (body : List ℕ) → length (framed tag body) ≡ framedSize (length body)
@@ -45,6 +51,27 @@ item-known p tag body k f d e = rw (f, d, e)
 pub item-default : (p tag : ℕ) (body : List ℕ) → defaultOctets p tag body ≡ true → itemOctets p tag body ≡ []
 unfolding itemOctets writtenAs maybe
 item-default p tag body d = rw (d, or-true (eqb tag 4))
+
+-- what is neither an element that holds items nor the token table has a value
+value-kind : (p tag : ℕ) (k : Kind) → known p tag ≡ some k → eqb tag 4 ≡ false → opens tag ≡ false → valueKind k ≡ true
+unfolding isItems isTokens
+value-kind p tag HoldsItems e f o = absurd (false≢true (sym o ∙ (sym (items-opens p tag) ∙ rw e)))
+value-kind p tag HoldsTokens e f o = absurd (false≢true (sym f ∙ (sym (tokens-four p tag) ∙ rw e)))
+value-kind p tag HoldsText e f o = refl
+value-kind p tag HoldsPlain e f o = refl
+value-kind p tag HoldsTime e f o = refl
+value-kind p tag HoldsBearer e f o = refl
+value-kind p tag (HoldsNumber n) e f o = refl
+
+-- and of an item that acceptance tells of the value is a proper one
+pub told-value : (T : Entries) → Sound T → (s : Spot) (tag : ℕ) (body : List ℕ) (inside : Items) → ItemTold T s tag body inside → eqb tag 4 ≡ false → opens tag ≡ false
+    → (k : Kind) × (known (s .parent) tag ≡ some k) × Proper k (meant T k body)
+unfolding isValue
+told-value T sound s tag body inside i f o =
+    let k = known-is (known (s .parent) tag) (i .kind .isOne) in
+    let h : KindTold T (s .parent) tag body (some (k .0)) = rw (k .1) at (i .kind) in
+    let v = value-kind (s .parent) tag (k .0) (k .1) f o in
+    (k .0, k .1, fits-proper T (k .0) body (i .octets) v (h .value) (λ q. told-text T (s .parent) tag body sound (rw q at h)))
 
 -- the ways of an item in an element of a tag
 pub data Way (p tag : ℕ) (body : List ℕ) (after : Items) : Type 0 where

@@ -12,24 +12,20 @@ use Rattle.octets.specs.Header.{framed}
 use Rattle.text.specs.Tokens.{Entries}
 use Rattle.text.proofs.Expansion.{Sound}
 use Rattle.values.specs.declared.Kind.{Kind}
-use Rattle.values.specs.declared.Kind.the-variants.{HoldsItems, HoldsTokens, HoldsText, HoldsPlain, HoldsTime, HoldsBearer, HoldsNumber}
 use Rattle.values.specs.Table.{known}
 use Rattle.values.specs.Values.{meant, octetsOf}
 use Rattle.values.specs.Proper.{Proper}
-use Rattle.values.proofs.Values.{valueKind, proper-means, proper-fits, fits-proper}
+use Rattle.values.proofs.Values.{proper-means, proper-fits}
 use Rattle.format.specs.Tree.{Items, find}
 use Rattle.format.specs.Tree.Items.{end, item}
-use Rattle.format.specs.Judge.{isItems, isTokens, isValue, judge}
+use Rattle.format.specs.Judge.{judge}
 use Rattle.format.specs.Judge.Judged.{accepted}
 use Rattle.format.specs.Meaning.{opens, tableOf}
 use Rattle.format.specs.Loaded.{stored, storeIn, loadedIn, loadedOf}
 use Rattle.format.specs.Writer.{Spot, below, past, atTop}
-use Rattle.format.proofs.Means.{items-opens}
-use Rattle.format.proofs.Told.{Told, ItemTold, KindTold, accepted-told, accepted-sound}
-use Rattle.format.proofs.Fine.{told-text, known-is}
-use Rattle.judge.proofs.AllWays.{tokens-four}
+use Rattle.format.proofs.Told.{Told, ItemTold, accepted-told, accepted-sound}
 use Rattle.survey.specs.Normal.{valueOctets}
-use Rattle.survey.proofs.Ways.{value-fits, item-known}
+use Rattle.survey.proofs.Ways.{value-fits, item-known, told-value}
 use Rattle.writer.specs.Steps.{Standing, AsLaid}
 
 -- an item and the items after it
@@ -58,35 +54,18 @@ laid-found p tag o (item tag′ at body′ x y) body h f = go (eqb tag tag′) r
         let same = eqb-true tag tag′ e in
         rw (same, ← Option·some-injective body′ body g) (laid-own p tag′ at body′ x y h (ap opens (sym same) ∙ o))
 
--- what is neither an element that holds items nor the token table has a value
-value-kind : (p tag : ℕ) (k : Kind) → known p tag ≡ some k → eqb tag 4 ≡ false → opens tag ≡ false → valueKind k ≡ true
-unfolding isItems isTokens
-value-kind p tag HoldsItems e f o = absurd (false≢true (sym o ∙ (sym (items-opens p tag) ∙ rw e)))
-value-kind p tag HoldsTokens e f o = absurd (false≢true (sym f ∙ (sym (tokens-four p tag) ∙ rw e)))
-value-kind p tag HoldsText e f o = refl
-value-kind p tag HoldsPlain e f o = refl
-value-kind p tag HoldsTime e f o = refl
-value-kind p tag HoldsBearer e f o = refl
-value-kind p tag (HoldsNumber n) e f o = refl
-
 -- the octets of a value that is meant are its normal octets
 proper-octets : (T : Entries) (k : Kind) (body : List ℕ) → Proper k (meant T k body) → valueOctets k (stored T (some k) body) ≡ stored T (some k) body
 unfolding stored
 proper-octets T k body h = value-fits k (octetsOf (meant T k body)) (proper-fits h) ∙ ap octetsOf (proper-means h)
 
 module _ (T : Entries) (sound : Sound T) (s : Spot) (tag : ℕ) (body : List ℕ) where
-  told-value : (k : Kind) → Octets body → KindTold T (s .parent) tag body (some k) → valueKind k ≡ true → Proper k (meant T k body)
-  unfolding isValue
-  told-value k os h v = fits-proper T k body os v (h .value) (λ q. told-text T (s .parent) tag body sound (rw q at h))
-
   -- so what a told item takes of the store is written as it stands
   stored-own : (x : Items) → ItemTold T s tag body x → eqb tag 4 ≡ false → opens tag ≡ false
       → Standing (s .parent) tag (stored T (known (s .parent) tag) body)
   stored-own x i f o d =
-      let k = known-is (known (s .parent) tag) (i .kind .isOne) in
-      let h : KindTold T (s .parent) tag body (some (k .0)) = rw (k .1) at (i .kind) in
-      let v = told-value (k .0) (i .octets) h (value-kind (s .parent) tag (k .0) (k .1) f o) in
-      rw (k .1) (item-known (s .parent) tag (stored T (some (k .0)) body) (k .0) f (rw (k .1) at d) (k .1) ∙ ap (framed tag) (proper-octets T (k .0) body v))
+      let k = told-value T sound s tag body x i f o in
+      rw (k .1) (item-known (s .parent) tag (stored T (some (k .0)) body) (k .0) f (rw (k .1) at d) (k .1) ∙ ap (framed tag) (proper-octets T (k .0) body (k .2)))
 
   abbrev Loaded : Spot → Items → Type 0
   Loaded u t = (at : ℕ) → AsLaid (u .parent) (loadedIn T (u .parent) at t)
