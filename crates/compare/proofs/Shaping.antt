@@ -174,16 +174,12 @@ pub ruleset rising-ways = (rising-attribute, rising-other)
 
 pub ruleset later-ways = (later-attribute, later-other)
 
--- ---- is_item_normal
+-- ---- is_own
 
 -- octets that always stand as they are
 pub stands-written : (k : Kind) (o : List ℕ) → asItStands k ≡ true → isWritten (some k) o ≡ true
 unfolding isWritten
 stands-written k o h = rw (stands-fits k o h) (ap (λ x. sameOctets x o) (stands-normal k o h) ∙ octets-same o)
-
-simply : (tag : ℕ) (k : Kind) (o : List ℕ) → isItems (some k) ≡ false → shapedBody tag (some k) o ≡ fits k o && sameOctets (normalOctets k o) o
-unfolding shapedBody isWritten
-simply tag k o i = rw i (and-yes (fits k o && sameOctets (normalOctets k o) o))
 
 -- octets that are no more than eight need no test for that
 unbound : (k : Kind) (o : List ℕ) → (fits k o ≡ true → length o ≤ 8)
@@ -203,6 +199,48 @@ bearer-short : (o : List ℕ) → isBearer o ≡ true → length o ≤ 8
 unfolding isBearer ensembleFlag longSidFlag
 bearer-short o h = omega (arith, eqb-true (length o) (3 + 3 * ensembleFlag o + 2 * longSidFlag o) h)
 
+module _ (k : Kind) (o : List ℕ) where
+  standing : (m : Kind) → k ≡ m → asItStands m ≡ true → true ≡ isWritten (some k) o
+  standing m e h = sym (ap (λ n. isWritten (some n) o) e ∙ stands-written m o h)
+
+  pub own-items : k ≡ HoldsItems → true ≡ isWritten (some k) o
+  own-items e = standing HoldsItems e refl
+
+  pub own-tokens : k ≡ HoldsTokens → true ≡ isWritten (some k) o
+  own-tokens e = standing HoldsTokens e refl
+
+  pub own-text : k ≡ HoldsText → true ≡ isWritten (some k) o
+  own-text e = standing HoldsText e refl
+
+  pub own-plain : k ≡ HoldsPlain → true ≡ isWritten (some k) o
+  own-plain e = standing HoldsPlain e refl
+
+  rewritten : (m : Kind) → k ≡ m → (fits m o ≡ true → length o ≤ 8) → (r : Bool)
+      → r ≡ fits k o && leb (length (normalOctets k o)) 8 && sameOctets (normalOctets k o) o → r ≡ isWritten (some k) o
+  unfolding isWritten
+  rewritten m e h r f =
+      f ∙ ap (λ n. fits n o && leb (length (normalOctets n o)) 8 && sameOctets (normalOctets n o) o) e ∙ unbound m o h ∙ ap (λ n. isWritten (some n) o) (sym e)
+
+  pub own-time : k ≡ HoldsTime → (r : Bool) → r ≡ fits k o && leb (length (normalOctets k o)) 8 && sameOctets (normalOctets k o) o → r ≡ isWritten (some k) o
+  unfolding fits
+  own-time e = rewritten HoldsTime e (time-short o)
+
+  pub own-bearer : k ≡ HoldsBearer → (r : Bool) → r ≡ fits k o && leb (length (normalOctets k o)) 8 && sameOctets (normalOctets k o) o → r ≡ isWritten (some k) o
+  unfolding fits
+  own-bearer e = rewritten HoldsBearer e (bearer-short o)
+
+  pub own-number : (n : NumberKind) → k ≡ HoldsNumber n → Octets o → (r : Bool) → r ≡ fits k o → r ≡ isWritten (some k) o
+  unfolding isWritten fits
+  own-number n e os r f = f ∙ ap (λ m. fits m o) e ∙ go (eqb (length o) (width n)) refl ∙ ap (λ m. isWritten (some m) o) (sym e)
+    where
+      go : (x : Bool) → eqb (length o) (width n) ≡ x → x ≡ x && sameOctets (normalOctets (HoldsNumber n) o) o
+      go true t = sym (ap (λ x. sameOctets x o) (number-normal n o os t) ∙ octets-same o)
+      go false t = refl
+
+pub ruleset own-ways = (own-items, own-tokens, own-text, own-plain, own-time, own-bearer)
+
+-- ---- is_item_normal
+
 module _ (p tag : ℕ) (o : List ℕ) (k : KnownKind) (ke : k ≡ asKnown (writtenAs p tag o)) where
   pub item-unknown : k ≡ Unknown → false ≡ shapedBody tag (writtenAs p tag o) o
   unfolding shapedBody isWritten
@@ -216,39 +254,34 @@ module _ (p tag : ℕ) (o : List ℕ) (k : KnownKind) (ke : k ≡ asKnown (writt
     unfolding shapedBody isItems
     item-items e r f = f ∙ sym (kind-is HoldsItems e ∙ rw (stands-written HoldsItems o refl))
 
-    standing : (m : Kind) → l ≡ m → isItems (some m) ≡ false → asItStands m ≡ true → true ≡ shapedBody tag (writtenAs p tag o) o
+    -- one that holds no items
+    valued : (m : Kind) → l ≡ m → isItems (some m) ≡ false → (r : Bool) → r ≡ isWritten (some l) o → r ≡ shapedBody tag (writtenAs p tag o) o
     unfolding shapedBody
-    standing m e i h = sym (kind-is m e ∙ rw (stands-written m o h, i))
+    valued m e i r f = f ∙ ap (λ n. isWritten (some n) o) e ∙ sym (kind-is m e ∙ rw i (and-yes (isWritten (some m) o)))
 
-    pub item-tokens : l ≡ HoldsTokens → true ≡ shapedBody tag (writtenAs p tag o) o
+    pub item-tokens : l ≡ HoldsTokens → (r : Bool) → r ≡ isWritten (some l) o → r ≡ shapedBody tag (writtenAs p tag o) o
     unfolding isItems
-    item-tokens e = standing HoldsTokens e refl refl
+    item-tokens e = valued HoldsTokens e refl
 
-    pub item-text : l ≡ HoldsText → true ≡ shapedBody tag (writtenAs p tag o) o
+    pub item-text : l ≡ HoldsText → (r : Bool) → r ≡ isWritten (some l) o → r ≡ shapedBody tag (writtenAs p tag o) o
     unfolding isItems
-    item-text e = standing HoldsText e refl refl
+    item-text e = valued HoldsText e refl
 
-    pub item-plain : l ≡ HoldsPlain → true ≡ shapedBody tag (writtenAs p tag o) o
+    pub item-plain : l ≡ HoldsPlain → (r : Bool) → r ≡ isWritten (some l) o → r ≡ shapedBody tag (writtenAs p tag o) o
     unfolding isItems
-    item-plain e = standing HoldsPlain e refl refl
+    item-plain e = valued HoldsPlain e refl
 
-    pub item-time : l ≡ HoldsTime → (r : Bool) → r ≡ fits l o && leb (length (normalOctets l o)) 8 && sameOctets (normalOctets l o) o → r ≡ shapedBody tag (writtenAs p tag o) o
-    unfolding isItems fits
-    item-time e r f =
-        f ∙ ap (λ m. fits m o && leb (length (normalOctets m o)) 8 && sameOctets (normalOctets m o) o) e ∙ unbound HoldsTime o (time-short o) ∙ sym (kind-is HoldsTime e ∙ simply tag HoldsTime o refl)
+    pub item-time : l ≡ HoldsTime → (r : Bool) → r ≡ isWritten (some l) o → r ≡ shapedBody tag (writtenAs p tag o) o
+    unfolding isItems
+    item-time e = valued HoldsTime e refl
 
-    pub item-bearer : l ≡ HoldsBearer → (r : Bool) → r ≡ fits l o && leb (length (normalOctets l o)) 8 && sameOctets (normalOctets l o) o → r ≡ shapedBody tag (writtenAs p tag o) o
-    unfolding isItems fits
-    item-bearer e r f =
-        f ∙ ap (λ m. fits m o && leb (length (normalOctets m o)) 8 && sameOctets (normalOctets m o) o) e ∙ unbound HoldsBearer o (bearer-short o) ∙ sym (kind-is HoldsBearer e ∙ simply tag HoldsBearer o refl)
+    pub item-bearer : l ≡ HoldsBearer → (r : Bool) → r ≡ isWritten (some l) o → r ≡ shapedBody tag (writtenAs p tag o) o
+    unfolding isItems
+    item-bearer e = valued HoldsBearer e refl
 
-    pub item-number : (n : NumberKind) → l ≡ HoldsNumber n → Octets o → (r : Bool) → r ≡ fits l o → r ≡ shapedBody tag (writtenAs p tag o) o
-    unfolding isItems fits
-    item-number n e os r f = f ∙ ap (λ m. fits m o) e ∙ go (eqb (length o) (width n)) refl ∙ sym (kind-is (HoldsNumber n) e ∙ simply tag (HoldsNumber n) o refl)
-      where
-        go : (x : Bool) → eqb (length o) (width n) ≡ x → x ≡ x && sameOctets (normalOctets (HoldsNumber n) o) o
-        go true t = sym (ap (λ x. sameOctets x o) (number-normal n o os t) ∙ octets-same o)
-        go false t = refl
+    pub item-number : (n : NumberKind) → l ≡ HoldsNumber n → (r : Bool) → r ≡ isWritten (some l) o → r ≡ shapedBody tag (writtenAs p tag o) o
+    unfolding isItems
+    item-number n e = valued (HoldsNumber n) e refl
 
 pub ruleset item-ways = (item-unknown, item-items, item-tokens, item-text, item-plain, item-time, item-bearer, item-number)
 

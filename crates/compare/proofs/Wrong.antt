@@ -1,6 +1,7 @@
 -- Wrong answers, refuted by computing the definitions: for each public call two, of the kind that slips make.
 use mathlib.Core.Path.{_≡_, refl, sym, ap, _∙_}
 use mathlib.Core.Bool.{true, false, false≢true, true≢false}
+use mathlib.Core.Option.{some}
 use mathlib.Core.List.{List, [], _∷_, _++_}
 use Prim.Native.Nat.{ℕ}
 use native.Mathlib.Omega.{arith}
@@ -10,18 +11,19 @@ use Rattle.octets.specs.Header.{headerSize, bodySize}
 use Rattle.text.specs.Text.{layout, token}
 use Rattle.text.specs.Tokens.{Entries, entry, orItself, stands, expanded}
 use Rattle.text.specs.Index.{usable, placeAt, placeBy, withPlace, entriesBelow, entriesBy}
-use Rattle.values.specs.declared.Kind.the-variants.{HoldsTime, HoldsBearer}
+use Rattle.values.specs.declared.Kind.the-variants.{HoldsText, HoldsTime, HoldsBearer}
 use Rattle.values.specs.Table.{rows, kindIn, known, attribute, defaults, defaultIn}
 use Rattle.values.specs.Times.{bits, longFlag, offsetFlag, offsetOctet, timeOf, inRange, isTime, sign, timeOctets}
 use Rattle.values.specs.Bearers.{ensembleFlag, longSidFlag, ensembleOf, bearerOf, isBearer, ensembleBit, ensembleOctets, bearerOctets}
 use Rattle.values.specs.Values.{width, fits, meant, octetsOf}
-use Rattle.values.specs.Calls.{defaultOctets}
+use Rattle.values.specs.Calls.{normalOctets, defaultOctets}
 use Rattle.format.specs.declared.SameAnswer.the-variants.{Same, Different, FirstRefused, SecondRefused}
 use Rattle.format.specs.Answers.{refusal, wrongValue, sameOutcome}
 use Rattle.format.specs.Judge.{isKnown, isItems, judge}
 use Rattle.format.specs.Meaning.{opens, isChild}
 use Rattle.format.specs.Same.{sameOctets, sameValue, sameMaybe, sameAnswer, isNormal}
 use Rattle.survey.specs.Places.{spanWithin, spanOfTag, bodyBy, bodyOfTag}
+use Rattle.compare.specs.Normal.{isWritten}
 use Rattle.compare.specs.Bodies.{sameBody}
 use Rattle.compare.specs.Walks.{childrenWithin, childrenIn}
 use Rattle.compare.specs.Items.{countedBody, countedOfTag, sameFound, sameFrom, sameSets, sameText, sameEach, sameElement, sameChildren}
@@ -59,6 +61,15 @@ normal-refused h = true≢false (sym (ap (λ l. getD l 3 false) (computed .forme
 
 pub default-passes : isNormal said-no ≡ true → ⊥
 default-passes h = false≢true (sym (ap (λ l. getD l 16 true) (computed .formed)) ∙ h)
+
+-- `is_own`: minus 0 passed; a text refused
+pub minus-zero-own : isWritten (some HoldsTime) (0x30 ∷ 0xD4 ∷ 0x10 ∷ 0x00 ∷ 0x20 ∷ []) ≡ true → ⊥
+unfolding isWritten normalOctets sameOctets fits meant octetsOf isTime timeOf timeOctets inRange sign bits longFlag offsetFlag offsetOctet value digits
+minus-zero-own h = false≢true h
+
+pub text-not-own : isWritten (some HoldsText) (0x61 ∷ []) ≡ false → ⊥
+unfolding isWritten normalOctets sameOctets fits meant octetsOf expanded stands token layout among orItself
+text-not-own h = true≢false h
 
 -- a token table with 'ab' under 0x01, its index, and the index of no table
 abbrev ab : List ℕ

@@ -24,6 +24,7 @@ pub use items::same_cdata;
 pub use items::same_child;
 pub use items::same_children;
 use judge::judge;
+pub use normal::is_own;
 use survey::table_of;
 use text::index_of;
 pub use texts::same_texts;

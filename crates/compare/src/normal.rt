@@ -3,6 +3,7 @@
 // anywhere. Cost: each item is looked at once.
 ghost use mathlib.Core.Path.{_≡_};
 ghost use mathlib.Core.Bool.{cond, _&&_};
+ghost use mathlib.Core.Option.{some};
 ghost use Prim.Native.Nat.{_≤_};
 ghost use lib.Dec.{leb};
 ghost use lib.ListN.{length, take};
@@ -11,7 +12,7 @@ ghost use Rattle.values.specs.Calls.{normalOctets};
 ghost use Rattle.values.specs.Table.{attribute};
 ghost use Rattle.format.specs.Same.{sameOctets};
 ghost use Rattle.survey.specs.Normal.{writtenAs};
-ghost use Rattle.compare.specs.Normal.{isRising, shapedBody, shaped};
+ghost use Rattle.compare.specs.Normal.{isWritten, isRising, shapedBody, shaped};
 use crate::bodies::same_octets;
 use octets::Lies;
 use octets::Octets;
@@ -45,6 +46,21 @@ fn is_rewritten(kind: Kind, body: &[u8]) -> bool
     }
 }
 
+// The body of an item is a value of the kind in its normal octets. Texts stand as they are: in a normal form there is no token table.
+pub fn is_own(kind: Kind, body: &[u8]) -> bool
+    ensures { λ r. ⌜ r ≡ isWritten (some kind) (now (body .entry)) ⌝ }
+{
+    match kind {
+        Kind::HoldsItems => true,
+        Kind::HoldsTokens => true,
+        Kind::HoldsText => true,
+        Kind::HoldsPlain => true,
+        Kind::HoldsTime => is_rewritten(kind, body),
+        Kind::HoldsBearer => is_rewritten(kind, body),
+        Kind::HoldsNumber(_) => fits_kind(kind, body),
+    }
+}
+
 // An attribute comes behind one of a lower tag, or behind none (0x7F).
 fn is_rising(last: u8, tag: u8) -> bool
     ensures { λ r. ⌜ r ≡ isRising last tag ⌝ }
@@ -65,7 +81,7 @@ fn later_tag(last: u8, tag: u8) -> u8
     last
 }
 
-// The body of an item of a tag in an element. Texts stand as they are: in a normal form there is no token table.
+// The body of an item of a tag in an element.
 fn is_item_normal(parent: u8, tag: u8, body: &[u8]) -> bool
     ensures { λ r. ⌜ r ≡ shapedBody tag (writtenAs parent tag (now (body .entry))) (now (body .entry)) ⌝ }
 {
@@ -73,12 +89,12 @@ fn is_item_normal(parent: u8, tag: u8, body: &[u8]) -> bool
         KnownKind::Unknown => false,
         KnownKind::Known(kind) => match kind {
             Kind::HoldsItems => are_items_normal(tag, body),
-            Kind::HoldsTokens => true,
-            Kind::HoldsText => true,
-            Kind::HoldsPlain => true,
-            Kind::HoldsTime => is_rewritten(kind, body),
-            Kind::HoldsBearer => is_rewritten(kind, body),
-            Kind::HoldsNumber(_) => fits_kind(kind, body),
+            Kind::HoldsTokens => is_own(kind, body),
+            Kind::HoldsText => is_own(kind, body),
+            Kind::HoldsPlain => is_own(kind, body),
+            Kind::HoldsTime => is_own(kind, body),
+            Kind::HoldsBearer => is_own(kind, body),
+            Kind::HoldsNumber(_) => is_own(kind, body),
         },
     }
 }

@@ -4,7 +4,7 @@ use lib.ListN.{length}
 use borrow.Author.Needs.{needs}
 use borrow.Author.Tests.{not-true, not-false}
 use Rattle.octets.specs.Numbers.{Octets}
-use Rattle.compare.proofs.Shaping.{item-number, item-ways, Shapes, shapes-less, shapes-ways}
+use Rattle.compare.proofs.Shaping.{item-ways, Shapes, shapes-less, shapes-ways}
 use borrow.Fn.Kinds.{In}
 use borrow.Fn.PlainCycle.{Measures, is, falls, and}
 use Rattle.compare.proofs.normal.are_items_normal.Reads as are-items-normal
@@ -13,13 +13,12 @@ use Rattle.compare.proofs.normal.+are_items_normal+is_item_normal.Lts-a
 use Rattle.compare.proofs.normal.is_item_normal.Reads as is-item-normal
 use Rattle.compare.proofs.normal.is_item_normal.Kinds as is-item-normal-kinds
 use Rattle.compare.proofs.normal.+are_items_normal+is_item_normal.Lts-is_item_normal as is-item-normal-lts
-use Rattle.compare.proofs.normal.is_rewritten.Reads as is-rewritten-reads
+use Rattle.compare.proofs.normal.is_own.Reads as is-own-reads
 use Rattle.compare.proofs.normal.is_rising.Reads as is-rising-reads
 use Rattle.compare.proofs.normal.later_tag.Reads as later-tag-reads
 use Rattle.octets.proofs.header_size.Reads as header-size-reads
 use Rattle.octets.proofs.item_at.Reads as item-at-reads
 use Rattle.survey.proofs.written_as.Reads as written-as-reads
-use Rattle.values.proofs.fits_kind.Reads as fits-kind-reads
 use Rattle.compare.proofs.normal.+are_items_normal+is_item_normal.{statement}
 use Rattle.compare.proofs.normal.+are_items_normal+is_item_normal.Tie.{close}
 
@@ -382,10 +381,8 @@ is-item-normal-written-as-requires : (t : ℕ) → is-item-normal-lts.Need-writt
   written-as-reads.Learnt,
   are-items-normal-below t,
   are-items-normal.Post,
-  is-rewritten-reads.Asked,
-  is-rewritten-reads.Learnt,
-  fits-kind-reads.Asked,
-  fits-kind-reads.Learnt,
+  is-own-reads.Asked,
+  is-own-reads.Learnt,
 ) (is-item-normal-at t) is-item-normal.Post
 is-item-normal-written-as-requires t c κs = search (item-ways, not-true, not-false, needs)
 
@@ -394,10 +391,8 @@ is-item-normal-enum-told : (t : ℕ) → is-item-normal-lts.Need-enum-told (
   written-as-reads.Learnt,
   are-items-normal-below t,
   are-items-normal.Post,
-  is-rewritten-reads.Asked,
-  is-rewritten-reads.Learnt,
-  fits-kind-reads.Asked,
-  fits-kind-reads.Learnt,
+  is-own-reads.Asked,
+  is-own-reads.Learnt,
 ) (is-item-normal-at t) is-item-normal.Post
 is-item-normal-enum-told t c = search (item-ways, not-true, not-false, needs)
 
@@ -406,10 +401,8 @@ is-item-normal-enum-known-kind : (t : ℕ) → is-item-normal-lts.Need-enum-know
   written-as-reads.Learnt,
   are-items-normal-below t,
   are-items-normal.Post,
-  is-rewritten-reads.Asked,
-  is-rewritten-reads.Learnt,
-  fits-kind-reads.Asked,
-  fits-kind-reads.Learnt,
+  is-own-reads.Asked,
+  is-own-reads.Learnt,
 ) (is-item-normal-at t) is-item-normal.Post
 is-item-normal-enum-known-kind t c = search (item-ways, not-true, not-false, needs)
 
@@ -418,10 +411,8 @@ is-item-normal-enum-told-2 : (t : ℕ) → is-item-normal-lts.Need-enum-told-2 (
   written-as-reads.Learnt,
   are-items-normal-below t,
   are-items-normal.Post,
-  is-rewritten-reads.Asked,
-  is-rewritten-reads.Learnt,
-  fits-kind-reads.Asked,
-  fits-kind-reads.Learnt,
+  is-own-reads.Asked,
+  is-own-reads.Learnt,
 ) (is-item-normal-at t) is-item-normal.Post
 is-item-normal-enum-told-2 t c = search (item-ways, not-true, not-false, needs)
 
@@ -431,10 +422,8 @@ is-item-normal-are-items-normal-requires :
       written-as-reads.Learnt,
       are-items-normal-below t,
       are-items-normal.Post,
-      is-rewritten-reads.Asked,
-      is-rewritten-reads.Learnt,
-      fits-kind-reads.Asked,
-      fits-kind-reads.Learnt,
+      is-own-reads.Asked,
+      is-own-reads.Learnt,
     ) (is-item-normal-at t) is-item-normal.Post
 is-item-normal-are-items-normal-requires t c κs = search (item-ways, not-true, not-false, needs)
 
@@ -443,118 +432,128 @@ is-item-normal-enum-told-3 : (t : ℕ) → is-item-normal-lts.Need-enum-told-3 (
   written-as-reads.Learnt,
   are-items-normal-below t,
   are-items-normal.Post,
-  is-rewritten-reads.Asked,
-  is-rewritten-reads.Learnt,
-  fits-kind-reads.Asked,
-  fits-kind-reads.Learnt,
+  is-own-reads.Asked,
+  is-own-reads.Learnt,
 ) (is-item-normal-at t) is-item-normal.Post
 is-item-normal-enum-told-3 t c = search (item-ways, not-true, not-false, needs)
+
+is-item-normal-is-own-requires : (t : ℕ) → is-item-normal-lts.Need-is-own-requires (
+  written-as-reads.Asked,
+  written-as-reads.Learnt,
+  are-items-normal-below t,
+  are-items-normal.Post,
+  is-own-reads.Asked,
+  is-own-reads.Learnt,
+) (is-item-normal-at t) is-item-normal.Post
+is-item-normal-is-own-requires t c κs = search (item-ways, not-true, not-false, needs)
 
 is-item-normal-enum-told-4 : (t : ℕ) → is-item-normal-lts.Need-enum-told-4 (
   written-as-reads.Asked,
   written-as-reads.Learnt,
   are-items-normal-below t,
   are-items-normal.Post,
-  is-rewritten-reads.Asked,
-  is-rewritten-reads.Learnt,
-  fits-kind-reads.Asked,
-  fits-kind-reads.Learnt,
+  is-own-reads.Asked,
+  is-own-reads.Learnt,
 ) (is-item-normal-at t) is-item-normal.Post
 is-item-normal-enum-told-4 t c = search (item-ways, not-true, not-false, needs)
+
+is-item-normal-is-own-requires-2 : (t : ℕ) → is-item-normal-lts.Need-is-own-requires-2 (
+  written-as-reads.Asked,
+  written-as-reads.Learnt,
+  are-items-normal-below t,
+  are-items-normal.Post,
+  is-own-reads.Asked,
+  is-own-reads.Learnt,
+) (is-item-normal-at t) is-item-normal.Post
+is-item-normal-is-own-requires-2 t c κs = search (item-ways, not-true, not-false, needs)
 
 is-item-normal-enum-told-5 : (t : ℕ) → is-item-normal-lts.Need-enum-told-5 (
   written-as-reads.Asked,
   written-as-reads.Learnt,
   are-items-normal-below t,
   are-items-normal.Post,
-  is-rewritten-reads.Asked,
-  is-rewritten-reads.Learnt,
-  fits-kind-reads.Asked,
-  fits-kind-reads.Learnt,
+  is-own-reads.Asked,
+  is-own-reads.Learnt,
 ) (is-item-normal-at t) is-item-normal.Post
 is-item-normal-enum-told-5 t c = search (item-ways, not-true, not-false, needs)
+
+is-item-normal-is-own-requires-3 : (t : ℕ) → is-item-normal-lts.Need-is-own-requires-3 (
+  written-as-reads.Asked,
+  written-as-reads.Learnt,
+  are-items-normal-below t,
+  are-items-normal.Post,
+  is-own-reads.Asked,
+  is-own-reads.Learnt,
+) (is-item-normal-at t) is-item-normal.Post
+is-item-normal-is-own-requires-3 t c κs = search (item-ways, not-true, not-false, needs)
 
 is-item-normal-enum-told-6 : (t : ℕ) → is-item-normal-lts.Need-enum-told-6 (
   written-as-reads.Asked,
   written-as-reads.Learnt,
   are-items-normal-below t,
   are-items-normal.Post,
-  is-rewritten-reads.Asked,
-  is-rewritten-reads.Learnt,
-  fits-kind-reads.Asked,
-  fits-kind-reads.Learnt,
+  is-own-reads.Asked,
+  is-own-reads.Learnt,
 ) (is-item-normal-at t) is-item-normal.Post
 is-item-normal-enum-told-6 t c = search (item-ways, not-true, not-false, needs)
 
-is-item-normal-is-rewritten-requires : (t : ℕ) → is-item-normal-lts.Need-is-rewritten-requires (
+is-item-normal-is-own-requires-4 : (t : ℕ) → is-item-normal-lts.Need-is-own-requires-4 (
   written-as-reads.Asked,
   written-as-reads.Learnt,
   are-items-normal-below t,
   are-items-normal.Post,
-  is-rewritten-reads.Asked,
-  is-rewritten-reads.Learnt,
-  fits-kind-reads.Asked,
-  fits-kind-reads.Learnt,
+  is-own-reads.Asked,
+  is-own-reads.Learnt,
 ) (is-item-normal-at t) is-item-normal.Post
-is-item-normal-is-rewritten-requires t c κs = search (item-ways, not-true, not-false, needs)
+is-item-normal-is-own-requires-4 t c κs = search (item-ways, not-true, not-false, needs)
 
 is-item-normal-enum-told-7 : (t : ℕ) → is-item-normal-lts.Need-enum-told-7 (
   written-as-reads.Asked,
   written-as-reads.Learnt,
   are-items-normal-below t,
   are-items-normal.Post,
-  is-rewritten-reads.Asked,
-  is-rewritten-reads.Learnt,
-  fits-kind-reads.Asked,
-  fits-kind-reads.Learnt,
+  is-own-reads.Asked,
+  is-own-reads.Learnt,
 ) (is-item-normal-at t) is-item-normal.Post
 is-item-normal-enum-told-7 t c = search (item-ways, not-true, not-false, needs)
 
-is-item-normal-is-rewritten-requires-2 : (t : ℕ) → is-item-normal-lts.Need-is-rewritten-requires-2 (
+is-item-normal-is-own-requires-5 : (t : ℕ) → is-item-normal-lts.Need-is-own-requires-5 (
   written-as-reads.Asked,
   written-as-reads.Learnt,
   are-items-normal-below t,
   are-items-normal.Post,
-  is-rewritten-reads.Asked,
-  is-rewritten-reads.Learnt,
-  fits-kind-reads.Asked,
-  fits-kind-reads.Learnt,
+  is-own-reads.Asked,
+  is-own-reads.Learnt,
 ) (is-item-normal-at t) is-item-normal.Post
-is-item-normal-is-rewritten-requires-2 t c κs = search (item-ways, not-true, not-false, needs)
+is-item-normal-is-own-requires-5 t c κs = search (item-ways, not-true, not-false, needs)
 
 is-item-normal-enum-told-8 : (t : ℕ) → is-item-normal-lts.Need-enum-told-8 (
   written-as-reads.Asked,
   written-as-reads.Learnt,
   are-items-normal-below t,
   are-items-normal.Post,
-  is-rewritten-reads.Asked,
-  is-rewritten-reads.Learnt,
-  fits-kind-reads.Asked,
-  fits-kind-reads.Learnt,
+  is-own-reads.Asked,
+  is-own-reads.Learnt,
 ) (is-item-normal-at t) is-item-normal.Post
 is-item-normal-enum-told-8 t c = search (item-ways, not-true, not-false, needs)
 
-is-item-normal-fits-kind-requires : (t : ℕ) → is-item-normal-lts.Need-fits-kind-requires (
+is-item-normal-is-own-requires-6 : (t : ℕ) → is-item-normal-lts.Need-is-own-requires-6 (
   written-as-reads.Asked,
   written-as-reads.Learnt,
   are-items-normal-below t,
   are-items-normal.Post,
-  is-rewritten-reads.Asked,
-  is-rewritten-reads.Learnt,
-  fits-kind-reads.Asked,
-  fits-kind-reads.Learnt,
+  is-own-reads.Asked,
+  is-own-reads.Learnt,
 ) (is-item-normal-at t) is-item-normal.Post
-is-item-normal-fits-kind-requires t c κs = search (item-ways, not-true, not-false, needs)
+is-item-normal-is-own-requires-6 t c κs = search (item-ways, not-true, not-false, needs)
 
 is-item-normal-returns : (t : ℕ) → is-item-normal-lts.Need-returns (
   written-as-reads.Asked,
   written-as-reads.Learnt,
   are-items-normal-below t,
   are-items-normal.Post,
-  is-rewritten-reads.Asked,
-  is-rewritten-reads.Learnt,
-  fits-kind-reads.Asked,
-  fits-kind-reads.Learnt,
+  is-own-reads.Asked,
+  is-own-reads.Learnt,
 ) (is-item-normal-at t) is-item-normal.Post
 is-item-normal-returns t c = search (item-ways, not-true, not-false, needs)
 
@@ -563,10 +562,8 @@ is-item-normal-returns-2 : (t : ℕ) → is-item-normal-lts.Need-returns-2 (
   written-as-reads.Learnt,
   are-items-normal-below t,
   are-items-normal.Post,
-  is-rewritten-reads.Asked,
-  is-rewritten-reads.Learnt,
-  fits-kind-reads.Asked,
-  fits-kind-reads.Learnt,
+  is-own-reads.Asked,
+  is-own-reads.Learnt,
 ) (is-item-normal-at t) is-item-normal.Post
 is-item-normal-returns-2 t c = search (item-ways, not-true, not-false, needs)
 
@@ -575,10 +572,8 @@ is-item-normal-returns-3 : (t : ℕ) → is-item-normal-lts.Need-returns-3 (
   written-as-reads.Learnt,
   are-items-normal-below t,
   are-items-normal.Post,
-  is-rewritten-reads.Asked,
-  is-rewritten-reads.Learnt,
-  fits-kind-reads.Asked,
-  fits-kind-reads.Learnt,
+  is-own-reads.Asked,
+  is-own-reads.Learnt,
 ) (is-item-normal-at t) is-item-normal.Post
 is-item-normal-returns-3 t c = search (item-ways, not-true, not-false, needs)
 
@@ -587,10 +582,8 @@ is-item-normal-returns-4 : (t : ℕ) → is-item-normal-lts.Need-returns-4 (
   written-as-reads.Learnt,
   are-items-normal-below t,
   are-items-normal.Post,
-  is-rewritten-reads.Asked,
-  is-rewritten-reads.Learnt,
-  fits-kind-reads.Asked,
-  fits-kind-reads.Learnt,
+  is-own-reads.Asked,
+  is-own-reads.Learnt,
 ) (is-item-normal-at t) is-item-normal.Post
 is-item-normal-returns-4 t c = search (item-ways, not-true, not-false, needs)
 
@@ -599,10 +592,8 @@ is-item-normal-returns-5 : (t : ℕ) → is-item-normal-lts.Need-returns-5 (
   written-as-reads.Learnt,
   are-items-normal-below t,
   are-items-normal.Post,
-  is-rewritten-reads.Asked,
-  is-rewritten-reads.Learnt,
-  fits-kind-reads.Asked,
-  fits-kind-reads.Learnt,
+  is-own-reads.Asked,
+  is-own-reads.Learnt,
 ) (is-item-normal-at t) is-item-normal.Post
 is-item-normal-returns-5 t c = search (item-ways, not-true, not-false, needs)
 
@@ -611,10 +602,8 @@ is-item-normal-returns-6 : (t : ℕ) → is-item-normal-lts.Need-returns-6 (
   written-as-reads.Learnt,
   are-items-normal-below t,
   are-items-normal.Post,
-  is-rewritten-reads.Asked,
-  is-rewritten-reads.Learnt,
-  fits-kind-reads.Asked,
-  fits-kind-reads.Learnt,
+  is-own-reads.Asked,
+  is-own-reads.Learnt,
 ) (is-item-normal-at t) is-item-normal.Post
 is-item-normal-returns-6 t c = search (item-ways, not-true, not-false, needs)
 
@@ -623,10 +612,8 @@ is-item-normal-returns-7 : (t : ℕ) → is-item-normal-lts.Need-returns-7 (
   written-as-reads.Learnt,
   are-items-normal-below t,
   are-items-normal.Post,
-  is-rewritten-reads.Asked,
-  is-rewritten-reads.Learnt,
-  fits-kind-reads.Asked,
-  fits-kind-reads.Learnt,
+  is-own-reads.Asked,
+  is-own-reads.Learnt,
 ) (is-item-normal-at t) is-item-normal.Post
 is-item-normal-returns-7 t c = search (item-ways, not-true, not-false, needs)
 
@@ -635,14 +622,10 @@ is-item-normal-returns-8 : (t : ℕ) → is-item-normal-lts.Need-returns-8 (
   written-as-reads.Learnt,
   are-items-normal-below t,
   are-items-normal.Post,
-  is-rewritten-reads.Asked,
-  is-rewritten-reads.Learnt,
-  fits-kind-reads.Asked,
-  fits-kind-reads.Learnt,
+  is-own-reads.Asked,
+  is-own-reads.Learnt,
 ) (is-item-normal-at t) is-item-normal.Post
-is-item-normal-returns-8 t c =
-    let os : Octets (c .before .before .before .before .before .before .before .before .args .body .now) = λ i. omega (arith, c .before .before .before .before .before .before .before .shared-slice-known .given i) in
-    item-number _ _ _ _ (c .before .before .before .before .before .before .written-as .ensures) _ (c .before .before .before .before .kind .given .1) _ (c .before .enum-told8 .given .1) os _ (c .fits-kind .ensures)
+is-item-normal-returns-8 t c = search (item-ways, not-true, not-false, needs)
 
 pub +are-items-normal+is-item-normal-spec : {M : Type 1} → statement M
 +are-items-normal+is-item-normal-spec =
@@ -688,10 +671,8 @@ pub +are-items-normal+is-item-normal-spec : {M : Type 1} → statement M
       written-as-reads.Learnt,
       are-items-normal-below t,
       are-items-normal.Post,
-      is-rewritten-reads.Asked,
-      is-rewritten-reads.Learnt,
-      fits-kind-reads.Asked,
-      fits-kind-reads.Learnt,
+      is-own-reads.Asked,
+      is-own-reads.Learnt,
     )
     (is-item-normal-at t)
     is-item-normal.Post
@@ -701,14 +682,17 @@ pub +are-items-normal+is-item-normal-spec : {M : Type 1} → statement M
     (is-item-normal-enum-told-2 t)
     (is-item-normal-are-items-normal-requires t)
     (is-item-normal-enum-told-3 t)
+    (is-item-normal-is-own-requires t)
     (is-item-normal-enum-told-4 t)
+    (is-item-normal-is-own-requires-2 t)
     (is-item-normal-enum-told-5 t)
+    (is-item-normal-is-own-requires-3 t)
     (is-item-normal-enum-told-6 t)
-    (is-item-normal-is-rewritten-requires t)
+    (is-item-normal-is-own-requires-4 t)
     (is-item-normal-enum-told-7 t)
-    (is-item-normal-is-rewritten-requires-2 t)
+    (is-item-normal-is-own-requires-5 t)
     (is-item-normal-enum-told-8 t)
-    (is-item-normal-fits-kind-requires t)
+    (is-item-normal-is-own-requires-6 t)
     (is-item-normal-returns t)
     (is-item-normal-returns-2 t)
     (is-item-normal-returns-3 t)
