@@ -44,7 +44,7 @@ pub written-means : (row : ℕ → Record) (n : ℕ) (lent : List ℕ) (t : Item
 written-means row n lent t os h l = meaning-encode (means [] t) (rebuilt-ok row n lent os t h) l
 
 -- an accepted object has a record
-some-record : (o : List ℕ) (t : Items) → Octets o → judge o ≡ accepted t → 0 < count t
+pub some-record : (o : List ℕ) (t : Items) → Octets o → judge o ≡ accepted t → 0 < count t
 unfolding count outermost
 some-record o t os h =
     let w = top o t os h in

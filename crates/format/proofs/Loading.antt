@@ -291,7 +291,7 @@ loaded-keeps T ok (item tag from body x u) s h at stage seen l q =
     keeps-item T s tag from body x u ok (h .0) (loaded-keeps T ok x (below s tag) (h .1)) (loaded-keeps T ok u (past s tag) (h .2)) at stage seen l q
 
 -- the loaded tree lies in its store, wherever that stands in what is lent
-abbrev Stored : Entries → Items → Type 0
+abbrev pub Stored : Entries → Items → Type 0
 Stored T t = (p at : ℕ) (pre post lent : List ℕ) → lent ≡ pre ++ (storeIn T p t ++ post) → length pre ≡ at → Located lent (loadedIn T p at t)
 
 -- the way from the parts of a store to the places of its items
@@ -317,7 +317,7 @@ stored-item T tag from body x u inside later p at pre post lent e l = go (eqb ta
     go false true q = (([], lent, refl, refl), inside tag at pre (rest ++ post) lent (q ∙ simp append-assoc) l, behind (storeIn T tag x) q)
     go false false q = ((pre, rest ++ post, q ∙ simp append-assoc, l), tt, behind own q)
 
-loaded-stored : (T : Entries) (t : Items) → Stored T t
+pub loaded-stored : (T : Entries) (t : Items) → Stored T t
 unfolding loadedIn
 loaded-stored T end p at pre post lent e l = tt
 loaded-stored T (item tag from body x u) p at pre post lent e l = stored-item T tag from body x u (loaded-stored T x) (loaded-stored T u) p at pre post lent e l

@@ -7,5 +7,6 @@ pub mod Writer
 pub mod Loaded
 pub mod Same
 pub mod Calls
+pub mod State
 pub mod Lent
 pub mod Bench

@@ -163,6 +163,12 @@ unfolding normalSize means encode cdataIn find maybe
 sized end s h = let e : attrs (s .parent) end ≡ 0 = ap length (no-attributes (s .parent)) in omega arith
 sized (item tag at body x y) s h = sized-item tag at body x y (sized x) (sized y) s h
 
+-- the body of an element: what `encode` frames
+pub size-inside : (tag : ℕ) (x : Items) (s : Spot) → s .parent ≡ tag → ruled s x ≡ true
+    → length (rising 128 0x80 (attributesIn [] tag x) ++ (encode (means [] x) ++ maybe (framed 1) (cdataIn [] x))) ≡ normalSize tag x
+unfolding attributeOctets
+size-inside tag x s e r = rw (length-append, length-append) (sym (subst (λ p. Summed p x) e (sized x s r)))
+
 -- the top has no attribute and no CDATA beside it
 pub record Alone (t : Items) : Type 0 where
   pub attributes : attributeOctets 0 t ≡ []

@@ -1,0 +1,21 @@
+use native.Mathlib.Omega.{arith}
+use Rattle.survey.proofs.Parts.{framed-fits}
+use Rattle.state.proofs.Checks.{framed-body}
+use borrow.Author.Needs.{needs}
+use Rattle.state.proofs.holding.framed_size.Statement.{statement}
+use Rattle.state.proofs.holding.framed_size.Tie as tie
+
+wide16-requires : tie.Need-wide16-requires
+wide16-requires c κs = search needs
+
+header-size-requires : tie.Need-header-size-requires
+header-size-requires c κs = search needs
+
+add-result : tie.Need-add-result
+add-result c = framed-fits _ _ (c .before .header-size .ensures) (omega (arith, c .before .before .wide16 .ensures .1))
+
+returns : tie.Need-returns
+returns c = search (framed-body, needs)
+
+pub framed-size-spec : {M : Type 1} → statement M
+framed-size-spec = tie.close (tie.spec wide16-requires header-size-requires add-result returns)

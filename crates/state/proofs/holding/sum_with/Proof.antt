@@ -1,0 +1,26 @@
+use Rattle.state.proofs.Checks.{sum-ways}
+use borrow.Author.Needs.{needs}
+use Rattle.state.proofs.holding.sum_with.Statement.{statement}
+use Rattle.state.proofs.holding.sum_with.Tie as tie
+
+wide-requires : tie.Need-wide-requires
+wide-requires c κs = search needs
+
+sum-at-requires : tie.Need-sum-at-requires
+sum-at-requires c κs = search needs
+
+returns : tie.Need-returns
+returns c = search (sum-ways, needs)
+
+returns-2 : tie.Need-returns-2
+returns-2 c = search (sum-ways, needs)
+
+add-result : tie.Need-add-result
+add-result c = search needs
+
+returns-3 : tie.Need-returns-3
+returns-3 c = search (sum-ways, needs)
+
+pub sum-with-spec : {M : Type 1} → statement M
+sum-with-spec =
+    tie.close (tie.spec wide-requires sum-at-requires returns returns-2 add-result returns-3)
