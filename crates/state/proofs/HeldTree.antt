@@ -3,7 +3,7 @@ use mathlib.Core.Path.{_≡_, refl, sym, ap, _∙_, subst}
 use mathlib.Core.Bool.{Bool, true, false, cond, _&&_, false≢true}
 use mathlib.Core.Option.{Option, none, some, Option·some-injective, Option·none-ne-some}
 use mathlib.Core.List.{List, [], _++_}
-use Prim.Native.Nat.{ℕ, _≤_, _<_, min}
+use Prim.Native.Nat.{ℕ, _≤_, _<_}
 use native.Mathlib.Omega.{arith}
 use native.Mathlib.Nat.{min-le-left, min-le-right, zero-add}
 use lib.Dec.{eqb, leb}
@@ -25,7 +25,7 @@ use Rattle.format.specs.State.{Memory, placesIn, bodySizes, packed, packedStore
 use Rattle.format.proofs.Kept.{ruled-parts, keeps-tag}
 use Rattle.format.proofs.Spans.{Located, records-count}
 use Rattle.format.proofs.Loading.{loaded-stored, loaded-ruled, loaded-count}
-use Rattle.format.proofs.Rebuilt.{Whole, rebuilt-whole, whole-count, whole-rebuilt}
+use Rattle.format.proofs.Rebuilt.{Whole, rebuilt-whole, whole-rebuilt}
 use Rattle.format.proofs.Tabled.{count-item}
 use Rattle.format.proofs.Lays.{places-lay, tabled-laid}
 use Rattle.format.proofs.Same.{same-octets, octets-same}

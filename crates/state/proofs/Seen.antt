@@ -22,7 +22,7 @@ use Rattle.format.proofs.Same.{same-octets, octets-same}
 use Rattle.records.specs.Check.{isGiven, HasPlaces}
 use Rattle.records.proofs.Records.{has-all}
 use Rattle.state.specs.declared.Filled.{Filled}
-use Rattle.state.specs.declared.Filled.the-variants.{Apart, Upto}
+use Rattle.state.specs.declared.Filled.the-variants.{Apart}
 use Rattle.state.specs.Order.{heldAs, nth, filledFrom, asFilled, rightBelow, noSums}
 use Rattle.state.proofs.HeldTree.{Held, held, is-held, items-same, same-items}
 use Rattle.state.proofs.Order.{flat-packed}

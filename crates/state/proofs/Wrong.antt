@@ -14,7 +14,7 @@ use Rattle.format.specs.Meaning.{opens, isChild, valueIn, counted, attributesIn
 use Rattle.format.specs.Writer.{below, past, atTop, placed, bodyKeeps, keeps, bodyIn, good, here, onward, walk, tree, toEnd, rebuilt}
 use Rattle.format.specs.Loaded.{stored, storeIn, loadedIn}
 use Rattle.format.specs.Same.{sameOctets}
-use Rattle.format.specs.Calls.{Lists, places, treeGiven}
+use Rattle.format.specs.Calls.{places, treeGiven}
 use Rattle.format.specs.State.{Memory, normalBody, bodySizes, sameItems, kept, inOrder, treeHeld}
 use Rattle.state.specs.declared.Filled.the-variants.{Apart, Upto}
 use Rattle.state.specs.Order.{heldAs}
