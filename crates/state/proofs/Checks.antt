@@ -143,7 +143,7 @@ pub framed-body : (body w : ℕ) → w ≡ body → (h : OctetCount) → h ≡ a
 framed-body body w we h e = framed-is (asOctets w) h e ∙ ap framedSize we
 
 module _ (element tag start size : ℕ) (lent : List ℕ) (body f l : ℕ) (fe : f ≡ start) (le : l ≡ size) where
-  pub added-beyond : length lent < f + l → (r : ℕ) → r ≡ framedSize body → r ≡ addedBy element tag start size lent body
+  pub added-beyond : length lent < f + l → (r : OctetCount) → r .0 ≡ framedSize body → r .0 ≡ addedBy element tag start size lent body
   unfolding addedBy
   added-beyond n r e = rw (lt-leb (start + size) (length lent) (omega arith)) e
 
@@ -158,7 +158,7 @@ module _ (element tag start size : ℕ) (lent : List ℕ) (body f l : ℕ) (fe :
     unfolding addedBy
     added-default t = rw (inside, default-is ∙ t)
 
-    pub added-other : c ≡ false → (r : ℕ) → r ≡ framedSize body → r ≡ addedBy element tag start size lent body
+    pub added-other : c ≡ false → (r : OctetCount) → r .0 ≡ framedSize body → r .0 ≡ addedBy element tag start size lent body
     unfolding addedBy
     added-other t r e = rw (inside, default-is ∙ t) e
 
@@ -173,7 +173,7 @@ module _ (tag : ℕ) (r : Listed) (e : r ≡ listedAs (known 0 tag)) (sums : Lis
   unfolding opens
   own-nothing q w we = rw (is-nothing (known 0 tag) (sym q ∙ e) .0) we
 
-  pub own-inside : r ≡ Inside → (d : ℕ) → d ≡ depth → (w : ℕ) → w ≡ nth sums (d + 1) → w ≡ cond (opens tag) (nth sums (suc depth)) size
+  pub own-inside : r ≡ Inside → (d : ℕ) → d ≡ depth → (w : OctetCount) → w .0 ≡ nth sums (d + 1) → w .0 ≡ cond (opens tag) (nth sums (suc depth)) size
   unfolding opens
   own-inside q d de w we = rw (is-inside (known 0 tag) (sym q ∙ e) .0) (we ∙ ap (nth sums) (add-one d ∙ ap suc de))
 
@@ -183,17 +183,17 @@ module _ (tag : ℕ) (r : Listed) (e : r ≡ listedAs (known 0 tag)) (sums : Lis
 
 pub ruleset own-ways = (own-nothing, own-inside, own-value)
 
-module _ (sums : List ℕ) (depth part d : ℕ) (de : d ≡ depth) (s : ℕ) (se : s ≡ nth sums d) where
-  sum-is : s ≡ nth sums depth
+module _ (sums : List ℕ) (depth part d : ℕ) (de : d ≡ depth) (s : OctetCount) (se : s .0 ≡ nth sums d) where
+  sum-is : s .0 ≡ nth sums depth
   sum-is = se ∙ ap (nth sums) de
 
-  pub sum-over : 32_768 < s → 32_769 ≡ min 32_769 (nth sums depth + part)
+  pub sum-over : 32_768 < s .0 → 32_769 ≡ min 32_769 (nth sums depth + part)
   sum-over h = omega (arith, sum-is)
 
-  pub sum-more : 32_768 - s < part → 32_769 ≡ min 32_769 (nth sums depth + part)
+  pub sum-more : 32_768 - s .0 < part → 32_769 ≡ min 32_769 (nth sums depth + part)
   sum-more h = omega (arith, sum-is)
 
-  pub sum-low : s ≤ 32_768 → part ≤ 32_768 - s → s + part ≡ min 32_769 (nth sums depth + part)
+  pub sum-low : s .0 ≤ 32_768 → part ≤ 32_768 - s .0 → s .0 + part ≡ min 32_769 (nth sums depth + part)
   sum-low h g = omega (arith, sum-is)
 
 pub ruleset sum-ways = (sum-over, sum-more, sum-low)
@@ -220,37 +220,37 @@ module _ (tags depths parents starts sizes bodies lent : List ℕ) (n : ℕ) whe
     unfolding rightBelow
     righting-end h = let z : i ≡ 0 = omega arith in sym (v .rest ∙ ap (λ k. right k sums) z)
 
-    module _ (h : 0 < i) (w : ℕ) (we : w ≡ nth bodies (i - 1)) (o : ℕ) (oe : o ≡ cond (opens (nth tags (i - 1))) (nth sums (suc (nth depths (i - 1)))) (nth sizes (i - 1))) where
+    module _ (h : 0 < i) (w : ℕ) (we : w ≡ nth bodies (i - 1)) (o : OctetCount) (oe : o .0 ≡ cond (opens (nth tags (i - 1))) (nth sums (suc (nth depths (i - 1)))) (nth sizes (i - 1))) where
       abbrev sum : ℕ
       sum = nth sums (nth depths (i - 1)) + addedBy (nth tags (nth parents (i - 1))) (nth tags (i - 1)) (nth starts (i - 1)) (nth sizes (i - 1)) lent (nth bodies (i - 1))
 
       abbrev after : List ℕ
       after = set (set sums (suc (nth depths (i - 1))) 0) (nth depths (i - 1)) sum
 
-      right-step : right n noSums ≡ eqb w o && (leb sum 32_768 && right (i - 1) after)
+      right-step : right n noSums ≡ eqb w (o .0) && (leb sum 32_768 && right (i - 1) after)
       unfolding rightBelow
       right-step = let z : i ≡ suc (i - 1) = omega arith in v .rest ∙ (ap (λ k. right k sums) z ∙ ap₂ (λ a b. eqb a b && (leb sum 32_768 && right (i - 1) after)) (sym we) (sym oe))
 
-      pub righting-wrong : (w ≡ o → ⊥) → false ≡ rightBelow (nth tags) (nth depths) (nth parents) (nth starts) (nth sizes) (nth bodies) lent n noSums
-      righting-wrong q = sym (right-step ∙ rw (ne-eqb w o q))
+      pub righting-wrong : (w ≡ o .0 → ⊥) → false ≡ rightBelow (nth tags) (nth depths) (nth parents) (nth starts) (nth sizes) (nth bodies) lent n noSums
+      righting-wrong q = sym (right-step ∙ rw (ne-eqb w (o .0) q))
 
-      module _ (q : w ≡ o) (u : ℕ) (ue : u ≡ nth parents (i - 1)) (g : ℕ) (ge : g ≡ nth tags u)
-          (part : ℕ) (pe : part ≡ addedBy g (nth tags (i - 1)) (nth starts (i - 1)) (nth sizes (i - 1)) lent (nth bodies (i - 1)))
-          (total : ℕ) (te : total ≡ min 32_769 (nth sums (nth depths (i - 1)) + part)) where
-        total-is : total ≡ min 32_769 sum
+      module _ (q : w ≡ o .0) (u : ℕ) (ue : u ≡ nth parents (i - 1)) (g : ℕ) (ge : g ≡ nth tags u)
+          (part : OctetCount) (pe : part .0 ≡ addedBy g (nth tags (i - 1)) (nth starts (i - 1)) (nth sizes (i - 1)) lent (nth bodies (i - 1)))
+          (total : OctetCount) (te : total .0 ≡ min 32_769 (nth sums (nth depths (i - 1)) + part .0)) where
+        total-is : total .0 ≡ min 32_769 sum
         total-is =
             te ∙ ap (λ z. min 32_769 (nth sums (nth depths (i - 1)) + z)) (pe
             ∙ ap (λ z. addedBy z (nth tags (i - 1)) (nth starts (i - 1)) (nth sizes (i - 1)) lent (nth bodies (i - 1))) (ge ∙ ap (nth tags) ue))
 
-        pub righting-over : 32_768 < total → false ≡ rightBelow (nth tags) (nth depths) (nth parents) (nth starts) (nth sizes) (nth bodies) lent n noSums
-        righting-over l = sym (right-step ∙ rw (eq-eqb w o q, lt-leb sum 32_768 (omega (arith, total-is))))
+        pub righting-over : 32_768 < total .0 → false ≡ rightBelow (nth tags) (nth depths) (nth parents) (nth starts) (nth sizes) (nth bodies) lent n noSums
+        righting-over l = sym (right-step ∙ rw (eq-eqb w (o .0) q, lt-leb sum 32_768 (omega (arith, total-is))))
 
-        pub righting-next : total ≤ 32_768 → (b : List ℕ) → b ≡ set (set sums (suc (nth depths (i - 1))) 0) (nth depths (i - 1)) total
+        pub righting-next : total .0 ≤ 32_768 → (b : List ℕ) → b ≡ set (set sums (suc (nth depths (i - 1))) 0) (nth depths (i - 1)) (total .0)
             → Righting tags depths parents starts sizes bodies lent n (i - 1) b
         righting-next l b be =
-            let s : total ≡ sum = omega (arith, total-is) in
+            let s : total .0 ≡ sum = omega (arith, total-is) in
             let same : b ≡ after = be ∙ ap (set (set sums (suc (nth depths (i - 1))) 0) (nth depths (i - 1))) s in
             let kept : length after ≡ 18 = length-set (set sums (suc (nth depths (i - 1))) 0) (nth depths (i - 1)) sum ∙ (length-set sums (suc (nth depths (i - 1))) 0 ∙ v .long) in
-            record { high = omega (arith, v .high); long = ap length same ∙ kept; rest = right-step ∙ rw (eq-eqb w o q, le-leb sum 32_768 (omega arith)) (ap (right (i - 1)) (sym same)) }
+            record { high = omega (arith, v .high); long = ap length same ∙ kept; rest = right-step ∙ rw (eq-eqb w (o .0) q, le-leb sum 32_768 (omega arith)) (ap (right (i - 1)) (sym same)) }
 
 pub ruleset righting-ways = (righting-start, righting-end, righting-wrong, righting-over, righting-next)

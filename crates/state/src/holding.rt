@@ -113,16 +113,17 @@ fn lie_all(
 }
 
 // An item whose body has so many octets.
-fn framed_size(body: u16) -> usize
-    ensures { λ r. ⌜ r ≡ framedSize body ⌝ }
+fn framed_size(body: u16) -> Octets
+    ensures { λ r. ⌜ r .0 ≡ framedSize body ⌝ }
 {
     let size = wide16(body);
-    header_size(Octets(size)).0 + size
+    let all = header_size(Octets(size)).0 + size;
+    Octets(all)
 }
 
 // What a record adds to the body of its element. A well-formed record is left out of the normal form only where it is a default.
-fn added_by(element: u8, tag: u8, start: u16, size: u16, store: &[u8], body: u16) -> usize
-    ensures { λ r. ⌜ r ≡ addedBy element tag start size (now (store .entry)) body ⌝ }
+fn added_by(element: u8, tag: u8, start: u16, size: u16, store: &[u8], body: u16) -> Octets
+    ensures { λ r. ⌜ r .0 ≡ addedBy element tag start size (now (store .entry)) body ⌝ }
 {
     let from = wide16(start);
     let end = from + wide16(size);
@@ -130,59 +131,59 @@ fn added_by(element: u8, tag: u8, start: u16, size: u16, store: &[u8], body: u16
         return framed_size(body);
     }
     if is_default(element, tag, &store[from..end]) {
-        return 0;
+        return Octets(0);
     }
     framed_size(body)
 }
 
-fn sum_at(sums: &[usize], depth: usize) -> usize
-    ensures { λ r. ⌜ r ≡ nth (now (sums .entry)) depth ⌝ }
+fn sum_at(sums: &[usize], depth: usize) -> Octets
+    ensures { λ r. ⌜ r .0 ≡ nth (now (sums .entry)) depth ⌝ }
 {
     if depth < sums.len() {
-        return sums[depth];
+        return Octets(sums[depth]);
     }
-    0
+    Octets(0)
 }
 
 // The size that the body of a record should have: that of the records directly in it, which stand one deeper, or that of its own octets.
-fn own_size(sums: &[usize], depth: u8, tag: u8, size: u16) -> usize
-    ensures { λ r. ⌜ r ≡ cond (opens tag) (nth (now (sums .entry)) (suc depth)) size ⌝ }
+fn own_size(sums: &[usize], depth: u8, tag: u8, size: u16) -> Octets
+    ensures { λ r. ⌜ r .0 ≡ cond (opens tag) (nth (now (sums .entry)) (suc depth)) size ⌝ }
 {
     match listed_as(0, tag) {
-        Listed::Nothing => wide16(size),
+        Listed::Nothing => Octets(wide16(size)),
         Listed::Inside => sum_at(sums, wide(depth) + 1),
-        Listed::Value(_) => wide16(size),
+        Listed::Value(_) => Octets(wide16(size)),
     }
 }
 
 // The sum at a depth with one part more, stopped at 32,769.
-fn sum_with(sums: &[usize], depth: u8, part: usize) -> usize
-    ensures { λ r. ⌜ r ≡ min 32_769 (nth (now (sums .entry)) depth + part) ⌝ }
+fn sum_with(sums: &[usize], depth: u8, part: Octets) -> Octets
+    ensures { λ r. ⌜ r .0 ≡ min 32_769 (nth (now (sums .entry)) depth + part .0) ⌝ }
 {
     let sum = sum_at(sums, wide(depth));
-    if sum > 32_768 {
-        return 32_769;
+    if sum.0 > 32_768 {
+        return Octets(32_769);
     }
-    if part > 32_768 - sum {
-        return 32_769;
+    if part.0 > 32_768 - sum.0 {
+        return Octets(32_769);
     }
-    sum + part
+    Octets(sum.0 + part.0)
 }
 
-fn put_sum(sums: &mut [usize], depth: usize, sum: usize)
-    ensures { λ _. ⌜ now (sums .exit) ≡ set (now (sums .entry)) depth sum ⌝ }
+fn put_sum(sums: &mut [usize], depth: usize, sum: Octets)
+    ensures { λ _. ⌜ now (sums .exit) ≡ set (now (sums .entry)) depth (sum .0) ⌝ }
 {
     if depth < sums.len() {
-        sums[depth] = sum;
+        sums[depth] = sum.0;
     }
 }
 
 // A record is behind: what is in it was taken, and the sum at its own depth has its part.
-fn sum_up(sums: &mut [usize], depth: u8, sum: usize)
-    ensures { λ _. ⌜ now (sums .exit) ≡ set (set (now (sums .entry)) (suc depth) 0) depth sum ⌝ }
+fn sum_up(sums: &mut [usize], depth: u8, sum: Octets)
+    ensures { λ _. ⌜ now (sums .exit) ≡ set (set (now (sums .entry)) (suc depth) 0) depth (sum .0) ⌝ }
 {
     let own = wide(depth);
-    put_sum(sums, own + 1, 0);
+    put_sum(sums, own + 1, Octets(0));
     put_sum(sums, own, sum);
 }
 
@@ -204,22 +205,20 @@ fn are_right(
     let mut i = n;
     while i > 0 {
         i = i - 1;
-        if wide16(bodies[i]) != own_size(&sums, depths[i], tags[i], sizes[i]) {
+        let tag = tags[i];
+        let depth = depths[i];
+        let size = sizes[i];
+        let body = bodies[i];
+        if wide16(body) != own_size(&sums, depth, tag, size).0 {
             return false;
         }
-        let part = added_by(
-            tag_of(tags, wide16(parents[i])),
-            tags[i],
-            starts[i],
-            sizes[i],
-            store,
-            bodies[i],
-        );
-        let sum = sum_with(&sums, depths[i], part);
-        if sum > 32_768 {
+        let element = tag_of(tags, wide16(parents[i]));
+        let part = added_by(element, tag, starts[i], size, store, body);
+        let sum = sum_with(&sums, depth, part);
+        if sum.0 > 32_768 {
             return false;
         }
-        sum_up(&mut sums, depths[i], sum);
+        sum_up(&mut sums, depth, sum);
     }
     true
 }

@@ -15,11 +15,23 @@ loop-holds c = search (righting-ways, needs)
 sub-i : tie.Need-sub-i Inv-loop μ-loop
 sub-i c = search (righting-ways, needs)
 
-mul-wide16 : tie.Need-mul-wide16 Inv-loop μ-loop
-mul-wide16 c = search (righting-ways, needs)
+shared-slice-read-tag : tie.Need-shared-slice-read-tag Inv-loop μ-loop
+shared-slice-read-tag c = search (righting-ways, needs)
 
-shared-slice-read-wide16 : tie.Need-shared-slice-read-wide16 Inv-loop μ-loop
-shared-slice-read-wide16 c = search (righting-ways, needs)
+shared-slice-read-depth : tie.Need-shared-slice-read-depth Inv-loop μ-loop
+shared-slice-read-depth c = search (righting-ways, needs)
+
+mul-size : tie.Need-mul-size Inv-loop μ-loop
+mul-size c = search (righting-ways, needs)
+
+shared-slice-read-size : tie.Need-shared-slice-read-size Inv-loop μ-loop
+shared-slice-read-size c = search (righting-ways, needs)
+
+mul-body : tie.Need-mul-body Inv-loop μ-loop
+mul-body c = search (righting-ways, needs)
+
+shared-slice-read-body : tie.Need-shared-slice-read-body Inv-loop μ-loop
+shared-slice-read-body c = search (righting-ways, needs)
 
 wide16-requires : tie.Need-wide16-requires Inv-loop μ-loop
 wide16-requires c κs = search (righting-ways, needs)
@@ -27,29 +39,17 @@ wide16-requires c κs = search (righting-ways, needs)
 slice-aggregate-own-size : tie.Need-slice-aggregate-own-size Inv-loop μ-loop
 slice-aggregate-own-size c = search (righting-ways, needs)
 
-shared-slice-read-own-size : tie.Need-shared-slice-read-own-size Inv-loop μ-loop
-shared-slice-read-own-size c = search (righting-ways, needs)
-
-shared-slice-read-own-size-2 : tie.Need-shared-slice-read-own-size-2 Inv-loop μ-loop
-shared-slice-read-own-size-2 c = search (righting-ways, needs)
-
-mul-own-size : tie.Need-mul-own-size Inv-loop μ-loop
-mul-own-size c = search (righting-ways, needs)
-
-shared-slice-read-own-size-3 : tie.Need-shared-slice-read-own-size-3 Inv-loop μ-loop
-shared-slice-read-own-size-3 c = search (righting-ways, needs)
-
 own-size-requires : tie.Need-own-size-requires Inv-loop μ-loop
 own-size-requires c κs = search (righting-ways, needs)
 
 returns : tie.Need-returns Inv-loop μ-loop
 returns c = search (righting-ways, needs)
 
-mul-wide16-2 : tie.Need-mul-wide16-2 Inv-loop μ-loop
-mul-wide16-2 c = search (righting-ways, needs)
+mul-wide16 : tie.Need-mul-wide16 Inv-loop μ-loop
+mul-wide16 c = search (righting-ways, needs)
 
-shared-slice-read-wide16-2 : tie.Need-shared-slice-read-wide16-2 Inv-loop μ-loop
-shared-slice-read-wide16-2 c = search (righting-ways, needs)
+shared-slice-read-wide16 : tie.Need-shared-slice-read-wide16 Inv-loop μ-loop
+shared-slice-read-wide16 c = search (righting-ways, needs)
 
 wide16-requires-2 : tie.Need-wide16-requires-2 Inv-loop μ-loop
 wide16-requires-2 c κs = search (righting-ways, needs)
@@ -57,35 +57,17 @@ wide16-requires-2 c κs = search (righting-ways, needs)
 tag-of-requires : tie.Need-tag-of-requires Inv-loop μ-loop
 tag-of-requires c κs = search (righting-ways, needs)
 
-shared-slice-read-added-by : tie.Need-shared-slice-read-added-by Inv-loop μ-loop
-shared-slice-read-added-by c = search (righting-ways, needs)
-
 mul-added-by : tie.Need-mul-added-by Inv-loop μ-loop
 mul-added-by c = search (righting-ways, needs)
 
-shared-slice-read-added-by-2 : tie.Need-shared-slice-read-added-by-2 Inv-loop μ-loop
-shared-slice-read-added-by-2 c = search (righting-ways, needs)
-
-mul-added-by-2 : tie.Need-mul-added-by-2 Inv-loop μ-loop
-mul-added-by-2 c = search (righting-ways, needs)
-
-shared-slice-read-added-by-3 : tie.Need-shared-slice-read-added-by-3 Inv-loop μ-loop
-shared-slice-read-added-by-3 c = search (righting-ways, needs)
-
-mul-added-by-3 : tie.Need-mul-added-by-3 Inv-loop μ-loop
-mul-added-by-3 c = search (righting-ways, needs)
-
-shared-slice-read-added-by-4 : tie.Need-shared-slice-read-added-by-4 Inv-loop μ-loop
-shared-slice-read-added-by-4 c = search (righting-ways, needs)
+shared-slice-read-added-by : tie.Need-shared-slice-read-added-by Inv-loop μ-loop
+shared-slice-read-added-by c = search (righting-ways, needs)
 
 added-by-requires : tie.Need-added-by-requires Inv-loop μ-loop
 added-by-requires c κs = search (righting-ways, needs)
 
 slice-aggregate-sum-with : tie.Need-slice-aggregate-sum-with Inv-loop μ-loop
 slice-aggregate-sum-with c = search (righting-ways, needs)
-
-shared-slice-read-sum-with : tie.Need-shared-slice-read-sum-with Inv-loop μ-loop
-shared-slice-read-sum-with c = search (righting-ways, needs)
 
 sum-with-requires : tie.Need-sum-with-requires Inv-loop μ-loop
 sum-with-requires c κs = search (righting-ways, needs)
@@ -96,9 +78,6 @@ returns-2 c = search (righting-ways, needs)
 slice-aggregate-sum-up : tie.Need-slice-aggregate-sum-up Inv-loop μ-loop
 slice-aggregate-sum-up c = search (righting-ways, needs)
 
-shared-slice-read-sum-up : tie.Need-shared-slice-read-sum-up Inv-loop μ-loop
-shared-slice-read-sum-up c = search (righting-ways, needs)
-
 sum-up-requires : tie.Need-sum-up-requires Inv-loop μ-loop
 sum-up-requires c κs = search (righting-ways, needs)
 
@@ -107,9 +86,9 @@ loop-less c = search (righting-ways, needs)
 
 loop-again : tie.Need-loop-again Inv-loop μ-loop
 loop-again c =
-    righting-next _ _ _ _ _ _ _ _ _ _ (c .before .before .before .before .before .before .before .before .before .before .before .before .before .before .before .before .before .before .before .before .before .before .before .before .before .loop .inv) (c .before .before .before .before .before .before .before .before .before .before .before .before .before .before .before .before .before .before .before .before .before .before .before .before .loop-test .taken) _ (c .before .before .before .before .before .before .before .before .before .before .before .before .before .before .before .before .before .before .before .before .before .before .wide16 .ensures .0) _ (c .before .before .before .before .before .before .before .before .before .before .before .before .before .before .before .before .before .own-size .ensures)
-    (c .before .before .before .before .before .before .before .before .before .before .before .before .before .before .before .before .if1 .left) _ (c .before .before .before .before .before .before .before .before .before .before .before .before .before .before .wide162 .ensures .0) _ (c .before .before .before .before .before .before .before .before .before .before .before .before .before .tag-of .ensures) _ (c .before .before .before .before .before .before .before .before .added-by .ensures) _ (c .before .before .before .before .before .sum-with .ensures)
-    (c .before .before .before .before .if2 .left) _ (c .before .sum-up .ensures)
+    righting-next _ _ _ _ _ _ _ _ _ _ (c .before .before .before .before .before .before .before .before .before .before .before .before .before .before .before .before .before .before .before .before .before .before .loop .inv) (c .before .before .before .before .before .before .before .before .before .before .before .before .before .before .before .before .before .before .before .before .before .loop-test .taken) _ (c .before .before .before .before .before .before .before .before .before .before .before .before .before .before .before .before .wide16 .ensures .0) _ (c .before .before .before .before .before .before .before .before .before .before .before .before .before .before .own-size .ensures)
+    (c .before .before .before .before .before .before .before .before .before .before .before .before .if1 .left) _ (c .before .before .before .before .before .before .before .before .before .before .wide162 .ensures .0) _ (c .before .before .before .before .before .before .before .before .before .tag-of .ensures) _ (c .before .before .before .before .before .before .before .added-by .ensures) _ (c .before .before .before .before .before .sum-with .ensures)
+    (c .before .before .before .if2 .left) _ (c .before .sum-up .ensures)
 
 returns-3 : tie.Need-returns-3 Inv-loop μ-loop
 returns-3 c = search (righting-ways, needs)
@@ -122,34 +101,27 @@ are-right-spec =
     μ-loop
     loop-holds
     sub-i
-    mul-wide16
-    shared-slice-read-wide16
+    shared-slice-read-tag
+    shared-slice-read-depth
+    mul-size
+    shared-slice-read-size
+    mul-body
+    shared-slice-read-body
     wide16-requires
     slice-aggregate-own-size
-    shared-slice-read-own-size
-    shared-slice-read-own-size-2
-    mul-own-size
-    shared-slice-read-own-size-3
     own-size-requires
     returns
-    mul-wide16-2
-    shared-slice-read-wide16-2
+    mul-wide16
+    shared-slice-read-wide16
     wide16-requires-2
     tag-of-requires
-    shared-slice-read-added-by
     mul-added-by
-    shared-slice-read-added-by-2
-    mul-added-by-2
-    shared-slice-read-added-by-3
-    mul-added-by-3
-    shared-slice-read-added-by-4
+    shared-slice-read-added-by
     added-by-requires
     slice-aggregate-sum-with
-    shared-slice-read-sum-with
     sum-with-requires
     returns-2
     slice-aggregate-sum-up
-    shared-slice-read-sum-up
     sum-up-requires
     loop-less
     loop-again

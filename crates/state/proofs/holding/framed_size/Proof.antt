@@ -11,11 +11,11 @@ wide16-requires c κs = search needs
 header-size-requires : tie.Need-header-size-requires
 header-size-requires c κs = search needs
 
-add-result : tie.Need-add-result
-add-result c = framed-fits _ _ (c .before .header-size .ensures) (omega (arith, c .before .before .wide16 .ensures .1))
+add-all : tie.Need-add-all
+add-all c = framed-fits _ _ (c .before .header-size .ensures) (omega (arith, c .before .before .wide16 .ensures .1))
 
 returns : tie.Need-returns
 returns c = search (framed-body, needs)
 
 pub framed-size-spec : {M : Type 1} → statement M
-framed-size-spec = tie.close (tie.spec wide16-requires header-size-requires add-result returns)
+framed-size-spec = tie.close (tie.spec wide16-requires header-size-requires add-all returns)

@@ -3,11 +3,11 @@ use borrow.Author.Needs.{needs}
 use Rattle.state.proofs.holding.sum_at.Statement.{statement}
 use Rattle.state.proofs.holding.sum_at.Tie as tie
 
-mul-result : tie.Need-mul-result
-mul-result c = search needs
+mul-t5 : tie.Need-mul-t5
+mul-t5 c = search needs
 
-shared-slice-read-result : tie.Need-shared-slice-read-result
-shared-slice-read-result c = search needs
+shared-slice-read-t7 : tie.Need-shared-slice-read-t7
+shared-slice-read-t7 c = search needs
 
 returns : tie.Need-returns
 returns c = search needs
@@ -16,4 +16,4 @@ returns-2 : tie.Need-returns-2
 returns-2 c = search (nth-beyond, needs)
 
 pub sum-at-spec : {M : Type 1} → statement M
-sum-at-spec = tie.close (tie.spec mul-result shared-slice-read-result returns returns-2)
+sum-at-spec = tie.close (tie.spec mul-t5 shared-slice-read-t7 returns returns-2)

@@ -15,12 +15,12 @@ returns c = search (sum-ways, needs)
 returns-2 : tie.Need-returns-2
 returns-2 c = search (sum-ways, needs)
 
-add-result : tie.Need-add-result
-add-result c = search needs
+add-t5 : tie.Need-add-t5
+add-t5 c = search needs
 
 returns-3 : tie.Need-returns-3
 returns-3 c = search (sum-ways, needs)
 
 pub sum-with-spec : {M : Type 1} → statement M
 sum-with-spec =
-    tie.close (tie.spec wide-requires sum-at-requires returns returns-2 add-result returns-3)
+    tie.close (tie.spec wide-requires sum-at-requires returns returns-2 add-t5 returns-3)
