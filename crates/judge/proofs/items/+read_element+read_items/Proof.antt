@@ -57,36 +57,31 @@ read-element-sub-read-items : (t : ℕ) → read-element-lts.Need-sub-read-items
   read-items-below t,
   read-items.Post,
 ) (read-element-at t) read-element.Post
-read-element-sub-read-items t c =
-    search needs
+read-element-sub-read-items t c = search needs
 
 read-element-part-read-items-start : (t : ℕ) → read-element-lts.Need-part-read-items-start (
   read-items-below t,
   read-items.Post,
 ) (read-element-at t) read-element.Post
-read-element-part-read-items-start t c =
-    search needs
+read-element-part-read-items-start t c = search needs
 
 read-element-part-read-items-end : (t : ℕ) → read-element-lts.Need-part-read-items-end (
   read-items-below t,
   read-items.Post,
 ) (read-element-at t) read-element.Post
-read-element-part-read-items-end t c =
-    search needs
+read-element-part-read-items-end t c = search needs
 
 read-element-add-read-items : (t : ℕ) → read-element-lts.Need-add-read-items (
   read-items-below t,
   read-items.Post,
 ) (read-element-at t) read-element.Post
-read-element-add-read-items t c =
-    search needs
+read-element-add-read-items t c = search needs
 
 read-element-sub-read-items-2 : (t : ℕ) → read-element-lts.Need-sub-read-items-2 (
   read-items-below t,
   read-items.Post,
 ) (read-element-at t) read-element.Post
-read-element-sub-read-items-2 t c =
-    search needs
+read-element-sub-read-items-2 t c = search needs
 
 read-element-read-items-requires : (t : ℕ) → read-element-lts.Need-read-items-requires (
   read-items-below t,
@@ -99,8 +94,7 @@ read-element-returns : (t : ℕ) → read-element-lts.Need-returns (
   read-items-below t,
   read-items.Post,
 ) (read-element-at t) read-element.Post
-read-element-returns t c =
-    search (part-most, needs)
+read-element-returns t c = search (part-most, needs)
 
 abbrev read-items-Inv-loop : read-items-lts.InvT-loop
 read-items-Inv-loop part base parent left given marked shown at₀ progress₀ counts₀ table₀ marks₀ shows₀ at progress counts table marks shows =
@@ -122,8 +116,7 @@ read-items-loop-holds : (t : ℕ) → read-items-lts.Need-loop-holds (
   end-items-reads.Asked,
   end-items-reads.Learnt,
 ) (read-items-at t) read-items.Post read-items-Inv-loop read-items-μ-loop
-read-items-loop-holds t c =
-    search (at-start, needs)
+read-items-loop-holds t c = search (at-start, needs)
 
 read-items-read-item-requires : (t : ℕ) → read-items-lts.Need-read-item-requires (
   read-item-reads.Asked,
@@ -152,8 +145,7 @@ read-items-enum-known-refusal : (t : ℕ) → read-items-lts.Need-enum-known-ref
   end-items-reads.Asked,
   end-items-reads.Learnt,
 ) (read-items-at t) read-items.Post read-items-Inv-loop read-items-μ-loop
-read-items-enum-known-refusal t c =
-    search needs
+read-items-enum-known-refusal t c = search needs
 
 read-items-returns : (t : ℕ) → read-items-lts.Need-returns (
   read-item-reads.Asked,
@@ -182,8 +174,7 @@ read-items-enum-known-sort : (t : ℕ) → read-items-lts.Need-enum-known-sort (
   end-items-reads.Asked,
   end-items-reads.Learnt,
 ) (read-items-at t) read-items.Post read-items-Inv-loop read-items-μ-loop
-read-items-enum-known-sort t c =
-    search needs
+read-items-enum-known-sort t c = search needs
 
 read-items-shared-slice-read-tag : (t : ℕ) → read-items-lts.Need-shared-slice-read-tag (
   read-item-reads.Asked,
@@ -242,8 +233,7 @@ read-items-enum-told : (t : ℕ) → read-items-lts.Need-enum-told (
   end-items-reads.Asked,
   end-items-reads.Learnt,
 ) (read-items-at t) read-items.Post read-items-Inv-loop read-items-μ-loop
-read-items-enum-told t c =
-    search needs
+read-items-enum-told t c = search needs
 
 read-items-loop-less : (t : ℕ) → read-items-lts.Need-loop-less (
   read-item-reads.Asked,
@@ -287,8 +277,7 @@ read-items-enum-told-2 : (t : ℕ) → read-items-lts.Need-enum-told-2 (
   end-items-reads.Asked,
   end-items-reads.Learnt,
 ) (read-items-at t) read-items.Post read-items-Inv-loop read-items-μ-loop
-read-items-enum-told-2 t c =
-    search needs
+read-items-enum-told-2 t c = search needs
 
 read-items-add-counts : (t : ℕ) → read-items-lts.Need-add-counts (
   read-item-reads.Asked,
@@ -347,8 +336,7 @@ read-items-enum-told-3 : (t : ℕ) → read-items-lts.Need-enum-told-3 (
   end-items-reads.Asked,
   end-items-reads.Learnt,
 ) (read-items-at t) read-items.Post read-items-Inv-loop read-items-μ-loop
-read-items-enum-told-3 t c =
-    search needs
+read-items-enum-told-3 t c = search needs
 
 read-items-sub-table : (t : ℕ) → read-items-lts.Need-sub-table (
   read-item-reads.Asked,
@@ -362,8 +350,7 @@ read-items-sub-table : (t : ℕ) → read-items-lts.Need-sub-table (
   end-items-reads.Asked,
   end-items-reads.Learnt,
 ) (read-items-at t) read-items.Post read-items-Inv-loop read-items-μ-loop
-read-items-sub-table t c =
-    search needs
+read-items-sub-table t c = search needs
 
 read-items-part-table-start : (t : ℕ) → read-items-lts.Need-part-table-start (
   read-item-reads.Asked,
@@ -377,8 +364,7 @@ read-items-part-table-start : (t : ℕ) → read-items-lts.Need-part-table-start
   end-items-reads.Asked,
   end-items-reads.Learnt,
 ) (read-items-at t) read-items.Post read-items-Inv-loop read-items-μ-loop
-read-items-part-table-start t c =
-    search needs
+read-items-part-table-start t c = search needs
 
 read-items-part-table-end : (t : ℕ) → read-items-lts.Need-part-table-end (
   read-item-reads.Asked,
@@ -407,8 +393,7 @@ read-items-tokens-of-requires : (t : ℕ) → read-items-lts.Need-tokens-of-requ
   end-items-reads.Asked,
   end-items-reads.Learnt,
 ) (read-items-at t) read-items.Post read-items-Inv-loop read-items-μ-loop
-read-items-tokens-of-requires t c κs =
-    search needs
+read-items-tokens-of-requires t c κs = search needs
 
 read-items-characters-of-requires : (t : ℕ) → read-items-lts.Need-characters-of-requires (
   read-item-reads.Asked,
@@ -422,8 +407,7 @@ read-items-characters-of-requires : (t : ℕ) → read-items-lts.Need-characters
   end-items-reads.Asked,
   end-items-reads.Learnt,
 ) (read-items-at t) read-items.Post read-items-Inv-loop read-items-μ-loop
-read-items-characters-of-requires t c κs =
-    search needs
+read-items-characters-of-requires t c κs = search needs
 
 read-items-loop-less-3 : (t : ℕ) → read-items-lts.Need-loop-less-3 (
   read-item-reads.Asked,
@@ -467,8 +451,7 @@ read-items-enum-told-4 : (t : ℕ) → read-items-lts.Need-enum-told-4 (
   end-items-reads.Asked,
   end-items-reads.Learnt,
 ) (read-items-at t) read-items.Post read-items-Inv-loop read-items-μ-loop
-read-items-enum-told-4 t c =
-    search needs
+read-items-enum-told-4 t c = search needs
 
 read-items-read-element-requires : (t : ℕ) → read-items-lts.Need-read-element-requires (
   read-item-reads.Asked,
@@ -497,8 +480,7 @@ read-items-enum-known-refusal-2 : (t : ℕ) → read-items-lts.Need-enum-known-r
   end-items-reads.Asked,
   end-items-reads.Learnt,
 ) (read-items-at t) read-items.Post read-items-Inv-loop read-items-μ-loop
-read-items-enum-known-refusal-2 t c =
-    search needs
+read-items-enum-known-refusal-2 t c = search needs
 
 read-items-returns-2 : (t : ℕ) → read-items-lts.Need-returns-2 (
   read-item-reads.Asked,
@@ -527,8 +509,7 @@ read-items-enum-known-within : (t : ℕ) → read-items-lts.Need-enum-known-with
   end-items-reads.Asked,
   end-items-reads.Learnt,
 ) (read-items-at t) read-items.Post read-items-Inv-loop read-items-μ-loop
-read-items-enum-known-within t c =
-    search needs
+read-items-enum-known-within t c = search needs
 
 read-items-loop-less-4 : (t : ℕ) → read-items-lts.Need-loop-less-4 (
   read-item-reads.Asked,

@@ -52,8 +52,7 @@ fill-item-listed-as-requires : (t : ℕ) → fill-item-lts.Need-listed-as-requir
   fill-items-below t,
   fill-items.Post,
 ) (fill-item-at t) fill-item.Post
-fill-item-listed-as-requires t c κs =
-    search needs
+fill-item-listed-as-requires t c κs = search needs
 
 fill-item-enum-told : (t : ℕ) → fill-item-lts.Need-enum-told (
   listed-as-reads.Asked,
@@ -65,8 +64,7 @@ fill-item-enum-told : (t : ℕ) → fill-item-lts.Need-enum-told (
   fill-items-below t,
   fill-items.Post,
 ) (fill-item-at t) fill-item.Post
-fill-item-enum-told t c =
-    search needs
+fill-item-enum-told t c = search needs
 
 fill-item-enum-told-2 : (t : ℕ) → fill-item-lts.Need-enum-told-2 (
   listed-as-reads.Asked,
@@ -78,8 +76,7 @@ fill-item-enum-told-2 : (t : ℕ) → fill-item-lts.Need-enum-told-2 (
   fill-items-below t,
   fill-items.Post,
 ) (fill-item-at t) fill-item.Post
-fill-item-enum-told-2 t c =
-    search needs
+fill-item-enum-told-2 t c = search needs
 
 fill-item-record-of-requires : (t : ℕ) → fill-item-lts.Need-record-of-requires (
   listed-as-reads.Asked,
@@ -130,8 +127,7 @@ fill-item-enum-told-3 : (t : ℕ) → fill-item-lts.Need-enum-told-3 (
   fill-items-below t,
   fill-items.Post,
 ) (fill-item-at t) fill-item.Post
-fill-item-enum-told-3 t c =
-    search needs
+fill-item-enum-told-3 t c = search needs
 
 fill-item-record-of-requires-2 : (t : ℕ) → fill-item-lts.Need-record-of-requires-2 (
   listed-as-reads.Asked,
@@ -416,8 +412,7 @@ fill-items-item-at-requires : (t : ℕ) → fill-items-lts.Need-item-at-requires
   fill-item-below t,
   fill-item.Post,
 ) (fill-items-at t) fill-items.Post fill-items-Inv-loop fill-items-μ-loop
-fill-items-item-at-requires t c κs =
-    search needs
+fill-items-item-at-requires t c κs = search needs
 
 fill-items-enum-known-from : (t : ℕ) → fill-items-lts.Need-enum-known-from (
   item-at-reads.Asked,
@@ -425,8 +420,7 @@ fill-items-enum-known-from : (t : ℕ) → fill-items-lts.Need-enum-known-from (
   fill-item-below t,
   fill-item.Post,
 ) (fill-items-at t) fill-items.Post fill-items-Inv-loop fill-items-μ-loop
-fill-items-enum-known-from t c =
-    search needs
+fill-items-enum-known-from t c = search needs
 
 fill-items-enum-told : (t : ℕ) → fill-items-lts.Need-enum-told (
   item-at-reads.Asked,
@@ -434,8 +428,7 @@ fill-items-enum-told : (t : ℕ) → fill-items-lts.Need-enum-told (
   fill-item-below t,
   fill-item.Post,
 ) (fill-items-at t) fill-items.Post fill-items-Inv-loop fill-items-μ-loop
-fill-items-enum-told t c =
-    search needs
+fill-items-enum-told t c = search needs
 
 fill-items-same-length : (t : ℕ) → fill-items-lts.Need-same-length (
   item-at-reads.Asked,

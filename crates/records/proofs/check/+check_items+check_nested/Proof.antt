@@ -71,8 +71,7 @@ check-items-record-at-requires : (t : ℕ) → check-items-lts.Need-record-at-re
   check-nested-below t,
   check-nested.Post,
 ) (check-items-at t) check-items.Post check-items-Inv-loop check-items-μ-loop
-check-items-record-at-requires t c κs =
-    search needs
+check-items-record-at-requires t c κs = search needs
 
 check-items-check-record-requires : (t : ℕ) → check-items-lts.Need-check-record-requires (
   record-at-reads.Asked,
@@ -82,8 +81,7 @@ check-items-check-record-requires : (t : ℕ) → check-items-lts.Need-check-rec
   check-nested-below t,
   check-nested.Post,
 ) (check-items-at t) check-items.Post check-items-Inv-loop check-items-μ-loop
-check-items-check-record-requires t c κs =
-    search needs
+check-items-check-record-requires t c κs = search needs
 
 check-items-enum-told : (t : ℕ) → check-items-lts.Need-enum-told (
   record-at-reads.Asked,
@@ -93,8 +91,7 @@ check-items-enum-told : (t : ℕ) → check-items-lts.Need-enum-told (
   check-nested-below t,
   check-nested.Post,
 ) (check-items-at t) check-items.Post check-items-Inv-loop check-items-μ-loop
-check-items-enum-told t c =
-    search needs
+check-items-enum-told t c = search needs
 
 check-items-returns : (t : ℕ) → check-items-lts.Need-returns (
   record-at-reads.Asked,
@@ -115,8 +112,7 @@ check-items-enum-told-2 : (t : ℕ) → check-items-lts.Need-enum-told-2 (
   check-nested-below t,
   check-nested.Post,
 ) (check-items-at t) check-items.Post check-items-Inv-loop check-items-μ-loop
-check-items-enum-told-2 t c =
-    search needs
+check-items-enum-told-2 t c = search needs
 
 check-items-returns-2 : (t : ℕ) → check-items-lts.Need-returns-2 (
   record-at-reads.Asked,
@@ -137,8 +133,7 @@ check-items-enum-known-next : (t : ℕ) → check-items-lts.Need-enum-known-next
   check-nested-below t,
   check-nested.Post,
 ) (check-items-at t) check-items.Post check-items-Inv-loop check-items-μ-loop
-check-items-enum-known-next t c =
-    search needs
+check-items-enum-known-next t c = search needs
 
 check-items-add-i : (t : ℕ) → check-items-lts.Need-add-i (
   record-at-reads.Asked,
@@ -148,8 +143,7 @@ check-items-add-i : (t : ℕ) → check-items-lts.Need-add-i (
   check-nested-below t,
   check-nested.Post,
 ) (check-items-at t) check-items.Post check-items-Inv-loop check-items-μ-loop
-check-items-add-i t c =
-    search needs
+check-items-add-i t c = search needs
 
 check-items-loop-less : (t : ℕ) → check-items-lts.Need-loop-less (
   record-at-reads.Asked,
@@ -159,8 +153,7 @@ check-items-loop-less : (t : ℕ) → check-items-lts.Need-loop-less (
   check-nested-below t,
   check-nested.Post,
 ) (check-items-at t) check-items.Post check-items-Inv-loop check-items-μ-loop
-check-items-loop-less t c =
-    search needs
+check-items-loop-less t c = search needs
 
 check-items-loop-again : (t : ℕ) → check-items-lts.Need-loop-again (
   record-at-reads.Asked,
@@ -181,8 +174,7 @@ check-items-enum-known-tag : (t : ℕ) → check-items-lts.Need-enum-known-tag (
   check-nested-below t,
   check-nested.Post,
 ) (check-items-at t) check-items.Post check-items-Inv-loop check-items-μ-loop
-check-items-enum-known-tag t c =
-    search needs
+check-items-enum-known-tag t c = search needs
 
 check-items-check-nested-requires : (t : ℕ) → check-items-lts.Need-check-nested-requires (
   record-at-reads.Asked,
@@ -203,8 +195,7 @@ check-items-enum-known-end : (t : ℕ) → check-items-lts.Need-enum-known-end (
   check-nested-below t,
   check-nested.Post,
 ) (check-items-at t) check-items.Post check-items-Inv-loop check-items-μ-loop
-check-items-enum-known-end t c =
-    search needs
+check-items-enum-known-end t c = search needs
 
 check-items-enum-told-3 : (t : ℕ) → check-items-lts.Need-enum-told-3 (
   record-at-reads.Asked,
@@ -214,8 +205,7 @@ check-items-enum-told-3 : (t : ℕ) → check-items-lts.Need-enum-told-3 (
   check-nested-below t,
   check-nested.Post,
 ) (check-items-at t) check-items.Post check-items-Inv-loop check-items-μ-loop
-check-items-enum-told-3 t c =
-    search needs
+check-items-enum-told-3 t c = search needs
 
 check-items-returns-3 : (t : ℕ) → check-items-lts.Need-returns-3 (
   record-at-reads.Asked,
@@ -265,15 +255,13 @@ check-nested-add-t13 : (t : ℕ) → check-nested-lts.Need-add-t13 (
   check-items-below t,
   check-items.Post,
 ) (check-nested-at t) check-nested.Post
-check-nested-add-t13 t c =
-    search needs
+check-nested-add-t13 t c = search needs
 
 check-nested-add-check-items : (t : ℕ) → check-nested-lts.Need-add-check-items (
   check-items-below t,
   check-items.Post,
 ) (check-nested-at t) check-nested.Post
-check-nested-add-check-items t c =
-    search needs
+check-nested-add-check-items t c = search needs
 
 check-nested-check-items-requires : (t : ℕ) → check-nested-lts.Need-check-items-requires (
   check-items-below t,
@@ -286,8 +274,7 @@ check-nested-returns : (t : ℕ) → check-nested-lts.Need-returns (
   check-items-below t,
   check-items.Post,
 ) (check-nested-at t) check-nested.Post
-check-nested-returns t c =
-    search needs
+check-nested-returns t c = search needs
 
 pub +check-items+check-nested-spec : {M : Type 1} → statement M
 +check-items+check-nested-spec = close μ-check-items μ-check-nested (λ t. check-items-lts.spec (

@@ -130,8 +130,7 @@ measure-item-sub-measure-items : (t : ℕ) → measure-item-lts.Need-sub-measure
   measure-items-below t,
   measure-items.Post,
 ) (measure-item-at t) measure-item.Post
-measure-item-sub-measure-items t c =
-    search needs
+measure-item-sub-measure-items t c = search needs
 
 measure-item-measure-items-requires : (t : ℕ) → measure-item-lts.Need-measure-items-requires (
   part-of-reads.Asked,

@@ -11,23 +11,19 @@ is-token-requires : tie.Need-is-token-requires
 is-token-requires c κs = search needs
 
 returns : tie.Need-returns
-returns c =
-    search (by-ways, not-true, not-false, needs)
+returns c = search (by-ways, not-true, not-false, needs)
 
 mul-start : tie.Need-mul-start
 mul-start c = search needs
 
 element-copy-out-start : tie.Need-element-copy-out-start
-element-copy-out-start c =
-    search (by-ways, not-true, not-false, needs)
+element-copy-out-start c = search (by-ways, not-true, not-false, needs)
 
 returns-2 : tie.Need-returns-2
-returns-2 c =
-    search (by-ways, not-true, not-false, needs)
+returns-2 c = search (by-ways, not-true, not-false, needs)
 
 returns-3 : tie.Need-returns-3
-returns-3 c =
-    search (by-ways, not-true, not-false, needs)
+returns-3 c = search (by-ways, not-true, not-false, needs)
 
 sub-size : tie.Need-sub-size
 sub-size c = search needs
@@ -43,19 +39,16 @@ sub-if4 : tie.Need-sub-if4
 sub-if4 c = search needs
 
 returns-4 : tie.Need-returns-4
-returns-4 c =
-    search (by-ways, not-true, not-false, needs)
+returns-4 c = search (by-ways, not-true, not-false, needs)
 
 element-copy-out-if5 : tie.Need-element-copy-out-if5
 element-copy-out-if5 c = search needs
 
 returns-5 : tie.Need-returns-5
-returns-5 c =
-    search (by-ways, not-true, not-false, needs)
+returns-5 c = search (by-ways, not-true, not-false, needs)
 
 returns-6 : tie.Need-returns-6
-returns-6 c =
-    search (by-ways, not-true, not-false, needs)
+returns-6 c = search (by-ways, not-true, not-false, needs)
 
 pub replacement-spec : {M : Type 1} → statement M
 replacement-spec =

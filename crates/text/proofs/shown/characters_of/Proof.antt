@@ -13,48 +13,37 @@ abbrev μ-loop : tie.MeasureT-loop
     0x14 - b
 
 returns : tie.Need-returns Inv-loop μ-loop
-returns c =
-    search (fill-ways, needs)
+returns c = search (fill-ways, needs)
 
 index-of-requires : tie.Need-index-of-requires Inv-loop μ-loop
-index-of-requires c κs =
-    search needs
+index-of-requires c κs = search needs
 
 loop-holds : tie.Need-loop-holds Inv-loop μ-loop
-loop-holds c =
-    search (fill-ways, needs)
+loop-holds c = search (fill-ways, needs)
 
 count-of-requires : tie.Need-count-of-requires Inv-loop μ-loop
-count-of-requires c κs =
-    search needs
+count-of-requires c κs = search needs
 
 cast-shows : tie.Need-cast-shows Inv-loop μ-loop
-cast-shows c =
-    search needs
+cast-shows c = search needs
 
 cast-shows-2 : tie.Need-cast-shows-2 Inv-loop μ-loop
-cast-shows-2 c =
-    search needs
+cast-shows-2 c = search needs
 
 array-write-shows : tie.Need-array-write-shows Inv-loop μ-loop
-array-write-shows c =
-    search needs
+array-write-shows c = search needs
 
 add-b : tie.Need-add-b Inv-loop μ-loop
-add-b c =
-    search needs
+add-b c = search needs
 
 loop-less : tie.Need-loop-less Inv-loop μ-loop
-loop-less c =
-    search needs
+loop-less c = search needs
 
 loop-again : tie.Need-loop-again Inv-loop μ-loop
-loop-again c =
-    search (fill-ways, needs)
+loop-again c = search (fill-ways, needs)
 
 returns-2 : tie.Need-returns-2 Inv-loop μ-loop
-returns-2 c =
-    search (fill-ways, needs)
+returns-2 c = search (fill-ways, needs)
 
 pub characters-of-spec : {M : Type 1} → statement M
 characters-of-spec =

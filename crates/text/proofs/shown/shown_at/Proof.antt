@@ -18,8 +18,7 @@ begun-requires : tie.Need-begun-requires
 begun-requires c κs = search needs
 
 returns-2 : tie.Need-returns-2
-returns-2 c =
-    search (shown-high, needs)
+returns-2 c = search (shown-high, needs)
 
 pub shown-at-spec : {M : Type 1} → statement M
 shown-at-spec =

@@ -5,8 +5,7 @@ use Rattle.text.proofs.tables.first_entry.Statement.{statement}
 use Rattle.text.proofs.tables.first_entry.Tie as tie
 
 returns : tie.Need-returns
-returns c =
-    search (first-ways, needs)
+returns c = search (first-ways, needs)
 
 shared-slice-read-size : tie.Need-shared-slice-read-size
 shared-slice-read-size c = search needs
@@ -19,15 +18,13 @@ sub-if2 : tie.Need-sub-if2
 sub-if2 c = search needs
 
 returns-2 : tie.Need-returns-2
-returns-2 c =
-    search (first-ways, needs)
+returns-2 c = search (first-ways, needs)
 
 shared-slice-read-t6 : tie.Need-shared-slice-read-t6
 shared-slice-read-t6 c = search needs
 
 returns-3 : tie.Need-returns-3
-returns-3 c =
-    search (first-ways, needs)
+returns-3 c = search (first-ways, needs)
 
 pub first-entry-spec : {M : Type 1} → statement M
 first-entry-spec =

@@ -14,64 +14,50 @@ abbrev μ-loop : tie.MeasureT-loop
     length s - at
 
 loop-holds : tie.Need-loop-holds Inv-loop μ-loop
-loop-holds c =
-    search (table-ways, needs)
+loop-holds c = search (table-ways, needs)
 
 sub-good-entry : tie.Need-sub-good-entry Inv-loop μ-loop
-sub-good-entry c =
-    search needs
+sub-good-entry c = search needs
 
 part-good-entry-start : tie.Need-part-good-entry-start Inv-loop μ-loop
-part-good-entry-start c =
-    search needs
+part-good-entry-start c = search needs
 
 part-good-entry-end : tie.Need-part-good-entry-end Inv-loop μ-loop
-part-good-entry-end c =
-    search needs
+part-good-entry-end c = search needs
 
 good-entry-requires : tie.Need-good-entry-requires Inv-loop μ-loop
-good-entry-requires c κs =
-    search needs
+good-entry-requires c κs = search needs
 
 enum-told : tie.Need-enum-told Inv-loop μ-loop
-enum-told c =
-    search needs
+enum-told c = search needs
 
 returns : tie.Need-returns Inv-loop μ-loop
-returns c =
-    search (table-ways, needs)
+returns c = search (table-ways, needs)
 
 enum-known-tag : tie.Need-enum-known-tag Inv-loop μ-loop
-enum-known-tag c =
-    search needs
+enum-known-tag c = search needs
 
 cast-seen : tie.Need-cast-seen Inv-loop μ-loop
-cast-seen c =
-    search needs
+cast-seen c = search needs
 
 shl-seen : tie.Need-shl-seen Inv-loop μ-loop
-shl-seen c =
-    search (table-bit, needs)
+shl-seen c = search (table-bit, needs)
 
 add-at : tie.Need-add-at Inv-loop μ-loop
-add-at c =
-    search (table-fits, needs)
+add-at c = search (table-fits, needs)
 
 add-at-2 : tie.Need-add-at-2 Inv-loop μ-loop
 add-at-2 c =
     table-fits-2 _ _ _ (c .before .before .before .before .before .before .loop .inv) (c .before .before .before .before .before .loop-test .taken) _ (c .before .before .before .good-entry .ensures) _ _ (c .before .tag .given .1) (search needs)
 
 loop-less : tie.Need-loop-less Inv-loop μ-loop
-loop-less c =
-    search needs
+loop-less c = search needs
 
 loop-again : tie.Need-loop-again Inv-loop μ-loop
-loop-again c =
-    search (table-ways, needs)
+loop-again c = search (table-ways, needs)
 
 returns-2 : tie.Need-returns-2 Inv-loop μ-loop
-returns-2 c =
-    search (table-ways, needs)
+returns-2 c = search (table-ways, needs)
 
 pub is-table-spec : {M : Type 1} → statement M
 is-table-spec =

@@ -8,30 +8,25 @@ is-token-requires : tie.Need-is-token-requires
 is-token-requires c κs = search needs
 
 returns : tie.Need-returns
-returns c =
-    search (note-ways, not-true, not-false, needs)
+returns c = search (note-ways, not-true, not-false, needs)
 
 mul-if2 : tie.Need-mul-if2
 mul-if2 c = search needs
 
 element-copy-out-if2 : tie.Need-element-copy-out-if2
-element-copy-out-if2 c =
-    search (note-ways, not-true, not-false, needs)
+element-copy-out-if2 c = search (note-ways, not-true, not-false, needs)
 
 returns-2 : tie.Need-returns-2
-returns-2 c =
-    search (note-ways, not-true, not-false, needs)
+returns-2 c = search (note-ways, not-true, not-false, needs)
 
 mul-index : tie.Need-mul-index
 mul-index c = search needs
 
 element-write-index : tie.Need-element-write-index
-element-write-index c =
-    search (note-ways, not-true, not-false, needs)
+element-write-index c = search (note-ways, not-true, not-false, needs)
 
 returns-3 : tie.Need-returns-3
-returns-3 c =
-    search (note-ways, not-true, not-false, needs)
+returns-3 c = search (note-ways, not-true, not-false, needs)
 
 pub note-spec : {M : Type 1} → statement M
 note-spec =

@@ -7,8 +7,7 @@ use Rattle.values.proofs.Bearer.take.Statement.{statement}
 use Rattle.values.proofs.Bearer.take.Tie as tie
 
 returns : tie.Need-returns
-returns c =
-    search (take-ways, needs)
+returns c = search (take-ways, needs)
 
 shared-slice-read-first : tie.Need-shared-slice-read-first
 shared-slice-read-first c = search needs
@@ -38,8 +37,7 @@ cast-size c =
     record { fits = omega (arith, flag-less (getD (c .before .before .before .args .s .now) 0 0) 6, flag-less (getD (c .before .before .before .args .s .now) 0 0) 4) }
 
 returns-2 : tie.Need-returns-2
-returns-2 c =
-    search (take-ways, needs)
+returns-2 c = search (take-ways, needs)
 
 ensemble-at-requires : tie.Need-ensemble-at-requires
 ensemble-at-requires c κs =
@@ -53,8 +51,7 @@ low-requires : tie.Need-low-requires
 low-requires c κs = search needs
 
 returns-3 : tie.Need-returns-3
-returns-3 c =
-    search (take-ways, needs)
+returns-3 c = search (take-ways, needs)
 
 pub take-spec : {M : Type 1} → statement M
 take-spec =

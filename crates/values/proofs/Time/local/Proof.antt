@@ -13,12 +13,10 @@ cast-day-2 : tie.Need-cast-day-2
 cast-day-2 c = search needs
 
 sub-day : tie.Need-sub-day
-sub-day c =
-    search (day-fits, needs)
+sub-day c = search (day-fits, needs)
 
 returns : tie.Need-returns
-returns c =
-    search (local-is, needs)
+returns c = search (local-is, needs)
 
 pub local-spec : {M : Type 1} → statement M
 local-spec = tie.close (tie.spec local-minutes-requires cast-day cast-day-2 sub-day returns)

@@ -37,8 +37,7 @@ add-result : tie.Need-add-result
 add-result c = search needs
 
 returns : tie.Need-returns
-returns c =
-    search (minutes-ways, needs)
+returns c = search (minutes-ways, needs)
 
 add-result-2 : tie.Need-add-result-2
 add-result-2 c = search needs
@@ -50,8 +49,7 @@ add-result-3 : tie.Need-add-result-3
 add-result-3 c = search needs
 
 returns-2 : tie.Need-returns-2
-returns-2 c =
-    search (minutes-ways, needs)
+returns-2 c = search (minutes-ways, needs)
 
 pub local-minutes-spec : {M : Type 1} → statement M
 local-minutes-spec =

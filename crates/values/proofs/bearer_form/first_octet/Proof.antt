@@ -13,8 +13,7 @@ low-requires : tie.Need-low-requires
 low-requires c κs = search needs
 
 returns : tie.Need-returns
-returns c =
-    search (first-octet, needs)
+returns c = search (first-octet, needs)
 
 pub first-octet-spec : {M : Type 1} → statement M
 first-octet-spec =

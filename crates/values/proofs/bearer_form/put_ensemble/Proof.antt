@@ -11,8 +11,7 @@ enum-known-ensemble : tie.Need-enum-known-ensemble
 enum-known-ensemble c = search needs
 
 slice-write-out : tie.Need-slice-write-out
-slice-write-out c =
-    search (ensemble-puts, present-room, needs)
+slice-write-out c = search (ensemble-puts, present-room, needs)
 
 cast-put-two : tie.Need-cast-put-two
 cast-put-two c = search needs
@@ -28,16 +27,13 @@ add-result : tie.Need-add-result
 add-result c = search needs
 
 returns : tie.Need-returns
-returns c =
-    search (ensemble-puts, present-room, needs)
+returns c = search (ensemble-puts, present-room, needs)
 
 same-length : tie.Need-same-length
-same-length c =
-    search (stored-length, needs)
+same-length c = search (stored-length, needs)
 
 returns-2 : tie.Need-returns-2
-returns-2 c =
-    search (ensemble-puts, present-room, needs)
+returns-2 c = search (ensemble-puts, present-room, needs)
 
 pub put-ensemble-spec : {M : Type 1} → statement M
 put-ensemble-spec =

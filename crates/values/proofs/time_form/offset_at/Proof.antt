@@ -5,8 +5,7 @@ use Rattle.values.proofs.time_form.offset_at.Statement.{statement}
 use Rattle.values.proofs.time_form.offset_at.Tie as tie
 
 returns : tie.Need-returns
-returns c =
-    search (offset-ways, needs)
+returns c = search (offset-ways, needs)
 
 shared-slice-read-result : tie.Need-shared-slice-read-result
 shared-slice-read-result c = search needs
@@ -16,8 +15,7 @@ cast-result c =
     omega (arith, c .shared-slice-known .given 4)
 
 returns-2 : tie.Need-returns-2
-returns-2 c =
-    search (offset-ways, needs)
+returns-2 c = search (offset-ways, needs)
 
 shared-slice-read-result-2 : tie.Need-shared-slice-read-result-2
 shared-slice-read-result-2 c = search needs
@@ -27,8 +25,7 @@ cast-result-2 c =
     omega (arith, c .shared-slice-known2 .given 6)
 
 returns-3 : tie.Need-returns-3
-returns-3 c =
-    search (offset-ways, needs)
+returns-3 c = search (offset-ways, needs)
 
 pub offset-at-spec : {M : Type 1} → statement M
 offset-at-spec =

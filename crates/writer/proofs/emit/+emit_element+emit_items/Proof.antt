@@ -101,8 +101,7 @@ emit-element-same-length : (t : ℕ) → emit-element-lts.Need-same-length (
   put-frame-reads.Asked,
   put-frame-reads.Learnt,
 ) (emit-element-at t) emit-element.Post
-emit-element-same-length t c =
-    search needs
+emit-element-same-length t c = search needs
 
 emit-element-returns : (t : ℕ) → emit-element-lts.Need-returns (
   emit-attributes-reads.Asked,
@@ -153,8 +152,7 @@ emit-items-enum-told : (t : ℕ) → emit-items-lts.Need-enum-told (
   emit-element-below t,
   emit-element.Post,
 ) (emit-items-at t) emit-items.Post emit-items-Inv-loop emit-items-μ-loop
-emit-items-enum-told t c =
-    search needs
+emit-items-enum-told t c = search needs
 
 emit-items-same-length : (t : ℕ) → emit-items-lts.Need-same-length (
   role-at-reads.Asked,
@@ -186,8 +184,7 @@ emit-items-enum-told-2 : (t : ℕ) → emit-items-lts.Need-enum-told-2 (
   emit-element-below t,
   emit-element.Post,
 ) (emit-items-at t) emit-items.Post emit-items-Inv-loop emit-items-μ-loop
-emit-items-enum-told-2 t c =
-    search needs
+emit-items-enum-told-2 t c = search needs
 
 emit-items-add-i : (t : ℕ) → emit-items-lts.Need-add-i (
   role-at-reads.Asked,
@@ -197,8 +194,7 @@ emit-items-add-i : (t : ℕ) → emit-items-lts.Need-add-i (
   emit-element-below t,
   emit-element.Post,
 ) (emit-items-at t) emit-items.Post emit-items-Inv-loop emit-items-μ-loop
-emit-items-add-i t c =
-    search needs
+emit-items-add-i t c = search needs
 
 emit-items-loop-less : (t : ℕ) → emit-items-lts.Need-loop-less (
   role-at-reads.Asked,
@@ -208,8 +204,7 @@ emit-items-loop-less : (t : ℕ) → emit-items-lts.Need-loop-less (
   emit-element-below t,
   emit-element.Post,
 ) (emit-items-at t) emit-items.Post emit-items-Inv-loop emit-items-μ-loop
-emit-items-loop-less t c =
-    search needs
+emit-items-loop-less t c = search needs
 
 emit-items-loop-again : (t : ℕ) → emit-items-lts.Need-loop-again (
   role-at-reads.Asked,
@@ -230,8 +225,7 @@ emit-items-enum-known-tag : (t : ℕ) → emit-items-lts.Need-enum-known-tag (
   emit-element-below t,
   emit-element.Post,
 ) (emit-items-at t) emit-items.Post emit-items-Inv-loop emit-items-μ-loop
-emit-items-enum-known-tag t c =
-    search needs
+emit-items-enum-known-tag t c = search needs
 
 emit-items-put-body-requires : (t : ℕ) → emit-items-lts.Need-put-body-requires (
   role-at-reads.Asked,
@@ -252,8 +246,7 @@ emit-items-add-i-2 : (t : ℕ) → emit-items-lts.Need-add-i-2 (
   emit-element-below t,
   emit-element.Post,
 ) (emit-items-at t) emit-items.Post emit-items-Inv-loop emit-items-μ-loop
-emit-items-add-i-2 t c =
-    search needs
+emit-items-add-i-2 t c = search needs
 
 emit-items-loop-less-2 : (t : ℕ) → emit-items-lts.Need-loop-less-2 (
   role-at-reads.Asked,
@@ -263,8 +256,7 @@ emit-items-loop-less-2 : (t : ℕ) → emit-items-lts.Need-loop-less-2 (
   emit-element-below t,
   emit-element.Post,
 ) (emit-items-at t) emit-items.Post emit-items-Inv-loop emit-items-μ-loop
-emit-items-loop-less-2 t c =
-    search needs
+emit-items-loop-less-2 t c = search needs
 
 emit-items-loop-again-2 : (t : ℕ) → emit-items-lts.Need-loop-again-2 (
   role-at-reads.Asked,
@@ -285,8 +277,7 @@ emit-items-enum-known-tag-2 : (t : ℕ) → emit-items-lts.Need-enum-known-tag-2
   emit-element-below t,
   emit-element.Post,
 ) (emit-items-at t) emit-items.Post emit-items-Inv-loop emit-items-μ-loop
-emit-items-enum-known-tag-2 t c =
-    search needs
+emit-items-enum-known-tag-2 t c = search needs
 
 emit-items-add-emit-element : (t : ℕ) → emit-items-lts.Need-add-emit-element (
   role-at-reads.Asked,
@@ -296,8 +287,7 @@ emit-items-add-emit-element : (t : ℕ) → emit-items-lts.Need-add-emit-element
   emit-element-below t,
   emit-element.Post,
 ) (emit-items-at t) emit-items.Post emit-items-Inv-loop emit-items-μ-loop
-emit-items-add-emit-element t c =
-    search needs
+emit-items-add-emit-element t c = search needs
 
 emit-items-add-emit-element-2 : (t : ℕ) → emit-items-lts.Need-add-emit-element-2 (
   role-at-reads.Asked,
@@ -307,8 +297,7 @@ emit-items-add-emit-element-2 : (t : ℕ) → emit-items-lts.Need-add-emit-eleme
   emit-element-below t,
   emit-element.Post,
 ) (emit-items-at t) emit-items.Post emit-items-Inv-loop emit-items-μ-loop
-emit-items-add-emit-element-2 t c =
-    search needs
+emit-items-add-emit-element-2 t c = search needs
 
 emit-items-emit-element-requires : (t : ℕ) → emit-items-lts.Need-emit-element-requires (
   role-at-reads.Asked,

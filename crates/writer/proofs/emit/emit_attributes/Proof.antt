@@ -13,8 +13,7 @@ abbrev μ-loop : tie.MeasureT-loop
 μ-loop n tags depths starts sizes octets at depth parent room₀ to stored end₀ next₀ room end next = 0x87 - next .tag
 
 next-attribute-requires : tie.Need-next-attribute-requires Inv-loop μ-loop
-next-attribute-requires c κs =
-    search needs
+next-attribute-requires c κs = search needs
 
 loop-holds : tie.Need-loop-holds Inv-loop μ-loop
 loop-holds c =

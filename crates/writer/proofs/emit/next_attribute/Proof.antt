@@ -18,8 +18,7 @@ loop-holds c =
     pass-start _ _ _ _ _ _ ((c .before .before .pre) .3) _
 
 shared-slice-read-if1 : tie.Need-shared-slice-read-if1 Inv-loop μ-loop
-shared-slice-read-if1 c =
-    search needs
+shared-slice-read-if1 c = search needs
 
 cast-if1 : tie.Need-cast-if1 Inv-loop μ-loop
 cast-if1 c =
@@ -30,24 +29,20 @@ returns c =
     pass-gone _ _ _ _ _ _ _ _ ((c .before .before .before .loop) .inv) ((c .before .before .loop-test) .taken) ((c .if1) .taken)
 
 shared-slice-read-tag : tie.Need-shared-slice-read-tag Inv-loop μ-loop
-shared-slice-read-tag c =
-    search needs
+shared-slice-read-tag c = search needs
 
 returns-2 : tie.Need-returns-2 Inv-loop μ-loop
 returns-2 c =
     pass-other _ _ _ _ _ _ _ _ ((c .before .before .before .before .before .loop) .inv) ((c .before .before .before .before .loop-test) .taken) ((c .before .before .if1) .left) ((c .before .before .before .before .before .before .before .before .pre) .2) ((c .if2) .taken)
 
 lower-requires : tie.Need-lower-requires Inv-loop μ-loop
-lower-requires c κs =
-    search needs
+lower-requires c κs = search needs
 
 add-i : tie.Need-add-i Inv-loop μ-loop
-add-i c =
-    search needs
+add-i c = search needs
 
 loop-less : tie.Need-loop-less Inv-loop μ-loop
-loop-less c =
-    search needs
+loop-less c = search needs
 
 loop-again : tie.Need-loop-again Inv-loop μ-loop
 loop-again c =

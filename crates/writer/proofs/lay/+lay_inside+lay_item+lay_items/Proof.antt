@@ -173,8 +173,7 @@ lay-item-listed-as-requires : (t : ℕ) → lay-item-lts.Need-listed-as-requires
   lay-value-reads.Asked,
   lay-value-reads.Learnt,
 ) (lay-item-at t) lay-item.Post
-lay-item-listed-as-requires t c κs =
-    search needs
+lay-item-listed-as-requires t c κs = search needs
 
 lay-item-enum-told : (t : ℕ) → lay-item-lts.Need-enum-told (
   listed-as-reads.Asked,
@@ -184,8 +183,7 @@ lay-item-enum-told : (t : ℕ) → lay-item-lts.Need-enum-told (
   lay-value-reads.Asked,
   lay-value-reads.Learnt,
 ) (lay-item-at t) lay-item.Post
-lay-item-enum-told t c =
-    search needs
+lay-item-enum-told t c = search needs
 
 lay-item-enum-told-2 : (t : ℕ) → lay-item-lts.Need-enum-told-2 (
   listed-as-reads.Asked,
@@ -195,8 +193,7 @@ lay-item-enum-told-2 : (t : ℕ) → lay-item-lts.Need-enum-told-2 (
   lay-value-reads.Asked,
   lay-value-reads.Learnt,
 ) (lay-item-at t) lay-item.Post
-lay-item-enum-told-2 t c =
-    search needs
+lay-item-enum-told-2 t c = search needs
 
 lay-item-lay-inside-requires : (t : ℕ) → lay-item-lts.Need-lay-inside-requires (
   listed-as-reads.Asked,
@@ -217,8 +214,7 @@ lay-item-enum-known-kind : (t : ℕ) → lay-item-lts.Need-enum-known-kind (
   lay-value-reads.Asked,
   lay-value-reads.Learnt,
 ) (lay-item-at t) lay-item.Post
-lay-item-enum-known-kind t c =
-    search needs
+lay-item-enum-known-kind t c = search needs
 
 lay-item-lay-value-requires : (t : ℕ) → lay-item-lts.Need-lay-value-requires (
   listed-as-reads.Asked,
@@ -449,8 +445,7 @@ lay-items-enum-known-from : (t : ℕ) → lay-items-lts.Need-enum-known-from (
   lay-item-below t,
   lay-item.Post,
 ) (lay-items-at t) lay-items.Post lay-items-Inv-loop lay-items-μ-loop
-lay-items-enum-known-from t c =
-    search needs
+lay-items-enum-known-from t c = search needs
 
 lay-items-enum-told : (t : ℕ) → lay-items-lts.Need-enum-told (
   item-at-reads.Asked,
@@ -458,8 +453,7 @@ lay-items-enum-told : (t : ℕ) → lay-items-lts.Need-enum-told (
   lay-item-below t,
   lay-item.Post,
 ) (lay-items-at t) lay-items.Post lay-items-Inv-loop lay-items-μ-loop
-lay-items-enum-told t c =
-    search needs
+lay-items-enum-told t c = search needs
 
 lay-items-same-length : (t : ℕ) → lay-items-lts.Need-same-length (
   item-at-reads.Asked,

@@ -63,8 +63,7 @@ size-element-enum-told : (t : ℕ) → size-element-lts.Need-enum-told (
   framed-size-reads.Asked,
   framed-size-reads.Learnt,
 ) (size-element-at t) size-element.Post
-size-element-enum-told t c =
-    search needs
+size-element-enum-told t c = search needs
 
 size-element-enum-known-total : (t : ℕ) → size-element-lts.Need-enum-known-total (
   size-items-below t,
@@ -72,8 +71,7 @@ size-element-enum-known-total : (t : ℕ) → size-element-lts.Need-enum-known-t
   framed-size-reads.Asked,
   framed-size-reads.Learnt,
 ) (size-element-at t) size-element.Post
-size-element-enum-known-total t c =
-    search needs
+size-element-enum-known-total t c = search needs
 
 size-element-framed-size-requires : (t : ℕ) → size-element-lts.Need-framed-size-requires (
   size-items-below t,
@@ -143,8 +141,7 @@ size-items-enum-told : (t : ℕ) → size-items-lts.Need-enum-told (
   size-element-below t,
   size-element.Post,
 ) (size-items-at t) size-items.Post size-items-Inv-loop size-items-μ-loop
-size-items-enum-told t c =
-    search needs
+size-items-enum-told t c = search needs
 
 size-items-returns : (t : ℕ) → size-items-lts.Need-returns (
   part-at-reads.Asked,
@@ -161,8 +158,7 @@ size-items-enum-known-size : (t : ℕ) → size-items-lts.Need-enum-known-size (
   size-element-below t,
   size-element.Post,
 ) (size-items-at t) size-items.Post size-items-Inv-loop size-items-μ-loop
-size-items-enum-known-size t c =
-    search needs
+size-items-enum-known-size t c = search needs
 
 size-items-add-total : (t : ℕ) → size-items-lts.Need-add-total (
   part-at-reads.Asked,
@@ -179,8 +175,7 @@ size-items-add-i : (t : ℕ) → size-items-lts.Need-add-i (
   size-element-below t,
   size-element.Post,
 ) (size-items-at t) size-items.Post size-items-Inv-loop size-items-μ-loop
-size-items-add-i t c =
-    search needs
+size-items-add-i t c = search needs
 
 size-items-enum-known-tag : (t : ℕ) → size-items-lts.Need-enum-known-tag (
   part-at-reads.Asked,
@@ -188,8 +183,7 @@ size-items-enum-known-tag : (t : ℕ) → size-items-lts.Need-enum-known-tag (
   size-element-below t,
   size-element.Post,
 ) (size-items-at t) size-items.Post size-items-Inv-loop size-items-μ-loop
-size-items-enum-known-tag t c =
-    search needs
+size-items-enum-known-tag t c = search needs
 
 size-items-add-size-element : (t : ℕ) → size-items-lts.Need-add-size-element (
   part-at-reads.Asked,
@@ -197,8 +191,7 @@ size-items-add-size-element : (t : ℕ) → size-items-lts.Need-add-size-element
   size-element-below t,
   size-element.Post,
 ) (size-items-at t) size-items.Post size-items-Inv-loop size-items-μ-loop
-size-items-add-size-element t c =
-    search needs
+size-items-add-size-element t c = search needs
 
 size-items-add-size-element-2 : (t : ℕ) → size-items-lts.Need-add-size-element-2 (
   part-at-reads.Asked,
@@ -206,8 +199,7 @@ size-items-add-size-element-2 : (t : ℕ) → size-items-lts.Need-add-size-eleme
   size-element-below t,
   size-element.Post,
 ) (size-items-at t) size-items.Post size-items-Inv-loop size-items-μ-loop
-size-items-add-size-element-2 t c =
-    search needs
+size-items-add-size-element-2 t c = search needs
 
 size-items-size-element-requires : (t : ℕ) → size-items-lts.Need-size-element-requires (
   part-at-reads.Asked,
@@ -224,8 +216,7 @@ size-items-enum-known-inner : (t : ℕ) → size-items-lts.Need-enum-known-inner
   size-element-below t,
   size-element.Post,
 ) (size-items-at t) size-items.Post size-items-Inv-loop size-items-μ-loop
-size-items-enum-known-inner t c =
-    search needs
+size-items-enum-known-inner t c = search needs
 
 size-items-enum-told-2 : (t : ℕ) → size-items-lts.Need-enum-told-2 (
   part-at-reads.Asked,
@@ -233,8 +224,7 @@ size-items-enum-told-2 : (t : ℕ) → size-items-lts.Need-enum-told-2 (
   size-element-below t,
   size-element.Post,
 ) (size-items-at t) size-items.Post size-items-Inv-loop size-items-μ-loop
-size-items-enum-told-2 t c =
-    search needs
+size-items-enum-told-2 t c = search needs
 
 size-items-returns-2 : (t : ℕ) → size-items-lts.Need-returns-2 (
   part-at-reads.Asked,
