@@ -61,13 +61,23 @@ fn judge_item(
         shows,
     ) {
         Item::Bad(refusal) => Item::Bad(refusal),
-        Item::Good(sort, start, size, next) => {
+        Item::Good {
+            sort,
+            start,
+            size,
+            next,
+        } => {
             let from = at + start;
             let to = from + size;
             let due = is_due_after(sort, parent, progress.stage);
             match judge_late(due, part, at, parent, base, &part[from..to]) {
                 Check::Broken(refusal) => Item::Bad(refusal),
-                Check::Kept => Item::Good(sort, start, size, next),
+                Check::Kept => Item::Good {
+                    sort,
+                    start,
+                    size,
+                    next,
+                },
             }
         }
     }
@@ -123,35 +133,40 @@ fn end_items(
 }
 
 // The items of a part, which begins at the place `base` of the object and is the body of an element with the tag `parent`, or the object (0).
-// So many levels of elements may still begin in it. `before` is what was counted before it, `given` the token table in force, with its marks and what
-// each of its tokens shows. `table`, `marks` and `shows` are those in force so far.
+// So many levels of elements may still begin in it. `counts` is what was counted so far, `table` the token table in force, with its marks and what each of its
+// tokens shows. A turn of the loop is no function of its own: for each item it would hand back through memory all that is in force behind it, 32 octets among it.
 pub fn read_items<'a>(
     part: &'a [u8],
     base: usize,
     parent: u8,
     left: u8,
-    before: Counts,
-    given: &'a [u8],
-    marked: u32,
-    shown: &[u8; 32],
+    counts: Counts,
+    table: &'a [u8],
+    marks: u32,
+    shows: &[u8; 32],
 ) -> ReadAnswer
-    requires { ⌜ (base + length (now part) ≤ 32_768) × (before .records ≤ base) × (left ≤ 16) ⌝ }
-    requires { ⌜ InForce (now given) marked (now shown) ⌝ }
-    ensures { λ r. ⌜ r ≡ counted before (read (ctx parent (depthOf left) 0 [] (entries (now (given .entry))) []) base (now (part .entry))) ⌝ }
+    requires { ⌜ (base + length (now part) ≤ 32_768) × (counts .records ≤ base) × (left ≤ 16) ⌝ }
+    requires { ⌜ InForce (now table) marks (now shows) ⌝ }
+    ensures { λ r. ⌜ r ≡ counted counts (read (ctx parent (depthOf left) 0 [] (entries (now (table .entry))) []) base (now (part .entry))) ⌝ }
     ensures { λ r. ⌜ CountsAtMost (base + length (now (part .entry))) r ⌝ }
 {
     let mut at: usize = 0;
     let mut progress = Progress { stage: 0, mask: 0 };
-    let mut counts = before;
-    let mut table: &'a [u8] = given;
-    let mut marks = marked;
-    let mut shows: [u8; 32] = *shown;
+    let mut counts = counts;
+    let mut table: &'a [u8] = table;
+    let mut marks = marks;
+    let mut shows: [u8; 32] = *shows;
     while at < part.len() {
         match read_item(part, at, base, parent, left, progress, table, marks, &shows) {
             Item::Bad(refusal) => {
                 return ReadAnswer::NotRead(refusal);
             }
-            Item::Good(sort, start, size, next) => {
+            Item::Good {
+                sort,
+                start,
+                size,
+                next,
+            } => {
                 let tag = part[at];
                 let from = at + start;
                 at = from + size;
@@ -203,17 +218,17 @@ fn read_element<'a>(
     base: usize,
     tag: u8,
     left: u8,
-    before: Counts,
+    counts: Counts,
     table: &'a [u8],
     marks: u32,
     shows: &[u8; 32],
 ) -> ReadAnswer
-    requires { ⌜ (from ≤ to) × (to ≤ length (now part)) × (base + length (now part) ≤ 32_768) × (before .records < base + from) × (0 < left) × (left ≤ 16) ⌝ }
+    requires { ⌜ (from ≤ to) × (to ≤ length (now part)) × (base + length (now part) ≤ 32_768) × (counts .records < base + from) × (0 < left) × (left ≤ 16) ⌝ }
     requires { ⌜ InForce (now table) marks (now shows) ⌝ }
-    ensures { λ r. ⌜ r ≡ counted (oneMore before) (read (ctx tag (depthOf (left - 1)) 0 [] (entries (now (table .entry))) []) (base + from) (take (to - from) (drop from (now (part .entry))))) ⌝ }
+    ensures { λ r. ⌜ r ≡ counted (oneMore counts) (read (ctx tag (depthOf (left - 1)) 0 [] (entries (now (table .entry))) []) (base + from) (take (to - from) (drop from (now (part .entry))))) ⌝ }
     ensures { λ r. ⌜ CountsAtMost (base + to) r ⌝ }
 {
-    let mut counts = before;
+    let mut counts = counts;
     counts.records = counts.records + 1;
     read_items(
         &part[from..to],

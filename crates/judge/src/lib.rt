@@ -39,7 +39,12 @@ enum Sort {
 // was read after it.
 enum Item {
     Bad(Refusal),
-    Good(Sort, usize, usize, Progress),
+    Good {
+        sort: Sort,
+        start: usize,
+        size: usize,
+        next: Progress,
+    },
 }
 
 // The whole judgement of an object: the refusal of document 01's table, with its place and field, or how many records the object has. Nothing is written.

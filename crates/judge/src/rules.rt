@@ -267,7 +267,12 @@ fn judge_framed(
         &rest[start..to],
     ) {
         Check::Broken(refusal) => Item::Bad(refusal),
-        Check::Kept => Item::Good(sort_of(known), start, size, progress_after(tag, progress)),
+        Check::Kept => Item::Good {
+            sort: sort_of(known),
+            start,
+            size,
+            next: progress_after(tag, progress),
+        },
     }
 }
 
