@@ -28,17 +28,17 @@ module _ (object starts sizes : List ℕ) (i : ℕ) where
   pub no-size : length sizes ≤ i → nothing ≡ spanOf object starts sizes i
   no-size h = unlisted (omega arith)
 
-  module _ (h : i < length starts) (g : i < length sizes) (a b : ℕ) (ea : a ≡ getD starts i 0) (eb : b ≡ getD sizes i 0) where
+  module _ (h : i < length starts) (g : i < length sizes) where
     listed : ltb i (min (length starts) (length sizes)) ≡ true
     listed = lt-ltb i (min (length starts) (length sizes)) (omega arith)
 
-    pub outside : length object < a + b → nothing ≡ spanOf object starts sizes i
+    pub outside : length object < getD starts i 0 + getD sizes i 0 → nothing ≡ spanOf object starts sizes i
     unfolding spanOf
-    outside k = rw (listed, ← ea, ← eb, lt-leb (a + b) (length object) k)
+    outside k = rw (listed, lt-leb (getD starts i 0 + getD sizes i 0) (length object) k)
 
-    pub inside : a + b ≤ length object → record { start = a; size = b } ≡ spanOf object starts sizes i
+    pub inside : getD starts i 0 + getD sizes i 0 ≤ length object → record { start = getD starts i 0; size = getD sizes i 0 } ≡ spanOf object starts sizes i
     unfolding spanOf
-    inside k = rw (listed, ← ea, ← eb, le-leb (a + b) (length object) k)
+    inside k = rw (listed, le-leb (getD starts i 0 + getD sizes i 0) (length object) k)
 
   abbrev chosen : Bool → Span
   chosen b = cond b (record { start = getD starts i 0; size = getD sizes i 0 }) nothing

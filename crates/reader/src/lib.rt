@@ -1,6 +1,5 @@
 // Reading: the records of an object into lists that the caller lends, and the octets that a record speaks of.
 ghost use mathlib.Core.Path.{_≡_};
-ghost use Prim.Native.Nat.{_^_, _<_};
 ghost use Rattle.format.specs.Calls.{ReadClaim, ReadAtMostClaim, spanOf, bodyAt};
 ghost use Rattle.format.specs.Lent.{lent};
 
@@ -68,12 +67,6 @@ pub fn read(
     read_at_most(object, most, tags, kinds, depths, parents, starts, sizes)
 }
 
-fn wide(n: u16) -> usize
-    ensures { λ r. ⌜ (r ≡ n) × (r < 2 ^ 16) ⌝ }
-{
-    n as usize
-}
-
 // Where the body of a record lies, or the part of length 0 at the object's start where the lists have no such record or the object no such part.
 pub fn span(object: &[u8], starts: &[u16], sizes: &[u16], number: usize) -> Span
     ensures { λ r. ⌜ r ≡ spanOf (now (object .entry)) (now (starts .entry)) (now (sizes .entry)) number ⌝ }
@@ -84,8 +77,8 @@ pub fn span(object: &[u8], starts: &[u16], sizes: &[u16], number: usize) -> Span
     if number >= sizes.len() {
         return Span { start: 0, size: 0 };
     }
-    let start = wide(starts[number]);
-    let size = wide(sizes[number]);
+    let start = starts[number] as usize;
+    let size = sizes[number] as usize;
     if start + size > object.len() {
         return Span { start: 0, size: 0 };
     }
