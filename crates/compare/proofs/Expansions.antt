@@ -30,37 +30,43 @@ module _ (index table : List ℕ) (b : ℕ) (t : Bool) (m : t ≡ token b) where
   unfolding Standing
   stand-plain n = self-by index table b _ (by-plain index table b t m n) refl
 
-  module _ (y : t ≡ true) (p : ℕ) (l : p ≡ b) where
-    pub stand-none : getD index p 0 ≡ 0 → Standing (entriesBy index table) table b Outside
+  module _ (y : t ≡ true) where
+    abbrev lies : ℕ
+    lies = getD index b 0
+
+    abbrev long : ℕ
+    long = getD table (lies - 1) 0
+
+    pub stand-none : lies ≡ 0 → Standing (entriesBy index table) table b Outside
     unfolding Standing
-    stand-none e = self-by index table b _ (by-none index table b t m y p l e) refl
+    stand-none e = self-by index table b _ (by-none index table b t m y e) refl
 
-    pub stand-token : p < 32
-    stand-token = by-inside index table b t m y p l
+    pub stand-token : b < 32
+    stand-token = by-inside index table b t m y
 
-    module _ (g : getD index p 0 ≡ 0 → ⊥) where
-      pub stand-past : length table < getD index p 0 → Standing (entriesBy index table) table b Outside
+    module _ (g : lies ≡ 0 → ⊥) where
+      pub stand-past : length table < lies → Standing (entriesBy index table) table b Outside
       unfolding Standing
-      stand-past h = self-by index table b _ (by-past index table b t m y p l g h) refl
+      stand-past h = self-by index table b _ (by-past index table b t m y g h) refl
 
-      module _ (h : getD index p 0 ≤ length table) (n : ℕ) (e : n ≡ getD table (getD index p 0 - 1) 0) where
-        pub stand-long : length table - getD index p 0 < n → Standing (entriesBy index table) table b Outside
+      module _ (h : lies ≤ length table) where
+        pub stand-long : length table - lies < long → Standing (entriesBy index table) table b Outside
         unfolding Standing
-        stand-long d = self-by index table b _ (by-long index table b t m y p l g h n e d) refl
+        stand-long d = self-by index table b _ (by-long index table b t m y g h d) refl
 
-        module _ (d : n ≤ length table - getD index p 0) where
-          pub stand-wide : getD index 0 0 < n → Standing (entriesBy index table) table b Outside
+        module _ (d : long ≤ length table - lies) where
+          pub stand-wide : getD index 0 0 < long → Standing (entriesBy index table) table b Outside
           unfolding Standing
-          stand-wide c = self-by index table b _ (by-wide index table b t m y p l g h n e d c) refl
+          stand-wide c = self-by index table b _ (by-wide index table b t m y g h d c) refl
 
-          pub stand-entry : n ≤ getD index 0 0 → Standing (entriesBy index table) table b (Between (getD index p 0) (getD index p 0 + n))
+          pub stand-entry : long ≤ getD index 0 0 → Standing (entriesBy index table) table b (Between lies (lies + long))
           unfolding Standing
           stand-entry c =
-              let w : n ≡ getD index p 0 + n - getD index p 0 = omega arith in
+              let w : long ≡ lies + long - lies = omega arith in
               record {
                 ordered = omega arith;
                 inside = omega arith;
-                is = part-by index table b _ (by-found index table b t m y p l g h n e d c) _ _ refl ∙ ap (λ k. take k (drop (getD index p 0) table)) w;
+                is = part-by index table b _ (by-found index table b t m y g h d c) _ _ refl ∙ ap (λ k. take k (drop lies table)) w;
               }
 
 pub ruleset stand-ways = (stand-plain, stand-none, stand-token, stand-past, stand-long, stand-wide, stand-entry)

@@ -19,12 +19,6 @@ struct Rest {
     at: usize,
 }
 
-fn wide(x: u8) -> usize
-    ensures { λ r. ⌜ r ≡ x ⌝ }
-{
-    x as usize
-}
-
 // Where the entry lies that stands for an octet. Outside: the octet stands for itself. By any index of any table: an entry that doesn't lie in the table, or is
 // longer than the index says that any is, counts as none, as `expand` has it.
 fn entry_of(index: &[usize; 32], table: &[u8], b: u8) -> Lies
@@ -33,14 +27,14 @@ fn entry_of(index: &[usize; 32], table: &[u8], b: u8) -> Lies
     if !is_token(b) {
         return Lies::Outside;
     }
-    let from = index[wide(b)];
+    let from = index[b as usize];
     if from == 0 {
         return Lies::Outside;
     }
     if from > table.len() {
         return Lies::Outside;
     }
-    let size = wide(table[from - 1]);
+    let size = table[from - 1] as usize;
     if size > table.len() - from {
         return Lies::Outside;
     }
