@@ -11,6 +11,7 @@ use types.Run.{OneOf}
 use denote.Enum.Declared.{tagOf}
 use borrow.Author.Tests.{eqb-true, eqb-false, eq-eqb, ne-eqb}
 use Rattle.octets.specs.Places.{between}
+use Rattle.octets.proofs.Tests.{never}
 use Rattle.text.specs.Tokens.{Entries, expanded}
 use Rattle.values.specs.declared.Kind.{Kind}
 use Rattle.values.specs.declared.Kind.the-variants.{HoldsText}
@@ -72,25 +73,25 @@ module _ (tag : ℕ) (c : Content) (ce : c ≡ contentOf (known 0 tag)) where
     where
       go : (a b : Bool) → InItems ≡ cond a InItems (cond b InText InOctets) → a ≡ true
       go true b h = refl
-      go false true h = let z : _≡_ {A = ℕ} 0 1 = cc in absurd (omega arith)
-      go false false h = let z : _≡_ {A = ℕ} 0 1 = cc in absurd (omega arith)
+      go false true h = never (cc)
+      go false false h = never (cc)
 
   says-text : c ≡ InText → (opens tag ≡ false) × (isText (known 0 tag) ≡ true)
   unfolding opens contentOf
   says-text q = go (isItems (known 0 tag)) (isText (known 0 tag)) (sym q ∙ ce)
     where
       go : (a b : Bool) → InText ≡ cond a InItems (cond b InText InOctets) → (a ≡ false) × (b ≡ true)
-      go true b h = let z : _≡_ {A = ℕ} 0 1 = cc in absurd (omega arith)
+      go true b h = never (cc)
       go false true h = (refl, refl)
-      go false false h = let z : _≡_ {A = ℕ} 0 1 = cc in absurd (omega arith)
+      go false false h = never (cc)
 
   says-octets : c ≡ InOctets → (opens tag ≡ false) × (isText (known 0 tag) ≡ false)
   unfolding opens contentOf
   says-octets q = go (isItems (known 0 tag)) (isText (known 0 tag)) (sym q ∙ ce)
     where
       go : (a b : Bool) → InOctets ≡ cond a InItems (cond b InText InOctets) → (a ≡ false) × (b ≡ false)
-      go true b h = let z : _≡_ {A = ℕ} 0 1 = cc in absurd (omega arith)
-      go false true h = let z : _≡_ {A = ℕ} 0 1 = cc in absurd (omega arith)
+      go true b h = never (cc)
+      go false true h = never (cc)
       go false false h = (refl, refl)
 
 -- ---- same_child

@@ -17,7 +17,8 @@ use Rattle.octets.proofs.Lists.{part-to-end, part-split, take-of-take, take-nex
 use Rattle.text.specs.Text.{token}
 use Rattle.text.specs.Tokens.{Entries, stands, expanded}
 use Rattle.text.specs.Index.{entriesBy}
-use Rattle.text.proofs.Index.{self-by, part-by, by-plain, by-inside, by-none, by-past, by-long, by-wide, by-found}
+use Rattle.text.proofs.Index.{self-by, part-by, by-plain, by-none, by-past, by-long, by-wide, by-found}
+use Rattle.text.proofs.Sequences.{token-bit}
 use Rattle.format.specs.Same.{sameOctets}
 use Rattle.compare.specs.declared.texts.Rest.{Rest}
 use Rattle.compare.specs.Bodies.{allBy}
@@ -40,9 +41,6 @@ module _ (index table : List ℕ) (b : ℕ) (t : Bool) (m : t ≡ token b) where
     pub stand-none : lies ≡ 0 → Standing (entriesBy index table) table b Outside
     unfolding Standing
     stand-none e = self-by index table b _ (by-none index table b t m y e) refl
-
-    pub stand-token : b < 32
-    stand-token = by-inside index table b t m y
 
     module _ (g : lies ≡ 0 → ⊥) where
       pub stand-past : length table < lies → Standing (entriesBy index table) table b Outside
@@ -69,7 +67,7 @@ module _ (index table : List ℕ) (b : ℕ) (t : Bool) (m : t ≡ token b) where
                 is = part-by index table b _ (by-found index table b t m y g h d c) _ _ refl ∙ ap (λ k. take k (drop lies table)) w;
               }
 
-pub ruleset stand-ways = (stand-plain, stand-none, stand-token, stand-past, stand-long, stand-wide, stand-entry)
+pub ruleset stand-ways = (stand-plain, stand-none, token-bit, stand-past, stand-long, stand-wide, stand-entry)
 
 high-token : (b : ℕ) → 0x14 ≤ b → token b ≡ false
 unfolding token

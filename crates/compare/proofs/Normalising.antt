@@ -3,7 +3,7 @@ use mathlib.Core.Path.{_≡_, refl, sym, ap, ap₂, _∙_, subst}
 use mathlib.Core.Bool.{Bool, true, false, cond, not, _&&_, _||_, false≢true, or-true}
 use mathlib.Core.Logic.{_↔_}
 use mathlib.Core.Option.{Option, none, some, Option·some-injective, Option·none-ne-some}
-use mathlib.Core.List.{List, [], _∷_, _++_, append-assoc, append-nil}
+use mathlib.Core.List.{List, [], _∷_, _++_, append-assoc, append-nil, cons≢nil, nil≢cons}
 use Prim.Native.Nat.{ℕ, suc, _-_, _^_, _≤_, _<_}
 use native.Mathlib.Omega.{arith}
 use lib.Dec.{eqb, ltb}
@@ -35,7 +35,7 @@ use Rattle.format.specs.Same.{sameOctets}
 use Rattle.format.proofs.Rules.{held, accepted-size}
 use Rattle.format.proofs.Force.{top-known}
 use Rattle.format.proofs.Defaults.{counted-some, present-attribute}
-use Rattle.format.proofs.Told.{top, some-octet}
+use Rattle.format.proofs.Told.{top}
 use Rattle.format.proofs.Means.{items-opens, items-known, value-no-items, child-element, means-attribute, means-cdata, other-attribute, absent-attribute, find-first}
 use Rattle.format.proofs.Induction.{Cases, judged-all, Unbroken, inAt, shorter}
 use Rattle.survey.specs.Normal.{writtenAs}
@@ -94,9 +94,6 @@ child-tag tag h = go (attribute tag) (eqb tag 1) (eqb tag 4) refl refl refl h
     go false true z a b c q = absurd (false≢true q)
     go true y z a b c q = absurd (false≢true q)
 
-no-cons : (x : ℕ) (xs : List ℕ) → [] ≡ x ∷ xs → ⊥
-no-cons x xs e = let z : 0 ≡ suc (length xs) = ap length e in omega arith
-
 head-of : (x tag : ℕ) (body rest xs : List ℕ) → framed tag body ++ rest ≡ x ∷ xs → tag ≡ x
 unfolding framed
 head-of x tag body rest xs e = ap (λ o. getD o 0 0) e
@@ -104,7 +101,7 @@ head-of x tag body rest xs e = ap (λ o. getD o 0 0) e
 module _ (es : Entries) (p last : ℕ) (f : ℕ → Option Value) where
   cdata-head : (x : ℕ) (xs : List ℕ) (cd : Option (List ℕ)) → maybe (framed 1) cd ≡ x ∷ xs → Head p last f x
   unfolding maybe isKnown attribute
-  cdata-head x xs none e = absurd (no-cons x xs e)
+  cdata-head x xs none e = absurd (nil≢cons e)
   cdata-head x xs (some o) e =
       let q : 1 ≡ x = head-of x 1 o [] xs (append-nil (framed 1 o) ∙ e) in
       subst (Head p last f) q (record { isOne = ap isKnown (known-cdata p); notTable = λ g. omega arith; higher = λ a. absurd (false≢true a); counts = λ a. absurd (false≢true a) })
@@ -396,7 +393,7 @@ module _ (c : Context) (at tag : ℕ) (rest : List ℕ) (u : Items) (q : Unbroke
       → isWritten (writtenAs p tag body) body ≡ false → ((es : Entries) → Head p 0x7F (attributesIn es p t) tag → ⊥) → Shape p (c .stage) whole t
   shape-never t knows bars n head = record {
     allKnown = knows;
-    ended = λ z. absurd (some-octet tag rest z);
+    ended = λ z. absurd (cons≢nil z);
     closed = is-closed;
     barred = bars;
     noTable = λ last h. absurd (no last h);
@@ -502,7 +499,7 @@ module _ (c : Context) (at tag : ℕ) (rest : List ℕ) (u : Items) (q : Unbroke
     unfolding isKnown tableOf tableIn find
     shape-attribute = record {
       allKnown = (ap isKnown e, later .allKnown);
-      ended = λ z. absurd (some-octet tag rest z);
+      ended = λ z. absurd (cons≢nil z);
       closed = is-closed;
       barred = is-barred end;
       noTable = λ last h. find-other 4 tag from body end u (λ z. omega (arith, above-tag)) ∙ later .noTable tag (subst (λ z. shaped p z (afterFirst whole) ≡ true) (later-last last) (own-parts p last tag rest h .later));
@@ -591,7 +588,7 @@ module _ (c : Context) (at tag : ℕ) (rest : List ℕ) (u : Items) (q : Unbroke
     unfolding isKnown
     shape-child = record {
       allKnown = (ap isKnown e, later .allKnown);
-      ended = λ z. absurd (some-octet tag rest z);
+      ended = λ z. absurd (cons≢nil z);
       closed = is-closed;
       barred = is-barred w;
       noTable = λ last h.
@@ -645,7 +642,7 @@ module _ (c : Context) (at : ℕ) (rest : List ℕ) (u : Items) (q : Unbroken c 
   unfolding isKnown find tableOf tableIn
   shape-cdata = record {
     allKnown = (ap isKnown (known-cdata (c .parent)), later .allKnown);
-    ended = λ z. absurd (some-octet 1 rest z);
+    ended = λ z. absurd (cons≢nil z);
     closed = is-closed c at 1 rest u q os later;
     barred = is-barred c at 1 rest u q os later end;
     noTable = λ last h. ap (find 4) no-more;

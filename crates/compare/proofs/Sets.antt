@@ -13,6 +13,7 @@ use Rattle.octets.specs.Numbers.{value, digits}
 use Rattle.octets.specs.declared.Lies.{Lies}
 use Rattle.octets.specs.declared.Lies.the-variants.{Outside, Between}
 use Rattle.octets.specs.Places.{between}
+use Rattle.octets.proofs.Tests.{never}
 use Rattle.text.specs.Tokens.{Entries, expanded}
 use Rattle.values.specs.declared.Kind.{Kind}
 use Rattle.values.specs.declared.Kind.the-variants.{HoldsNumber}
@@ -124,7 +125,7 @@ module _ (parent tag : ℕ) (part : List ℕ) (r : Lies) (e : r ≡ countedSpan 
     span-is = go (spanOfTag tag part) (sym q ∙ e)
       where
         by : (l : Lies) (d : Bool) → Between from to ≡ cond d Outside l → Between from to ≡ l
-        by l true w = let z : _≡_ {A = ℕ} 0 1 = cc in absurd (omega arith)
+        by l true w = never (cc)
         by l false w = w
 
         go : (l : Lies) → Between from to ≡ countedLies parent tag part l → Between from to ≡ l

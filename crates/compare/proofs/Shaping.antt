@@ -15,7 +15,7 @@ use Rattle.octets.specs.declared.counts.Octets.{Octets as OctetCount}
 use Rattle.octets.specs.Counts.{asOctets}
 use Rattle.octets.specs.Header.{headerSize, bodySize, lengthField}
 use Rattle.octets.proofs.Frames.{header-two}
-use Rattle.octets.proofs.Tests.{and-left}
+use Rattle.octets.proofs.Tests.{and-left, never}
 use Rattle.octets.specs.Puts.{putAnswer, Puts}
 use Rattle.octets.specs.declared.Put.{Put}
 use Rattle.octets.specs.declared.Put.the-variants.{Done, NoRoom, Invalid}
@@ -118,7 +118,7 @@ module _ (k : Kind) (o before after : List ℕ) (a : Put) (p : Puts (fits k o) (
   rewritten-bad q = go (fits k o) (leb (length (normalOctets k o)) 8) (sym q ∙ put-is)
     where
       go : (x y : Bool) → Invalid ≡ cond x (cond y (Done (length (normalOctets k o))) NoRoom) Invalid → false ≡ x && y && sameOctets (normalOctets k o) o
-      go true true h = let z : _≡_ {A = ℕ} 0 1 = cc in absurd (omega arith)
+      go true true h = never (cc)
       go true false h = refl
       go false y h = refl
 
@@ -126,7 +126,7 @@ module _ (k : Kind) (o before after : List ℕ) (a : Put) (p : Puts (fits k o) (
   rewritten-none q = go (fits k o) (leb (length (normalOctets k o)) 8) (sym q ∙ put-is)
     where
       go : (x y : Bool) → NoRoom ≡ cond x (cond y (Done (length (normalOctets k o))) NoRoom) Invalid → false ≡ x && y && sameOctets (normalOctets k o) o
-      go true true h = let z : _≡_ {A = ℕ} 0 1 = cc in absurd (omega arith)
+      go true true h = never (cc)
       go true false h = refl
       go false y h = refl
 

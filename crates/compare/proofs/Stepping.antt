@@ -11,8 +11,8 @@ use borrow.Author.Tests.{eqb-true, eqb-false, eq-eqb, ne-eqb, ltb-true, ltb-fals
 use Rattle.octets.specs.declared.Lies.{Lies}
 use Rattle.octets.specs.declared.Lies.the-variants.{Outside, Between}
 use Rattle.octets.specs.Places.{liesAt, between}
-use Rattle.octets.proofs.Tests.{and-left}
 use Rattle.octets.proofs.Places.{lying, bounds}
+use Rattle.octets.proofs.Tests.{and-left, never}
 use Rattle.text.specs.Tokens.{Entries}
 use Rattle.values.specs.declared.Kind.{Kind}
 use Rattle.values.specs.declared.KnownKind.{KnownKind}
@@ -102,9 +102,9 @@ module _ (part : List ℕ) (at last : ℕ) (r : Due) (e : r ≡ dueAt part at la
   due-over q = go (attributeAt part at) (ltb last (getD part at 0)) (liesAt part at) (sym q ∙ e)
     where
       go : (b c : Bool) (l : Lies) → None ≡ cond b (cond c (dueAs (getD part at 0) l) Lost) None → b ≡ false
-      go true true Outside p = let z : _≡_ {A = ℕ} 0 1 = cc in absurd (omega arith)
-      go true true (Between from to) p = let z : _≡_ {A = ℕ} 0 1 = cc in absurd (omega arith)
-      go true false l p = let z : _≡_ {A = ℕ} 0 1 = cc in absurd (omega arith)
+      go true true Outside p = never (cc)
+      go true true (Between from to) p = never (cc)
+      go true false l p = never (cc)
       go false c l p = refl
 
   module _ (tag from to : ℕ) (q : r ≡ Found tag from to) where
@@ -122,10 +122,10 @@ module _ (part : List ℕ) (at last : ℕ) (r : Due) (e : r ≡ dueAt part at la
             let u : from ≡ f = cc in
             let v : to ≡ g = cc in
             (record { begins = ltb-true at (length part) t; tagged = y; lies = ap₂ Between u v ∙ sym l }, subst (λ z. attribute z ≡ true) y k, subst (λ z. last < z) y (ltb-true last x c))
-        go true t true k true c Outside l p = let z : _≡_ {A = ℕ} 0 1 = cc in absurd (omega arith)
-        go true t true k false c l m p = let z : _≡_ {A = ℕ} 0 1 = cc in absurd (omega arith)
-        go true t false k c d l m p = let z : _≡_ {A = ℕ} 0 1 = cc in absurd (omega arith)
-        go false t k d c f l m p = let z : _≡_ {A = ℕ} 0 1 = cc in absurd (omega arith)
+        go true t true k true c Outside l p = never (cc)
+        go true t true k false c l m p = never (cc)
+        go true t false k c d l m p = never (cc)
+        go false t k d c f l m p = never (cc)
 
 module _ (part : List ℕ) (at tag : ℕ) (r : Lies) (e : r ≡ itemOf part at tag) (from to : ℕ) (q : r ≡ Between from to) where
   of-facts : Tagged part at tag from to
@@ -134,8 +134,8 @@ module _ (part : List ℕ) (at tag : ℕ) (r : Lies) (e : r ≡ itemOf part at t
     where
       go : (b : Bool) → ltb at (length part) ≡ b → (c : Bool) → eqb (getD part at 0) tag ≡ c → Between from to ≡ cond (b && c) (liesAt part at) Outside → Tagged part at tag from to
       go true t true c p = record { begins = ltb-true at (length part) t; tagged = eqb-true (getD part at 0) tag c; lies = p }
-      go true t false c p = let z : _≡_ {A = ℕ} 0 1 = cc in absurd (omega arith)
-      go false t c d p = let z : _≡_ {A = ℕ} 0 1 = cc in absurd (omega arith)
+      go true t false c p = never (cc)
+      go false t c d p = never (cc)
 
 module _ (part : List ℕ) (at tag from to : ℕ) (g : Tagged part at tag from to) where
   edges : (at + 2 ≤ from) × (from ≤ to) × (to ≤ length part)
@@ -275,7 +275,7 @@ module _ (parent : ℕ) (es : Entries) (a : List ℕ) (fs : Entries) (b : List �
   pace-begin = record { met = λ t y. ahead (span-begin a t) (span-begin b t); first = λ t h. span-begin a t; second = λ t h. span-begin b t }
 
   pub astray : Walked whole Astray
-  astray = record { same = λ e. let z : _≡_ {A = ℕ} 0 1 = cc in absurd (omega arith); different = λ e. let z : _≡_ {A = ℕ} 0 1 = cc in absurd (omega arith) }
+  astray = record { same = λ e. never (cc); different = λ e. never (cc) }
 
   module _ (i j last : ℕ) (inv : Pace i j last) (d : Due) (de : d ≡ dueAt a i last) where
     settle : (t : ℕ) → attribute t ≡ true → attributeAt a i ≡ false → attributeAt b j ≡ false → Met i j t → one t ≡ true
@@ -290,7 +290,7 @@ module _ (parent : ℕ) (es : Entries) (a : List ℕ) (fs : Entries) (b : List �
         go None f true m = astray
         go None f false m = record {
           same = λ e. from-same 128 0x80 (omega arith) (λ t y. settle t y (due-over a i last d de f) (sym me ∙ m) (inv .met t y));
-          different = λ e. let z : _≡_ {A = ℕ} 0 1 = cc in absurd (omega arith);
+          different = λ e. never (cc);
         }
         go Lost f m n = astray
         go (Found tag from to) f m n = astray
@@ -311,7 +311,7 @@ module _ (parent : ℕ) (es : Entries) (a : List ℕ) (fs : Entries) (b : List �
             ∙ both-counted es fs parent tag (between a from to) (between b start end) ∙ sym re
 
         pub pace-different : r ≡ false → Walked whole Different
-        pace-different q = record { same = λ e. let z : _≡_ {A = ℕ} 0 1 = cc in absurd (omega arith); different = λ e. sets-different tag (facts .1) (turn ∙ q) }
+        pace-different q = record { same = λ e. never (cc); different = λ e. sets-different tag (facts .1) (turn ∙ q) }
 
         pub pace-again : r ≡ true → Pace to end tag
         pace-again q = record {

@@ -8,6 +8,7 @@ use native.Mathlib.Omega.{arith}
 use lib.ListN.{getD}
 use Rattle.octets.specs.Numbers.{among, value, digits}
 use Rattle.octets.specs.Header.{headerSize, bodySize}
+use Rattle.octets.proofs.Tests.{never}
 use Rattle.text.specs.Text.{layout, token}
 use Rattle.text.specs.Tokens.{Entries, entry, orItself, stands, expanded}
 use Rattle.text.specs.Index.{usable, placeAt, placeBy, withPlace, entriesBelow, entriesBy}
@@ -32,13 +33,13 @@ use Rattle.compare.proofs.Examples.{rising-order, falling-minus-zero, n
 -- `same`: no CDATA and an empty one told as the same; another order of attributes and minus 0 told as different; the second object's refusal told of the first, or
 -- without its field; a default told as a difference, or as the same as another value (change request 2026-05)
 pub empty-as-none : sameAnswer (judge no-cdata) (judge empty-cdata) ≡ Same → ⊥
-empty-as-none h = let z : Same ≡ Different = sym h ∙ ap (λ l. getD l 6 Same) (computed .compared) in let z : _≡_ {A = ℕ} 0 1 = cc in omega arith
+empty-as-none h = let z : Same ≡ Different = sym h ∙ ap (λ l. getD l 6 Same) (computed .compared) in never (cc)
 
 pub order-counted : sameAnswer (judge rising-order) (judge falling-minus-zero) ≡ Different → ⊥
-order-counted h = let z : Different ≡ Same = sym h ∙ ap (λ l. getD l 3 Same) (computed .compared) in let z : _≡_ {A = ℕ} 0 1 = cc in omega arith
+order-counted h = let z : Different ≡ Same = sym h ∙ ap (λ l. getD l 3 Same) (computed .compared) in never (cc)
 
 pub told-of-first : sameAnswer (judge top) (judge cut-short) ≡ FirstRefused (refusal 3 0) → ⊥
-told-of-first h = let z : FirstRefused (refusal 3 0) ≡ SecondRefused (refusal 3 0) = sym h ∙ ap (λ l. getD l 12 Same) (computed .compared) in let z : _≡_ {A = ℕ} 0 1 = cc in omega arith
+told-of-first h = let z : FirstRefused (refusal 3 0) ≡ SecondRefused (refusal 3 0) = sym h ∙ ap (λ l. getD l 12 Same) (computed .compared) in never (cc)
 
 pub field-left-out : sameAnswer (judge top) (judge mistimed) ≡ SecondRefused (refusal 9 2) → ⊥
 field-left-out h =
@@ -47,10 +48,10 @@ field-left-out h =
     omega arith
 
 pub default-differs : sameAnswer (judge said-no) (judge unsaid) ≡ Different → ⊥
-default-differs h = let z : Different ≡ Same = sym h ∙ ap (λ l. getD l 14 Same) (computed .compared) in let z : _≡_ {A = ℕ} 0 1 = cc in omega arith
+default-differs h = let z : Different ≡ Same = sym h ∙ ap (λ l. getD l 14 Same) (computed .compared) in never (cc)
 
 pub default-as-any : sameAnswer (judge said-no) (judge said-yes) ≡ Same → ⊥
-default-as-any h = let z : Same ≡ Different = sym h ∙ ap (λ l. getD l 17 Same) (computed .compared) in let z : _≡_ {A = ℕ} 0 1 = cc in omega arith
+default-as-any h = let z : Same ≡ Different = sym h ∙ ap (λ l. getD l 17 Same) (computed .compared) in never (cc)
 
 -- `is_normal`: attributes by falling tag and minus 0 passed; a normal form refused; a default passed
 pub falling-passes : isNormal falling-minus-zero ≡ true → ⊥

@@ -5,6 +5,7 @@ use mathlib.Core.List.{List, _∷_}
 use Prim.Native.Nat.{ℕ}
 use native.Mathlib.Omega.{arith}
 use lib.ListN.{length}
+use Rattle.octets.proofs.Tests.{never}
 use Rattle.format.specs.declared.Record.{Record}
 use Rattle.format.specs.declared.Refusal.{Refusal}
 use Rattle.format.specs.Tree.{Items, count, recordsOf}
@@ -18,7 +19,7 @@ use Rattle.format.proofs.Bench.{bench, slipped, listing as listed-is}
 use Rattle.format.proofs.Spans.{records-count}
 use Rattle.format.proofs.Lays.{tabled-laid}
 use Rattle.demands.specs.Bench.{BenchTable, Slips, listedObject, listing, Listing, BenchRead, BenchNormalise, ListingRead}
-use Rattle.demands.proofs.Laws.{never, of-object}
+use Rattle.demands.proofs.Laws.{of-object}
 use Rattle.demands.proofs.One.{read-in-order}
 use Rattle.demands.proofs.Two.{records-read}
 use Rattle.demands.proofs.Three.{normalised}

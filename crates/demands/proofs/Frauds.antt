@@ -6,6 +6,7 @@ use Prim.Native.Nat.{_+_}
 use native.Mathlib.Omega.{arith}
 use lib.ListN.{getD}
 use Rattle.octets.specs.Counts.{asOctets}
+use Rattle.octets.proofs.Tests.{never}
 use Rattle.format.specs.declared.ReadAnswer.the-variants.{NotRead}
 use Rattle.format.specs.Answers.{refusal}
 use Rattle.format.specs.Meaning.{means}
@@ -17,7 +18,7 @@ use Rattle.format.proofs.Lays.{getD-tabled}
 use Rattle.writer.proofs.Theorems.{delivered}
 use Rattle.demands.specs.Bench.{listedObject}
 use Rattle.demands.specs.Frauds.{p9, p10, RefusesAll, OneOutput, InputBack, WritesNothing, InventsRecord, InventsCount}
-use Rattle.demands.proofs.Laws.{never, empty-refused, has-meaning}
+use Rattle.demands.proofs.Laws.{empty-refused, has-meaning}
 use Rattle.demands.proofs.Two.{tree-handed-out}
 use Rattle.demands.proofs.Bench.{bench-read, bench-normalise}
 

@@ -1,7 +1,7 @@
 -- What the proofs of the demands share: refusals of an object, memory that suffices, records that are a tree, in the words of the statements.
 use mathlib.Core.Path.{_≡_, refl, sym, ap, _∙_}
-use mathlib.Core.Bool.{Bool, true, false, cond, _&&_, false≢true}
-use mathlib.Core.Option.{none, some, Option·some-injective, Option·none-ne-some}
+use mathlib.Core.Bool.{Bool, true, false, _&&_, false≢true}
+use mathlib.Core.Option.{some, Option·some-injective, Option·none-ne-some}
 use mathlib.Core.List.{List, [], _∷_, _++_}
 use Prim.Native.Nat.{ℕ, _+_, _≤_, _<_, min}
 use native.Mathlib.Omega.{arith}
@@ -10,6 +10,7 @@ use lib.Dec.{eqb, leb}
 use lib.ListN.{length, take, drop, take-append-drop}
 use lib.Seq.{length-take-le}
 use borrow.Author.Tests.{eqb-true, eq-eqb, leb-true, le-leb}
+use Rattle.writer.proofs.Whole.{given-both}
 use Rattle.octets.proofs.Tests.{and-left, and-right, and-true}
 use Rattle.format.specs.declared.Refusal.{Refusal}
 use Rattle.format.specs.Answers.{refusal}
@@ -18,7 +19,6 @@ use Rattle.format.specs.Tree.Items.{end, item}
 use Rattle.format.specs.Judge.{Judged, rule, unless, judge}
 use Rattle.format.specs.Judge.Judged.{refused, accepted}
 use Rattle.format.specs.Meaning.{Meaning, meaningOf, ifAccepted, meaning, normalOf}
-use Rattle.format.specs.Writer.{rebuilt}
 use Rattle.format.specs.Loaded.{storeOf}
 use Rattle.format.specs.Calls.{Lists, row, places, Lent, roomy, storedWithin, fitsLent, treeGiven}
 use Rattle.format.proofs.Refusals.{refusal-inside}
@@ -26,9 +26,6 @@ use Rattle.format.proofs.Spans.{Part, part-span, Located}
 use Rattle.format.proofs.Rebuilt.{rebuilt-whole, whole-rebuilt}
 use Rattle.demands.proofs.RuleOne.{one-only}
 use Rattle.demands.specs.One.{OfObject, LiesIn, GivenTree, Suffices}
-
-pub never : {A : Type 0} → _≡_ {A = ℕ} 0 1 → A
-never z = absurd (omega arith)
 
 pub empty-refused : judge [] ≡ refused (refusal 1 0)
 unfolding judge rule unless
@@ -120,14 +117,10 @@ module _ (n : ℕ) (lists : Lists) (lent : List ℕ) (t : Items) where
       (whole-rebuilt (row lists) n lent t (record { some = g .some; records = sym (g .records); located = lies-located lent t (g .lies); rules = g .rules }))
 
   pub given-tree : treeGiven n lists lent ≡ some t → GivenTree n lists lent t
-  unfolding treeGiven
-  given-tree h = go (leb n (places lists)) refl h
-    where
-      go : (b : Bool) → leb n (places lists) ≡ b → cond b (rebuilt (row lists) n lent) none ≡ some t → GivenTree n lists lent t
-      go true q h =
-          let w = rebuilt-whole (row lists) n lent t h in
-          record { some = w .some; placed = leb-true n (places lists) q; records = sym (w .records); lies = located-lies lent t (w .located); rules = w .rules }
-      go false q h = absurd (Option·none-ne-some t h)
+  given-tree h =
+      let b = given-both n lists lent t h in
+      let w = rebuilt-whole (row lists) n lent t (b .1) in
+      record { some = w .some; placed = b .0; records = sym (w .records); lies = located-lies lent t (w .located); rules = w .rules }
 
 -- an object that means something is accepted, with a tree that means it
 pub has-meaning : (o : List ℕ) (m : Meaning) → meaning o ≡ some m → (t : Items) × (judge o ≡ accepted t) × (meaningOf t ≡ m)

@@ -16,6 +16,7 @@ use Rattle.octets.specs.Numbers.{among}
 use Rattle.octets.proofs.Lists.{sets-none}
 use Rattle.octets.specs.declared.Put.{Put}
 use Rattle.octets.specs.Puts.{putAnswer, putOut}
+use Rattle.octets.proofs.Tests.{never}
 use Rattle.format.specs.declared.Refusal.{Refusal}
 use Rattle.format.specs.declared.Counts.{Counts}
 use Rattle.format.specs.declared.ReadAnswer.{ReadAnswer}
@@ -40,7 +41,7 @@ use Rattle.demands.specs.One.SameEnds.{answered as compared, firstAt, se
 use Rattle.demands.specs.One.Lacks.{fourteen, fifteen}
 use Rattle.demands.specs.One.PutEnds.{put, lacksRoom, notValid}
 use Rattle.demands.proofs.RuleOne.{one-only}
-use Rattle.demands.proofs.Laws.{never, of-object, suffices-fits, fits-suffices, tree-given, given-tree}
+use Rattle.demands.proofs.Laws.{of-object, suffices-fits, fits-suffices, tree-given, given-tree}
 
 -- ---- how each call ends
 pub judge-ends : JudgeEnds

@@ -12,6 +12,7 @@ use Rattle.octets.specs.declared.counts.Octets.{Octets as OctetCount}
 use Rattle.octets.specs.Counts.{asOctets}
 use Rattle.octets.specs.Numbers.{Octets}
 use Rattle.octets.proofs.Lists.{part-of-sets, drop-sets}
+use Rattle.octets.proofs.Tests.{never}
 use Rattle.format.specs.declared.WriteAnswer.the-variants.{Octets as Written}
 use Rattle.format.specs.declared.SameAnswer.{SameAnswer}
 use Rattle.format.specs.declared.SameAnswer.the-variants.{Same, Different, FirstRefused, SecondRefused}
@@ -26,10 +27,10 @@ use Rattle.format.proofs.Round.{reread}
 use Rattle.format.proofs.NormalOctets.{normal-octets}
 use Rattle.format.proofs.Takes.{ofMeaning, inRecords, inStore, records-means, store-means}
 use Rattle.format.proofs.Same.{same-exactly as same-meaning, different-exactly as different-meaning, normal-exactly}
-use Rattle.grammar.proofs.Agree.{complete}
+use Rattle.grammar.proofs.Complete.{complete}
 use Rattle.demands.specs.One.{Suffices}
 use Rattle.demands.specs.Three.{SameNormalForms, NormalAccepted, NormalTakesNoMore, NormalAgain, NormalAgainIfAny, BothAccepted, Comparison, SameExactly, IsNormalExactly}
-use Rattle.demands.proofs.Laws.{never, suffices-fits, has-meaning, accepted-means}
+use Rattle.demands.proofs.Laws.{suffices-fits, has-meaning, accepted-means}
 use Rattle.demands.proofs.One.{normalise-in-order}
 
 -- what a call of normalise that gives octets leaves in its room

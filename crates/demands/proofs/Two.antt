@@ -8,6 +8,7 @@ use lib.ListN.{length, take, drop, getD}
 use borrow.Author.Tests.{le-leb}
 use Rattle.octets.specs.Counts.{sizeOf}
 use Rattle.octets.proofs.Numbers.{octets-take}
+use Rattle.octets.proofs.Tests.{never}
 use Rattle.format.specs.declared.Refusal.{Refusal}
 use Rattle.format.specs.declared.Counts.{Counts}
 use Rattle.format.specs.declared.ReadAnswer.the-variants.{Records, NotRead}
@@ -22,12 +23,13 @@ use Rattle.format.proofs.Lays.{places-lay, within-places, row-lay-behind, table
 use Rattle.format.proofs.Spans.{Part, part-span, Located, located, records-count, Bodied, bodied-length, bodied-at, records-bodied}
 use Rattle.format.proofs.Regrown.{shaped, regrows-all, regrown-means}
 use Rattle.grammar.specs.Grammar.{Accepts}
-use Rattle.grammar.proofs.Agree.{sound, complete, one-tree as agree-one-tree}
+use Rattle.grammar.proofs.Sound.{sound, one-tree as agree-one-tree}
+use Rattle.grammar.proofs.Complete.{complete}
 use Rattle.reader.proofs.Parts.{inside as span-is}
 use Rattle.writer.proofs.Theorems.{delivered}
 use Rattle.demands.specs.One.{ReadOrder}
 use Rattle.demands.specs.Two.{AcceptedExactly, ReadExactly, JudgedExactly, OneTree, BodiesFound, HandedOut, TreeHandedOut, SliceHandedOut, WrittenReadsBack}
-use Rattle.demands.proofs.Laws.{never, of-object, tree-given, located-lies, has-meaning}
+use Rattle.demands.proofs.Laws.{of-object, tree-given, located-lies, has-meaning}
 use Rattle.demands.proofs.One.{read-in-order, read-records-in-order, write-in-order}
 
 pub accepted-exactly : AcceptedExactly

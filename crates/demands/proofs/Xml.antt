@@ -14,6 +14,7 @@ use Rattle.octets.specs.declared.counts.Octets.{Octets as OctetCount}
 use Rattle.octets.specs.Counts.{sizeOf}
 use Rattle.octets.specs.Numbers.{among, Octets}
 use Rattle.octets.proofs.Lists.{sets-none, drop-sets}
+use Rattle.octets.proofs.Tests.{never}
 use Rattle.format.specs.declared.Refusal.{Refusal}
 use Rattle.format.specs.declared.WriteAnswer.{WriteAnswer}
 use Rattle.format.specs.declared.WriteAnswer.the-variants.{Octets as Written, NotWritten}
@@ -39,7 +40,7 @@ use Rattle.demands.specs.One.Refuses.{forObject, forCall}
 use Rattle.demands.specs.One.Ends.{answered, refusedAt}
 use Rattle.demands.specs.Xml.{ExportRefuses, ExportEnds, ExportOrder, ExportInOrder, XmlExactly, XmlText, XmlReadBack, LocalYears, ItemAsInXml, TextAsInXml}
 use Rattle.demands.specs.Xml.ExportRefuses.{asOthers, forPlain}
-use Rattle.demands.proofs.Laws.{never, of-object}
+use Rattle.demands.proofs.Laws.{of-object}
 
 -- ---- the four ways in which a call ends
 

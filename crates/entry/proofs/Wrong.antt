@@ -4,6 +4,7 @@ use mathlib.Core.List.{List, [], _∷_}
 use Prim.Native.Nat.{ℕ}
 use native.Mathlib.Omega.{arith}
 use lib.ListN.{getD}
+use Rattle.octets.proofs.Tests.{never}
 use Rattle.values.specs.Table.{attribute}
 use Rattle.format.specs.declared.Record.{Record}
 use Rattle.format.specs.declared.ReadAnswer.{ReadAnswer}
@@ -40,7 +41,7 @@ module _ (after : Lists) (slice′ : List Record) (r : ReadAnswer) where
 pub slice-not-counted : (after : Lists) (slice′ : List Record) → ReadRecordsClaim object two after short slice′ (Records (record { records = 2 })) → ⊥
 slice-not-counted after slice′ c =
     let h = with-short after slice′ (Records (record { records = 2 })) c .0 in
-    let z : _≡_ {A = ℕ} 0 1 = cc h in omega arith
+    never (cc h)
 
 -- one record stored and then refused: the slice is too short, or a list
 pub slice-begun : (after : Lists) (r : ReadAnswer) → ReadRecordsClaim object two after short (top ∷ []) r → ⊥

@@ -453,6 +453,6 @@ whole-cases = record {
 }
 
 -- an accepted object is one of the grammar, with its tree
-pub judged-accepts : (o : List ℕ) (t : Items) → Octets o → judge o ≡ accepted t → Accepts o t
+pub complete : (o : List ℕ) (t : Items) → Octets o → judge o ≡ accepted t → Accepts o t
 unfolding outermost
-judged-accepts o t os h = judged-all Whole whole-cases o t h .object refl refl refl refl os (accepted-size o t h .0) (accepted-size o t h .1)
+complete o t os h = judged-all Whole whole-cases o t h .object refl refl refl refl os (accepted-size o t h .0) (accepted-size o t h .1)

@@ -2,4 +2,3 @@ pub mod Headers
 pub mod Tags
 pub mod Sound
 pub mod Complete
-pub mod Agree

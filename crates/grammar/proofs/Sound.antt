@@ -23,7 +23,7 @@ use Rattle.format.specs.Tree.{Items, find}
 use Rattle.format.specs.Tree.Items.{end, item}
 use Rattle.format.specs.Judge.{Judged, isKnown, isItems, isTokens, isText, isValue, Context, read, isTop, allowed, latest, stageAfter, limit, notAbove, shown, ofTop, late, lateBefore, lateAfter, within, waits, next, unless, byKind, joined, followed, outermost, judge}
 use Rattle.format.specs.Judge.Judged.{accepted}
-use Rattle.format.proofs.Rules.{KindHeld, Held, Fitting, unbroken}
+use Rattle.format.proofs.Rules.{KindHeld, Held, Fitting, unbroken, same-tree}
 use Rattle.format.proofs.Place.{shown-other, attribute-other, allowed-attribute, allowed-cdata}
 use Rattle.format.proofs.Fuel.{read-end, read-item, judge-read}
 use Rattle.format.proofs.Late.{late-append}
@@ -535,8 +535,12 @@ top-reads o t a =
     (after-top (a .tag) 0 (0 + a .start + length (a .body)) (a .body) (a .top))
 
 -- an object of the grammar is accepted with its tree
-pub accepts-judged : (o : List ℕ) (t : Items) → Accepts o t → judge o ≡ accepted t
-accepts-judged o t a =
+pub sound : (o : List ℕ) (t : Items) → Accepts o t → judge o ≡ accepted t
+sound o t a =
     let g = begun (a .tag) (a .start) (a .body) [] o (a .whole) in
     let l : 1 ≤ length o = rw (g .1) (omega arith) in
     judge-read o l (a .small) ∙ (top-reads o t a ∙ rw (zero-add (a .start), a .tree))
+
+-- octets are an object with one tree at most
+pub one-tree : (o : List ℕ) (t u : Items) → Accepts o t → Accepts o u → t ≡ u
+one-tree o t u a b = same-tree t u (sym (sound o t a) ∙ sound o u b)

@@ -15,6 +15,7 @@ use Rattle.octets.specs.declared.Lies.{Lies}
 use Rattle.octets.specs.declared.Lies.the-variants.{Outside}
 use Rattle.octets.specs.Places.{liesAt, firstBody, afterFirst, between}
 use Rattle.octets.proofs.Places.{Lying, not-whole, body-is, later-is, tag-is}
+use Rattle.octets.proofs.Tests.{never}
 use Rattle.values.specs.Table.{known, attribute}
 use Rattle.values.proofs.Known.{items-no-attribute, items-tag, known-anywhere}
 use Rattle.format.specs.declared.Refusal.{Refusal}
@@ -22,7 +23,7 @@ use Rattle.format.specs.Tree.{Items}
 use Rattle.format.specs.Tree.Items.{end, item}
 use Rattle.format.specs.Judge.{Judged, Context, isKnown, isItems, isValue, broken, unless, byKind, joined, followed, late, within, next, read}
 use Rattle.format.specs.Judge.Judged.{refused, accepted}
-use Rattle.format.proofs.Rules.{held, fitting, unless-none, unless-accepted, never, same-tree}
+use Rattle.format.proofs.Rules.{held, fitting, unless-none, unless-accepted, same-tree}
 use Rattle.format.proofs.Means.{items-known}
 use Rattle.format.proofs.Fuel.{read-item, read-end}
 use Rattle.reader.specs.Filling.{Accepts, share}
@@ -38,20 +39,20 @@ record Parted (a b : Bool) (tag start : ℕ) (body : List ℕ) (inner later : Ju
 module _ (tag start : ℕ) (body : List ℕ) (t : Items) where
   followed-parted : (inner later : Judged) → followed (item tag start body end) later ≡ accepted t → Parted false true tag start body inner later t
   unfolding followed
-  followed-parted inner (refused r) h = never r t h
-  followed-parted inner (accepted v) h = record { u = end; v = v; inside = λ e. let z : _≡_ {A = ℕ} 0 1 = cc in absurd (omega arith); after = refl; tree = sym (same-tree (item tag start body end v) t h) }
+  followed-parted inner (refused r) h = never (cc)
+  followed-parted inner (accepted v) h = record { u = end; v = v; inside = λ e. never (cc); after = refl; tree = sym (same-tree (item tag start body end v) t h) }
 
   joined-parted : (b : Bool) (inner later : Judged) → joined (item tag start body) inner later ≡ accepted t → Parted true b tag start body inner later t
   unfolding joined followed
-  joined-parted b (refused r) later h = never r t h
-  joined-parted b (accepted u) (refused r) h = never r t h
+  joined-parted b (refused r) later h = never (cc)
+  joined-parted b (accepted u) (refused r) h = never (cc)
   joined-parted b (accepted u) (accepted v) h = record { u = u; v = v; inside = λ e. refl; after = refl; tree = sym (same-tree (item tag start body u v) t h) }
 
   parted : (a b : Bool) (inner later : Judged) → cond a (joined (item tag start body) inner later) (cond b (followed (item tag start body end) later) later) ≡ accepted t
       → Parted a b tag start body inner later t
   parted true b inner later h = joined-parted b inner later h
   parted false true inner later h = followed-parted inner later h
-  parted false false inner later h = record { u = end; v = t; inside = λ e. let z : _≡_ {A = ℕ} 0 1 = cc in absurd (omega arith); after = h; tree = refl }
+  parted false false inner later h = record { u = end; v = t; inside = λ e. never (cc); after = h; tree = refl }
 
 -- the first item, of a tag, with a body from an offset on, and what comes after it, behind another offset
 pub record Opened (parent depth tag from behind : ℕ) (body rest : List ℕ) (t : Items) : Type 0 where

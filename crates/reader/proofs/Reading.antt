@@ -7,6 +7,7 @@ use native.Mathlib.Omega.{arith}
 use lib.Dec.{leb}
 use lib.ListN.{length}
 use borrow.Author.Tests.{le-leb, lt-leb}
+use Rattle.octets.proofs.Tests.{never}
 use Rattle.format.specs.declared.Refusal.{Refusal}
 use Rattle.format.specs.declared.Counts.{Counts}
 use Rattle.format.specs.declared.ReadAnswer.{ReadAnswer}
@@ -25,7 +26,7 @@ use Rattle.reader.specs.Filling.{Accepts, Fillable, Filled, Fills}
 pub was-refused : (j : Judged) (r : Refusal) → NotRead r ≡ judgeAnswer j → j ≡ refused r
 unfolding judgeAnswer
 was-refused (refused q) r h = cc
-was-refused (accepted t) r h = let z : _≡_ {A = ℕ} 0 1 = cc in absurd (omega arith)
+was-refused (accepted t) r h = never (cc)
 
 pub record Taken (j : Judged) (c : Counts) : Type 0 where
   pub tree : Items
@@ -34,7 +35,7 @@ pub record Taken (j : Judged) (c : Counts) : Type 0 where
 
 pub was-accepted : (j : Judged) (c : Counts) → Records c ≡ judgeAnswer j → Taken j c
 unfolding judgeAnswer
-was-accepted (refused q) c h = let z : _≡_ {A = ℕ} 0 1 = cc in absurd (omega arith)
+was-accepted (refused q) c h = never (cc)
 was-accepted (accepted t) c h = let e : c ≡ record { records = count t } = cc in record { tree = t; is = refl; many = ap (λ x. x .records) e }
 
 -- an accepted object is accepted as the items of the object

@@ -6,6 +6,7 @@ use native.Mathlib.Omega.{arith}
 use lib.ListN.{getD}
 use Rattle.octets.specs.Numbers.{among, value}
 use Rattle.octets.specs.Header.{headerSize, bodySize}
+use Rattle.octets.proofs.Tests.{never}
 use Rattle.text.specs.Text.{layout, token, character, single, goesOn, utf8, text}
 use Rattle.text.specs.Tokens.{entry, orItself, stands, expanded, present, covers, covered, shownLength}
 use Rattle.values.specs.Table.{rows, kindIn, known, attribute}
@@ -90,10 +91,10 @@ module _ (after : Lists) (r : ReadAnswer) where
 -- ---- read: records where there are too few places for them; the longest list for the places; the refusal at the object's end; one record written and then
 -- refused
 pub read-without-place : (after : Lists) → ReadClaim object one after (Records (record { records = 2 })) → ⊥
-read-without-place after c = let h = with-one after (Records (record { records = 2 })) c .0 in let z : _≡_ {A = ℕ} 0 1 = cc h in omega arith
+read-without-place after c = let h = with-one after (Records (record { records = 2 })) c .0 in never (cc h)
 
 pub read-longest : (after : Lists) → ReadClaim object uneven after (Records (record { records = 2 })) → ⊥
-read-longest after c = let h = with-uneven after (Records (record { records = 2 })) c in let z : _≡_ {A = ℕ} 0 1 = cc h in omega arith
+read-longest after c = let h = with-uneven after (Records (record { records = 2 })) c in never (cc h)
 
 pub read-refused-at-end : (after : Lists) → ReadClaim object one after (NotRead (refusal 14 6)) → ⊥
 read-refused-at-end after c = let z : _≡_ {A = ℕ} 6 0 = ap (λ a. readOutcome a .place) (with-one after (NotRead (refusal 14 6)) c .0) in omega arith
@@ -137,10 +138,10 @@ module _ (after : Lists) (r : ReadAnswer) where
   with-wide-limit c = rw judged at (c .answers)
 
 pub limit-unheeded : (after : Lists) → ReadAtMostClaim object 1 two after (Records (record { records = 2 })) → ⊥
-limit-unheeded after c = let h = with-limit after (Records (record { records = 2 })) c .0 in let z : _≡_ {A = ℕ} 0 1 = cc h in omega arith
+limit-unheeded after c = let h = with-limit after (Records (record { records = 2 })) c .0 in never (cc h)
 
 pub limit-for-places : (after : Lists) → ReadAtMostClaim object 2 one after (Records (record { records = 2 })) → ⊥
-limit-for-places after c = let h = with-wide-limit after (Records (record { records = 2 })) c in let z : _≡_ {A = ℕ} 0 1 = cc h in omega arith
+limit-for-places after c = let h = with-wide-limit after (Records (record { records = 2 })) c in never (cc h)
 
 pub limit-overrun : (r : ReadAnswer) → ReadAtMostClaim object 1 two (put 1 inner (put 0 top two)) r → ⊥
 limit-overrun r c = let z : _≡_ {A = ℕ} 3 9 = ap (λ l. getD (l .tags) 0 0) (with-limit (put 1 inner (put 0 top two)) r c .1) in omega arith

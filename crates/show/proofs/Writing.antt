@@ -1,6 +1,6 @@
 -- The ways through the calls: what is left of a text while it is stored, digits from the last one on, words, and the answers.
 use mathlib.Core.Path.{_≡_, refl, sym, ap, _∙_}
-use mathlib.Core.Bool.{Bool, true, false}
+use mathlib.Core.Bool.{Bool, true}
 use mathlib.Core.List.{List, [], _∷_, _++_, append-nil}
 use Prim.Native.Nat.{ℕ, zero, suc, _+_, _-_, _*_, _/_, _%_, _^_, _≤_, _<_}
 use native.Mathlib.Numerals.{add-one}
@@ -10,83 +10,35 @@ use lib.ListN.{length, drop, getD, set, length-append, length-set, drop-of-lengt
 use lib.Seq.{sets, length-sets, append-snoc}
 use mir.Syntax.{w64}
 use mir.Val.{Fits}
-use borrow.Author.Tests.{le-leb, lt-leb, leb-true, leb-false, lt-ltb, le-ltb, ne-eqb}
+use borrow.Author.Tests.{lt-ltb, le-ltb, ne-eqb, not-true, not-false}
 use Rattle.show.specs.Digits.{decimal, hexDigit, twoDigits, hexLower, hexUpper}
 use Rattle.octets.specs.Puts.{Puts}
 use Rattle.octets.specs.declared.Put.{Put}
 use Rattle.octets.proofs.Lists.{sets-append, set-sets, drop-next}
-use Rattle.octets.proofs.Puts.{puts-none, puts-done, put-done as told-done, put-room as told-room, put-there}
+use Rattle.octets.proofs.Left.{Left, left-begin, left-end, left-one, left-room, left-more}
+use Rattle.octets.proofs.Puts.{puts-done, asked-none, asked-room, put-done as told-done, put-room as told-room, put-there}
 use Rattle.format.specs.declared.Record.{Record}
 use Rattle.format.specs.declared.Refusal.{Refusal}
 use Rattle.show.specs.Lines.{ascii, line, kindName, recordLine, recordsLine, fieldOf, refusalLine, fieldReasons, fieldReason, reasons, refusalWords}
 use Rattle.show.specs.Storing.{Wrote, Few}
 use Rattle.show.proofs.Digits.{decimal-one, decimal-more, length-more, decimal-some, decimal-few}
 
--- ---- room
-
-module _ (room at size : ℕ) where
-  pub room-outside : room < at → false ≡ leb (at + size) room
-  room-outside h = sym (lt-leb (at + size) room (omega arith))
-
-  pub room-rest : at ≤ room → leb size (room - at) ≡ leb (at + size) room
-  room-rest h = go (leb size (room - at)) refl
-    where
-      go : (b : Bool) → leb size (room - at) ≡ b → leb size (room - at) ≡ leb (at + size) room
-      go true e = e ∙ sym (le-leb (at + size) room (omega (arith, leb-true size (room - at) e)))
-      go false e = e ∙ sym (lt-leb (at + size) room (omega (arith, leb-false size (room - at) e)))
-
-pub ruleset room-ways = (room-outside, room-rest)
-
 -- ---- the answers
 
-module _ (text : List ℕ) (at : ℕ) (out : List ℕ) (size : ℕ) (s : size ≡ length text) (b : Bool) (k : b ≡ leb (at + size) (length out)) where
-  pub put-none : b ≡ false → Puts true text at out out Put.NoRoom
-  put-none q = puts-none true text at out refl (omega (arith, s, leb-false (at + size) (length out) (sym k ∙ q)))
+pub put-done : (text : List ℕ) (at : ℕ) (out : List ℕ) (size : ℕ) → size ≡ length text → (b : Bool) → b ≡ leb (at + size) (length out) → b ≡ true → (out′ : List ℕ) (end : ℕ)
+    → Wrote text at out out′ end → Puts true text at out out′ (Put.Done end)
+put-done text at out size s b k q out′ end w = puts-done true text at out refl out′ end (asked-room true text at out size s b k q) (w .leaves) (w .ends)
 
-  module _ (q : b ≡ true) where
-    pub put-room : at + length text ≤ length out
-    put-room = omega (arith, leb-true (at + size) (length out) (sym k ∙ q))
-
-    pub put-done : (out′ : List ℕ) (end : ℕ) → Wrote text at out out′ end → Puts true text at out out′ (Put.Done end)
-    put-done out′ end w = puts-done true text at out refl out′ end put-room (w .leaves) (w .ends)
+pub ruleset put-ways = (asked-none, asked-room, put-done, not-true, not-false)
 
 -- ---- what is left of a text while it is stored
 
-pub record Left (text : List ℕ) (at : ℕ) (out₀ rest out : List ℕ) (to : ℕ) : Type 0 where
-  pub room : to + length rest ≤ length out
-  pub long : length out ≡ length out₀
-  pub same : sets out to rest ≡ sets out₀ at text
-  pub ends : to + length rest ≡ at + length text
-
-pub left-begin : (text : List ℕ) (at : ℕ) (out : List ℕ) → at + length text ≤ length out → Left text at out text out at
-left-begin text at out h = record { room = h; long = refl; same = refl; ends = refl }
-
 module _ (text : List ℕ) (at : ℕ) (out₀ : List ℕ) where
   pub left-done : (out : List ℕ) (to : ℕ) → Left text at out₀ [] out to → Wrote text at out₀ out to
-  left-done out to v = record { ends = omega (arith, v .ends); leaves = v .same }
+  left-done out to v = record { ends = left-end text at out₀ out to v; leaves = v .same }
 
-  pub left-one : (x : ℕ) (rest out : List ℕ) (to : ℕ) → Left text at out₀ (x ∷ rest) out to → Left text at out₀ rest (set out to x) (to + 1)
-  left-one x rest out to v =
-      record {
-        room = rw length-set (omega (arith, v .room));
-        long = length-set out to x ∙ v .long;
-        same = ap (λ (n : ℕ). sets (set out to x) n rest) (add-one to) ∙ v .same;
-        ends = omega (arith, v .ends);
-      }
-
-  module _ (p rest out : List ℕ) (to : ℕ) (v : Left text at out₀ (p ++ rest) out to) where
-    pub left-room : to + length p ≤ length out
-    left-room = omega (arith, v .room, length-append p rest)
-
-    pub left-more : (out′ : List ℕ) (to′ : ℕ) → Wrote p to out out′ to′ → Left text at out₀ rest out′ to′
-    left-more out′ to′ w =
-        let e : length out′ ≡ length out = ap length (w .leaves) ∙ length-sets out to p in
-        record {
-          room = omega (arith, v .room, length-append p rest, w .ends, e);
-          long = e ∙ v .long;
-          same = ap (λ (n : ℕ). sets out′ n rest) (w .ends) ∙ ap (λ (o : List ℕ). sets o (to + length p) rest) (w .leaves) ∙ sets-append out to p rest ∙ v .same;
-          ends = omega (arith, v .ends, length-append p rest, w .ends);
-        }
+  pub left-wrote : (p rest out : List ℕ) (to : ℕ) → Left text at out₀ (p ++ rest) out to → (out′ : List ℕ) (to′ : ℕ) → Wrote p to out out′ to′ → Left text at out₀ rest out′ to′
+  left-wrote p rest out to v out′ to′ w = left-more text at out₀ p rest out to v out′ to′ (w .leaves) (w .ends)
 
 pub wrote-long : (text : List ℕ) (at : ℕ) (out out′ : List ℕ) (to : ℕ) → Wrote text at out out′ to → length out′ ≡ length out
 wrote-long text at out out′ to w = ap length (w .leaves) ∙ length-sets out at text
@@ -257,7 +209,7 @@ module _ (out₀ : List ℕ) (at : ℕ) (s : List ℕ) where
 
       pub hex-again : (out′ : List ℕ) (to′ : ℕ) → Wrote (twoDigits 97 (getD s i 0)) to out out′ to′ → Hexing out₀ at s out′ to′ (i + 1)
       hex-again out′ to′ w =
-          record { within = omega arith; left = left-more (hexLower s) at out₀ (twoDigits 97 (getD s i 0)) (hexLower (drop (i + 1) s)) out to rest out′ to′ w }
+          record { within = omega arith; left = left-wrote (hexLower s) at out₀ (twoDigits 97 (getD s i 0)) (hexLower (drop (i + 1) s)) out to rest out′ to′ w }
 
 pub ruleset hex-ways = (hex-begin, hex-long, hex-done, hex-room, hex-again)
 
@@ -272,7 +224,7 @@ module _ (w : List ℕ) (b at : ℕ) (out : List ℕ) (h : at + length (w ++ (b 
 
   module _ (out′ : List ℕ) (to : ℕ) (k : Wrote w at out out′ to) where
     last : Left (w ++ (b ∷ [])) at out (b ∷ []) out′ to
-    last = left-more (w ++ (b ∷ [])) at out w (b ∷ []) out at behind out′ to k
+    last = left-wrote (w ++ (b ∷ [])) at out w (b ∷ []) out at behind out′ to k
 
     pub word-in : to < length out′
     word-in = omega (arith, last .room)
@@ -457,13 +409,6 @@ pub ruleset refusal-size-ways = (refusal-field-length, refusal-length)
 
 pub words-same : (words : ℕ → List ℕ) (n k : ℕ) → n ≡ k → (at : ℕ) (out out′ : List ℕ) (r : Put) → Puts true (words k) at out out′ r → Puts true (words n) at out out′ r
 words-same words n k e at out out′ r p = rw e p
-
-pub above : {k : ℕ} (n : ℕ) → k ≤ n → (n ≡ k → ⊥) → suc k ≤ n
-above {k} n h f = go (leb (suc k) n) refl
-  where
-    go : (b : Bool) → leb (suc k) n ≡ b → suc k ≤ n
-    go true e = leb-true (suc k) n e
-    go false e = let same : n ≡ k = omega (arith, leb-false (suc k) n e) in absurd (f same)
 
 pub words-other : (field n : ℕ) → 18 ≤ n → refusalWords field n ≡ ascii "no such refusal"
 unfolding refusalWords reasons

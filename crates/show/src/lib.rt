@@ -7,11 +7,11 @@ use format::Refusal;
 use octets::Octets;
 use octets::Put;
 use octets::copy_into;
+use octets::has_room;
 ghost use mathlib.Core.Path.{_≡_};
 ghost use mathlib.Core.Bool.{true};
 ghost use mathlib.Core.List.{[], _∷_, _++_};
 ghost use Prim.Native.Nat.{_+_, _≤_, _<_};
-ghost use lib.Dec.{leb};
 ghost use lib.ListN.{length};
 ghost use Rattle.octets.specs.Puts.{Puts};
 ghost use Rattle.show.specs.Digits.{decimal, hexDigit, twoDigits, hexLower, hexUpper};
@@ -25,15 +25,6 @@ const LOWER: u8 = b'a';
 const SPACE: u8 = b' ';
 
 const NEWLINE: u8 = b'\n';
-
-fn has_room(room: Octets, at: usize, size: Octets) -> bool
-    ensures { λ r. ⌜ r ≡ leb (at + size .0) (room .0) ⌝ }
-{
-    if at > room.0 {
-        return false;
-    }
-    size.0 <= room.0 - at
-}
 
 // ---- what stores
 

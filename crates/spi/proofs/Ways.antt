@@ -1,12 +1,8 @@
 -- The ways through the program's functions that aren't arithmetic alone: where octets first differ, a normal form and an XML within their room, items that lie in a part.
 use mathlib.Core.Path.{_≡_, refl}
-use mathlib.Core.Bool.{false}
 use mathlib.Core.List.{List}
 use Prim.Native.Nat.{ℕ, suc, _+_, _-_, _^_, _≤_, _<_}
 use native.Mathlib.Omega.{arith}
-use lib.Dec.{T}
-use lib.IntN.{ℤ, pos, negsuc}
-use lib.Signed.{ltZ, nonNeg}
 use lib.ListN.{length, take, drop, getD, drop-of-length-le}
 use mir.Syntax.{w64}
 use mir.Val.{Fits}
@@ -105,9 +101,3 @@ module _ (part : List ℕ) (at : ℕ) (r : Lies) (e : r ≡ liesAt part at) (h :
   item-from offset b = omega (arith, within)
 
 pub ruleset item-ways = (item-ordered, item-inside, item-nearer, item-body, item-from)
-
--- ---- a number that isn't negative
-
-pub not-negative : (z : ℤ) → ltZ z (pos 0) ≡ false → T (nonNeg z)
-not-negative (pos n) e = tt
-not-negative (negsuc n) e = let z : _≡_ {A = ℕ} 0 1 = cc in absurd (omega arith)

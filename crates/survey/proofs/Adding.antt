@@ -9,6 +9,7 @@ use lib.Dec.{eqb, leb}
 use lib.ListN.{length}
 use Rattle.octets.specs.declared.counts.Octets.{Octets as OctetCount}
 use Rattle.octets.specs.Counts.{asOctets}
+use Rattle.octets.proofs.Tests.{never}
 use Rattle.text.specs.Tokens.{Entries}
 use Rattle.values.specs.declared.Kind.{Kind}
 use Rattle.values.specs.declared.Kind.the-variants.{HoldsNumber}
@@ -71,24 +72,24 @@ module _ (T : Entries) (p tag start : ℕ) (body : List ℕ) where
 
     nothing-by : (a b c : Bool) → c ≡ eqb tag 4 → Nothing ≡ partly a b c → Has T p (shared a b) 0 0
     unfolding roomIn sizeIn
-    nothing-by true b c e h = let z : _≡_ {A = ℕ} 0 1 = cc in absurd (omega arith)
+    nothing-by true b c e h = never (cc)
     nothing-by false true true e h = record { room = rw (sym e); size = rw (sym e) }
-    nothing-by false true false e h = let z : _≡_ {A = ℕ} 0 1 = cc in absurd (omega arith)
+    nothing-by false true false e h = never (cc)
     nothing-by false false c e h = record { room = refl; size = refl }
 
     octets-by : (a b c : Bool) → a ≡ opens tag → c ≡ eqb tag 4 → defaultOctets p tag body ≡ false → (n : OctetCount) → Octets n ≡ partly a b c
         → (n .0 ≡ min 32_769 (length (taken T (known p tag) body))) × Has T p (shared a b) (length (taken T (known p tag) body)) (framedSize (length (taken T (known p tag) body)))
     unfolding roomIn sizeIn
-    octets-by true b c o e d n h = let z : _≡_ {A = ℕ} 0 1 = cc in absurd (omega arith)
-    octets-by false true true o e d n h = let z : _≡_ {A = ℕ} 0 1 = cc in absurd (omega arith)
+    octets-by true b c o e d n h = never (cc)
+    octets-by false true true o e d n h = never (cc)
     octets-by false true false o e d n h = (cc, record { room = rw (sym e, sym o) (omega arith); size = rw (sym e, d, sym o) (omega arith) })
-    octets-by false false c o e d n h = let z : _≡_ {A = ℕ} 0 1 = cc in absurd (omega arith)
+    octets-by false false c o e d n h = never (cc)
 
     inside-by : (a b c : Bool) → a ≡ opens tag → Inside ≡ partly a b c → a ≡ true
     inside-by true b c o h = refl
-    inside-by false true true o h = let z : _≡_ {A = ℕ} 0 1 = cc in absurd (omega arith)
-    inside-by false true false o h = let z : _≡_ {A = ℕ} 0 1 = cc in absurd (omega arith)
-    inside-by false false c o h = let z : _≡_ {A = ℕ} 0 1 = cc in absurd (omega arith)
+    inside-by false true true o h = never (cc)
+    inside-by false true false o h = never (cc)
+    inside-by false false c o h = never (cc)
 
     pub adds-nothing : Nothing ≡ partOf T (known p tag) body → Has T p own 0 0
     unfolding partOf share

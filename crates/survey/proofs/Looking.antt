@@ -13,6 +13,7 @@ use Rattle.octets.specs.Header.{headerSize, bodySize}
 use Rattle.octets.specs.declared.Lies.{Lies}
 use Rattle.octets.specs.declared.Lies.the-variants.{Outside, Between}
 use Rattle.octets.specs.Places.{firstBody, afterFirst, liesAt}
+use Rattle.octets.proofs.Tests.{never}
 use Rattle.octets.proofs.Lists.{length-part}
 use Rattle.octets.proofs.Places.{Lying, lying, to-inside, ordered, nearer, bounds, body-is, later-is, tag-is}
 use Rattle.values.specs.Table.{known}
@@ -38,19 +39,19 @@ record Told (s : Step) (o i : Bool) : Type 0 where
 
 told : (o i : Bool) (s : Step) → s ≡ cond o Picked (cond i Into Past) → Told s o i
 told true i s e = record {
-  past = λ q. let z : _≡_ {A = ℕ} 0 1 = cc in absurd (omega arith);
-  into = λ q. let z : _≡_ {A = ℕ} 0 1 = cc in absurd (omega arith);
+  past = λ q. never (cc);
+  into = λ q. never (cc);
   picked = λ q. refl;
 }
 told false true s e = record {
-  past = λ q. let z : _≡_ {A = ℕ} 0 1 = cc in absurd (omega arith);
+  past = λ q. never (cc);
   into = λ q. (refl, refl);
-  picked = λ q. let z : _≡_ {A = ℕ} 0 1 = cc in absurd (omega arith);
+  picked = λ q. never (cc);
 }
 told false false s e = record {
   past = λ q. (refl, refl);
-  into = λ q. let z : _≡_ {A = ℕ} 0 1 = cc in absurd (omega arith);
-  picked = λ q. let z : _≡_ {A = ℕ} 0 1 = cc in absurd (omega arith);
+  into = λ q. never (cc);
+  picked = λ q. never (cc);
 }
 
 module _ (P : ℕ → ℕ → Bool) (parent tag left place from : ℕ) (body : List ℕ) (s : Step) (e : s ≡ stepOf P parent tag) where
@@ -108,15 +109,15 @@ none-left P (suc k) parent at = refl
 place-here : (p i : Bool) (place : ℕ) (inner later : Option ℕ) (found : ℕ) → At found ≡ placeOf (cond p (some place) (cond i inner none)) → At found ≡ placeOf (cond p (some place) (orElse (cond i inner none) later))
 unfolding placeOf orElse
 place-here true i place inner later found e = e
-place-here false true place none later found e = let z : _≡_ {A = ℕ} 0 1 = cc in absurd (omega arith)
+place-here false true place none later found e = never (cc)
 place-here false true place (some x) later found e = e
-place-here false false place inner later found e = let z : _≡_ {A = ℕ} 0 1 = cc in absurd (omega arith)
+place-here false false place inner later found e = never (cc)
 
 place-later : (p i : Bool) (place : ℕ) (inner later : Option ℕ) → Nowhere ≡ placeOf (cond p (some place) (cond i inner none)) → cond p (some place) (orElse (cond i inner none) later) ≡ later
 unfolding placeOf orElse
-place-later true i place inner later e = let z : _≡_ {A = ℕ} 0 1 = cc in absurd (omega arith)
+place-later true i place inner later e = never (cc)
 place-later false true place none later e = refl
-place-later false true place (some x) later e = let z : _≡_ {A = ℕ} 0 1 = cc in absurd (omega arith)
+place-later false true place (some x) later e = never (cc)
 place-later false false place inner later e = refl
 
 module _ (P : ℕ → ℕ → Bool) (parent left : ℕ) (part : List ℕ) (offset : ℕ) where
@@ -228,9 +229,9 @@ look-whole P object r w t h = w 1 t (suc (length object)) refl (omega arith) (wh
 pub place-none : (o : Option ℕ) → Nowhere ≡ placeOf o → o ≡ none
 unfolding placeOf
 place-none none e = refl
-place-none (some x) e = let z : _≡_ {A = ℕ} 0 1 = cc in absurd (omega arith)
+place-none (some x) e = never (cc)
 
 pub place-some : (o : Option ℕ) (place : ℕ) → At place ≡ placeOf o → o ≡ some place
 unfolding placeOf
-place-some none place e = let z : _≡_ {A = ℕ} 0 1 = cc in absurd (omega arith)
+place-some none place e = never (cc)
 place-some (some x) place e = let z : x ≡ place = cc in ap some z

@@ -18,8 +18,8 @@ use Rattle.octets.specs.Places.{liesAt}
 use Rattle.text.specs.Tokens.{Entries}
 use Rattle.values.specs.Table.{known, defaults, defaultIn}
 use Rattle.values.specs.Calls.{defaultOctets}
-use Rattle.octets.proofs.Tests.{and-left}
 use Rattle.octets.proofs.Places.{Lying, lying, to-inside}
+use Rattle.octets.proofs.Tests.{and-left, never, not-chosen}
 use Rattle.format.specs.Tree.{Items}
 use Rattle.format.specs.Tree.Items.{end}
 use Rattle.format.specs.Judge.{isKnown, isItems, isTokens}
@@ -47,11 +47,7 @@ sizes-has T p t store octets h = ap₂ sizesOf (sym (h .room)) (sym (h .size))
 -- what isn't kept is no default
 plainly : (T : Entries) (p tag : ℕ) (body : List ℕ) (x : Part) → (Kept ≡ x → ⊥) → x ≡ partIn T p tag body → (defaultOctets p tag body ≡ false) × (x ≡ partOf T (known p tag) body)
 unfolding partIn
-plainly T p tag body x n e = go (defaultOctets p tag body) refl e
-  where
-    go : (d : Bool) → defaultOctets p tag body ≡ d → x ≡ cond d Kept (partOf T (known p tag) body) → (defaultOctets p tag body ≡ false) × (x ≡ partOf T (known p tag) body)
-    go true d w = absurd (n (sym w))
-    go false d w = (d, w)
+plainly T p tag body x n e = not-chosen (defaultOctets p tag body) e (λ z. n (sym z))
 
 kept-only : (T : Entries) (p tag : ℕ) (body : List ℕ) → Kept ≡ partIn T p tag body → defaultOctets p tag body ≡ true
 unfolding partIn partOf
@@ -60,9 +56,9 @@ kept-only T p tag body e = go (defaultOctets p tag body) refl (isItems (known p 
     go : (d : Bool) → defaultOctets p tag body ≡ d → (a b : Bool)
         → Kept ≡ cond d Kept (cond a Inside (cond b (Octets (asOctets (min 32_769 (length (taken T (known p tag) body))))) Nothing)) → d ≡ true
     go true d a b w = refl
-    go false d true b w = let z : _≡_ {A = ℕ} 0 1 = cc in absurd (omega arith)
-    go false d false true w = let z : _≡_ {A = ℕ} 0 1 = cc in absurd (omega arith)
-    go false d false false w = let z : _≡_ {A = ℕ} 0 1 = cc in absurd (omega arith)
+    go false d true b w = never (cc)
+    go false d false true w = never (cc)
+    go false d false false w = never (cc)
 
 module _ (T : Entries) (p tag left : ℕ) (body : List ℕ) (x : Part) (xe : x ≡ partIn T p tag body) where
   pub item-nothing : x ≡ Nothing → ItemMeasured T p tag left body (Sizes (asOctets 0) (asOctets 0))
@@ -72,7 +68,7 @@ module _ (T : Entries) (p tag left : ℕ) (body : List ℕ) (x : Part) (xe : x �
   }
     where
       part : (defaultOctets p tag body ≡ false) × (Nothing ≡ partOf T (known p tag) body)
-      part = plainly T p tag body Nothing (λ e. let z : _≡_ {A = ℕ} 0 1 = cc in omega arith) (sym q ∙ xe)
+      part = plainly T p tag body Nothing (λ e. never (cc)) (sym q ∙ xe)
 
   pub item-kept : x ≡ Kept → ItemMeasured T p tag left body (Sizes (asOctets 1) (asOctets 0))
   unfolding defaultOctets
@@ -90,7 +86,7 @@ module _ (T : Entries) (p tag left : ℕ) (body : List ℕ) (x : Part) (xe : x �
   -- octets of its own
   module _ (n : OctetCount) (q : x ≡ Octets n) where
     octets-part : (defaultOctets p tag body ≡ false) × (Octets n ≡ partOf T (known p tag) body)
-    octets-part = plainly T p tag body (Octets n) (λ e. let z : _≡_ {A = ℕ} 0 1 = cc in omega arith) (sym q ∙ xe)
+    octets-part = plainly T p tag body (Octets n) (λ e. never (cc)) (sym q ∙ xe)
 
     abbrev whole : ℕ
     whole = length (taken T (known p tag) body)
@@ -109,7 +105,7 @@ module _ (T : Entries) (p tag left : ℕ) (body : List ℕ) (x : Part) (xe : x �
   -- the items inside it
   module _ (q : x ≡ Inside) where
     inside-part : (defaultOctets p tag body ≡ false) × (Inside ≡ partOf T (known p tag) body)
-    inside-part = plainly T p tag body Inside (λ e. let z : _≡_ {A = ℕ} 0 1 = cc in omega arith) (sym q ∙ xe)
+    inside-part = plainly T p tag body Inside (λ e. never (cc)) (sym q ∙ xe)
 
     holds : isItems (known p tag) ≡ true
     holds = holds-items T p tag 0 body end (inside-part .1)

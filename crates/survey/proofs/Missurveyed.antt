@@ -7,6 +7,7 @@ use lib.ListN.{length, getD}
 use borrow.Author.Tests.{lt-leb}
 use Rattle.octets.specs.Header.{headerSize, bodySize}
 use Rattle.octets.specs.declared.Lies.the-variants.{Outside, Between}
+use Rattle.octets.proofs.Tests.{never}
 use Rattle.values.specs.declared.Kind.the-variants.{HoldsItems, HoldsTokens, HoldsNumber}
 use Rattle.values.specs.declared.NumberKind.the-variants.{Enumerated}
 use Rattle.values.specs.declared.KnownKind.the-variants.{Unknown, Known}
@@ -27,7 +28,7 @@ use Rattle.survey.specs.Places.{tableWithin, firstTable, tableBody, span
 -- that an object fits which is refused
 pub fits-refused : (lent : Lent) (r : Refusal) → surveyed lent (refused r) ≡ Fits → ⊥
 unfolding surveyed
-fits-refused lent r h = let w : Bad r ≡ Fits = h in let z : _≡_ {A = ℕ} 0 1 = cc in absurd (omega arith)
+fits-refused lent r h = let w : Bad r ≡ Fits = h in never (cc)
 
 -- the refusal of a time without its field
 pub field-left-out : (lent : Lent) (place field : ℕ) → 0 < field → surveyed lent (refused (wrongValue place field)) ≡ Bad (refusal 9 place) → ⊥
@@ -50,12 +51,12 @@ store-before-places lent t h e =
 -- an item inside another one found
 pub inner-found : spanOfTag 0x29 (0x28 ∷ 0x02 ∷ 0x29 ∷ 0x00 ∷ []) ≡ Between 4 4 → ⊥
 unfolding spanOfTag spanWithin attribute headerSize bodySize
-inner-found h = let z : Outside ≡ Between 4 4 = h in let z : _≡_ {A = ℕ} 0 1 = cc in omega arith
+inner-found h = let z : Outside ≡ Between 4 4 = h in never (cc)
 
 -- an attribute found behind an element
 pub late-found : spanOfTag 0x80 (0x10 ∷ 0x00 ∷ 0x80 ∷ 0x01 ∷ 0x61 ∷ []) ≡ Between 4 5 → ⊥
 unfolding spanOfTag spanWithin attribute headerSize bodySize
-late-found h = let z : Outside ≡ Between 4 5 = h in let z : _≡_ {A = ℕ} 0 1 = cc in omega arith
+late-found h = let z : Outside ≡ Between 4 5 = h in never (cc)
 
 -- ---- table_of
 
@@ -87,19 +88,19 @@ last-found h = let z : _≡_ {A = ℕ} 0xBB 0xAA = ap (λ o. getD o 0 0) (sym h 
 -- the token table
 pub table-written : asKnown (writtenAs 0x03 0x04 []) ≡ Known HoldsTokens → ⊥
 unfolding asKnown writtenAs
-table-written h = let w : Unknown ≡ Known HoldsTokens = h in let z : _≡_ {A = ℕ} 0 1 = cc in omega arith
+table-written h = let w : Unknown ≡ Known HoldsTokens = h in never (cc)
 
 -- elements that hold items left out, where only values are looked for
 pub element-left-out : asKnown (writtenAs 0x03 0x28 []) ≡ Unknown → ⊥
 unfolding asKnown writtenAs defaultOctets known rows kindIn attribute
-element-left-out h = let w : Known HoldsItems ≡ Unknown = h in let z : _≡_ {A = ℕ} 0 1 = cc in omega arith
+element-left-out h = let w : Known HoldsItems ≡ Unknown = h in never (cc)
 
 -- a default
 pub default-written : asKnown (writtenAs 0x1C 0x83 (1 ∷ [])) ≡ Known (HoldsNumber Enumerated) → ⊥
 unfolding asKnown writtenAs defaultOctets defaultIn defaults
-default-written h = let w : Unknown ≡ Known (HoldsNumber Enumerated) = h in let z : _≡_ {A = ℕ} 0 1 = cc in omega arith
+default-written h = let w : Unknown ≡ Known (HoldsNumber Enumerated) = h in never (cc)
 
 -- an attribute that has a default and another value left out
 pub value-left-out : asKnown (writtenAs 0x1C 0x83 (2 ∷ [])) ≡ Unknown → ⊥
 unfolding asKnown writtenAs defaultOctets defaultIn defaults known rows kindIn attribute
-value-left-out h = let w : Known (HoldsNumber Enumerated) ≡ Unknown = h in let z : _≡_ {A = ℕ} 0 1 = cc in omega arith
+value-left-out h = let w : Known (HoldsNumber Enumerated) ≡ Unknown = h in never (cc)

@@ -78,6 +78,9 @@ module _ (o : List ℕ) (os : Octets o) (p q : ℕ) (same : getD o p 0 ≡ getD 
   long-middle e f n = omega (arith, n, f, read 2 1 (omega arith), low 2, low 3)
 
 module _ (o : List ℕ) (os : Octets o) (p q : ℕ) (same : getD o p 0 ≡ getD o q 0) (begins : p + headerSize (drop p o) ≡ q + headerSize (drop q o)) (sizes : bodySize (drop p o) ≡ bodySize (drop q o)) (tagged : 0 < getD o p 0) where
+  other : 0 < getD o q 0
+  other = omega (arith, same, tagged)
+
   one-form : Formed (drop p o) → Formed (drop q o) → p ≡ q
   one-form (short a b) (short c d) = omega (arith, a, c, begins)
   one-form (middle a x b) (middle c y d) = omega (arith, a, c, begins)
@@ -86,17 +89,8 @@ module _ (o : List ℕ) (os : Octets o) (p q : ℕ) (same : getD o p 0 ≡ getD 
   one-form (long a x b) (short c d) = absurd (long-short o os p q same tagged (omega (arith, a, c, begins)) (sym b ∙ sizes ∙ d))
   one-form (long a x b) (middle c y d) = absurd (long-middle o os p q same tagged (omega (arith, a, c, begins)) y (sym b ∙ sizes ∙ d))
   one-form (short a b) (middle c y d) = absurd (middle-short o os q p (sym same) other (omega (arith, a, c, begins)) (sym d ∙ sym sizes ∙ b))
-    where
-      other : 0 < getD o q 0
-      other = omega (arith, same, tagged)
   one-form (short a b) (long c y d) = absurd (long-short o os q p (sym same) other (omega (arith, a, c, begins)) (sym d ∙ sym sizes ∙ b))
-    where
-      other : 0 < getD o q 0
-      other = omega (arith, same, tagged)
   one-form (middle a x b) (long c y d) = absurd (long-middle o os q p (sym same) other (omega (arith, a, c, begins)) x (sym d ∙ sym sizes ∙ b))
-    where
-      other : 0 < getD o q 0
-      other = omega (arith, same, tagged)
 
 pub place-one : (o : List ℕ) → Octets o → (p q : ℕ) → itemAt o p ≡ itemAt o q → 0 < getD o p 0 → p + headerSize (drop p o) ≤ length o → p ≡ q
 place-one o os p q e t l =

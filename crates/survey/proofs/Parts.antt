@@ -25,6 +25,7 @@ use Rattle.values.specs.Table.{known}
 use Rattle.values.specs.Values.{fits, meant, octetsOf}
 use Rattle.values.specs.Calls.{normalOctets, normalSize, defaultOctets}
 use Rattle.octets.proofs.Answers.{size-five}
+use Rattle.octets.proofs.Tests.{chosen, not-chosen, never}
 use Rattle.text.proofs.Widths.{weight-is}
 use Rattle.values.proofs.Laws.{normal-sized, not-sized}
 use Rattle.values.proofs.DefaultValues.{default-enumerated}
@@ -125,21 +126,15 @@ module _ (T : Entries) (p tag : ℕ) (o : List ℕ) (r : Listed) (e : r ≡ list
   unfolding partOf
   part-nothing q =
       let w = is-nothing (known p tag) (sym q ∙ e) in
-      rw (w .0, w .1) (go (isTokens (known p tag))) ∙ plain-part (λ v. never (sym q ∙ v))
+      rw (w .0, w .1) (go (isTokens (known p tag))) ∙ plain-part (λ v. never (cc))
     where
-      never : listed.Nothing ≡ listed.Value (HoldsNumber Enumerated) → ⊥
-      never v = let z : _≡_ {A = ℕ} 0 1 = cc in omega arith
-
       go : (b : Bool) → Nothing ≡ cond (b && not b) (Octets (asOctets (min 32_769 (length (taken T (known p tag) o))))) Nothing
       go true = refl
       go false = refl
 
   pub part-inside : r ≡ listed.Inside → Inside ≡ partIn T p tag o
   unfolding partOf
-  part-inside q = rw (is-inside (known p tag) (sym q ∙ e) .0) refl ∙ plain-part (λ v. never (sym q ∙ v))
-    where
-      never : listed.Inside ≡ listed.Value (HoldsNumber Enumerated) → ⊥
-      never v = let z : _≡_ {A = ℕ} 0 1 = cc in omega arith
+  part-inside q = rw (is-inside (known p tag) (sym q ∙ e) .0) refl ∙ plain-part (λ v. never (cc))
 
   module _ (b : Bool) (d : b ≡ defaultOctets p tag o) where
     pub part-kept : b ≡ true → Kept ≡ partIn T p tag o
@@ -179,19 +174,11 @@ module _ (s n h : OctetCount) (e : h ≡ asOctets (suc (length (lengthField (n .
 
 pub over-says : (s n : ℕ) → Over ≡ sizesOf s n → 32_768 < n
 unfolding sizesOf
-over-says s n e = go (leb n 32_768) refl e
-  where
-    go : (b : Bool) → leb n 32_768 ≡ b → Over ≡ cond b (Sizes (asOctets s) (asOctets n)) Over → 32_768 < n
-    go true q p = let z : _≡_ {A = ℕ} 0 1 = cc in absurd (omega arith)
-    go false q p = leb-false n 32_768 q
+over-says s n e = leb-false n 32_768 (not-chosen (leb n 32_768) e (λ z. never (cc)) .0)
 
 pub sizes-say : (s n : ℕ) (a b : OctetCount) → Sizes a b ≡ sizesOf s n → (s ≡ a .0) × (n ≡ b .0)
 unfolding sizesOf
-sizes-say s n a b e = go (leb n 32_768) e
-  where
-    go : (c : Bool) → Sizes a b ≡ cond c (Sizes (asOctets s) (asOctets n)) Over → (s ≡ a .0) × (n ≡ b .0)
-    go true p = (cc, cc)
-    go false p = let z : _≡_ {A = ℕ} 0 1 = cc in absurd (omega arith)
+sizes-say s n a b e = let w = chosen (leb n 32_768) e (λ z. never (cc)) in (cc (w .1), cc (w .1))
 
 pub small-sizes : (m s n : ℕ) → s ≤ n + m → Small m (sizesOf s n)
 unfolding sizesOf

@@ -8,14 +8,14 @@ use native.Mathlib.Nat.{add-zero}
 use native.Mathlib.Omega.{arith}
 use lib.Dec.{eqb, leb, ltb}
 use lib.ListN.{length, drop, getD, drop-of-length-le}
-use lib.Seq.{getD-drop}
-use borrow.Author.Tests.{eqb-true, eqb-false, eq-eqb, ne-eqb, leb-true, le-leb, ltb-true, ltb-false}
+use borrow.Author.Tests.{eqb-true, eqb-false, eq-eqb, ne-eqb, leb-true, le-leb, ltb-true, ltb-false, not-true}
 use Rattle.octets.specs.Header.{headerSize, bodySize}
 use Rattle.octets.specs.declared.Lies.{Lies}
 use Rattle.octets.specs.declared.Lies.the-variants.{Outside, Between}
 use Rattle.octets.specs.Places.{firstBody, afterFirst, isWhole, liesAt, between}
 use Rattle.octets.proofs.Tests.{and-left, and-right, or-elim, or-left, cond-same}
 use Rattle.octets.proofs.Places.{Lying, lying, not-whole, bounds, later-is, fewer-after, none-whole}
+use Rattle.octets.proofs.Lists.{getD-here}
 use Rattle.values.specs.Table.{known, attribute}
 use Rattle.values.proofs.Known.{not-attribute}
 use Rattle.format.specs.Tree.{Items, find}
@@ -35,10 +35,6 @@ module _ (sought met : ℕ) (a : Bool) (ae : a ≡ attribute sought) where
   behind-by q b e = rw (sym ae ∙ q) (ap not e)
 
 pub ruleset behind-ways = (behind-no, behind-by)
-
-pub opposite : (b : Bool) → not b ≡ true → b ≡ false
-opposite true h = absurd (false≢true h)
-opposite false h = refl
 
 -- the order of items (rule 6): an attribute does not come where the order is past the attributes, nor behind an item that is none
 abbrev Barred : ℕ → Context → ℕ → List ℕ → Items → Type 0
@@ -159,8 +155,8 @@ module _ (part : List ℕ) (tag : ℕ) where
       seek-behind b e q p depth offset t a =
           let g = inv .goes p depth offset t a in
           let k : attribute tag && not (attribute (getD part at 0)) ≡ true = sym e ∙ q in
-          let x : getD (drop at part) 0 0 ≡ getD part at 0 = getD-drop at part 0 0 ∙ ap (λ i. getD part i 0) (add-zero at) in
-          let n = opposite (attribute (getD part at 0)) (and-right (attribute tag) (not (attribute (getD part at 0))) k) in
+          let x = getD-here part at 0 in
+          let n = not-true (attribute (getD part at 0)) (and-right (attribute tag) (not (attribute (getD part at 0))) k) in
           g .same ∙ barred tag p depth (offset + at) (drop at part) (g .rest) (g .accepts) (and-left (attribute tag) (not (attribute (getD part at 0))) k) (ap attribute x ∙ n)
 
       module _ (r : Lies) (re : r ≡ liesAt part at) where
@@ -261,7 +257,7 @@ module _ (part : List ℕ) (tag : ℕ) where
 
   module _ (at : ℕ) (inv : Spans part tag at) where
     tag-at : getD (drop at part) 0 0 ≡ getD part at 0
-    tag-at = getD-drop at part 0 0 ∙ ap (λ i. getD part i 0) (add-zero at)
+    tag-at = getD-here part at 0
 
     pub span-ended : length part ≤ at → Outside ≡ spanOfTag tag part
     unfolding spanWithin

@@ -9,6 +9,7 @@ use lib.ListN.{length}
 use borrow.Author.Tests.{leb-true, leb-false, le-leb, lt-leb}
 use Rattle.octets.specs.declared.counts.Octets.{Octets as OctetCount}
 use Rattle.octets.specs.Counts.{sizeOf}
+use Rattle.octets.proofs.Tests.{never}
 use Rattle.format.specs.declared.Refusal.{Refusal}
 use Rattle.format.specs.declared.Counts.{Counts}
 use Rattle.format.specs.declared.ReadAnswer.{ReadAnswer}
@@ -61,7 +62,7 @@ module _ (o : List ℕ) (v : ReadAnswer) (e : v ≡ judgeAnswer (judge o)) (lent
     where
       go : (j : Judged) → judge o ≡ j → Bad r ≡ surveyed lent (judge o)
       go (refused x) j = let w : NotRead r ≡ NotRead x = sym f ∙ e ∙ rw j in rw j cc
-      go (accepted t) j = let w : NotRead r ≡ Records (record { records = count t }) = sym f ∙ e ∙ rw j in let z : _≡_ {A = ℕ} 0 1 = cc in absurd (omega arith)
+      go (accepted t) j = let w : NotRead r ≡ Records (record { records = count t }) = sym f ∙ e ∙ rw j in never (cc)
 
   module _ (c : Counts) (f : v ≡ Records c) where
     record Judged-so : Type 0 where
@@ -74,7 +75,7 @@ module _ (o : List ℕ) (v : ReadAnswer) (e : v ≡ judgeAnswer (judge o)) (lent
     so = go (judge o) refl
       where
         go : (j : Judged) → judge o ≡ j → Judged-so
-        go (refused x) j = let w : Records c ≡ NotRead x = sym f ∙ e ∙ rw j in let z : _≡_ {A = ℕ} 0 1 = cc in absurd (omega arith)
+        go (refused x) j = let w : Records c ≡ NotRead x = sym f ∙ e ∙ rw j in never (cc)
         go (accepted t) j =
             let w : Records c ≡ Records (record { records = count t }) = sym f ∙ e ∙ rw j in
             let d : c ≡ record { records = count t } = cc in

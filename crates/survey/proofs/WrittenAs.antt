@@ -1,21 +1,21 @@
 -- Whether an item is written: the ways through the code, and what the answer says of the item.
 use mathlib.Core.Path.{_≡_, refl, sym, ap, _∙_}
-use mathlib.Core.Bool.{Bool, true, false, or-true}
+use mathlib.Core.Bool.{Bool, true, false, or-true, or-comm, _||_}
 use mathlib.Core.Logic.{_⊎_, inl, inr, ⊎-elim}
-use mathlib.Core.Option.{Option, none, some, Option·some-ne-none}
+use mathlib.Core.Option.{none, some, Option·some-ne-none}
 use mathlib.Core.List.{List, []}
 use Prim.Native.Nat.{ℕ}
-use native.Mathlib.Omega.{arith}
 use lib.Dec.{eqb}
 use borrow.Author.Tests.{eqb-true, ne-eqb}
 use Rattle.octets.specs.Header.{framed}
+use Rattle.octets.proofs.Tests.{never, not-chosen, or-right-false}
 use Rattle.values.specs.declared.Kind.{Kind}
 use Rattle.values.specs.declared.Kind.the-variants.{HoldsTokens}
 use Rattle.values.specs.declared.KnownKind.{KnownKind}
 use Rattle.values.specs.declared.KnownKind.the-variants.{Unknown, Known}
 use Rattle.values.specs.Table.{rows, kindIn, known, attribute}
 use Rattle.values.specs.Calls.{asKnown, knownKind, defaultOctets}
-use Rattle.values.proofs.Laws.{known-kind, unknown-kind}
+use Rattle.values.proofs.Laws.{unknown-kind, as-known, as-unknown}
 use Rattle.format.specs.Judge.{isItems}
 use Rattle.format.specs.Meaning.{opens, maybe}
 use Rattle.format.proofs.Means.{items-opens, attribute-shut}
@@ -60,21 +60,18 @@ module _ (p tag : ℕ) (body : List ℕ) (r : KnownKind) (e : r ≡ asKnown (wri
     pub counts : defaultOctets p tag body ≡ false
     pub kind : known p tag ≡ some k
 
-  pub written-kind : (k : Kind) → r ≡ Known k → Written k
-  unfolding asKnown writtenAs knownKind
-  written-kind k q = go (eqb tag 4) refl (defaultOctets p tag body) refl
-    where
-      none-known : Known k ≡ Unknown → ⊥
-      none-known w = let z : _≡_ {A = ℕ} 0 1 = cc in omega arith
-
-      go : (b : Bool) → eqb tag 4 ≡ b → (d : Bool) → defaultOctets p tag body ≡ d → Written k
-      go true f d g = absurd (none-known (sym q ∙ (rw f at e)))
-      go false f true g = absurd (none-known (sym q ∙ (rw (f, g) at e)))
-      go false f false g = record { table = f; counts = g; kind = known-kind p tag r (rw (f, g) at e) k q }
-
   pub written-some : (k : Kind) → r ≡ Known k → writtenAs p tag body ≡ some k
+  written-some k q = as-known (writtenAs p tag body) k (sym e ∙ q)
+
+  pub written-kind : (k : Kind) → r ≡ Known k → Written k
   unfolding writtenAs
-  written-some k q = let t = written-kind k q in rw (t .table, t .counts, t .kind)
+  written-kind k q =
+      let w = not-chosen (eqb tag 4 || defaultOctets p tag body) (sym (written-some k q)) (λ z. never (cc)) in
+      record {
+        table = or-right-false (defaultOctets p tag body) (eqb tag 4) (or-comm (defaultOctets p tag body) (eqb tag 4) ∙ w .0);
+        counts = or-right-false (eqb tag 4) (defaultOctets p tag body) (w .0);
+        kind = sym (w .1);
+      }
 
   pub written-octets : (k : Kind) → r ≡ Known k → itemOctets p tag body ≡ framed tag (valueOctets k body)
   written-octets k q = let t = written-kind k q in item-known p tag body k (t .table) (t .counts) (t .kind)
@@ -89,12 +86,7 @@ module _ (p tag : ℕ) (body : List ℕ) (r : KnownKind) (e : r ≡ asKnown (wri
       go false f = inl (unknown-kind p tag r (rw (f, d) at e) q)
 
   pub written-none : r ≡ Unknown → writtenAs p tag body ≡ none
-  unfolding asKnown
-  written-none q = go (writtenAs p tag body) (sym q ∙ e)
-    where
-      go : (k : Option Kind) → Unknown ≡ asKnown k → k ≡ none
-      go none w = refl
-      go (some k) w = let z : _≡_ {A = ℕ} 0 1 = cc in absurd (omega arith)
+  written-none q = as-unknown (writtenAs p tag body) (sym e ∙ q)
 
   pub unwritten-octets : r ≡ Unknown → itemOctets p tag body ≡ []
   unfolding itemOctets maybe

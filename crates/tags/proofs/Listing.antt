@@ -3,7 +3,7 @@ use mathlib.Core.Path.{_≡_, refl}
 use mathlib.Core.Bool.{true, false}
 use mathlib.Core.Option.{Option, none, some}
 use Prim.Native.Nat.{ℕ}
-use native.Mathlib.Omega.{arith}
+use Rattle.octets.proofs.Tests.{never}
 use Rattle.values.specs.declared.Kind.{Kind}
 use Rattle.values.specs.declared.Kind.the-variants.{HoldsItems, HoldsTokens, HoldsText, HoldsPlain, HoldsTime, HoldsBearer, HoldsNumber}
 use Rattle.values.specs.declared.NumberKind.{NumberKind}
@@ -60,24 +60,24 @@ pub ruleset listed-ways = (listed-unknown, listed-items, listed-tokens, listed-t
 pub is-nothing : (k : Option Kind) → Nothing ≡ listedAs k → (isItems k ≡ false) × (isKnown k ≡ isTokens k) × (isText k ≡ false)
 unfolding listedAs isItems isKnown isTokens isText
 is-nothing none h = (refl, refl, refl)
-is-nothing (some HoldsItems) h = let z : _≡_ {A = ℕ} 0 1 = cc in absurd (omega arith)
+is-nothing (some HoldsItems) h = never (cc)
 is-nothing (some HoldsTokens) h = (refl, refl, refl)
-is-nothing (some HoldsText) h = let z : _≡_ {A = ℕ} 0 1 = cc in absurd (omega arith)
-is-nothing (some HoldsPlain) h = let z : _≡_ {A = ℕ} 0 1 = cc in absurd (omega arith)
-is-nothing (some HoldsTime) h = let z : _≡_ {A = ℕ} 0 1 = cc in absurd (omega arith)
-is-nothing (some HoldsBearer) h = let z : _≡_ {A = ℕ} 0 1 = cc in absurd (omega arith)
-is-nothing (some (HoldsNumber n)) h = let z : _≡_ {A = ℕ} 0 1 = cc in absurd (omega arith)
+is-nothing (some HoldsText) h = never (cc)
+is-nothing (some HoldsPlain) h = never (cc)
+is-nothing (some HoldsTime) h = never (cc)
+is-nothing (some HoldsBearer) h = never (cc)
+is-nothing (some (HoldsNumber n)) h = never (cc)
 
 pub is-inside : (k : Option Kind) → Inside ≡ listedAs k → (isItems k ≡ true) × (isTokens k ≡ false) × (isKnown k ≡ true)
 unfolding listedAs isItems isTokens isKnown
-is-inside none h = let z : _≡_ {A = ℕ} 0 1 = cc in absurd (omega arith)
+is-inside none h = never (cc)
 is-inside (some HoldsItems) h = (refl, refl, refl)
-is-inside (some HoldsTokens) h = let z : _≡_ {A = ℕ} 0 1 = cc in absurd (omega arith)
-is-inside (some HoldsText) h = let z : _≡_ {A = ℕ} 0 1 = cc in absurd (omega arith)
-is-inside (some HoldsPlain) h = let z : _≡_ {A = ℕ} 0 1 = cc in absurd (omega arith)
-is-inside (some HoldsTime) h = let z : _≡_ {A = ℕ} 0 1 = cc in absurd (omega arith)
-is-inside (some HoldsBearer) h = let z : _≡_ {A = ℕ} 0 1 = cc in absurd (omega arith)
-is-inside (some (HoldsNumber n)) h = let z : _≡_ {A = ℕ} 0 1 = cc in absurd (omega arith)
+is-inside (some HoldsTokens) h = never (cc)
+is-inside (some HoldsText) h = never (cc)
+is-inside (some HoldsPlain) h = never (cc)
+is-inside (some HoldsTime) h = never (cc)
+is-inside (some HoldsBearer) h = never (cc)
+is-inside (some (HoldsNumber n)) h = never (cc)
 
 -- a value's kind
 pub record OfValue (k : Option Kind) (v : Kind) : Type 0 where
@@ -87,9 +87,9 @@ pub record OfValue (k : Option Kind) (v : Kind) : Type 0 where
 
 pub is-value : (k : Option Kind) (v : Kind) → Value v ≡ listedAs k → OfValue k v
 unfolding listedAs isItems isTokens
-is-value none v h = let z : _≡_ {A = ℕ} 0 1 = cc in absurd (omega arith)
-is-value (some HoldsItems) v h = let z : _≡_ {A = ℕ} 0 1 = cc in absurd (omega arith)
-is-value (some HoldsTokens) v h = let z : _≡_ {A = ℕ} 0 1 = cc in absurd (omega arith)
+is-value none v h = never (cc)
+is-value (some HoldsItems) v h = never (cc)
+is-value (some HoldsTokens) v h = never (cc)
 is-value (some HoldsText) v h = record { is = cc; shut = refl; noTable = refl }
 is-value (some HoldsPlain) v h = record { is = cc; shut = refl; noTable = refl }
 is-value (some HoldsTime) v h = record { is = cc; shut = refl; noTable = refl }

@@ -39,23 +39,25 @@ use Rattle.values.specs.Calls.{asKnown, knownKind, takenTime, takenBeare
 use Rattle.values.proofs.Times.{time-means, time-fits, time-ok, time-size, sign-le}
 use Rattle.values.proofs.Bearers.{bearer-means, bearer-fits, bearer-ok}
 
--- what a lookup's answer says of the table
+-- what a lookup's answer says of the kind, and of the table
+pub as-known : (o : Option Kind) (k : Kind) → asKnown o ≡ Known k → o ≡ some k
+unfolding asKnown
+as-known none k q = never (cc)
+as-known (some l) k q = cc
+
+pub as-unknown : (o : Option Kind) → asKnown o ≡ Unknown → o ≡ none
+unfolding asKnown
+as-unknown none q = refl
+as-unknown (some l) q = never (cc)
+
 module _ (parent tag : ℕ) (r : KnownKind) (e : r ≡ knownKind parent tag) where
   pub known-kind : (k : Kind) → r ≡ Known k → known parent tag ≡ some k
-  unfolding knownKind asKnown
-  known-kind k g = go (known parent tag) (sym e ∙ g)
-    where
-      go : (o : Option Kind) → asKnown o ≡ Known k → o ≡ some k
-      go none q = never (cc)
-      go (some l) q = cc
+  unfolding knownKind
+  known-kind k g = as-known (known parent tag) k (sym e ∙ g)
 
   pub unknown-kind : r ≡ Unknown → known parent tag ≡ none
-  unfolding knownKind asKnown
-  unknown-kind g = go (known parent tag) (sym e ∙ g)
-    where
-      go : (o : Option Kind) → asKnown o ≡ Unknown → o ≡ none
-      go none q = refl
-      go (some l) q = never (cc)
+  unfolding knownKind
+  unknown-kind g = as-unknown (known parent tag) (sym e ∙ g)
 
 -- a time that was taken is what the octets mean, and octets that gave none are no time
 pub record TimeTaken (s : List ℕ) (t : Time) : Type 0 where

@@ -12,7 +12,7 @@ use borrow.Author.Tests.{leb-true, le-leb}
 use Rattle.octets.specs.declared.counts.Octets.{Octets as OctetCount}
 use Rattle.octets.specs.Counts.{asOctets, sizeOf}
 use Rattle.octets.specs.Numbers.{Octets}
-use Rattle.octets.proofs.Tests.{and-left, and-right}
+use Rattle.octets.proofs.Tests.{and-left, and-right, never}
 use Rattle.octets.proofs.Lists.{sets-none}
 use Rattle.format.specs.declared.Refusal.{Refusal}
 use Rattle.format.specs.declared.WriteAnswer.{WriteAnswer}
@@ -85,11 +85,11 @@ module _ (o : List ℕ) (lent : Lent) (v : Standing) (e : v ≡ surveyed lent (j
     where
       on : (t : Items) → judge o ≡ accepted t → (x : Bool) → leb (count t) (lent .records) ≡ x → (y : Bool) → storedWithin lent t ≡ y → Suits o lent
       on t j true p true m = record { tree = t; judged = j; fits = rw (p, m) }
-      on t j true p false m = let w : Fits ≡ Misfit (refusal 15 0) = sym q ∙ e ∙ rw (j, p, m) in let z : _≡_ {A = ℕ} 0 1 = cc in absurd (omega arith)
-      on t j false p y m = let w : Fits ≡ Misfit (refusal 14 0) = sym q ∙ e ∙ rw (j, p) in let z : _≡_ {A = ℕ} 0 1 = cc in absurd (omega arith)
+      on t j true p false m = let w : Fits ≡ Misfit (refusal 15 0) = sym q ∙ e ∙ rw (j, p, m) in never (cc)
+      on t j false p y m = let w : Fits ≡ Misfit (refusal 14 0) = sym q ∙ e ∙ rw (j, p) in never (cc)
 
       go : (k : Judged) → judge o ≡ k → Suits o lent
-      go (refused x) j = let w : Fits ≡ Bad x = sym q ∙ e ∙ rw j in let z : _≡_ {A = ℕ} 0 1 = cc in absurd (omega arith)
+      go (refused x) j = let w : Fits ≡ Bad x = sym q ∙ e ∙ rw j in never (cc)
       go (accepted t) j = on t j (leb (count t) (lent .records)) refl (storedWithin lent t) refl
 
 -- ---- refused
@@ -111,9 +111,9 @@ module _ (o : List ℕ) (l : Lists) (store room : List ℕ) (v : Standing) (e : 
     where
       on : (t : Items) → judge o ≡ accepted t → (x : Bool) → leb (count t) (places l) ≡ x → (y : Bool) → storedWithin (lentBy l store room) t ≡ y
           → NormaliseClaim o l l store store room room (NotWritten r)
-      on t j true p true m = let w : Bad r ≡ Fits = sym q ∙ e ∙ rw (j, p, m) in let z : _≡_ {A = ℕ} 0 1 = cc in absurd (omega arith)
-      on t j true p false m = let w : Bad r ≡ Misfit (refusal 15 0) = sym q ∙ e ∙ rw (j, p, m) in let z : _≡_ {A = ℕ} 0 1 = cc in absurd (omega arith)
-      on t j false p y m = let w : Bad r ≡ Misfit (refusal 14 0) = sym q ∙ e ∙ rw (j, p) in let z : _≡_ {A = ℕ} 0 1 = cc in absurd (omega arith)
+      on t j true p true m = let w : Bad r ≡ Fits = sym q ∙ e ∙ rw (j, p, m) in never (cc)
+      on t j true p false m = let w : Bad r ≡ Misfit (refusal 15 0) = sym q ∙ e ∙ rw (j, p, m) in never (cc)
+      on t j false p y m = let w : Bad r ≡ Misfit (refusal 14 0) = sym q ∙ e ∙ rw (j, p) in never (cc)
 
       go : (k : Judged) → judge o ≡ k → NormaliseClaim o l l store store room room (NotWritten r)
       go (refused x) j =
@@ -128,7 +128,7 @@ module _ (o : List ℕ) (l : Lists) (store room : List ℕ) (v : Standing) (e : 
     where
       on : (t : Items) → judge o ≡ accepted t → (x : Bool) → leb (count t) (places l) ≡ x → (y : Bool) → storedWithin (lentBy l store room) t ≡ y
           → NormaliseClaim o l l store store room room (NotWritten r)
-      on t j true p true m = let w : Misfit r ≡ Fits = sym q ∙ e ∙ rw (j, p, m) in let z : _≡_ {A = ℕ} 0 1 = cc in absurd (omega arith)
+      on t j true p true m = let w : Misfit r ≡ Fits = sym q ∙ e ∙ rw (j, p, m) in never (cc)
       on t j true p false m =
           let w : Misfit r ≡ Misfit (refusal 15 0) = sym q ∙ e ∙ rw (j, p, m) in
           let y : r ≡ refusal 15 0 = cc in
@@ -139,7 +139,7 @@ module _ (o : List ℕ) (l : Lists) (store room : List ℕ) (v : Standing) (e : 
           untouched-misfit t j (rw p) r (rw p (ap NotWritten y))
 
       go : (k : Judged) → judge o ≡ k → NormaliseClaim o l l store store room room (NotWritten r)
-      go (refused x) j = let w : Misfit r ≡ Bad x = sym q ∙ e ∙ rw j in let z : _≡_ {A = ℕ} 0 1 = cc in absurd (omega arith)
+      go (refused x) j = let w : Misfit r ≡ Bad x = sym q ∙ e ∙ rw j in never (cc)
       go (accepted t) j = on t j (leb (count t) (places l)) refl (storedWithin (lentBy l store room) t) refl
 
 -- ---- laid and written
@@ -237,11 +237,11 @@ module _ (o : List ℕ) (l l′ : Lists) (store store′ room room′ : List ℕ
         by t j true f k p =
             let w : Handed n ≡ Handed (sizeOf (normalOf t)) = rw (j, f) at (c .answers) in
             record { tree = t; judged = j; fits = f; many = cc; lists = rw (j, f) at (c .leavesLists); stores = rw (j, f) at (c .leavesStore); rooms = rw (j, f) at (c .leavesRoom) }
-        by t j false f true p = let w : Handed n ≡ NotWritten (refusal 15 0) = rw (j, f, p) at (c .answers) in let z : _≡_ {A = ℕ} 0 1 = cc in absurd (omega arith)
-        by t j false f false p = let w : Handed n ≡ NotWritten (refusal 14 0) = rw (j, f, p) at (c .answers) in let z : _≡_ {A = ℕ} 0 1 = cc in absurd (omega arith)
+        by t j false f true p = let w : Handed n ≡ NotWritten (refusal 15 0) = rw (j, f, p) at (c .answers) in never (cc)
+        by t j false f false p = let w : Handed n ≡ NotWritten (refusal 14 0) = rw (j, f, p) at (c .answers) in never (cc)
 
         go : (k : Judged) → judge o ≡ k → Written n
-        go (refused x) j = let w : Handed n ≡ NotWritten x = rw j at (c .answers) in let z : _≡_ {A = ℕ} 0 1 = cc in absurd (omega arith)
+        go (refused x) j = let w : Handed n ≡ NotWritten x = rw j at (c .answers) in never (cc)
         go (accepted t) j = by t j (fitsLent (lentBy l store room) t) refl (leb (count t) (places l)) refl
 
     pub written-inside : n .0 ≤ length room′

@@ -14,7 +14,7 @@ use borrow.Author.Tests.{leb-true, le-leb, eqb-false, ne-eqb, not-true}
 use Rattle.octets.specs.declared.counts.Octets.{Octets as OctetCount}
 use Rattle.octets.specs.Counts.{sizeOf}
 use Rattle.octets.specs.Numbers.{Octets as AllOctets}
-use Rattle.octets.proofs.Tests.{and-left, and-right, and-true}
+use Rattle.octets.proofs.Tests.{and-left, and-right, and-true, never}
 use Rattle.octets.proofs.Lists.{part-of-sets, drop-sets}
 use Rattle.text.specs.Text.{text}
 use Rattle.text.specs.Tokens.{Entries, expanded, covered, shownLength}
@@ -74,10 +74,10 @@ module _ (n : ℕ) (l : Lists) (lent before after : List ℕ) where
           let s : k .0 ≡ length (encode (means [] t)) = cc in
           let m = leb-true (length (encode (means [] t))) (min (length before) 32_768) q in
           record { tree = t; given = e; size = s; room = omega (arith, min-le-left (length before) 32_768); object = omega (arith, min-le-right (length before) 32_768); leaves = g }
-      some-tree t e false q a g = let z : _≡_ {A = ℕ} 0 1 = cc in absurd (omega arith)
+      some-tree t e false q a g = never (cc)
 
       go : (o : Option Items) → treeGiven n l lent ≡ o → Octets k ≡ writeAnswer (sizeOf before) o → after ≡ sets before 0 (writeOctets (sizeOf before) o) → Fits k
-      go none e a g = let z : _≡_ {A = ℕ} 0 1 = cc in absurd (omega arith)
+      go none e a g = never (cc)
       go (some t) e a g = some-tree t e (leb (length (encode (means [] t))) (min (length before) 32_768)) refl a g
 
   -- what is written is accepted, and means what the records mean

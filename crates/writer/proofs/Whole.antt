@@ -11,7 +11,7 @@ use lib.ListN.{length}
 use borrow.Author.Tests.{leb-true, lt-leb, le-leb, eqb-true, eqb-false, ltb-true, ltb-false}
 use Rattle.octets.specs.declared.counts.Octets.{Octets as OctetCount}
 use Rattle.octets.specs.Counts.{asOctets, sizeOf}
-use Rattle.octets.proofs.Tests.{and-right}
+use Rattle.octets.proofs.Tests.{and-right, chosen, never}
 use Rattle.format.specs.declared.Record.{Record}
 use Rattle.format.specs.declared.WriteAnswer.{WriteAnswer}
 use Rattle.format.specs.declared.WriteAnswer.the-variants.{Octets, NotWritten}
@@ -101,11 +101,7 @@ placed n l h =
 module _ (n : ℕ) (l : Lists) (lent : List ℕ) (t : Items) (e : treeGiven n l lent ≡ some t) where
   pub given-both : (n ≤ places l) × (rebuilt (row l) n lent ≡ some t)
   unfolding treeGiven
-  given-both = go (leb n (places l)) refl e
-    where
-      go : (b : Bool) → leb n (places l) ≡ b → cond b (rebuilt (row l) n lent) none ≡ some t → (n ≤ places l) × (rebuilt (row l) n lent ≡ some t)
-      go true q h = (leb-true n (places l) q, h)
-      go false q h = absurd (Option·none-ne-some t h)
+  given-both = let w = chosen (leb n (places l)) (sym e) (λ z. never (cc)) in (leb-true n (places l) (w .0), sym (w .1))
 
   pub tree-holding : Holding n (fourIn l) lent
   tree-holding =

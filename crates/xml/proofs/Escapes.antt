@@ -5,14 +5,13 @@ use mathlib.Core.List.{List, [], _∷_, _++_}
 use Prim.Native.Nat.{ℕ, zero, suc, _+_, _*_, _/_, _%_, _≤_}
 use native.Mathlib.Omega.{arith}
 use lib.Dec.{eqb, ltb}
-use borrow.Author.Tests.{eqb-true, ne-eqb, ltb-false}
+use borrow.Author.Tests.{eqb-true, ne-eqb, ltb-false, not-true}
 use Rattle.octets.specs.Numbers.{among}
 use Rattle.octets.proofs.Tests.{and-left, and-right, and-true, cond-map}
 use Rattle.text.specs.Text.{character, single, goesOn, utf8, text}
 use Rattle.text.specs.Tokens.{present}
 use Rattle.text.proofs.Sequences.{utf8-zero}
 use Rattle.show.specs.Lines.{ascii}
-use Rattle.survey.proofs.Seeking.{opposite}
 use Rattle.xml.specs.Xml.{escape, escaped}
 use Rattle.xml.specs.Reading.{references, startsWith, reference, referenceAt, octetOr, sizeIn, readFrom, unescaped, inert}
 use Rattle.xml.proofs.Parts.{quote, less, lacks, other-than, lacks-cons}
@@ -80,7 +79,7 @@ inert-lacks p h (b ∷ s) i =
     let mark = among b (0x3C ∷ 0x3E ∷ 0x22 ∷ 0x27 ∷ []) in
     let begun = not (eqb b 0x26) || present (reference references s) in
     let first = and-left (not mark) begun (and-left (not mark && begun) (inert s) i) in
-    lacks-cons p b s (h b (opposite mark first)) (inert-lacks p h s (and-right (not mark && begun) (inert s) i))
+    lacks-cons p b s (h b (not-true mark first)) (inert-lacks p h s (and-right (not mark && begun) (inert s) i))
 
 -- a double quote, and an opening angle bracket
 pub escaped-quote : (o : List ℕ) → lacks quote (escaped o) ≡ true

@@ -26,7 +26,7 @@ use Rattle.values.specs.Calls.{knownKind}
 use Rattle.values.specs.Table.{rows, kindIn, known, attribute}
 use Rattle.values.specs.Values.{fits, meant}
 use Rattle.values.proofs.Known.{row-holds}
-use Rattle.values.proofs.Laws.{known-kind, unknown-kind}
+use Rattle.values.proofs.Laws.{known-kind, unknown-kind, asItStands}
 use Rattle.show.specs.Digits.{hexLower}
 use Rattle.show.specs.Lines.{ascii}
 use Rattle.xml.specs.Names.{names, nameIn, name}
@@ -106,20 +106,11 @@ module _ (parent tag at : ℕ) (table : Entries) (body before p : List ℕ) (end
 -- ---- values
 
 -- times, bearers and numbers are values of attributes alone
-abbrev freely : Kind → Bool
-freely HoldsItems = true
-freely HoldsTokens = true
-freely HoldsText = true
-freely HoldsPlain = true
-freely HoldsTime = false
-freely HoldsBearer = false
-freely (HoldsNumber n) = false
-
-of-attribute : (parent tag : ℕ) (k : Kind) → freely k ≡ false → known parent tag ≡ some k → attribute tag ≡ true
+of-attribute : (parent tag : ℕ) (k : Kind) → asItStands k ≡ false → known parent tag ≡ some k → attribute tag ≡ true
 unfolding known rows attribute
-of-attribute parent tag k f h = go (attribute tag) (row-holds (λ e t l. attribute t || freely l) (cond (attribute tag) parent 0) tag k rows refl h)
+of-attribute parent tag k f h = go (attribute tag) (row-holds (λ e t l. attribute t || asItStands l) (cond (attribute tag) parent 0) tag k rows refl h)
   where
-    go : (b : Bool) → b || freely k ≡ true → b ≡ true
+    go : (b : Bool) → b || asItStands k ≡ true → b ≡ true
     go true q = refl
     go false q = absurd (false≢true (sym f ∙ q))
 
@@ -149,21 +140,21 @@ module _ (emit : Bool) (parent tag at : ℕ) (k : Kind) (table : Entries) (body 
   kind-text e p = rw e (λ os h. p)
 
   module _ (p : FittingPut emit parent tag k table body at out out′ to) where
-    fitted : isWorded k ≡ true → freely k ≡ false → KindPut emit parent tag k table body at out out′ to
+    fitted : isWorded k ≡ true → asItStands k ≡ false → KindPut emit parent tag k table body at out out′ to
     unfolding KindPut FittingPut valueBy
     fitted w f os h = rw w (p os (of-attribute parent tag k f h) h)
 
     pub kind-time : k ≡ HoldsTime → KindPut emit parent tag k table body at out out′ to
     unfolding isWorded
-    kind-time e = fitted (ap isWorded e) (ap freely e)
+    kind-time e = fitted (ap isWorded e) (ap asItStands e)
 
     pub kind-bearer : k ≡ HoldsBearer → KindPut emit parent tag k table body at out out′ to
     unfolding isWorded
-    kind-bearer e = fitted (ap isWorded e) (ap freely e)
+    kind-bearer e = fitted (ap isWorded e) (ap asItStands e)
 
     pub kind-number : (n : NumberKind) → k ≡ HoldsNumber n → KindPut emit parent tag k table body at out out′ to
     unfolding isWorded
-    kind-number n e = fitted (ap isWorded e) (ap freely e)
+    kind-number n e = fitted (ap isWorded e) (ap asItStands e)
 
 pub ruleset fitting-ways = (fitting-value, fitting-hex)
 

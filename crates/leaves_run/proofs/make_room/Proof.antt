@@ -1,4 +1,4 @@
-use Rattle.leaves_run.proofs.Ways.{part-count}
+use lib.Seq.{length-take-le}
 use borrow.Author.Needs.{needs}
 use Rattle.leaves_run.proofs.make_room.Statement.{statement}
 use Rattle.leaves_run.proofs.make_room.Tie as tie
@@ -10,7 +10,7 @@ returns : tie.Need-returns
 returns c = search needs
 
 slice-aggregate-write-all : tie.Need-slice-aggregate-write-all
-slice-aggregate-write-all c = search (part-count, needs)
+slice-aggregate-write-all c = search (length-take-le, needs)
 
 write-all-requires : tie.Need-write-all-requires
 write-all-requires c κs = search needs

@@ -2,7 +2,7 @@ use Prim.Native.Nat.{_-_, _≤_}
 use lib.ListN.{length}
 use mathlib.Core.Path.{_≡_}
 use borrow.Author.Needs.{needs}
-use Rattle.leaves_run.proofs.Ways.{part-count}
+use lib.Seq.{length-take-le}
 use Rattle.leaves_run.proofs.run.Statement.{statement}
 use Rattle.leaves_run.proofs.run.Tie as tie
 
@@ -61,7 +61,7 @@ slice-reshare-prefix-write-all : tie.Need-slice-reshare-prefix-write-all Inv-loo
 slice-reshare-prefix-write-all c = search needs
 
 slice-aggregate-write-all : tie.Need-slice-aggregate-write-all Inv-loop μ-loop
-slice-aggregate-write-all c = search (part-count, needs)
+slice-aggregate-write-all c = search (length-take-le, needs)
 
 write-all-requires : tie.Need-write-all-requires Inv-loop μ-loop
 write-all-requires c κs = search needs

@@ -1,4 +1,4 @@
-use Rattle.leaves_run.proofs.Ways.{part-count}
+use lib.Seq.{length-take-le}
 use borrow.Author.Needs.{needs}
 use Rattle.leaves_run.proofs.say_bearer_octets.Statement.{statement}
 use Rattle.leaves_run.proofs.say_bearer_octets.Tie as tie
@@ -16,7 +16,7 @@ array-share-prefix-room : tie.Need-array-share-prefix-room
 array-share-prefix-room c = search needs
 
 slice-aggregate-say-hex : tie.Need-slice-aggregate-say-hex
-slice-aggregate-say-hex c = search (part-count, needs)
+slice-aggregate-say-hex c = search (length-take-le, needs)
 
 say-hex-requires : tie.Need-say-hex-requires
 say-hex-requires c κs = search needs

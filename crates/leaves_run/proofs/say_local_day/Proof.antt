@@ -1,6 +1,7 @@
 use mir.Syntax.{w64}
 use mir.Val.{toZ, ofZ}
-use Rattle.leaves_run.proofs.Ways.{not-below, number-fits}
+use mir.Facts.{fits-natAbs, sfits-toZ, fits-ofZ}
+use lib.Signed.{ltZ-no, yes-nonNeg}
 use borrow.Author.Needs.{needs}
 use Rattle.leaves_run.proofs.say_local_day.Statement.{statement}
 use Rattle.leaves_run.proofs.say_local_day.Tie as tie
@@ -19,8 +20,8 @@ returns c = search needs
 
 cast-say-field : tie.Need-cast-say-field
 cast-say-field c = (
-  not-below (toZ w64 (ofZ w64 (c .before .before .before .args .day))) (c .before .if1 .left),
-  number-fits (c .before .before .before .args .day) (c .before .before .before .fits .day),
+  yes-nonNeg {z = toZ w64 (ofZ w64 (c .before .before .before .args .day))} (ltZ-no (rw (c .before .if1 .left) tt)),
+  fits-natAbs {w = w64} {w′ = w64} tt (sfits-toZ (fits-ofZ (c .before .before .before .fits .day))),
 )
 
 say-field-requires : tie.Need-say-field-requires

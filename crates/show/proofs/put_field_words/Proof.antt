@@ -1,4 +1,5 @@
-use Rattle.show.proofs.Writing.{words-same, fields-other, puts-same, above}
+use Rattle.octets.proofs.Numbers.{above}
+use Rattle.show.proofs.Writing.{words-same, fields-other, puts-same}
 use Rattle.show.specs.Lines.{ascii, fieldReasons, fieldReason}
 use Prim.Native.Nat.{zero-le}
 use borrow.Author.Needs.{needs}

@@ -1,4 +1,5 @@
-use Rattle.show.proofs.Writing.{words-same, words-other, puts-same, above}
+use Rattle.octets.proofs.Numbers.{above}
+use Rattle.show.proofs.Writing.{words-same, words-other, puts-same}
 use Rattle.show.specs.Lines.{ascii, reasons, refusalWords}
 use Prim.Native.Nat.{zero-le}
 use borrow.Author.Needs.{needs}

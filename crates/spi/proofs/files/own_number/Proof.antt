@@ -1,7 +1,7 @@
 use mir.Syntax.{w32, w64}
 use mir.Val.{SFits, toZ, ofZ}
 use mir.Facts.{fits-natAbs, sfits-toZ, fits-ofZ}
-use Rattle.spi.proofs.Ways.{not-negative}
+use lib.Signed.{ltZ-no, yes-nonNeg}
 use borrow.Author.Needs.{needs}
 use Rattle.spi.proofs.files.own_number.Statement.{statement}
 use Rattle.spi.proofs.files.own_number.Tie as tie
@@ -12,7 +12,7 @@ getpid-requires c κs = search needs
 cast-result : tie.Need-cast-result
 cast-result c =
     let given : SFits w32 (c .before .getpid .result) = record { sfits = c .before .getpid .ok } in
-    (not-negative (toZ w32 (ofZ w32 (c .before .getpid .result))) (c .if1 .left), fits-natAbs {w = w32} {w′ = w64} tt (sfits-toZ (fits-ofZ given)))
+    (yes-nonNeg {z = toZ w32 (ofZ w32 (c .before .getpid .result))} (ltZ-no (rw (c .if1 .left) tt)), fits-natAbs {w = w32} {w′ = w64} tt (sfits-toZ (fits-ofZ given)))
 
 returns : tie.Need-returns
 returns c = search needs
