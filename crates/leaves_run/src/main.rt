@@ -395,17 +395,13 @@ fn answer_line(letter: u8, s: &[u8], out: &mut [u8], used: usize) -> usize
     say(out, to, b"\n")
 }
 
-fn wide(x: u8) -> usize {
-    x as usize
-}
-
 // Up to the end of the input, or to a question that it cuts short.
 fn run(input: &[u8], out: &mut [u8]) {
     let mut used: usize = 0;
     let mut at: usize = 0;
     while input.len() - at >= 2 {
         let start = at + 2;
-        let size = wide(input[at + 1]);
+        let size = input[at + 1] as usize;
         if size > input.len() - start {
             break;
         }

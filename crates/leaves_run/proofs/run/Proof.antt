@@ -1,4 +1,5 @@
-use Prim.Native.Nat.{_-_, _≤_}
+use Prim.Native.Nat.{_+_, _-_, _≤_}
+use native.Mathlib.Omega.{arith}
 use lib.ListN.{length}
 use mathlib.Core.Path.{_≡_}
 use borrow.Author.Needs.{needs}
@@ -21,14 +22,14 @@ sub-loop c = search needs
 add-start : tie.Need-add-start Inv-loop μ-loop
 add-start c = search needs
 
-add-wide : tie.Need-add-wide Inv-loop μ-loop
-add-wide c = search needs
+add-size : tie.Need-add-size Inv-loop μ-loop
+add-size c = search needs
 
-shared-slice-read-wide : tie.Need-shared-slice-read-wide Inv-loop μ-loop
-shared-slice-read-wide c = search needs
+shared-slice-read-size : tie.Need-shared-slice-read-size Inv-loop μ-loop
+shared-slice-read-size c = search needs
 
-wide-requires : tie.Need-wide-requires Inv-loop μ-loop
-wide-requires c κs = search needs
+cast-size : tie.Need-cast-size Inv-loop μ-loop
+cast-size c = omega (arith, c .shared-slice-known2 .given (c .before .before .loop .at + 1))
 
 sub-if1 : tie.Need-sub-if1 Inv-loop μ-loop
 sub-if1 c = search needs
@@ -81,9 +82,9 @@ run-spec =
     loop-holds
     sub-loop
     add-start
-    add-wide
-    shared-slice-read-wide
-    wide-requires
+    add-size
+    shared-slice-read-size
+    cast-size
     sub-if1
     add-end
     shared-slice-read-answer-line
