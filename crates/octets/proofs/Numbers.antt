@@ -4,7 +4,7 @@ use mathlib.Core.Bool.{Bool, true, false}
 use mathlib.Core.List.{List, [], _∷_, _++_}
 use Prim.Native.Nat.{ℕ, zero, suc, _+_, _*_, _/_, _%_, _^_, _≤_, _<_}
 use native.Mathlib.Omega.{arith}
-use native.Mathlib.Nat.{div-add-mod', mod-lt, pow-suc, pow-succ', mul-assoc, add-mul, add-assoc, div-lt-iff-lt-mul}
+use native.Mathlib.Nat.{div-add-mod', mod-lt, pow-suc, pow-succ', mul-assoc, add-mul, add-assoc, div-lt-iff-lt-mul, one-le-pow}
 use lib.Arith.{digits-lt, digits-div, digits-mod, mod-mul}
 use lib.Dec.{ltb}
 use lib.ListN.{length, take, drop, getD, length-append, length-take, List·getD-eq-default}
@@ -18,8 +18,7 @@ pub above : {k : ℕ} (n : ℕ) → k ≤ n → (n ≡ k → ⊥) → suc k ≤ 
 above n h e = omega arith
 
 pub pow-pos : (w : ℕ) → 0 < 256 ^ w
-pow-pos zero = omega arith
-pow-pos (suc w) = rw (pow-succ' 256 w) (omega (arith, pow-pos w))
+pow-pos w = one-le-pow w 256 (omega arith)
 
 pub length-digits : (w n : ℕ) → length (digits w n) ≡ w
 unfolding digits

@@ -13,7 +13,7 @@ use mir.Val.{Fits}
 use borrow.Author.Tests.{le-leb, lt-leb, leb-true, leb-false, not-true, not-false}
 use Rattle.octets.specs.Counts.{asOctets}
 use Rattle.octets.specs.declared.counts.Octets.{Octets}
-use Rattle.octets.specs.Puts.{putAnswer, putOut, Puts}
+use Rattle.octets.specs.Puts.{putAnswer, putOut, Puts, Lays}
 use Rattle.octets.specs.declared.Put.{Put}
 use Rattle.octets.proofs.Tests.{never}
 
@@ -118,9 +118,20 @@ module _ (valid : Bool) (octets : List ℕ) (at : ℕ) (before after : List ℕ)
       go true false f g = never (cc (rw (f, g) at (p .answers)))
       go false b f g = (f, rw f at (p .leaves))
 
+  pub put-laid : (end : ℕ) → answer ≡ Put.Done end → Lays octets at before after end
+  put-laid end q = let d = put-done end q in record { leaves = d .laid; ends = d .place }
+
   -- where there are such octets and the room suffices, they are put
   pub put-there : {A : Type 0} → valid ≡ true → answer ≡ Put.Invalid → A
   put-there e q = never (cc (put-invalid q .0))
 
   pub put-room : {A : Type 0} → at + length octets ≤ length before → answer ≡ Put.NoRoom → A
   put-room h q = absurd (omega (arith, put-no-room q .1))
+
+  pub laid-room : at + length octets ≤ length before → answer ≡ Put.NoRoom → Lays octets at before after at
+  laid-room h q = put-room h q
+
+  pub laid-there : valid ≡ true → answer ≡ Put.Invalid → Lays octets at before after at
+  laid-there e q = put-there e q
+
+pub ruleset laid-ways = (put-laid, laid-room, laid-there)

@@ -19,3 +19,8 @@ putOut valid octets at before = cond valid (cond (leb (at + length octets) (leng
 pub record Puts (valid : Bool) (octets : List ℕ) (at : ℕ) (before after : List ℕ) (answer : Put) : Type 0 where
   pub answers : answer ≡ putAnswer valid octets at before
   pub leaves : after ≡ putOut valid octets at before
+
+-- octets that are known to fit, laid over a lent slice from a place on, and the place behind them
+pub record Lays (octets : List ℕ) (at : ℕ) (before after : List ℕ) (end : ℕ) : Type 0 where
+  pub leaves : after ≡ sets before at octets
+  pub ends : end ≡ at + length octets

@@ -12,50 +12,24 @@ use mir.Syntax.{w64}
 use mir.Val.{Fits}
 use borrow.Author.Tests.{lt-ltb, le-ltb, ne-eqb, not-true, not-false}
 use Rattle.show.specs.Digits.{decimal, hexDigit, twoDigits, hexLower, hexUpper}
-use Rattle.octets.specs.Puts.{Puts}
+use Rattle.octets.specs.Puts.{Puts, Lays}
 use Rattle.octets.specs.declared.Put.{Put}
-use Rattle.octets.proofs.Lists.{sets-append, set-sets, drop-next}
-use Rattle.octets.proofs.Left.{Left, left-begin, left-end, left-one, left-room, left-more}
-use Rattle.octets.proofs.Puts.{puts-done, asked-none, asked-room, put-done as told-done, put-room as told-room, put-there}
+use Rattle.octets.proofs.Lists.{set-sets, drop-next}
+use Rattle.octets.proofs.Left.{lays-length, lays-append, Left, left-begin, left-done, left-one, left-room, left-more}
+use Rattle.octets.proofs.Puts.{puts-done, asked-none, asked-room}
 use Rattle.format.specs.declared.Record.{Record}
 use Rattle.format.specs.declared.Refusal.{Refusal}
 use Rattle.show.specs.Lines.{ascii, line, kindName, recordLine, recordsLine, fieldOf, refusalLine, fieldReasons, fieldReason, reasons, refusalWords}
-use Rattle.show.specs.Storing.{Wrote, Few}
+use Rattle.show.specs.Storing.{Few}
 use Rattle.show.proofs.Digits.{decimal-one, decimal-more, length-more, decimal-some, decimal-few}
 
 -- ---- the answers
 
 pub put-done : (text : List ℕ) (at : ℕ) (out : List ℕ) (size : ℕ) → size ≡ length text → (b : Bool) → b ≡ leb (at + size) (length out) → b ≡ true → (out′ : List ℕ) (end : ℕ)
-    → Wrote text at out out′ end → Puts true text at out out′ (Put.Done end)
+    → Lays text at out out′ end → Puts true text at out out′ (Put.Done end)
 put-done text at out size s b k q out′ end w = puts-done true text at out refl out′ end (asked-room true text at out size s b k q) (w .leaves) (w .ends)
 
 pub ruleset put-ways = (asked-none, asked-room, put-done, not-true, not-false)
-
--- ---- what is left of a text while it is stored
-
-module _ (text : List ℕ) (at : ℕ) (out₀ : List ℕ) where
-  pub left-done : (out : List ℕ) (to : ℕ) → Left text at out₀ [] out to → Wrote text at out₀ out to
-  left-done out to v = record { ends = left-end text at out₀ out to v; leaves = v .same }
-
-  pub left-wrote : (p rest out : List ℕ) (to : ℕ) → Left text at out₀ (p ++ rest) out to → (out′ : List ℕ) (to′ : ℕ) → Wrote p to out out′ to′ → Left text at out₀ rest out′ to′
-  left-wrote p rest out to v out′ to′ w = left-more text at out₀ p rest out to v out′ to′ (w .leaves) (w .ends)
-
-pub wrote-long : (text : List ℕ) (at : ℕ) (out out′ : List ℕ) (to : ℕ) → Wrote text at out out′ to → length out′ ≡ length out
-wrote-long text at out out′ to w = ap length (w .leaves) ∙ length-sets out at text
-
--- ---- octets as they are
-
-module _ (out : List ℕ) (at : ℕ) (s : List ℕ) (h : at + length s ≤ length out) (out′ : List ℕ) (r : Put) (p : Puts true s at out out′ r) where
-  pub copy-done : (end : ℕ) → r ≡ Put.Done end → Wrote s at out out′ end
-  copy-done end q = let d = told-done true s at out out′ r p end q in record { ends = d .place; leaves = d .laid }
-
-  pub copy-room : r ≡ Put.NoRoom → Wrote s at out out′ at
-  copy-room q = told-room true s at out out′ r p h q
-
-  pub copy-there : r ≡ Put.Invalid → Wrote s at out out′ at
-  copy-there q = put-there true s at out out′ r p refl q
-
-pub ruleset copy-ways = (copy-done, copy-room, copy-there)
 
 -- ---- how many digits
 
@@ -129,7 +103,7 @@ module _ (out₀ : List ℕ) (at n : ℕ) where
               ap (λ o. set o (to - 1) d) (v .same) ∙ set-sets out₀ to (v .stored) (to - 1) d (omega (arith, spell-back)) ∙ ap (λ m. sets (set out₀ (to - 1) d) m (v .stored)) back;
         }
 
-    pub spell-done : (size d : ℕ) → Few n size → rest < 10 → d ≡ 48 + rest → Wrote (decimal n) at out₀ (set out at d) (at + size)
+    pub spell-done : (size d : ℕ) → Few n size → rest < 10 → d ≡ 48 + rest → Lays (decimal n) at out₀ (set out at d) (at + size)
     spell-done size d f h e =
         let one : decimal rest ≡ d ∷ [] = decimal-one rest h ∙ ap (λ m. m ∷ []) (sym e) in
         let next : to ≡ suc at = omega (arith, v .place, ap length one) in
@@ -169,7 +143,7 @@ module _ (ten b at : ℕ) (out : List ℕ) (h : at + length (twoDigits ten b) �
   pub two-end : length out < 2 ^ 64 → Fits w64 (at + 2)
   two-end l = record { fits = omega (arith, length-two ten b) }
 
-  pub two-done : (x y : ℕ) → x ≡ hexDigit ten (b / 16) → y ≡ hexDigit ten (b % 16) → Wrote (twoDigits ten b) at out (set (set out at x) (at + 1) y) (at + 2)
+  pub two-done : (x y : ℕ) → x ≡ hexDigit ten (b / 16) → y ≡ hexDigit ten (b % 16) → Lays (twoDigits ten b) at out (set (set out at x) (at + 1) y) (at + 2)
   unfolding twoDigits
   two-done x y p q = record { ends = refl; leaves = ap (λ n. set (set out at x) n y) (add-one at) ∙ rw (p, q) }
 
@@ -192,7 +166,7 @@ module _ (out₀ : List ℕ) (at : ℕ) (s : List ℕ) where
     pub hex-long : length out ≡ length out₀
     hex-long = v .left .long
 
-    pub hex-done : length s ≤ i → Wrote (hexLower s) at out₀ out to
+    pub hex-done : length s ≤ i → Lays (hexLower s) at out₀ out to
     unfolding hexLower
     hex-done h = left-done (hexLower s) at out₀ out to (rw (drop-of-length-le s h) at (v .left))
 
@@ -207,9 +181,9 @@ module _ (out₀ : List ℕ) (at : ℕ) (s : List ℕ) where
       pub hex-room : to + length (twoDigits 97 (getD s i 0)) ≤ length out
       hex-room = left-room (hexLower s) at out₀ (twoDigits 97 (getD s i 0)) (hexLower (drop (i + 1) s)) out to rest
 
-      pub hex-again : (out′ : List ℕ) (to′ : ℕ) → Wrote (twoDigits 97 (getD s i 0)) to out out′ to′ → Hexing out₀ at s out′ to′ (i + 1)
+      pub hex-again : (out′ : List ℕ) (to′ : ℕ) → Lays (twoDigits 97 (getD s i 0)) to out out′ to′ → Hexing out₀ at s out′ to′ (i + 1)
       hex-again out′ to′ w =
-          record { within = omega arith; left = left-wrote (hexLower s) at out₀ (twoDigits 97 (getD s i 0)) (hexLower (drop (i + 1) s)) out to rest out′ to′ w }
+          record { within = omega arith; left = left-more (hexLower s) at out₀ (twoDigits 97 (getD s i 0)) (hexLower (drop (i + 1) s)) out to rest out′ to′ w }
 
 pub ruleset hex-ways = (hex-begin, hex-long, hex-done, hex-room, hex-again)
 
@@ -222,9 +196,9 @@ module _ (w : List ℕ) (b at : ℕ) (out : List ℕ) (h : at + length (w ++ (b 
   pub word-room : at + length w ≤ length out
   word-room = left-room (w ++ (b ∷ [])) at out w (b ∷ []) out at behind
 
-  module _ (out′ : List ℕ) (to : ℕ) (k : Wrote w at out out′ to) where
+  module _ (out′ : List ℕ) (to : ℕ) (k : Lays w at out out′ to) where
     last : Left (w ++ (b ∷ [])) at out (b ∷ []) out′ to
-    last = left-wrote (w ++ (b ∷ [])) at out w (b ∷ []) out at behind out′ to k
+    last = left-more (w ++ (b ∷ [])) at out w (b ∷ []) out at behind out′ to k
 
     pub word-in : to < length out′
     word-in = omega (arith, last .room)
@@ -232,7 +206,7 @@ module _ (w : List ℕ) (b at : ℕ) (out : List ℕ) (h : at + length (w ++ (b 
     pub word-end : length out < 2 ^ 64 → Fits w64 (to + 1)
     word-end l = record { fits = omega (arith, last .room, last .long) }
 
-    pub word-done : Wrote (w ++ (b ∷ [])) at out (set out′ to b) (to + 1)
+    pub word-done : Lays (w ++ (b ∷ [])) at out (set out′ to b) (to + 1)
     word-done = left-done (w ++ (b ∷ [])) at out (set out′ to b) (to + 1) (left-one (w ++ (b ∷ [])) at out b [] out′ to last)
 
 pub ruleset word-ways = (word-room, word-in, word-end, word-done)
@@ -264,8 +238,8 @@ module _ (text given : List ℕ) (e : text ≡ given) (at : ℕ) (out : List ℕ
   pub word-same : (b : ℕ) → at + length (text ++ (b ∷ [])) ≤ length out → at + length (given ++ (b ∷ [])) ≤ length out
   word-same b h = rw e at h
 
-  pub wrote-same : (b : ℕ) (out′ : List ℕ) (to : ℕ) → Wrote (given ++ (b ∷ [])) at out out′ to → Wrote (text ++ (b ∷ [])) at out out′ to
-  wrote-same b out′ to w = rw e w
+  pub lays-same : (b : ℕ) (out′ : List ℕ) (to : ℕ) → Lays (given ++ (b ∷ [])) at out out′ to → Lays (text ++ (b ∷ [])) at out out′ to
+  lays-same b out′ to w = rw e w
 
   pub puts-same : (out′ : List ℕ) (r : Put) → Puts true given at out out′ r → Puts true text at out out′ r
   puts-same out′ r p = rw e p
@@ -291,24 +265,19 @@ module _ {w v : List ℕ} {ws : List (List ℕ)} {at : ℕ} {out : List ℕ} (h 
   pub room-word : at + length (w ++ (32 ∷ [])) ≤ length out
   room-word = omega (arith, h .fits, length-line w v ws, length-word w 32)
 
-  pub room-after : {o : List ℕ} {t : ℕ} → Wrote (w ++ (32 ∷ [])) at out o t → Room (v ∷ ws) t o
-  room-after {o} {t} k = record { fits = omega (arith, h .fits, length-line w v ws, length-word w 32, k .ends, wrote-long (w ++ (32 ∷ [])) at out o t k) }
+  pub room-after : {o : List ℕ} {t : ℕ} → Lays (w ++ (32 ∷ [])) at out o t → Room (v ∷ ws) t o
+  room-after {o} {t} k = record { fits = omega (arith, h .fits, length-line w v ws, length-word w 32, k .ends, lays-length (w ++ (32 ∷ [])) at out o t k) }
 
 pub room-last : {w : List ℕ} {at : ℕ} {out : List ℕ} → Room (w ∷ []) at out → at + length (w ++ (10 ∷ [])) ≤ length out
 room-last {w} h = omega (arith, h .fits, length-end w, length-word w 10)
 
-pub line-last : (w : List ℕ) (at : ℕ) (out o : List ℕ) (t : ℕ) → Wrote (w ++ (10 ∷ [])) at out o t → Wrote (line (w ∷ [])) at out o t
+pub line-last : (w : List ℕ) (at : ℕ) (out o : List ℕ) (t : ℕ) → Lays (w ++ (10 ∷ [])) at out o t → Lays (line (w ∷ [])) at out o t
 unfolding line
 line-last w at out o t k = k
 
-pub line-more : (w v : List ℕ) (ws : List (List ℕ)) (at : ℕ) (out o : List ℕ) (t : ℕ) (o′ : List ℕ) (t′ : ℕ) → Wrote (w ++ (32 ∷ [])) at out o t → Wrote (line (v ∷ ws)) t o o′ t′ → Wrote (line (w ∷ v ∷ ws)) at out o′ t′
+pub line-more : (w v : List ℕ) (ws : List (List ℕ)) (at : ℕ) (out o : List ℕ) (t : ℕ) (o′ : List ℕ) (t′ : ℕ) → Lays (w ++ (32 ∷ [])) at out o t → Lays (line (v ∷ ws)) t o o′ t′ → Lays (line (w ∷ v ∷ ws)) at out o′ t′
 unfolding line
-line-more w v ws at out o t o′ t′ k m =
-    let p : List ℕ = w ++ (32 ∷ []) in
-    record {
-      ends = omega (arith, k .ends, m .ends, length-append p (line (v ∷ ws)));
-      leaves = m .leaves ∙ ap (λ (n : ℕ). sets o n (line (v ∷ ws))) (k .ends) ∙ ap (λ (l : List ℕ). sets l (at + length p) (line (v ∷ ws))) (k .leaves) ∙ sets-append out at p (line (v ∷ ws));
-    }
+line-more w v ws = lays-append (w ++ (32 ∷ [])) (line (v ∷ ws))
 
 pub ruleset line-ways = (room-word, room-after, room-last, line-last, line-more)
 
@@ -369,7 +338,7 @@ module _ (r : Refusal) where
     pub place-room : (at : ℕ) (out : List ℕ) → at + length (line (decimal (r .place) ∷ fieldOf r)) ≤ length out → Room (decimal (r .place) ∷ ascii "field" ∷ decimal (r .field) ∷ []) at out
     place-room at out h = record { fits = rw field-words at h }
 
-    pub place-more : (at : ℕ) (out o : List ℕ) (t : ℕ) → Wrote (line (decimal (r .place) ∷ ascii "field" ∷ decimal (r .field) ∷ [])) at out o t → Wrote (line (decimal (r .place) ∷ fieldOf r)) at out o t
+    pub place-more : (at : ℕ) (out o : List ℕ) (t : ℕ) → Lays (line (decimal (r .place) ∷ ascii "field" ∷ decimal (r .field) ∷ [])) at out o t → Lays (line (decimal (r .place) ∷ fieldOf r)) at out o t
     place-more at out o t k = rw field-words k
 
     pub refusal-field-length : (n p f : ℕ) → Few (r .number) n → Few (r .place) p → Few (r .field) f → 13 + n + p + 7 + f ≡ length (refusalLine r)
@@ -394,7 +363,7 @@ module _ (r : Refusal) where
     pub place-room-last : (at : ℕ) (out : List ℕ) → at + length (line (decimal (r .place) ∷ fieldOf r)) ≤ length out → Room (decimal (r .place) ∷ []) at out
     place-room-last at out h = record { fits = rw no-field at h }
 
-    pub place-last : (at : ℕ) (out o : List ℕ) (t : ℕ) → Wrote (line (decimal (r .place) ∷ [])) at out o t → Wrote (line (decimal (r .place) ∷ fieldOf r)) at out o t
+    pub place-last : (at : ℕ) (out o : List ℕ) (t : ℕ) → Lays (line (decimal (r .place) ∷ [])) at out o t → Lays (line (decimal (r .place) ∷ fieldOf r)) at out o t
     place-last at out o t k = rw no-field k
 
     pub refusal-length : (n p : ℕ) → Few (r .number) n → Few (r .place) p → 13 + n + p ≡ length (refusalLine r)

@@ -13,10 +13,10 @@ ghost use mathlib.Core.Bool.{true};
 ghost use mathlib.Core.List.{[], _∷_, _++_};
 ghost use Prim.Native.Nat.{_+_, _≤_, _<_};
 ghost use lib.ListN.{length};
-ghost use Rattle.octets.specs.Puts.{Puts};
+ghost use Rattle.octets.specs.Puts.{Puts, Lays};
 ghost use Rattle.show.specs.Digits.{decimal, hexDigit, twoDigits, hexLower, hexUpper};
 ghost use Rattle.show.specs.Lines.{ascii, line, kindName, headerLine, recordLine, recordsLine, fieldOf, refusalLine, touchedLine, fieldReason, refusalWords};
-ghost use Rattle.show.specs.Storing.{Wrote, Few};
+ghost use Rattle.show.specs.Storing.{Few};
 
 const UPPER: u8 = b'A';
 
@@ -30,7 +30,7 @@ const NEWLINE: u8 = b'\n';
 
 fn store_octets(out: &mut [u8], at: usize, s: &[u8]) -> usize
     requires { ⌜ at + length (now s) ≤ length (now out) ⌝ }
-    ensures { λ r. ⌜ Wrote (now (s .entry)) at (now (out .entry)) (now (out .exit)) r ⌝ }
+    ensures { λ r. ⌜ Lays (now (s .entry)) at (now (out .entry)) (now (out .exit)) r ⌝ }
 {
     match copy_into(out, at, s) {
         Put::Done(end) => end,
@@ -62,7 +62,7 @@ fn digit(d: usize) -> u8
 // The last digit first, from the end of the text's place.
 fn store_decimal(out: &mut [u8], at: usize, n: usize) -> usize
     requires { ⌜ at + length (decimal n) ≤ length (now out) ⌝ }
-    ensures { λ r. ⌜ Wrote (decimal n) at (now (out .entry)) (now (out .exit)) r ⌝ }
+    ensures { λ r. ⌜ Lays (decimal n) at (now (out .entry)) (now (out .exit)) r ⌝ }
 {
     let end = at + decimal_size(n).0;
     let mut to = end;
@@ -90,7 +90,7 @@ fn hex_digit(ten: u8, d: u8) -> u8
 fn store_hex(out: &mut [u8], at: usize, ten: u8, b: u8) -> usize
     requires { ⌜ ten < 128 ⌝ }
     requires { ⌜ at + length (twoDigits ten b) ≤ length (now out) ⌝ }
-    ensures { λ r. ⌜ Wrote (twoDigits ten b) at (now (out .entry)) (now (out .exit)) r ⌝ }
+    ensures { λ r. ⌜ Lays (twoDigits ten b) at (now (out .entry)) (now (out .exit)) r ⌝ }
 {
     out[at] = hex_digit(ten, b / 16);
     out[at + 1] = hex_digit(ten, b % 16);
@@ -99,7 +99,7 @@ fn store_hex(out: &mut [u8], at: usize, ten: u8, b: u8) -> usize
 
 fn store_all_hex(out: &mut [u8], at: usize, s: &[u8]) -> usize
     requires { ⌜ at + length (hexLower (now s)) ≤ length (now out) ⌝ }
-    ensures { λ r. ⌜ Wrote (hexLower (now (s .entry))) at (now (out .entry)) (now (out .exit)) r ⌝ }
+    ensures { λ r. ⌜ Lays (hexLower (now (s .entry))) at (now (out .entry)) (now (out .exit)) r ⌝ }
 {
     let mut to = at;
     let mut i: usize = 0;
@@ -114,7 +114,7 @@ fn store_all_hex(out: &mut [u8], at: usize, s: &[u8]) -> usize
 
 fn octets_word(out: &mut [u8], at: usize, s: &[u8], behind: u8) -> usize
     requires { ⌜ at + length (now s ++ (behind ∷ [])) ≤ length (now out) ⌝ }
-    ensures { λ r. ⌜ Wrote (now (s .entry) ++ (behind ∷ [])) at (now (out .entry)) (now (out .exit)) r ⌝ }
+    ensures { λ r. ⌜ Lays (now (s .entry) ++ (behind ∷ [])) at (now (out .entry)) (now (out .exit)) r ⌝ }
 {
     let to = store_octets(out, at, s);
     out[to] = behind;
@@ -123,7 +123,7 @@ fn octets_word(out: &mut [u8], at: usize, s: &[u8], behind: u8) -> usize
 
 fn number_word(out: &mut [u8], at: usize, n: usize, behind: u8) -> usize
     requires { ⌜ at + length (decimal n ++ (behind ∷ [])) ≤ length (now out) ⌝ }
-    ensures { λ r. ⌜ Wrote (decimal n ++ (behind ∷ [])) at (now (out .entry)) (now (out .exit)) r ⌝ }
+    ensures { λ r. ⌜ Lays (decimal n ++ (behind ∷ [])) at (now (out .entry)) (now (out .exit)) r ⌝ }
 {
     let to = store_decimal(out, at, n);
     out[to] = behind;
@@ -132,7 +132,7 @@ fn number_word(out: &mut [u8], at: usize, n: usize, behind: u8) -> usize
 
 fn tag_word(out: &mut [u8], at: usize, tag: u8, behind: u8) -> usize
     requires { ⌜ at + length (hexUpper tag ++ (behind ∷ [])) ≤ length (now out) ⌝ }
-    ensures { λ r. ⌜ Wrote (hexUpper tag ++ (behind ∷ [])) at (now (out .entry)) (now (out .exit)) r ⌝ }
+    ensures { λ r. ⌜ Lays (hexUpper tag ++ (behind ∷ [])) at (now (out .entry)) (now (out .exit)) r ⌝ }
 {
     let to = store_hex(out, at, UPPER, tag);
     out[to] = behind;
@@ -141,7 +141,7 @@ fn tag_word(out: &mut [u8], at: usize, tag: u8, behind: u8) -> usize
 
 fn kind_word(out: &mut [u8], at: usize, kind: u8, behind: u8) -> usize
     requires { ⌜ at + length (kindName kind ++ (behind ∷ [])) ≤ length (now out) ⌝ }
-    ensures { λ r. ⌜ Wrote (kindName kind ++ (behind ∷ [])) at (now (out .entry)) (now (out .exit)) r ⌝ }
+    ensures { λ r. ⌜ Lays (kindName kind ++ (behind ∷ [])) at (now (out .entry)) (now (out .exit)) r ⌝ }
 {
     match kind {
         0 => octets_word(out, at, b"element", behind),
@@ -226,7 +226,7 @@ fn record_size(r: Record) -> Octets
 
 fn store_record(out: &mut [u8], at: usize, r: Record) -> usize
     requires { ⌜ at + length (recordLine r) ≤ length (now out) ⌝ }
-    ensures { λ end. ⌜ Wrote (recordLine r) at (now (out .entry)) (now (out .exit)) end ⌝ }
+    ensures { λ end. ⌜ Lays (recordLine r) at (now (out .entry)) (now (out .exit)) end ⌝ }
 {
     let tag = number_word(out, at, r.depth as usize, SPACE);
     let kind = tag_word(out, tag, r.tag, SPACE);
@@ -246,7 +246,7 @@ pub fn put_record(out: &mut [u8], at: usize, r: Record) -> Put
 
 fn store_records(out: &mut [u8], at: usize, n: usize) -> usize
     requires { ⌜ at + length (recordsLine n) ≤ length (now out) ⌝ }
-    ensures { λ end. ⌜ Wrote (recordsLine n) at (now (out .entry)) (now (out .exit)) end ⌝ }
+    ensures { λ end. ⌜ Lays (recordsLine n) at (now (out .entry)) (now (out .exit)) end ⌝ }
 {
     let to = octets_word(out, at, b"records", SPACE);
     number_word(out, to, n, NEWLINE)
@@ -265,7 +265,7 @@ pub fn put_records(out: &mut [u8], at: usize, n: usize) -> Put
 // The place ends the line of all refusals but 9, where the field comes behind it.
 fn store_place(out: &mut [u8], at: usize, r: Refusal) -> usize
     requires { ⌜ at + length (line (decimal (r .place) ∷ fieldOf r)) ≤ length (now out) ⌝ }
-    ensures { λ end. ⌜ Wrote (line (decimal (r .place) ∷ fieldOf r)) at (now (out .entry)) (now (out .exit)) end ⌝ }
+    ensures { λ end. ⌜ Lays (line (decimal (r .place) ∷ fieldOf r)) at (now (out .entry)) (now (out .exit)) end ⌝ }
 {
     if r.number != 9 {
         return number_word(out, at, r.place, NEWLINE);
@@ -277,7 +277,7 @@ fn store_place(out: &mut [u8], at: usize, r: Refusal) -> usize
 
 fn store_refusal(out: &mut [u8], at: usize, r: Refusal) -> usize
     requires { ⌜ at + length (refusalLine r) ≤ length (now out) ⌝ }
-    ensures { λ end. ⌜ Wrote (refusalLine r) at (now (out .entry)) (now (out .exit)) end ⌝ }
+    ensures { λ end. ⌜ Lays (refusalLine r) at (now (out .entry)) (now (out .exit)) end ⌝ }
 {
     let number = octets_word(out, at, b"refused", SPACE);
     let word = number_word(out, number, r.number as usize, SPACE);

@@ -18,7 +18,7 @@ use Rattle.octets.proofs.Tests.{and-left, and-right, and-true, or-elim, or-left
 use Rattle.text.specs.Text.{token}
 use Rattle.octets.specs.declared.counts.Octets.{Octets}
 use Rattle.octets.specs.Counts.{asOctets}
-use Rattle.octets.specs.Puts.{Puts}
+use Rattle.octets.specs.Puts.{Puts, Lays}
 use Rattle.octets.specs.declared.Put.{Put}
 use Rattle.octets.proofs.Puts.{puts-none, puts-done}
 use Rattle.text.specs.Tokens.{Entries, entry, stands, expanded, present, covers, covered, expandedSize}
@@ -29,7 +29,7 @@ use Rattle.text.specs.Runs.{UntokenedTo}
 use Rattle.text.specs.declared.expanding.Found.{Found}
 use Rattle.text.specs.declared.expanding.Found.the-variants.{At, Nothing}
 use Rattle.octets.proofs.Lists.{drop-next}
-use Rattle.octets.proofs.Left.{Left, left-begin, left-end, left-room, left-more}
+use Rattle.octets.proofs.Left.{Left, left-begin, left-done, left-room, left-more}
 use Rattle.text.proofs.Masks.{bit-none, kept-within, within-kept, Marking, mark-begin, mark-done, mark-more}
 use Rattle.text.proofs.Index.{self-by, part-by, inside-by, width-by}
 use Rattle.text.proofs.Widths.{width-next, width-eight}
@@ -201,11 +201,8 @@ module _ (index table : List ℕ) (b : ℕ) (out : List ℕ) (at : ℕ) (h : at 
   pub self-room : f ≡ Nothing → at < length out
   self-room q = omega (arith, ap length (self-by index table b f e q))
 
-  pub self-end : f ≡ Nothing → at + 1 ≡ at + length (stands (entriesBy index table) b)
-  self-end q = rw (self-by index table b f e q)
-
-  pub self-out : f ≡ Nothing → set out at b ≡ sets out at (stands (entriesBy index table) b)
-  self-out q = rw (self-by index table b f e q)
+  pub self-laid : f ≡ Nothing → Lays (stands (entriesBy index table) b) at out (set out at b) (at + 1)
+  self-laid q = rw (self-by index table b f e q) (record { leaves = refl; ends = refl })
 
   module _ (start size : ℕ) (q : f ≡ At start size) where
     part-is : take (start + size - start) (drop start table) ≡ stands (entriesBy index table) b
@@ -217,13 +214,10 @@ module _ (index table : List ℕ) (b : ℕ) (out : List ℕ) (at : ℕ) (h : at 
     pub part-end-fits : length out < 2 ^ 63 → Fits w64 (at + size)
     part-end-fits g = record { fits = omega (arith, width-by index table b f e start size q) }
 
-    pub part-end : at + size ≡ at + length (stands (entriesBy index table) b)
-    part-end = omega (arith, width-by index table b f e start size q)
+    pub part-laid : (out′ : List ℕ) → out′ ≡ sets out at (take (start + size - start) (drop start table)) → Lays (stands (entriesBy index table) b) at out out′ (at + size)
+    part-laid out′ g = record { leaves = g ∙ ap (sets out at) part-is; ends = omega (arith, width-by index table b f e start size q) }
 
-    pub part-out : (out′ : List ℕ) → out′ ≡ sets out at (take (start + size - start) (drop start table)) → out′ ≡ sets out at (stands (entriesBy index table) b)
-    part-out out′ g = g ∙ ap (λ q. sets out at q) part-is
-
-pub ruleset one-ways = (self-room, self-end, self-out, inside-by, part-room, part-end, part-out)
+pub ruleset one-ways = (self-room, self-laid, inside-by, part-room, part-laid)
 
 -- ---- the loop of `write_all`
 pub record Writing (es : Entries) (s out₀ : List ℕ) (at : ℕ) (out : List ℕ) (to i : ℕ) : Type 0 where
@@ -238,16 +232,9 @@ module _ (es : Entries) (s out₀ : List ℕ) (at : ℕ) where
     pub write-long : length out ≡ length out₀
     write-long = inv .rest .long
 
-    module _ (h : length s ≤ i) where
-      last : Left (expanded es s) at out₀ [] out to
-      unfolding expanded
-      last = rw (drop-of-length-le s h) at (inv .rest)
-
-      pub write-done : out ≡ sets out₀ at (expanded es s)
-      write-done = last .same
-
-      pub write-done-at : to ≡ at + length (expanded es s)
-      write-done-at = left-end (expanded es s) at out₀ out to last
+    pub write-done : length s ≤ i → Lays (expanded es s) at out₀ out to
+    unfolding expanded
+    write-done h = left-done (expanded es s) at out₀ out to (rw (drop-of-length-le s h) at (inv .rest))
 
   module _ (out : List ℕ) (to i from : ℕ) (inv : Writing es s out₀ at out to i) (run : UntokenedTo s i from) where
     to-copy : Left (expanded es s) at out₀ (take (from - i) (drop i s) ++ expanded es (drop from s)) out to
@@ -262,15 +249,12 @@ module _ (es : Entries) (s out₀ : List ℕ) (at : ℕ) where
           record {
             within = run .inside;
             rest =
-                left-more (expanded es s) at out₀ (take (from - i) (drop i s)) (expanded es (drop from s)) out to to-copy out′ (to + (from - i)) f
-                (omega (arith, run-length 0x14 0xFF s i from run));
+                left-more (expanded es s) at out₀ (take (from - i) (drop i s)) (expanded es (drop from s)) out to to-copy out′ (to + (from - i))
+                (record { leaves = f; ends = omega (arith, run-length 0x14 0xFF s i from run) });
           }
 
-      pub write-end : from ≡ length s → out′ ≡ sets out₀ at (expanded es s)
+      pub write-end : from ≡ length s → Lays (expanded es s) at out₀ out′ (to + (from - i))
       write-end q = write-done out′ (to + (from - i)) from write-behind (omega arith)
-
-      pub write-end-at : from ≡ length s → to + (from - i) ≡ at + length (expanded es s)
-      write-end-at q = write-done-at out′ (to + (from - i)) from write-behind (omega arith)
 
       module _ (h : from ≡ length s → ⊥) where
         to-write : Left (expanded es s) at out₀ (stands es (getD s from 0) ++ expanded es (drop (from + 1) s)) out′ (to + (from - i))
@@ -280,15 +264,14 @@ module _ (es : Entries) (s out₀ : List ℕ) (at : ℕ) where
         pub write-room : to + (from - i) + length (stands es (getD s from 0)) ≤ length out′
         write-room = left-room (expanded es s) at out₀ (stands es (getD s from 0)) (expanded es (drop (from + 1) s)) out′ (to + (from - i)) to-write
 
-        pub write-again : (to′ : ℕ) (out″ : List ℕ) → to′ ≡ to + (from - i) + length (stands es (getD s from 0))
-            → out″ ≡ sets out′ (to + (from - i)) (stands es (getD s from 0)) → Writing es s out₀ at out″ to′ (from + 1)
-        write-again to′ out″ f g =
+        pub write-again : (to′ : ℕ) (out″ : List ℕ) → Lays (stands es (getD s from 0)) (to + (from - i)) out′ out″ to′ → Writing es s out₀ at out″ to′ (from + 1)
+        write-again to′ out″ w =
             record {
               within = omega (arith, run .inside);
-              rest = left-more (expanded es s) at out₀ (stands es (getD s from 0)) (expanded es (drop (from + 1) s)) out′ (to + (from - i)) to-write out″ to′ g f;
+              rest = left-more (expanded es s) at out₀ (stands es (getD s from 0)) (expanded es (drop (from + 1) s)) out′ (to + (from - i)) to-write out″ to′ w;
             }
 
-pub ruleset write-ways = (write-begin, write-long, write-done, write-done-at, copy-room, write-end, write-end-at, write-room, write-again)
+pub ruleset write-ways = (write-begin, write-long, write-done, copy-room, write-end, write-room, write-again)
 
 -- ---- the loop of `size_by`: how long the expansion of what is left is
 module _ (es : Entries) (s : List ℕ) (most total at : ℕ) (inv : Adding (λ q. expandedSize es q .0) s (expandedSize es s .0) most total at) where
@@ -338,7 +321,7 @@ module _ (es : Entries) (s out : List ℕ) (at : ℕ) where
       unfolding expandedSize
       expand-room = omega (arith, leb-true (expandedSize es s .0) (length out - at) (sym e ∙ y))
 
-      pub all-put : (end : ℕ) (out′ : List ℕ) → end ≡ at + length (expanded es s) → out′ ≡ sets out at (expanded es s) → Puts true (expanded es s) at out out′ (Put.Done end)
-      all-put end out′ f g = puts-done true (expanded es s) at out refl out′ end expand-room g f
+      pub all-put : (end : ℕ) (out′ : List ℕ) → Lays (expanded es s) at out out′ end → Puts true (expanded es s) at out out′ (Put.Done end)
+      all-put end out′ w = puts-done true (expanded es s) at out refl out′ end expand-room (w .leaves) (w .ends)
 
 pub ruleset expand-ways = (outside-put, long-put, expand-room, all-put)

@@ -8,7 +8,7 @@ ghost use Prim.Native.Nat.{_+_, _^_, _≤_, _<_, min};
 ghost use lib.ListN.{length, take, drop};
 ghost use lib.Seq.{sets};
 ghost use Rattle.octets.specs.Counts.{asOctets, octetsWithin};
-ghost use Rattle.octets.specs.Puts.{Puts};
+ghost use Rattle.octets.specs.Puts.{Puts, Lays};
 ghost use Rattle.text.specs.Tokens.{entries, stands, expanded, covered, expandedSize};
 ghost use Rattle.text.specs.Weighing.{Marks, widthAt, weight};
 ghost use Rattle.text.specs.Index.{placeBy, entriesBy, Bounds};
@@ -180,8 +180,7 @@ pub fn replacement(index: &[usize; 32], table: &[u8], b: u8) -> Found
 // What stands for an octet, written from a place on, and the place after it.
 fn write_one(index: &[usize; 32], table: &[u8], b: u8, out: &mut [u8], at: usize) -> usize
     requires { ⌜ at + length (stands (entriesBy (now index) (now table)) b) ≤ length (now out) ⌝ }
-    ensures { λ r. ⌜ r ≡ at + length (stands (entriesBy (now (index .entry)) (now (table .entry))) b) ⌝ }
-    ensures { λ r. ⌜ now (out .exit) ≡ sets (now (out .entry)) at (stands (entriesBy (now (index .entry)) (now (table .entry))) b) ⌝ }
+    ensures { λ r. ⌜ Lays (stands (entriesBy (now (index .entry)) (now (table .entry))) b) at (now (out .entry)) (now (out .exit)) r ⌝ }
 {
     match replacement(index, table, b) {
         Found::Nothing => {
@@ -200,8 +199,7 @@ fn write_one(index: &[usize; 32], table: &[u8], b: u8, out: &mut [u8], at: usize
 // them.
 fn write_all(index: &[usize; 32], table: &[u8], s: &[u8], out: &mut [u8], at: usize) -> usize
     requires { ⌜ at + length (expanded (entriesBy (now index) (now table)) (now s)) ≤ length (now out) ⌝ }
-    ensures { λ r. ⌜ r ≡ at + length (expanded (entriesBy (now (index .entry)) (now (table .entry))) (now (s .entry))) ⌝ }
-    ensures { λ _. ⌜ now (out .exit) ≡ sets (now (out .entry)) at (expanded (entriesBy (now (index .entry)) (now (table .entry))) (now (s .entry))) ⌝ }
+    ensures { λ r. ⌜ Lays (expanded (entriesBy (now (index .entry)) (now (table .entry))) (now (s .entry))) at (now (out .entry)) (now (out .exit)) r ⌝ }
 {
     let mut to = at;
     let mut i: usize = 0;

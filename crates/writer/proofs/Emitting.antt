@@ -9,6 +9,8 @@ use lib.Dec.{eqb}
 use lib.ListN.{length, take, drop, getD}
 use borrow.Author.Tests.{le-ltb, eq-eqb, ne-eqb}
 use Rattle.octets.specs.Header.{framed}
+use Rattle.octets.proofs.Left.{lays-none, lays-append, lays-length}
+use Rattle.octets.specs.Puts.{Lays}
 use Rattle.values.specs.Table.{attribute}
 use Rattle.values.proofs.Known.{high-attribute}
 use Rattle.format.specs.Tree.{Items}
@@ -24,12 +26,12 @@ use Rattle.writer.specs.declared.emit.Role.{Role}
 use Rattle.writer.specs.declared.emit.Role.the-variants.{Gone, Element, Attribute, Other}
 use Rattle.writer.specs.declared.emit.Reached.{Reached}
 use Rattle.survey.specs.Normal.{itemOctets, attributeOctets, laterOctets}
-use Rattle.writer.specs.Steps.{fourOf, itemsFrom, Holding, roleOf, bodyAt, BodyAt, Lays, Fitting, Ordered, Stands, FindsLowest, elementOctets, between, Framable, Emits, Standing, AsLaid}
+use Rattle.writer.specs.Steps.{fourOf, itemsFrom, Holding, roleOf, bodyAt, BodyAt, Fitting, Ordered, Stands, FindsLowest, elementOctets, between, Framable, Emits, Standing, AsLaid}
 use Rattle.survey.proofs.Rising.{rising-seven, rising-skip}
 use Rattle.writer.proofs.Copied.{laid-inside, laid-own, laid-after, laid-found}
 use Rattle.writer.proofs.Finding.{found-octets, none-between, found-body}
 use Rattle.survey.proofs.Sizes.{opens-no-attribute}
-use Rattle.writer.proofs.Lays.{lays-none, lays-append, lays-length, fitting-left, fitting-right}
+use Rattle.writer.proofs.Lays.{fitting-left, fitting-right}
 use Rattle.writer.proofs.Framing.{first-fits, second-fits, framable, frame-laid}
 use Rattle.writer.proofs.Rows.{from-stop, from-single, from-nested, from-ahead, from-within}
 

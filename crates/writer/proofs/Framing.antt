@@ -14,8 +14,10 @@ use Rattle.octets.specs.Numbers.{digits}
 use Rattle.octets.specs.Header.{lengthField, framed}
 use Rattle.octets.proofs.Answers.{framed-length}
 use Rattle.octets.proofs.Lists.{sets-append, sets-over, sets-comm, sets-same, set-sets, drop-sets, getD-sets-before, part-of-sets, length-part, drop-next}
-use Rattle.writer.specs.Steps.{between, Framable, Lays, Fitting}
-use Rattle.writer.proofs.Lays.{lays-append, lays-length, fitting-left, fitting-right}
+use Rattle.octets.proofs.Left.{lays-append, lays-length}
+use Rattle.octets.specs.Puts.{Lays}
+use Rattle.writer.specs.Steps.{between, Framable, Fitting}
+use Rattle.writer.proofs.Lays.{fitting-left, fitting-right}
 
 -- what is laid over all of an earlier list leaves nothing of it
 covered : (l : List ℕ) (i k : ℕ) (a b : List ℕ) → k + length a ≤ length b → sets (sets l (i + k) a) i b ≡ sets l i b

@@ -10,9 +10,10 @@ use lib.ListN.{length, length-append}
 use borrow.Author.Tests.{lt-ltb}
 use Rattle.octets.specs.Header.{lengthField, framed}
 use Rattle.octets.specs.declared.Put.{Put}
-use Rattle.octets.specs.Puts.{Puts}
+use Rattle.octets.specs.Puts.{Puts, Lays}
 use Rattle.octets.proofs.Answers.{size-five}
-use Rattle.octets.proofs.Puts.{put-done, put-no-room, put-invalid, put-room, put-there}
+use Rattle.octets.proofs.Puts.{put-done, put-no-room, put-invalid, put-room, put-there, put-laid}
+use Rattle.octets.proofs.Left.{lays-none, lays-append}
 use Rattle.values.specs.declared.Kind.{Kind}
 use Rattle.values.specs.declared.Kind.the-variants.{HoldsPlain}
 use Rattle.values.specs.declared.KnownKind.{KnownKind}
@@ -23,10 +24,10 @@ use Rattle.values.proofs.Laws.{known-kind, unknown-kind, normal-shorter}
 use Rattle.format.specs.Judge.{isItems}
 use Rattle.format.specs.Meaning.{opens, maybe}
 use Rattle.survey.specs.Normal.{framedSize, valueOctets, writtenAs, itemOctets}
-use Rattle.writer.specs.Steps.{Lays, Fitting, Standing}
+use Rattle.writer.specs.Steps.{Fitting, Standing}
 use Rattle.survey.proofs.Ways.{framed-length, value-fits}
 use Rattle.survey.proofs.WrittenAs.{written-kind, written-octets, unwritten-octets}
-use Rattle.writer.proofs.Lays.{lays-none, lays-append, fitting-left, fitting-right}
+use Rattle.writer.proofs.Lays.{fitting-left, fitting-right}
 
 -- an item is at most five octets longer than its body
 pub framed-short : (n : ℕ) → framedSize n ≤ n + 5
@@ -59,7 +60,7 @@ module _ (tag : ℕ) (r : KnownKind) (e : r ≡ knownKind 0 tag) where
 module _ (tag n to : ℕ) (before after : List ℕ) (answer : Put) (f : (n ≤ 32_768) × Fitting (tag ∷ lengthField n) to (length before))
     (p : Puts (ltb n (256 ^ 3)) (tag ∷ lengthField n) to before after answer) where
   pub header-done : (stop : ℕ) → answer ≡ Put.Done stop → Lays (tag ∷ lengthField n) to before after stop
-  header-done stop q = let d = put-done (ltb n (256 ^ 3)) (tag ∷ lengthField n) to before after answer p stop q in record { leaves = d .laid; ends = d .place }
+  header-done = put-laid (ltb n (256 ^ 3)) (tag ∷ lengthField n) to before after answer p
 
   pub header-no-room : answer ≡ Put.NoRoom → Lays (tag ∷ lengthField n) to before after to
   header-no-room q = put-room (ltb n (256 ^ 3)) (tag ∷ lengthField n) to before after answer p (f .1 .inRoom) q
@@ -77,7 +78,7 @@ module _ (k : Kind) (body : List ℕ) (to : ℕ) (before after : List ℕ) (answ
   pub value-done : (stop : ℕ) → answer ≡ Put.Done stop → Lays (valueOctets k body) to before after stop
   value-done stop q =
       let d = put-done (fits k body) (normalOctets k body) to before after answer p stop q in
-      rw (octets-are (d .is)) (record { leaves = d .laid; ends = d .place })
+      rw (octets-are (d .is)) (put-laid (fits k body) (normalOctets k body) to before after answer p stop q)
 
   pub value-no-room : answer ≡ Put.NoRoom → Lays (valueOctets k body) to before after to
   value-no-room q =

@@ -12,6 +12,7 @@ use borrow.Author.Tests.{leb-true, lt-leb, le-leb, eqb-true, eqb-false, ltb-true
 use Rattle.octets.specs.declared.counts.Octets.{Octets as OctetCount}
 use Rattle.octets.specs.Counts.{asOctets, sizeOf}
 use Rattle.octets.proofs.Tests.{and-right, chosen, never}
+use Rattle.octets.specs.Puts.{Lays}
 use Rattle.format.specs.declared.Record.{Record}
 use Rattle.format.specs.declared.WriteAnswer.{WriteAnswer}
 use Rattle.format.specs.declared.WriteAnswer.the-variants.{Octets, NotWritten}
@@ -31,7 +32,7 @@ use Rattle.writer.specs.declared.size.Sized.the-variants.{Over, Size}
 use Rattle.writer.specs.declared.emit.Reached.{Reached}
 use Rattle.records.specs.Check.{isGiven}
 use Rattle.survey.specs.Normal.{normalSize, laterOctets}
-use Rattle.writer.specs.Steps.{itemsFrom, Holding, sizedFrom, Lays, Ordered, Fitting, Emits}
+use Rattle.writer.specs.Steps.{itemsFrom, Holding, sizedFrom, Ordered, Fitting, Emits}
 use Rattle.survey.proofs.Sizes.{size-whole}
 use Rattle.writer.proofs.Order.{laid-whole}
 use Rattle.writer.proofs.Rows.{fourIn, tree-four}

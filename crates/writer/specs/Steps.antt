@@ -6,8 +6,8 @@ use mathlib.Core.List.{List, [], _++_}
 use Prim.Native.Nat.{ℕ, suc, _+_, _-_, _≤_, _<_}
 use lib.Dec.{eqb, leb, ltb}
 use lib.ListN.{length, take, drop, getD}
-use lib.Seq.{sets}
 use denote.Ref.{RefT}
+pub use Rattle.octets.specs.Puts.{Lays}
 use Rattle.octets.specs.Counts.{asOctets, sizeOf}
 use Rattle.octets.specs.Header.{framed}
 use Rattle.values.specs.Table.{attribute}
@@ -64,11 +64,6 @@ sizedFrom l n lent parent depth i = sizedOf (normalSize parent (itemsFrom l n le
 -- the same of an element with its header, by the items in it
 abbrev pub sizedElement : Lists → ℕ → List ℕ → (tag depth i : ℕ) → Sized
 sizedElement l n lent tag depth i = sizedOf (framedSize (normalSize tag (itemsFrom l n lent depth i .0))) (itemsFrom l n lent depth i .1)
-
--- octets laid into a room from a place on, and the place behind them
-pub record Lays (octets : List ℕ) (to : ℕ) (before after : List ℕ) (end : ℕ) : Type 0 where
-  pub leaves : after ≡ sets before to octets
-  pub ends : end ≡ to + length octets
 
 -- items of an element of a tag that keep the rules, whatever came before them
 pub record Ordered (parent : ℕ) (t : Items) : Type 0 where

@@ -4,7 +4,8 @@ ghost use Prim.Native.Nat.{_+_, _≤_};
 ghost use lib.ListN.{length};
 ghost use lib.Seq.{sets};
 ghost use Rattle.octets.specs.Header.{framed};
-ghost use Rattle.writer.specs.Steps.{between, Framable, Lays};
+ghost use Rattle.octets.specs.Puts.{Lays};
+ghost use Rattle.writer.specs.Steps.{between, Framable};
 use crate::item::put_header;
 use octets::Octets;
 

@@ -1,4 +1,4 @@
-use Rattle.show.proofs.Writing.{copy-ways}
+use Rattle.octets.proofs.Puts.{laid-ways}
 use borrow.Author.Needs.{needs}
 use Rattle.show.proofs.store_octets.Statement.{statement}
 use Rattle.show.proofs.store_octets.Tie as tie
@@ -19,19 +19,19 @@ same-length : tie.Need-same-length
 same-length c = search needs
 
 returns : tie.Need-returns
-returns c = search (copy-ways, needs)
+returns c = search (laid-ways, needs)
 
 same-length-2 : tie.Need-same-length-2
 same-length-2 c = search needs
 
 returns-2 : tie.Need-returns-2
-returns-2 c = search (copy-ways, needs)
+returns-2 c = search (laid-ways, needs)
 
 same-length-3 : tie.Need-same-length-3
 same-length-3 c = search needs
 
 returns-3 : tie.Need-returns-3
-returns-3 c = search (copy-ways, needs)
+returns-3 c = search (laid-ways, needs)
 
 pub store-octets-spec : {M : Type 1} → statement M
 store-octets-spec =
