@@ -117,7 +117,7 @@ loaded-leaf T p tag body stands-cdata e l f = rw (e, known-one) (expanded-empty 
 loaded-leaf T p tag body stands-language e l f = rw (e, known-six) (expanded-empty (expanded T body))
 
 -- what an item adds to a meaning, if it is neither attribute nor CDATA nor the token table
-abbrev Meant : Entries → Spot → Items → Type 0
+abbrev pub Meant : Entries → Spot → Items → Type 0
 Meant T s t = (at : ℕ) → means [] (loadedIn T (s .parent) at t) ≡ means T t
 
 -- an item that adds nothing
@@ -173,17 +173,17 @@ meant-item T s tag from body x u i f inside later = go (attribute tag) refl (kno
     go true a k = meant-silent T s tag from body x u (attribute-no-child tag a) (attribute-four tag a) (attribute-shut tag a) later
     go false a k = meant-known T s tag from body x u (stands tag (k .0) (sym (known-anywhere (s .parent) tag a) ∙ k .1)) f inside later
 
-loaded-meant : (T : Entries) → Sound T → (t : Items) (s : Spot) → Told T s t → Meant T s t
+pub loaded-meant : (T : Entries) → Sound T → (t : Items) (s : Spot) → Told T s t → Meant T s t
 unfolding means loadedIn
 loaded-meant T ok end s h at = refl
 loaded-meant T ok (item tag from body x u) s h at =
     meant-item T s tag from body x u (h .0) (fine T ok x (below s tag) (h .1)) (loaded-meant T ok x (below s tag) (h .1)) (loaded-meant T ok u (past s tag) (h .2)) at
 
 -- a spot that has come no further than another
-abbrev lower : Spot → ℕ → List ℕ → Spot
+abbrev pub lower : Spot → ℕ → List ℕ → Spot
 lower s stage seen = record { parent = s .parent; depth = s .depth; stage = stage; seen = seen }
 
-placed-lower : (s : Spot) (tag : ℕ) → Placed s tag → (stage : ℕ) (seen : List ℕ) → stage ≤ s .stage → Among seen (s .seen) → placed (lower s stage seen) tag ≡ true
+pub placed-lower : (s : Spot) (tag : ℕ) → Placed s tag → (stage : ℕ) (seen : List ℕ) → stage ≤ s .stage → Among seen (s .seen) → placed (lower s stage seen) tag ≡ true
 unfolding placed
 placed-lower s tag p stage seen l h =
     let o : leb stage (latest tag) ≡ true = le-leb stage (latest tag) (omega (arith, leb-true (s .stage) (latest tag) (p .order))) in
@@ -225,7 +225,7 @@ ruled-item : (s : Spot) (tag at : ℕ) (body : List ℕ) (x y : Items) → opens
 unfolding ruled keeps
 ruled-item s tag at body x y a b k c d = rw (a, b, k, c, d)
 
-abbrev Keeps : Entries → Spot → Items → Type 0
+abbrev pub Keeps : Entries → Spot → Items → Type 0
 Keeps T s t = (at stage : ℕ) (seen : List ℕ) → stage ≤ s .stage → Among seen (s .seen) → ruled (lower s stage seen) (loadedIn T (s .parent) at t) ≡ true
 
 -- the items after an item, in the loaded tree
@@ -284,7 +284,7 @@ keeps-item T s tag from body x u ok i inside later = go (attribute tag) refl (kn
         (value-keeps T (s .parent) tag body (k .0) ok h (attribute-kind (s .parent) tag (k .0) a (k .1)) (λ v. told-proper T (s .parent) tag body (k .0) ok (i .octets) a (k .1) h)) later
     go false a k = keeps-known T s tag from body x u ok p (k .1) (stands tag (k .0) (sym (known-anywhere (s .parent) tag a) ∙ k .1)) (rw (k .1) at (i .kind)) inside later
 
-loaded-keeps : (T : Entries) → Sound T → (t : Items) (s : Spot) → Told T s t → Keeps T s t
+pub loaded-keeps : (T : Entries) → Sound T → (t : Items) (s : Spot) → Told T s t → Keeps T s t
 unfolding loadedIn ruled
 loaded-keeps T ok end s h at stage seen l q = refl
 loaded-keeps T ok (item tag from body x u) s h at stage seen l q =
@@ -323,7 +323,7 @@ loaded-stored T end p at pre post lent e l = tt
 loaded-stored T (item tag from body x u) p at pre post lent e l = stored-item T tag from body x u (loaded-stored T x) (loaded-stored T u) p at pre post lent e l
 
 -- the loaded tree has as many records as the object
-abbrev Counts : Entries → Items → Type 0
+abbrev pub Counts : Entries → Items → Type 0
 Counts T t = (p at : ℕ) → count (loadedIn T p at t) ≡ count t
 
 counts-item : (T : Entries) (tag from : ℕ) (body : List ℕ) (x u : Items) → opens tag || isEnd x ≡ true → Counts T x → Counts T u → Counts T (item tag from body x u)
@@ -340,7 +340,7 @@ counts-item T tag from body x u h inside later p at = go (eqb tag 4) refl (opens
     go false e false end q i = rw (e, later p (at + length own))
     go false e false (item a b c d f) q i = absurd (false≢true q)
 
-loaded-counts : (T : Entries) (t : Items) (s : Spot) → Told T s t → Counts T t
+pub loaded-counts : (T : Entries) (t : Items) (s : Spot) → Told T s t → Counts T t
 unfolding loadedIn
 loaded-counts T end s h p at = refl
 loaded-counts T (item tag from body x u) s h p at = counts-item T tag from body x u (h .0 .holder) (loaded-counts T x (below s tag) (h .1)) (loaded-counts T u (past s tag) (h .2)) p at

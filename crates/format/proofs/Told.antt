@@ -20,7 +20,7 @@ use Rattle.values.specs.Table.{known, attribute}
 use Rattle.values.specs.Values.{fits}
 use Rattle.format.specs.Tree.{Items, find}
 use Rattle.format.specs.Tree.Items.{end, item}
-use Rattle.format.specs.Judge.{isKnown, isItems, isText, isValue, Context, allowed, latest, stageAfter, shown, ofTop, late, lateAfter, within, next, outermost, judge}
+use Rattle.format.specs.Judge.{isKnown, isItems, isText, isValue, Context, allowed, latest, stageAfter, shown, ofTop, late, lateAfter, within, next, outermost, read, judge}
 use Rattle.format.specs.Judge.Judged.{accepted}
 use Rattle.format.specs.Meaning.{opens, tableIn, tableOf}
 use Rattle.format.specs.Writer.{Spot, below, past, atTop, placed, isEnd}
@@ -29,7 +29,7 @@ use Rattle.octets.proofs.Places.{body-octets, later-octets}
 use Rattle.text.proofs.Expansion.{Sound, sound-empty}
 use Rattle.values.proofs.Known.{known-four, known-anywhere, items-no-attribute, items-tag, not-zero, unknown-four}
 use Rattle.format.proofs.Rules.{Held, KindHeld, held, fitting, accepted-size}
-use Rattle.format.proofs.Induction.{Cases, judged-all, Unbroken, inAt, Nexts}
+use Rattle.format.proofs.Induction.{Cases, accepted-all, judged-all, Unbroken, inAt, Nexts}
 use Rattle.format.proofs.Place.{shown-other}
 use Rattle.format.proofs.Means.{opens-items, text-known}
 use Rattle.format.proofs.Force.{held-stage, settled, settled-next, settled-within, not-four, attribute-four, attribute-one, swap-eqb, Valid, valid-within, valid-next, quiet-now, quiet-before, quiet-attribute, covered-attribute, inForce, forced, force-next, force-skip, force-after, force-table, top-known}
@@ -55,7 +55,7 @@ Told T s end = Unit {0}
 Told T s (item tag at body inside after) = ItemTold T s tag body inside × Told T (below s tag) inside × Told T (past s tag) after
 
 -- the spot of a context, with a stage and tags that it has come to at least
-abbrev spot : Context → ℕ → List ℕ → Spot
+abbrev pub spot : Context → ℕ → List ℕ → Spot
 spot c stage seen = record { parent = c .parent; depth = c .depth; stage = stage; seen = seen }
 
 abbrev pub Among : List ℕ → List ℕ → Type 0
@@ -389,3 +389,8 @@ accepted-sound o t os h =
     let w = top o t os h in
     let g : Sound (tableIn (find 4 (w .inside))) = subst (λ T. Sound T) (same-table (find 4 (w .inside))) (w .tells .sound (top-valid (w .tag) (w .held .allow))) in
     subst (λ x. Sound (tableOf x)) (sym (w .is)) g
+
+-- and of the items of any part that is judged in an element, under a context whose table is a valid one
+pub part-told : (c : Context) (o : List ℕ) (t : Items) → Octets o → read c 0 o ≡ accepted t → Valid c → Told (inForce c t) (spot c 0 []) t
+unfolding among
+part-told c o t os h v = accepted-all Coming coming-cases (suc (length o)) c 0 o t h os .tells .told v 0 [] (omega arith) (λ a q. absurd (false≢true q))

@@ -71,7 +71,7 @@ item-told s tag body inside after os u =
       holder = u .holder;
     }
 
-ruled-told : (t : Items) (s : Spot) → Bytes t → ruled s t ≡ true → Told [] s t
+pub ruled-told : (t : Items) (s : Spot) → Bytes t → ruled s t ≡ true → Told [] s t
 ruled-told end s b h = tt
 ruled-told (item tag at body inside after) s b h =
     let u = ruled-parts s tag at body inside after h in

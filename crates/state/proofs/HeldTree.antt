@@ -77,7 +77,7 @@ pub record Held (n : ℕ) (m : Memory) (t : Items) : Type 0 where
   pub small : length (encode (means [] t)) ≤ 32_768
   pub fewer : n ≤ length (m .bodies)
 
-kept-is : (f : Items → Bool) (o : Option Items) (t : Items) → kept f o ≡ some t → (o ≡ some t) × (f t ≡ true)
+pub kept-is : (f : Items → Bool) (o : Option Items) (t : Items) → kept f o ≡ some t → (o ≡ some t) × (f t ≡ true)
 unfolding kept
 kept-is f none t h = absurd (Option·none-ne-some t h)
 kept-is f (some u) t h = go (f u) refl h

@@ -41,9 +41,9 @@ unfolding storeIn
 store-single T p tag from body x u f o = rw (f, o)
 
 -- the tree packed again at any place, and its store
-record Again (T : Entries) (s : Spot) (t : Items) : Type 0 where
-  tree : (at from : ℕ) → loadedIn [] (s .parent) at (loadedIn T (s .parent) from t) ≡ loadedIn T (s .parent) at t
-  store : (from : ℕ) → storeIn [] (s .parent) (loadedIn T (s .parent) from t) ≡ storeIn T (s .parent) t
+pub record Again (T : Entries) (s : Spot) (t : Items) : Type 0 where
+  pub tree : (at from : ℕ) → loadedIn [] (s .parent) at (loadedIn T (s .parent) from t) ≡ loadedIn T (s .parent) at t
+  pub store : (from : ℕ) → storeIn [] (s .parent) (loadedIn T (s .parent) from t) ≡ storeIn T (s .parent) t
 
 module _ (T : Entries) (s : Spot) (tag place : ℕ) (body : List ℕ) (x u : Items) where
   abbrev p : ℕ
@@ -94,7 +94,7 @@ module _ (T : Entries) (s : Spot) (tag place : ℕ) (body : List ℕ) (x u : Ite
       go false f true o = again-held inside later f o
       go false f false o = again-single later (stored-again T sound s tag body x i f o) f o
 
-loaded-again : (T : Entries) → Sound T → (t : Items) (s : Spot) → Told T s t → Again T s t
+pub loaded-again : (T : Entries) → Sound T → (t : Items) (s : Spot) → Told T s t → Again T s t
 unfolding loadedIn storeIn
 loaded-again T sound end s h = record { tree = λ at from. refl; store = λ from. refl }
 loaded-again T sound (item tag place body x u) s h =
