@@ -183,16 +183,18 @@ loaded-meant T ok (item tag from body x u) s h at =
 abbrev pub lower : Spot → ℕ → List ℕ → Spot
 lower s stage seen = record { parent = s .parent; depth = s .depth; stage = stage; seen = seen }
 
-pub placed-lower : (s : Spot) (tag : ℕ) → Placed s tag → (stage : ℕ) (seen : List ℕ) → stage ≤ s .stage → Among seen (s .seen) → placed (lower s stage seen) tag ≡ true
+-- an item may stand there too, unless it is an attribute that stands before it there alone
+pub placed-lower : (s : Spot) (tag : ℕ) → Placed s tag → (stage : ℕ) (seen : List ℕ) → stage ≤ s .stage → (attribute tag ≡ true → among tag seen ≡ true → among tag (s .seen) ≡ true)
+    → placed (lower s stage seen) tag ≡ true
 unfolding placed
 placed-lower s tag p stage seen l h =
     let o : leb stage (latest tag) ≡ true = le-leb stage (latest tag) (omega (arith, leb-true (s .stage) (latest tag) (p .order))) in
-    rw (p .allow, o, p .deep) (go (attribute tag) (among tag seen) refl (p .once))
+    rw (p .allow, o, p .deep) (go (attribute tag) refl (among tag seen) refl (p .once))
   where
-    go : (a b : Bool) → among tag seen ≡ b → not (a && among tag (s .seen)) ≡ true → not (a && b) ≡ true
-    go false b q r = refl
-    go true false q r = refl
-    go true true q r = let g : not true ≡ true = rw (h tag q) at r in g
+    go : (a : Bool) → attribute tag ≡ a → (b : Bool) → among tag seen ≡ b → not (a && among tag (s .seen)) ≡ true → not (a && b) ≡ true
+    go false e b q r = refl
+    go true e false q r = refl
+    go true e true q r = let g : not true ≡ true = rw (h e q) at r in g
 
 -- stored octets keep the rules by kind
 words-keep : (T : Entries) (p tag : ℕ) (body : List ℕ) → Sound T → KindTold T p tag body (some HoldsText) → bodyKeeps p tag (stored T (some HoldsText) body) (some HoldsText) ≡ true
@@ -245,7 +247,7 @@ unfolding below
 keeps-held T s tag from body x u p e f o inside later at stage seen l h =
     let n = at + length (storeIn T tag x) in
     rw (loaded-held T (s .parent) at tag from body x u f o)
-    (ruled-item (lower s stage seen) tag 0 [] (loadedIn T tag at x) (loadedIn T (s .parent) n u) (rw o) (placed-lower s tag p stage seen l h) (rw e (items-keep (s .parent) tag))
+    (ruled-item (lower s stage seen) tag 0 [] (loadedIn T tag at x) (loadedIn T (s .parent) n u) (rw o) (placed-lower s tag p stage seen l (λ e q. h tag q)) (rw e (items-keep (s .parent) tag))
     (inside at 0 [] (omega arith) (λ a q. q)) (keeps-after T s tag n u later stage seen h))
 
 keeps-single : (T : Entries) (s : Spot) (tag from : ℕ) (body : List ℕ) (x u : Items) (k : Kind) → Placed s tag → known (s .parent) tag ≡ some k → eqb tag 4 ≡ false → opens tag ≡ false
@@ -255,7 +257,7 @@ keeps-single T s tag from body x u k p e f o b later at stage seen l h =
     let own = stored T (known (s .parent) tag) body in
     let n = at + length own in
     rw (loaded-single T (s .parent) at tag from body x u f o)
-    (ruled-item (lower s stage seen) tag at own end (loadedIn T (s .parent) n u) (or-true (opens tag)) (placed-lower s tag p stage seen l h) (rw e b) refl (keeps-after T s tag n u later stage seen h))
+    (ruled-item (lower s stage seen) tag at own end (loadedIn T (s .parent) n u) (or-true (opens tag)) (placed-lower s tag p stage seen l (λ e q. h tag q)) (rw e b) refl (keeps-after T s tag n u later stage seen h))
 
 -- an item that is no attribute, by its kind
 keeps-known : (T : Entries) (s : Spot) (tag from : ℕ) (body : List ℕ) (x u : Items) {k : Kind} → Sound T → Placed s tag → known (s .parent) tag ≡ some k → Stands tag k
