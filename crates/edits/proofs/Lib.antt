@@ -1,0 +1,14 @@
+pub mod Swaps
+pub mod Spots
+pub mod Found
+pub mod Local
+pub mod Insert
+pub mod InsertRules
+pub mod Elements
+pub mod Standing
+pub mod Changed
+pub mod Shrinks
+pub mod Only
+pub mod Runs
+pub mod ElementTags
+pub mod Examples

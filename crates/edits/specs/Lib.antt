@@ -1,0 +1,4 @@
+pub mod Tree
+pub mod Calls
+pub mod Runs
+pub mod Sites
