@@ -8,6 +8,7 @@ use native.Mathlib.Omega.{arith}
 use lib.Dec.{eqb, ltb}
 use lib.ListN.{length}
 use Rattle.octets.specs.Numbers.{Octets}
+use Rattle.octets.proofs.Places.{body-octets, later-octets}
 use Rattle.octets.proofs.Tests.{and-left}
 use Rattle.values.specs.Table.{attribute}
 use Rattle.format.specs.Tree.{Items, count}
@@ -18,7 +19,7 @@ use Rattle.format.specs.Meaning.{means}
 use Rattle.format.specs.Loaded.{loadedIn}
 use Rattle.format.specs.State.{packed, kept}
 use Rattle.format.specs.Writer.{Spot, atTop, isEnd, ruled}
-use Rattle.format.proofs.Induction.{Cases, accepted-all, body-octets, later-octets}
+use Rattle.format.proofs.Induction.{Cases, accepted-all}
 use Rattle.format.proofs.Kept.{ruled-parts, keeps-tag}
 use Rattle.format.proofs.Tabled.{count-item}
 use Rattle.format.proofs.Written.{Bytes}

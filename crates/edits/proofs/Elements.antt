@@ -2,7 +2,7 @@
 use mathlib.Core.Path.{_≡_, refl, sym, ap, _∙_, subst}
 use mathlib.Core.Bool.{Bool, true, false, cond, not, _&&_, _||_, false≢true}
 use mathlib.Core.Option.{Option, none, some, Option·some-injective, Option·none-ne-some}
-use mathlib.Core.List.{List, [], _∷_}
+use mathlib.Core.List.{List, [], _∷_, cons≢nil}
 use Prim.Native.Nat.{ℕ, suc, _+_}
 use native.Mathlib.Omega.{arith}
 use lib.Dec.{eqb, leb}
@@ -11,6 +11,7 @@ use lib.Seq.{drop-drop}
 use borrow.Author.Tests.{eqb-true}
 use Rattle.octets.specs.Numbers.{Octets}
 use Rattle.octets.specs.Header.{headerSize, bodySize}
+use Rattle.octets.specs.Places.{afterFirst}
 use Rattle.octets.proofs.Tests.{and-left, and-true}
 use Rattle.text.specs.Text.{text}
 use Rattle.text.specs.Tokens.{covered, shownLength}
@@ -23,11 +24,11 @@ use Rattle.format.specs.Judge.{Judged, Context, isText, isTop, allowed, shown, 
 use Rattle.format.specs.Judge.Judged.{refused, accepted}
 use Rattle.format.specs.Meaning.{isChild}
 use Rattle.format.specs.Writer.{Spot, below, past, bodyKeeps, keeps, ruled}
-use Rattle.format.proofs.Induction.{Cases, accepted-all, laterOf}
+use Rattle.format.proofs.Induction.{Cases, accepted-all}
 use Rattle.format.proofs.Kept.{is-ruled}
 use Rattle.format.proofs.Fine.{placed-parts}
 use Rattle.format.proofs.Force.{Valid, forced, inner-tag, swap-eqb}
-use Rattle.format.proofs.Told.{Told, ItemTold, KindTold, part-told, some-octet}
+use Rattle.format.proofs.Told.{Told, ItemTold, KindTold, part-told}
 use Rattle.judge.proofs.AllWays.{tokens-four}
 use Rattle.edits.proofs.Spots.{firstIn}
 use Rattle.edits.specs.Tree.{Found, without, firstTag, insideOf, isOneItem, firstElement, elementOf}
@@ -37,16 +38,16 @@ record Single (part : List ℕ) (t : Items) : Type 0 where
   empty : part ≡ [] → t ≡ end
   alone : headerSize part + bodySize part ≡ length part → without t ≡ end
 
-later-none : (p : List ℕ) → headerSize p + bodySize p ≡ length p → laterOf p ≡ []
+later-none : (p : List ℕ) → headerSize p + bodySize p ≡ length p → afterFirst p ≡ []
 later-none p e = drop-drop (bodySize p) (headerSize p) p ∙ drop-of-length-le p {i = headerSize p + bodySize p} (omega arith)
 
 single-cases : Cases (λ c at part t. Single part t)
 unfolding without
 single-cases = record {
   atEnd = λ c at q. record { empty = λ e. refl; alone = λ e. refl };
-  atUnknown = λ c at tag rest u q e later. record { empty = λ n. absurd (some-octet tag rest n); alone = λ n. ap without (later .empty (later-none (tag ∷ rest) n)) };
-  atElement = λ c at tag rest s u q e inside later. record { empty = λ n. absurd (some-octet tag rest n); alone = λ n. later .empty (later-none (tag ∷ rest) n) };
-  atLeaf = λ c at tag rest u k q e l later. record { empty = λ n. absurd (some-octet tag rest n); alone = λ n. later .empty (later-none (tag ∷ rest) n) };
+  atUnknown = λ c at tag rest u q e later. record { empty = λ n. absurd (cons≢nil n); alone = λ n. ap without (later .empty (later-none (tag ∷ rest) n)) };
+  atElement = λ c at tag rest s u q e inside later. record { empty = λ n. absurd (cons≢nil n); alone = λ n. later .empty (later-none (tag ∷ rest) n) };
+  atLeaf = λ c at tag rest u k q e l later. record { empty = λ n. absurd (cons≢nil n); alone = λ n. later .empty (later-none (tag ∷ rest) n) };
 }
 
 single : (c : Context) (o : List ℕ) (t : Items) → isOneItem o ≡ true → read c 0 o ≡ accepted t → without t ≡ end
