@@ -62,7 +62,7 @@ same-child-content-of-requires : (t : ℕ) → same-child-lts.Need-content-of-re
   same-children-below t,
   same-children.Post,
 ) (same-child-at t) same-child.Post
-same-child-content-of-requires t c κs = search (same-child-ways, not-true, not-false, needs)
+same-child-content-of-requires t c κs = search (same-child-ways, needs)
 
 same-child-enum-told : (t : ℕ) → same-child-lts.Need-enum-told (
   content-of-reads.Asked,
@@ -94,7 +94,7 @@ same-child-same-octets-requires : (t : ℕ) → same-child-lts.Need-same-octets-
   same-children-below t,
   same-children.Post,
 ) (same-child-at t) same-child.Post
-same-child-same-octets-requires t c κs = search (same-child-ways, not-true, not-false, needs)
+same-child-same-octets-requires t c κs = search (same-child-ways, needs)
 
 same-child-enum-told-2 : (t : ℕ) → same-child-lts.Need-enum-told-2 (
   content-of-reads.Asked,
@@ -126,7 +126,7 @@ same-child-same-texts-requires : (t : ℕ) → same-child-lts.Need-same-texts-re
   same-children-below t,
   same-children.Post,
 ) (same-child-at t) same-child.Post
-same-child-same-texts-requires t c κs = search (same-child-ways, not-true, not-false, needs)
+same-child-same-texts-requires t c κs = search (same-child-ways, needs)
 
 same-child-enum-told-3 : (t : ℕ) → same-child-lts.Need-enum-told-3 (
   content-of-reads.Asked,
@@ -158,7 +158,7 @@ same-child-returns : (t : ℕ) → same-child-lts.Need-returns (
   same-children-below t,
   same-children.Post,
 ) (same-child-at t) same-child.Post
-same-child-returns t c = search (same-child-ways, not-true, not-false, needs)
+same-child-returns t c = search (same-child-ways, needs)
 
 same-child-same-attributes-requires : (t : ℕ) → same-child-lts.Need-same-attributes-requires (
   content-of-reads.Asked,
@@ -174,7 +174,7 @@ same-child-same-attributes-requires : (t : ℕ) → same-child-lts.Need-same-att
   same-children-below t,
   same-children.Post,
 ) (same-child-at t) same-child.Post
-same-child-same-attributes-requires t c κs = search (same-child-ways, not-true, not-false, needs)
+same-child-same-attributes-requires t c κs = search (same-child-ways, needs)
 
 same-child-returns-2 : (t : ℕ) → same-child-lts.Need-returns-2 (
   content-of-reads.Asked,
@@ -206,7 +206,7 @@ same-child-same-cdata-requires : (t : ℕ) → same-child-lts.Need-same-cdata-re
   same-children-below t,
   same-children.Post,
 ) (same-child-at t) same-child.Post
-same-child-same-cdata-requires t c κs = search (same-child-ways, not-true, not-false, needs)
+same-child-same-cdata-requires t c κs = search (same-child-ways, needs)
 
 same-child-returns-3 : (t : ℕ) → same-child-lts.Need-returns-3 (
   content-of-reads.Asked,
@@ -270,7 +270,7 @@ same-child-returns-4 : (t : ℕ) → same-child-lts.Need-returns-4 (
   same-children-below t,
   same-children.Post,
 ) (same-child-at t) same-child.Post
-same-child-returns-4 t c = search (same-child-ways, not-true, not-false, needs)
+same-child-returns-4 t c = search (same-child-ways, needs)
 
 same-child-returns-5 : (t : ℕ) → same-child-lts.Need-returns-5 (
   content-of-reads.Asked,
@@ -286,7 +286,7 @@ same-child-returns-5 : (t : ℕ) → same-child-lts.Need-returns-5 (
   same-children-below t,
   same-children.Post,
 ) (same-child-at t) same-child.Post
-same-child-returns-5 t c = search (same-child-ways, not-true, not-false, needs)
+same-child-returns-5 t c = search (same-child-ways, needs)
 
 same-child-returns-6 : (t : ℕ) → same-child-lts.Need-returns-6 (
   content-of-reads.Asked,
@@ -302,7 +302,7 @@ same-child-returns-6 : (t : ℕ) → same-child-lts.Need-returns-6 (
   same-children-below t,
   same-children.Post,
 ) (same-child-at t) same-child.Post
-same-child-returns-6 t c = search (same-child-ways, not-true, not-false, needs)
+same-child-returns-6 t c = search (same-child-ways, not-false, needs)
 
 abbrev same-children-Inv-loop : same-children-lts.InvT-loop
 same-children-Inv-loop left xa ta a xb tb b i₀ j₀ i j = Abreast left (entriesBy xa ta) a (entriesBy xb tb) b i j
@@ -318,7 +318,7 @@ same-children-loop-holds : (t : ℕ) → same-children-lts.Need-loop-holds (
   same-child-below t,
   same-child.Post,
 ) (same-children-at t) same-children.Post same-children-Inv-loop same-children-μ-loop
-same-children-loop-holds t c = search (abreast-ways, found-ways, not-true, not-false, needs)
+same-children-loop-holds t c = search (abreast-ways, found-ways, needs)
 
 same-children-next-child-requires : (t : ℕ) → same-children-lts.Need-next-child-requires (
   next-child-reads.Asked,
@@ -328,7 +328,7 @@ same-children-next-child-requires : (t : ℕ) → same-children-lts.Need-next-ch
   same-child-below t,
   same-child.Post,
 ) (same-children-at t) same-children.Post same-children-Inv-loop same-children-μ-loop
-same-children-next-child-requires t c κs = search (abreast-ways, found-ways, not-true, not-false, needs)
+same-children-next-child-requires t c κs = search (abreast-ways, found-ways, needs)
 
 same-children-enum-known-at : (t : ℕ) → same-children-lts.Need-enum-known-at (
   next-child-reads.Asked,
@@ -358,7 +358,7 @@ same-children-next-child-requires-2 : (t : ℕ) → same-children-lts.Need-next-
   same-child-below t,
   same-child.Post,
 ) (same-children-at t) same-children.Post same-children-Inv-loop same-children-μ-loop
-same-children-next-child-requires-2 t c κs = search (abreast-ways, found-ways, not-true, not-false, needs)
+same-children-next-child-requires-2 t c κs = search (abreast-ways, found-ways, needs)
 
 same-children-is-end-requires : (t : ℕ) → same-children-lts.Need-is-end-requires (
   next-child-reads.Asked,
@@ -368,7 +368,7 @@ same-children-is-end-requires : (t : ℕ) → same-children-lts.Need-is-end-requ
   same-child-below t,
   same-child.Post,
 ) (same-children-at t) same-children.Post same-children-Inv-loop same-children-μ-loop
-same-children-is-end-requires t c κs = search (abreast-ways, found-ways, not-true, not-false, needs)
+same-children-is-end-requires t c κs = search (abreast-ways, found-ways, needs)
 
 same-children-returns : (t : ℕ) → same-children-lts.Need-returns (
   next-child-reads.Asked,
@@ -378,7 +378,7 @@ same-children-returns : (t : ℕ) → same-children-lts.Need-returns (
   same-child-below t,
   same-child.Post,
 ) (same-children-at t) same-children.Post same-children-Inv-loop same-children-μ-loop
-same-children-returns t c = search (abreast-ways, found-ways, not-true, not-false, needs)
+same-children-returns t c = search (abreast-ways, found-ways, needs)
 
 same-children-next-child-requires-3 : (t : ℕ) → same-children-lts.Need-next-child-requires-3 (
   next-child-reads.Asked,
@@ -388,7 +388,7 @@ same-children-next-child-requires-3 : (t : ℕ) → same-children-lts.Need-next-
   same-child-below t,
   same-child.Post,
 ) (same-children-at t) same-children.Post same-children-Inv-loop same-children-μ-loop
-same-children-next-child-requires-3 t c κs = search (abreast-ways, found-ways, not-true, not-false, needs)
+same-children-next-child-requires-3 t c κs = search (abreast-ways, found-ways, needs)
 
 same-children-enum-known-place : (t : ℕ) → same-children-lts.Need-enum-known-place (
   next-child-reads.Asked,
@@ -418,7 +418,7 @@ same-children-returns-2 : (t : ℕ) → same-children-lts.Need-returns-2 (
   same-child-below t,
   same-child.Post,
 ) (same-children-at t) same-children.Post same-children-Inv-loop same-children-μ-loop
-same-children-returns-2 t c = search (abreast-ways, found-ways, not-true, not-false, needs)
+same-children-returns-2 t c = search (abreast-ways, found-ways, needs)
 
 same-children-shared-slice-read-tag : (t : ℕ) → same-children-lts.Need-shared-slice-read-tag (
   next-child-reads.Asked,
@@ -448,7 +448,7 @@ same-children-returns-3 : (t : ℕ) → same-children-lts.Need-returns-3 (
   same-child-below t,
   same-child.Post,
 ) (same-children-at t) same-children.Post same-children-Inv-loop same-children-μ-loop
-same-children-returns-3 t c = search (abreast-ways, found-ways, not-true, not-false, needs)
+same-children-returns-3 t c = search (abreast-ways, found-ways, needs)
 
 same-children-sub-same-child : (t : ℕ) → same-children-lts.Need-sub-same-child (
   next-child-reads.Asked,
@@ -528,7 +528,7 @@ same-children-returns-4 : (t : ℕ) → same-children-lts.Need-returns-4 (
   same-child-below t,
   same-child.Post,
 ) (same-children-at t) same-children.Post same-children-Inv-loop same-children-μ-loop
-same-children-returns-4 t c = search (abreast-ways, found-ways, not-true, not-false, needs)
+same-children-returns-4 t c = search (abreast-ways, found-ways, not-true, needs)
 
 same-children-loop-less : (t : ℕ) → same-children-lts.Need-loop-less (
   next-child-reads.Asked,

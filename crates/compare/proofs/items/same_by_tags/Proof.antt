@@ -13,13 +13,13 @@ abbrev μ-loop : tie.MeasureT-loop
 μ-loop parent xa ta a xb tb b tag₀ tag = 0x87 - tag
 
 loop-holds : tie.Need-loop-holds Inv-loop μ-loop
-loop-holds c = search (sets-ways, not-true, not-false, needs)
+loop-holds c = search (sets-ways, needs)
 
 same-attribute-requires : tie.Need-same-attribute-requires Inv-loop μ-loop
-same-attribute-requires c κs = search (sets-ways, not-true, not-false, needs)
+same-attribute-requires c κs = search (sets-ways, needs)
 
 returns : tie.Need-returns Inv-loop μ-loop
-returns c = search (sets-ways, not-true, not-false, needs)
+returns c = search (sets-ways, not-true, needs)
 
 add-tag : tie.Need-add-tag Inv-loop μ-loop
 add-tag c = search (sets-ways, not-true, not-false, needs)
@@ -28,10 +28,10 @@ loop-less : tie.Need-loop-less Inv-loop μ-loop
 loop-less c = search (sets-ways, not-true, not-false, needs)
 
 loop-again : tie.Need-loop-again Inv-loop μ-loop
-loop-again c = search (sets-ways, not-true, not-false, needs)
+loop-again c = search (sets-ways, not-false, needs)
 
 returns-2 : tie.Need-returns-2 Inv-loop μ-loop
-returns-2 c = search (sets-ways, not-true, not-false, needs)
+returns-2 c = search (sets-ways, needs)
 
 pub same-by-tags-spec : {M : Type 1} → statement M
 same-by-tags-spec =

@@ -77,7 +77,7 @@ are-items-normal-loop-holds : (t : ℕ) → are-items-normal-lts.Need-loop-holds
   later-tag-reads.Asked,
   later-tag-reads.Learnt,
 ) (are-items-normal-at t) are-items-normal.Post are-items-normal-Inv-loop are-items-normal-μ-loop
-are-items-normal-loop-holds t c = search (shapes-ways, not-true, not-false, needs)
+are-items-normal-loop-holds t c = search (shapes-ways, needs)
 
 are-items-normal-item-at-requires : (t : ℕ) → are-items-normal-lts.Need-item-at-requires (
   item-at-reads.Asked,
@@ -91,7 +91,7 @@ are-items-normal-item-at-requires : (t : ℕ) → are-items-normal-lts.Need-item
   later-tag-reads.Asked,
   later-tag-reads.Learnt,
 ) (are-items-normal-at t) are-items-normal.Post are-items-normal-Inv-loop are-items-normal-μ-loop
-are-items-normal-item-at-requires t c κs = search (shapes-ways, not-true, not-false, needs)
+are-items-normal-item-at-requires t c κs = search (shapes-ways, needs)
 
 are-items-normal-enum-known-from : (t : ℕ) → are-items-normal-lts.Need-enum-known-from (
   item-at-reads.Asked,
@@ -133,7 +133,7 @@ are-items-normal-returns : (t : ℕ) → are-items-normal-lts.Need-returns (
   later-tag-reads.Asked,
   later-tag-reads.Learnt,
 ) (are-items-normal-at t) are-items-normal.Post are-items-normal-Inv-loop are-items-normal-μ-loop
-are-items-normal-returns t c = search (shapes-ways, not-true, not-false, needs)
+are-items-normal-returns t c = search (shapes-ways, needs)
 
 are-items-normal-shared-slice-read-tag : (t : ℕ) → are-items-normal-lts.Need-shared-slice-read-tag (
   item-at-reads.Asked,
@@ -189,7 +189,7 @@ are-items-normal-header-size-requires : (t : ℕ) → are-items-normal-lts.Need-
   later-tag-reads.Asked,
   later-tag-reads.Learnt,
 ) (are-items-normal-at t) are-items-normal.Post are-items-normal-Inv-loop are-items-normal-μ-loop
-are-items-normal-header-size-requires t c κs = search (shapes-ways, not-true, not-false, needs)
+are-items-normal-header-size-requires t c κs = search (shapes-ways, needs)
 
 are-items-normal-returns-2 : (t : ℕ) → are-items-normal-lts.Need-returns-2 (
   item-at-reads.Asked,
@@ -203,7 +203,7 @@ are-items-normal-returns-2 : (t : ℕ) → are-items-normal-lts.Need-returns-2 (
   later-tag-reads.Asked,
   later-tag-reads.Learnt,
 ) (are-items-normal-at t) are-items-normal.Post are-items-normal-Inv-loop are-items-normal-μ-loop
-are-items-normal-returns-2 t c = search (shapes-ways, not-true, not-false, needs)
+are-items-normal-returns-2 t c = search (shapes-ways, needs)
 
 are-items-normal-is-rising-requires : (t : ℕ) → are-items-normal-lts.Need-is-rising-requires (
   item-at-reads.Asked,
@@ -217,7 +217,7 @@ are-items-normal-is-rising-requires : (t : ℕ) → are-items-normal-lts.Need-is
   later-tag-reads.Asked,
   later-tag-reads.Learnt,
 ) (are-items-normal-at t) are-items-normal.Post are-items-normal-Inv-loop are-items-normal-μ-loop
-are-items-normal-is-rising-requires t c κs = search (shapes-ways, not-true, not-false, needs)
+are-items-normal-is-rising-requires t c κs = search (shapes-ways, needs)
 
 are-items-normal-returns-3 : (t : ℕ) → are-items-normal-lts.Need-returns-3 (
   item-at-reads.Asked,
@@ -231,7 +231,7 @@ are-items-normal-returns-3 : (t : ℕ) → are-items-normal-lts.Need-returns-3 (
   later-tag-reads.Asked,
   later-tag-reads.Learnt,
 ) (are-items-normal-at t) are-items-normal.Post are-items-normal-Inv-loop are-items-normal-μ-loop
-are-items-normal-returns-3 t c = search (shapes-ways, not-true, not-false, needs)
+are-items-normal-returns-3 t c = search (shapes-ways, not-true, needs)
 
 are-items-normal-sub-is-item-normal : (t : ℕ) → are-items-normal-lts.Need-sub-is-item-normal (
   item-at-reads.Asked,
@@ -331,7 +331,7 @@ are-items-normal-later-tag-requires : (t : ℕ) → are-items-normal-lts.Need-la
   later-tag-reads.Asked,
   later-tag-reads.Learnt,
 ) (are-items-normal-at t) are-items-normal.Post are-items-normal-Inv-loop are-items-normal-μ-loop
-are-items-normal-later-tag-requires t c κs = search (shapes-ways, not-true, not-false, needs)
+are-items-normal-later-tag-requires t c κs = search (shapes-ways, needs)
 
 are-items-normal-loop-less : (t : ℕ) → are-items-normal-lts.Need-loop-less (
   item-at-reads.Asked,
@@ -359,7 +359,7 @@ are-items-normal-loop-again : (t : ℕ) → are-items-normal-lts.Need-loop-again
   later-tag-reads.Asked,
   later-tag-reads.Learnt,
 ) (are-items-normal-at t) are-items-normal.Post are-items-normal-Inv-loop are-items-normal-μ-loop
-are-items-normal-loop-again t c = search (shapes-ways, not-true, not-false, needs)
+are-items-normal-loop-again t c = search (shapes-ways, not-false, needs)
 
 are-items-normal-returns-5 : (t : ℕ) → are-items-normal-lts.Need-returns-5 (
   item-at-reads.Asked,
@@ -373,7 +373,7 @@ are-items-normal-returns-5 : (t : ℕ) → are-items-normal-lts.Need-returns-5 (
   later-tag-reads.Asked,
   later-tag-reads.Learnt,
 ) (are-items-normal-at t) are-items-normal.Post are-items-normal-Inv-loop are-items-normal-μ-loop
-are-items-normal-returns-5 t c = search (shapes-ways, not-true, not-false, needs)
+are-items-normal-returns-5 t c = search (shapes-ways, needs)
 
 is-item-normal-written-as-requires : (t : ℕ) → is-item-normal-lts.Need-written-as-requires (
   written-as-reads.Asked,
@@ -383,7 +383,7 @@ is-item-normal-written-as-requires : (t : ℕ) → is-item-normal-lts.Need-writt
   is-own-reads.Asked,
   is-own-reads.Learnt,
 ) (is-item-normal-at t) is-item-normal.Post
-is-item-normal-written-as-requires t c κs = search (item-ways, not-true, not-false, needs)
+is-item-normal-written-as-requires t c κs = search (item-ways, needs)
 
 is-item-normal-enum-told : (t : ℕ) → is-item-normal-lts.Need-enum-told (
   written-as-reads.Asked,
@@ -444,7 +444,7 @@ is-item-normal-is-own-requires : (t : ℕ) → is-item-normal-lts.Need-is-own-re
   is-own-reads.Asked,
   is-own-reads.Learnt,
 ) (is-item-normal-at t) is-item-normal.Post
-is-item-normal-is-own-requires t c κs = search (item-ways, not-true, not-false, needs)
+is-item-normal-is-own-requires t c κs = search (item-ways, needs)
 
 is-item-normal-enum-told-4 : (t : ℕ) → is-item-normal-lts.Need-enum-told-4 (
   written-as-reads.Asked,
@@ -464,7 +464,7 @@ is-item-normal-is-own-requires-2 : (t : ℕ) → is-item-normal-lts.Need-is-own-
   is-own-reads.Asked,
   is-own-reads.Learnt,
 ) (is-item-normal-at t) is-item-normal.Post
-is-item-normal-is-own-requires-2 t c κs = search (item-ways, not-true, not-false, needs)
+is-item-normal-is-own-requires-2 t c κs = search (item-ways, needs)
 
 is-item-normal-enum-told-5 : (t : ℕ) → is-item-normal-lts.Need-enum-told-5 (
   written-as-reads.Asked,
@@ -484,7 +484,7 @@ is-item-normal-is-own-requires-3 : (t : ℕ) → is-item-normal-lts.Need-is-own-
   is-own-reads.Asked,
   is-own-reads.Learnt,
 ) (is-item-normal-at t) is-item-normal.Post
-is-item-normal-is-own-requires-3 t c κs = search (item-ways, not-true, not-false, needs)
+is-item-normal-is-own-requires-3 t c κs = search (item-ways, needs)
 
 is-item-normal-enum-told-6 : (t : ℕ) → is-item-normal-lts.Need-enum-told-6 (
   written-as-reads.Asked,
@@ -504,7 +504,7 @@ is-item-normal-is-own-requires-4 : (t : ℕ) → is-item-normal-lts.Need-is-own-
   is-own-reads.Asked,
   is-own-reads.Learnt,
 ) (is-item-normal-at t) is-item-normal.Post
-is-item-normal-is-own-requires-4 t c κs = search (item-ways, not-true, not-false, needs)
+is-item-normal-is-own-requires-4 t c κs = search (item-ways, needs)
 
 is-item-normal-enum-told-7 : (t : ℕ) → is-item-normal-lts.Need-enum-told-7 (
   written-as-reads.Asked,
@@ -524,7 +524,7 @@ is-item-normal-is-own-requires-5 : (t : ℕ) → is-item-normal-lts.Need-is-own-
   is-own-reads.Asked,
   is-own-reads.Learnt,
 ) (is-item-normal-at t) is-item-normal.Post
-is-item-normal-is-own-requires-5 t c κs = search (item-ways, not-true, not-false, needs)
+is-item-normal-is-own-requires-5 t c κs = search (item-ways, needs)
 
 is-item-normal-enum-told-8 : (t : ℕ) → is-item-normal-lts.Need-enum-told-8 (
   written-as-reads.Asked,
@@ -544,7 +544,7 @@ is-item-normal-is-own-requires-6 : (t : ℕ) → is-item-normal-lts.Need-is-own-
   is-own-reads.Asked,
   is-own-reads.Learnt,
 ) (is-item-normal-at t) is-item-normal.Post
-is-item-normal-is-own-requires-6 t c κs = search (item-ways, not-true, not-false, needs)
+is-item-normal-is-own-requires-6 t c κs = search (item-ways, needs)
 
 is-item-normal-returns : (t : ℕ) → is-item-normal-lts.Need-returns (
   written-as-reads.Asked,
@@ -554,7 +554,7 @@ is-item-normal-returns : (t : ℕ) → is-item-normal-lts.Need-returns (
   is-own-reads.Asked,
   is-own-reads.Learnt,
 ) (is-item-normal-at t) is-item-normal.Post
-is-item-normal-returns t c = search (item-ways, not-true, not-false, needs)
+is-item-normal-returns t c = search (item-ways, needs)
 
 is-item-normal-returns-2 : (t : ℕ) → is-item-normal-lts.Need-returns-2 (
   written-as-reads.Asked,
@@ -564,7 +564,7 @@ is-item-normal-returns-2 : (t : ℕ) → is-item-normal-lts.Need-returns-2 (
   is-own-reads.Asked,
   is-own-reads.Learnt,
 ) (is-item-normal-at t) is-item-normal.Post
-is-item-normal-returns-2 t c = search (item-ways, not-true, not-false, needs)
+is-item-normal-returns-2 t c = search (item-ways, needs)
 
 is-item-normal-returns-3 : (t : ℕ) → is-item-normal-lts.Need-returns-3 (
   written-as-reads.Asked,
@@ -574,7 +574,7 @@ is-item-normal-returns-3 : (t : ℕ) → is-item-normal-lts.Need-returns-3 (
   is-own-reads.Asked,
   is-own-reads.Learnt,
 ) (is-item-normal-at t) is-item-normal.Post
-is-item-normal-returns-3 t c = search (item-ways, not-true, not-false, needs)
+is-item-normal-returns-3 t c = search (item-ways, needs)
 
 is-item-normal-returns-4 : (t : ℕ) → is-item-normal-lts.Need-returns-4 (
   written-as-reads.Asked,
@@ -584,7 +584,7 @@ is-item-normal-returns-4 : (t : ℕ) → is-item-normal-lts.Need-returns-4 (
   is-own-reads.Asked,
   is-own-reads.Learnt,
 ) (is-item-normal-at t) is-item-normal.Post
-is-item-normal-returns-4 t c = search (item-ways, not-true, not-false, needs)
+is-item-normal-returns-4 t c = search (item-ways, needs)
 
 is-item-normal-returns-5 : (t : ℕ) → is-item-normal-lts.Need-returns-5 (
   written-as-reads.Asked,
@@ -594,7 +594,7 @@ is-item-normal-returns-5 : (t : ℕ) → is-item-normal-lts.Need-returns-5 (
   is-own-reads.Asked,
   is-own-reads.Learnt,
 ) (is-item-normal-at t) is-item-normal.Post
-is-item-normal-returns-5 t c = search (item-ways, not-true, not-false, needs)
+is-item-normal-returns-5 t c = search (item-ways, needs)
 
 is-item-normal-returns-6 : (t : ℕ) → is-item-normal-lts.Need-returns-6 (
   written-as-reads.Asked,
@@ -604,7 +604,7 @@ is-item-normal-returns-6 : (t : ℕ) → is-item-normal-lts.Need-returns-6 (
   is-own-reads.Asked,
   is-own-reads.Learnt,
 ) (is-item-normal-at t) is-item-normal.Post
-is-item-normal-returns-6 t c = search (item-ways, not-true, not-false, needs)
+is-item-normal-returns-6 t c = search (item-ways, needs)
 
 is-item-normal-returns-7 : (t : ℕ) → is-item-normal-lts.Need-returns-7 (
   written-as-reads.Asked,
@@ -614,7 +614,7 @@ is-item-normal-returns-7 : (t : ℕ) → is-item-normal-lts.Need-returns-7 (
   is-own-reads.Asked,
   is-own-reads.Learnt,
 ) (is-item-normal-at t) is-item-normal.Post
-is-item-normal-returns-7 t c = search (item-ways, not-true, not-false, needs)
+is-item-normal-returns-7 t c = search (item-ways, needs)
 
 is-item-normal-returns-8 : (t : ℕ) → is-item-normal-lts.Need-returns-8 (
   written-as-reads.Asked,
@@ -624,7 +624,7 @@ is-item-normal-returns-8 : (t : ℕ) → is-item-normal-lts.Need-returns-8 (
   is-own-reads.Asked,
   is-own-reads.Learnt,
 ) (is-item-normal-at t) is-item-normal.Post
-is-item-normal-returns-8 t c = search (item-ways, not-true, not-false, needs)
+is-item-normal-returns-8 t c = search (item-ways, needs)
 
 pub +are-items-normal+is-item-normal-spec : {M : Type 1} → statement M
 +are-items-normal+is-item-normal-spec =

@@ -14,25 +14,25 @@ abbrev μ-loop : tie.MeasureT-loop
 μ-loop parent xa ta a xb tb b i₀ j₀ last₀ i j last = length a - i
 
 loop-holds : tie.Need-loop-holds Inv-loop μ-loop
-loop-holds c = search (pace-ways, edge-ways, not-true, not-false, needs)
+loop-holds c = search (pace-ways, edge-ways, needs)
 
 due-at-requires : tie.Need-due-at-requires Inv-loop μ-loop
-due-at-requires c κs = search (pace-ways, edge-ways, not-true, not-false, needs)
+due-at-requires c κs = search (pace-ways, edge-ways, needs)
 
 enum-known-first : tie.Need-enum-known-first Inv-loop μ-loop
 enum-known-first c = search (pace-ways, edge-ways, not-true, not-false, needs)
 
 is-due-requires : tie.Need-is-due-requires Inv-loop μ-loop
-is-due-requires c κs = search (pace-ways, edge-ways, not-true, not-false, needs)
+is-due-requires c κs = search (pace-ways, edge-ways, needs)
 
 ends-by-requires : tie.Need-ends-by-requires Inv-loop μ-loop
-ends-by-requires c κs = search (pace-ways, edge-ways, not-true, not-false, needs)
+ends-by-requires c κs = search (pace-ways, edge-ways, needs)
 
 returns : tie.Need-returns Inv-loop μ-loop
-returns c = search (pace-ways, edge-ways, not-true, not-false, needs)
+returns c = search (pace-ways, edge-ways, needs)
 
 item-of-requires : tie.Need-item-of-requires Inv-loop μ-loop
-item-of-requires c κs = search (pace-ways, edge-ways, not-true, not-false, needs)
+item-of-requires c κs = search (pace-ways, edge-ways, needs)
 
 enum-known-start : tie.Need-enum-known-start Inv-loop μ-loop
 enum-known-start c = search (pace-ways, edge-ways, not-true, not-false, needs)
@@ -41,7 +41,7 @@ enum-told : tie.Need-enum-told Inv-loop μ-loop
 enum-told c = search (pace-ways, edge-ways, not-true, not-false, needs)
 
 returns-2 : tie.Need-returns-2 Inv-loop μ-loop
-returns-2 c = search (pace-ways, edge-ways, not-true, not-false, needs)
+returns-2 c = search (pace-ways, edge-ways, needs)
 
 sub-same-values : tie.Need-sub-same-values Inv-loop μ-loop
 sub-same-values c = search (pace-ways, edge-ways, not-true, not-false, needs)
@@ -62,16 +62,16 @@ part-same-values-end-2 : tie.Need-part-same-values-end-2 Inv-loop μ-loop
 part-same-values-end-2 c = search (pace-ways, edge-ways, not-true, not-false, needs)
 
 same-values-requires : tie.Need-same-values-requires Inv-loop μ-loop
-same-values-requires c κs = search (pace-ways, edge-ways, not-true, not-false, needs)
+same-values-requires c κs = search (pace-ways, edge-ways, needs)
 
 returns-3 : tie.Need-returns-3 Inv-loop μ-loop
-returns-3 c = search (pace-ways, edge-ways, not-true, not-false, needs)
+returns-3 c = search (pace-ways, edge-ways, not-true, needs)
 
 loop-less : tie.Need-loop-less Inv-loop μ-loop
 loop-less c = search (pace-ways, edge-ways, not-true, not-false, needs)
 
 loop-again : tie.Need-loop-again Inv-loop μ-loop
-loop-again c = search (pace-ways, edge-ways, not-true, not-false, needs)
+loop-again c = search (pace-ways, edge-ways, not-false, needs)
 
 pub compare-in-step-spec : {M : Type 1} → statement M
 compare-in-step-spec =

@@ -8,13 +8,13 @@ is-due-requires : tie.Need-is-due-requires
 is-due-requires c κs = search needs
 
 returns : tie.Need-returns
-returns c = search (due-ways, not-true, not-false, needs)
+returns c = search (due-ways, not-true, needs)
 
 shared-slice-read-tag : tie.Need-shared-slice-read-tag
 shared-slice-read-tag c = search (due-ways, not-true, not-false, needs)
 
 returns-2 : tie.Need-returns-2
-returns-2 c = search (due-ways, not-true, not-false, needs)
+returns-2 c = search (due-ways, not-false, needs)
 
 item-at-requires : tie.Need-item-at-requires
 item-at-requires c κs = search needs
@@ -29,7 +29,7 @@ returns-3 : tie.Need-returns-3
 returns-3 c = search (due-ways, not-true, not-false, needs)
 
 returns-4 : tie.Need-returns-4
-returns-4 c = search (due-ways, not-true, not-false, needs)
+returns-4 c = search (due-ways, not-false, needs)
 
 pub due-at-spec : {M : Type 1} → statement M
 due-at-spec =

@@ -10,7 +10,7 @@ is-over-requires-2 : tie.Need-is-over-requires-2
 is-over-requires-2 c κs = search needs
 
 returns : tie.Need-returns
-returns c = search (over-both, over-not, needs)
+returns c = search (over-both, needs)
 
 returns-2 : tie.Need-returns-2
 returns-2 c = search (over-both, over-not, needs)
