@@ -165,7 +165,10 @@ module _ (l : Lists) (n : ℕ) (lent : List ℕ) (at : ℕ) (p : Parent) (i : �
     unfolding Says
     nested-shallow tag u f = let t = told-so (Nested tag u) f in shallow (spotOf p s (inv .seen)) (p .number) lent (row l i) (t .1) (t .2)
 
-    module _ (tag : ℕ) (u : State) (f : x ≡ Nested tag u) (v : Reached) (ve : v ≡ told (inner l n lent p tag i)) where
+    module _ (tag : ℕ) (u : State) (f : x ≡ Nested tag u) (o : Parent) (oe : o ≡ parentAt p tag i) (v : Reached) (w : v ≡ told (walked l n lent (firstIn o) (o .number) (i + 1))) where
+      ve : v ≡ told (inner l n lent p tag i)
+      ve = w ∙ ap (λ y. told (walked l n lent (firstIn y) (y .number) (i + 1))) oe
+
       nested : walked l n lent (firstIn p) (p .number) at ≡ onward (inner l n lent p tag i) (beside l n lent p u (tag ∷ inv .seen))
       unfolding Says walked spot past stateAfter below
       nested =

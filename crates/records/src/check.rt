@@ -207,6 +207,18 @@ fn record_at(
     }
 }
 
+// Record `i`, of a tag, as the element around its own items, where it stands among those of another.
+fn parent_at(parent: Parent, tag: u8, i: usize) -> Parent
+    requires { ⌜ parent .depth ≤ 16 ⌝ }
+    ensures { λ r. ⌜ r ≡ parentAt parent tag i ⌝ }
+{
+    Parent {
+        tag,
+        number: i,
+        depth: parent.depth + 1,
+    }
+}
+
 // The records of the items in one element, from a number on. Each turn looks at one record and goes on behind it, so that all turns
 // together are as many as the records. An element below depth 16 is bad, so that the calls nest at most 17 deep.
 fn check_items(
@@ -240,7 +252,7 @@ fn check_items(
                 state = next;
             }
             Item::Nested(tag, next) => {
-                let Reached::Next(end) = check_nested(
+                let Reached::Next(end) = check_items(
                     count,
                     tags,
                     kinds,
@@ -249,9 +261,8 @@ fn check_items(
                     starts,
                     sizes,
                     octets,
-                    i,
-                    tag,
-                    parent,
+                    i + 1,
+                    parent_at(parent, tag, i),
                 ) else {
                     return Reached::Ill;
                 };
@@ -261,42 +272,6 @@ fn check_items(
         }
     }
     Reached::Next(i)
-}
-
-// The records of the items in an element: record `i`, of a tag, which stands itself among the items of `parent`.
-fn check_nested(
-    count: usize,
-    tags: &[u8],
-    kinds: &[u8],
-    depths: &[u8],
-    parents: &[u16],
-    starts: &[u16],
-    sizes: &[u16],
-    octets: &[u8],
-    i: usize,
-    tag: u8,
-    parent: Parent,
-) -> Reached
-    requires { ⌜ HasPlaces count (lent tags kinds depths parents starts sizes) × (i < count) × (parent .depth ≤ 16) ⌝ }
-    ensures { λ r. ⌜ r ≡ told (walked (lent (tags .entry) (kinds .entry) (depths .entry) (parents .entry) (starts .entry) (sizes .entry)) count (now (octets .entry)) (firstIn (parentAt parent tag i)) i (i + 1)) ⌝ }
-{
-    let inner = Parent {
-        tag,
-        number: i,
-        depth: parent.depth + 1,
-    };
-    check_items(
-        count,
-        tags,
-        kinds,
-        depths,
-        parents,
-        starts,
-        sizes,
-        octets,
-        i + 1,
-        inner,
-    )
 }
 
 // There are no more records than places in the shortest list.

@@ -199,14 +199,14 @@ module _ (stored : Bool) (l : Lists) (n : ℕ) (lent : List ℕ) (p depth at to 
   pub written-length : length room ≡ length before
   written-length = lays-length (inv .done) to before room stop (inv .lays)
 
-  ended : here (row l) n depth i ≡ false → Emits (laterOctets p) (itemsFrom l n lent depth at) to before room (record { end = stop; next = i })
+  ended : here (row l) n depth i ≡ false → Emits (itemsFrom l n lent depth at) p to before room (record { end = stop; next = i })
   unfolding laterOctets
   ended e =
       let t = from-stop l n lent depth i e in
       let all : later l n lent p depth at ≡ inv .done = inv .left ∙ (ap (λ x. inv .done ++ laterOctets p (x .0)) t ∙ append-nil (inv .done)) in
       record { lays = rw all (inv .lays); next = sym (inv .same ∙ ap (λ x. x .1) t) }
 
-  pub written-end : n ≤ i → Emits (laterOctets p) (itemsFrom l n lent depth at) to before room (record { end = stop; next = i })
+  pub written-end : n ≤ i → Emits (itemsFrom l n lent depth at) p to before room (record { end = stop; next = i })
   written-end h = ended (here-end (row l) n depth i h)
 
   -- one part more: octets that are the first of what is left
@@ -235,7 +235,7 @@ module _ (stored : Bool) (l : Lists) (n : ℕ) (lent : List ℕ) (p depth at to 
         }
 
   module _ (lt : i < n) (x : Role) (xe : x ≡ roleOf depth (row l i .depth) (row l i .tag)) where
-    pub written-gone : x ≡ Gone → Emits (laterOctets p) (itemsFrom l n lent depth at) to before room (record { end = stop; next = i })
+    pub written-gone : x ≡ Gone → Emits (itemsFrom l n lent depth at) p to before room (record { end = stop; next = i })
     unfolding Tells
     written-gone q = ended (here-not (row l) n depth i (subst (Tells depth (row l i .depth) (row l i .tag)) q (tells depth (row l i .depth) (row l i .tag) x xe)))
 
@@ -340,40 +340,37 @@ module _ (stored : Bool) (l : Lists) (n : ℕ) (lent : List ℕ) (p depth at to 
       pub element-fits : Fitting (later l n lent p depth at) to (length before) → Fitting (elementOctets m (itemsFrom l n lent (depth + 1) (i + 1) .0)) stop (length room)
       element-fits f = own-fits (elementOctets m (itemsFrom l n lent (depth + 1) (i + 1) .0)) (itemsFrom l n lent (depth + 1) (i + 1) .1) element-first f
 
-      module _ (after : List ℕ) (r : Reached) (g : Emits (elementOctets m) (itemsFrom l n lent (depth + 1) (i + 1)) stop room after r) where
-        pub element-less : n - r .next < n - i
-        element-less = let e = g .next in omega (arith, from-ahead l n lent (depth + 1) (i + 1))
+      abbrev held : Items
+      held = itemsFrom l n lent (depth + 1) (i + 1) .0
 
-        pub element-next : Written stored l n lent p depth at to before after (r .next) (r .end)
-        element-next =
-            let held = itemsFrom l n lent (depth + 1) (i + 1) .0 in
-            let behind = itemsFrom l n lent depth (itemsFrom l n lent (depth + 1) (i + 1) .1) .0 in
-            rw (g .next)
-            (own-next (elementOctets m held) (itemsFrom l n lent (depth + 1) (i + 1) .1) element-first (ordered-parts held behind (ap (λ y. y .0) nested) .1)
-            (after-stand held behind (ap (λ y. y .0) nested)) (ap (λ y. y .1) nested) (omega (arith, from-ahead l n lent (depth + 1) (i + 1)))
-            (from-within l n lent (depth + 1) (i + 1) (omega arith)) after (r .end) (g .lays))
+      -- its attributes and its other items are written behind two places, then its header
+      module _ (f : Fitting (later l n lent p depth at) to (length before)) where
+        framed-fits : Fitting (framed m (attributeOctets m held ++ laterOctets m held)) stop (length room)
+        unfolding elementOctets
+        framed-fits = element-fits f
 
--- the ways through the code of an element: its attributes and its other items are written behind two places, then its header
-module _ (tag : ℕ) (t : Items) (to : ℕ) (room : List ℕ) (f : Fitting (elementOctets tag t) to (length room)) where
-  framed-fits : Fitting (framed tag (attributeOctets tag t ++ laterOctets tag t)) to (length room)
-  unfolding elementOctets
-  framed-fits = f
+        pub attributes-fit : Fitting (attributeOctets m held) (stop + 2) (length room)
+        attributes-fit = first-fits m stop (attributeOctets m held) (laterOctets m held) room framed-fits
 
-  pub attributes-fit : Fitting (attributeOctets tag t) (to + 2) (length room)
-  attributes-fit = first-fits tag to (attributeOctets tag t) (laterOctets tag t) room framed-fits
+        module _ (mid : List ℕ) (from : ℕ) (h : Lays (attributeOctets m held) (stop + 2) room mid from) where
+          pub inner-fits : Fitting (laterOctets m held) from (length mid)
+          inner-fits = second-fits m stop (attributeOctets m held) (laterOctets m held) room framed-fits mid from h
 
-  module _ (mid : List ℕ) (from : ℕ) (h : Lays (attributeOctets tag t) (to + 2) room mid from) where
-    pub inner-fits : Fitting (laterOctets tag t) from (length mid)
-    inner-fits = second-fits tag to (attributeOctets tag t) (laterOctets tag t) room framed-fits mid from h
+          module _ (after : List ℕ) (r : Reached) (g : Emits (itemsFrom l n lent (depth + 1) (i + 1)) m from mid after r) where
+            pub element-framable : Framable m stop (r .end) after
+            element-framable = framable m stop (attributeOctets m held) (laterOctets m held) room framed-fits mid from h after (r .end) (g .lays)
 
-    module _ (next : ℕ) (after : List ℕ) (r : Reached) (g : Emits (laterOctets tag) (t, next) from mid after r) where
-      pub element-framable : Framable tag to (r .end) after
-      element-framable = framable tag to (attributeOctets tag t) (laterOctets tag t) room framed-fits mid from h after (r .end) (g .lays)
+            pub element-less : n - r .next < n - i
+            element-less = let e = g .next in omega (arith, from-ahead l n lent (depth + 1) (i + 1))
 
-      pub element-written : (last : List ℕ) (stop : ℕ) → Lays (framed tag (between (to + 2) (r .end) after)) to after last stop
-          → Emits (elementOctets tag) (t, next) to room last (record { end = stop; next = r .next })
-      unfolding elementOctets
-      element-written last stop k = record {
-        lays = frame-laid tag to (attributeOctets tag t) (laterOctets tag t) room framed-fits mid from h after (r .end) (g .lays) last stop k;
-        next = g .next;
-      }
+            pub element-next : (last : List ℕ) (next : ℕ) → Lays (framed m (between (stop + 2) (r .end) after)) stop after last next
+                → Written stored l n lent p depth at to before last (r .next) next
+            unfolding elementOctets
+            element-next last next k =
+                let all : Lays (elementOctets m held) stop room last next =
+                frame-laid m stop (attributeOctets m held) (laterOctets m held) room framed-fits mid from h after (r .end) (g .lays) last next k in
+                rw (g .next)
+                (own-next (elementOctets m held) (itemsFrom l n lent (depth + 1) (i + 1) .1) element-first
+                (ordered-parts held (itemsFrom l n lent depth (itemsFrom l n lent (depth + 1) (i + 1) .1) .0) (ap (λ y. y .0) nested) .1)
+                (after-stand held (itemsFrom l n lent depth (itemsFrom l n lent (depth + 1) (i + 1) .1) .0) (ap (λ y. y .0) nested))
+                (ap (λ y. y .1) nested) (omega (arith, from-ahead l n lent (depth + 1) (i + 1))) (from-within l n lent (depth + 1) (i + 1) (omega arith)) last next all)

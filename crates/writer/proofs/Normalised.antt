@@ -210,7 +210,7 @@ module _ (o : List ℕ) (os : Octets o) (l : Lists) (store room : List ℕ) (v :
           leavesRoom = (rw (g, m, f .roomy) at (w .leaves)) ∙ rw (found .judged, found .fits);
         }
 
-    pub normal-written : (room′ : List ℕ) (r : Reached) → Emits (laterOctets 0) (itemsFrom (fourIn l′) n store′ 1 0) 0 room room′ r → NormaliseClaim o l l′ store store′ room room′ (Handed (asOctets (r .end)))
+    pub normal-written : (room′ : List ℕ) (r : Reached) → Emits (itemsFrom (fourIn l′) n store′ 1 0) 0 0 room room′ r → NormaliseClaim o l l′ store store′ room room′ (Handed (asOctets (r .end)))
     normal-written room′ r g = claimed room′ (Handed (asOctets (r .end))) (tree-written n l′ store′ (loadedOf t) given room given-fit room′ r g)
 
 -- ---- what a normal form that was written left

@@ -1,9 +1,9 @@
--- One turn of the loop of `size_items`, by what the record at hand adds, and the size of an element.
+-- One turn of the loop of `size_items`, by what the record at hand adds.
 use mathlib.Core.Path.{_≡_, refl, sym, ap, _∙_, subst}
 use mathlib.Core.Bool.{Bool, true, false, cond}
 use mathlib.Core.Option.{some}
 use mathlib.Core.List.{List}
-use Prim.Native.Nat.{ℕ, _+_, _-_, _*_, _≤_, _<_}
+use Prim.Native.Nat.{ℕ, _+_, _-_, _≤_, _<_}
 use native.Mathlib.Omega.{arith}
 use native.Mathlib.Nat.{add-sub-cancel-left}
 use lib.Dec.{eqb, leb}
@@ -29,8 +29,8 @@ use Rattle.writer.specs.declared.size.Sized.the-variants.{Over, Size}
 use Rattle.survey.specs.Normal.{framedSize, valueOctets, writtenAs, itemOctets, normalSize}
 use Rattle.survey.proofs.Ways.{framed-length}
 use Rattle.survey.proofs.WrittenAs.{written-kind, written-octets, unwritten-octets, unwritten-opens}
-use Rattle.writer.specs.Steps.{itemsFrom, partOf, partAt, sizedOf, sizedFrom, sizedElement}
-use Rattle.writer.proofs.Items.{item-short}
+use Rattle.writer.specs.Steps.{itemsFrom, partOf, partAt, sizedOf, sizedFrom}
+use Rattle.writer.proofs.Items.{item-short, framed-short}
 use Rattle.format.proofs.Means.{items-opens}
 use Rattle.format.proofs.Walk.{here-end, here-not, here-is}
 use Rattle.writer.proofs.Rows.{from-stop, from-single, from-nested, from-ahead, from-within}
@@ -120,26 +120,6 @@ size-is : (m j t k : ℕ) → m ≡ t → j ≡ k → t ≤ 32_768 → Size (asO
 unfolding sizedOf
 size-is m j t k e f h = rw (e, f, le-leb t 32_768 h)
 
--- the ways through the code of an element: what its items take, and with its header
-module _ (m j : ℕ) (v : Sized) (ve : v ≡ sizedOf m j) where
-  pub element-over : v ≡ Over → Over ≡ sizedOf (framedSize m) j
-  unfolding framedSize
-  element-over q = let w = size-over m j v ve q in over-is (framedSize m) j (omega arith)
-
-  module _ (t : Octets) (k : ℕ) (q : v ≡ Size t k) where
-    pub element-small : t .0 < 131072
-    element-small = let w = size-told m j v ve t k q .2 in omega arith
-
-    module _ (whole : Octets) (e : whole .0 ≡ framedSize (t .0)) where
-      framed-is : framedSize m ≡ whole .0
-      framed-is = ap framedSize (size-told m j v ve t k q .0) ∙ sym e
-
-      pub element-long : 32_768 < whole .0 → Over ≡ sizedOf (framedSize m) j
-      element-long h = let w = framed-is in over-is (framedSize m) j (omega arith)
-
-      pub element-size : whole .0 ≤ 32_768 → Size whole k ≡ sizedOf (framedSize m) j
-      element-size h = size-is (framedSize m) j (whole .0) k framed-is (size-told m j v ve t k q .1) h
-
 -- the loop's invariant: the size so far with the size from record i on is the size of all, and both end at one record
 pub record Sums (l : Lists) (n : ℕ) (lent : List ℕ) (at depth p i total : ℕ) : Type 0 where
   pub low : at ≤ i
@@ -199,7 +179,7 @@ module _ (l : Lists) (n : ℕ) (lent : List ℕ) (at depth p i total : ℕ) (inv
       pub single-added : (j t : ℕ) → j ≡ i + 1 → t ≡ total + m .0 → Added l n lent at depth p i j t
       single-added j t e f = rw (e, f) (record { ahead = omega arith; within = omega arith; added = single-turn .0; same = single-turn .1 })
 
-    module _ (tag : ℕ) (f : x ≡ Holds tag) (v : Sized) (ve : v ≡ sizedElement l n lent tag (depth + 1) (i + 1)) where
+    module _ (tag : ℕ) (f : x ≡ Holds tag) (v : Sized) (ve : v ≡ sizedFrom l n lent tag (depth + 1) (i + 1)) where
       holds-turn : (sum l n lent p depth at ≡ total + framedSize (sum l n lent tag (depth + 1) (i + 1)) + sum l n lent p depth (next l n lent (depth + 1) (i + 1)))
           × (next l n lent depth at ≡ next l n lent depth (next l n lent (depth + 1) (i + 1)))
       unfolding Tells normalSize
@@ -212,25 +192,30 @@ module _ (l : Lists) (n : ℕ) (lent : List ℕ) (at depth p i total : ℕ) (inv
           (omega arith, inv .same ∙ ap (λ y. y .1) u)
 
       pub holds-over : v ≡ Over → Over ≡ sizedFrom l n lent p depth at
+      unfolding framedSize
       holds-over q = let w = size-over _ _ v ve q in let a = holds-turn .0 in over-is _ _ (omega arith)
 
       module _ (t : Octets) (j : ℕ) (q : v ≡ Size t j) where
-        within : (framedSize (sum l n lent tag (depth + 1) (i + 1)) ≡ t .0) × (next l n lent (depth + 1) (i + 1) ≡ j) × (t .0 ≤ 32_768)
+        within : (sum l n lent tag (depth + 1) (i + 1) ≡ t .0) × (next l n lent (depth + 1) (i + 1) ≡ j) × (t .0 ≤ 32_768)
         within = size-told _ _ v ve t j q
+
+        pub inner-small : t .0 < 131072
+        inner-small = let k = within .2 in omega arith
 
         between : (i + 1 ≤ j) × (j ≤ n)
         between =
             let k = within .1 in
             (omega (arith, from-ahead l n lent (depth + 1) (i + 1)), omega (arith, from-within l n lent (depth + 1) (i + 1) (omega arith)))
 
-        pub inner-fits : Fits w64 (total + t .0)
-        inner-fits = let s = inv .small in let k = within .2 in omega arith
+        module _ (m : Octets) (me : m .0 ≡ framedSize (t .0)) where
+          pub inner-fits : Fits w64 (total + m .0)
+          inner-fits = let s = inv .small in omega (arith, inner-small, framed-short (t .0))
 
-        holds-both : (sum l n lent p depth at ≡ total + t .0 + sum l n lent p depth j) × (next l n lent depth at ≡ next l n lent depth j)
-        holds-both = rw (within .0, within .1) at holds-turn
+          holds-both : (sum l n lent p depth at ≡ total + m .0 + sum l n lent p depth j) × (next l n lent depth at ≡ next l n lent depth j)
+          holds-both = rw (within .0, within .1, ← me) at holds-turn
 
-        pub holds-added : (k m : ℕ) → k ≡ j → m ≡ total + t .0 → Added l n lent at depth p i k m
-        holds-added k m e f = let b = between in rw (e, f) (record { ahead = omega arith; within = b .1; added = holds-both .0; same = holds-both .1 })
+          pub holds-added : (k o : ℕ) → k ≡ j → o ≡ total + m .0 → Added l n lent at depth p i k o
+          holds-added k o e g = let b = between in rw (e, g) (record { ahead = omega arith; within = b .1; added = holds-both .0; same = holds-both .1 })
 
   module _ (j t : ℕ) (a : Added l n lent at depth p i j t) where
     pub added-over : 32_768 < t → Over ≡ sizedFrom l n lent p depth at
@@ -242,8 +227,8 @@ module _ (l : Lists) (n : ℕ) (lent : List ℕ) (at depth p i total : ℕ) (inv
     pub added-next : t ≤ 32_768 → Sums l n lent at depth p j t
     added-next h = let k = inv .low in let e = a .ahead in record { low = omega arith; high = a .within; small = h; added = a .added; same = a .same }
 
--- the call for an element: fewer records are left, and no depth is beyond the number of its record
-pub falls-within : (n at i t : ℕ) → 2 * (n - at) ≡ t → at ≤ i → i < n → 2 * (n - (i + 1)) + 1 < t
+-- the call for the items inside: fewer records are left, and no depth is beyond the number of its record
+pub falls-within : (n at i t : ℕ) → n - at ≡ t → at ≤ i → i < n → n - (i + 1) < t
 falls-within n at i t e a b = omega arith
 
 pub deeper : (at depth i : ℕ) → depth ≤ at + 1 → at ≤ i → depth + 1 ≤ i + 1 + 1

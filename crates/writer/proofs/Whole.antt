@@ -145,7 +145,7 @@ module _ (n : ℕ) (l : Lists) (lent : List ℕ) (t : Items) (e : treeGiven n l 
         let b = min-le-right (length room) 32_768 in
         rw tree-octets (record { inRoom = omega (arith, k, a); inObject = omega (arith, k, b) })
 
-    pub tree-written : (after : List ℕ) (r : Reached) → Emits (laterOctets 0) (itemsFrom (fourIn l) n lent 1 0) 0 room after r → WriteClaim n l lent room after (Octets (asOctets (r .end)))
+    pub tree-written : (after : List ℕ) (r : Reached) → Emits (itemsFrom (fourIn l) n lent 1 0) 0 0 room after r → WriteClaim n l lent room after (Octets (asOctets (r .end)))
     unfolding writeAnswer writeOctets
     tree-written after r g =
         let laid : Lays (encode (means [] t)) 0 room after (r .end) = rw tree-octets at (g .lays) in
@@ -204,5 +204,5 @@ module _ (n : ℕ) (l : Lists) (lent : List ℕ) (b : Bool) (be : b ≡ isGiven 
         pub given-fits : total .0 ≤ length room → Fitting (laterOctets 0 (itemsFrom (fourIn l) n lent 1 0 .0)) 0 (length room)
         given-fits h = tree-fits n l lent (given-some .0) (given-some .1) room (whole-fit n l lent (given-some .0) (given-some .1) v ve total next f room h)
 
-        pub given-written : total .0 ≤ length room → (after : List ℕ) (r : Reached) → Emits (laterOctets 0) (itemsFrom (fourIn l) n lent 1 0) 0 room after r → WriteClaim n l lent room after (Octets (asOctets (r .end)))
+        pub given-written : total .0 ≤ length room → (after : List ℕ) (r : Reached) → Emits (itemsFrom (fourIn l) n lent 1 0) 0 0 room after r → WriteClaim n l lent room after (Octets (asOctets (r .end)))
         given-written h after r g = tree-written n l lent (given-some .0) (given-some .1) room (whole-fit n l lent (given-some .0) (given-some .1) v ve total next f room h) after r g

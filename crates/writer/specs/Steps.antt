@@ -18,7 +18,7 @@ use Rattle.format.specs.Tree.Items.{end, item}
 use Rattle.format.specs.Meaning.{opens}
 use Rattle.format.specs.Writer.{Spot, bodyIn, tree, ruled}
 use Rattle.format.specs.Calls.{Lists, row}
-use Rattle.survey.specs.Normal.{framedSize, itemOctets, normalSize, attributeOctets, laterOctets}
+use Rattle.survey.specs.Normal.{itemOctets, normalSize, attributeOctets, laterOctets}
 use Rattle.writer.specs.declared.size.Part.{Part}
 use Rattle.writer.specs.declared.size.Part.the-variants.{Past, Holds, Single}
 use Rattle.writer.specs.declared.size.Sized.{Sized}
@@ -60,10 +60,6 @@ sizedOf total next = cond (leb total 32_768) (Size (asOctets total) next) Over
 
 abbrev pub sizedFrom : Lists → ℕ → List ℕ → (parent depth i : ℕ) → Sized
 sizedFrom l n lent parent depth i = sizedOf (normalSize parent (itemsFrom l n lent depth i .0)) (itemsFrom l n lent depth i .1)
-
--- the same of an element with its header, by the items in it
-abbrev pub sizedElement : Lists → ℕ → List ℕ → (tag depth i : ℕ) → Sized
-sizedElement l n lent tag depth i = sizedOf (framedSize (normalSize tag (itemsFrom l n lent depth i .0))) (itemsFrom l n lent depth i .1)
 
 -- items of an element of a tag that keep the rules, whatever came before them
 pub record Ordered (parent : ℕ) (t : Items) : Type 0 where
@@ -111,9 +107,9 @@ pub record Framable (tag to end : ℕ) (room : List ℕ) : Type 0 where
 unfoldable pub roleOf : (depth own tag : ℕ) → Role
 roleOf depth own tag = cond (eqb own depth) (cond (opens tag) (Element tag) (cond (attribute tag) Attribute (Other tag))) Gone
 
--- the octets of items are written, and where they end in the room and in the lists
-pub record Emits (octets : Items → List ℕ) (t : Items × ℕ) (to : ℕ) (before after : List ℕ) (answer : Reached) : Type 0 where
-  pub lays : Lays (octets (t .0)) to before after (answer .end)
+-- the items of an element after its attributes are written, and where they end in the room and in the lists
+pub record Emits (t : Items × ℕ) (parent to : ℕ) (before after : List ℕ) (answer : Reached) : Type 0 where
+  pub lays : Lays (laterOctets parent (t .0)) to before after (answer .end)
   pub next : answer .next ≡ t .1
 
 -- the lowest attribute so far, or that of record i where its tag is lower, and none below the tag that was asked for

@@ -10,7 +10,7 @@ ghost use lib.ListN.{length, getD};
 ghost use Rattle.octets.specs.Puts.{Lays};
 ghost use Rattle.survey.specs.Normal.{itemOctets, attributeOctets, laterOctets};
 ghost use Rattle.writer.specs.Steps.{four, itemsFrom, Holding, Ordered, Fitting, lowerOf, FindsLowest, BodyAt, bodyAt};
-ghost use Rattle.writer.specs.Steps.{roleOf, elementOctets, Emits, Standing, AsLaid};
+ghost use Rattle.writer.specs.Steps.{roleOf, Emits, Standing, AsLaid};
 use crate::frame::put_frame;
 use crate::item::holds_items;
 use crate::item::put_item;
@@ -178,7 +178,8 @@ fn role_at(tags: &[u8], depths: &[u8], i: usize, depth: usize) -> Role
     Role::Other(tag)
 }
 
-// The items of an element of a tag but for its attributes, from record `at` on.
+// The items of an element of a tag but for its attributes, from record `at` on. An element among them is no function of its own: one that calls this one, and is
+// called by it, lays every slice that is lent on the stack once more for each element, and `write` took 4 % longer so.
 pub fn emit_items(
     count: usize,
     tags: &[u8],
@@ -196,7 +197,7 @@ pub fn emit_items(
     requires { ⌜ Holding count (four tags depths starts sizes) (now octets) × Ordered parent (itemsFrom (four tags depths starts sizes) count (now octets) depth at .0) × (at ≤ count) × (depth ≤ at + 1) ⌝ }
     requires { ⌜ (stored ≡ true → AsLaid parent (itemsFrom (four tags depths starts sizes) count (now octets) depth at .0)) ⌝ }
     requires { ⌜ Fitting (laterOctets parent (itemsFrom (four tags depths starts sizes) count (now octets) depth at .0)) to (length (now room)) ⌝ }
-    ensures { λ r. ⌜ Emits (laterOctets parent) (itemsFrom (four (tags .entry) (depths .entry) (starts .entry) (sizes .entry)) count (now (octets .entry)) depth at) to (now (room .entry)) (now (room .exit)) r ⌝ }
+    ensures { λ r. ⌜ Emits (itemsFrom (four (tags .entry) (depths .entry) (starts .entry) (sizes .entry)) count (now (octets .entry)) depth at) parent to (now (room .entry)) (now (room .exit)) r ⌝ }
 {
     let mut i = at;
     let mut end = to;
@@ -213,7 +214,7 @@ pub fn emit_items(
                 i = i + 1;
             }
             Role::Element(tag) => {
-                let inner = emit_element(
+                let from = emit_attributes(
                     count,
                     tags,
                     depths,
@@ -224,68 +225,27 @@ pub fn emit_items(
                     depth + 1,
                     tag,
                     room,
-                    end,
+                    end + 2,
                     stored,
                 );
-                end = inner.end;
+                let inner = emit_items(
+                    count,
+                    tags,
+                    depths,
+                    starts,
+                    sizes,
+                    octets,
+                    i + 1,
+                    depth + 1,
+                    tag,
+                    room,
+                    from,
+                    stored,
+                );
+                end = put_frame(room, end, tag, inner.end);
                 i = inner.next;
             }
         }
     }
     Reached { end, next: i }
-}
-
-// An element of a tag whose items begin with record `at`: attributes and other items behind two places, then the header before them.
-fn emit_element(
-    count: usize,
-    tags: &[u8],
-    depths: &[u8],
-    starts: &[u16],
-    sizes: &[u16],
-    octets: &[u8],
-    at: usize,
-    depth: usize,
-    tag: u8,
-    room: &mut [u8],
-    to: usize,
-    stored: bool,
-) -> Reached
-    requires { ⌜ Holding count (four tags depths starts sizes) (now octets) × Ordered tag (itemsFrom (four tags depths starts sizes) count (now octets) depth at .0) × (at ≤ count) × (depth ≤ at + 1) ⌝ }
-    requires { ⌜ (stored ≡ true → AsLaid tag (itemsFrom (four tags depths starts sizes) count (now octets) depth at .0)) ⌝ }
-    requires { ⌜ Fitting (elementOctets tag (itemsFrom (four tags depths starts sizes) count (now octets) depth at .0)) to (length (now room)) ⌝ }
-    ensures { λ r. ⌜ Emits (elementOctets tag) (itemsFrom (four (tags .entry) (depths .entry) (starts .entry) (sizes .entry)) count (now (octets .entry)) depth at) to (now (room .entry)) (now (room .exit)) r ⌝ }
-{
-    let from = emit_attributes(
-        count,
-        tags,
-        depths,
-        starts,
-        sizes,
-        octets,
-        at,
-        depth,
-        tag,
-        room,
-        to + 2,
-        stored,
-    );
-    let inner = emit_items(
-        count,
-        tags,
-        depths,
-        starts,
-        sizes,
-        octets,
-        at,
-        depth,
-        tag,
-        room,
-        from,
-        stored,
-    );
-    let end = put_frame(room, to, tag, inner.end);
-    Reached {
-        end,
-        next: inner.next,
-    }
 }

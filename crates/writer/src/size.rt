@@ -5,7 +5,7 @@ ghost use mathlib.Core.Path.{_≡_};
 ghost use Prim.Native.Nat.{_+_, _≤_, _<_};
 ghost use lib.ListN.{length};
 ghost use Rattle.format.specs.Calls.{row};
-ghost use Rattle.writer.specs.Steps.{four, Holding, partOf, partAt, sizedFrom, sizedElement};
+ghost use Rattle.writer.specs.Steps.{four, Holding, partOf, partAt, sizedFrom};
 use crate::item::framed_size;
 use crate::item::is_holder;
 use crate::item::value_size;
@@ -20,7 +20,7 @@ pub enum Part {
     Single(Octets),
 }
 
-// The size of the items of an element, or of the element, and the number of the first record past them. Over: above 32,768.
+// The size of the items of an element, and the number of the first record past them. Over: above 32,768.
 pub enum Sized {
     Over,
     Size { total: Octets, next: usize },
@@ -93,7 +93,7 @@ pub fn size_items(
                 i = i + 1;
             }
             Part::Holds(tag) => {
-                let Sized::Size { total: inner, next } = size_element(
+                let Sized::Size { total: inner, next } = size_items(
                     count,
                     tags,
                     depths,
@@ -106,7 +106,7 @@ pub fn size_items(
                 ) else {
                     return Sized::Over;
                 };
-                total = total + inner.0;
+                total = total + framed_size(inner).0;
                 i = next;
             }
         }
@@ -117,32 +117,5 @@ pub fn size_items(
     Sized::Size {
         total: Octets(total),
         next: i,
-    }
-}
-
-// An element of a tag whose items begin with record `at`, at a depth: these and its header.
-fn size_element(
-    count: usize,
-    tags: &[u8],
-    depths: &[u8],
-    starts: &[u16],
-    sizes: &[u16],
-    octets: &[u8],
-    at: usize,
-    depth: usize,
-    tag: u8,
-) -> Sized
-    requires { ⌜ Holding count (four tags depths starts sizes) (now octets) × (at ≤ count) × (depth ≤ at + 1) ⌝ }
-    ensures { λ r. ⌜ r ≡ sizedElement (four (tags .entry) (depths .entry) (starts .entry) (sizes .entry)) count (now (octets .entry)) tag depth at ⌝ }
-{
-    match size_items(count, tags, depths, starts, sizes, octets, at, depth, tag) {
-        Sized::Over => Sized::Over,
-        Sized::Size { total, next } => {
-            let whole = framed_size(total);
-            if whole.0 > 32768 {
-                return Sized::Over;
-            }
-            Sized::Size { total: whole, next }
-        }
     }
 }

@@ -5,12 +5,10 @@ use Rattle.reader.proofs.span.Statement.{statement}
 use Rattle.reader.proofs.span.Tie as tie
 
 returns : tie.Need-returns
-returns c =
-    search (span-ways, needs)
+returns c = search (span-ways, needs)
 
 returns-2 : tie.Need-returns-2
-returns-2 c =
-    search (span-ways, needs)
+returns-2 c = search (span-ways, needs)
 
 mul-start : tie.Need-mul-start
 mul-start c = search needs
@@ -37,12 +35,10 @@ add-if3 c =
     omega (arith, c .before .shared-slice-known .given (c .before .before .before .before .args .number), c .shared-slice-known2 .given (c .before .before .before .before .args .number))
 
 returns-3 : tie.Need-returns-3
-returns-3 c =
-    search (span-ways, needs)
+returns-3 c = search (span-ways, needs)
 
 returns-4 : tie.Need-returns-4
-returns-4 c =
-    search (span-ways, needs)
+returns-4 c = search (span-ways, needs)
 
 pub span-spec : {M : Type 1} → statement M
 span-spec =

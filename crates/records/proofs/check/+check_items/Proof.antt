@@ -1,4 +1,5 @@
-use Prim.Native.Nat.{_-_, _*_, _+_}
+use Prim.Native.Nat.{_-_}
+use mathlib.Core.Path.{ap}
 use native.Mathlib.Omega.{arith}
 use borrow.Author.Needs.{needs}
 use Rattle.records.proofs.Turns.{Holds, at-first, turns-end, turn-past, turn-bad, turn-single, turn-ill, turn-nested, nested-less, nested-shallow}
@@ -7,22 +8,16 @@ use borrow.Fn.Kinds.{In}
 use borrow.Fn.PlainCycle.{Measures, is, falls, and}
 use Rattle.records.proofs.check.check_items.Reads as check-items
 use Rattle.records.proofs.check.check_items.Kinds as check-items-kinds
-use Rattle.records.proofs.check.+check_items+check_nested.Lts-check_items as check-items-lts
-use Rattle.records.proofs.check.check_nested.Reads as check-nested
-use Rattle.records.proofs.check.check_nested.Kinds as check-nested-kinds
-use Rattle.records.proofs.check.+check_items+check_nested.Lts-check_nested as check-nested-lts
+use Rattle.records.proofs.check.+check_items.Lts-check_items as check-items-lts
 use Rattle.records.proofs.check.check_record.Reads as check-record-reads
+use Rattle.records.proofs.check.parent_at.Reads as parent-at-reads
 use Rattle.records.proofs.check.record_at.Reads as record-at-reads
-use Rattle.records.proofs.check.+check_items+check_nested.{statement}
-use Rattle.records.proofs.check.+check_items+check_nested.Tie.{close}
+use Rattle.records.proofs.check.+check_items.{statement}
+use Rattle.records.proofs.check.+check_items.Tie.{close}
 
 abbrev μ-check-items : Measures 7 check-items-kinds.ps ℕ
 μ-check-items κs a =
-    2 * (a .0 - a .1 .1 .1 .1 .1 .1 .1 .1 .0)
-
-abbrev μ-check-nested : Measures 7 check-nested-kinds.ps ℕ
-μ-check-nested κs a =
-    2 * (a .0 - a .1 .1 .1 .1 .1 .1 .1 .1 .0) - 1
+    a .0 - a .1 .1 .1 .1 .1 .1 .1 .1 .0
 
 abbrev check-items-at : ℕ → In 7 check-items-kinds.ps
 check-items-at t =
@@ -31,18 +26,6 @@ check-items-at t =
 abbrev check-items-below : ℕ → In 7 check-items-kinds.ps
 check-items-below t =
     and 7 check-items-kinds.ps (falls 7 check-items-kinds.ps _<_ μ-check-items t) check-items.Pre
-
-abbrev check-nested-at : ℕ → In 7 check-nested-kinds.ps
-check-nested-at t =
-    and 7 check-nested-kinds.ps (is 7 check-nested-kinds.ps μ-check-nested t) check-nested.Pre
-
-abbrev check-nested-below : ℕ → In 7 check-nested-kinds.ps
-check-nested-below t =
-    and
-    7
-    check-nested-kinds.ps
-    (falls 7 check-nested-kinds.ps _<_ μ-check-nested t)
-    check-nested.Pre
 
 abbrev check-items-Inv-loop : check-items-lts.InvT-loop
 check-items-Inv-loop count tags kinds depths parents starts sizes octets at parent i₀ state₀ i state =
@@ -57,8 +40,10 @@ check-items-loop-holds : (t : ℕ) → check-items-lts.Need-loop-holds (
   record-at-reads.Learnt,
   check-record-reads.Asked,
   check-record-reads.Learnt,
-  check-nested-below t,
-  check-nested.Post,
+  parent-at-reads.Asked,
+  parent-at-reads.Learnt,
+  check-items-below t,
+  check-items.Post,
 ) (check-items-at t) check-items.Post check-items-Inv-loop check-items-μ-loop
 check-items-loop-holds t c =
     at-first _ _ _ _ _ ((c .before .before .before .before .before .before .before .pre) .1 .1)
@@ -68,8 +53,10 @@ check-items-record-at-requires : (t : ℕ) → check-items-lts.Need-record-at-re
   record-at-reads.Learnt,
   check-record-reads.Asked,
   check-record-reads.Learnt,
-  check-nested-below t,
-  check-nested.Post,
+  parent-at-reads.Asked,
+  parent-at-reads.Learnt,
+  check-items-below t,
+  check-items.Post,
 ) (check-items-at t) check-items.Post check-items-Inv-loop check-items-μ-loop
 check-items-record-at-requires t c κs = search needs
 
@@ -78,8 +65,10 @@ check-items-check-record-requires : (t : ℕ) → check-items-lts.Need-check-rec
   record-at-reads.Learnt,
   check-record-reads.Asked,
   check-record-reads.Learnt,
-  check-nested-below t,
-  check-nested.Post,
+  parent-at-reads.Asked,
+  parent-at-reads.Learnt,
+  check-items-below t,
+  check-items.Post,
 ) (check-items-at t) check-items.Post check-items-Inv-loop check-items-μ-loop
 check-items-check-record-requires t c κs = search needs
 
@@ -88,8 +77,10 @@ check-items-enum-told : (t : ℕ) → check-items-lts.Need-enum-told (
   record-at-reads.Learnt,
   check-record-reads.Asked,
   check-record-reads.Learnt,
-  check-nested-below t,
-  check-nested.Post,
+  parent-at-reads.Asked,
+  parent-at-reads.Learnt,
+  check-items-below t,
+  check-items.Post,
 ) (check-items-at t) check-items.Post check-items-Inv-loop check-items-μ-loop
 check-items-enum-told t c = search needs
 
@@ -98,8 +89,10 @@ check-items-returns : (t : ℕ) → check-items-lts.Need-returns (
   record-at-reads.Learnt,
   check-record-reads.Asked,
   check-record-reads.Learnt,
-  check-nested-below t,
-  check-nested.Post,
+  parent-at-reads.Asked,
+  parent-at-reads.Learnt,
+  check-items-below t,
+  check-items.Post,
 ) (check-items-at t) check-items.Post check-items-Inv-loop check-items-μ-loop
 check-items-returns t c =
     turn-past _ _ _ _ _ _ _ ((c .before .before .before .before .before .loop) .inv) ((c .before .before .before .before .loop-test) .taken) _ ((c .before .before .before .record-at) .ensures) _ ((c .before .before .check-record) .ensures) ((c .enum-told) .given .1)
@@ -109,8 +102,10 @@ check-items-enum-told-2 : (t : ℕ) → check-items-lts.Need-enum-told-2 (
   record-at-reads.Learnt,
   check-record-reads.Asked,
   check-record-reads.Learnt,
-  check-nested-below t,
-  check-nested.Post,
+  parent-at-reads.Asked,
+  parent-at-reads.Learnt,
+  check-items-below t,
+  check-items.Post,
 ) (check-items-at t) check-items.Post check-items-Inv-loop check-items-μ-loop
 check-items-enum-told-2 t c = search needs
 
@@ -119,8 +114,10 @@ check-items-returns-2 : (t : ℕ) → check-items-lts.Need-returns-2 (
   record-at-reads.Learnt,
   check-record-reads.Asked,
   check-record-reads.Learnt,
-  check-nested-below t,
-  check-nested.Post,
+  parent-at-reads.Asked,
+  parent-at-reads.Learnt,
+  check-items-below t,
+  check-items.Post,
 ) (check-items-at t) check-items.Post check-items-Inv-loop check-items-μ-loop
 check-items-returns-2 t c =
     turn-bad _ _ _ _ _ _ _ ((c .before .before .before .before .before .loop) .inv) ((c .before .before .before .before .loop-test) .taken) _ ((c .before .before .before .record-at) .ensures) _ ((c .before .before .check-record) .ensures) ((c .enum-told2) .given .1)
@@ -130,8 +127,10 @@ check-items-enum-known-next : (t : ℕ) → check-items-lts.Need-enum-known-next
   record-at-reads.Learnt,
   check-record-reads.Asked,
   check-record-reads.Learnt,
-  check-nested-below t,
-  check-nested.Post,
+  parent-at-reads.Asked,
+  parent-at-reads.Learnt,
+  check-items-below t,
+  check-items.Post,
 ) (check-items-at t) check-items.Post check-items-Inv-loop check-items-μ-loop
 check-items-enum-known-next t c = search needs
 
@@ -140,8 +139,10 @@ check-items-add-i : (t : ℕ) → check-items-lts.Need-add-i (
   record-at-reads.Learnt,
   check-record-reads.Asked,
   check-record-reads.Learnt,
-  check-nested-below t,
-  check-nested.Post,
+  parent-at-reads.Asked,
+  parent-at-reads.Learnt,
+  check-items-below t,
+  check-items.Post,
 ) (check-items-at t) check-items.Post check-items-Inv-loop check-items-μ-loop
 check-items-add-i t c = search needs
 
@@ -150,8 +151,10 @@ check-items-loop-less : (t : ℕ) → check-items-lts.Need-loop-less (
   record-at-reads.Learnt,
   check-record-reads.Asked,
   check-record-reads.Learnt,
-  check-nested-below t,
-  check-nested.Post,
+  parent-at-reads.Asked,
+  parent-at-reads.Learnt,
+  check-items-below t,
+  check-items.Post,
 ) (check-items-at t) check-items.Post check-items-Inv-loop check-items-μ-loop
 check-items-loop-less t c = search needs
 
@@ -160,8 +163,10 @@ check-items-loop-again : (t : ℕ) → check-items-lts.Need-loop-again (
   record-at-reads.Learnt,
   check-record-reads.Asked,
   check-record-reads.Learnt,
-  check-nested-below t,
-  check-nested.Post,
+  parent-at-reads.Asked,
+  parent-at-reads.Learnt,
+  check-items-below t,
+  check-items.Post,
 ) (check-items-at t) check-items.Post check-items-Inv-loop check-items-μ-loop
 check-items-loop-again t c =
     turn-single _ _ _ _ _ _ _ ((c .before .before .before .before .before .before .loop) .inv) ((c .before .before .before .before .before .loop-test) .taken) _ ((c .before .before .before .before .record-at) .ensures) _ ((c .before .before .before .check-record) .ensures) _ ((c .before .next) .given .1)
@@ -171,29 +176,60 @@ check-items-enum-known-tag : (t : ℕ) → check-items-lts.Need-enum-known-tag (
   record-at-reads.Learnt,
   check-record-reads.Asked,
   check-record-reads.Learnt,
-  check-nested-below t,
-  check-nested.Post,
+  parent-at-reads.Asked,
+  parent-at-reads.Learnt,
+  check-items-below t,
+  check-items.Post,
 ) (check-items-at t) check-items.Post check-items-Inv-loop check-items-μ-loop
 check-items-enum-known-tag t c = search needs
 
-check-items-check-nested-requires : (t : ℕ) → check-items-lts.Need-check-nested-requires (
+check-items-add-check-items : (t : ℕ) → check-items-lts.Need-add-check-items (
   record-at-reads.Asked,
   record-at-reads.Learnt,
   check-record-reads.Asked,
   check-record-reads.Learnt,
-  check-nested-below t,
-  check-nested.Post,
+  parent-at-reads.Asked,
+  parent-at-reads.Learnt,
+  check-items-below t,
+  check-items.Post,
 ) (check-items-at t) check-items.Post check-items-Inv-loop check-items-μ-loop
-check-items-check-nested-requires t c κs =
-    let deep = nested-shallow _ _ _ _ _ _ _ ((c .before .before .before .before .before .before .loop) .inv) ((c .before .before .before .before .before .loop-test) .taken) _ ((c .before .before .before .before .record-at) .ensures) _ ((c .before .before .before .check-record) .ensures) _ _ ((c .before .tag) .given .1) in let inv = (c .before .before .before .before .before .before .loop) .inv in let low = inv .low in let start = (c .before .before .before .before .before .before .before .before .before .before .before .before .before .before .pre) .0 in let less = (c .before .before .before .before .before .loop-test) .taken in (omega arith, ((c .before .before .before .before .before .before .before .before .before .before .before .before .before .before .pre) .1 .0, less, deep))
+check-items-add-check-items t c = search needs
+
+check-items-parent-at-requires : (t : ℕ) → check-items-lts.Need-parent-at-requires (
+  record-at-reads.Asked,
+  record-at-reads.Learnt,
+  check-record-reads.Asked,
+  check-record-reads.Learnt,
+  parent-at-reads.Asked,
+  parent-at-reads.Learnt,
+  check-items-below t,
+  check-items.Post,
+) (check-items-at t) check-items.Post check-items-Inv-loop check-items-μ-loop
+check-items-parent-at-requires t c κs =
+    nested-shallow _ _ _ _ _ _ _ ((c .before .before .before .before .before .before .loop) .inv) ((c .before .before .before .before .before .loop-test) .taken) _ ((c .before .before .before .before .record-at) .ensures) _ ((c .before .before .before .check-record) .ensures) _ _ ((c .before .tag) .given .1)
+
+check-items-check-items-requires : (t : ℕ) → check-items-lts.Need-check-items-requires (
+  record-at-reads.Asked,
+  record-at-reads.Learnt,
+  check-record-reads.Asked,
+  check-record-reads.Learnt,
+  parent-at-reads.Asked,
+  parent-at-reads.Learnt,
+  check-items-below t,
+  check-items.Post,
+) (check-items-at t) check-items.Post check-items-Inv-loop check-items-μ-loop
+check-items-check-items-requires t c κs =
+    let deep = nested-shallow _ _ _ _ _ _ _ ((c .before .before .before .before .before .before .before .loop) .inv) ((c .before .before .before .before .before .before .loop-test) .taken) _ ((c .before .before .before .before .before .record-at) .ensures) _ ((c .before .before .before .before .check-record) .ensures) _ _ ((c .before .before .tag) .given .1) in let inv = (c .before .before .before .before .before .before .before .loop) .inv in let low = inv .low in let start = (c .before .before .before .before .before .before .before .before .before .before .before .before .before .before .before .pre) .0 in let less = (c .before .before .before .before .before .before .loop-test) .taken in let below = ap (λ q. q .depth) ((c .parent-at) .ensures) in (omega arith, ((c .before .before .before .before .before .before .before .before .before .before .before .before .before .before .before .pre) .1 .0, omega arith, omega arith))
 
 check-items-enum-known-end : (t : ℕ) → check-items-lts.Need-enum-known-end (
   record-at-reads.Asked,
   record-at-reads.Learnt,
   check-record-reads.Asked,
   check-record-reads.Learnt,
-  check-nested-below t,
-  check-nested.Post,
+  parent-at-reads.Asked,
+  parent-at-reads.Learnt,
+  check-items-below t,
+  check-items.Post,
 ) (check-items-at t) check-items.Post check-items-Inv-loop check-items-μ-loop
 check-items-enum-known-end t c = search needs
 
@@ -202,8 +238,10 @@ check-items-enum-told-3 : (t : ℕ) → check-items-lts.Need-enum-told-3 (
   record-at-reads.Learnt,
   check-record-reads.Asked,
   check-record-reads.Learnt,
-  check-nested-below t,
-  check-nested.Post,
+  parent-at-reads.Asked,
+  parent-at-reads.Learnt,
+  check-items-below t,
+  check-items.Post,
 ) (check-items-at t) check-items.Post check-items-Inv-loop check-items-μ-loop
 check-items-enum-told-3 t c = search needs
 
@@ -212,78 +250,63 @@ check-items-returns-3 : (t : ℕ) → check-items-lts.Need-returns-3 (
   record-at-reads.Learnt,
   check-record-reads.Asked,
   check-record-reads.Learnt,
-  check-nested-below t,
-  check-nested.Post,
+  parent-at-reads.Asked,
+  parent-at-reads.Learnt,
+  check-items-below t,
+  check-items.Post,
 ) (check-items-at t) check-items.Post check-items-Inv-loop check-items-μ-loop
 check-items-returns-3 t c =
-    turn-ill _ _ _ _ _ _ _ ((c .before .before .before .before .before .before .before .before .before .loop) .inv) ((c .before .before .before .before .before .before .before .before .loop-test) .taken) _ ((c .before .before .before .before .before .before .before .record-at) .ensures) _ ((c .before .before .before .before .before .before .check-record) .ensures) _ _ ((c .before .before .before .before .tag) .given .1) _ ((c .before .before .check-nested) .ensures) ((c .enum-told3) .given .1)
+    turn-ill _ _ _ _ _ _ _ ((c .before .before .before .before .before .before .before .before .before .before .loop) .inv) ((c .before .before .before .before .before .before .before .before .before .loop-test) .taken) _ ((c .before .before .before .before .before .before .before .before .record-at) .ensures) _ ((c .before .before .before .before .before .before .before .check-record) .ensures) _ _ ((c .before .before .before .before .before .tag) .given .1) _ ((c .before .before .before .parent-at) .ensures) _ ((c .before .before .check-items) .ensures) ((c .enum-told3) .given .1)
 
 check-items-loop-less-2 : (t : ℕ) → check-items-lts.Need-loop-less-2 (
   record-at-reads.Asked,
   record-at-reads.Learnt,
   check-record-reads.Asked,
   check-record-reads.Learnt,
-  check-nested-below t,
-  check-nested.Post,
+  parent-at-reads.Asked,
+  parent-at-reads.Learnt,
+  check-items-below t,
+  check-items.Post,
 ) (check-items-at t) check-items.Post check-items-Inv-loop check-items-μ-loop
 check-items-loop-less-2 t c =
-    nested-less _ _ _ _ _ _ _ ((c .before .before .before .before .before .before .before .before .before .before .loop) .inv) ((c .before .before .before .before .before .before .before .before .before .loop-test) .taken) _ ((c .before .before .before .before .before .before .before .before .record-at) .ensures) _ ((c .before .before .before .before .before .before .before .check-record) .ensures) _ _ ((c .before .before .before .before .before .tag) .given .1) _ ((c .before .before .before .check-nested) .ensures) _ ((c .before .end) .given .1)
+    nested-less _ _ _ _ _ _ _ ((c .before .before .before .before .before .before .before .before .before .before .before .loop) .inv) ((c .before .before .before .before .before .before .before .before .before .before .loop-test) .taken) _ ((c .before .before .before .before .before .before .before .before .before .record-at) .ensures) _ ((c .before .before .before .before .before .before .before .before .check-record) .ensures) _ _ ((c .before .before .before .before .before .before .tag) .given .1) _ ((c .before .before .before .before .parent-at) .ensures) _ ((c .before .before .before .check-items) .ensures) _ ((c .before .end) .given .1)
 
 check-items-loop-again-2 : (t : ℕ) → check-items-lts.Need-loop-again-2 (
   record-at-reads.Asked,
   record-at-reads.Learnt,
   check-record-reads.Asked,
   check-record-reads.Learnt,
-  check-nested-below t,
-  check-nested.Post,
+  parent-at-reads.Asked,
+  parent-at-reads.Learnt,
+  check-items-below t,
+  check-items.Post,
 ) (check-items-at t) check-items.Post check-items-Inv-loop check-items-μ-loop
 check-items-loop-again-2 t c =
-    turn-nested _ _ _ _ _ _ _ ((c .before .before .before .before .before .before .before .before .before .before .loop) .inv) ((c .before .before .before .before .before .before .before .before .before .loop-test) .taken) _ ((c .before .before .before .before .before .before .before .before .record-at) .ensures) _ ((c .before .before .before .before .before .before .before .check-record) .ensures) _ _ ((c .before .before .before .before .before .tag) .given .1) _ ((c .before .before .before .check-nested) .ensures) _ ((c .before .end) .given .1)
+    turn-nested _ _ _ _ _ _ _ ((c .before .before .before .before .before .before .before .before .before .before .before .loop) .inv) ((c .before .before .before .before .before .before .before .before .before .before .loop-test) .taken) _ ((c .before .before .before .before .before .before .before .before .before .record-at) .ensures) _ ((c .before .before .before .before .before .before .before .before .check-record) .ensures) _ _ ((c .before .before .before .before .before .before .tag) .given .1) _ ((c .before .before .before .before .parent-at) .ensures) _ ((c .before .before .before .check-items) .ensures) _ ((c .before .end) .given .1)
 
 check-items-returns-4 : (t : ℕ) → check-items-lts.Need-returns-4 (
   record-at-reads.Asked,
   record-at-reads.Learnt,
   check-record-reads.Asked,
   check-record-reads.Learnt,
-  check-nested-below t,
-  check-nested.Post,
+  parent-at-reads.Asked,
+  parent-at-reads.Learnt,
+  check-items-below t,
+  check-items.Post,
 ) (check-items-at t) check-items.Post check-items-Inv-loop check-items-μ-loop
 check-items-returns-4 t c =
     turns-end _ _ _ _ _ _ _ ((c .before .loop) .inv) ((c .loop-test) .left)
 
-check-nested-add-t13 : (t : ℕ) → check-nested-lts.Need-add-t13 (
-  check-items-below t,
-  check-items.Post,
-) (check-nested-at t) check-nested.Post
-check-nested-add-t13 t c = search needs
-
-check-nested-add-check-items : (t : ℕ) → check-nested-lts.Need-add-check-items (
-  check-items-below t,
-  check-items.Post,
-) (check-nested-at t) check-nested.Post
-check-nested-add-check-items t c = search needs
-
-check-nested-check-items-requires : (t : ℕ) → check-nested-lts.Need-check-items-requires (
-  check-items-below t,
-  check-items.Post,
-) (check-nested-at t) check-nested.Post
-check-nested-check-items-requires t c κs =
-    let start = (c .before .before .before .before .before .before .before .before .pre) .0 in let less = (c .before .before .before .before .before .before .before .before .pre) .1 .1 in let deep = (c .before .before .before .before .before .before .before .before .pre) .1 .2 in (omega arith, ((c .before .before .before .before .before .before .before .before .pre) .1 .0, omega arith, omega arith))
-
-check-nested-returns : (t : ℕ) → check-nested-lts.Need-returns (
-  check-items-below t,
-  check-items.Post,
-) (check-nested-at t) check-nested.Post
-check-nested-returns t c = search needs
-
-pub +check-items+check-nested-spec : {M : Type 1} → statement M
-+check-items+check-nested-spec = close μ-check-items μ-check-nested (λ t. check-items-lts.spec (
+pub +check-items-spec : {M : Type 1} → statement M
++check-items-spec = close μ-check-items λ t. check-items-lts.spec (
   record-at-reads.Asked,
   record-at-reads.Learnt,
   check-record-reads.Asked,
   check-record-reads.Learnt,
-  check-nested-below t,
-  check-nested.Post,
+  parent-at-reads.Asked,
+  parent-at-reads.Learnt,
+  check-items-below t,
+  check-items.Post,
 )
     (check-items-at t)
     check-items.Post
@@ -301,18 +324,12 @@ pub +check-items+check-nested-spec : {M : Type 1} → statement M
     (check-items-loop-less t)
     (check-items-loop-again t)
     (check-items-enum-known-tag t)
-    (check-items-check-nested-requires t)
+    (check-items-add-check-items t)
+    (check-items-parent-at-requires t)
+    (check-items-check-items-requires t)
     (check-items-enum-known-end t)
     (check-items-enum-told-3 t)
     (check-items-returns-3 t)
     (check-items-loop-less-2 t)
     (check-items-loop-again-2 t)
-    (check-items-returns-4 t))
-    λ t. check-nested-lts.spec
-    (check-items-below t, check-items.Post)
-    (check-nested-at t)
-    check-nested.Post
-    (check-nested-add-t13 t)
-    (check-nested-add-check-items t)
-    (check-nested-check-items-requires t)
-    (check-nested-returns t)
+    (check-items-returns-4 t)
