@@ -87,7 +87,7 @@ module _ (object : List ℕ) (t : Items) (lies : Located object t) (lists : List
       let p = record-lies i h in
       let w = within-places i lists (omega arith) in
       let fits : row lists i .start + row lists i .size ≤ length object = omega (arith, p .1, part-span object (row lists i .start) (getD (bodiesOf t) i []) (p .0) .0) in
-      sym (span-is object (lists .starts) (lists .sizes) i (w .starts) (w .sizes) (row lists i .start) (row lists i .size) refl refl fits)
+      sym (span-is object (lists .starts) (lists .sizes) i (w .starts) (w .sizes) fits)
 
   body-found : (i : ℕ) → i < n → bodyAt object (spanOf object (lists .starts) (lists .sizes) i) ≡ getD (bodiesOf t) i []
   unfolding bodyAt
