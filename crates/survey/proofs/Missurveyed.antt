@@ -5,6 +5,7 @@ use Prim.Native.Nat.{ℕ, _<_}
 use native.Mathlib.Omega.{arith}
 use lib.ListN.{length, getD}
 use borrow.Author.Tests.{lt-leb}
+use Rattle.octets.specs.Numbers.{digits, value}
 use Rattle.octets.specs.Header.{headerSize, bodySize}
 use Rattle.octets.specs.declared.Lies.the-variants.{Outside, Between}
 use Rattle.octets.proofs.Tests.{never}
@@ -12,6 +13,7 @@ use Rattle.values.specs.declared.Kind.the-variants.{HoldsItems, HoldsTokens, Ho
 use Rattle.values.specs.declared.NumberKind.the-variants.{Enumerated}
 use Rattle.values.specs.declared.KnownKind.the-variants.{Unknown, Known}
 use Rattle.values.specs.Table.{rows, kindIn, known, attribute, defaults, defaultIn}
+use Rattle.values.specs.Values.{fits, width, meant, octetsOf}
 use Rattle.values.specs.Calls.{asKnown, defaultOctets}
 use Rattle.format.specs.declared.Refusal.{Refusal}
 use Rattle.format.specs.Answers.{refusal, wrongValue}
@@ -19,7 +21,7 @@ use Rattle.format.specs.Tree.{Items, count}
 use Rattle.format.specs.Judge.Judged.{refused, accepted}
 use Rattle.format.specs.Calls.{Lent}
 use Rattle.survey.specs.declared.Standing.the-variants.{Bad, Misfit, Fits}
-use Rattle.survey.specs.Normal.{writtenAs}
+use Rattle.survey.specs.Normal.{valueOctets, writtenAs}
 use Rattle.survey.specs.Survey.{surveyed}
 use Rattle.survey.specs.Places.{tableWithin, firstTable, tableBody, spanWithin, spanOfTag}
 
@@ -104,3 +106,15 @@ default-written h = let w : Unknown ≡ Known (HoldsNumber Enumerated) = h in ne
 pub value-left-out : asKnown (writtenAs 0x1C 0x83 (2 ∷ [])) ≡ Unknown → ⊥
 unfolding asKnown writtenAs defaultOctets defaultIn defaults known rows kindIn attribute
 value-left-out h = let w : Known (HoldsNumber Enumerated) ≡ Unknown = h in never (cc)
+
+-- ---- value_size
+
+-- octets that are no value of their kind, counted
+pub no-value-counted : length (valueOctets (HoldsNumber Enumerated) (1 ∷ 2 ∷ [])) ≡ 2 → ⊥
+unfolding valueOctets fits width
+no-value-counted h = let w : _≡_ {A = ℕ} 0 2 = h in omega arith
+
+-- a value left out
+pub value-uncounted : length (valueOctets (HoldsNumber Enumerated) (2 ∷ [])) ≡ 0 → ⊥
+unfolding valueOctets fits width meant octetsOf digits value
+value-uncounted h = let w : _≡_ {A = ℕ} 1 0 = h in omega arith

@@ -62,18 +62,14 @@ module _ (n h : OctetCount) (e : h ≡ asOctets (suc (length (lengthField (n .0)
   unfolding framedSize
   framed-is = rw header-is
 
--- ---- value_size
+-- ---- stopped_size
 
-module _ (k : Kind) (o : List ℕ) (r : NormalSize) (e : r ≡ normalSize k o) where
-  pub size-none : r ≡ sized.NoValue → 0 ≡ min 32_769 (length (valueOctets k o))
-  size-none q = omega (arith, value-none k o r e q)
+module _ (size n : ℕ) (e : n ≡ size) where
+  pub size-long : 32_769 < n → 32_769 ≡ min 32_769 size
+  size-long h = omega arith
 
-  module _ (n : OctetCount) (q : r ≡ sized.Octets n) where
-    pub size-long : 32_769 < n .0 → 32_769 ≡ min 32_769 (length (valueOctets k o))
-    size-long h = omega (arith, value-octets k o r e n q)
-
-    pub size-short : n .0 ≤ 32_769 → n .0 ≡ min 32_769 (length (valueOctets k o))
-    size-short h = omega (arith, value-octets k o r e n q)
+  pub size-short : n ≤ 32_769 → n ≡ min 32_769 size
+  size-short h = omega arith
 
 -- ---- octets_of
 

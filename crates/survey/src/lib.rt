@@ -18,6 +18,7 @@ use format::refuse;
 use judge::judge;
 use octets::Octets;
 pub use table::table_of;
+pub use written::value_size;
 pub use written::written_as;
 
 // An object held against what is lent: refused by the judgement; accepted, but without places for it (14) or room (15); or it fits.

@@ -11,6 +11,7 @@ ghost use Rattle.survey.specs.Normal.{framedSize, valueOctets};
 ghost use Rattle.survey.specs.Measure.{Measures};
 ghost use Rattle.survey.specs.Sizes.{taken, partIn, sizesOf, ItemMeasured, ItemsMeasured};
 use crate::table::table_of;
+use crate::written::value_size;
 use octets::Lies;
 use octets::Octets;
 use octets::header_size;
@@ -20,9 +21,7 @@ use tags::listed_as;
 use text::expanded_size;
 use text::widths_of;
 use values::Kind;
-use values::NormalSize;
 use values::is_default;
-use values::normal_size;
 
 // The octets that items take of a store and in normal form. Over: their normal form has more than 32,768, which no object may have.
 pub enum Measured {
@@ -39,13 +38,11 @@ enum Part {
     Octets(Octets),
 }
 
-// A value that is no text. One that is none of its kind, which no accepted item has, has no octets.
-fn value_size(kind: Kind, body: &[u8]) -> Octets
+// The octets of a value that is no text, no more than 32,769 of them counted.
+fn stopped_size(kind: Kind, body: &[u8]) -> Octets
     ensures { λ r. ⌜ r .0 ≡ min 32_769 (length (valueOctets kind (now (body .entry)))) ⌝ }
 {
-    let NormalSize::Octets(size) = normal_size(kind, body) else {
-        return Octets(0);
-    };
+    let size = value_size(kind, body);
     if size.0 > 32_769 {
         return Octets(32_769);
     }
@@ -58,13 +55,13 @@ fn octets_of(kind: Kind, body: &[u8], table: &[u8], widths: &[u8; 32]) -> Octets
     ensures { λ r. ⌜ r .0 ≡ min 32_769 (length (taken (entries (now (table .entry))) (some kind) (now (body .entry)))) ⌝ }
 {
     match kind {
-        Kind::HoldsItems => value_size(kind, body),
-        Kind::HoldsTokens => value_size(kind, body),
+        Kind::HoldsItems => stopped_size(kind, body),
+        Kind::HoldsTokens => stopped_size(kind, body),
         Kind::HoldsText => expanded_size(widths, body, Octets(32_769)),
-        Kind::HoldsPlain => value_size(kind, body),
-        Kind::HoldsTime => value_size(kind, body),
-        Kind::HoldsBearer => value_size(kind, body),
-        Kind::HoldsNumber(_) => value_size(kind, body),
+        Kind::HoldsPlain => stopped_size(kind, body),
+        Kind::HoldsTime => stopped_size(kind, body),
+        Kind::HoldsBearer => stopped_size(kind, body),
+        Kind::HoldsNumber(_) => stopped_size(kind, body),
     }
 }
 

@@ -13,11 +13,10 @@ ghost use Rattle.survey.specs.Normal.{framedSize, valueOctets};
 ghost use Rattle.writer.specs.Steps.{Fitting};
 use octets::Octets;
 use octets::Put;
+use survey::value_size;
 use values::Kind;
 use values::KnownKind;
-use values::NormalSize;
 use values::known_kind;
-use values::normal_size;
 use values::put_normal;
 
 pub fn is_holder(kind: Kind) -> bool
@@ -41,15 +40,6 @@ pub fn holds_items(tag: u8) -> bool
     match known_kind(0, tag) {
         KnownKind::Unknown => false,
         KnownKind::Known(kind) => is_holder(kind),
-    }
-}
-
-pub fn value_size(kind: Kind, body: &[u8]) -> Octets
-    ensures { λ r. ⌜ r .0 ≡ length (valueOctets kind (now (body .entry))) ⌝ }
-{
-    match normal_size(kind, body) {
-        NormalSize::Octets(size) => size,
-        NormalSize::NoValue => Octets(0),
     }
 }
 

@@ -8,8 +8,8 @@ ghost use Rattle.format.specs.Calls.{row};
 ghost use Rattle.writer.specs.Steps.{four, Holding, partOf, partAt, sizedFrom};
 use crate::item::framed_size;
 use crate::item::is_holder;
-use crate::item::value_size;
 use octets::Octets;
+use survey::value_size;
 use survey::written_as;
 use values::KnownKind;
 

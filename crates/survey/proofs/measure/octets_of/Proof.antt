@@ -6,14 +6,14 @@ use Rattle.survey.proofs.measure.octets_of.Tie as tie
 enum-told : tie.Need-enum-told
 enum-told c = search needs
 
-value-size-requires : tie.Need-value-size-requires
-value-size-requires c κs = search needs
+stopped-size-requires : tie.Need-stopped-size-requires
+stopped-size-requires c κs = search needs
 
 enum-told-2 : tie.Need-enum-told-2
 enum-told-2 c = search needs
 
-value-size-requires-2 : tie.Need-value-size-requires-2
-value-size-requires-2 c κs = search needs
+stopped-size-requires-2 : tie.Need-stopped-size-requires-2
+stopped-size-requires-2 c κs = search needs
 
 enum-told-3 : tie.Need-enum-told-3
 enum-told-3 c = search needs
@@ -24,26 +24,26 @@ expanded-size-requires c κs = search needs
 enum-told-4 : tie.Need-enum-told-4
 enum-told-4 c = search needs
 
-value-size-requires-3 : tie.Need-value-size-requires-3
-value-size-requires-3 c κs = search needs
+stopped-size-requires-3 : tie.Need-stopped-size-requires-3
+stopped-size-requires-3 c κs = search needs
 
 enum-told-5 : tie.Need-enum-told-5
 enum-told-5 c = search needs
 
-value-size-requires-4 : tie.Need-value-size-requires-4
-value-size-requires-4 c κs = search needs
+stopped-size-requires-4 : tie.Need-stopped-size-requires-4
+stopped-size-requires-4 c κs = search needs
 
 enum-told-6 : tie.Need-enum-told-6
 enum-told-6 c = search needs
 
-value-size-requires-5 : tie.Need-value-size-requires-5
-value-size-requires-5 c κs = search needs
+stopped-size-requires-5 : tie.Need-stopped-size-requires-5
+stopped-size-requires-5 c κs = search needs
 
 enum-told-7 : tie.Need-enum-told-7
 enum-told-7 c = search needs
 
-value-size-requires-6 : tie.Need-value-size-requires-6
-value-size-requires-6 c κs = search needs
+stopped-size-requires-6 : tie.Need-stopped-size-requires-6
+stopped-size-requires-6 c κs = search needs
 
 returns : tie.Need-returns
 returns c = search (octets-ways, needs)
@@ -71,19 +71,19 @@ octets-of-spec =
     tie.close
     (tie.spec
     enum-told
-    value-size-requires
+    stopped-size-requires
     enum-told-2
-    value-size-requires-2
+    stopped-size-requires-2
     enum-told-3
     expanded-size-requires
     enum-told-4
-    value-size-requires-3
+    stopped-size-requires-3
     enum-told-5
-    value-size-requires-4
+    stopped-size-requires-4
     enum-told-6
-    value-size-requires-5
+    stopped-size-requires-5
     enum-told-7
-    value-size-requires-6
+    stopped-size-requires-6
     returns
     returns-2
     returns-3

@@ -1,7 +1,7 @@
 use Rattle.survey.proofs.Parts.{value-octets, value-none}
 use borrow.Author.Needs.{needs}
-use Rattle.writer.proofs.item.value_size.Statement.{statement}
-use Rattle.writer.proofs.item.value_size.Tie as tie
+use Rattle.survey.proofs.written.value_size.Statement.{statement}
+use Rattle.survey.proofs.written.value_size.Tie as tie
 
 normal-size-requires : tie.Need-normal-size-requires
 normal-size-requires c κs = search needs
