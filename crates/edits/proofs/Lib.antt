@@ -1,4 +1,8 @@
 pub mod Swaps
+pub mod Sites
+pub mod Records
+pub mod Cuts
+pub mod Sizes
 pub mod Spots
 pub mod Found
 pub mod Local

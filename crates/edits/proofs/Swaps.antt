@@ -2,13 +2,15 @@
 use mathlib.Core.Path.{_≡_, refl, _∙_}
 use mathlib.Core.Bool.{true, false, _||_, false≢true, and-true as and-yes}
 use mathlib.Core.List.{List}
-use Prim.Native.Nat.{ℕ}
+use Prim.Native.Nat.{ℕ, _+_}
+use native.Mathlib.Omega.{arith}
 use lib.Dec.{eqb}
-use Rattle.format.specs.Tree.{Items}
+use Rattle.format.specs.Tree.{Items, count}
 use Rattle.format.specs.Tree.Items.{end, item}
 use Rattle.format.specs.Meaning.{opens}
 use Rattle.format.specs.Writer.{Spot, below, past, isEnd, ruled}
 use Rattle.format.proofs.Kept.{Ruled, ruled-parts, keeps-tag}
+use Rattle.format.proofs.Tabled.{count-item}
 use Rattle.edits.specs.Sites.{Site, Swapped}
 use Rattle.edits.specs.Sites.Swapped.{here, inside, after}
 
@@ -47,6 +49,23 @@ swapped-rules (after s tag at body x y y′ h u w v) r =
     let q = ruled-parts (s .spot) tag at body x y r in
     let g = swapped-rules v (q .beside) in
     record { kept = g .kept; same = rules-after (s .spot) tag at body x y y′ q ∙ g .same }
+
+-- ---- the shape and the count of the new tree
+pub record PlainSwapped (t′ u w : Items) : Type 0 where
+  pub old : Plain u
+  pub new : Plain w → Plain t′
+
+pub swapped-plain : {s : Site} {t t′ : Items} {h : Site} {u w : Items} → Swapped s t t′ h u w → Plain t → PlainSwapped t′ u w
+swapped-plain (here s t t′) p = record { old = p; new = λ q. q }
+swapped-plain (inside s tag at body x x′ y h u w o v) p = let g = swapped-plain v (p .2) in record { old = g .old; new = λ q. (p .0, rw o, g .new q, p .3) }
+swapped-plain (after s tag at body x y y′ h u w v) p = let g = swapped-plain v (p .3) in record { old = g .old; new = λ q. (p .0, p .1, p .2, g .new q) }
+
+pub swapped-count : {s : Site} {t t′ : Items} {h : Site} {u w : Items} → Swapped s t t′ h u w → Plain t → count t′ + count u ≡ count t + count w
+swapped-count (here s t t′) p = omega arith
+swapped-count (inside s tag at body x x′ y h u w o v) p =
+    omega (arith, count-item tag at body x y (p .0), count-item tag at body x′ y (p .0), swapped-count v (p .2))
+swapped-count (after s tag at body x y y′ h u w v) p =
+    omega (arith, count-item tag at body x y (p .0), count-item tag at body x y′ (p .0), swapped-count v (p .3))
 
 -- no items stand at a site in none
 pub swapped-none : {s : Site} {t t′ : Items} {h : Site} {u w : Items} → Swapped s t t′ h u w → isEnd t ≡ true → isEnd u ≡ true

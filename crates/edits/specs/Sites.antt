@@ -3,14 +3,16 @@
 use mathlib.Core.Path.{_≡_}
 use mathlib.Core.Bool.{true, cond}
 use mathlib.Core.List.{List, []}
-use Prim.Native.Nat.{ℕ, suc, _+_}
+use Prim.Native.Nat.{ℕ, suc, _+_, _-_}
+use lib.Dec.{ltb}
 use lib.ListN.{length}
 use Rattle.values.specs.Table.{known}
-use Rattle.format.specs.Tree.{Items, count}
+use Rattle.format.specs.declared.Record.{Record}
+use Rattle.format.specs.Tree.{Items, count, records}
 use Rattle.format.specs.Tree.Items.{item}
 use Rattle.format.specs.Meaning.{opens}
 use Rattle.format.specs.Writer.{Spot, below, past, atTop}
-use Rattle.format.specs.Loaded.{stored, storeIn}
+use Rattle.format.specs.Loaded.{stored, storeIn, loadedIn}
 
 -- a spot, the number of its element's record, the number of the next record and where that one's octets begin in the store
 pub record Site : Type 0 where
@@ -35,6 +37,13 @@ abbrev pub beyond : Site → ℕ → List ℕ → Items → Site
 beyond s tag body inside =
     record { spot = past (s .spot) tag; up = s .up; number = suc (s .number) + count inside; place = s .place + length (share (s .spot .parent) tag body inside) }
 
+-- the records of items that are packed from a site on, and what they take of the store
+abbrev pub recordsAt : Site → Items → List Record
+recordsAt s t = records (s .spot .depth) (s .up) (s .number) (loadedIn [] (s .spot .parent) (s .place) t)
+
+abbrev pub storeAt : Site → Items → List ℕ
+storeAt s t = storeIn [] (s .spot .parent) t
+
 -- items t and t′ from a site on that are the same but for the items from another site in them on, which are u and w
 pub data Swapped : Site → (t t′ : Items) → Site → (u w : Items) → Type 0 where
   here : (s : Site) (t t′ : Items) → Swapped s t t′ s t t′
@@ -42,3 +51,22 @@ pub data Swapped : Site → (t t′ : Items) → Site → (u w : Items) → Type
       → Swapped s (item tag at body x y) (item tag at body x′ y) h u w
   after : (s : Site) (tag at : ℕ) (body : List ℕ) (x y y′ : Items) (h : Site) (u w : Items) → Swapped (beyond s tag body x) y y′ h u w
       → Swapped s (item tag at body x y) (item tag at body x y′) h u w
+
+-- ---- what moves: the numbers of records from one on, and the places of the store from one on
+
+unfoldable pub shifted : (from to n : ℕ) → ℕ
+shifted from to n = cond (ltb n from) n (n - from + to)
+
+-- where a body begins; an element that holds items keeps its span (0, 0)
+unfoldable pub startAfter : (was is tag start : ℕ) → ℕ
+startAfter was is tag start = cond (opens tag) start (start - was + is)
+
+unfoldable pub moved : (number number′ place place′ : ℕ) → Record → Record
+moved number number′ place place′ r = record {
+  tag = r .tag;
+  kind = r .kind;
+  depth = r .depth;
+  parent = shifted number number′ (r .parent);
+  start = startAfter place place′ (r .tag) (r .start);
+  size = r .size;
+}
