@@ -3,6 +3,10 @@ pub mod Sites
 pub mod Records
 pub mod Cuts
 pub mod Sizes
+pub mod Around
+pub mod SizesPacked
+pub mod Stores
+pub mod CutLists
 pub mod Spots
 pub mod Found
 pub mod Local

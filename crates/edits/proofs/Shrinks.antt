@@ -1,5 +1,5 @@
 -- Removing makes nothing more: no records, no octets of the store, none of the normal form. So of a tree that memory holds it is refused by 18 alone.
-use mathlib.Core.Path.{_≡_, refl, sym, ap, _∙_, subst}
+use mathlib.Core.Path.{_≡_, refl, ap}
 use mathlib.Core.Bool.{Bool, true, false, cond}
 use mathlib.Core.Option.{none, some, Option·none-ne-some}
 use mathlib.Core.List.{List, [], _∷_}
@@ -14,28 +14,25 @@ use Rattle.octets.specs.Header.{lengthField}
 use Rattle.octets.proofs.Tests.{and-right}
 use Rattle.values.specs.Table.{known}
 use Rattle.format.specs.Tree.{Items, count}
-use Rattle.format.specs.Tree.Items.{end, item}
+use Rattle.format.specs.Tree.Items.{item}
 use Rattle.format.specs.Judge.{first, rule, unless}
 use Rattle.format.specs.Judge.Judged.{accepted}
 use Rattle.format.specs.Meaning.{opens, means, encode}
 use Rattle.format.specs.Writer.{below, past, atTop, rebuilt, ruled}
-use Rattle.format.specs.Loaded.{stored, storeIn, loadedIn}
+use Rattle.format.specs.Loaded.{stored, storeIn}
 use Rattle.format.specs.Calls.{places, row, treeGiven}
 use Rattle.format.specs.State.{Memory, placesIn, packed, packedStore, kept, treeHeld}
-use Rattle.format.proofs.Spans.{Located, part-span}
-use Rattle.format.proofs.Loading.{loaded-held, loaded-single}
 use Rattle.format.proofs.Written.{Bytes, located-bytes}
 use Rattle.format.proofs.Rebuilt.{whole-count}
 use Rattle.survey.specs.Normal.{framedSize, normalSize}
 use Rattle.survey.proofs.Sizes.{size-whole}
-use Rattle.state.proofs.Packed.{store-held, store-single}
 use Rattle.state.proofs.HeldTree.{held}
 use Rattle.edits.specs.Tree.{changeAt, without, isThere, changed}
 use Rattle.edits.specs.Tree.Edit.{remove}
 use Rattle.edits.specs.Calls.{overflow, settled, edited, editedIn}
 use Rattle.edits.specs.Sites.{Site, Swapped}
 use Rattle.edits.specs.Sites.Swapped.{here, inside, after}
-use Rattle.edits.proofs.Swaps.{Plain, ruled-plain}
+use Rattle.edits.proofs.Stores.{held-store}
 use Rattle.edits.proofs.Standing.{packed-means, packed-count, packed-store}
 use Rattle.edits.proofs.Found.{at-record}
 use Rattle.edits.proofs.Local.{remove-rules}
@@ -129,30 +126,6 @@ store-measure = record {
         → length (own p tag body x′) ≤ length (own p tag body x)
     held-less p tag body x x′ o l = rw o (go (eqb tag 4) (storeIn [] tag x′) (storeIn [] tag x) l)
 
--- ---- a tree that lies packed in a store takes no more than it
-module _ (lent : List ℕ) where
-  store-within : (t : Items) (p at : ℕ) → Plain t → at ≤ length lent → Located lent (loadedIn [] p at t) → at + storeSize p t ≤ length lent
-  unfolding storeIn
-  store-within end p at q l h = omega arith
-  store-within (item tag from body x y) p at q l h = go (opens tag) refl (λ k. store-within x tag k (q .2)) (λ k. store-within y p k (q .3))
-    where
-      single : List ℕ
-      single = stored [] (known p tag) body
-
-      go : (b : Bool) → opens tag ≡ b → ((k : ℕ) → k ≤ length lent → Located lent (loadedIn [] tag k x) → k + storeSize tag x ≤ length lent)
-          → ((k : ℕ) → k ≤ length lent → Located lent (loadedIn [] p k y) → k + storeSize p y ≤ length lent) → at + storeSize p (item tag from body x y) ≤ length lent
-      go true o fx fy =
-          let g = subst (Located lent) (loaded-held [] p at tag from body x y (q .0) o) h in
-          let n = ap length (store-held [] p tag from body x y (q .0) o) ∙ length-append (storeIn [] tag x) (storeIn [] p y) in
-          let i = fx at l (g .1) in
-          let j = fy (at + storeSize tag x) i (g .2) in
-          omega arith
-      go false o fx fy =
-          let g = subst (Located lent) (loaded-single [] p at tag from body x y (q .0) o) h in
-          let n = ap length (store-single [] p tag from body x y (q .0) o) ∙ length-append single (storeIn [] p y) in
-          let j = fy (at + length single) (part-span lent at single (g .0) .0) (g .2) in
-          omega arith
-
 -- ---- the call: where memory holds a tree with such a record, nothing is refused
 module _ (n : ℕ) (m : Memory) (t : Items) (h : treeHeld n m ≡ some t) (os : Octets (m .store)) (i : ℕ) (there : isThere (remove i) t ≡ true) where
   rules : ruled atTop t ≡ true
@@ -166,10 +139,7 @@ module _ (n : ℕ) (m : Memory) (t : Items) (h : treeHeld n m ≡ some t) (os : 
   less = changeAt without i t
 
   stored-within : storeSize 0 t ≤ length (m .store)
-  stored-within =
-      let k = held n m t h in
-      let l = store-within (m .store) t 0 0 (ruled-plain t atTop rules) (omega arith) (subst (Located (m .store)) (sym (k .packs)) (k .whole .located)) in
-      omega arith
+  stored-within = held-store n m t (held n m t h) .0
 
   counted-within : count t ≤ placesIn m
   unfolding treeGiven placesIn

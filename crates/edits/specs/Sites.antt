@@ -2,7 +2,7 @@
 -- stays, what is behind it moves. Who reads the request has to believe none of this.
 use mathlib.Core.Path.{_≡_}
 use mathlib.Core.Bool.{true, cond}
-use mathlib.Core.List.{List, []}
+use mathlib.Core.List.{List, [], _∷_}
 use Prim.Native.Nat.{ℕ, suc, _+_, _-_}
 use lib.Dec.{ltb}
 use lib.ListN.{length}
@@ -60,6 +60,11 @@ shifted from to n = cond (ltb n from) n (n - from + to)
 -- where a body begins; an element that holds items keeps its span (0, 0)
 unfoldable pub startAfter : (was is tag start : ℕ) → ℕ
 startAfter was is tag start = cond (opens tag) start (start - was + is)
+
+unfoldable pub shiftedStarts : (was is : ℕ) → (tags starts : List ℕ) → List ℕ
+shiftedStarts was is [] starts = []
+shiftedStarts was is (tag ∷ tags) [] = []
+shiftedStarts was is (tag ∷ tags) (start ∷ starts) = startAfter was is tag start ∷ shiftedStarts was is tags starts
 
 unfoldable pub moved : (number number′ place place′ : ℕ) → Record → Record
 moved number number′ place place′ r = record {

@@ -1,0 +1,58 @@
+-- Memory that holds a tree begins with what the tree takes of the store.
+use mathlib.Core.Path.{_≡_, refl, sym, ap, ap₂, _∙_, subst}
+use mathlib.Core.Bool.{Bool, true, false}
+use mathlib.Core.List.{List, [], _++_}
+use Prim.Native.Nat.{ℕ, _+_, _≤_}
+use native.Mathlib.Omega.{arith}
+use lib.ListN.{length, take, drop, length-append}
+use Rattle.octets.proofs.Lists.{part-split}
+use Rattle.values.specs.Table.{known}
+use Rattle.format.specs.Tree.{Items}
+use Rattle.format.specs.Tree.Items.{end, item}
+use Rattle.format.specs.Meaning.{opens}
+use Rattle.format.specs.Writer.{atTop}
+use Rattle.format.specs.Loaded.{stored, storeIn, loadedIn}
+use Rattle.format.specs.State.{Memory, packedStore}
+use Rattle.format.proofs.Spans.{Located, part-span}
+use Rattle.format.proofs.Loading.{loaded-held, loaded-single}
+use Rattle.state.proofs.HeldTree.{Held}
+use Rattle.state.proofs.Packed.{store-held, store-single}
+use Rattle.edits.proofs.Swaps.{Plain, ruled-plain}
+
+-- a part of a list is just these octets
+abbrev Spans : (lent : List ℕ) (at : ℕ) → List ℕ → Type 0
+Spans lent at o = (at + length o ≤ length lent) × (take (length o) (drop at lent) ≡ o)
+
+-- the lent octets hold what a packed tree takes of them
+store-span : (lent : List ℕ) (t : Items) → Plain t → (p at : ℕ) → at ≤ length lent → Located lent (loadedIn [] p at t) → Spans lent at (storeIn [] p t)
+unfolding loadedIn storeIn
+store-span lent end q p at h l = (omega arith, refl)
+store-span lent (item tag from body x y) q p at h l =
+    go (λ k b c. store-span lent x (q .2) k at b c) (λ k b c. store-span lent y (q .3) p k b c) (opens tag) refl
+  where
+    own : List ℕ
+    own = stored [] (known p tag) body
+
+    two : (a b : List ℕ) → Spans lent at a → Spans lent (at + length a) b → Spans lent at (a ++ b)
+    two a b e f =
+        let n = length-append a b in
+        (omega (arith, f .0), ap (λ c. take c (drop at lent)) n ∙ (part-split lent at (length a) (length b) ∙ ap₂ _++_ (e .1) (f .1)))
+
+    go : ((k : ℕ) → at ≤ length lent → Located lent (loadedIn [] k at x) → Spans lent at (storeIn [] k x))
+        → ((k : ℕ) → k ≤ length lent → Located lent (loadedIn [] p k y) → Spans lent k (storeIn [] p y))
+        → (b : Bool) → opens tag ≡ b → Spans lent at (storeIn [] p (item tag from body x y))
+    go fx fy true o =
+        let l′ = subst (Located lent) (loaded-held [] p at tag from body x y (q .0) o) l in
+        let a = storeIn [] tag x in
+        let gx = fx tag h (l′ .1) in
+        rw (store-held [] p tag from body x y (q .0) o) (two a (storeIn [] p y) gx (fy (at + length a) (gx .0) (l′ .2)))
+    go fx fy false o =
+        let l′ = subst (Located lent) (loaded-single [] p at tag from body x y (q .0) o) l in
+        let gx = part-span lent at own (l′ .0) in
+        rw (store-single [] p tag from body x y (q .0) o) (two own (storeIn [] p y) gx (fy (at + length own) (gx .0) (l′ .2)))
+
+pub held-store : (n : ℕ) (m : Memory) (t : Items) → Held n m t → (length (packedStore t) ≤ length (m .store)) × (take (length (packedStore t)) (m .store) ≡ packedStore t)
+held-store n m t held =
+    let located = subst (Located (m .store)) (sym (held .packs)) (held .whole .located) in
+    let s = store-span (m .store) t (ruled-plain t atTop (held .whole .rules)) 0 0 (omega arith) located in
+    (omega (arith, s .0), s .1)
