@@ -21,7 +21,7 @@ use Rattle.format.specs.Calls.{Lists, places, row, treeGiven}
 use Rattle.format.specs.State.{Memory, packed, packedStore, bodySizes}
 use Rattle.format.proofs.Written.{Bytes}
 use Rattle.state.proofs.HeldTree.{Held}
-use Rattle.edits.specs.Sites.{Site, topSite, recordsAt, storeAt, Swapped, shifted, startAfter, shiftedStarts, moved}
+use Rattle.edits.specs.Sites.{Site, topSite, recordsAt, Swapped, shifted, startAfter, shiftedStarts, moved}
 use Rattle.edits.specs.Sizes.{raised, upFrom, Climbs}
 use Rattle.edits.proofs.Swaps.{Plain, ruled-plain}
 use Rattle.edits.proofs.Sites.{Between, between-at}
@@ -80,13 +80,13 @@ map-length f [] = refl
 map-length f (r ∷ rs) = ap suc (map-length f rs)
 
 -- each list has so many places
-record Enough (n : ℕ) (l : Lists) : Type 0 where
-  tags : n ≤ length (l .tags)
-  kinds : n ≤ length (l .kinds)
-  depths : n ≤ length (l .depths)
-  parents : n ≤ length (l .parents)
-  starts : n ≤ length (l .starts)
-  sizes : n ≤ length (l .sizes)
+pub record Enough (n : ℕ) (l : Lists) : Type 0 where
+  pub tags : n ≤ length (l .tags)
+  pub kinds : n ≤ length (l .kinds)
+  pub depths : n ≤ length (l .depths)
+  pub parents : n ≤ length (l .parents)
+  pub starts : n ≤ length (l .starts)
+  pub sizes : n ≤ length (l .sizes)
 
 -- ---- an edit at a site
 module _ (n : ℕ) (m : Memory) (t t′ : Items) (held : Held n m t) {h : Site} {u w : Items} (v : Swapped topSite t t′ h u w) (q : Plain w)
@@ -97,19 +97,21 @@ module _ (n : ℕ) (m : Memory) (t t′ : Items) (held : Held n m t) {h : Site} 
   t-plain : Plain t
   t-plain = ruled-plain t atTop (held .whole .rules)
 
-  records-cut : Cut (map f) (recordsOf t) (recordsOf (packed t′)) (h .number) gone put
+  both : (a : Cut (map f) (recordsOf t) (recordsOf (packed t′)) (h .number) gone put) × Between P (0 + length (packedStore t)) (a .post)
   unfolding atTop
-  records-cut = subst (λ k. (a : Cut (map f) (recordsOf k) (recordsOf (packed t′)) (h .number) gone put) × Between P (0 + length (packedStore t)) (a .post)) (held .packs) (cut-records N N′ P P′ v t-plain q c above refl) .0
+  both =
+      subst (λ k. (a : Cut (map f) (recordsOf k) (recordsOf (packed t′)) (h .number) gone put) × Between P (0 + length (packedStore t)) (a .post)) (held .packs)
+      (cut-records N N′ P P′ v t-plain q c above refl)
+
+  abbrev records-cut : Cut (map f) (recordsOf t) (recordsOf (packed t′)) (h .number) gone put
+  records-cut = both .0
 
   -- where the bodies of the records behind the cut lie
   later-between : Between P (length (packedStore t)) (records-cut .post)
-  unfolding atTop records-cut
-  later-between =
-      let d = subst (λ k. (a : Cut (map f) (recordsOf k) (recordsOf (packed t′)) (h .number) gone put) × Between P (0 + length (packedStore t)) (a .post)) (held .packs) (cut-records N N′ P P′ v t-plain q c above refl) in
-      subst (λ j. Between P j (records-cut .post)) (zero-add (length (packedStore t))) (d .1)
+  later-between = subst (λ j. Between P j (records-cut .post)) (zero-add (length (packedStore t))) (both .1)
 
   -- ---- one field of the records
-  enough : Enough n (m .lists)
+  pub enough : Enough n (m .lists)
   unfolding treeGiven places
   enough = go (leb n (places (m .lists))) refl (held .given)
     where
@@ -133,14 +135,17 @@ module _ (n : ℕ) (m : Memory) (t t′ : Items) (held : Held n m t) {h : Site} 
         ap₂ (λ a b. between xs (a + b) n) (sym place) (sym (map-length field gone))
         ∙ cut-part xs n long (map field (records-cut .pre)) (map field gone) (map field (records-cut .post)) field-old
 
-    field-laid : (later : List ℕ) → map field (map f (records-cut .post)) ≡ later → sets xs 0 (map field (recordsOf (packed t′))) ≡ sets xs (h .number) (map field put ++ later)
+    field-laid : (later : List ℕ) → map field (map f (records-cut .post)) ≡ later
+        → sets xs 0 (map field (recordsOf (packed t′))) ≡ sets xs (h .number) (map field put ++ later)
     field-laid later e =
         ap (sets xs 0) (ap (map field) (records-cut .new) ∙ (map-append field (records-cut .pre) (put ++ map f (records-cut .post))
         ∙ ap (λ z. map field (records-cut .pre) ++ z) (map-append field put (map f (records-cut .post)) ∙ ap (λ z. map field put ++ z) e)))
-        ∙ (cut-sets xs n long (map field (records-cut .pre)) (map field gone) (map field (records-cut .post)) field-old (map field put ++ later) ∙ ap (λ j. sets xs j (map field put ++ later)) place)
+        ∙ (cut-sets xs n long (map field (records-cut .pre)) (map field gone) (map field (records-cut .post)) field-old (map field put ++ later)
+        ∙ ap (λ j. sets xs j (map field put ++ later)) place)
 
     -- tag, kind, depth, size: those behind the cut close up or make room, each as it stands
-    pub field-cut : ((r : Record) → field (f r) ≡ field r) → sets xs 0 (map field (recordsOf (packed t′))) ≡ sets xs (h .number) (map field put ++ between xs (h .number + length gone) n)
+    pub field-cut : ((r : Record) → field (f r) ≡ field r)
+        → sets xs 0 (map field (recordsOf (packed t′))) ≡ sets xs (h .number) (map field put ++ between xs (h .number + length gone) n)
     field-cut k = field-laid (between xs (h .number + length gone) n) (moved-field N N′ P P′ field k (records-cut .post) ∙ sym later-numbers)
 
   -- each begins behind P and in what the tree takes of the store
@@ -156,8 +161,10 @@ module _ (n : ℕ) (m : Memory) (t t′ : Items) (held : Held n m t) {h : Site} 
       let ss = later-numbers (λ r. r .start) (m .lists .starts) (λ j. refl) started in
       let at : (xs ys : List ℕ) → take (n - first) (drop first xs) ≡ ys → getD xs j 0 ≡ getD ys k 0 =
       λ xs ys q. sym (ap (λ z. getD z k 0) (sym q) ∙ (getD-part xs first (n - first) k 0 (omega arith) ∙ ap (λ i. getD xs i 0) e)) in
-      let long : length (records-cut .post) ≡ n - first = sym (map-length (λ r. r .tag) (records-cut .post)) ∙ (ap length (sym ts) ∙ length-part (m .lists .tags) first (n - first) (omega arith)) in
-      between-at P (length (packedStore t)) (records-cut .post) k (omega arith) later-between (getD (m .lists .tags) j 0) (getD (m .lists .starts) j 0) (at (m .lists .tags) _ ts) (at (m .lists .starts) _ ss) o
+      let long : length (records-cut .post) ≡ n - first =
+      sym (map-length (λ r. r .tag) (records-cut .post)) ∙ (ap length (sym ts) ∙ length-part (m .lists .tags) first (n - first) (omega arith)) in
+      between-at P (length (packedStore t)) (records-cut .post) k (omega arith) later-between (getD (m .lists .tags) j 0) (getD (m .lists .starts) j 0)
+      (at (m .lists .tags) _ ts) (at (m .lists .starts) _ ss) o
 
   -- the numbers of parents that lie behind the cut move
   pub parents-cut : sets (m .lists .parents) 0 (map (λ r. r .parent) (recordsOf (packed t′)))
@@ -175,26 +182,30 @@ module _ (n : ℕ) (m : Memory) (t t′ : Items) (held : Held n m t) {h : Site} 
 
   -- and so do the places in the store
   pub starts-cut : sets (m .lists .starts) 0 (map (λ r. r .start) (recordsOf (packed t′)))
-      ≡ sets (m .lists .starts) (h .number) (map (λ r. r .start) put ++ shiftedStarts P P′ (between (m .lists .tags) (h .number + length gone) n) (between (m .lists .starts) (h .number + length gone) n))
+      ≡ sets (m .lists .starts) (h .number)
+      (map (λ r. r .start) put ++ shiftedStarts P P′ (between (m .lists .tags) (h .number + length gone) n) (between (m .lists .starts) (h .number + length gone) n))
   starts-cut =
       let long = enough .starts in
       let long-tags = enough .tags in
       field-laid (λ r. r .start) (m .lists .starts) (λ j. refl) long
       (shiftedStarts P P′ (between (m .lists .tags) (h .number + length gone) n) (between (m .lists .starts) (h .number + length gone) n))
       (moved-starts N N′ P P′ (records-cut .post)
-      ∙ ap₂ (shiftedStarts P P′) (sym (later-numbers (λ r. r .tag) (m .lists .tags) (λ j. refl) long-tags)) (sym (later-numbers (λ r. r .start) (m .lists .starts) (λ j. refl) long)))
+      ∙ ap₂ (shiftedStarts P P′) (sym (later-numbers (λ r. r .tag) (m .lists .tags) (λ j. refl) long-tags))
+      (sym (later-numbers (λ r. r .start) (m .lists .starts) (λ j. refl) long)))
 
   -- ---- the store
   store-cut : Cut (λ a. a) (packedStore t) (packedStore t′) (h .place) octets-gone octets-put
   unfolding atTop
   store-cut = cut-store N N′ P P′ v t-plain q c refl
 
-  pub octets-cut : sets (m .store) 0 (packedStore t′) ≡ sets (m .store) (h .place) (octets-put ++ between (m .store) (h .place + length octets-gone) (length (packedStore t)))
+  pub octets-cut : sets (m .store) 0 (packedStore t′)
+      ≡ sets (m .store) (h .place) (octets-put ++ between (m .store) (h .place + length octets-gone) (length (packedStore t)))
   octets-cut =
       let s = held-store n m t held in
       let k = store-cut in
       let old = s .1 ∙ k .old in
-      let later = ap (λ j. between (m .store) (j + length octets-gone) (length (packedStore t))) (sym (k .before-it)) ∙ cut-part (m .store) (length (packedStore t)) (s .0) (k .pre) octets-gone (k .post) old in
+      let later = ap (λ j. between (m .store) (j + length octets-gone) (length (packedStore t))) (sym (k .before-it))
+      ∙ cut-part (m .store) (length (packedStore t)) (s .0) (k .pre) octets-gone (k .post) old in
       ap (sets (m .store) 0) (k .new)
       ∙ (cut-sets (m .store) (length (packedStore t)) (s .0) (k .pre) octets-gone (k .post) old (octets-put ++ k .post)
       ∙ ap₂ (λ j z. sets (m .store) j (octets-put ++ z)) (k .before-it) (sym later))
@@ -218,7 +229,8 @@ module _ (n : ℕ) (m : Memory) (t t′ : Items) (held : Held n m t) {h : Site} 
       }
 
   -- what the items at the site add, but for the same rest, is `was` before and `is` after
-  module _ (was is same : ℕ) (z : sizeAt h u ≡ was + same) (z′ : sizeAt h w ≡ is + same) (below : eqb (h .spot .parent) 0 ≡ false) (bytes : Bytes t′) (rules : ruled atTop t′ ≡ true)
+  module _ (was is same : ℕ) (z : sizeAt h u ≡ was + same) (z′ : sizeAt h w ≡ is + same) (below : eqb (h .spot .parent) 0 ≡ false)
+      (bytes : Bytes t′) (rules : ruled atTop t′ ≡ true)
       (sizes-gone sizes-put rest : List ℕ) (old : sizesAt h u ≡ sizes-gone ++ rest) (new : sizesAt h w ≡ sizes-put ++ rest) where
     abbrev up : List ℕ
     up = upFrom (m .lists .parents) (h .up)
@@ -271,7 +283,8 @@ module _ (n : ℕ) (m : Memory) (t t′ : Items) (held : Held n m t) {h : Site} 
     front-raised : sets (m .bodies) 0 (sw .pre′) ≡ raised up was is (m .bodies)
     front-raised =
         let n₁ = ap length sizes-old ∙ length-append (sw .pre) tail in
-        let e : drop (0 + length (sw .pre′)) (m .bodies) ≡ tail = ap₂ (λ j l. drop j l) (zero-add (length (sw .pre′)) ∙ sw .long′) sizes-old ∙ drop-append-seam (sw .pre) tail in
+        let e : drop (0 + length (sw .pre′)) (m .bodies) ≡ tail =
+        ap₂ (λ j l. drop j l) (zero-add (length (sw .pre′)) ∙ sw .long′) sizes-old ∙ drop-append-seam (sw .pre) tail in
         sets-eq (sw .pre′) (m .bodies) 0 (omega (arith, sw .long′)) ∙ (ap (λ k. sw .pre′ ++ k) e ∙ sym sizes-raised)
 
     pub bodies-cut : sets (m .bodies) 0 (bodySizes 0 (packed t′))

@@ -26,7 +26,7 @@ use Rattle.edits.proofs.Spots.{firstIn}
 use Rattle.edits.proofs.Elements.{Whole, element-whole, element-ruled}
 use Rattle.edits.proofs.Insert.{Place, place, comesAt, put-rules}
 
-opens-zero : (tag : ℕ) → opens tag ≡ true → eqb tag 0 ≡ false
+pub opens-zero : (tag : ℕ) → opens tag ≡ true → eqb tag 0 ≡ false
 unfolding opens
 opens-zero tag o = not-zero tag HoldsItems (items-known (known 0 tag) o)
 
@@ -53,6 +53,11 @@ module _ (t : Items) (r : ruled atTop t ≡ true) (i k : ℕ) (o : List ℕ) (os
   -- the place in it
   pub spot : Place k e (inner (stand .site) (stand .tag)) (stand .x)
   spot = place e (stand .x) k (inner (stand .site) (stand .tag))
+
+  -- which holds items, so it isn't the whole
+  pub in-element : eqb (spot .site .spot .parent) 0 ≡ false
+  unfolding below
+  in-element = ap (λ n. eqb n 0) (spot .parent ∙ sym first-tag) ∙ some-tag
 
   pub insert-swaps : Swapped topSite t (changeAt (holding (putChild k e)) i t) (spot .site) (spot .rest) (before e (spot .rest))
   unfolding holding

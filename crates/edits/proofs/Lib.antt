@@ -7,6 +7,7 @@ pub mod Around
 pub mod SizesPacked
 pub mod Stores
 pub mod CutLists
+pub mod Holds
 pub mod Spots
 pub mod Found
 pub mod Local
