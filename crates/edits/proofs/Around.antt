@@ -55,9 +55,9 @@ up-next ps bs g was (step g′ was′ s′ b a h lt c) s =
 abbrev parentOf : Record → ℕ
 parentOf r = r .parent
 
-map-long : (rs : List Record) → length (map parentOf rs) ≡ length rs
-map-long [] = refl
-map-long (r ∷ rs) = ap suc (map-long rs)
+pub map-length : {A : Type 0} (f : A → ℕ) (rs : List A) → length (map f rs) ≡ length rs
+map-length f [] = refl
+map-length f (r ∷ rs) = ap suc (map-length f rs)
 
 here-parent : (s : Site) (tag : ℕ) (body : List ℕ) → recordHere s tag body .parent ≡ s .up
 unfolding recordHere
@@ -139,7 +139,7 @@ module _ (parents bodies : List ℕ) where
     pub lie-after : Lie (beyond s tag body x) y
     unfolding xs ys past
     lie-after =
-        let n₁ : length xs ≡ count x = map-long (recordsAt (inner s tag) x) ∙ records-length (inner s tag) x (q .2) in
+        let n₁ : length xs ≡ count x = map-length parentOf (recordsAt (inner s tag) x) ∙ records-length (inner s tag) x (q .2) in
         let n₂ : length (bodySizes tag x) ≡ count x = sizes-count x (below (s .spot) tag) tag (r .within) in
         record {
           pf = l .pf ++ (s .up ∷ xs);

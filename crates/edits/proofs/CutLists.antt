@@ -1,23 +1,21 @@
 -- Every edit alike: what each list, the store and the sizes hold once some records were cut out at a site and others put in. What is to be left is said here, list
 -- by list; replacing a text, removing an item and putting in an element are three instances.
 use mathlib.Core.Path.{_≡_, refl, sym, ap, ap₂, _∙_, subst}
-use mathlib.Core.Bool.{Bool, true, false, cond}
-use mathlib.Core.Option.{none, some, Option·none-ne-some}
+use mathlib.Core.Bool.{true, false}
 use mathlib.Core.List.{List, [], _∷_, _++_, append-assoc, map, map-append}
 use Prim.Native.Nat.{ℕ, zero, suc, _+_, _-_, _≤_, _<_}
 use native.Mathlib.Omega.{arith}
 use native.Mathlib.Nat.{zero-add}
-use lib.Dec.{eqb, leb}
+use lib.Dec.{eqb}
 use lib.ListN.{length, take, drop, getD, length-append, take-append-drop}
 use lib.Seq.{sets, sets-eq, drop-cons, take-append-seam, drop-append-seam}
-use borrow.Author.Tests.{leb-true}
 use Rattle.octets.specs.Places.{between}
 use Rattle.octets.proofs.Lists.{getD-part, sets-same, sets-append, length-part}
 use Rattle.format.specs.declared.Record.{Record}
 use Rattle.format.specs.Tree.{Items, recordsOf}
 use Rattle.format.specs.Meaning.{opens}
-use Rattle.format.specs.Writer.{atTop, ruled, tabled, rebuilt}
-use Rattle.format.specs.Calls.{Lists, places, row, treeGiven}
+use Rattle.format.specs.Writer.{atTop, ruled, tabled}
+use Rattle.format.specs.Calls.{Lists, places, row}
 use Rattle.format.specs.State.{Memory, packed, packedStore, bodySizes}
 use Rattle.format.proofs.Written.{Bytes}
 use Rattle.state.proofs.HeldTree.{Held}
@@ -27,9 +25,9 @@ use Rattle.edits.proofs.Swaps.{Plain, ruled-plain}
 use Rattle.edits.proofs.Sites.{Between, between-at}
 use Rattle.edits.proofs.Cuts.{Cut, SiteCut, cut-records, cut-store}
 use Rattle.edits.proofs.Sizes.{path, sizesAt, sizeAt, SizesSwapped, sizes-swapped}
-use Rattle.edits.proofs.Around.{Lie, WholeWay, whole-way}
+use Rattle.edits.proofs.Around.{map-length, Lie, WholeWay, whole-way}
 use Rattle.edits.proofs.SizesPacked.{sizes-packed}
-use Rattle.edits.proofs.Stores.{held-store}
+use Rattle.edits.proofs.Stores.{held-store, held-places}
 
 -- a field of the first n records is what its list begins with
 tabled-field : (row : ℕ → Record) (f : Record → ℕ) (xs : List ℕ) → ((j : ℕ) → f (row j) ≡ getD xs j 0) → (n i : ℕ) → i + n ≤ length xs
@@ -75,10 +73,6 @@ module _ (xs : List ℕ) (n : ℕ) (long : n ≤ length xs) (pre gone post : Lis
       let j : n - (length pre + length gone) ≡ length post = omega (arith, ap length old, length-append pre (gone ++ post), length-append gone post) in
       ap₂ (λ x y. take x y) j (ap₂ (λ x y. drop x y) k g ∙ drop-append-seam (pre ++ gone) (post ++ drop n xs)) ∙ take-append-seam post (drop n xs)
 
-map-length : {A : Type 0} (f : A → ℕ) (rs : List A) → length (map f rs) ≡ length rs
-map-length f [] = refl
-map-length f (r ∷ rs) = ap suc (map-length f rs)
-
 -- each list has so many places
 pub record Enough (n : ℕ) (l : Lists) : Type 0 where
   pub tags : n ≤ length (l .tags)
@@ -112,12 +106,8 @@ module _ (n : ℕ) (m : Memory) (t t′ : Items) (held : Held n m t) {h : Site} 
 
   -- ---- one field of the records
   pub enough : Enough n (m .lists)
-  unfolding treeGiven places
-  enough = go (leb n (places (m .lists))) refl (held .given)
-    where
-      go : (b : Bool) → leb n (places (m .lists)) ≡ b → cond b (rebuilt (row (m .lists)) n (m .store)) none ≡ some t → Enough n (m .lists)
-      go true e g = let k = leb-true n (places (m .lists)) e in omega arith
-      go false e g = absurd (Option·none-ne-some t g)
+  unfolding places
+  enough = let k = held-places n m t held in omega arith
 
   module _ (field : Record → ℕ) (xs : List ℕ) (reads : (j : ℕ) → field (row (m .lists) j) ≡ getD xs j 0) (long : n ≤ length xs) where
     field-old : take n xs ≡ map field (records-cut .pre) ++ (map field gone ++ map field (records-cut .post))

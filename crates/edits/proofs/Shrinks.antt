@@ -1,7 +1,7 @@
 -- Removing makes nothing more: no records, no octets of the store, none of the normal form. So of a tree that memory holds it is refused by 18 alone.
 use mathlib.Core.Path.{_≡_, refl, ap}
 use mathlib.Core.Bool.{Bool, true, false, cond}
-use mathlib.Core.Option.{none, some, Option·none-ne-some}
+use mathlib.Core.Option.{none, some}
 use mathlib.Core.List.{List, [], _∷_}
 use Prim.Native.Nat.{ℕ, _+_, _≤_, _<_}
 use native.Mathlib.Omega.{arith}
@@ -18,9 +18,9 @@ use Rattle.format.specs.Tree.Items.{item}
 use Rattle.format.specs.Judge.{first, rule, unless}
 use Rattle.format.specs.Judge.Judged.{accepted}
 use Rattle.format.specs.Meaning.{opens, means, encode}
-use Rattle.format.specs.Writer.{below, past, atTop, rebuilt, ruled}
+use Rattle.format.specs.Writer.{below, past, atTop, ruled}
 use Rattle.format.specs.Loaded.{stored, storeIn}
-use Rattle.format.specs.Calls.{places, row, treeGiven}
+use Rattle.format.specs.Calls.{row}
 use Rattle.format.specs.State.{Memory, placesIn, packed, packedStore, kept, treeHeld}
 use Rattle.format.proofs.Written.{Bytes, located-bytes}
 use Rattle.format.proofs.Rebuilt.{whole-count}
@@ -32,7 +32,7 @@ use Rattle.edits.specs.Tree.Edit.{remove}
 use Rattle.edits.specs.Calls.{overflow, settled, edited, editedIn}
 use Rattle.edits.specs.Sites.{Site, Swapped}
 use Rattle.edits.specs.Sites.Swapped.{here, inside, after}
-use Rattle.edits.proofs.Stores.{held-store}
+use Rattle.edits.proofs.Stores.{held-store, held-places}
 use Rattle.edits.proofs.Standing.{packed-means, packed-count, packed-store}
 use Rattle.edits.proofs.Found.{at-record}
 use Rattle.edits.proofs.Local.{remove-rules}
@@ -142,15 +142,10 @@ module _ (n : ℕ) (m : Memory) (t : Items) (h : treeHeld n m ≡ some t) (os : 
   stored-within = held-store n m t (held n m t h) .0
 
   counted-within : count t ≤ placesIn m
-  unfolding treeGiven placesIn
+  unfolding placesIn
   counted-within =
       let k = held n m t h in
-      let few = go (leb n (places (m .lists))) refl (k .given) in
-      omega (arith, whole-count (row (m .lists)) n (m .store) t (k .whole), le-min few (k .fewer))
-    where
-      go : (b : Bool) → leb n (places (m .lists)) ≡ b → cond b (rebuilt (row (m .lists)) n (m .store)) none ≡ some t → n ≤ places (m .lists)
-      go true e g = leb-true n (places (m .lists)) e
-      go false e g = absurd (Option·none-ne-some t g)
+      omega (arith, whole-count (row (m .lists)) n (m .store) t (k .whole), le-min (held-places n m t k) (k .fewer))
 
   bytes : Bytes less
   unfolding changed

@@ -1,17 +1,21 @@
--- Memory that holds a tree begins with what the tree takes of the store.
+-- Memory that holds a tree begins with what the tree takes of the store, and its lists have a place for each record.
 use mathlib.Core.Path.{_≡_, refl, sym, ap, ap₂, _∙_, subst}
-use mathlib.Core.Bool.{Bool, true, false}
+use mathlib.Core.Bool.{Bool, true, false, cond}
+use mathlib.Core.Option.{none, some, Option·none-ne-some}
 use mathlib.Core.List.{List, [], _++_}
 use Prim.Native.Nat.{ℕ, _+_, _≤_}
 use native.Mathlib.Omega.{arith}
+use lib.Dec.{leb}
 use lib.ListN.{length, take, drop, length-append}
+use borrow.Author.Tests.{leb-true}
 use Rattle.octets.proofs.Lists.{part-split}
 use Rattle.values.specs.Table.{known}
 use Rattle.format.specs.Tree.{Items}
 use Rattle.format.specs.Tree.Items.{end, item}
 use Rattle.format.specs.Meaning.{opens}
-use Rattle.format.specs.Writer.{atTop}
+use Rattle.format.specs.Writer.{atTop, rebuilt}
 use Rattle.format.specs.Loaded.{stored, storeIn, loadedIn}
+use Rattle.format.specs.Calls.{places, row, treeGiven}
 use Rattle.format.specs.State.{Memory, packedStore}
 use Rattle.format.proofs.Spans.{Located, part-span}
 use Rattle.format.proofs.Loading.{loaded-held, loaded-single}
@@ -56,3 +60,11 @@ held-store n m t held =
     let located = subst (Located (m .store)) (sym (held .packs)) (held .whole .located) in
     let s = store-span (m .store) t (ruled-plain t atTop (held .whole .rules)) 0 0 (omega arith) located in
     (omega (arith, s .0), s .1)
+
+pub held-places : (n : ℕ) (m : Memory) (t : Items) → Held n m t → n ≤ places (m .lists)
+unfolding treeGiven
+held-places n m t held = go (leb n (places (m .lists))) refl (held .given)
+  where
+    go : (b : Bool) → leb n (places (m .lists)) ≡ b → cond b (rebuilt (row (m .lists)) n (m .store)) none ≡ some t → n ≤ places (m .lists)
+    go true e g = leb-true n (places (m .lists)) e
+    go false e g = absurd (Option·none-ne-some t g)
