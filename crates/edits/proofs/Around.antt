@@ -5,7 +5,7 @@ use mathlib.Core.List.{List, [], _∷_, _++_, append-assoc, map, map-append}
 use Prim.Native.Nat.{ℕ, zero, suc, _+_, _≤_, _<_}
 use native.Mathlib.Omega.{arith}
 use lib.Dec.{eqb}
-use lib.ListN.{length, getD, length-append}
+use lib.ListN.{length, getD, length-append, length-map}
 use lib.Seq.{getD-at}
 use borrow.Author.Tests.{ne-eqb}
 use Rattle.values.specs.Table.{known}
@@ -54,10 +54,6 @@ up-next ps bs g was (step g′ was′ s′ b a h lt c) s =
 
 abbrev parentOf : Record → ℕ
 parentOf r = r .parent
-
-pub map-length : {A : Type 0} (f : A → ℕ) (rs : List A) → length (map f rs) ≡ length rs
-map-length f [] = refl
-map-length f (r ∷ rs) = ap suc (map-length f rs)
 
 here-parent : (s : Site) (tag : ℕ) (body : List ℕ) → recordHere s tag body .parent ≡ s .up
 unfolding recordHere
@@ -139,7 +135,7 @@ module _ (parents bodies : List ℕ) where
     pub lie-after : Lie (beyond s tag body x) y
     unfolding xs ys past
     lie-after =
-        let n₁ : length xs ≡ count x = map-length parentOf (recordsAt (inner s tag) x) ∙ records-length (inner s tag) x (q .2) in
+        let n₁ : length xs ≡ count x = length-map (recordsAt (inner s tag) x) parentOf ∙ records-length (inner s tag) x (q .2) in
         let n₂ : length (bodySizes tag x) ≡ count x = sizes-count x (below (s .spot) tag) tag (r .within) in
         record {
           pf = l .pf ++ (s .up ∷ xs);

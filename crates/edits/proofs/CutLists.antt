@@ -7,7 +7,7 @@ use Prim.Native.Nat.{ℕ, zero, suc, _+_, _-_, _≤_, _<_}
 use native.Mathlib.Omega.{arith}
 use native.Mathlib.Nat.{zero-add}
 use lib.Dec.{eqb}
-use lib.ListN.{length, take, drop, getD, length-append, take-append-drop}
+use lib.ListN.{length, take, drop, getD, length-append, length-map, take-append-drop}
 use lib.Seq.{sets, sets-eq, drop-cons, take-append-seam, drop-append-seam}
 use Rattle.octets.specs.Places.{between}
 use Rattle.octets.proofs.Lists.{getD-part, sets-same, sets-append, length-part}
@@ -25,7 +25,7 @@ use Rattle.edits.proofs.Swaps.{Plain, ruled-plain}
 use Rattle.edits.proofs.Sites.{Between, between-at}
 use Rattle.edits.proofs.Cuts.{Cut, SiteCut, cut-records, cut-store}
 use Rattle.edits.proofs.Sizes.{path, sizesAt, sizeAt, SizesSwapped, sizes-swapped}
-use Rattle.edits.proofs.Around.{map-length, Lie, WholeWay, whole-way}
+use Rattle.edits.proofs.Around.{Lie, WholeWay, whole-way}
 use Rattle.edits.proofs.SizesPacked.{sizes-packed}
 use Rattle.edits.proofs.Stores.{held-store, held-places}
 
@@ -117,12 +117,12 @@ module _ (n : ℕ) (m : Memory) (t t′ : Items) (held : Held n m t) {h : Site} 
         ∙ (map-append field (records-cut .pre) (gone ++ records-cut .post) ∙ ap (λ z. map field (records-cut .pre) ++ z) (map-append field gone (records-cut .post))))
 
     place : length (map field (records-cut .pre)) ≡ h .number
-    place = map-length field (records-cut .pre) ∙ records-cut .before-it
+    place = length-map (records-cut .pre) field ∙ records-cut .before-it
 
     -- the field's numbers of the records behind the cut
     later-numbers : between xs (h .number + length gone) n ≡ map field (records-cut .post)
     later-numbers =
-        ap₂ (λ a b. between xs (a + b) n) (sym place) (sym (map-length field gone))
+        ap₂ (λ a b. between xs (a + b) n) (sym place) (sym (length-map gone field))
         ∙ cut-part xs n long (map field (records-cut .pre)) (map field gone) (map field (records-cut .post)) field-old
 
     field-laid : (later : List ℕ) → map field (map f (records-cut .post)) ≡ later
@@ -152,7 +152,7 @@ module _ (n : ℕ) (m : Memory) (t t′ : Items) (held : Held n m t) {h : Site} 
       let at : (xs ys : List ℕ) → take (n - first) (drop first xs) ≡ ys → getD xs j 0 ≡ getD ys k 0 =
       λ xs ys q. sym (ap (λ z. getD z k 0) (sym q) ∙ (getD-part xs first (n - first) k 0 (omega arith) ∙ ap (λ i. getD xs i 0) e)) in
       let long : length (records-cut .post) ≡ n - first =
-      sym (map-length (λ r. r .tag) (records-cut .post)) ∙ (ap length (sym ts) ∙ length-part (m .lists .tags) first (n - first) (omega arith)) in
+      sym (length-map (records-cut .post) (λ r. r .tag)) ∙ (ap length (sym ts) ∙ length-part (m .lists .tags) first (n - first) (omega arith)) in
       between-at P (length (packedStore t)) (records-cut .post) k (omega arith) later-between (getD (m .lists .tags) j 0) (getD (m .lists .starts) j 0)
       (at (m .lists .tags) _ ts) (at (m .lists .starts) _ ss) o
 

@@ -65,9 +65,6 @@ pub record SizesSwapped (s : Site) (t t′ : Items) (h : Site) (u w : Items) (gs
   pub was-size : sizeAt s t ≡ lastPair gs was is (front ++ (sizesAt s t ++ back)) .0 + other
   pub is-size : sizeAt s t′ ≡ lastPair gs was is (front ++ (sizesAt s t ++ back)) .1 + other
 
-pair-at : (gs : List ℕ) (was is : ℕ) (l : List ℕ) (m : List ℕ) → l ≡ m → lastPair gs was is l ≡ lastPair gs was is m
-pair-at gs was is l m e = ap (lastPair gs was is) e
-
 -- parts of lists in other groups
 regroup-in : (f : List ℕ) (b : ℕ) (x y k : List ℕ) → f ++ ((b ∷ (x ++ y)) ++ k) ≡ (f ++ (b ∷ [])) ++ (x ++ (y ++ k))
 regroup-in f b x y k = simp append-assoc
@@ -113,7 +110,7 @@ module _ (was is : ℕ) where
       let zn : getD z (s .number) 0 ≡ b = ap (λ q. getD q (s .number) 0) ze ∙ getD-at front b (m ++ (ys ++ back)) 0 (s .number) n in
       let q = lastPair gs was is l in
       let q₁ = lastPair gs was is l₁ in
-      let qe : q ≡ q₁ = pair-at gs was is l l₁ e in
+      let qe : q ≡ q₁ = ap (lastPair gs was is) e in
       let bx : b ≡ normalSize tag x = size-open (s .spot) p tag body x o (r .within) in
       let bx′ : b′ ≡ normalSize tag x′ = size-open (s .spot) p tag body x′ o (r′ .within) in
       let q0 : q .0 ≡ q₁ .0 = ap (λ v. v .0) qe in
@@ -151,7 +148,7 @@ module _ (was is : ℕ) where
       let l = front ++ ((b ∷ (xs ++ bodySizes p y)) ++ back) in
       let l₁ = (front ++ (b ∷ xs)) ++ (bodySizes p y ++ back) in
       let e : l ≡ l₁ = regroup-after front b xs (bodySizes p y) back in
-      let qe = pair-at gs was is l l₁ e in
+      let qe = ap (lastPair gs was is) e in
       let us = sizesAt h u in
       record {
         pre = b ∷ (xs ++ g .pre);
