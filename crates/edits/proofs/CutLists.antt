@@ -7,24 +7,26 @@ use Prim.Native.Nat.{ℕ, zero, suc, _+_, _-_, _≤_, _<_}
 use native.Mathlib.Omega.{arith}
 use native.Mathlib.Nat.{zero-add}
 use lib.Dec.{eqb}
-use lib.ListN.{length, take, drop, getD, length-append, length-map, take-append-drop}
+use lib.ListN.{length, take, drop, getD, length-append, length-map, take-append-drop, List·getD-append}
 use lib.Seq.{sets, sets-eq, drop-cons, take-append-seam, drop-append-seam}
 use Rattle.octets.specs.Places.{between}
 use Rattle.octets.proofs.Lists.{getD-part, sets-same, sets-append, length-part}
 use Rattle.format.specs.declared.Record.{Record}
 use Rattle.format.specs.Tree.{Items, recordsOf}
-use Rattle.format.specs.Meaning.{opens}
-use Rattle.format.specs.Writer.{atTop, ruled, tabled}
+use Rattle.format.specs.Tree.Items.{end, item}
+use Rattle.format.specs.Meaning.{opens, means, encode}
+use Rattle.format.specs.Writer.{atTop, isEnd, ruled, tabled}
 use Rattle.format.specs.Calls.{Lists, places, row}
 use Rattle.format.specs.State.{Memory, packed, packedStore, bodySizes}
 use Rattle.format.proofs.Written.{Bytes}
+use Rattle.survey.specs.Normal.{framedSize}
 use Rattle.state.proofs.HeldTree.{Held}
 use Rattle.edits.specs.Sites.{Site, topSite, recordsAt, Swapped, shifted, startAfter, shiftedStarts, moved}
 use Rattle.edits.specs.Sizes.{raised, upFrom, Climbs}
 use Rattle.edits.proofs.Swaps.{Plain, ruled-plain}
 use Rattle.edits.proofs.Sites.{Between, between-at}
 use Rattle.edits.proofs.Cuts.{Cut, SiteCut, cut-records, cut-store}
-use Rattle.edits.proofs.Sizes.{path, sizesAt, sizeAt, SizesSwapped, sizes-swapped}
+use Rattle.edits.proofs.Sizes.{path, sizesAt, sizeAt, SizesSwapped, sizes-swapped, top-framed}
 use Rattle.edits.proofs.Around.{Lie, WholeWay, whole-way}
 use Rattle.edits.proofs.SizesPacked.{sizes-packed}
 use Rattle.edits.proofs.Stores.{held-store, held-places}
@@ -72,6 +74,11 @@ module _ (xs : List ℕ) (n : ℕ) (long : n ≤ length xs) (pre gone post : Lis
       let l : length (take n xs) ≡ n = length-part xs 0 n (omega arith) in
       let j : n - (length pre + length gone) ≡ length post = omega (arith, ap length old, length-append pre (gone ++ post), length-append gone post) in
       ap₂ (λ x y. take x y) j (ap₂ (λ x y. drop x y) k g ∙ drop-append-seam (pre ++ gone) (post ++ drop n xs)) ∙ take-append-seam post (drop n xs)
+
+some-items : (t : Items) → 0 < length (bodySizes 0 t) → isEnd t ≡ false
+unfolding isEnd bodySizes
+some-items end h = absurd (omega arith)
+some-items (item tag at body x y) h = refl
 
 -- each list has so many places
 pub record Enough (n : ℕ) (l : Lists) : Type 0 where
@@ -285,3 +292,14 @@ module _ (n : ℕ) (m : Memory) (t t′ : Items) (held : Held n m t) {h : Site} 
         ∙ (sym (sets-append (m .bodies) 0 (sw .pre′) add)
         ∙ (ap₂ (λ l j. sets l j add) front-raised (zero-add (length (sw .pre′)) ∙ (sw .long′ ∙ place-sizes))
         ∙ ap (λ k. sets (raised up was is (m .bodies)) (h .number) (sizes-put ++ k)) (sym later-sizes)))
+
+    -- the top's body then, with a header, is as long as the normal form of the new tree
+    pub whole-cut : 0 < h .number → framedSize (getD (raised up was is (m .bodies)) 0 0) ≡ length (encode (means [] t′))
+    unfolding atTop bodySizes isEnd
+    whole-cut pos =
+        let pos′ : 0 < length (sw .pre′) = omega (arith, sw .long′, place-sizes) in
+        let after = sizesAt h w ++ sw .post in
+        let first : getD (raised up was is (m .bodies)) 0 0 ≡ getD (bodySizes 0 t′) 0 0 =
+        ap (λ l. getD l 0 0) sizes-raised
+        ∙ (List·getD-append (sw .pre′) tail 0 0 pos′ ∙ sym (ap (λ l. getD l 0 0) (sw .new) ∙ List·getD-append (sw .pre′) after 0 0 pos′)) in
+        ap framedSize first ∙ top-framed t′ rules (some-items t′ (omega (arith, ap length (sw .new), length-append (sw .pre′) after)))

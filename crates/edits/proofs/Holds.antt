@@ -18,7 +18,7 @@ use Rattle.format.specs.declared.Record.{Record}
 use Rattle.format.specs.Tree.{Items, count, recordsOf}
 use Rattle.format.specs.Tree.Items.{end, item}
 use Rattle.format.specs.Judge.{isText, isItems}
-use Rattle.format.specs.Meaning.{opens}
+use Rattle.format.specs.Meaning.{opens, means, encode}
 use Rattle.format.specs.Writer.{below, past, atTop, isEnd, ruled}
 use Rattle.format.specs.Loaded.{stored}
 use Rattle.format.specs.State.{Memory, packed, packedStore, bodySizes, layTree, treeHeld}
@@ -29,6 +29,7 @@ use Rattle.format.proofs.Means.{text-known, items-opens}
 use Rattle.format.proofs.Order.{ruled-order, three-end}
 use Rattle.format.proofs.Written.{Bytes, located-bytes}
 use Rattle.format.proofs.Calls.{lay-fields}
+use Rattle.survey.specs.Normal.{framedSize}
 use Rattle.state.proofs.BodySizes.{bodySize, adds, size-item}
 use Rattle.state.proofs.HeldTree.{Held, held}
 use Rattle.edits.specs.Tree.{Edit, recordAt, changeAt, withBody, without, holding, before, putChild, isThere, insideOf, elementOf, changed}
@@ -39,10 +40,10 @@ use Rattle.edits.specs.Sites.Swapped.{here, inside, after}
 use Rattle.edits.specs.Sizes.{raised, upFrom, Climbs}
 use Rattle.edits.proofs.Swaps.{Plain, ruled-plain, swapped-rules, swapped-plain, swapped-none}
 use Rattle.edits.proofs.Sites.{recordHere}
-use Rattle.edits.proofs.Records.{records-length}
+use Rattle.edits.proofs.Records.{records-length, swapped-low}
 use Rattle.edits.proofs.Cuts.{SiteCut, swapped-up, body-cut, item-cut, put-cut}
 use Rattle.edits.proofs.Sizes.{sizesAt, sizeAt}
-use Rattle.edits.proofs.CutLists.{enough, field-cut, later-start, parents-cut, starts-cut, octets-cut, climbs-cut, bodies-cut}
+use Rattle.edits.proofs.CutLists.{enough, field-cut, later-start, parents-cut, starts-cut, octets-cut, climbs-cut, bodies-cut, whole-cut}
 use Rattle.edits.proofs.Found.{Stands, at-record}
 use Rattle.edits.proofs.Local.{TextAt, text-at}
 use Rattle.edits.proofs.InsertRules.{opens-zero, stand, whole, spot, insert-swaps, in-element}
@@ -80,8 +81,8 @@ pieceOf h tag body x = record {
 abbrev pub fieldAfter : (n : ℕ) → Cutting → (gone put : Piece) → (Record → ℕ) → (List ℕ → List ℕ) → List ℕ → List ℕ
 fieldAfter n s gone put field f l = sets l (s .site .number) (map field (put .records) ++ f (between l (s .site .number + length (gone .records)) n))
 
--- n records of memory m that take so much of the store, and memory m′ after the edit
-pub record Holds (n used : ℕ) (m m′ : Memory) (s : Cutting) (gone put : Piece) : Type 0 where
+-- n records of memory m that take so much of the store, and memory m′ after the edit, whose tree has a normal form of so many octets
+pub record Holds (n used normal : ℕ) (m m′ : Memory) (s : Cutting) (gone put : Piece) : Type 0 where
   -- each behind the cut closes up or makes room, as it stands
   pub tags : m′ .lists .tags ≡ fieldAfter n s gone put (λ r. r .tag) (λ l. l) (m .lists .tags)
   pub kinds : m′ .lists .kinds ≡ fieldAfter n s gone put (λ r. r .kind) (λ l. l) (m .lists .kinds)
@@ -99,6 +100,8 @@ pub record Holds (n used : ℕ) (m m′ : Memory) (s : Cutting) (gone put : Piec
   pub bodies : m′ .bodies
       ≡ sets (raised (upFrom (m .lists .parents) (s .site .up)) (gone .adds-to) (put .adds-to) (m .bodies)) (s .site .number)
       (put .sizes ++ between (m .bodies) (s .site .number + length (gone .sizes)) n)
+  -- so the top's size tells how long the normal form is
+  pub whole : framedSize (getD (raised (upFrom (m .lists .parents) (s .site .up)) (gone .adds-to) (put .adds-to) (m .bodies)) 0 0) ≡ normal
   pub store : m′ .store ≡ sets (m .store) (s .site .place) (put .octets ++ between (m .store) (s .site .place + length (gone .octets)) used)
 
 -- what is asked of the items at the site
@@ -113,9 +116,9 @@ record Sized (h : Site) (u w : Items) (gone put : Piece) : Type 0 where
 module _ (n : ℕ) (m : Memory) (t t′ : Items) (k : Held n m t) (bytes : Bytes t′) (rules : ruled atTop t′ ≡ true) (s : Cutting) (gone put : Piece) {u w : Items} where
   cut-holds : Swapped topSite t t′ (s .site) u w → Plain w
       → SiteCut (s .N) (s .N′) (s .P) (s .P′) (s .site) u w (gone .records) (put .records) (gone .octets) (put .octets)
-      → 0 < s .N → eqb (s .site .spot .parent) 0 ≡ false → Sized (s .site) u w gone put → Holds n (length (packedStore t)) m (layTree (packed t′) m) s gone put
+      → 0 < s .N → 0 < s .site .number → eqb (s .site .spot .parent) 0 ≡ false → Sized (s .site) u w gone put → Holds n (length (packedStore t)) (length (encode (means [] t′))) m (layTree (packed t′) m) s gone put
   unfolding layTree moved
-  cut-holds v q c above under z =
+  cut-holds v q c above number under z =
       let l = lay-fields (recordsOf (packed t′)) 0 (m .lists) in
       let en = enough n m t t′ k v q (s .N) (s .N′) (s .P) (s .P′) c above in
       let field = field-cut n m t t′ k v q (s .N) (s .N′) (s .P) (s .P′) c above in
@@ -131,6 +134,8 @@ module _ (n : ℕ) (m : Memory) (t t′ : Items) (k : Held n m t) (bytes : Bytes
             (gone .sizes) (put .sizes) (z .rest) (z .old) (z .new);
         bodies = bodies-cut n m t t′ k v q (s .N) (s .N′) (s .P) (s .P′) c above (gone .adds-to) (put .adds-to) (z .same) (z .was) (z .is) under bytes rules
             (gone .sizes) (put .sizes) (z .rest) (z .old) (z .new);
+        whole = whole-cut n m t t′ k v q (s .N) (s .N′) (s .P) (s .P′) c above (gone .adds-to) (put .adds-to) (z .same) (z .was) (z .is) under bytes rules
+            (gone .sizes) (put .sizes) (z .rest) (z .old) (z .new) number;
         store = ap (sets (m .store) 0) (packed-store t′ bytes rules) ∙ octets-cut n m t t′ k v q (s .N) (s .N′) (s .P) (s .P′) c above;
       }
 
@@ -150,6 +155,13 @@ under-top (after s tag at body x y y′ h u w v) r e n =
     let q = ruled-parts atTop tag at body x y r in
     let none : end ≡ y = three-end y (past atTop tag) refl (ruled-order y (past atTop tag) (q .beside)) in
     absurd (false≢true (sym e ∙ swapped-none v (sym (ap isEnd none))))
+
+-- and has a number above the top's
+above-top : {t t′ : Items} {h : Site} {u w : Items} → Swapped topSite t t′ h u w → eqb (h .spot .parent) 0 ≡ false → 0 < h .number
+unfolding atTop past
+above-top (here s t t′) e = absurd (false≢true (sym e))
+above-top (inside s tag at body x x′ y h u w o v) e = omega (arith, swapped-low v)
+above-top (after s tag at body x y y′ h u w v) e = omega (arith, swapped-low v)
 
 -- ---- the three edits: the text of an item, an item gone, an element put in
 abbrev pub textOf : Site → (tag : ℕ) → List ℕ → Piece
@@ -172,7 +184,7 @@ cutBetween h gone put = record {
 module _ (n : ℕ) (m : Memory) (t t′ : Items) where
   -- what is cut at a site and what is put in there
   abbrev After : Site → (gone put : Piece) → Type 0
-  After h gone put = Holds n (length (packedStore t)) m (layTree (packed t′) m) (cutBetween h gone put) gone put
+  After h gone put = Holds n (length (packedStore t)) (length (encode (means [] t′))) m (layTree (packed t′) m) (cutBetween h gone put) gone put
 
   pub record TextHolds (i : ℕ) (o : List ℕ) : Type 0 where
     pub site : Site
@@ -250,7 +262,7 @@ module _ (n : ℕ) (m : Memory) (t t′ : Items) (k : Held n m t) (bytes : Bytes
           y = g .y;
           number = g .number ∙ omega arith;
           swapped = v;
-          holds = cut-holds n m t t′ k bytes rules (cutBetween h gone nothing) gone nothing v (p .3) cut (omega arith) under sized;
+          holds = cut-holds n m t t′ k bytes rules (cutBetween h gone nothing) gone nothing v (p .3) cut (omega arith) (omega (arith, g .number)) under sized;
         }
 
   module _ (i : ℕ) (o : List ℕ) (there : isThere (replace i o) t ≡ true) (is : changeAt (withBody o) i t ≡ t′) where
@@ -301,6 +313,7 @@ module _ (n : ℕ) (m : Memory) (t t′ : Items) (k : Held n m t) (bytes : Bytes
         let u′ = ruled-parts (h .spot) (g .tag) (g .at) o end (g .y) (sym (s .same) ∙ rules) in
         let gone = textOf h (g .tag) (g .body) in
         let put = textOf h (g .tag) o in
+        let under = under-top v r refl no-top in
         let p = ruled-plain old-items (h .spot) (s .kept) in
         let p′ = ruled-plain new-items (h .spot) (sym (s .same) ∙ rules) in
         let e : suc (h .number) ≡ h .number + 1 = omega arith in
@@ -322,7 +335,7 @@ module _ (n : ℕ) (m : Memory) (t t′ : Items) (k : Held n m t) (bytes : Bytes
           y = g .y;
           number = g .number ∙ omega arith;
           swapped = v;
-          holds = cut-holds n m t t′ k bytes rules (cutBetween h gone put) gone put v p′ cut (omega arith) (under-top v r refl no-top) sized;
+          holds = cut-holds n m t t′ k bytes rules (cutBetween h gone put) gone put v p′ cut (omega arith) (above-top v under) under sized;
         }
 
   module _ (i j : ℕ) (o : List ℕ) (os : Octets o) (there : isThere (insert i j o) t ≡ true) (tag at : ℕ) (body : List ℕ) (x : Items)
@@ -365,7 +378,7 @@ module _ (n : ℕ) (m : Memory) (t t′ : Items) (k : Held n m t) (bytes : Bytes
           y = pl .rest;
           element = one;
           swapped = v;
-          holds = cut-holds n m t t′ k bytes rules (cutBetween h nothing put) nothing put v p cut (omega arith) (in-element t r i j o os there e one) sized;
+          holds = cut-holds n m t t′ k bytes rules (cutBetween h nothing put) nothing put v p cut (omega arith) (omega arith) (in-element t r i j o os there e one) sized;
         }
 
 -- memory that holds a tree, and an edit that makes another: what laying that tree leaves in each list and in the store

@@ -1,18 +1,23 @@
 -- The sizes of bodies of a tree in which the items from one site on were swapped for others: those of the elements around the site are raised, the others stay.
 use mathlib.Core.Path.{_≡_, refl, sym, ap, ap₂, _∙_}
-use mathlib.Core.Bool.{true}
+use mathlib.Core.Bool.{true, false, false≢true}
 use mathlib.Core.List.{List, [], _∷_, _++_, append-assoc, append-nil}
 use Prim.Native.Nat.{ℕ, suc, _+_, _-_}
 use native.Mathlib.Omega.{arith}
 use lib.ListN.{length, getD, set, length-append}
 use lib.Seq.{getD-at, set-at}
 use Rattle.format.specs.Tree.{Items, count}
-use Rattle.format.specs.Tree.Items.{item}
-use Rattle.format.specs.Meaning.{opens}
-use Rattle.format.specs.Writer.{below, past, ruled}
+use Rattle.format.specs.Tree.Items.{end, item}
+use Rattle.format.specs.Meaning.{opens, means, encode}
+use Rattle.format.specs.Writer.{below, past, atTop, isEnd, ruled}
 use Rattle.format.specs.State.{bodySizes}
-use Rattle.format.proofs.Kept.{Ruled, ruled-parts}
+use Rattle.format.proofs.Kept.{Ruled, ruled-parts, keeps-parts}
+use Rattle.format.proofs.Fine.{placed-parts}
+use Rattle.format.proofs.Force.{top-known}
+use Rattle.format.proofs.Means.{opens-items}
+use Rattle.format.proofs.Order.{ruled-order, three-end}
 use Rattle.survey.specs.Normal.{framedSize, normalSize}
+use Rattle.survey.proofs.Sizes.{size-whole}
 use Rattle.state.proofs.BodySizes.{bodySize, adds, size-open, size-item, open-counts}
 use Rattle.state.proofs.HeldTree.{sizes-count}
 use Rattle.edits.specs.Sites.{Site, inner, beyond, Swapped}
@@ -191,3 +196,14 @@ module _ (was is : ℕ) where
       let q = ruled-parts (s .spot) tag at body x y r in
       let q′ = ruled-parts (s .spot) tag at body x y′ r′ in
       sizes-after s tag at body x y y′ h u w (path v) front back q q′ n (λ f k l. sizes-swapped v (q .beside) (q′ .beside) same a b f k l)
+
+-- the normal form of a tree is its top's body with a header
+pub top-framed : (t : Items) → ruled atTop t ≡ true → isEnd t ≡ false → framedSize (getD (bodySizes 0 t) 0 0) ≡ length (encode (means [] t))
+unfolding atTop bodySizes normalSize past isEnd
+top-framed end r e = absurd (false≢true (sym e))
+top-framed (item tag at body x y) r e =
+    let u = ruled-parts atTop tag at body x y r in
+    let none : end ≡ y = three-end y (past atTop tag) refl (ruled-order y (past atTop tag) (u .beside)) in
+    let o = opens-items tag (top-known tag (placed-parts atTop tag (keeps-parts atTop tag body (u .rules) .place) .allow)) in
+    let z : normalSize 0 y ≡ 0 = ap (normalSize 0) (sym none) in
+    sym (sym (size-whole (item tag at body x y) r) ∙ (size-item atTop tag at body x y u ∙ omega (arith, z, open-adds 0 tag body (bodySize 0 tag body x) o)))
