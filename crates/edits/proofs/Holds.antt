@@ -50,15 +50,7 @@ use Rattle.edits.proofs.InsertRules.{opens-zero, stand, whole, spot, in
 use Rattle.edits.proofs.Changed.{map-is, changed-bytes}
 use Rattle.edits.proofs.Standing.{packed-store}
 
--- where an edit cuts: numbers of records from N on move to N′, places of the store from P on to P′
-pub record Cutting : Type 0 where
-  pub site : Site
-  pub N : ℕ
-  pub N′ : ℕ
-  pub P : ℕ
-  pub P′ : ℕ
-
--- what is cut out there and what is put in: records, octets of the store, sizes of bodies, and what the item there adds to its element
+-- what is cut out at a site or put in there: records, octets of the store, sizes of bodies, and what the item there adds to its element
 pub record Piece : Type 0 where
   pub records : List Record
   pub octets : List ℕ
@@ -77,32 +69,39 @@ pieceOf h tag body x = record {
   adds-to = adds (h .spot .parent) tag body (bodySize (h .spot .parent) tag body x);
 }
 
+-- where its records end, and where its octets do
+abbrev pub numberPast : Site → Piece → ℕ
+numberPast h p = h .number + length (p .records)
+
+abbrev pub placePast : Site → Piece → ℕ
+placePast h p = h .place + length (p .octets)
+
 -- what is laid at the cut: of the records that are put in, and of those behind the ones that are gone
-abbrev pub fieldAfter : (n : ℕ) → Cutting → (gone put : Piece) → (Record → ℕ) → (List ℕ → List ℕ) → List ℕ → List ℕ
-fieldAfter n s gone put field f l = sets l (s .site .number) (map field (put .records) ++ f (between l (s .site .number + length (gone .records)) n))
+abbrev pub fieldAfter : (n : ℕ) → Site → (gone put : Piece) → (Record → ℕ) → (List ℕ → List ℕ) → List ℕ → List ℕ
+fieldAfter n h gone put field f l = sets l (h .number) (map field (put .records) ++ f (between l (numberPast h gone) n))
 
 -- n records of memory m that take so much of the store, and memory m′ after the edit, whose tree has a normal form of so many octets
-pub record Holds (n used normal : ℕ) (m m′ : Memory) (s : Cutting) (gone put : Piece) : Type 0 where
+pub record Holds (n used normal : ℕ) (m m′ : Memory) (h : Site) (gone put : Piece) : Type 0 where
   -- each behind the cut closes up or makes room, as it stands
-  pub tags : m′ .lists .tags ≡ fieldAfter n s gone put (λ r. r .tag) (λ l. l) (m .lists .tags)
-  pub kinds : m′ .lists .kinds ≡ fieldAfter n s gone put (λ r. r .kind) (λ l. l) (m .lists .kinds)
-  pub depths : m′ .lists .depths ≡ fieldAfter n s gone put (λ r. r .depth) (λ l. l) (m .lists .depths)
-  pub sizes : m′ .lists .sizes ≡ fieldAfter n s gone put (λ r. r .size) (λ l. l) (m .lists .sizes)
+  pub tags : m′ .lists .tags ≡ fieldAfter n h gone put (λ r. r .tag) (λ l. l) (m .lists .tags)
+  pub kinds : m′ .lists .kinds ≡ fieldAfter n h gone put (λ r. r .kind) (λ l. l) (m .lists .kinds)
+  pub depths : m′ .lists .depths ≡ fieldAfter n h gone put (λ r. r .depth) (λ l. l) (m .lists .depths)
+  pub sizes : m′ .lists .sizes ≡ fieldAfter n h gone put (λ r. r .size) (λ l. l) (m .lists .sizes)
   -- numbers of records and places in the store that lie behind it move
-  pub parents : m′ .lists .parents ≡ fieldAfter n s gone put (λ r. r .parent) (map (shifted (s .N) (s .N′))) (m .lists .parents)
+  pub parents : m′ .lists .parents ≡ fieldAfter n h gone put (λ r. r .parent) (map (shifted (numberPast h gone) (numberPast h put))) (m .lists .parents)
   pub starts : m′ .lists .starts
-      ≡ fieldAfter n s gone put (λ r. r .start) (shiftedStarts (s .P) (s .P′) (between (m .lists .tags) (s .site .number + length (gone .records)) n)) (m .lists .starts)
+      ≡ fieldAfter n h gone put (λ r. r .start) (shiftedStarts (placePast h gone) (placePast h put) (between (m .lists .tags) (numberPast h gone) n)) (m .lists .starts)
   -- and each of these is a place of the store that is behind it
-  pub later : (j : ℕ) → s .site .number + length (gone .records) ≤ j → j < n → opens (getD (m .lists .tags) j 0) ≡ false
-      → (s .P ≤ getD (m .lists .starts) j 0) × (getD (m .lists .starts) j 0 ≤ used)
+  pub later : (j : ℕ) → numberPast h gone ≤ j → j < n → opens (getD (m .lists .tags) j 0) ≡ false
+      → (placePast h gone ≤ getD (m .lists .starts) j 0) × (getD (m .lists .starts) j 0 ≤ used)
   -- the elements around are those that the list of parents names, upwards from the site's; what each holds grows or shrinks
-  pub climbs : Climbs (m .lists .parents) (m .bodies) (s .site .up) (gone .adds-to)
+  pub climbs : Climbs (m .lists .parents) (m .bodies) (h .up) (gone .adds-to)
   pub bodies : m′ .bodies
-      ≡ sets (raised (upFrom (m .lists .parents) (s .site .up)) (gone .adds-to) (put .adds-to) (m .bodies)) (s .site .number)
-      (put .sizes ++ between (m .bodies) (s .site .number + length (gone .sizes)) n)
+      ≡ sets (raised (upFrom (m .lists .parents) (h .up)) (gone .adds-to) (put .adds-to) (m .bodies)) (h .number)
+      (put .sizes ++ between (m .bodies) (h .number + length (gone .sizes)) n)
   -- so the top's size tells how long the normal form is
-  pub whole : framedSize (getD (raised (upFrom (m .lists .parents) (s .site .up)) (gone .adds-to) (put .adds-to) (m .bodies)) 0 0) ≡ normal
-  pub store : m′ .store ≡ sets (m .store) (s .site .place) (put .octets ++ between (m .store) (s .site .place + length (gone .octets)) used)
+  pub whole : framedSize (getD (raised (upFrom (m .lists .parents) (h .up)) (gone .adds-to) (put .adds-to) (m .bodies)) 0 0) ≡ normal
+  pub store : m′ .store ≡ sets (m .store) (h .place) (put .octets ++ between (m .store) (placePast h gone) used)
 
 -- what is asked of the items at the site
 record Sized (h : Site) (u w : Items) (gone put : Piece) : Type 0 where
@@ -113,30 +112,33 @@ record Sized (h : Site) (u w : Items) (gone put : Piece) : Type 0 where
   old : sizesAt h u ≡ gone .sizes ++ rest
   new : sizesAt h w ≡ put .sizes ++ rest
 
-module _ (n : ℕ) (m : Memory) (t t′ : Items) (k : Held n m t) (bytes : Bytes t′) (rules : ruled atTop t′ ≡ true) (s : Cutting) (gone put : Piece) {u w : Items} where
-  cut-holds : Swapped topSite t t′ (s .site) u w → Plain w
-      → SiteCut (s .N) (s .N′) (s .P) (s .P′) (s .site) u w (gone .records) (put .records) (gone .octets) (put .octets)
-      → 0 < s .N → 0 < s .site .number → eqb (s .site .spot .parent) 0 ≡ false → Sized (s .site) u w gone put → Holds n (length (packedStore t)) (length (encode (means [] t′))) m (layTree (packed t′) m) s gone put
+module _ (n : ℕ) (m : Memory) (t t′ : Items) (k : Held n m t) (bytes : Bytes t′) (rules : ruled atTop t′ ≡ true) (h : Site) (gone put : Piece) {u w : Items} where
+  cut-holds : Swapped topSite t t′ h u w → Plain w
+      → SiteCut (numberPast h gone) (numberPast h put) (placePast h gone) (placePast h put) h u w (gone .records) (put .records) (gone .octets) (put .octets)
+      → 0 < h .number → eqb (h .spot .parent) 0 ≡ false → Sized h u w gone put
+      → Holds n (length (packedStore t)) (length (encode (means [] t′))) m (layTree (packed t′) m) h gone put
   unfolding layTree moved
-  cut-holds v q c above number under z =
+  cut-holds v q c number under z =
+      let above : 0 < numberPast h gone = omega arith in
       let l = lay-fields (recordsOf (packed t′)) 0 (m .lists) in
-      let en = enough n m t t′ k v q (s .N) (s .N′) (s .P) (s .P′) c above in
-      let field = field-cut n m t t′ k v q (s .N) (s .N′) (s .P) (s .P′) c above in
+      let en = enough n m t t′ k v q (numberPast h gone) (numberPast h put) (placePast h gone) (placePast h put) c above in
+      let field = field-cut n m t t′ k v q (numberPast h gone) (numberPast h put) (placePast h gone) (placePast h put) c above in
       record {
         tags = ap (λ a. a .tags) l ∙ field (λ r. r .tag) (m .lists .tags) (λ j. refl) (en .tags) (λ r. refl);
         kinds = ap (λ a. a .kinds) l ∙ field (λ r. r .kind) (m .lists .kinds) (λ j. refl) (en .kinds) (λ r. refl);
         depths = ap (λ a. a .depths) l ∙ field (λ r. r .depth) (m .lists .depths) (λ j. refl) (en .depths) (λ r. refl);
         sizes = ap (λ a. a .sizes) l ∙ field (λ r. r .size) (m .lists .sizes) (λ j. refl) (en .sizes) (λ r. refl);
-        parents = ap (λ a. a .parents) l ∙ parents-cut n m t t′ k v q (s .N) (s .N′) (s .P) (s .P′) c above;
-        starts = ap (λ a. a .starts) l ∙ starts-cut n m t t′ k v q (s .N) (s .N′) (s .P) (s .P′) c above;
-        later = later-start n m t t′ k v q (s .N) (s .N′) (s .P) (s .P′) c above;
-        climbs = climbs-cut n m t t′ k v q (s .N) (s .N′) (s .P) (s .P′) c above (gone .adds-to) (put .adds-to) (z .same) (z .was) (z .is) under bytes rules
-            (gone .sizes) (put .sizes) (z .rest) (z .old) (z .new);
-        bodies = bodies-cut n m t t′ k v q (s .N) (s .N′) (s .P) (s .P′) c above (gone .adds-to) (put .adds-to) (z .same) (z .was) (z .is) under bytes rules
-            (gone .sizes) (put .sizes) (z .rest) (z .old) (z .new);
-        whole = whole-cut n m t t′ k v q (s .N) (s .N′) (s .P) (s .P′) c above (gone .adds-to) (put .adds-to) (z .same) (z .was) (z .is) under bytes rules
-            (gone .sizes) (put .sizes) (z .rest) (z .old) (z .new) number;
-        store = ap (sets (m .store) 0) (packed-store t′ bytes rules) ∙ octets-cut n m t t′ k v q (s .N) (s .N′) (s .P) (s .P′) c above;
+        parents = ap (λ a. a .parents) l ∙ parents-cut n m t t′ k v q (numberPast h gone) (numberPast h put) (placePast h gone) (placePast h put) c above;
+        starts = ap (λ a. a .starts) l ∙ starts-cut n m t t′ k v q (numberPast h gone) (numberPast h put) (placePast h gone) (placePast h put) c above;
+        later = later-start n m t t′ k v q (numberPast h gone) (numberPast h put) (placePast h gone) (placePast h put) c above;
+        climbs = climbs-cut n m t t′ k v q (numberPast h gone) (numberPast h put) (placePast h gone) (placePast h put) c above
+            (gone .adds-to) (put .adds-to) (z .same) (z .was) (z .is) under bytes rules (gone .sizes) (put .sizes) (z .rest) (z .old) (z .new);
+        bodies = bodies-cut n m t t′ k v q (numberPast h gone) (numberPast h put) (placePast h gone) (placePast h put) c above
+            (gone .adds-to) (put .adds-to) (z .same) (z .was) (z .is) under bytes rules (gone .sizes) (put .sizes) (z .rest) (z .old) (z .new);
+        whole = whole-cut n m t t′ k v q (numberPast h gone) (numberPast h put) (placePast h gone) (placePast h put) c above
+            (gone .adds-to) (put .adds-to) (z .same) (z .was) (z .is) under bytes rules (gone .sizes) (put .sizes) (z .rest) (z .old) (z .new) number;
+        store = ap (sets (m .store) 0) (packed-store t′ bytes rules)
+            ∙ octets-cut n m t t′ k v q (numberPast h gone) (numberPast h put) (placePast h gone) (placePast h put) c above;
       }
 
 -- ---- a site below the top is in an element
@@ -172,19 +174,10 @@ textOf h tag o = record {
   adds-to = adds (h .spot .parent) tag o (bodySize (h .spot .parent) tag o end);
 }
 
-abbrev pub cutBetween : Site → (gone put : Piece) → Cutting
-cutBetween h gone put = record {
-  site = h;
-  N = h .number + length (gone .records);
-  N′ = h .number + length (put .records);
-  P = h .place + length (gone .octets);
-  P′ = h .place + length (put .octets);
-}
-
 module _ (n : ℕ) (m : Memory) (t t′ : Items) where
   -- what is cut at a site and what is put in there
   abbrev After : Site → (gone put : Piece) → Type 0
-  After h gone put = Holds n (length (packedStore t)) (length (encode (means [] t′))) m (layTree (packed t′) m) (cutBetween h gone put) gone put
+  After h gone put = Holds n (length (packedStore t)) (length (encode (means [] t′))) m (layTree (packed t′) m) h gone put
 
   pub record TextHolds (i : ℕ) (o : List ℕ) : Type 0 where
     pub site : Site
@@ -262,7 +255,7 @@ module _ (n : ℕ) (m : Memory) (t t′ : Items) (k : Held n m t) (bytes : Bytes
           y = g .y;
           number = g .number ∙ omega arith;
           swapped = v;
-          holds = cut-holds n m t t′ k bytes rules (cutBetween h gone nothing) gone nothing v (p .3) cut (omega arith) (omega (arith, g .number)) under sized;
+          holds = cut-holds n m t t′ k bytes rules h gone nothing v (p .3) cut (omega (arith, g .number)) under sized;
         }
 
   module _ (i : ℕ) (o : List ℕ) (there : isThere (replace i o) t ≡ true) (is : changeAt (withBody o) i t ≡ t′) where
@@ -335,7 +328,7 @@ module _ (n : ℕ) (m : Memory) (t t′ : Items) (k : Held n m t) (bytes : Bytes
           y = g .y;
           number = g .number ∙ omega arith;
           swapped = v;
-          holds = cut-holds n m t t′ k bytes rules (cutBetween h gone put) gone put v p′ cut (omega arith) (above-top v under) under sized;
+          holds = cut-holds n m t t′ k bytes rules h gone put v p′ cut (above-top v under) under sized;
         }
 
   module _ (i j : ℕ) (o : List ℕ) (os : Octets o) (there : isThere (insert i j o) t ≡ true) (tag at : ℕ) (body : List ℕ) (x : Items)
@@ -378,7 +371,7 @@ module _ (n : ℕ) (m : Memory) (t t′ : Items) (k : Held n m t) (bytes : Bytes
           y = pl .rest;
           element = one;
           swapped = v;
-          holds = cut-holds n m t t′ k bytes rules (cutBetween h nothing put) nothing put v p cut (omega arith) (omega arith) (in-element t r i j o os there e one) sized;
+          holds = cut-holds n m t t′ k bytes rules h nothing put v p cut (omega arith) (in-element t r i j o os there e one) sized;
         }
 
 -- memory that holds a tree, and an edit that makes another: what laying that tree leaves in each list and in the store
