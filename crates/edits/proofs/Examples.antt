@@ -4,6 +4,7 @@ use mathlib.Core.Option.{none, some}
 use mathlib.Core.List.{List, [], _∷_, map}
 use Prim.Native.Nat.{ℕ}
 use lib.ListN.{replicate}
+use Rattle.octets.specs.Counts.{asOctets}
 use Rattle.octets.specs.Numbers.{among, value, digits}
 use Rattle.octets.specs.Header.{headerSize, bodySize, lengthField, framed}
 use Rattle.text.specs.Text.{layout, token, character, single, goesOn, utf8, text}
@@ -17,11 +18,12 @@ use Rattle.format.specs.Judge.Judged.{refused, accepted}
 use Rattle.format.specs.Meaning.{opens, isChild, valueIn, counted, attributesIn, cdataIn, leafOctets, means, tableIn, tableOf, maybe, rising, encode}
 use Rattle.format.specs.Writer.{below, past, atTop, placed, bodyKeeps, keeps, isEnd, ruled}
 use Rattle.format.specs.Loaded.{stored, storeIn, loadedIn}
-use Rattle.format.specs.Calls.{places}
+use Rattle.format.specs.Calls.{places, roomy}
 use Rattle.format.specs.State.{Memory, placesIn, normalBody, bodySizes, packedStore, kept}
+use Rattle.state.specs.Taking.{overflow, settled, takenIn}
 use Rattle.edits.specs.Tree.{Edit, from, changeAt, firstTag, firstInside, withBody, without, holding, before, putChild, children, isThere, isOneItem, insideOf, firstElement, elementOf, changed}
 use Rattle.edits.specs.Tree.Edit.{replace, remove, insert}
-use Rattle.edits.specs.Calls.{overflow, settled, takenIn, edited, editedIn}
+use Rattle.edits.specs.Calls.{edited, editedIn}
 
 -- a top with its language, "en", and a schedule in it; in that a programme with its recommendation, which is the default, and with a short name, "ab"
 abbrev day : List ℕ
@@ -50,7 +52,7 @@ after m (refused r) e = refused r
 after m (accepted t) e = editedIn m e (some t)
 
 abbrev taken : Memory → Judged
-taken m = takenIn m (judge day)
+taken m = takenIn (asOctets 32_768) m (judge day)
 
 -- the number of what an edit of the day comes to, with all that is lent
 abbrev number : Memory → Edit → ℕ
@@ -125,7 +127,7 @@ record Computed : Type 0 where
   no-tree : told (editedIn (lent 7 5) (remove 0) none) .0 ≡ 16
 
 computed : Computed
-unfolding among value digits headerSize bodySize lengthField framed layout token character single goesOn utf8 text cut entries filled isTable entry orItself stands expanded present covers covered starts shownLength rows kindIn known attribute defaults defaultIn width fits wrongField meant octetsOf isDefault find kindOf count records isKnown isItems isTokens isText isValue wrongIn isTop allowed latest stageAfter limit notAbove shown ofTop rule valueRule first kindRules itemRules own late lateBefore lateAfter broken within waits next unless followed joined byKind items outermost judge opens isChild valueIn counted attributesIn cdataIn leafOctets means tableIn tableOf maybe rising encode below past atTop placed bodyKeeps keeps isEnd ruled stored storeIn loadedIn places placesIn normalBody bodySizes kept from changeAt firstTag firstInside withBody without holding before putChild children isThere isOneItem insideOf firstElement elementOf changed overflow settled takenIn edited editedIn fields told after
+unfolding among value digits headerSize bodySize lengthField framed layout token character single goesOn utf8 text cut entries filled isTable entry orItself stands expanded present covers covered starts shownLength rows kindIn known attribute defaults defaultIn width fits wrongField meant octetsOf isDefault find kindOf count records isKnown isItems isTokens isText isValue wrongIn isTop allowed latest stageAfter limit notAbove shown ofTop rule valueRule first kindRules itemRules own late lateBefore lateAfter broken within waits next unless followed joined byKind items outermost judge opens isChild valueIn counted attributesIn cdataIn leafOctets means tableIn tableOf maybe rising encode below past atTop placed bodyKeeps keeps isEnd ruled stored storeIn loadedIn places placesIn normalBody bodySizes kept from changeAt firstTag firstInside withBody without holding before putChild children isThere isOneItem insideOf firstElement elementOf changed roomy overflow settled takenIn edited editedIn fields told after
 computed = record {
   day-taken = refl;
   not-taken = refl;

@@ -8,6 +8,7 @@ use native.Mathlib.Omega.{arith}
 use lib.ListN.{take}
 use lib.Seq.{sets}
 use Rattle.octets.specs.Counts.{sizeOf}
+use Rattle.octets.specs.declared.counts.Octets.{Octets as OctetCount}
 use Rattle.octets.specs.Numbers.{Octets}
 use Rattle.format.specs.declared.ReadAnswer.the-variants.{Records}
 use Rattle.format.specs.declared.WriteAnswer.{WriteAnswer}
@@ -23,14 +24,16 @@ use Rattle.format.proofs.Loading.{loaded-means}
 use Rattle.format.proofs.Written.{located-bytes}
 use Rattle.format.proofs.Rebuilt.{whole-rebuilt}
 use Rattle.format.proofs.Calls.{written-means}
+use Rattle.state.specs.Taking.{takenIn, left, TakeInClaim}
 use Rattle.state.proofs.HeldTree.{Fits, held, laid-held}
+use Rattle.state.proofs.Taken.{refused-kept, taken-ends, fitting-tree}
 use Rattle.edits.specs.Tree.{Edit, isThere}
-use Rattle.edits.specs.Calls.{takenIn, edited, editedIn, left, TakeInClaim, EditClaim}
+use Rattle.edits.specs.Calls.{edited, editedIn, EditClaim}
 use Rattle.edits.specs.Runs.{BringsOctets, Reached}
 use Rattle.edits.specs.Runs.Reached.{taken, changed, stayed}
 use Rattle.edits.proofs.Standing.{Standing, held-stands, loaded-stands}
 use Rattle.edits.proofs.Changed.{Outcome, edit-outcome}
-use Rattle.edits.proofs.Only.{refused-kept, taken-ends, edit-ends, fitting-tree, edit-tree}
+use Rattle.edits.proofs.Only.{edit-ends, edit-tree}
 
 laid-stands : (m : Memory) (t : Items) → Standing t → Fits m t → treeHeld (count t) (layTree t m) ≡ some t
 laid-stands m t s f = laid-held m t (s .packs) (s .rules) (s .one) f
@@ -43,12 +46,12 @@ no-records (accepted t) n h = (t, refl, ap (λ a. readOutcome a .count) h)
 
 -- ---- a tree that is taken in
 module _ (object : List ℕ) (os : Octets object) (t : Items) (h : judge object ≡ accepted t) (m m′ : Memory) (n : ℕ)
-    (c : TakeInClaim object m m′ (Records (record { records = n }))) where
+    (most : OctetCount) (c : TakeInClaim object most m m′ (Records (record { records = n }))) where
   pub taken-held : treeHeld n m′ ≡ some (loadedOf t)
   unfolding left
   taken-held =
-      let a = no-records (takenIn m (judge object)) n (c .answers) in
-      let f = fitting-tree (taken-ends m t) (a .0) (ap (takenIn m) (sym h) ∙ a .1) in
+      let a = no-records (takenIn most m (judge object)) n (c .answers) in
+      let f = fitting-tree (taken-ends most m t) (a .0) (ap (takenIn most m) (sym h) ∙ a .1) in
       let d : m′ ≡ layTree (a .0) m = c .leaves ∙ ap (λ q. left q m) (a .1) in
       let l = laid-stands m (a .0) (subst Standing (f .0) (loaded-stands object t os h)) (f .1) in
       ap (treeHeld n) d ∙ (ap (λ k. treeHeld k (layTree (a .0) m)) (a .2) ∙ (l ∙ ap some (sym (f .0))))
@@ -76,7 +79,7 @@ module _ (e : Edit) (n n′ : ℕ) (m m′ : Memory) (t : Items) (os : Octets (m
 
 -- ---- any run: memory holds the tree, and is what laying that tree leaves
 pub reached-held : {n : ℕ} {m : Memory} {t : Items} → Reached n m t → treeHeld n m ≡ some t
-reached-held (taken o m m′ n t os h c) = taken-held o os t h m m′ n c
+reached-held (taken o most m m′ n t os h c) = taken-held o os t h m m′ n most c
 reached-held (changed e m m′ n n′ t u r os b c q) =
     let l = edit-leaves e n n′ m m′ t os b (reached-held r) c in
     l .holds ∙ (sym (l .is) ∙ q)

@@ -9,6 +9,7 @@ use native.Mathlib.Nat.{le-min}
 use lib.Dec.{eqb, leb, ltb}
 use lib.ListN.{length, length-append}
 use borrow.Author.Tests.{leb-true, leb-false, le-leb, ltb-true}
+use Rattle.octets.specs.Counts.{asOctets}
 use Rattle.octets.specs.Numbers.{Octets, digits}
 use Rattle.octets.specs.Header.{lengthField}
 use Rattle.octets.proofs.Tests.{and-right}
@@ -20,16 +21,17 @@ use Rattle.format.specs.Judge.Judged.{accepted}
 use Rattle.format.specs.Meaning.{opens, means, encode}
 use Rattle.format.specs.Writer.{below, past, atTop, ruled}
 use Rattle.format.specs.Loaded.{stored, storeIn}
-use Rattle.format.specs.Calls.{row}
+use Rattle.format.specs.Calls.{row, roomy}
 use Rattle.format.specs.State.{Memory, placesIn, packed, packedStore, kept, treeHeld}
 use Rattle.format.proofs.Written.{Bytes, located-bytes}
 use Rattle.format.proofs.Rebuilt.{whole-count}
 use Rattle.survey.specs.Normal.{framedSize, normalSize}
 use Rattle.survey.proofs.Sizes.{size-whole}
+use Rattle.state.specs.Taking.{overflow, settled}
 use Rattle.state.proofs.HeldTree.{held}
 use Rattle.edits.specs.Tree.{changeAt, without, isThere, changed}
 use Rattle.edits.specs.Tree.Edit.{remove}
-use Rattle.edits.specs.Calls.{overflow, settled, edited, editedIn}
+use Rattle.edits.specs.Calls.{edited, editedIn}
 use Rattle.edits.specs.Sites.{Site, Swapped}
 use Rattle.edits.specs.Sites.Swapped.{here, inside, after}
 use Rattle.edits.proofs.Stores.{held-store, held-places}
@@ -154,8 +156,8 @@ module _ (n : ℕ) (m : Memory) (t : Items) (h : treeHeld n m ≡ some t) (os : 
   kept-rules : ruled atTop less ≡ true
   kept-rules = remove-rules t rules i number
 
-  fits : overflow m (packed less) ≡ none
-  unfolding overflow first rule
+  fits : overflow (asOctets 32_768) m (packed less) ≡ none
+  unfolding overflow roomy first rule
   fits =
       let a : leb (count (packed less)) (placesIn m) ≡ true =
       le-leb (count (packed less)) (placesIn m)

@@ -4,6 +4,7 @@ use mathlib.Core.Path.{_≡_}
 use mathlib.Core.Option.{some}
 use mathlib.Core.List.{List}
 use Prim.Native.Nat.{ℕ}
+use Rattle.octets.specs.declared.counts.Octets.{Octets as OctetCount}
 use Rattle.octets.specs.Numbers.{Octets}
 use Rattle.format.specs.declared.Refusal.{Refusal}
 use Rattle.format.specs.declared.ReadAnswer.the-variants.{Records, NotRead}
@@ -12,9 +13,10 @@ use Rattle.format.specs.Judge.{judge}
 use Rattle.format.specs.Judge.Judged.{accepted}
 use Rattle.format.specs.Loaded.{loadedOf}
 use Rattle.format.specs.State.{Memory}
+use Rattle.state.specs.Taking.{TakeInClaim}
 use Rattle.edits.specs.Tree.{Edit}
 use Rattle.edits.specs.Tree.Edit.{replace, remove, insert}
-use Rattle.edits.specs.Calls.{TakeInClaim, EditClaim, edited}
+use Rattle.edits.specs.Calls.{EditClaim, edited}
 
 -- what an edit brings are octets, as a lent slice always has
 abbrev pub BringsOctets : Edit → Type 0
@@ -24,7 +26,7 @@ BringsOctets (insert i k element) = Octets element
 
 -- n records of memory, and the tree that the calls up to here made: one taken in, then edits, of which some may have been refused
 pub data Reached : ℕ → Memory → Items → Type 0 where
-  taken : (object : List ℕ) (m m′ : Memory) (n : ℕ) (t : Items) → Octets object → judge object ≡ accepted t → TakeInClaim object m m′ (Records (record { records = n }))
+  taken : (object : List ℕ) (most : OctetCount) (m m′ : Memory) (n : ℕ) (t : Items) → Octets object → judge object ≡ accepted t → TakeInClaim object most m m′ (Records (record { records = n }))
       → Reached n m′ (loadedOf t)
   changed : (e : Edit) (m m′ : Memory) (n n′ : ℕ) (t u : Items) → Reached n m t → Octets (m .store) → BringsOctets e
       → EditClaim e n m m′ (Records (record { records = n′ })) → edited e t ≡ some u → Reached n′ m′ u

@@ -1,5 +1,6 @@
 pub mod Packed
 pub mod HeldTree
+pub mod Taken
 pub mod Order
 pub mod BodySizes
 pub mod SizesHeld

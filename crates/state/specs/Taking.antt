@@ -1,0 +1,49 @@
+-- How a tree comes into lent memory: it fits what is lent, or the call is refused (change request 2026-06). The place of 14 to 16 is zero.
+use mathlib.Core.Path.{_≡_}
+use mathlib.Core.Bool.{_&&_}
+use mathlib.Core.Option.{Option, none, some}
+use mathlib.Core.List.{List, [], _∷_}
+use Prim.Native.Nat.{ℕ}
+use lib.Dec.{leb}
+use Rattle.octets.specs.declared.counts.Octets.{Octets as OctetCount}
+use Rattle.octets.specs.Counts.{sizeOf, octetsWithin}
+use Rattle.format.specs.declared.Refusal.{Refusal}
+use Rattle.format.specs.declared.ReadAnswer.{ReadAnswer}
+use Rattle.format.specs.Answers.{refusal}
+use Rattle.format.specs.Tree.{Items, count}
+use Rattle.format.specs.Judge.{Judged, first, rule, unless, judge}
+use Rattle.format.specs.Judge.Judged.{refused, accepted}
+use Rattle.format.specs.Meaning.{means, encode}
+use Rattle.format.specs.Loaded.{loadedOf}
+use Rattle.format.specs.Calls.{roomy, judgeAnswer}
+use Rattle.format.specs.State.{Memory, placesIn, packedStore, layTree}
+
+-- "14 if its records don't fit; then 15 exactly when its texts and values together exceed the store or its normal form 32,768 octets", or so many octets as the caller
+-- has room for
+unfoldable pub overflow : OctetCount → Memory → Items → Option Refusal
+overflow most m t =
+    let stored = octetsWithin (sizeOf (packedStore t)) (sizeOf (m .store)) in
+    first (rule 14 0 (leb (count t) (placesIn m)) ∷ rule 15 0 (stored && roomy most (encode (means [] t))) ∷ [])
+
+-- what a call comes to is a refusal, or the tree that memory then holds: 16 where there is none that keeps the rules, else 14 and 15
+unfoldable pub settled : OctetCount → Memory → Option Items → Judged
+settled most m none = refused (refusal 16 0)
+settled most m (some t) = unless (overflow most m t) (accepted t)
+
+-- an object that is taken in: 1 to 13, then 14 and 15 for its loaded tree ("also for the tree first taken in")
+unfoldable pub takenIn : OctetCount → Memory → Judged → Judged
+takenIn most m (refused r) = refused r
+takenIn most m (accepted t) = settled most m (some (loadedOf t))
+
+-- "A refused edit changes nothing"; on success memory is what laying the new tree leaves, with all sizes of bodies ("every edit keeps all stored sizes right")
+unfoldable pub left : Judged → Memory → Memory
+left (refused r) m = m
+left (accepted t) m = layTree t m
+
+-- the answer is how many records there are then, or the refusal
+pub record Leaves (outcome : Judged) (m m′ : Memory) (answer : ReadAnswer) : Type 0 where
+  pub answers : answer ≡ judgeAnswer outcome
+  pub leaves : m′ ≡ left outcome m
+
+abbrev pub TakeInClaim : (object : List ℕ) (most : OctetCount) (m m′ : Memory) (answer : ReadAnswer) → Type 0
+TakeInClaim object most m m′ answer = Leaves (takenIn most m (judge object)) m m′ answer
