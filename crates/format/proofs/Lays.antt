@@ -112,3 +112,15 @@ unfolding tabled
 getD-tabled row zero i k d h = absurd (omega arith)
 getD-tabled row (suc n) i zero d h = ap row (sym (add-zero i))
 getD-tabled row (suc n) i (suc k) d h = getD-tabled row n (suc i) k d (omega arith) ∙ ap row (suc-add i k ∙ sym (add-suc i k))
+
+-- past its end a list of numbers has 0
+pub getD-beyond : (l : List ℕ) (i : ℕ) → length l ≤ i → 0 ≡ getD l i 0
+getD-beyond [] i h = refl
+getD-beyond (a ∷ l) zero h = absurd (omega arith)
+getD-beyond (a ∷ l) (suc i) h = getD-beyond l i (omega arith)
+
+-- a record is told by its fields
+pub row-told : (l : Lists) (i tag kind depth parent start size : ℕ) → tag ≡ getD (l .tags) i 0 → kind ≡ getD (l .kinds) i 0 → depth ≡ getD (l .depths) i 0
+    → parent ≡ getD (l .parents) i 0 → start ≡ getD (l .starts) i 0 → size ≡ getD (l .sizes) i 0
+    → record { tag = tag; kind = kind; depth = depth; parent = parent; start = start; size = size } ≡ row l i
+row-told l i tag kind depth parent start size a b c d e f = cc

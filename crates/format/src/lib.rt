@@ -1,7 +1,10 @@
 // What the calls of the library share: records, refusals, counts, and the answers as enums. The rules are in specs/, the theorems in proofs/.
 ghost use mathlib.Core.Path.{_≡_};
+ghost use lib.ListN.{getD};
 ghost use Rattle.format.specs.Tree.{kindOf};
 ghost use Rattle.format.specs.Answers.{refusal, readOutcome, writeOutcome, sameOutcome};
+ghost use Rattle.format.specs.Calls.{row};
+ghost use Rattle.format.specs.Lent.{lent};
 use octets::Octets;
 use values::is_attribute;
 
@@ -14,6 +17,47 @@ pub struct Record {
     pub parent: u16,
     pub start: u16,
     pub size: u16,
+}
+
+// What a list has at a place, 0 where it has no such place.
+pub fn octet_at(list: &[u8], i: usize) -> u8
+    ensures { λ r. ⌜ r ≡ getD (now (list .entry)) i 0 ⌝ }
+{
+    if i < list.len() {
+        return list[i];
+    }
+    0
+}
+
+fn number_at(list: &[u16], i: usize) -> u16
+    ensures { λ r. ⌜ r ≡ getD (now (list .entry)) i 0 ⌝ }
+{
+    if i < list.len() {
+        return list[i];
+    }
+    0
+}
+
+// The record of a number, from the lists.
+pub fn record_at(
+    tags: &[u8],
+    kinds: &[u8],
+    depths: &[u8],
+    parents: &[u16],
+    starts: &[u16],
+    sizes: &[u16],
+    i: usize,
+) -> Record
+    ensures { λ r. ⌜ r ≡ row (lent (tags .entry) (kinds .entry) (depths .entry) (parents .entry) (starts .entry) (sizes .entry)) i ⌝ }
+{
+    Record {
+        tag: octet_at(tags, i),
+        kind: octet_at(kinds, i),
+        depth: octet_at(depths, i),
+        parent: number_at(parents, i),
+        start: number_at(starts, i),
+        size: number_at(sizes, i),
+    }
 }
 
 // The kind that the record of a tag shows.

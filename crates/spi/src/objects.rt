@@ -9,8 +9,8 @@ use crate::memory::octet_places;
 use crate::memory::room;
 use crate::status::GOOD;
 use crate::tree::show_tree;
-use format::Record;
 use format::WriteAnswer;
+use format::record_at;
 use octets::Octets;
 ghost use mathlib.Core.Path.{_≡_};
 ghost use Rattle.format.specs.Answers.{writeOutcome};
@@ -31,33 +31,6 @@ pub fn check(path: &[u8], object: &[u8]) -> u8 {
     }
     say_accepted(path, judged.count, Octets(object.len()));
     GOOD
-}
-
-fn octet_at(s: &[u8], i: usize) -> u8 {
-    if i < s.len() { s[i] } else { 0 }
-}
-
-fn number_at(s: &[u16], i: usize) -> u16 {
-    if i < s.len() { s[i] } else { 0 }
-}
-
-fn record_at(
-    tags: &[u8],
-    kinds: &[u8],
-    depths: &[u8],
-    parents: &[u16],
-    starts: &[u16],
-    sizes: &[u16],
-    i: usize,
-) -> Record {
-    Record {
-        tag: octet_at(tags, i),
-        kind: octet_at(kinds, i),
-        depth: octet_at(depths, i),
-        parent: number_at(parents, i),
-        start: number_at(starts, i),
-        size: number_at(sizes, i),
-    }
 }
 
 fn say_listing(
