@@ -1,5 +1,5 @@
 -- The ways through the code that looks at memory: records that lie one behind another, and sizes that add up.
-use mathlib.Core.Path.{_≡_, refl, sym, ap, ap₂, _∙_}
+use mathlib.Core.Path.{_≡_, refl, sym, ap, _∙_}
 use mathlib.Core.Bool.{Bool, true, false, cond, _&&_, and-false}
 use mathlib.Core.Option.{Option, none, some}
 use mathlib.Core.List.{List, [], _∷_}
@@ -30,34 +30,27 @@ use Rattle.state.specs.declared.Filled.{Filled}
 use Rattle.state.specs.declared.Filled.the-variants.{Apart, Upto}
 use Rattle.state.specs.Order.{nth, liesTo, filledFrom, asFilled, addedBy, rightBelow, noSums}
 
--- ---- tag_of and sum_at
-pub nth-beyond : (l : List ℕ) (i : ℕ) → length l ≤ i → 0 ≡ nth l i
-nth-beyond [] i h = refl
-nth-beyond (a ∷ l) zero h = absurd (omega arith)
-nth-beyond (a ∷ l) (suc i) h = nth-beyond l i (omega arith)
-
 -- ---- value_to
-module _ (k : Kind) (at : ℕ) (lent : List ℕ) (start size f l : ℕ) (fe : f ≡ start) where
-  pub value-apart : (f ≡ at → ⊥) → Apart ≡ asFilled (liesTo (Value k) at lent start size)
+module _ (k : Kind) (at : ℕ) (lent : List ℕ) (start size : ℕ) where
+  pub value-apart : (start ≡ at → ⊥) → Apart ≡ asFilled (liesTo (Value k) at lent start size)
   unfolding liesTo asFilled
-  value-apart n = rw (ne-eqb start at (λ z. n (fe ∙ z)))
+  value-apart n = rw (ne-eqb start at n)
 
-  module _ (le : l ≡ size) where
-    pub value-beyond : length lent < f + l → Apart ≡ asFilled (liesTo (Value k) at lent start size)
+  pub value-beyond : length lent < start + size → Apart ≡ asFilled (liesTo (Value k) at lent start size)
+  unfolding liesTo asFilled
+  value-beyond n = rw (lt-leb (start + size) (length lent) n, and-false (eqb start at))
+
+  module _ (p : start ≡ at) (q : start + size ≤ length lent) (c : Bool) (ce : c ≡ isWritten (some k) (take (start + size - start) (drop start lent))) where
+    own : isWritten (some k) (take size (drop start lent)) ≡ c
+    own = sym (ce ∙ ap (λ x. isWritten (some k) (take x (drop start lent))) (add-sub-cancel-left start size))
+
+    pub value-well : c ≡ true → Upto (start + size) ≡ asFilled (liesTo (Value k) at lent start size)
     unfolding liesTo asFilled
-    value-beyond n = rw (lt-leb (start + size) (length lent) (omega arith), and-false (eqb start at))
+    value-well t = rw (eq-eqb start at p, le-leb (start + size) (length lent) q, own ∙ t)
 
-    module _ (p : f ≡ at) (q : f + l ≤ length lent) (c : Bool) (ce : c ≡ isWritten (some k) (take (f + l - f) (drop f lent))) where
-      own : isWritten (some k) (take size (drop start lent)) ≡ c
-      own = sym (ce ∙ ap₂ (λ x y. isWritten (some k) (take x (drop y lent))) (add-sub-cancel-left f l ∙ le) fe)
-
-      pub value-well : c ≡ true → Upto (f + l) ≡ asFilled (liesTo (Value k) at lent start size)
-      unfolding liesTo asFilled
-      value-well t = rw (eq-eqb start at (sym fe ∙ p), le-leb (start + size) (length lent) (omega arith), own ∙ t) (ap₂ (λ x y. Upto (x + y)) fe le)
-
-      pub value-ill : c ≡ false → Apart ≡ asFilled (liesTo (Value k) at lent start size)
-      unfolding liesTo asFilled
-      value-ill t = rw (eq-eqb start at (sym fe ∙ p), le-leb (start + size) (length lent) (omega arith), own ∙ t)
+    pub value-ill : c ≡ false → Apart ≡ asFilled (liesTo (Value k) at lent start size)
+    unfolding liesTo asFilled
+    value-ill t = rw (eq-eqb start at p, le-leb (start + size) (length lent) q, own ∙ t)
 
 pub ruleset value-ways = (value-apart, value-beyond, value-well, value-ill)
 
@@ -67,12 +60,12 @@ module _ (r sort : Listed) (e : r ≡ sort) (at : ℕ) (lent : List ℕ) (start 
   unfolding liesTo asFilled
   lies-nothing q = rw (sym e ∙ q)
 
-  module _ (q : r ≡ Inside) (f l : ℕ) (fe : f ≡ start) (le : l ≡ size) where
-    pub lies-empty : f + l ≡ 0 → Upto at ≡ asFilled (liesTo sort at lent start size)
+  module _ (q : r ≡ Inside) where
+    pub lies-empty : start + size ≡ 0 → Upto at ≡ asFilled (liesTo sort at lent start size)
     unfolding liesTo asFilled
     lies-empty z = rw (sym e ∙ q, eq-eqb start 0 (omega arith), eq-eqb size 0 (omega arith))
 
-    pub lies-span : (f + l ≡ 0 → ⊥) → Apart ≡ asFilled (liesTo sort at lent start size)
+    pub lies-span : (start + size ≡ 0 → ⊥) → Apart ≡ asFilled (liesTo sort at lent start size)
     unfolding liesTo asFilled
     lies-span z = rw (sym e ∙ q) (go (eqb start 0) refl (eqb size 0) refl)
       where
@@ -114,12 +107,12 @@ module _ (tags parents starts sizes lent : List ℕ) (n : ℕ) where
     unfolding filledFrom asFilled
     lying-end h = let z : n - i ≡ 0 = omega arith in sym (ap asFilled (v .rest ∙ ap (λ m. from m i at) z))
 
-    module _ (h : i < n) (w : ℕ) (we : w ≡ nth parents i) (g : ℕ) (ge : g ≡ nth tags w) (r : Filled) (re : r ≡ asFilled (liesTo (listedAs (known g (nth tags i))) at lent (nth starts i) (nth sizes i))) where
+    module _ (h : i < n) (g : ℕ) (ge : g ≡ nth tags (nth parents i)) (r : Filled) (re : r ≡ asFilled (liesTo (listedAs (known g (nth tags i))) at lent (nth starts i) (nth sizes i))) where
       abbrev one : Option ℕ
       one = liesTo (listedAs (known (nth tags (nth parents i)) (nth tags i))) at lent (nth starts i) (nth sizes i)
 
       is-one : r ≡ asFilled one
-      is-one = re ∙ ap (λ k. asFilled (liesTo (listedAs (known k (nth tags i))) at lent (nth starts i) (nth sizes i))) (ge ∙ ap (nth tags) we)
+      is-one = re ∙ ap (λ k. asFilled (liesTo (listedAs (known k (nth tags i))) at lent (nth starts i) (nth sizes i))) ge
 
       step : from n 0 0 ≡ onward one (λ k. from (n - suc i) (suc i) k)
       unfolding filledFrom
@@ -139,20 +132,20 @@ module _ (tags parents starts sizes lent : List ℕ) (n : ℕ) where
 pub ruleset lying-ways = (lying-start, lying-end, lying-ill, lying-next)
 
 -- ---- framed_size and added_by
-pub framed-body : (body w : ℕ) → w ≡ body → (h : OctetCount) → h ≡ asOctets (suc (length (lengthField w))) → h .0 + w ≡ framedSize body
-framed-body body w we h e = framed-is (asOctets w) h e ∙ ap framedSize we
+pub framed-body : (body : ℕ) (h : OctetCount) → h ≡ asOctets (suc (length (lengthField body))) → h .0 + body ≡ framedSize body
+framed-body body h e = framed-is (asOctets body) h e
 
-module _ (element tag start size : ℕ) (lent : List ℕ) (body f l : ℕ) (fe : f ≡ start) (le : l ≡ size) where
-  pub added-beyond : length lent < f + l → (r : OctetCount) → r .0 ≡ framedSize body → r .0 ≡ addedBy element tag start size lent body
+module _ (element tag start size : ℕ) (lent : List ℕ) (body : ℕ) where
+  pub added-beyond : length lent < start + size → (r : OctetCount) → r .0 ≡ framedSize body → r .0 ≡ addedBy element tag start size lent body
   unfolding addedBy
-  added-beyond n r e = rw (lt-leb (start + size) (length lent) (omega arith)) e
+  added-beyond n r e = rw (lt-leb (start + size) (length lent) n) e
 
-  module _ (q : f + l ≤ length lent) (c : Bool) (ce : c ≡ defaultOctets element tag (take (f + l - f) (drop f lent))) where
+  module _ (q : start + size ≤ length lent) (c : Bool) (ce : c ≡ defaultOctets element tag (take (start + size - start) (drop start lent))) where
     default-is : defaultOctets element tag (take size (drop start lent)) ≡ c
-    default-is = sym (ce ∙ ap₂ (λ x y. defaultOctets element tag (take x (drop y lent))) (add-sub-cancel-left f l ∙ le) fe)
+    default-is = sym (ce ∙ ap (λ x. defaultOctets element tag (take x (drop start lent))) (add-sub-cancel-left start size))
 
     inside : leb (start + size) (length lent) ≡ true
-    inside = le-leb (start + size) (length lent) (omega arith)
+    inside = le-leb (start + size) (length lent) q
 
     pub added-default : c ≡ true → 0 ≡ addedBy element tag start size lent body
     unfolding addedBy
@@ -169,24 +162,21 @@ pub put-beyond : (sums : List ℕ) (d sum : ℕ) → length sums ≤ d → sums 
 put-beyond sums d sum h = sym (set-out sums d sum h)
 
 module _ (tag : ℕ) (r : Listed) (e : r ≡ listedAs (known 0 tag)) (sums : List ℕ) (depth size : ℕ) where
-  pub own-nothing : r ≡ Nothing → (w : ℕ) → w ≡ size → w ≡ cond (opens tag) (nth sums (suc depth)) size
+  pub own-nothing : r ≡ Nothing → size ≡ cond (opens tag) (nth sums (suc depth)) size
   unfolding opens
-  own-nothing q w we = rw (is-nothing (known 0 tag) (sym q ∙ e) .0) we
+  own-nothing q = rw (is-nothing (known 0 tag) (sym q ∙ e) .0)
 
-  pub own-inside : r ≡ Inside → (d : ℕ) → d ≡ depth → (w : OctetCount) → w .0 ≡ nth sums (d + 1) → w .0 ≡ cond (opens tag) (nth sums (suc depth)) size
+  pub own-inside : r ≡ Inside → (w : OctetCount) → w .0 ≡ nth sums (depth + 1) → w .0 ≡ cond (opens tag) (nth sums (suc depth)) size
   unfolding opens
-  own-inside q d de w we = rw (is-inside (known 0 tag) (sym q ∙ e) .0) (we ∙ ap (nth sums) (add-one d ∙ ap suc de))
+  own-inside q w we = rw (is-inside (known 0 tag) (sym q ∙ e) .0) (we ∙ ap (nth sums) (add-one depth))
 
-  pub own-value : (k : Kind) → r ≡ Value k → (w : ℕ) → w ≡ size → w ≡ cond (opens tag) (nth sums (suc depth)) size
+  pub own-value : (k : Kind) → r ≡ Value k → size ≡ cond (opens tag) (nth sums (suc depth)) size
   unfolding opens
-  own-value k q w we = rw (is-value (known 0 tag) k (sym q ∙ e) .shut) we
+  own-value k q = rw (is-value (known 0 tag) k (sym q ∙ e) .shut)
 
 pub ruleset own-ways = (own-nothing, own-inside, own-value)
 
-module _ (sums : List ℕ) (depth part d : ℕ) (de : d ≡ depth) (s : OctetCount) (se : s .0 ≡ nth sums d) where
-  sum-is : s .0 ≡ nth sums depth
-  sum-is = se ∙ ap (nth sums) de
-
+module _ (sums : List ℕ) (depth part : ℕ) (s : OctetCount) (sum-is : s .0 ≡ nth sums depth) where
   pub sum-over : 32_768 < s .0 → 32_769 ≡ min 32_769 (nth sums depth + part)
   sum-over h = omega (arith, sum-is)
 
@@ -199,8 +189,8 @@ module _ (sums : List ℕ) (depth part d : ℕ) (de : d ≡ depth) (s : OctetCou
 pub ruleset sum-ways = (sum-over, sum-more, sum-low)
 
 -- ---- sum_up
-pub summed-up : (sums : List ℕ) (depth sum d : ℕ) → d ≡ depth → (a : List ℕ) → a ≡ set sums (d + 1) 0 → (b : List ℕ) → b ≡ set a d sum → b ≡ set (set sums (suc depth) 0) depth sum
-summed-up sums depth sum d de a ae b be = be ∙ (ap (λ x. set x d sum) ae ∙ ap₂ (λ x y. set (set sums x 0) y sum) (add-one d ∙ ap suc de) de)
+pub summed-up : (sums : List ℕ) (depth sum : ℕ) (a : List ℕ) → a ≡ set sums (depth + 1) 0 → (b : List ℕ) → b ≡ set a depth sum → b ≡ set (set sums (suc depth) 0) depth sum
+summed-up sums depth sum a ae b be = be ∙ ap (λ x. set x depth sum) (ae ∙ ap (λ x. set sums x 0) (add-one depth))
 
 -- ---- are_right
 pub record Righting (tags depths parents starts sizes bodies lent : List ℕ) (n i : ℕ) (sums : List ℕ) : Type 0 where
@@ -220,30 +210,30 @@ module _ (tags depths parents starts sizes bodies lent : List ℕ) (n : ℕ) whe
     unfolding rightBelow
     righting-end h = let z : i ≡ 0 = omega arith in sym (v .rest ∙ ap (λ k. right k sums) z)
 
-    module _ (h : 0 < i) (w : ℕ) (we : w ≡ nth bodies (i - 1)) (o : OctetCount) (oe : o .0 ≡ cond (opens (nth tags (i - 1))) (nth sums (suc (nth depths (i - 1)))) (nth sizes (i - 1))) where
+    module _ (h : 0 < i) (o : OctetCount) (oe : o .0 ≡ cond (opens (nth tags (i - 1))) (nth sums (suc (nth depths (i - 1)))) (nth sizes (i - 1))) where
       abbrev sum : ℕ
       sum = nth sums (nth depths (i - 1)) + addedBy (nth tags (nth parents (i - 1))) (nth tags (i - 1)) (nth starts (i - 1)) (nth sizes (i - 1)) lent (nth bodies (i - 1))
 
       abbrev after : List ℕ
       after = set (set sums (suc (nth depths (i - 1))) 0) (nth depths (i - 1)) sum
 
-      right-step : right n noSums ≡ eqb w (o .0) && (leb sum 32_768 && right (i - 1) after)
+      right-step : right n noSums ≡ eqb (nth bodies (i - 1)) (o .0) && (leb sum 32_768 && right (i - 1) after)
       unfolding rightBelow
-      right-step = let z : i ≡ suc (i - 1) = omega arith in v .rest ∙ (ap (λ k. right k sums) z ∙ ap₂ (λ a b. eqb a b && (leb sum 32_768 && right (i - 1) after)) (sym we) (sym oe))
+      right-step = let z : i ≡ suc (i - 1) = omega arith in v .rest ∙ (ap (λ k. right k sums) z ∙ ap (λ b. eqb (nth bodies (i - 1)) b && (leb sum 32_768 && right (i - 1) after)) (sym oe))
 
-      pub righting-wrong : (w ≡ o .0 → ⊥) → false ≡ rightBelow (nth tags) (nth depths) (nth parents) (nth starts) (nth sizes) (nth bodies) lent n noSums
-      righting-wrong q = sym (right-step ∙ rw (ne-eqb w (o .0) q))
+      pub righting-wrong : (nth bodies (i - 1) ≡ o .0 → ⊥) → false ≡ rightBelow (nth tags) (nth depths) (nth parents) (nth starts) (nth sizes) (nth bodies) lent n noSums
+      righting-wrong q = sym (right-step ∙ rw (ne-eqb (nth bodies (i - 1)) (o .0) q))
 
-      module _ (q : w ≡ o .0) (u : ℕ) (ue : u ≡ nth parents (i - 1)) (g : ℕ) (ge : g ≡ nth tags u)
+      module _ (q : nth bodies (i - 1) ≡ o .0) (g : ℕ) (ge : g ≡ nth tags (nth parents (i - 1)))
           (part : OctetCount) (pe : part .0 ≡ addedBy g (nth tags (i - 1)) (nth starts (i - 1)) (nth sizes (i - 1)) lent (nth bodies (i - 1)))
           (total : OctetCount) (te : total .0 ≡ min 32_769 (nth sums (nth depths (i - 1)) + part .0)) where
         total-is : total .0 ≡ min 32_769 sum
         total-is =
             te ∙ ap (λ z. min 32_769 (nth sums (nth depths (i - 1)) + z)) (pe
-            ∙ ap (λ z. addedBy z (nth tags (i - 1)) (nth starts (i - 1)) (nth sizes (i - 1)) lent (nth bodies (i - 1))) (ge ∙ ap (nth tags) ue))
+            ∙ ap (λ z. addedBy z (nth tags (i - 1)) (nth starts (i - 1)) (nth sizes (i - 1)) lent (nth bodies (i - 1))) ge)
 
         pub righting-over : 32_768 < total .0 → false ≡ rightBelow (nth tags) (nth depths) (nth parents) (nth starts) (nth sizes) (nth bodies) lent n noSums
-        righting-over l = sym (right-step ∙ rw (eq-eqb w (o .0) q, lt-leb sum 32_768 (omega (arith, total-is))))
+        righting-over l = sym (right-step ∙ rw (eq-eqb (nth bodies (i - 1)) (o .0) q, lt-leb sum 32_768 (omega (arith, total-is))))
 
         pub righting-next : total .0 ≤ 32_768 → (b : List ℕ) → b ≡ set (set sums (suc (nth depths (i - 1))) 0) (nth depths (i - 1)) (total .0)
             → Righting tags depths parents starts sizes bodies lent n (i - 1) b
@@ -251,6 +241,6 @@ module _ (tags depths parents starts sizes bodies lent : List ℕ) (n : ℕ) whe
             let s : total .0 ≡ sum = omega (arith, total-is) in
             let same : b ≡ after = be ∙ ap (set (set sums (suc (nth depths (i - 1))) 0) (nth depths (i - 1))) s in
             let kept : length after ≡ 18 = length-set (set sums (suc (nth depths (i - 1))) 0) (nth depths (i - 1)) sum ∙ (length-set sums (suc (nth depths (i - 1))) 0 ∙ v .long) in
-            record { high = omega (arith, v .high); long = ap length same ∙ kept; rest = right-step ∙ rw (eq-eqb w (o .0) q, le-leb sum 32_768 (omega arith)) (ap (right (i - 1)) (sym same)) }
+            record { high = omega (arith, v .high); long = ap length same ∙ kept; rest = right-step ∙ rw (eq-eqb (nth bodies (i - 1)) (o .0) q, le-leb sum 32_768 (omega arith)) (ap (right (i - 1)) (sym same)) }
 
 pub ruleset righting-ways = (righting-start, righting-end, righting-wrong, righting-over, righting-next)

@@ -14,6 +14,7 @@ ghost use Rattle.survey.specs.Normal.{framedSize};
 ghost use Rattle.state.specs.Order.{heldAs, nth, liesTo, filledFrom, asFilled, addedBy, rightBelow, noSums};
 use crate::Filled;
 use compare::is_own;
+use format::octet_at;
 use octets::Octets;
 use octets::header_size;
 use tags::Listed;
@@ -21,37 +22,15 @@ use tags::listed_as;
 use values::Kind;
 use values::is_default;
 
-fn wide(x: u8) -> usize
-    ensures { λ r. ⌜ (r ≡ x) × (r ≤ 255) ⌝ }
-{
-    x as usize
-}
-
-fn wide16(x: u16) -> usize
-    ensures { λ r. ⌜ (r ≡ x) × (r ≤ 65535) ⌝ }
-{
-    x as usize
-}
-
-// The tag of a record, 0 where there is none of that number.
-fn tag_of(tags: &[u8], i: usize) -> u8
-    ensures { λ r. ⌜ r ≡ nth (now (tags .entry)) i ⌝ }
-{
-    if i < tags.len() {
-        return tags[i];
-    }
-    0
-}
-
 // A value, where the store is filled up to `at`.
 fn value_to(kind: Kind, at: usize, store: &[u8], start: u16, size: u16) -> Filled
     ensures { λ r. ⌜ r ≡ asFilled (liesTo (Value kind) at (now (store .entry)) start size) ⌝ }
 {
-    let from = wide16(start);
+    let from = start as usize;
     if from != at {
         return Filled::Apart;
     }
-    let end = from + wide16(size);
+    let end = from + size as usize;
     if end > store.len() {
         return Filled::Apart;
     }
@@ -68,7 +47,7 @@ fn lies_to(element: u8, at: usize, store: &[u8], tag: u8, start: u16, size: u16)
     match listed_as(element, tag) {
         Listed::Nothing => Filled::Apart,
         Listed::Inside => {
-            if wide16(start) + wide16(size) == 0 {
+            if start as usize + size as usize == 0 {
                 return Filled::Upto(at);
             }
             Filled::Apart
@@ -93,7 +72,7 @@ fn lie_all(
     let mut at: usize = 0;
     while i < n {
         match lies_to(
-            tag_of(tags, wide16(parents[i])),
+            octet_at(tags, parents[i] as usize),
             at,
             store,
             tags[i],
@@ -116,7 +95,7 @@ fn lie_all(
 fn framed_size(body: u16) -> Octets
     ensures { λ r. ⌜ r .0 ≡ framedSize body ⌝ }
 {
-    let size = wide16(body);
+    let size = body as usize;
     let all = header_size(Octets(size)).0 + size;
     Octets(all)
 }
@@ -125,8 +104,8 @@ fn framed_size(body: u16) -> Octets
 fn added_by(element: u8, tag: u8, start: u16, size: u16, store: &[u8], body: u16) -> Octets
     ensures { λ r. ⌜ r .0 ≡ addedBy element tag start size (now (store .entry)) body ⌝ }
 {
-    let from = wide16(start);
-    let end = from + wide16(size);
+    let from = start as usize;
+    let end = from + size as usize;
     if end > store.len() {
         return framed_size(body);
     }
@@ -150,9 +129,9 @@ fn own_size(sums: &[usize], depth: u8, tag: u8, size: u16) -> Octets
     ensures { λ r. ⌜ r .0 ≡ cond (opens tag) (nth (now (sums .entry)) (suc depth)) size ⌝ }
 {
     match listed_as(0, tag) {
-        Listed::Nothing => Octets(wide16(size)),
-        Listed::Inside => sum_at(sums, wide(depth) + 1),
-        Listed::Value(_) => Octets(wide16(size)),
+        Listed::Nothing => Octets(size as usize),
+        Listed::Inside => sum_at(sums, depth as usize + 1),
+        Listed::Value(_) => Octets(size as usize),
     }
 }
 
@@ -160,7 +139,7 @@ fn own_size(sums: &[usize], depth: u8, tag: u8, size: u16) -> Octets
 fn sum_with(sums: &[usize], depth: u8, part: Octets) -> Octets
     ensures { λ r. ⌜ r .0 ≡ min 32_769 (nth (now (sums .entry)) depth + part .0) ⌝ }
 {
-    let sum = sum_at(sums, wide(depth));
+    let sum = sum_at(sums, depth as usize);
     if sum.0 > 32_768 {
         return Octets(32_769);
     }
@@ -182,7 +161,7 @@ fn put_sum(sums: &mut [usize], depth: usize, sum: Octets)
 fn sum_up(sums: &mut [usize], depth: u8, sum: Octets)
     ensures { λ _. ⌜ now (sums .exit) ≡ set (set (now (sums .entry)) (suc depth) 0) depth (sum .0) ⌝ }
 {
-    let own = wide(depth);
+    let own = depth as usize;
     put_sum(sums, own + 1, Octets(0));
     put_sum(sums, own, sum);
 }
@@ -209,10 +188,10 @@ fn are_right(
         let depth = depths[i];
         let size = sizes[i];
         let body = bodies[i];
-        if wide16(body) != own_size(&sums, depth, tag, size).0 {
+        if body as usize != own_size(&sums, depth, tag, size).0 {
             return false;
         }
-        let element = tag_of(tags, wide16(parents[i]));
+        let element = octet_at(tags, parents[i] as usize);
         let part = added_by(element, tag, starts[i], size, store, body);
         let sum = sum_with(&sums, depth, part);
         if sum.0 > 32_768 {

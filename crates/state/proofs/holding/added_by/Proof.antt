@@ -3,12 +3,6 @@ use borrow.Author.Needs.{needs}
 use Rattle.state.proofs.holding.added_by.Statement.{statement}
 use Rattle.state.proofs.holding.added_by.Tie as tie
 
-wide16-requires : tie.Need-wide16-requires
-wide16-requires c κs = search needs
-
-wide16-requires-2 : tie.Need-wide16-requires-2
-wide16-requires-2 c κs = search needs
-
 add-end : tie.Need-add-end
 add-end c = search needs
 
@@ -43,8 +37,6 @@ pub added-by-spec : {M : Type 1} → statement M
 added-by-spec =
     tie.close
     (tie.spec
-    wide16-requires
-    wide16-requires-2
     add-end
     framed-size-requires
     returns

@@ -1,3 +1,5 @@
+use Prim.Native.Nat.{_-_}
+use native.Mathlib.Omega.{arith}
 use Rattle.state.proofs.Checks.{Righting, righting-next, righting-ways}
 use borrow.Author.Needs.{needs}
 use Rattle.state.proofs.holding.are_right.Statement.{statement}
@@ -33,8 +35,8 @@ mul-body c = search (righting-ways, needs)
 shared-slice-read-body : tie.Need-shared-slice-read-body Inv-loop μ-loop
 shared-slice-read-body c = search (righting-ways, needs)
 
-wide16-requires : tie.Need-wide16-requires Inv-loop μ-loop
-wide16-requires c κs = search (righting-ways, needs)
+cast-if1 : tie.Need-cast-if1 Inv-loop μ-loop
+cast-if1 c = omega (arith, c .shared-slice-known11 .given (c .before .before .before .before .before .loop .i - 1))
 
 slice-aggregate-own-size : tie.Need-slice-aggregate-own-size Inv-loop μ-loop
 slice-aggregate-own-size c = search (righting-ways, needs)
@@ -45,17 +47,17 @@ own-size-requires c κs = search (righting-ways, needs)
 returns : tie.Need-returns Inv-loop μ-loop
 returns c = search (righting-ways, needs)
 
-mul-wide16 : tie.Need-mul-wide16 Inv-loop μ-loop
-mul-wide16 c = search (righting-ways, needs)
+mul-octet-at : tie.Need-mul-octet-at Inv-loop μ-loop
+mul-octet-at c = search (righting-ways, needs)
 
-shared-slice-read-wide16 : tie.Need-shared-slice-read-wide16 Inv-loop μ-loop
-shared-slice-read-wide16 c = search (righting-ways, needs)
+shared-slice-read-octet-at : tie.Need-shared-slice-read-octet-at Inv-loop μ-loop
+shared-slice-read-octet-at c = search (righting-ways, needs)
 
-wide16-requires-2 : tie.Need-wide16-requires-2 Inv-loop μ-loop
-wide16-requires-2 c κs = search (righting-ways, needs)
+cast-octet-at : tie.Need-cast-octet-at Inv-loop μ-loop
+cast-octet-at c = omega (arith, c .shared-slice-known12 .given (c .before .before .before .before .before .before .before .before .before .before .loop .i - 1))
 
-tag-of-requires : tie.Need-tag-of-requires Inv-loop μ-loop
-tag-of-requires c κs = search (righting-ways, needs)
+octet-at-requires : tie.Need-octet-at-requires Inv-loop μ-loop
+octet-at-requires c κs = search (righting-ways, needs)
 
 mul-added-by : tie.Need-mul-added-by Inv-loop μ-loop
 mul-added-by c = search (righting-ways, needs)
@@ -86,8 +88,8 @@ loop-less c = search (righting-ways, needs)
 
 loop-again : tie.Need-loop-again Inv-loop μ-loop
 loop-again c =
-    righting-next _ _ _ _ _ _ _ _ _ _ (c .before .before .before .before .before .before .before .before .before .before .before .before .before .before .before .before .before .before .before .before .before .before .loop .inv) (c .before .before .before .before .before .before .before .before .before .before .before .before .before .before .before .before .before .before .before .before .before .loop-test .taken) _ (c .before .before .before .before .before .before .before .before .before .before .before .before .before .before .before .before .wide16 .ensures .0) _ (c .before .before .before .before .before .before .before .before .before .before .before .before .before .before .own-size .ensures)
-    (c .before .before .before .before .before .before .before .before .before .before .before .before .if1 .left) _ (c .before .before .before .before .before .before .before .before .before .before .wide162 .ensures .0) _ (c .before .before .before .before .before .before .before .before .before .tag-of .ensures) _ (c .before .before .before .before .before .before .before .added-by .ensures) _ (c .before .before .before .before .before .sum-with .ensures)
+    righting-next _ _ _ _ _ _ _ _ _ _ (c .before .before .before .before .before .before .before .before .before .before .before .before .before .before .before .before .before .before .before .before .loop .inv) (c .before .before .before .before .before .before .before .before .before .before .before .before .before .before .before .before .before .before .before .loop-test .taken) _ (c .before .before .before .before .before .before .before .before .before .before .before .before .before .own-size .ensures)
+    (c .before .before .before .before .before .before .before .before .before .before .before .if1 .left) _ (c .before .before .before .before .before .before .before .before .before .octet-at .ensures) _ (c .before .before .before .before .before .before .before .added-by .ensures) _ (c .before .before .before .before .before .sum-with .ensures)
     (c .before .before .before .if2 .left) _ (c .before .sum-up .ensures)
 
 returns-3 : tie.Need-returns-3 Inv-loop μ-loop
@@ -107,14 +109,14 @@ are-right-spec =
     shared-slice-read-size
     mul-body
     shared-slice-read-body
-    wide16-requires
+    cast-if1
     slice-aggregate-own-size
     own-size-requires
     returns
-    mul-wide16
-    shared-slice-read-wide16
-    wide16-requires-2
-    tag-of-requires
+    mul-octet-at
+    shared-slice-read-octet-at
+    cast-octet-at
+    octet-at-requires
     mul-added-by
     shared-slice-read-added-by
     added-by-requires

@@ -5,17 +5,14 @@ use borrow.Author.Needs.{needs}
 use Rattle.state.proofs.holding.framed_size.Statement.{statement}
 use Rattle.state.proofs.holding.framed_size.Tie as tie
 
-wide16-requires : tie.Need-wide16-requires
-wide16-requires c κs = search needs
-
 header-size-requires : tie.Need-header-size-requires
 header-size-requires c κs = search needs
 
 add-all : tie.Need-add-all
-add-all c = framed-fits _ _ (c .before .header-size .ensures) (omega (arith, c .before .before .wide16 .ensures .1))
+add-all c = framed-fits _ _ (c .before .header-size .ensures) (omega arith)
 
 returns : tie.Need-returns
 returns c = search (framed-body, needs)
 
 pub framed-size-spec : {M : Type 1} → statement M
-framed-size-spec = tie.close (tie.spec wide16-requires header-size-requires add-all returns)
+framed-size-spec = tie.close (tie.spec header-size-requires add-all returns)

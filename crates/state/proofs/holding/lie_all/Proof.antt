@@ -1,4 +1,5 @@
 use Prim.Native.Nat.{_-_}
+use native.Mathlib.Omega.{arith}
 use Rattle.state.proofs.Checks.{Lying, lying-next, lying-ways}
 use borrow.Author.Needs.{needs}
 use Rattle.state.proofs.holding.lie_all.Statement.{statement}
@@ -13,17 +14,17 @@ abbrev μ-loop : tie.MeasureT-loop
 loop-holds : tie.Need-loop-holds Inv-loop μ-loop
 loop-holds c = search (lying-ways, needs)
 
-mul-wide16 : tie.Need-mul-wide16 Inv-loop μ-loop
-mul-wide16 c = search (lying-ways, needs)
+mul-octet-at : tie.Need-mul-octet-at Inv-loop μ-loop
+mul-octet-at c = search (lying-ways, needs)
 
-shared-slice-read-wide16 : tie.Need-shared-slice-read-wide16 Inv-loop μ-loop
-shared-slice-read-wide16 c = search (lying-ways, needs)
+shared-slice-read-octet-at : tie.Need-shared-slice-read-octet-at Inv-loop μ-loop
+shared-slice-read-octet-at c = search (lying-ways, needs)
 
-wide16-requires : tie.Need-wide16-requires Inv-loop μ-loop
-wide16-requires c κs = search (lying-ways, needs)
+cast-octet-at : tie.Need-cast-octet-at Inv-loop μ-loop
+cast-octet-at c = omega (arith, c .shared-slice-known6 .given (c .before .before .loop .i))
 
-tag-of-requires : tie.Need-tag-of-requires Inv-loop μ-loop
-tag-of-requires c κs = search (lying-ways, needs)
+octet-at-requires : tie.Need-octet-at-requires Inv-loop μ-loop
+octet-at-requires c κs = search (lying-ways, needs)
 
 shared-slice-read-lies-to : tie.Need-shared-slice-read-lies-to Inv-loop μ-loop
 shared-slice-read-lies-to c = search (lying-ways, needs)
@@ -59,7 +60,7 @@ loop-less : tie.Need-loop-less Inv-loop μ-loop
 loop-less c = search (lying-ways, needs)
 
 loop-again : tie.Need-loop-again Inv-loop μ-loop
-loop-again c = lying-next _ _ _ _ _ _ _ _ ((c .before .before .before .before .before .before .before .before .before .before .before .loop) .inv) ((c .before .before .before .before .before .before .before .before .before .before .loop-test) .taken) _ ((c .before .before .before .before .before .before .before .before .wide16) .ensures .0) _ ((c .before .before .before .before .before .before .before .tag-of) .ensures) _ ((c .before .before .before .lies-to) .ensures) _ ((c .before .end) .given .1)
+loop-again c = lying-next _ _ _ _ _ _ _ _ (c .before .before .before .before .before .before .before .before .before .before .loop .inv) (c .before .before .before .before .before .before .before .before .before .loop-test .taken) _ (c .before .before .before .before .before .before .before .octet-at .ensures) _ (c .before .before .before .lies-to .ensures) _ (c .before .end .given .1)
 
 returns-2 : tie.Need-returns-2 Inv-loop μ-loop
 returns-2 c = search (lying-ways, needs)
@@ -71,10 +72,10 @@ lie-all-spec =
     Inv-loop
     μ-loop
     loop-holds
-    mul-wide16
-    shared-slice-read-wide16
-    wide16-requires
-    tag-of-requires
+    mul-octet-at
+    shared-slice-read-octet-at
+    cast-octet-at
+    octet-at-requires
     shared-slice-read-lies-to
     mul-lies-to
     shared-slice-read-lies-to-2

@@ -12,12 +12,6 @@ enum-told c = search needs
 enum-told-2 : tie.Need-enum-told-2
 enum-told-2 c = search needs
 
-wide16-requires : tie.Need-wide16-requires
-wide16-requires c κs = search needs
-
-wide16-requires-2 : tie.Need-wide16-requires-2
-wide16-requires-2 c κs = search needs
-
 add-if1 : tie.Need-add-if1
 add-if1 c = search needs
 
@@ -46,8 +40,6 @@ lies-to-spec =
     listed-as-requires
     enum-told
     enum-told-2
-    wide16-requires
-    wide16-requires-2
     add-if1
     returns
     enum-known-kind

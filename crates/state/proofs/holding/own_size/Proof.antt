@@ -9,14 +9,8 @@ listed-as-requires c κs = search needs
 enum-told : tie.Need-enum-told
 enum-told c = search needs
 
-wide16-requires : tie.Need-wide16-requires
-wide16-requires c κs = search needs
-
 enum-told-2 : tie.Need-enum-told-2
 enum-told-2 c = search needs
-
-wide-requires : tie.Need-wide-requires
-wide-requires c κs = search needs
 
 add-sum-at : tie.Need-add-sum-at
 add-sum-at c = search needs
@@ -26,9 +20,6 @@ sum-at-requires c κs = search needs
 
 enum-told-3 : tie.Need-enum-told-3
 enum-told-3 c = search needs
-
-wide16-requires-2 : tie.Need-wide16-requires-2
-wide16-requires-2 c κs = search needs
 
 returns : tie.Need-returns
 returns c = search (own-ways, needs)
@@ -45,13 +36,10 @@ own-size-spec =
     (tie.spec
     listed-as-requires
     enum-told
-    wide16-requires
     enum-told-2
-    wide-requires
     add-sum-at
     sum-at-requires
     enum-told-3
-    wide16-requires-2
     returns
     returns-2
     returns-3)

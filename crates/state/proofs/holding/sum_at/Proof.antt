@@ -1,4 +1,4 @@
-use Rattle.state.proofs.Checks.{nth-beyond}
+use Rattle.format.proofs.Lays.{getD-beyond}
 use borrow.Author.Needs.{needs}
 use Rattle.state.proofs.holding.sum_at.Statement.{statement}
 use Rattle.state.proofs.holding.sum_at.Tie as tie
@@ -13,7 +13,7 @@ returns : tie.Need-returns
 returns c = search needs
 
 returns-2 : tie.Need-returns-2
-returns-2 c = search (nth-beyond, needs)
+returns-2 c = search (getD-beyond, needs)
 
 pub sum-at-spec : {M : Type 1} → statement M
 sum-at-spec = tie.close (tie.spec mul-t5 shared-slice-read-t7 returns returns-2)

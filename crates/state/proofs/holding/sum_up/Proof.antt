@@ -3,9 +3,6 @@ use borrow.Author.Needs.{needs}
 use Rattle.state.proofs.holding.sum_up.Statement.{statement}
 use Rattle.state.proofs.holding.sum_up.Tie as tie
 
-wide-requires : tie.Need-wide-requires
-wide-requires c κs = search needs
-
 add-put-sum : tie.Need-add-put-sum
 add-put-sum c = search needs
 
@@ -24,4 +21,4 @@ returns c = search (summed-up, needs)
 pub sum-up-spec : {M : Type 1} → statement M
 sum-up-spec =
     tie.close
-    (tie.spec wide-requires add-put-sum put-sum-requires put-sum-requires-2 same-length returns)
+    (tie.spec add-put-sum put-sum-requires put-sum-requires-2 same-length returns)

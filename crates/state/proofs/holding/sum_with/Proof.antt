@@ -3,9 +3,6 @@ use borrow.Author.Needs.{needs}
 use Rattle.state.proofs.holding.sum_with.Statement.{statement}
 use Rattle.state.proofs.holding.sum_with.Tie as tie
 
-wide-requires : tie.Need-wide-requires
-wide-requires c κs = search needs
-
 sum-at-requires : tie.Need-sum-at-requires
 sum-at-requires c κs = search needs
 
@@ -23,4 +20,4 @@ returns-3 c = search (sum-ways, needs)
 
 pub sum-with-spec : {M : Type 1} → statement M
 sum-with-spec =
-    tie.close (tie.spec wide-requires sum-at-requires returns returns-2 add-t5 returns-3)
+    tie.close (tie.spec sum-at-requires returns returns-2 add-t5 returns-3)

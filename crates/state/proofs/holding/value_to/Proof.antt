@@ -3,14 +3,8 @@ use borrow.Author.Needs.{needs}
 use Rattle.state.proofs.holding.value_to.Statement.{statement}
 use Rattle.state.proofs.holding.value_to.Tie as tie
 
-wide16-requires : tie.Need-wide16-requires
-wide16-requires c κs = search needs
-
 returns : tie.Need-returns
 returns c = search (value-ways, needs)
-
-wide16-requires-2 : tie.Need-wide16-requires-2
-wide16-requires-2 c κs = search needs
 
 add-end : tie.Need-add-end
 add-end c = search needs
@@ -40,9 +34,7 @@ pub value-to-spec : {M : Type 1} → statement M
 value-to-spec =
     tie.close
     (tie.spec
-    wide16-requires
     returns
-    wide16-requires-2
     add-end
     returns-2
     sub-is-own
