@@ -14,7 +14,6 @@ use Rattle.octets.specs.Numbers.{Octets}
 use Rattle.octets.specs.declared.counts.Octets.{Octets as OctetCount}
 use Rattle.octets.specs.Counts.{asOctets}
 use Rattle.octets.specs.Header.{headerSize, bodySize, lengthField}
-use Rattle.octets.proofs.Frames.{header-two}
 use Rattle.octets.proofs.Tests.{and-left, never}
 use Rattle.octets.specs.Puts.{putAnswer, Puts}
 use Rattle.octets.specs.declared.Put.{Put}
@@ -23,7 +22,7 @@ use Rattle.octets.specs.declared.Lies.{Lies}
 use Rattle.octets.specs.declared.Lies.the-variants.{Outside, Between}
 use Rattle.octets.specs.Places.{isWhole, firstBody, afterFirst, liesAt, between}
 use Rattle.octets.proofs.Puts.{PutDone, put-done}
-use Rattle.octets.proofs.Places.{Lying, lying, not-whole, bounds, body-is, later-is, tag-is}
+use Rattle.octets.proofs.Places.{Lying, lying, not-whole, bounds, body-is, later-is, tag-is, fewer-inside, fewer-behind}
 use Rattle.values.specs.declared.Kind.{Kind}
 use Rattle.values.specs.declared.Kind.the-variants.{HoldsItems, HoldsTokens, HoldsText, HoldsPlain, HoldsTime, HoldsBearer, HoldsNumber}
 use Rattle.values.specs.declared.NumberKind.{NumberKind}
@@ -44,12 +43,6 @@ use Rattle.format.proofs.Same.{octets-same, same-octets}
 
 -- ---- what the test says of the first item
 
-shorter-body : (s : List ℕ) → 0 < length s → length (firstBody s) < length s
-shorter-body s h = omega (arith, length-take (bodySize s) (drop (headerSize s) s), length-drop (headerSize s) s, header-two s)
-
-shorter-after : (s : List ℕ) → 0 < length s → length (afterFirst s) < length s
-shorter-after s h = omega (arith, length-drop (bodySize s) (drop (headerSize s) s), length-drop (headerSize s) s, header-two s)
-
 -- any number above the length serves
 enough : (k l p last : ℕ) (s : List ℕ) → length s < k → length s < l → shapedWithin k p last s ≡ shapedWithin l p last s
 unfolding shapedWithin
@@ -58,8 +51,8 @@ enough (suc k) zero p last s h g = absurd (omega arith)
 enough (suc k) (suc l) p last [] h g = refl
 enough (suc k) (suc l) p last (tag ∷ rest) h g =
     let s = tag ∷ rest in
-    let b = shorter-body s (omega arith) in
-    let a = shorter-after s (omega arith) in
+    let b = fewer-inside s (omega arith) in
+    let a = fewer-behind s (omega arith) in
     ap₂ (λ x y. (isWhole s && isShortest s && isRising last tag && isWritten (writtenAs p tag (firstBody s)) (firstBody s)) && cond (isItems (writtenAs p tag (firstBody s))) x true && y)
     (enough k l tag 0x7F (firstBody s) (omega arith) (omega arith)) (enough k l p (cond (attribute tag) tag last) (afterFirst s) (omega arith) (omega arith))
 
@@ -73,8 +66,8 @@ pub shaped-item : (p last tag : ℕ) (rest : List ℕ)
 unfolding shaped shapedWithin
 shaped-item p last tag rest =
     let s = tag ∷ rest in
-    let b = shorter-body s (omega arith) in
-    let a = shorter-after s (omega arith) in
+    let b = fewer-inside s (omega arith) in
+    let a = fewer-behind s (omega arith) in
     ap₂ (λ x y. ownShape p last tag s && cond (isItems (writtenAs p tag (firstBody s))) x true && y)
     (enough (suc (length rest)) (suc (length (firstBody s))) tag 0x7F (firstBody s) (omega arith) (omega arith))
     (enough (suc (length rest)) (suc (length (afterFirst s))) p (cond (attribute tag) tag last) (afterFirst s) (omega arith) (omega arith))

@@ -5,19 +5,13 @@ use Prim.Native.Nat.{ℕ, zero, suc, _+_, _≤_, _<_}
 use native.Mathlib.Omega.{arith}
 use native.Mathlib.Nat.{not-suc-le-zero}
 use borrow.Author.Tests.{le-leb}
-use lib.ListN.{length, take, drop, length-take, length-drop}
+use lib.ListN.{length, take, drop}
 use Rattle.octets.specs.Header.{headerSize, bodySize}
 use Rattle.values.specs.Table.{known}
 use Rattle.format.specs.Tree.Items.{end, item}
 use Rattle.format.specs.Judge.{Context, items, read, broken, unless, byKind, late, within, next, judge, outermost, rule}
 use Rattle.format.specs.Judge.Judged.{accepted}
-use Rattle.octets.proofs.Frames.{header-two}
-
-body-shorter : (tag : ℕ) (rest : List ℕ) (n : ℕ) → length (take n (drop (headerSize (tag ∷ rest)) (tag ∷ rest))) ≤ length rest
-body-shorter tag rest n = simp (length-take, length-drop (headerSize (tag ∷ rest)) (tag ∷ rest)) (omega (arith, header-two (tag ∷ rest)))
-
-after-shorter : (tag : ℕ) (rest : List ℕ) (n : ℕ) → length (drop n (drop (headerSize (tag ∷ rest)) (tag ∷ rest))) ≤ length rest
-after-shorter tag rest n = simp (length-drop n (drop (headerSize (tag ∷ rest)) (tag ∷ rest)), length-drop (headerSize (tag ∷ rest)) (tag ∷ rest)) (omega (arith, header-two (tag ∷ rest)))
+use Rattle.octets.proofs.Places.{fewer-inside, fewer-behind}
 
 -- any fuel above the length of the part gives one answer
 abbrev Same : ℕ → Type 0
@@ -29,8 +23,8 @@ same-item k j c at tag rest ih p q =
     let h = headerSize (tag ∷ rest) in
     let n = bodySize (tag ∷ rest) in
     let body = take n (drop h (tag ∷ rest)) in
-    let a = ih j (within c tag) (at + h) body (omega (arith, body-shorter tag rest n)) (omega (arith, body-shorter tag rest n)) in
-    let b = ih j (next c at tag body) (at + h + n) (drop n (drop h (tag ∷ rest))) (omega (arith, after-shorter tag rest n)) (omega (arith, after-shorter tag rest n)) in
+    let a = ih j (within c tag) (at + h) body (omega (arith, fewer-inside (tag ∷ rest) (omega arith))) (omega (arith, fewer-inside (tag ∷ rest) (omega arith))) in
+    let b = ih j (next c at tag body) (at + h + n) (drop n (drop h (tag ∷ rest))) (omega (arith, fewer-behind (tag ∷ rest) (omega arith))) (omega (arith, fewer-behind (tag ∷ rest) (omega arith))) in
     ap₂ (λ x y. unless (broken c at tag h n (suc (length rest)) body) (byKind (known (c .parent) tag) (item tag (at + h) body) x y)) a b
 
 same-zero : Same zero
@@ -62,8 +56,8 @@ pub read-item : (c : Context) (at tag : ℕ) (rest : List ℕ) (h n : ℕ) (body
     → read c at (tag ∷ rest)
     ≡ unless (broken c at tag h n (suc (length rest)) body) (byKind (known (c .parent) tag) (item tag (at + h) body) (read (within c tag) (at + h) body) (read (next c at tag body) (at + h + n) later))
 read-item c at tag rest h n body later eh en eb el =
-    let x : length body ≤ length rest = rw (eh, eb) at (body-shorter tag rest n) in
-    let y : length later ≤ length rest = rw (eh, el) at (after-shorter tag rest n) in
+    let x : length body < suc (length rest) = rw (eh, en, eb) at (fewer-inside (tag ∷ rest) (omega arith)) in
+    let y : length later < suc (length rest) = rw (eh, en, el) at (fewer-behind (tag ∷ rest) (omega arith)) in
     item-step (suc (length rest)) c at tag rest h n body later eh en eb el
     ∙ ap₂ (λ a b. unless (broken c at tag h n (suc (length rest)) body) (byKind (known (c .parent) tag) (item tag (at + h) body) a b))
     (same-fuel (suc (length rest)) (suc (length body)) (within c tag) (at + h) body (omega arith) (omega arith))

@@ -6,7 +6,7 @@ use Prim.Native.Nat.{ℕ, _+_, _-_, _≤_, _<_}
 use native.Mathlib.Nat.{add-zero}
 use native.Mathlib.Omega.{arith}
 use lib.Dec.{leb}
-use lib.ListN.{length, take, drop, getD, length-drop}
+use lib.ListN.{length, take, drop, getD, length-take, length-drop}
 use lib.Seq.{drop-drop, getD-drop}
 use borrow.Author.Tests.{leb-true, le-leb, lt-leb}
 use Rattle.octets.specs.Numbers.{Octets}
@@ -117,10 +117,16 @@ module _ {part : List ℕ} {at from to : ℕ} (k : Lying part at from to) (h : a
 
 -- ---- octets as items one behind the other
 
--- octets that hold a whole item are more than those after it
+-- octets are more than the body of their first item, and more than those after it
+pub fewer-inside : (s : List ℕ) → 0 < length s → length (firstBody s) < length s
+fewer-inside s h = omega (arith, length-take (bodySize s) (drop (headerSize s) s), length-drop (headerSize s) s, header-two s)
+
+pub fewer-behind : (s : List ℕ) → 0 < length s → length (afterFirst s) < length s
+fewer-behind s h = omega (arith, length-drop (bodySize s) (drop (headerSize s) s), length-drop (headerSize s) s, header-two s)
+
+-- also where the item is known to be whole
 pub fewer-after : (s : List ℕ) → isWhole s ≡ true → length (afterFirst s) < length s
-fewer-after s h =
-    omega (arith, leb-true (headerSize s + bodySize s) (length s) h, header-two s, length-drop (bodySize s) (drop (headerSize s) s), length-drop (headerSize s) s)
+fewer-after s h = fewer-behind s (omega (arith, leb-true (headerSize s + bodySize s) (length s) h, header-two s))
 
 pub none-whole : (s : List ℕ) → length s ≤ 0 → isWhole s ≡ false
 none-whole s h = lt-leb (headerSize s + bodySize s) (length s) (omega (arith, header-two s))

@@ -2,7 +2,6 @@
 // item's body lies, and `listed_as` what is written of it.
 ghost use mathlib.Core.Path.{_≡_};
 ghost use Prim.Native.Nat.{_+_, _<_, min};
-ghost use lib.ListN.{length};
 ghost use Rattle.format.specs.Tree.{recordOf};
 ghost use Rattle.format.specs.Calls.{places, put};
 ghost use Rattle.format.specs.Lent.{lent, Within};

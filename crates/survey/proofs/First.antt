@@ -12,6 +12,7 @@ use Rattle.octets.specs.Numbers.{value}
 use Rattle.octets.specs.Header.{headerSize, bodySize}
 use Rattle.octets.specs.Places.{firstBody, afterFirst}
 use Rattle.octets.proofs.Frames.{header-two}
+use Rattle.octets.proofs.Places.{fewer-inside, fewer-behind}
 use Rattle.octets.proofs.Lists.{getD-part, length-part}
 use Rattle.values.specs.declared.Kind.{Kind}
 use Rattle.values.specs.Table.{rows, attribute, kindIn, known}
@@ -152,10 +153,10 @@ abbrev Says : (o : List ℕ) (P : ℕ → ℕ → Bool) (k parent at : ℕ) → 
 Says o P k parent at s t = firstIn P parent t ≡ asItem o (placeIn k P parent at s)
 
 pub shorter-body : (s : List ℕ) (k : ℕ) → headerSize s + bodySize s ≤ length s → length s < suc k → length (firstBody s) < k
-shorter-body s k h l = simp (length-take, length-drop) (omega (arith, header-two s))
+shorter-body s k h l = omega (arith, fewer-inside s (omega (arith, header-two s)))
 
 pub shorter-later : (s : List ℕ) (k : ℕ) → headerSize s + bodySize s ≤ length s → length s < suc k → length (afterFirst s) < k
-shorter-later s k h l = simp length-drop (omega (arith, header-two s))
+shorter-later s k h l = omega (arith, fewer-behind s (omega (arith, header-two s)))
 
 says : (o : List ℕ) (P : ℕ → ℕ → Bool) (k parent depth at : ℕ) (s : List ℕ) (t : Items) → length s < k → Lain o at s → Accepts parent depth at s t → Says o P k parent at s t
 unfolding placeIn firstIn asItem
