@@ -1,10 +1,14 @@
--- The ways through kind_of, and answers that it doesn't give.
+-- The ways through kind_of, and answers that it and record_at don't give.
 use mathlib.Core.Path.{_≡_, refl, sym, _∙_}
 use mathlib.Core.Bool.{Bool, true, false}
+use mathlib.Core.List.{[], _∷_}
 use Prim.Native.Nat.{ℕ}
 use borrow.Author.Tests.{eq-eqb, ne-eqb}
 use Rattle.values.specs.Table.{attribute}
+use Rattle.format.specs.declared.Record.{Record}
 use Rattle.format.specs.Tree.{kindOf}
+use Rattle.format.specs.Calls.{Lists, row}
+use Rattle.format.specs.Lent.{six}
 
 -- the kind that a record shows
 module _ (tag : ℕ) (b : Bool) (e : b ≡ attribute tag) where
@@ -27,3 +31,11 @@ pub ruleset kind-ways = (kind-attribute, kind-cdata, kind-element)
 pub kinds-told : (kindOf 0x80 ≡ 1) × (kindOf 0x01 ≡ 2) × (kindOf 0x02 ≡ 0)
 unfolding kindOf attribute
 kinds-told = (refl, refl, refl)
+
+-- a field of another list or of another record, the last record told for one past the end: a record of two and the one past them, computed
+abbrev twoRecords : Lists
+twoRecords = six (0x03 ∷ 0x10 ∷ []) (0 ∷ 7 ∷ []) (1 ∷ 2 ∷ []) (0 ∷ 8 ∷ []) (2 ∷ 4 ∷ []) (9 ∷ 5 ∷ [])
+
+pub rows-told : (row twoRecords 1 ≡ record { tag = 0x10; kind = 7; depth = 2; parent = 8; start = 4; size = 5 })
+    × (row twoRecords 2 ≡ record { tag = 0; kind = 0; depth = 0; parent = 0; start = 0; size = 0 })
+rows-told = (refl, refl)
