@@ -2,9 +2,11 @@
 use mathlib.Core.Path.{_≡_, refl, sym, ap, _∙_}
 use mathlib.Core.Bool.{Bool, true, false, cond, false≢true}
 use mathlib.Core.List.{List, []}
-use Prim.Native.Nat.{ℕ, _+_}
+use Prim.Native.Nat.{ℕ, _+_, _≤_}
+use native.Mathlib.Omega.{arith}
 use lib.ListN.{length}
 use Rattle.octets.specs.Header.{framed}
+use Rattle.octets.proofs.Answers.{size-five}
 use Rattle.values.specs.Table.{known}
 use Rattle.values.specs.Values.{meant, octetsOf}
 use Rattle.values.specs.Calls.{defaultOctets}
@@ -33,6 +35,11 @@ size-open s p tag body x o r = rw o (size-inside tag x (below s tag) refl r)
 pub size-shut : (p tag : ℕ) (body : List ℕ) (x : Items) → opens tag ≡ false → bodySize p tag body x ≡ length (stored [] (known p tag) body)
 unfolding normalBody
 size-shut p tag body x o = rw o
+
+-- a header has no more than five octets
+pub framed-few : (n : ℕ) → framedSize n ≤ n + 5
+unfolding framedSize
+framed-few n = omega (arith, size-five n)
 
 -- no element that holds items is a default
 pub open-counts : (p tag : ℕ) (body : List ℕ) → opens tag ≡ true → defaultOctets p tag body ≡ false

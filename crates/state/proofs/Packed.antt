@@ -16,8 +16,8 @@ use Rattle.format.specs.Tree.Items.{end, item}
 use Rattle.format.specs.Judge.{judge}
 use Rattle.format.specs.Judge.Judged.{accepted}
 use Rattle.format.specs.Meaning.{opens, tableOf}
-use Rattle.format.specs.Loaded.{stored, storeIn, loadedIn, loadedOf}
-use Rattle.format.specs.State.{packed}
+use Rattle.format.specs.Loaded.{stored, storeIn, loadedIn, storeOf, loadedOf}
+use Rattle.format.specs.State.{packed, packedStore}
 use Rattle.format.specs.Writer.{Spot, below, past, atTop}
 use Rattle.format.proofs.Told.{Told, ItemTold, accepted-told, accepted-sound}
 use Rattle.format.proofs.Loading.{loaded-held, loaded-single}
@@ -108,3 +108,7 @@ module _ (o : List ℕ) (t : Items) (os : Octets o) (h : judge o ≡ accepted t)
   pub accepted-packs : packed (loadedOf t) ≡ loadedOf t
   unfolding atTop
   accepted-packs = again .tree 0 0
+
+  pub accepted-store : packedStore (loadedOf t) ≡ storeOf t
+  unfolding atTop
+  accepted-store = again .store 0

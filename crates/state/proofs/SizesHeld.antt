@@ -87,7 +87,7 @@ unfolding framedSize
 framed-more n = omega arith
 
 -- ---- bodies that stand in the store as they are
-abbrev Own : ℕ → Items → Type 0
+abbrev pub Own : ℕ → Items → Type 0
 Own p end = Unit {0}
 Own p (item tag at body x y) = (opens tag ≡ false → stored [] (known p tag) body ≡ body) × Own tag x × Own p y
 
@@ -103,7 +103,7 @@ afterOf : Items → Items
 afterOf end = end
 afterOf (item tag at body x y) = y
 
-own-packed : (t : Items) (s : Spot) (at : ℕ) → ruled s t ≡ true → loadedIn [] (s .parent) at t ≡ t → Own (s .parent) t
+pub own-packed : (t : Items) (s : Spot) (at : ℕ) → ruled s t ≡ true → loadedIn [] (s .parent) at t ≡ t → Own (s .parent) t
 unfolding below past bodyOf insideOf afterOf
 own-packed end s at r e = tt
 own-packed (item tag from body x y) s at r e = go (opens tag) refl (λ k. own-packed x (below s tag) k (u .within)) (λ k. own-packed y (past s tag) k (u .beside))

@@ -5,6 +5,7 @@ use mathlib.Core.Option.{Option, none, some}
 use mathlib.Core.List.{List, [], _∷_}
 use Prim.Native.Nat.{ℕ}
 use lib.Dec.{leb}
+use denote.Ref.{RefT}
 use Rattle.octets.specs.declared.counts.Octets.{Octets as OctetCount}
 use Rattle.octets.specs.Counts.{sizeOf, octetsWithin}
 use Rattle.format.specs.declared.Refusal.{Refusal}
@@ -16,7 +17,13 @@ use Rattle.format.specs.Judge.Judged.{refused, accepted}
 use Rattle.format.specs.Meaning.{means, encode}
 use Rattle.format.specs.Loaded.{loadedOf}
 use Rattle.format.specs.Calls.{roomy, judgeAnswer}
+use Rattle.format.specs.Lent.{lent}
 use Rattle.format.specs.State.{Memory, placesIn, packedStore, layTree}
+
+-- the memory that eight references lend
+abbrev pub memory : (tags kinds depths parents starts sizes bodies store : RefT (List ℕ)) → Memory
+memory tags kinds depths parents starts sizes bodies store =
+    record { lists = lent tags kinds depths parents starts sizes; bodies = bodies .now; store = store .now }
 
 -- "14 if its records don't fit; then 15 exactly when its texts and values together exceed the store or its normal form 32,768 octets", or so many octets as the caller
 -- has room for

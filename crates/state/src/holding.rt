@@ -92,7 +92,7 @@ fn lie_all(
 }
 
 // An item whose body has so many octets.
-fn framed_size(body: u16) -> Octets
+pub fn framed_size(body: u16) -> Octets
     ensures { λ r. ⌜ r .0 ≡ framedSize body ⌝ }
 {
     let size = body as usize;
@@ -101,7 +101,7 @@ fn framed_size(body: u16) -> Octets
 }
 
 // What a record adds to the body of its element. A well-formed record is left out of the normal form only where it is a default.
-fn added_by(element: u8, tag: u8, start: u16, size: u16, store: &[u8], body: u16) -> Octets
+pub fn added_by(element: u8, tag: u8, start: u16, size: u16, store: &[u8], body: u16) -> Octets
     ensures { λ r. ⌜ r .0 ≡ addedBy element tag start size (now (store .entry)) body ⌝ }
 {
     let from = start as usize;
