@@ -10,5 +10,6 @@ pub mod Pieces
 pub mod Laying
 pub mod Summed
 pub mod WholeLaid
+pub mod Surveyed
 pub mod Seen
 pub mod Wrong

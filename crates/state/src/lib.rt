@@ -3,8 +3,10 @@
 mod holding;
 mod lay;
 mod store;
+mod taking;
 
 pub use holding::held;
+pub use taking::take_in;
 
 // How far records fill the store, where each text and value lies right behind the one before it. Apart: they don't lie so.
 pub enum Filled {
