@@ -13,3 +13,4 @@ pub mod WholeLaid
 pub mod Surveyed
 pub mod Seen
 pub mod Wrong
+pub mod Mistaken
