@@ -6,11 +6,11 @@ ghost use Prim.Native.Nat.{suc, _+_, _≤_, min};
 ghost use lib.ListN.{length, set};
 ghost use Rattle.values.specs.Table.{known};
 ghost use Rattle.format.specs.Meaning.{opens};
-ghost use Rattle.format.specs.Lent.{lent};
 ghost use Rattle.format.specs.State.{treeHeld};
 ghost use Rattle.tags.specs.declared.Listed.the-variants.{Value};
 ghost use Rattle.tags.specs.Listed.{listedAs};
 ghost use Rattle.survey.specs.Normal.{framedSize};
+ghost use Rattle.state.specs.Taking.{memory};
 ghost use Rattle.state.specs.Order.{heldAs, nth, liesTo, filledFrom, asFilled, addedBy, rightBelow, noSums};
 use crate::Filled;
 use compare::is_own;
@@ -214,7 +214,7 @@ pub fn held(
     bodies: &[u16],
     store: &[u8],
 ) -> Filled
-    ensures { λ r. ⌜ r ≡ heldAs (treeHeld n (record { lists = lent (tags .entry) (kinds .entry) (depths .entry) (parents .entry) (starts .entry) (sizes .entry); bodies = now (bodies .entry); store = now (store .entry) })) ⌝ }
+    ensures { λ r. ⌜ r ≡ heldAs (treeHeld n (memory (tags .entry) (kinds .entry) (depths .entry) (parents .entry) (starts .entry) (sizes .entry) (bodies .entry) (store .entry))) ⌝ }
 {
     if n > bodies.len() {
         return Filled::Apart;

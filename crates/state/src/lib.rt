@@ -1,5 +1,6 @@
 // Lent memory that holds a tree: lists and store as a tree takes them (format/specs/State; request 2026-06), with the size of each record's body in normal form in a
-// seventh list. Whoever edits such memory or writes from it asks `held` first. Nothing is written here, and no call asks anything of its arguments.
+// seventh list. `take_in` lays the loaded tree of an object there. Whoever edits such memory or writes from it asks `held` first. No call asks anything of its
+// arguments.
 mod holding;
 mod lay;
 mod store;
