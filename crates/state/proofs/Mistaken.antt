@@ -1,6 +1,6 @@
 -- Wrong answers of `take_in`, refuted by computing its claim at one object: a top, a schedule in it, a programme in that, and the programme's recommendation "no", which is
 -- its default (request 2026-05).
-use mathlib.Core.Path.{_≡_, refl, sym, ap, _∙_}
+use mathlib.Core.Path.{_≡_, refl, ap, _∙_}
 use mathlib.Core.List.{List, [], _∷_}
 use Prim.Native.Nat.{ℕ}
 use native.Mathlib.Omega.{arith}

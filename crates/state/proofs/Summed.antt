@@ -1,9 +1,8 @@
 -- What the walk sums up of a tree over its store are the sizes of its bodies in normal form, where it keeps the rules.
 use mathlib.Core.Path.{_≡_, refl, sym, ap, ap₂, _∙_}
 use mathlib.Core.Bool.{Bool, true, false, cond}
-use mathlib.Core.List.{List, [], _∷_, _++_}
+use mathlib.Core.List.{List, []}
 use Prim.Native.Nat.{ℕ, _+_}
-use lib.Dec.{eqb}
 use lib.ListN.{length}
 use Rattle.values.specs.Table.{known}
 use Rattle.values.specs.Calls.{defaultOctets}

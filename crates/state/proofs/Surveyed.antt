@@ -1,6 +1,6 @@
 -- The ways through take_in: what the survey of an object says is how taking it in ends, and what is laid is what memory is left with.
 use mathlib.Core.Path.{_≡_, refl, sym, ap, _∙_, subst}
-use mathlib.Core.Bool.{Bool, true, false, cond, _&&_}
+use mathlib.Core.Bool.{Bool, true, false, cond}
 use mathlib.Core.List.{List, [], _∷_}
 use Prim.Native.Nat.{ℕ, _≤_, min}
 use native.Mathlib.Omega.{arith}
@@ -20,7 +20,7 @@ use Rattle.format.specs.Judge.Judged.{refused, accepted}
 use Rattle.format.specs.Meaning.{normalOf}
 use Rattle.format.specs.Loaded.{storeOf, loadedOf}
 use Rattle.format.specs.Calls.{places, Lent, roomy, storedWithin, judgeAnswer}
-use Rattle.format.specs.State.{Memory, placesIn, packedStore}
+use Rattle.format.specs.State.{Memory, placesIn}
 use Rattle.format.proofs.Loading.{loaded-means, loaded-count}
 use Rattle.survey.specs.declared.Standing.{Standing}
 use Rattle.survey.specs.declared.Standing.the-variants.{Bad, Misfit, Fits}
