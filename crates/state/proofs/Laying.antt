@@ -44,7 +44,7 @@ use Rattle.state.specs.declared.lay.Level.{Level}
 use Rattle.state.specs.declared.lay.Laid.{Laid}
 use Rattle.state.specs.Order.{addedBy}
 use Rattle.state.specs.Store.{BodyStorable, BodyStored}
-use Rattle.state.specs.Lay.{addedIn, ownSizes, recordAt, Placeable, ValueCountable, ValueCounts, InsideCountable, InsideCounts, ValueLayable, ValueLays, shareAt, ItemLayable, InsideLayable, ItemLays, ItemsLayable, ItemsLay}
+use Rattle.state.specs.Lay.{addedIn, ownSizes, recordAt, Placeable, ValueCountable, ValueCounts, InsideCountable, InsideCounts, ValueLayable, ValueLays, loadedAt, shareAt, ItemLayable, InsideLayable, ItemLays, ItemsLayable, ItemsLay}
 use Rattle.state.proofs.BodySizes.{framed-few}
 use Rattle.state.proofs.Pieces.{Sized, sized-value, sized-items, Splits, splits-share, split-lists, split-store, split-sizes, of-nothing, OfOctets, of-octets, OfItems, of-items}
 
@@ -344,14 +344,14 @@ module _ (T : Entries) (level : Level) (done : Laid) (tag : ℕ) (body : List �
 -- ---- lay_items
 
 module _ (T : Entries) (level : Level) where
-  abbrev loadedAt : (done : Laid) → Items → Items
-  loadedAt done t = loadedIn T (level .element) (done .end) t
-
   abbrev recordsAt : (done : Laid) → Items → List Record
-  recordsAt done t = records (level .depth) (level .number) (done .next) (loadedAt done t)
+  recordsAt done t = records (level .depth) (level .number) (done .next) (loadedAt T level done t)
 
   abbrev sizesAt : (done : Laid) → Items → List ℕ
-  sizesAt done t = ownSizes (level .element) (loadedAt done t)
+  sizesAt done t = ownSizes (level .element) (loadedAt T level done t)
+
+same-length : (a b : List ℕ) (i j : ℕ) (o p : List ℕ) → sets a i o ≡ sets b j p → length b ≡ length a
+same-length a b i j o p e = sym (length-sets b j p) ∙ ap length (sym e) ∙ length-sets a i o
 
 -- how far the walk has come, for a tree that the whole part has: what is loaded of its rest is still to be laid
 pub record Going (T : Entries) (level : Level) (before : Laid) (part : List ℕ) (m₀ : Memory) (offset : ℕ) (whole : Items) (done : Laid) (at : ℕ) (m : Memory) : Type 0 where
@@ -388,9 +388,6 @@ module _ (T : Entries) (level : Level) (before : Laid) (part : List ℕ) (m₀ :
 
   pub kept : SameLengths (m₀ .lists) (m .lists)
   kept = same-laid (before .next) (done .next) (recordsAt T level before (inv .can .tree)) (recordsAt T level done (sure .rest)) (m₀ .lists) (m .lists) (sure .lists)
-
-  same-length : (a b : List ℕ) (i j : ℕ) (o p : List ℕ) → sets a i o ≡ sets b j p → length b ≡ length a
-  same-length a b i j o p e = sym (length-sets b j p) ∙ ap length (sym e) ∙ length-sets a i o
 
   pub kept-bodies : length (m .bodies) ≡ length (m₀ .bodies)
   kept-bodies = same-length (m₀ .bodies) (m .bodies) (before .next) (done .next) (sizesAt T level before (inv .can .tree)) (sizesAt T level done (sure .rest)) (sure .sizes)

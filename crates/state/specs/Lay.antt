@@ -32,7 +32,7 @@ use Rattle.state.specs.declared.lay.Level.{Level}
 use Rattle.state.specs.declared.lay.Laid.{Laid}
 use Rattle.state.specs.Order.{addedBy}
 
--- ---- sizes of bodies, over a store
+-- ---- sizes of bodies, over a store, as the walk sums them up. That they are `bodySizes` of format for a tree that keeps the rules is proved (proofs/Summed)
 
 -- what items of an element add to its body: each but a default its own body with a header, and the body of one that holds items is what these add
 unfoldable pub addedIn : ℕ → Items → ℕ
