@@ -76,7 +76,7 @@ fn octets_if(good: bool) -> Held
 
 // Rules 10, 12 and 13 where there is no token table: a token octet is a fault of the text. CDATA alone may have a limit, and so it alone is weighed; no limit is
 // as large as the most that is counted.
-fn is_text_kept(parent: u8, tag: u8, body: &[u8]) -> bool
+pub fn is_text_kept(parent: u8, tag: u8, body: &[u8]) -> bool
     ensures { λ r. ⌜ r ≡ (text false (now (body .entry)) && shown parent tag (shownLength [] (now (body .entry)))) ⌝ }
 {
     if tag != 1 {

@@ -6,6 +6,8 @@ mod lay;
 mod store;
 mod taking;
 
+pub use holding::added_by;
+pub use holding::framed_size;
 pub use holding::held;
 pub use taking::take_in;
 
