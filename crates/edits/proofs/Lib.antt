@@ -21,3 +21,7 @@ pub mod Only
 pub mod Runs
 pub mod ElementTags
 pub mod Examples
+pub mod Parts
+pub mod Followed
+pub mod Scans
+pub mod Climbing
