@@ -90,13 +90,13 @@ outermost-set {parents = ps} {bodies = bs} (step g was s b a h lt c) j x l is si
     ∙ (ap (λ n. outermost (upFrom ps (getD ps g 0)) (framedSize n) (framedSize (n - was + is)) (set bs j x) (n - was + is)) e
     ∙ (outermost-set c j x (omega arith) (framedSize (getD bs g 0 - was + is)) (getD bs g 0 - was + is) ∙ sym (outermost-up ps bs g was now s is size)))
 
-raised-up : (parents bodies : List ℕ) (g was : ℕ) → Climbs parents bodies g was → 0 < g → (is : ℕ)
+pub raised-up : (parents bodies : List ℕ) (g was : ℕ) → Climbs parents bodies g was → 0 < g → (is : ℕ)
     → raised (upFrom parents g) was is bodies
     ≡ raised (upFrom parents (getD parents g 0)) (framedSize (getD bodies g 0)) (framedSize (getD bodies g 0 - was + is)) (set bodies g (getD bodies g 0 - was + is))
 unfolding raised
 raised-up ps bs g was c z is = ap (λ gs. raised gs was is bs) (up-next ps bs g was c z)
 
-raised-top : (parents : List ℕ) (was is : ℕ) (l : List ℕ) → raised (upFrom parents 0) was is l ≡ set l 0 (getD l 0 0 - was + is)
+pub raised-top : (parents : List ℕ) (was is : ℕ) (l : List ℕ) → raised (upFrom parents 0) was is l ≡ set l 0 (getD l 0 0 - was + is)
 unfolding raised around
 raised-top parents was is l = refl
 

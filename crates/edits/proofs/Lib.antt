@@ -25,3 +25,4 @@ pub mod Parts
 pub mod Followed
 pub mod Scans
 pub mod Climbing
+pub mod Carrying

@@ -5,3 +5,5 @@ pub mod Sites
 pub mod Sizes
 pub mod Moves
 pub mod Extents
+pub mod Lent
+pub mod Resites

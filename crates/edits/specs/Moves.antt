@@ -27,6 +27,11 @@ pub record Renumbers (first last from to : ℕ) (parents : List ℕ) : Type 0 wh
   pub inside : last ≤ length parents
   pub small : (i : ℕ) → first ≤ i → i < last → shifted from to (getD parents i 0) ≤ 65_535
 
+-- so has each of a part that moves
+pub record CarriesParents (m : Move) (parents : List ℕ) : Type 0 where
+  pub part : Carries m parents
+  pub small : (i : ℕ) → m .from ≤ i → i < m .end → shifted (m .from) (m .to) (getD parents i 0) ≤ 65_535
+
 -- likewise each place in the store of a body that lies behind what moves
 abbrev pub Movable : (was is tag start : ℕ) → Type 0
 Movable was is tag start = opens tag ≡ false → (was ≤ start) × (start - was + is ≤ 65_535)
@@ -36,3 +41,9 @@ pub record Shifts (first last was is : ℕ) (tags starts : List ℕ) : Type 0 wh
   pub tagged : last ≤ length tags
   pub inside : last ≤ length starts
   pub movable : (i : ℕ) → first ≤ i → i < last → Movable was is (getD tags i 0) (getD starts i 0)
+
+-- of a part that moves, once the tags have moved
+pub record CarriesStarts (m : Move) (was is : ℕ) (tags starts : List ℕ) : Type 0 where
+  pub part : Carries m starts
+  pub tagged : m .to + (m .end - m .from) ≤ length tags
+  pub movable : (k : ℕ) → k < m .end - m .from → Movable was is (getD tags (m .to + k) 0) (getD starts (m .from + k) 0)

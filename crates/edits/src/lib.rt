@@ -3,4 +3,5 @@
 mod extent;
 mod moving;
 mod raising;
+mod resite;
 mod shifting;

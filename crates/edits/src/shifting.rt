@@ -5,7 +5,9 @@ ghost use Prim.Native.Nat.{_+_, _-_, _≤_};
 ghost use lib.Seq.{sets};
 ghost use Rattle.octets.specs.Places.{between};
 ghost use Rattle.edits.specs.Sites.{shifted, startAfter, shiftedStarts};
-ghost use Rattle.edits.specs.Moves.{Renumbers, Movable, Shifts};
+ghost use Rattle.edits.specs.Moves.{carried, Renumbers, CarriesParents, Movable, Shifts, CarriesStarts};
+use crate::moving::Move;
+use crate::moving::move_to16;
 use tags::Listed;
 use tags::listed_as;
 
@@ -69,4 +71,24 @@ pub fn shift_starts(
         starts[i] = next_start(tags[i], starts[i], was, is);
         i = i + 1;
     }
+}
+
+// The parents of records that move.
+pub fn carry_parents(parents: &mut [u16], part: Move)
+    requires { ⌜ CarriesParents part (now parents) ⌝ }
+    ensures { λ _. ⌜ now (parents .exit) ≡ carried part (map (shifted (part .from) (part .to))) (now (parents .entry)) ⌝ }
+{
+    move_to16(parents, part);
+    let last = part.to + (part.end - part.from);
+    shift_parents(parents, part.to, last, part.from, part.to);
+}
+
+// The starts of records that move, whose tags have moved before.
+pub fn carry_starts(tags: &[u8], starts: &mut [u16], part: Move, was: usize, is: usize)
+    requires { ⌜ CarriesStarts part was is (now tags) (now starts) ⌝ }
+    ensures { λ _. ⌜ now (starts .exit) ≡ carried part (shiftedStarts was is (between (now (tags .entry)) (part .to) (part .to + (part .end - part .from)))) (now (starts .entry)) ⌝ }
+{
+    move_to16(starts, part);
+    let last = part.to + (part.end - part.from);
+    shift_starts(tags, starts, part.to, last, was, is);
 }
