@@ -151,6 +151,12 @@ module _ (parents bodies : List ℕ) where
         regroup : (f : List ℕ) (a : ℕ) (m n k : List ℕ) → f ++ (a ∷ ((m ++ n) ++ k)) ≡ (f ++ (a ∷ m)) ++ (n ++ k)
         regroup f a m n k = simp append-assoc
 
+  pub lie-down : {s : Site} {t t′ : Items} {h : Site} {u w : Items} → Swapped s t t′ h u w → ruled (s .spot) t ≡ true → Lie s t → Lie h u
+  unfolding below past
+  lie-down (here s t t′) r l = l
+  lie-down (inside s tag at body x x′ y h u w o v) r l = lie-down v (ruled-parts (s .spot) tag at body x y r .within) (lie-inside s tag at body x y r l)
+  lie-down (after s tag at body x y y′ h u w v) r l = lie-down v (ruled-parts (s .spot) tag at body x y r .beside) (lie-after s tag at body x y r l)
+
   -- the way up from a site to one around it
   pub record Way (s : Site) (h : Site) (u : Items) (gs : List ℕ) : Type 0 where
     pub climbs : (x : ℕ) → x ≤ sizeAt h u → Climbs parents bodies (h .up) x

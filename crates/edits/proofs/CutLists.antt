@@ -67,7 +67,7 @@ module _ (xs : List ℕ) (n : ℕ) (long : n ≤ length xs) (pre gone post : Lis
   cut-sets new = sym (sets-append xs 0 pre new) ∙ ap₂ (λ a j. sets a j new) front-of (zero-add (length pre))
 
   -- and what stays lies behind what is gone
-  cut-part : between xs (length pre + length gone) n ≡ post
+  pub cut-part : between xs (length pre + length gone) n ≡ post
   cut-part =
       let g : xs ≡ (pre ++ gone) ++ (post ++ drop n xs) = all-of ∙ simp append-assoc in
       let k : length pre + length gone ≡ length (pre ++ gone) = sym (length-append pre gone) in
@@ -88,6 +88,35 @@ pub record Enough (n : ℕ) (l : Lists) : Type 0 where
   pub parents : n ≤ length (l .parents)
   pub starts : n ≤ length (l .starts)
   pub sizes : n ≤ length (l .sizes)
+
+-- ---- the lists of memory that holds a tree
+module _ (n : ℕ) (m : Memory) (t : Items) (held : Held n m t) where
+  pub enough : Enough n (m .lists)
+  unfolding places
+  enough = let k = held-places n m t held in omega arith
+
+  held-records : recordsAt topSite t ≡ tabled (row (m .lists)) n 0
+  unfolding atTop
+  held-records = ap recordsOf (held .packs) ∙ held .whole .records
+
+  -- a field of the tree's records is what its list begins with
+  pub held-field : (field : Record → ℕ) (xs : List ℕ) → ((j : ℕ) → field (row (m .lists) j) ≡ getD xs j 0) → n ≤ length xs → take n xs ≡ map field (recordsAt topSite t)
+  held-field field xs reads long = sym (tabled-field (row (m .lists)) field xs reads n 0 (omega arith)) ∙ ap (map field) (sym held-records)
+
+  -- and the lists hold the tree's parents and sizes
+  pub lies : Lie (m .lists .parents) (m .bodies) topSite t
+  unfolding atTop
+  lies = record {
+    pf = [];
+    pb = drop n (m .lists .parents);
+    bf = [];
+    bb = drop n (m .bodies);
+    parents-are = sym (take-append-drop n (m .lists .parents))
+        ∙ ap (λ z. z ++ drop n (m .lists .parents)) (held-field (λ r. r .parent) (m .lists .parents) (λ j. refl) (enough .parents));
+    bodies-are = sym (take-append-drop n (m .bodies)) ∙ ap (λ z. z ++ drop n (m .bodies)) (held .sizes);
+    pf-long = refl;
+    bf-long = refl;
+  }
 
 -- ---- an edit at a site
 module _ (n : ℕ) (m : Memory) (t t′ : Items) (held : Held n m t) {h : Site} {u w : Items} (v : Swapped topSite t t′ h u w) (q : Plain w)
@@ -112,15 +141,12 @@ module _ (n : ℕ) (m : Memory) (t t′ : Items) (held : Held n m t) {h : Site} 
   later-between = subst (λ j. Between P j (records-cut .post)) (zero-add (length (packedStore t))) (both .1)
 
   -- ---- one field of the records
-  pub enough : Enough n (m .lists)
-  unfolding places
-  enough = let k = held-places n m t held in omega arith
-
   module _ (field : Record → ℕ) (xs : List ℕ) (reads : (j : ℕ) → field (row (m .lists) j) ≡ getD xs j 0) (long : n ≤ length xs) where
     field-old : take n xs ≡ map field (records-cut .pre) ++ (map field gone ++ map field (records-cut .post))
+    unfolding atTop
     field-old =
-        sym (tabled-field (row (m .lists)) field xs reads n 0 (omega arith))
-        ∙ (ap (map field) (sym (held .whole .records) ∙ records-cut .old)
+        held-field n m t held field xs reads long
+        ∙ (ap (map field) (ap recordsOf (held .packs) ∙ records-cut .old)
         ∙ (map-append field (records-cut .pre) (gone ++ records-cut .post) ∙ ap (λ z. map field (records-cut .pre) ++ z) (map-append field gone (records-cut .post))))
 
     place : length (map field (records-cut .pre)) ≡ h .number
@@ -149,8 +175,8 @@ module _ (n : ℕ) (m : Memory) (t t′ : Items) (held : Held n m t) {h : Site} 
   pub later-start : (j : ℕ) → h .number + length gone ≤ j → j < n → opens (getD (m .lists .tags) j 0) ≡ false
       → (P ≤ getD (m .lists .starts) j 0) × (getD (m .lists .starts) j 0 ≤ length (packedStore t))
   later-start j a b o =
-      let tagged = enough .tags in
-      let started = enough .starts in
+      let tagged = enough n m t held .tags in
+      let started = enough n m t held .starts in
       let first = h .number + length gone in
       let k = j - first in
       let e : first + k ≡ j = omega arith in
@@ -168,7 +194,7 @@ module _ (n : ℕ) (m : Memory) (t t′ : Items) (held : Held n m t) {h : Site} 
       ≡ sets (m .lists .parents) (h .number) (map (λ r. r .parent) put ++ map (shifted N N′) (between (m .lists .parents) (h .number + length gone) n))
   unfolding moved
   parents-cut =
-      let long = enough .parents in
+      let long = enough n m t held .parents in
       let later = later-numbers (λ r. r .parent) (m .lists .parents) (λ j. refl) long in
       field-laid (λ r. r .parent) (m .lists .parents) (λ j. refl) long (map (shifted N N′) (between (m .lists .parents) (h .number + length gone) n))
       (each-parents (records-cut .post) ∙ ap (map (shifted N N′)) (sym later))
@@ -182,8 +208,8 @@ module _ (n : ℕ) (m : Memory) (t t′ : Items) (held : Held n m t) {h : Site} 
       ≡ sets (m .lists .starts) (h .number)
       (map (λ r. r .start) put ++ shiftedStarts P P′ (between (m .lists .tags) (h .number + length gone) n) (between (m .lists .starts) (h .number + length gone) n))
   starts-cut =
-      let long = enough .starts in
-      let long-tags = enough .tags in
+      let long = enough n m t held .starts in
+      let long-tags = enough n m t held .tags in
       field-laid (λ r. r .start) (m .lists .starts) (λ j. refl) long
       (shiftedStarts P P′ (between (m .lists .tags) (h .number + length gone) n) (between (m .lists .starts) (h .number + length gone) n))
       (moved-starts N N′ P P′ (records-cut .post)
@@ -208,23 +234,6 @@ module _ (n : ℕ) (m : Memory) (t t′ : Items) (held : Held n m t) {h : Site} 
       ∙ ap₂ (λ j z. sets (m .store) j (octets-put ++ z)) (k .before-it) (sym later))
 
   -- ---- the sizes of bodies: those of the elements around the site are raised, then those of the site are cut
-  -- the lists hold the tree's parents and sizes
-  lies : Lie (m .lists .parents) (m .bodies) topSite t
-  unfolding atTop
-  lies =
-      let ps = tabled-field (row (m .lists)) (λ r. r .parent) (m .lists .parents) (λ j. refl) n 0 (omega (arith, enough .parents)) in
-      let rs : recordsAt topSite t ≡ tabled (row (m .lists)) n 0 = ap recordsOf (held .packs) ∙ held .whole .records in
-      record {
-        pf = [];
-        pb = drop n (m .lists .parents);
-        bf = [];
-        bb = drop n (m .bodies);
-        parents-are = sym (take-append-drop n (m .lists .parents)) ∙ ap (λ z. z ++ drop n (m .lists .parents)) (sym (ap (map (λ r. r .parent)) rs ∙ ps));
-        bodies-are = sym (take-append-drop n (m .bodies)) ∙ ap (λ z. z ++ drop n (m .bodies)) (held .sizes);
-        pf-long = refl;
-        bf-long = refl;
-      }
-
   -- what the items at the site add, but for the same rest, is `was` before and `is` after
   module _ (was is same : ℕ) (z : sizeAt h u ≡ was + same) (z′ : sizeAt h w ≡ is + same) (below : eqb (h .spot .parent) 0 ≡ false)
       (bytes : Bytes t′) (rules : ruled atTop t′ ≡ true)
@@ -234,7 +243,7 @@ module _ (n : ℕ) (m : Memory) (t t′ : Items) (held : Held n m t) {h : Site} 
 
     wy : WholeWay (m .lists .parents) (m .bodies) h u (path v)
     unfolding atTop
-    wy = whole-way (m .lists .parents) (m .bodies) v refl refl (held .whole .rules) below lies
+    wy = whole-way (m .lists .parents) (m .bodies) v refl refl (held .whole .rules) below (lies n m t held)
 
     pub climbs-cut : Climbs (m .lists .parents) (m .bodies) (h .up) was
     climbs-cut = wy .climbs was (omega (arith, z))

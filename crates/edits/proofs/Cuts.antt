@@ -44,7 +44,7 @@ shifted-same N n = go (ltb n N) refl
     go true e = refl
     go false e = omega (arith, ltb-false n N e)
 
-share-shut : (p tag : ℕ) (body : List ℕ) (x : Items) → opens tag ≡ false → share p tag body x ≡ stored [] (known p tag) body
+pub share-shut : (p tag : ℕ) (body : List ℕ) (x : Items) → opens tag ≡ false → share p tag body x ≡ stored [] (known p tag) body
 unfolding share
 share-shut p tag body x o = rw o
 

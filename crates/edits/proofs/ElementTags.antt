@@ -32,10 +32,10 @@ module _ (row : ℕ → Record) (n : ℕ) where
     are : left row n (s .number) ≡ records (s .spot .depth) (s .up) (s .number) t ++ left row n upto
 
   -- the record at a site is that of its item, and its element's record has its element's tag
-  record Seen (h : Site) (tag : ℕ) : Type 0 where
-    own : row (h .number) .tag ≡ tag
-    parent : row (h .number) .parent ≡ h .up
-    element : row (h .up) .tag ≡ h .spot .parent
+  pub record Seen (h : Site) (tag : ℕ) : Type 0 where
+    pub own : row (h .number) .tag ≡ tag
+    pub parent : row (h .number) .parent ≡ h .up
+    pub element : row (h .up) .tag ≡ h .spot .parent
 
   seen-down : {s : Site} {t t′ : Items} {h : Site} {u w : Items} → Swapped s t t′ h u w → Plain t → Lie s t → row (s .up) .tag ≡ s .spot .parent → isEnd u ≡ false
       → Seen h (firstTag u)
@@ -65,16 +65,22 @@ module _ (row : ℕ → Record) (n : ℕ) where
       let none : end ≡ y = three-end y (past atTop tag) refl (ruled-order y (past atTop tag) (q .beside)) in
       absurd (false≢true (sym f ∙ swapped-none v (sym (ap isEnd none))))
 
+-- of a tree that memory holds
+pub site-seen : (n : ℕ) (m : Memory) (t : Items) → Held n m t → {t′ : Items} {h : Site} {u w : Items} → Swapped topSite t t′ h u w → 0 < h .number → isEnd u ≡ false
+    → Seen (row (m .lists)) n h (firstTag u)
+unfolding atTop
+site-seen n m t held v z f =
+    seen-below (row (m .lists)) n v (held .whole .rules)
+    (record { upto = n; are = left-all (row (m .lists)) n ∙ (sym (held .whole .records) ∙ sym (left-none (row (m .lists)) n (recordsOf t))) }) z f
+
 -- so whether a record below the top is a text, and whether a new one keeps the rules, is told by two lookups
 module _ (n : ℕ) (m : Memory) (t : Items) (held : Held n m t) (i : ℕ) (above : 0 < i) (number : i < n) (o : List ℕ) where
   stand : Stands (withBody o) topSite t i (recordAt i t)
   stand = at-record (withBody o) t (held .whole .rules) i (omega (arith, whole-count (row (m .lists)) n (m .store) t (held .whole)))
 
   seen : Seen (row (m .lists)) n (stand .site) (stand .tag)
-  unfolding isEnd firstTag atTop
-  seen = seen-below (row (m .lists)) n (stand .swapped) (held .whole .rules)
-      (record { upto = n; are = left-all (row (m .lists)) n ∙ (sym (held .whole .records) ∙ sym (left-none (row (m .lists)) n (recordsOf t))) })
-      (omega (arith, stand .number)) refl
+  unfolding isEnd firstTag
+  seen = site-seen n m t held (stand .swapped) (omega (arith, stand .number)) refl
 
   own-tag : row (m .lists) i .tag ≡ stand .tag
   own-tag = ap (λ k. row (m .lists) k .tag) (sym (stand .number ∙ omega arith)) ∙ seen .own

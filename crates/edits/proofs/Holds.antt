@@ -121,7 +121,7 @@ module _ (n : ℕ) (m : Memory) (t t′ : Items) (k : Held n m t) (bytes : Bytes
   cut-holds v q c number under z =
       let above : 0 < numberPast h gone = omega arith in
       let l = lay-fields (recordsOf (packed t′)) 0 (m .lists) in
-      let en = enough n m t t′ k v q (numberPast h gone) (numberPast h put) (placePast h gone) (placePast h put) c above in
+      let en = enough n m t k in
       let field = field-cut n m t t′ k v q (numberPast h gone) (numberPast h put) (placePast h gone) (placePast h put) c above in
       record {
         tags = ap (λ a. a .tags) l ∙ field (λ r. r .tag) (m .lists .tags) (λ j. refl) (en .tags) (λ r. refl);

@@ -26,3 +26,8 @@ pub mod Followed
 pub mod Scans
 pub mod Climbing
 pub mod Carrying
+pub mod StoreFits
+pub mod Extents
+pub mod AtSite
+pub mod Gaps
+pub mod Removed

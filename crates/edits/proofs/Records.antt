@@ -26,7 +26,7 @@ pub record StoreSwapped (s : Site) (t t′ : Items) (h : Site) (u w : Items) : T
   pub new : storeAt s t′ ≡ pre ++ (storeAt h w ++ post)
   pub long : s .place + length pre ≡ h .place
 
-share-open : (p tag : ℕ) (body : List ℕ) (x : Items) → opens tag ≡ true → share p tag body x ≡ storeIn [] tag x
+pub share-open : (p tag : ℕ) (body : List ℕ) (x : Items) → opens tag ≡ true → share p tag body x ≡ storeIn [] tag x
 unfolding share
 share-open p tag body x o = rw o
 

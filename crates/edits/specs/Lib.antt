@@ -7,3 +7,5 @@ pub mod Moves
 pub mod Extents
 pub mod Lent
 pub mod Resites
+pub mod Removal
+pub mod Removals
