@@ -5,20 +5,22 @@ use mathlib.Core.Option.{Option, none, some}
 use mathlib.Core.List.{List, [], _∷_}
 use Prim.Native.Nat.{ℕ}
 use lib.Dec.{leb}
+use lib.Seq.{sets}
 use denote.Ref.{RefT}
 use Rattle.octets.specs.declared.counts.Octets.{Octets as OctetCount}
 use Rattle.octets.specs.Counts.{sizeOf, octetsWithin}
 use Rattle.format.specs.declared.Refusal.{Refusal}
 use Rattle.format.specs.declared.ReadAnswer.{ReadAnswer}
+use Rattle.format.specs.declared.WriteAnswer.{WriteAnswer}
 use Rattle.format.specs.Answers.{refusal}
 use Rattle.format.specs.Tree.{Items, count}
 use Rattle.format.specs.Judge.{Judged, first, rule, unless, judge}
 use Rattle.format.specs.Judge.Judged.{refused, accepted}
 use Rattle.format.specs.Meaning.{means, encode}
 use Rattle.format.specs.Loaded.{loadedOf}
-use Rattle.format.specs.Calls.{roomy, judgeAnswer}
+use Rattle.format.specs.Calls.{roomy, judgeAnswer, writeAnswer, writeOctets}
 use Rattle.format.specs.Lent.{lent}
-use Rattle.format.specs.State.{Memory, placesIn, packedStore, layTree}
+use Rattle.format.specs.State.{Memory, placesIn, packedStore, layTree, treeHeld}
 
 -- the memory that eight references lend
 abbrev pub memory : (tags kinds depths parents starts sizes bodies store : RefT (List ℕ)) → Memory
@@ -54,3 +56,8 @@ pub record Leaves (outcome : Judged) (m m′ : Memory) (answer : ReadAnswer) : T
 
 abbrev pub TakeInClaim : (object : List ℕ) (most : OctetCount) (m m′ : Memory) (answer : ReadAnswer) → Type 0
 TakeInClaim object most m m′ answer = Leaves (takenIn most m (judge object)) m m′ answer
+
+-- what memory holds is written: 16 where that is no tree, else 15, else the octets of its normal form, as `write` has them (format/specs/Calls)
+pub record WriteStateClaim (n : ℕ) (m : Memory) (before after : List ℕ) (answer : WriteAnswer) : Type 0 where
+  pub answers : answer ≡ writeAnswer (sizeOf before) (treeHeld n m)
+  pub leaves : after ≡ sets before 0 (writeOctets (sizeOf before) (treeHeld n m))

@@ -83,7 +83,7 @@ module _ (T : Entries) (sound : Sound T) (s : Spot) (tag : ℕ) (body : List ℕ
       go false e true o = (inside at, (λ n. absurd (false≢true (sym n ∙ o))), after (at + length (storeIn T tag x)))
       go false e false o = (tt, (λ n. stored-own x i e o), after (at + length own))
 
-loaded-laid : (T : Entries) → Sound T → (t : Items) (s : Spot) → Told T s t → (at : ℕ) → AsLaid (s .parent) (loadedIn T (s .parent) at t)
+pub loaded-laid : (T : Entries) → Sound T → (t : Items) (s : Spot) → Told T s t → (at : ℕ) → AsLaid (s .parent) (loadedIn T (s .parent) at t)
 unfolding loadedIn AsLaid
 loaded-laid T sound end s h at = tt
 loaded-laid T sound (item tag from body x u) s h at =

@@ -1,14 +1,14 @@
 -- What writing does with a record, with an element's attributes, and with the items of an element from a record on.
-use mathlib.Core.Path.{_≡_, refl, sym, ap, _∙_, subst}
+use mathlib.Core.Path.{_≡_, refl, sym, ap, ap₂, _∙_, subst}
 use mathlib.Core.Bool.{Bool, true, false, cond}
-use mathlib.Core.List.{List, [], _++_, append-assoc, append-nil}
+use mathlib.Core.List.{List, [], _∷_, _++_, append-assoc, append-nil}
 use Prim.Native.Nat.{ℕ, suc, _+_, _-_, _≤_, _<_}
 use native.Mathlib.Omega.{arith}
 use native.Mathlib.Nat.{add-sub-cancel-left}
 use lib.Dec.{eqb}
 use lib.ListN.{length, take, drop, getD}
-use borrow.Author.Tests.{le-ltb, eq-eqb, ne-eqb}
-use Rattle.octets.specs.Header.{framed}
+use borrow.Author.Tests.{eqb-true, le-ltb, eq-eqb, ne-eqb}
+use Rattle.octets.specs.Header.{lengthField, framed}
 use Rattle.octets.proofs.Left.{lays-none, lays-append, lays-length}
 use Rattle.octets.specs.Puts.{Lays}
 use Rattle.values.specs.Table.{attribute}
@@ -26,13 +26,14 @@ use Rattle.writer.specs.declared.emit.Role.{Role}
 use Rattle.writer.specs.declared.emit.Role.the-variants.{Gone, Element, Attribute, Other}
 use Rattle.writer.specs.declared.emit.Reached.{Reached}
 use Rattle.survey.specs.Normal.{itemOctets, attributeOctets, laterOctets}
-use Rattle.writer.specs.Steps.{fourOf, itemsFrom, Holding, roleOf, bodyAt, BodyAt, Fitting, Ordered, Stands, FindsLowest, elementOctets, between, Framable, Emits, Standing, AsLaid}
+use Rattle.writer.specs.Steps.{fourOf, itemsFrom, Holding, roleOf, bodyAt, BodyAt, Fitting, Ordered, Stands, FindsLowest, bodyOctets, elementOctets, between, Framable, SizesStand, Emits, Standing, AsLaid}
 use Rattle.survey.proofs.Rising.{rising-seven, rising-skip}
 use Rattle.writer.proofs.Copied.{laid-inside, laid-own, laid-after, laid-found}
 use Rattle.writer.proofs.Finding.{found-octets, none-between, found-body}
 use Rattle.survey.proofs.Sizes.{opens-no-attribute}
 use Rattle.writer.proofs.Lays.{fitting-left, fitting-right}
 use Rattle.writer.proofs.Framing.{first-fits, second-fits, framable, frame-laid}
+use Rattle.writer.proofs.Heading.{head-small, head-fits, one-fits, other-fits as other-fits-behind, headed-laid}
 use Rattle.writer.proofs.Rows.{from-stop, from-single, from-nested, from-ahead, from-within}
 
 -- the roles of a record, by the code's tests
@@ -374,3 +375,48 @@ module _ (stored : Bool) (l : Lists) (n : ℕ) (lent : List ℕ) (p depth at to 
                 (ordered-parts held (itemsFrom l n lent depth (itemsFrom l n lent (depth + 1) (i + 1) .1) .0) (ap (λ y. y .0) nested) .1)
                 (after-stand held (itemsFrom l n lent depth (itemsFrom l n lent (depth + 1) (i + 1) .1) .0) (ap (λ y. y .0) nested))
                 (ap (λ y. y .1) nested) (omega (arith, from-ahead l n lent (depth + 1) (i + 1))) (from-within l n lent (depth + 1) (i + 1) (omega arith)) last next all)
+
+      -- its header is written first, where the size of its body stands in a list
+      module _ (bodies : List ℕ) (z : SizesStand n l lent bodies) (f : Fitting (later l n lent p depth at) to (length before)) where
+        abbrev size : ℕ
+        size = getD bodies i 0
+
+        size-is : size ≡ length (bodyOctets m held)
+        size-is =
+            let t = element-says in
+            z .right i lt (t .1) ∙ ap₂ (λ k d. length (bodyOctets k (itemsFrom l n lent (d + 1) (i + 1) .0))) (sym (t .2)) (eqb-true (row l i .depth) depth (t .0))
+
+        headed-fits : Fitting (framed m (bodyOctets m held)) stop (length room)
+        unfolding elementOctets
+        headed-fits = element-fits f
+
+        pub header-ready : (i < length bodies) × (size ≤ 32_768) × Fitting (m ∷ lengthField size) stop (length room)
+        header-ready =
+            let places = z .places in (
+              omega (arith, places),
+              head-small m stop (attributeOctets m held) (laterOctets m held) room headed-fits size size-is,
+              head-fits m stop (attributeOctets m held) (laterOctets m held) room headed-fits size size-is,
+            )
+
+        module _ (top : List ℕ) (from : ℕ) (h : Lays (m ∷ lengthField size) stop room top from) where
+          pub attributes-ready : Fitting (attributeOctets m held) from (length top)
+          attributes-ready = one-fits m stop (attributeOctets m held) (laterOctets m held) room headed-fits size size-is top from h
+
+          module _ (mid : List ℕ) (behind : ℕ) (g : Lays (attributeOctets m held) from top mid behind) where
+            pub later-ready : Fitting (laterOctets m held) behind (length mid)
+            later-ready = other-fits-behind m stop (attributeOctets m held) (laterOctets m held) room headed-fits size size-is top from h mid behind g
+
+            module _ (after : List ℕ) (r : Reached) (k : Emits (itemsFrom l n lent (depth + 1) (i + 1)) m behind mid after r) where
+              pub headed-less : n - r .next < n - i
+              headed-less = let e = k .next in omega (arith, from-ahead l n lent (depth + 1) (i + 1))
+
+              pub headed-next : Written stored l n lent p depth at to before after (r .next) (r .end)
+              unfolding elementOctets
+              headed-next =
+                  let all : Lays (elementOctets m held) stop room after (r .end) =
+                  headed-laid m stop (attributeOctets m held) (laterOctets m held) room headed-fits size size-is top from h mid behind g after (r .end) (k .lays) in
+                  rw (k .next)
+                  (own-next (elementOctets m held) (itemsFrom l n lent (depth + 1) (i + 1) .1) element-first
+                  (ordered-parts held (itemsFrom l n lent depth (itemsFrom l n lent (depth + 1) (i + 1) .1) .0) (ap (λ y. y .0) nested) .1)
+                  (after-stand held (itemsFrom l n lent depth (itemsFrom l n lent (depth + 1) (i + 1) .1) .0) (ap (λ y. y .0) nested))
+                  (ap (λ y. y .1) nested) (omega (arith, from-ahead l n lent (depth + 1) (i + 1))) (from-within l n lent (depth + 1) (i + 1) (omega arith)) after (r .end) all)

@@ -8,6 +8,9 @@ pub mod Copied
 pub mod Emitting
 pub mod Finding
 pub mod Whole
+pub mod HeldSizes
+pub mod Heading
+pub mod HeldWritten
 pub mod Storing
 pub mod Pieces
 pub mod Laying

@@ -129,7 +129,7 @@ module _ (n : ℕ) (l : Lists) (lent : List ℕ) (t : Items) (e : treeGiven n l 
   tree-octets = rw tree-items (laid-whole t tree-rules)
 
   -- 15: the octets are more than the room or than an object may have
-  too-many : (room : List ℕ) → min (length room) 32_768 < length (encode (means [] t)) → WriteClaim n l lent room room (NotWritten (refusal 15 0))
+  pub too-many : (room : List ℕ) → min (length room) 32_768 < length (encode (means [] t)) → WriteClaim n l lent room room (NotWritten (refusal 15 0))
   unfolding writeAnswer writeOctets roomy
   too-many room h =
       let no : roomy (sizeOf room) (encode (means [] t)) ≡ false = lt-leb (length (encode (means [] t))) (min (length room) 32_768) h in

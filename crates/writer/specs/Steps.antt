@@ -91,8 +91,16 @@ AsLaid parent end = Unit {0}
 AsLaid parent (item tag at body inside after) = AsLaid tag inside × (opens tag ≡ false → Standing parent tag body) × AsLaid parent after
 
 -- an element that holds items: its attributes, then its other items
+abbrev pub bodyOctets : ℕ → Items → List ℕ
+bodyOctets tag inside = attributeOctets tag inside ++ laterOctets tag inside
+
 unfoldable pub elementOctets : ℕ → Items → List ℕ
-elementOctets tag inside = framed tag (attributeOctets tag inside ++ laterOctets tag inside)
+elementOctets tag inside = framed tag (bodyOctets tag inside)
+
+-- the size of each element's body in normal form stands in a list of its own, at the number of its record
+pub record SizesStand (n : ℕ) (l : Lists) (lent bodies : List ℕ) : Type 0 where
+  pub places : n ≤ length bodies
+  pub right : (i : ℕ) → i < n → opens (row l i .tag) ≡ true → getD bodies i 0 ≡ length (bodyOctets (row l i .tag) (itemsFrom l n lent (row l i .depth + 1) (i + 1) .0))
 
 -- what a room holds from a place up to another
 unfoldable pub between : (from to : ℕ) → List ℕ → List ℕ

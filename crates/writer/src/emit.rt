@@ -10,11 +10,13 @@ ghost use lib.ListN.{length, getD};
 ghost use Rattle.octets.specs.Puts.{Lays};
 ghost use Rattle.survey.specs.Normal.{itemOctets, attributeOctets, laterOctets};
 ghost use Rattle.writer.specs.Steps.{four, itemsFrom, Holding, Ordered, Fitting, lowerOf, FindsLowest, BodyAt, bodyAt};
-ghost use Rattle.writer.specs.Steps.{roleOf, Emits, Standing, AsLaid};
+ghost use Rattle.writer.specs.Steps.{roleOf, Emits, Standing, AsLaid, SizesStand};
 use crate::frame::put_frame;
 use crate::item::holds_items;
+use crate::item::put_header;
 use crate::item::put_item;
 use crate::item::put_stored;
+use octets::Octets;
 use survey::written_as;
 use values::KnownKind;
 
@@ -243,6 +245,82 @@ pub fn emit_items(
                     stored,
                 );
                 end = put_frame(room, end, tag, inner.end);
+                i = inner.next;
+            }
+        }
+    }
+    Reached { end, next: i }
+}
+
+// The same, front to back: the size of an element's body stands in `bodies`, so that its header is written before what is in it.
+pub fn emit_sized(
+    count: usize,
+    tags: &[u8],
+    depths: &[u8],
+    starts: &[u16],
+    sizes: &[u16],
+    bodies: &[u16],
+    octets: &[u8],
+    at: usize,
+    depth: usize,
+    parent: u8,
+    room: &mut [u8],
+    to: usize,
+    stored: bool,
+) -> Reached
+    requires { ⌜ Holding count (four tags depths starts sizes) (now octets) × Ordered parent (itemsFrom (four tags depths starts sizes) count (now octets) depth at .0) × (at ≤ count) × (depth ≤ at + 1) ⌝ }
+    requires { ⌜ (stored ≡ true → AsLaid parent (itemsFrom (four tags depths starts sizes) count (now octets) depth at .0)) ⌝ }
+    requires { ⌜ SizesStand count (four tags depths starts sizes) (now octets) (now bodies) ⌝ }
+    requires { ⌜ Fitting (laterOctets parent (itemsFrom (four tags depths starts sizes) count (now octets) depth at .0)) to (length (now room)) ⌝ }
+    ensures { λ r. ⌜ Emits (itemsFrom (four (tags .entry) (depths .entry) (starts .entry) (sizes .entry)) count (now (octets .entry)) depth at) parent to (now (room .entry)) (now (room .exit)) r ⌝ }
+{
+    let mut i = at;
+    let mut end = to;
+    while i < count {
+        match role_at(tags, depths, i, depth) {
+            Role::Gone => {
+                return Reached { end, next: i };
+            }
+            Role::Attribute => {
+                i = i + 1;
+            }
+            Role::Other(tag) => {
+                end = put_body(room, end, parent, tag, starts, sizes, octets, i, stored);
+                i = i + 1;
+            }
+            Role::Element(tag) => {
+                let size = bodies[i] as usize;
+                let from = put_header(room, end, tag, Octets(size));
+                let behind = emit_attributes(
+                    count,
+                    tags,
+                    depths,
+                    starts,
+                    sizes,
+                    octets,
+                    i + 1,
+                    depth + 1,
+                    tag,
+                    room,
+                    from,
+                    stored,
+                );
+                let inner = emit_sized(
+                    count,
+                    tags,
+                    depths,
+                    starts,
+                    sizes,
+                    bodies,
+                    octets,
+                    i + 1,
+                    depth + 1,
+                    tag,
+                    room,
+                    behind,
+                    stored,
+                );
+                end = inner.end;
                 i = inner.next;
             }
         }

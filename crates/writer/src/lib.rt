@@ -7,6 +7,7 @@ ghost use Rattle.format.specs.Answers.{refusal};
 ghost use Rattle.format.specs.Judge.{judge};
 ghost use Rattle.format.specs.Calls.{lentBy, WriteClaim, NormaliseClaim};
 ghost use Rattle.format.specs.Lent.{lent};
+ghost use Rattle.state.specs.Taking.{WriteStateClaim};
 ghost use Rattle.survey.specs.declared.Standing.the-variants.{Fits};
 ghost use Rattle.survey.specs.Survey.{surveyed};
 
@@ -18,6 +19,8 @@ mod size;
 mod store;
 
 use crate::emit::emit_items;
+use crate::emit::emit_sized;
+use crate::item::framed_size;
 use crate::lay::lay;
 use crate::size::Sized;
 use crate::size::size_items;
@@ -26,6 +29,8 @@ use format::refuse;
 use octets::Octets;
 use reader::places;
 use records::is_well_formed;
+use state::Filled;
+use state::held;
 use survey::Standing;
 use survey::survey;
 
@@ -145,6 +150,58 @@ pub fn normalise(
                 room,
             );
             WriteAnswer::Octets(n)
+        }
+    }
+}
+
+// The normal form of the tree that memory holds, written to `room` front to back. 16: memory holds no tree of `count` records. 15: the octets are more than the room.
+// On a refusal the room is as it was.
+pub fn write_state(
+    count: usize,
+    tags: &[u8],
+    kinds: &[u8],
+    depths: &[u8],
+    parents: &[u16],
+    starts: &[u16],
+    sizes: &[u16],
+    bodies: &[u16],
+    store: &[u8],
+    room: &mut [u8],
+) -> WriteAnswer
+    ensures { λ r. ⌜ WriteStateClaim count (record { lists = lent (tags .entry) (kinds .entry) (depths .entry) (parents .entry) (starts .entry) (sizes .entry); bodies = now (bodies .entry); store = now (store .entry) }) (now (room .entry)) (now (room .exit)) r ⌝ }
+{
+    match held(
+        count,
+        tags,
+        kinds,
+        depths,
+        parents,
+        starts,
+        sizes,
+        bodies,
+        store,
+    ) {
+        Filled::Apart => refused(16),
+        Filled::Upto(_) => {
+            if framed_size(Octets(bodies[0] as usize)).0 > room.len() {
+                return refused(15);
+            }
+            let reached = emit_sized(
+                count,
+                tags,
+                depths,
+                starts,
+                sizes,
+                bodies,
+                store,
+                0,
+                1,
+                0,
+                room,
+                0,
+                true,
+            );
+            WriteAnswer::Octets(Octets(reached.end))
         }
     }
 }
