@@ -13,11 +13,11 @@ use crate::resite::Gap;
 use crate::resite::resite;
 use format::Counts;
 use format::ReadAnswer;
+use format::octet_at;
 use octets::Octets;
 use state::Filled;
 use state::added_by;
 use state::held;
-use state::tag_of;
 
 // The gap that record `number` of `n` leaves with all below it, where the tree takes `used` octets of the store.
 fn gap_of(
@@ -40,7 +40,7 @@ fn gap_of(
     let end = place + sum_of(sizes, number, next).0;
     let element = parents[number] as usize;
     let was = added_by(
-        tag_of(tags, element),
+        octet_at(tags, element),
         tags[number],
         starts[number],
         sizes[number],

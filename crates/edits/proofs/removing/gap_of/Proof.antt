@@ -25,8 +25,8 @@ shared-slice-read-element c = search needs
 cast-element : tie.Need-cast-element
 cast-element c = omega (arith, (c .shared-slice-known8 .given) (c .before .before .before .before .before .before .before .before .before .before .before .before .args .number))
 
-tag-of-requires : tie.Need-tag-of-requires
-tag-of-requires c κs = search needs
+octet-at-requires : tie.Need-octet-at-requires
+octet-at-requires c κs = search needs
 
 shared-slice-read-added-by : tie.Need-shared-slice-read-added-by
 shared-slice-read-added-by c = search needs
@@ -53,7 +53,7 @@ added-by-requires : tie.Need-added-by-requires
 added-by-requires c κs = search needs
 
 returns : tie.Need-returns
-returns c = gap-is _ _ _ _ _ _ _ _ (c .before .before .before .before .before .before .before .before .before .before .before .before .before .before .before .before .before .before .pre) _ (c .before .before .before .before .before .before .before .before .before .before .end-of .ensures) _ (c .before .before .before .before .before .before .before .before .before .sum-of .ensures) _ (c .before .before .before .before .before .before .before .before .sum-of2 .ensures) _ _ _ (c .before .before .before .before .before .tag-of .ensures) _ (c .added-by .ensures)
+returns c = gap-is _ _ _ _ _ _ _ _ (c .before .before .before .before .before .before .before .before .before .before .before .before .before .before .before .before .before .before .pre) _ (c .before .before .before .before .before .before .before .before .before .before .end-of .ensures) _ (c .before .before .before .before .before .before .before .before .before .sum-of .ensures) _ (c .before .before .before .before .before .before .before .before .sum-of2 .ensures) _ _ _ (c .before .before .before .before .before .octet-at .ensures) _ (c .added-by .ensures)
 
 pub gap-of-spec : {M : Type 1} → statement M
 gap-of-spec =
@@ -66,7 +66,7 @@ gap-of-spec =
     mul-element
     shared-slice-read-element
     cast-element
-    tag-of-requires
+    octet-at-requires
     shared-slice-read-added-by
     mul-added-by
     shared-slice-read-added-by-2
