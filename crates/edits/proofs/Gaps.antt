@@ -67,18 +67,25 @@ module _ (n used normal : ℕ) (m m′ : Memory) (h : Site) (gone put : Piece) (
   }
 
 -- where nothing is put in, that is all
-module _ (n used normal : ℕ) (m m′ m″ : Memory) (h : Site) (gone : Piece) (holds : Holds n used normal m m′ h gone nothing) (r : Resited (gapAt n used h gone nothing) m m″) where
+module _ (n used normal : ℕ) (m m′ m″ : Memory) (h : Site) (gone : Piece) (holds : Holds n used normal m m′ h gone nothing)
+    (long : length (gone .records) ≡ length (gone .sizes)) (r : Resited (gapAt n used h gone nothing) m m″) where
+  abbrev behind : List ℕ → List ℕ
+  behind l = between l (numberPast h gone) n
+
   at-cut : (l a : List ℕ) → sets l (h .number + 0) a ≡ sets l (h .number) a
   at-cut l a = ap (λ k. sets l k a) (add-zero (h .number))
 
   pub closed : m″ ≡ m′
   closed =
-      let ts = r .tags ∙ (at-cut (m .lists .tags) _ ∙ sym (holds .tags)) in
-      let ks = r .kinds ∙ (at-cut (m .lists .kinds) _ ∙ sym (holds .kinds)) in
-      let ds = r .depths ∙ (at-cut (m .lists .depths) _ ∙ sym (holds .depths)) in
-      let ps = r .parents ∙ (at-cut (m .lists .parents) _ ∙ sym (holds .parents)) in
-      let ss = r .starts ∙ (at-cut (m .lists .starts) _ ∙ sym (holds .starts)) in
-      let zs = r .sizes ∙ (at-cut (m .lists .sizes) _ ∙ sym (holds .sizes)) in
-      let bs = r .bodies ∙ (at-cut (raised (upFrom (m .lists .parents) (h .up)) (gone .adds-to) 0 (m .bodies)) _ ∙ sym (holds .bodies)) in
+      let l = m .lists in
+      let ts = r .tags ∙ (at-cut (l .tags) (behind (l .tags)) ∙ sym (holds .tags)) in
+      let ks = r .kinds ∙ (at-cut (l .kinds) (behind (l .kinds)) ∙ sym (holds .kinds)) in
+      let ds = r .depths ∙ (at-cut (l .depths) (behind (l .depths)) ∙ sym (holds .depths)) in
+      let ps = r .parents ∙ (at-cut (l .parents) (map (shifted (numberPast h gone) (h .number + 0)) (behind (l .parents))) ∙ sym (holds .parents)) in
+      let ss = r .starts ∙ (at-cut (l .starts) (shiftedStarts (placePast h gone) (h .place + 0) (behind (l .tags)) (behind (l .starts))) ∙ sym (holds .starts)) in
+      let zs = r .sizes ∙ (at-cut (l .sizes) (behind (l .sizes)) ∙ sym (holds .sizes)) in
+      let up = raised (upFrom (l .parents) (h .up)) (gone .adds-to) 0 (m .bodies) in
+      let bs = r .bodies ∙ (at-cut up (between (m .bodies) (numberPast h gone) n)
+      ∙ (ap (λ k. sets up (h .number) (between (m .bodies) (h .number + k) n)) long ∙ sym (holds .bodies))) in
       let st = r .store ∙ (ap (λ k. sets (m .store) k (between (m .store) (placePast h gone) used)) (add-zero (h .place)) ∙ sym (holds .store)) in
       λ i. record { lists = record { tags = ts i; kinds = ks i; depths = ds i; parents = ps i; starts = ss i; sizes = zs i }; bodies = bs i; store = st i }

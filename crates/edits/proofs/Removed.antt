@@ -22,9 +22,10 @@ use Rattle.format.specs.Tree.Items.{item}
 use Rattle.format.specs.Judge.{rule, unless}
 use Rattle.format.specs.Judge.Judged.{accepted}
 use Rattle.format.specs.Meaning.{means, encode}
-use Rattle.format.specs.Writer.{atTop, ruled}
+use Rattle.format.specs.Writer.{below, atTop, ruled}
 use Rattle.format.specs.Calls.{row, judgeAnswer}
 use Rattle.format.specs.State.{Memory, placesIn, packed, packedStore, layTree, treeHeld}
+use Rattle.format.proofs.Kept.{ruled-parts}
 use Rattle.format.proofs.Written.{Bytes, located-bytes}
 use Rattle.format.proofs.Rebuilt.{whole-count}
 use Rattle.format.proofs.Tabled.{count-item}
@@ -32,19 +33,19 @@ use Rattle.state.specs.declared.Filled.{Filled}
 use Rattle.state.specs.declared.Filled.the-variants.{Apart, Upto}
 use Rattle.state.specs.Order.{nth, heldAs, addedBy}
 use Rattle.state.specs.Taking.{left, Leaves}
-use Rattle.state.proofs.HeldTree.{Held, held}
+use Rattle.state.proofs.HeldTree.{Held, held, sizes-count}
 use Rattle.edits.specs.declared.resite.Gap.{Gap}
 use Rattle.edits.specs.declared.removing.Removal.{Removal}
 use Rattle.edits.specs.declared.removing.Removal.the-variants.{Refused, Closes}
 use Rattle.edits.specs.Tree.{changeAt, without, isThere, changed}
 use Rattle.edits.specs.Tree.Edit.{remove}
 use Rattle.edits.specs.Calls.{editedIn, EditClaim}
-use Rattle.edits.specs.Sites.{Site, shifted}
+use Rattle.edits.specs.Sites.{Site, inner, shifted}
 use Rattle.edits.specs.Extents.{deeper, sumOf}
 use Rattle.edits.specs.Removal.{pastItem, gapOf, Closable}
 use Rattle.edits.specs.Removals.{removalIn, removalOf}
 use Rattle.edits.specs.Resites.{Resites, Resited}
-use Rattle.edits.proofs.Swaps.{ruled-plain, swapped-plain, swapped-count}
+use Rattle.edits.proofs.Swaps.{ruled-plain, swapped-rules, swapped-plain, swapped-count}
 use Rattle.edits.proofs.Sites.{shifted-low, shifted-high}
 use Rattle.edits.proofs.Cuts.{swapped-up}
 use Rattle.edits.proofs.Records.{records-length}
@@ -150,7 +151,13 @@ module _ (n i : ℕ) (m : Memory) (t : Items) (holds : treeHeld n m ≡ some t) 
   short = omega (arith, store-short t bytes (k .whole .rules), k .small)
 
   many : length (gone .records) ≡ suc (count (after .x))
-  many = ap suc (records-length _ (after .x) (swapped-plain (after .swapped) (ruled-plain t atTop (k .whole .rules)) .old .2))
+  many = ap suc (records-length (inner h (after .tag)) (after .x) (swapped-plain (after .swapped) (ruled-plain t atTop (k .whole .rules)) .old .2))
+
+  -- a size for each record
+  sizes-many : length (gone .records) ≡ length (gone .sizes)
+  sizes-many =
+      let u = ruled-parts (h .spot) (after .tag) (after .at) (after .body) (after .x) (after .y) (swapped-rules (after .swapped) (k .whole .rules) .kept) in
+      many ∙ ap suc (sym (sizes-count (after .x) (below (h .spot) (after .tag)) (after .tag) (u .within)))
 
   ends-at : pastItem n (h .number) (m .lists .depths) ≡ numberPast h gone
   ends-at = site-ends n m t k (after .swapped) site-above ∙ omega (arith, many)
@@ -256,7 +263,7 @@ module _ (n i : ℕ) (m : Memory) (t : Items) (holds : treeHeld n m ≡ some t) 
     unfolding left judgeAnswer
     gap-leaves m′ r =
         let j : editedIn m (remove i) (treeHeld n m) ≡ accepted (packed less) = ap (editedIn m (remove i)) holds ∙ remove-leaves n m t holds os i there in
-        let c = closed n used (length (encode (means [] less))) m (layTree (packed less) m) m′ h gone (after .holds) (subst (λ z. Resited z m m′) (e ∙ gap-site) r) in
+        let c = closed n used (length (encode (means [] less))) m (layTree (packed less) m) m′ h gone (after .holds) sizes-many (subst (λ z. Resited z m m′) (e ∙ gap-site) r) in
         record {
           answers = (λ x. Records (record { records = sym left-records x })) ∙ sym (ap judgeAnswer j);
           leaves = c ∙ sym (ap (λ x. left x m) j);
