@@ -18,3 +18,4 @@ pub mod WholeLaid
 pub mod Normalised
 pub mod Theorems
 pub mod Miswritten
+pub mod Misheld
