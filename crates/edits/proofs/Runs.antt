@@ -18,13 +18,13 @@ use Rattle.format.specs.Judge.{Judged, judge}
 use Rattle.format.specs.Judge.Judged.{refused, accepted}
 use Rattle.format.specs.Meaning.{means, encode, meaning, meaningOf}
 use Rattle.format.specs.Loaded.{loadedOf}
-use Rattle.format.specs.Calls.{row, judgeAnswer, WriteClaim, writeAnswer, writeOctets}
+use Rattle.format.specs.Calls.{row, judgeAnswer, writeAnswer, writeOctets}
 use Rattle.format.specs.State.{Memory, bodySizes, layTree, treeHeld}
 use Rattle.format.proofs.Loading.{loaded-means}
 use Rattle.format.proofs.Written.{located-bytes}
 use Rattle.format.proofs.Rebuilt.{whole-rebuilt}
 use Rattle.format.proofs.Calls.{written-means}
-use Rattle.state.specs.Taking.{takenIn, left, TakeInClaim}
+use Rattle.state.specs.Taking.{takenIn, left, TakeInClaim, WriteStateClaim}
 use Rattle.state.proofs.HeldTree.{Fits, held, laid-held}
 use Rattle.state.proofs.Taken.{refused-kept, taken-ends, fitting-tree}
 use Rattle.edits.specs.Tree.{Edit, isThere}
@@ -100,15 +100,15 @@ pub record Written (t : Items) (room room′ : List ℕ) (answer : WriteAnswer) 
   pub answers : answer ≡ writeAnswer (sizeOf room) (some t)
   pub leaves : room′ ≡ sets room 0 (writeOctets (sizeOf room) (some t))
 
-pub reached-written : {n : ℕ} {m : Memory} {t : Items} → Reached n m t → (room room′ : List ℕ) (answer : WriteAnswer)
-    → WriteClaim n (m .lists) (m .store) room room′ answer → Written t room room′ answer
-reached-written {n = n} {m = m} {t = t} r room room′ answer c =
-    let e = held n m t (reached-held r) .given in
+pub reached-written : {n : ℕ} {m : Memory} {t : Items} → Reached n m t → (room room′ : List ℕ) (answer : WriteAnswer) → WriteStateClaim n m room room′ answer
+    → Written t room room′ answer
+reached-written r room room′ answer c =
+    let e = reached-held r in
     record { answers = c .answers ∙ ap (writeAnswer (sizeOf room)) e; leaves = c .leaves ∙ ap (λ o. sets room 0 (writeOctets (sizeOf room) o)) e }
 
 -- two runs to the same content write the same octets, whatever came before: one of them may be an object that is taken in and never edited
 pub same-written : {n k : ℕ} {m w : Memory} {t u : Items} → Reached n m t → Reached k w u → means [] t ≡ means [] u → (room one two : List ℕ) (a b : WriteAnswer)
-    → WriteClaim n (m .lists) (m .store) room one a → WriteClaim k (w .lists) (w .store) room two b → (a ≡ b) × (one ≡ two)
+    → WriteStateClaim n m room one a → WriteStateClaim k w room two b → (a ≡ b) × (one ≡ two)
 unfolding writeAnswer writeOctets
 same-written {t = t} {u = u} r q e room one two a b c d =
     let x = reached-written r room one a c in
