@@ -4,4 +4,5 @@ pub mod OwnWays
 pub mod LateWays
 pub mod AllWays
 pub mod Turn
+pub mod Inside
 pub mod Wrong

@@ -360,26 +360,3 @@ module _ (part : List ℕ) (base parent left : ℕ) (before : Counts) (given : L
 pub part-most : (part : List ℕ) (base from to : ℕ) (v : ReadAnswer) → from ≤ to → to ≤ length part → CountsAtMost (base + from + length (take (to - from) (drop from part))) v → CountsAtMost (base + to) v
 part-most part base from to (Records n) h g b = omega (arith, length-take (to - from) (drop from part), length-drop from part)
 part-most part base from to (NotRead r) h g b = tt
-
--- the object
-pub judge-empty : (o : List ℕ) → length o ≡ 0 → (x : Refusal) → x ≡ refusal 1 0 → NotRead x ≡ judgeAnswer (judge o)
-unfolding judge unless rule judgeAnswer
-judge-empty o h x m = rw (m, h)
-
-pub judge-large : (o : List ℕ) → 32_768 < length o → (x : Refusal) → x ≡ refusal 1 0 → NotRead x ≡ judgeAnswer (judge o)
-unfolding judge unless rule judgeAnswer
-judge-large o h x m = rw (m, le-leb 1 (length o) (omega arith), lt-leb (length o) 32_768 h)
-
--- counting from nothing
-from-nothing : (a : Judged) → counted (record { records = 0 }) a ≡ judgeAnswer a
-unfolding counted judgeAnswer
-from-nothing (refused r) = refl
-from-nothing (accepted t) = ap (λ (x : ℕ). Records (record { records = x })) (omega arith)
-
-pub judge-items : (o : List ℕ) (v : ReadAnswer) → (length o ≡ 0 → ⊥) → length o ≤ 32_768
-    → v ≡ counted (record { records = 0 }) (read (ctx 0 (depthOf 16) 0 [] (entries (take (0 - 0) (drop 0 o))) []) 0 o) → v ≡ judgeAnswer (judge o)
-unfolding outermost depthOf
-judge-items o v z h e =
-    e ∙ rw (no-entries o) (from-nothing (read outermost 0 o)) ∙ ap judgeAnswer (sym (judge-read o (omega arith) h))
-
-pub ruleset judge-ways = (judge-empty, judge-large, judge-items)

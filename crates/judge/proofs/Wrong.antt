@@ -1,4 +1,4 @@
--- Wrong answers of `judge`, each refuted at a closed object by what its contract says.
+-- Wrong answers of `judge` and `judge_inside`, each refuted at closed octets by what its contract says.
 use mathlib.Core.Path.{_≡_, refl, sym, ap, _∙_}
 use mathlib.Core.List.{List, [], _∷_}
 use Prim.Native.Nat.{ℕ}
@@ -18,6 +18,7 @@ use Rattle.format.specs.Answers.{refusal, wrongValue}
 use Rattle.format.specs.Tree.{count}
 use Rattle.format.specs.Judge.{isKnown, isItems, isTokens, isText, isValue, wrongIn, isTop, allowed, latest, stageAfter, limit, notAbove, shown, ofTop, rule, valueRule, first, kindRules, itemRules, own, late, lateBefore, lateAfter, broken, within, waits, next, unless, followed, joined, byKind, items, outermost, judge}
 use Rattle.format.specs.Calls.{judgeAnswer}
+use Rattle.judge.specs.Inside.{beginning, judgeInside}
 
 -- the top alone
 abbrev top : List ℕ
@@ -85,3 +86,33 @@ field-forgotten h = let z : _≡_ {A = ℕ} 0 3 = ap fieldOf (h ∙ answers .ofM
 
 pub last-field-told : NotRead (wrongValue 2 4) ≡ judgeAnswer (judge mistimed) → ⊥
 last-field-told h = let z : _≡_ {A = ℕ} 4 3 = ap fieldOf (h ∙ answers .ofMistimed) in omega arith
+
+-- ---- judge_inside
+
+-- a short name whose CDATA is a token octet, and an element with nothing in it
+abbrev tokenInName : List ℕ
+tokenInName = 0x01 ∷ 0x01 ∷ 0x01 ∷ []
+
+abbrev element : List ℕ
+element = 0x29 ∷ 0x00 ∷ []
+
+record InsideAnswers : Type 0 where
+  ofToken : judgeAnswer (judgeInside 0x10 2 tokenInName) ≡ NotRead (refusal 12 0)
+  ofDeep : judgeAnswer (judgeInside 0x28 16 element) ≡ NotRead (refusal 7 0)
+  ofNone : judgeAnswer (judgeInside 0x28 2 []) ≡ Records (record { records = 0 })
+
+inside-answers : InsideAnswers
+unfolding among value headerSize bodySize layout token character single goesOn utf8 text cut entries filled isTable entry orItself stands expanded present covers covered starts shownLength rows kindIn known attribute fits count isKnown isItems isTokens isText isValue wrongIn isTop allowed latest stageAfter limit notAbove shown ofTop rule valueRule first kindRules itemRules own late lateBefore lateAfter broken within waits next unless followed joined byKind items beginning judgeInside judgeAnswer
+inside-answers = record { ofToken = refl; ofDeep = refl; ofNone = refl }
+
+-- a token without a table
+pub token-accepted : (c : Counts) → Records c ≡ judgeAnswer (judgeInside 0x10 2 tokenInName) → ⊥
+token-accepted c h = differ (refusal 12 0) c (sym (h ∙ inside-answers .ofToken))
+
+-- the depth is forgotten
+pub depth-forgotten : (c : Counts) → Records c ≡ judgeAnswer (judgeInside 0x28 16 element) → ⊥
+depth-forgotten c h = differ (refusal 7 0) c (sym (h ∙ inside-answers .ofDeep))
+
+-- no items are refused, as an object of no octets is
+pub none-refused : (r : Refusal) → NotRead r ≡ judgeAnswer (judgeInside 0x28 2 []) → ⊥
+none-refused r h = differ r (record { records = 0 }) (h ∙ inside-answers .ofNone)

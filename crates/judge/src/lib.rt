@@ -1,7 +1,9 @@
-// The judgement of an object.
+// The judgement of an object, and of items by themselves.
 ghost use mathlib.Core.Path.{_≡_};
+ghost use Prim.Native.Nat.{_-_};
 ghost use Rattle.format.specs.Judge.{judge};
 ghost use Rattle.format.specs.Calls.{judgeAnswer};
+ghost use Rattle.judge.specs.Inside.{judgeInside};
 
 mod items;
 mod late;
@@ -47,18 +49,46 @@ enum Item {
     },
 }
 
-// The whole judgement of an object: the refusal of document 01's table, with its place and field, or how many records the object has. Nothing is written.
+// How many levels of elements may begin in an element of a depth.
+fn levels_in(depth: u8) -> u8
+    ensures { λ r. ⌜ r ≡ 16 - depth ⌝ }
+{
+    if depth < 16 {
+        return 16 - depth;
+    }
+    0
+}
+
+// Items of an element of a tag and a depth, judged by themselves, where no token table is in force: the refusal of document 01's table, with its place and field,
+// or how many records they have. Nothing is written.
+pub fn judge_inside(element: u8, depth: u8, octets: &[u8]) -> ReadAnswer
+    ensures { λ r. ⌜ r ≡ judgeAnswer (judgeInside element depth (now (octets .entry))) ⌝ }
+{
+    if octets.len() > 32_768 {
+        return ReadAnswer::NotRead(refuse(1, 0));
+    }
+    let none = &octets[0..0];
+    let marks = tokens_of(none);
+    let shows = characters_of(none);
+    let left = levels_in(depth);
+    read_items(
+        octets,
+        0,
+        element,
+        left,
+        Counts { records: 0 },
+        none,
+        marks,
+        &shows,
+    )
+}
+
+// The whole judgement of an object, which counts as an element with the tag 0 and the depth 0, whose one item is the top.
 pub fn judge(object: &[u8]) -> ReadAnswer
     ensures { λ r. ⌜ r ≡ judgeAnswer (judge (now (object .entry))) ⌝ }
 {
     if object.len() == 0 {
         return ReadAnswer::NotRead(refuse(1, 0));
     }
-    if object.len() > 32_768 {
-        return ReadAnswer::NotRead(refuse(1, 0));
-    }
-    let none = &object[0..0];
-    let marks = tokens_of(none);
-    let shows = characters_of(none);
-    read_items(object, 0, 0, 16, Counts { records: 0 }, none, marks, &shows)
+    judge_inside(0, 0, object)
 }
