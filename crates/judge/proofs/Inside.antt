@@ -21,6 +21,7 @@ use Rattle.format.specs.Tree.Items.{item}
 use Rattle.format.specs.Judge.{Judged, Context, ofTop, rule, kindRules, itemRules, own, lateBefore, lateAfter, broken, within, next, unless, byKind, items, read, outermost, judge}
 use Rattle.format.specs.Judge.Judged.{refused, accepted}
 use Rattle.format.specs.Calls.{judgeAnswer}
+use Rattle.format.proofs.Rules.{unless-accepted}
 use Rattle.judge.specs.Says.{ctx, depthOf, counted}
 use Rattle.judge.specs.Inside.{beginning, judgeInside}
 use Rattle.judge.proofs.AllWays.{no-entries}
@@ -54,7 +55,7 @@ deep-same (suc k) parent depth depth′ stage seen table waiting d d′ at (tag 
     deeper : (n : ℕ) → leb n 16 ≡ false → leb (suc n) 16 ≡ false
     deeper n q = lt-leb (suc n) 16 (omega (arith, leb-false n 16 q))
 
-level-same : (element depth : ℕ) (o : List ℕ) → read (ctx element (depthOf (16 - depth)) 0 [] [] []) 0 o ≡ read (beginning element depth) 0 o
+pub level-same : (element depth : ℕ) (o : List ℕ) → read (ctx element (depthOf (16 - depth)) 0 [] [] []) 0 o ≡ read (beginning element depth) 0 o
 unfolding depthOf beginning
 level-same element depth o = go (leb depth 16) refl
   where
@@ -63,6 +64,11 @@ level-same element depth o = go (leb depth 16) refl
     go false q =
         let l = leb-false depth 16 q in
         deep-same (suc (length o)) element (17 - (16 - depth)) (suc depth) 0 [] [] [] (lt-leb (17 - (16 - depth)) 16 (omega arith)) (lt-leb (suc depth) 16 (omega arith)) 0 o
+
+-- what is accepted was read
+pub inside-read : (element depth : ℕ) (o : List ℕ) (t : Items) → judgeInside element depth o ≡ accepted t → read (beginning element depth) 0 o ≡ accepted t
+unfolding judgeInside
+inside-read element depth o t h = unless-accepted (rule 1 0 (leb (length o) 32_768)) (read (beginning element depth) 0 o) t h
 
 -- ---- judge_inside
 

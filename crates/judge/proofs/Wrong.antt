@@ -1,7 +1,7 @@
 -- Wrong answers of `judge` and `judge_inside`, each refuted at closed octets by what its contract says.
 use mathlib.Core.Path.{_≡_, refl, sym, ap, _∙_}
 use mathlib.Core.List.{List, [], _∷_}
-use Prim.Native.Nat.{ℕ}
+use Prim.Native.Nat.{ℕ, _-_}
 use native.Mathlib.Omega.{arith}
 use Rattle.octets.specs.Numbers.{among, value}
 use Rattle.octets.specs.Header.{headerSize, bodySize}
@@ -116,3 +116,13 @@ depth-forgotten c h = differ (refusal 7 0) c (sym (h ∙ inside-answers .ofDeep)
 -- no items are refused, as an object of no octets is
 pub none-refused : (r : Refusal) → NotRead r ≡ judgeAnswer (judgeInside 0x28 2 []) → ⊥
 none-refused r h = differ r (record { records = 0 }) (h ∙ inside-answers .ofNone)
+
+-- ---- levels_in
+
+-- a level more than rule 7 has
+pub level-more : 16 - 1 ≡ 16 → ⊥
+level-more h = omega arith
+
+-- levels below the last depth
+pub levels-below : 16 - 17 ≡ 1 → ⊥
+levels-below h = omega arith

@@ -50,7 +50,7 @@ enum Item {
 }
 
 // How many levels of elements may begin in an element of a depth.
-fn levels_in(depth: u8) -> u8
+pub fn levels_in(depth: u8) -> u8
     ensures { λ r. ⌜ r ≡ 16 - depth ⌝ }
 {
     if depth < 16 {

@@ -12,5 +12,6 @@ pub mod Parts
 pub mod Adding
 pub mod Measuring
 pub mod WholeSizes
+pub mod InsideSizes
 pub mod Surveying
 pub mod Missurveyed

@@ -6,7 +6,8 @@ use native.Mathlib.Omega.{arith}
 use lib.ListN.{length, getD}
 use borrow.Author.Tests.{lt-leb}
 use Rattle.octets.specs.Numbers.{digits, value}
-use Rattle.octets.specs.Header.{headerSize, bodySize}
+use Rattle.octets.specs.Header.{headerSize, bodySize, lengthField, framed}
+use Rattle.octets.specs.Counts.{asOctets}
 use Rattle.octets.specs.declared.Lies.the-variants.{Outside, Between}
 use Rattle.octets.proofs.Tests.{never}
 use Rattle.values.specs.declared.Kind.the-variants.{HoldsItems, HoldsTokens, HoldsNumber}
@@ -18,11 +19,21 @@ use Rattle.values.specs.Calls.{asKnown, defaultOctets}
 use Rattle.format.specs.declared.Refusal.{Refusal}
 use Rattle.format.specs.Answers.{refusal, wrongValue}
 use Rattle.format.specs.Tree.{Items, count}
+use Rattle.format.specs.Tree.Items.{end, item}
+use Rattle.format.specs.Judge.{isItems}
 use Rattle.format.specs.Judge.Judged.{refused, accepted}
+use Rattle.format.specs.Meaning.{opens, maybe}
+use Rattle.format.specs.Loaded.{stored, storeIn}
 use Rattle.format.specs.Calls.{Lent}
+use Rattle.survey.specs.declared.measure.Measured.{Measured}
+use Rattle.survey.specs.declared.measure.Measured.the-variants.{Over, Sizes}
+use Rattle.survey.specs.declared.Needed.{Needed}
+use Rattle.survey.specs.declared.Needed.the-variants.{Refused, Takes}
 use Rattle.survey.specs.declared.Standing.the-variants.{Bad, Misfit, Fits}
-use Rattle.survey.specs.Normal.{valueOctets, writtenAs}
-use Rattle.survey.specs.Survey.{surveyed}
+use Rattle.survey.specs.Normal.{framedSize, valueOctets, writtenAs, itemOctets, normalSize}
+use Rattle.survey.specs.Sizes.{sizesOf}
+use Rattle.survey.specs.Measure.{measuredIn}
+use Rattle.survey.specs.Survey.{surveyed, neededBy}
 use Rattle.survey.specs.Places.{tableWithin, firstTable, tableBody, spanWithin, spanOfTag}
 
 -- ---- survey
@@ -47,6 +58,40 @@ store-before-places lent t h e =
     let w : Misfit (refusal 14 0) ≡ Misfit (refusal 15 0) = rw (lt-leb (count t) (lent .records) h) at e in
     let y : refusal 14 0 ≡ refusal 15 0 = cc in
     absurd (omega (arith, ap (λ x. x .number) y))
+
+-- ---- survey_inside
+
+-- what is refused takes nothing
+pub refused-taken : (element n : ℕ) (m : Measured) (r : Refusal) → neededBy element (refused r) ≡ Takes n m → ⊥
+unfolding neededBy
+refused-taken element n m r h = let w : Refused r ≡ Takes n m = h in never (cc)
+
+-- an attribute with its default, and with another value
+abbrev recommended : (body : List ℕ) → Items
+recommended body = item 0x83 2 body end end
+
+record Taken : Type 0 where
+  ofDefault : measuredIn 0x1C (recommended (1 ∷ [])) ≡ Sizes (asOctets 1) (asOctets 0)
+  ofOther : measuredIn 0x1C (recommended (2 ∷ [])) ≡ Sizes (asOctets 1) (asOctets 3)
+
+measured : Taken
+unfolding measuredIn sizesOf storeIn stored normalSize itemOctets writtenAs valueOctets maybe opens isItems framed lengthField defaultOctets defaultIn defaults known rows kindIn attribute fits width meant octetsOf digits value
+measured = record { ofDefault = refl; ofOther = refl }
+
+octetsIn : Needed → ℕ
+octetsIn (Refused r) = 0
+octetsIn (Takes n Over) = 0
+octetsIn (Takes n (Sizes s o)) = o .0
+
+-- a default counted in the normal form
+pub default-counted : neededBy 0x1C (accepted (recommended (1 ∷ []))) ≡ Takes 1 (Sizes (asOctets 1) (asOctets 3)) → ⊥
+unfolding neededBy octetsIn
+default-counted h = let z : _≡_ {A = ℕ} 3 0 = sym (ap octetsIn h) ∙ ap (λ m. octetsIn (Takes (count (recommended (1 ∷ []))) m)) (measured .ofDefault) in omega arith
+
+-- a header not counted
+pub header-uncounted : neededBy 0x1C (accepted (recommended (2 ∷ []))) ≡ Takes 1 (Sizes (asOctets 1) (asOctets 1)) → ⊥
+unfolding neededBy octetsIn
+header-uncounted h = let z : _≡_ {A = ℕ} 1 3 = sym (ap octetsIn h) ∙ ap (λ m. octetsIn (Takes (count (recommended (2 ∷ []))) m)) (measured .ofOther) in omega arith
 
 -- ---- find_item
 

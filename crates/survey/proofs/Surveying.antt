@@ -1,5 +1,5 @@
 -- The ways through survey: refused by the judgement or accepted, measured, and found to suffice or not.
-use mathlib.Core.Path.{_≡_, refl, sym, ap, _∙_}
+use mathlib.Core.Path.{_≡_, refl, sym, ap, ap₂, _∙_}
 use mathlib.Core.Bool.{Bool, true, false, cond, _&&_, and-false}
 use mathlib.Core.List.{List}
 use Prim.Native.Nat.{ℕ, _≤_, _<_, min}
@@ -21,11 +21,14 @@ use Rattle.format.specs.Judge.Judged.{refused, accepted}
 use Rattle.format.specs.Meaning.{normalOf}
 use Rattle.format.specs.Loaded.{storeOf}
 use Rattle.format.specs.Calls.{judgeAnswer, Lent, roomy, storedWithin}
+use Rattle.judge.specs.Inside.{judgeInside}
+use Rattle.reader.proofs.Reading.{was-refused, was-accepted}
 use Rattle.survey.specs.declared.measure.Measured.{Measured}
 use Rattle.survey.specs.declared.measure.Measured.the-variants.{Over, Sizes}
+use Rattle.survey.specs.declared.Needed.the-variants.{Refused, Takes}
 use Rattle.survey.specs.declared.Standing.the-variants.{Bad, Misfit, Fits}
-use Rattle.survey.specs.Measure.{measuredOf, Measures}
-use Rattle.survey.specs.Survey.{sufficient, surveyed}
+use Rattle.survey.specs.Measure.{measuredOf, Measures, MeasuresInside}
+use Rattle.survey.specs.Survey.{sufficient, surveyed, neededBy}
 
 -- ---- measured
 
@@ -93,6 +96,21 @@ module _ (o : List ℕ) (v : ReadAnswer) (e : v ≡ judgeAnswer (judge o)) (lent
       pub survey-small : b ≡ false → (x : Refusal) → x ≡ refusal 15 0 → Misfit x ≡ surveyed lent (judge o)
       unfolding surveyed
       survey-small q x y = rw (y, so .judged, le-leb (count (so .tree)) (lent .records) (omega (arith, so .many)), sym (measured o m g b lent d (so .tree) (so .judged)), q)
+
+-- ---- survey_inside
+
+module _ (element depth : ℕ) (o : List ℕ) (v : ReadAnswer) (e : v ≡ judgeAnswer (judgeInside element depth o)) where
+  pub needed-refused : (r : Refusal) → v ≡ NotRead r → Refused r ≡ neededBy element (judgeInside element depth o)
+  unfolding neededBy
+  needed-refused r f = rw (was-refused (judgeInside element depth o) r (sym f ∙ e))
+
+  pub needed-items : (c : Counts) → v ≡ Records c → (m : Measured) → MeasuresInside element depth o m → Takes (c .records) m ≡ neededBy element (judgeInside element depth o)
+  unfolding neededBy MeasuresInside
+  needed-items c f m g =
+      let w = was-accepted (judgeInside element depth o) c (sym f ∙ e) in
+      ap₂ (λ n x. Takes n x) (w .many) (g (w .tree) (w .is)) ∙ sym (ap (neededBy element) (w .is))
+
+pub ruleset needed-ways = (needed-refused, needed-items)
 
 -- ---- is_sufficient
 

@@ -47,7 +47,7 @@ all-taken T (some k) body h = rw h
 
 -- ---- the store
 
-room-item : (T : Entries) (p tag at : ℕ) (body : List ℕ) (x u : Items) → isValue (known p tag) body ≡ true → roomIn T tag x ≡ length (storeIn T tag x) → roomIn T p u ≡ length (storeIn T p u)
+pub room-item : (T : Entries) (p tag at : ℕ) (body : List ℕ) (x u : Items) → isValue (known p tag) body ≡ true → roomIn T tag x ≡ length (storeIn T tag x) → roomIn T p u ≡ length (storeIn T p u)
     → roomIn T p (item tag at body x u) ≡ length (storeIn T p (item tag at body x u))
 unfolding roomIn storeIn
 room-item T p tag at body x u v inside later = rw (length-append, inside, later, all-taken T (known p tag) body v) (go (eqb tag 4) (opens tag))

@@ -2,6 +2,6 @@ pub mod Normal
 pub mod Places
 pub mod First
 pub mod Looks
-pub mod Measure
 pub mod Sizes
+pub mod Measure
 pub mod Survey

@@ -1,5 +1,6 @@
 -- An object held against what is lent to it, before anything is written: whether it is accepted, and whether its records, texts and values and its normal form fit.
 use mathlib.Core.Bool.{Bool, false, cond, _&&_}
+use Prim.Native.Nat.{ℕ}
 use lib.Dec.{leb}
 use Rattle.octets.specs.declared.counts.Octets.{Octets}
 use Rattle.octets.specs.Counts.{octetsWithin}
@@ -10,8 +11,11 @@ use Rattle.format.specs.Judge.Judged.{refused, accepted}
 use Rattle.format.specs.Calls.{Lent, storedWithin}
 use Rattle.survey.specs.declared.measure.Measured.{Measured}
 use Rattle.survey.specs.declared.measure.Measured.the-variants.{Over, Sizes}
+use Rattle.survey.specs.declared.Needed.{Needed}
+use Rattle.survey.specs.declared.Needed.the-variants.{Refused, Takes}
 use Rattle.survey.specs.declared.Standing.{Standing}
 use Rattle.survey.specs.declared.Standing.the-variants.{Bad, Misfit, Fits}
+use Rattle.survey.specs.Measure.{measuredIn}
 
 -- sizes that lent memory has
 unfoldable pub sufficient : Measured → (store room : Octets) → Bool
@@ -22,3 +26,8 @@ sufficient (Sizes stored octets) store room = octetsWithin stored store && octet
 unfoldable pub surveyed : Lent → Judged → Standing
 surveyed lent (refused r) = Bad r
 surveyed lent (accepted t) = cond (leb (count t) (lent .records)) (cond (storedWithin lent t) Fits (Misfit (refusal 15 0))) (Misfit (refusal 14 0))
+
+-- what items need that are judged by themselves in an element of a tag: 14 and 15 are asked of all that memory is to hold, so nothing is compared here
+unfoldable pub neededBy : ℕ → Judged → Needed
+neededBy element (refused r) = Refused r
+neededBy element (accepted t) = Takes (count t) (measuredIn element t)

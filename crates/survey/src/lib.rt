@@ -2,20 +2,23 @@
 // object, for whoever walks over an object again, and whether an item is written in normal form. No call asks anything of its arguments, and none is lent memory to write to.
 ghost use mathlib.Core.Path.{_≡_};
 ghost use Rattle.format.specs.Judge.{judge};
-ghost use Rattle.survey.specs.Survey.{sufficient, surveyed};
+ghost use Rattle.judge.specs.Inside.{judgeInside};
+ghost use Rattle.survey.specs.Survey.{sufficient, surveyed, neededBy};
 
 mod find;
 mod measure;
 mod table;
 mod written;
 
-use crate::measure::Measured;
 use crate::measure::measure;
+use crate::measure::measure_inside;
 pub use find::find_item;
 use format::ReadAnswer;
 use format::Refusal;
 use format::refuse;
 use judge::judge;
+use judge::judge_inside;
+pub use measure::Measured;
 use octets::Octets;
 pub use table::table_of;
 pub use written::value_size;
@@ -26,6 +29,12 @@ pub enum Standing {
     Bad(Refusal),
     Misfit(Refusal),
     Fits,
+}
+
+// What items need that are judged by themselves: refused, or places for so many records and so much of a store and of an object.
+pub enum Needed {
+    Refused(Refusal),
+    Takes { records: usize, sizes: Measured },
 }
 
 // Where the tag of an item lies that is looked for, if there is one.
@@ -73,5 +82,18 @@ pub fn survey(object: &[u8], places: usize, store: Octets, room: Octets) -> Stan
             }
             Standing::Misfit(refuse(15, 0))
         }
+    }
+}
+
+// Items of an element of a tag and a depth, by themselves, where there is no token table.
+pub fn survey_inside(element: u8, depth: u8, octets: &[u8]) -> Needed
+    ensures { λ r. ⌜ r ≡ neededBy element (judgeInside element depth (now (octets .entry))) ⌝ }
+{
+    match judge_inside(element, depth, octets) {
+        ReadAnswer::NotRead(refusal) => Needed::Refused(refusal),
+        ReadAnswer::Records(counts) => Needed::Takes {
+            records: counts.records,
+            sizes: measure_inside(element, depth, octets),
+        },
     }
 }

@@ -8,10 +8,11 @@ ghost use lib.ListN.{length};
 ghost use Rattle.text.specs.Tokens.{entries};
 ghost use Rattle.text.specs.Weighing.{Widths};
 ghost use Rattle.survey.specs.Normal.{framedSize, valueOctets};
-ghost use Rattle.survey.specs.Measure.{Measures};
+ghost use Rattle.survey.specs.Measure.{Measures, MeasuresInside};
 ghost use Rattle.survey.specs.Sizes.{taken, partIn, sizesOf, ItemMeasured, ItemsMeasured};
 use crate::table::table_of;
 use crate::written::value_size;
+use judge::levels_in;
 use octets::Lies;
 use octets::Octets;
 use octets::header_size;
@@ -170,4 +171,14 @@ pub fn measure(object: &[u8]) -> Measured
     let table = table_of(object);
     let widths = widths_of(table);
     measure_items(0, 16, object, table, &widths)
+}
+
+// Items of an element of a tag and a depth, by themselves: there is no token table. They are accepted where they stand.
+pub fn measure_inside(element: u8, depth: u8, octets: &[u8]) -> Measured
+    ensures { λ r. ⌜ MeasuresInside element depth (now (octets .entry)) r ⌝ }
+{
+    let none = &octets[0..0];
+    let widths = widths_of(none);
+    let left = levels_in(depth) as usize;
+    measure_items(element, left, octets, none, &widths)
 }
