@@ -31,3 +31,10 @@ pub mod Extents
 pub mod AtSite
 pub mod Gaps
 pub mod Removed
+pub mod Storing
+pub mod Pieces
+pub mod Laying
+pub mod Summed
+pub mod WholeLaid
+pub mod Surveyed
+pub mod Mistaken

@@ -9,3 +9,5 @@ pub mod Lent
 pub mod Resites
 pub mod Removal
 pub mod Removals
+pub mod Store
+pub mod Lay

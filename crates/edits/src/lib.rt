@@ -1,6 +1,6 @@
-// Edits of a tree in lent memory (request 2026-06): the three edits, what the calls answer and leave (specs/), and that after any run of edits memory holds what a
-// tree built afresh would take (proofs/). Each call holds memory first, judges with nothing written, and only then changes what it was lent. None asks anything of
-// its arguments.
+// Edits of a tree in lent memory (request 2026-06): `take_in` lays the loaded tree of an object there, the three edits change it. What the calls answer and leave
+// stands in specs/, that after any run of edits memory holds what a tree built afresh would take in proofs/. Each call judges with nothing written, an edit holds
+// memory first, and only then is changed what was lent. None asks anything of its arguments.
 ghost use mathlib.Core.Path.{_≡_};
 ghost use Rattle.format.specs.declared.ReadAnswer.the-variants.{NotRead};
 ghost use Rattle.format.specs.Answers.{refusal};
@@ -8,13 +8,17 @@ use format::ReadAnswer;
 use format::refuse;
 
 mod extent;
+mod lay;
 mod moving;
 mod raising;
 mod removing;
 mod resite;
 mod shifting;
+mod store;
+mod taking;
 
 pub use removing::remove;
+pub use taking::take_in;
 
 fn refused(number: u8) -> ReadAnswer
     ensures { λ r. ⌜ r ≡ NotRead (refusal number 0) ⌝ }

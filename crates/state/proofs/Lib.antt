@@ -5,12 +5,5 @@ pub mod Order
 pub mod BodySizes
 pub mod SizesHeld
 pub mod Checks
-pub mod Storing
-pub mod Pieces
-pub mod Laying
-pub mod Summed
-pub mod WholeLaid
-pub mod Surveyed
 pub mod Seen
 pub mod Wrong
-pub mod Mistaken
