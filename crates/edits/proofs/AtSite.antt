@@ -100,7 +100,7 @@ module _ (n : ℕ) (m : Memory) (t : Items) (held : Held n m t) {t′ : Items} {
     field-inside = length-map (own ∷ xs) field ∙ ap suc inside-long
 
     -- the item's own number
-    field-here : getD l (h .number) 0 ≡ field own
+    pub field-here : getD l (h .number) 0 ≡ field (recordHere h tag body)
     field-here =
         let whole : l ≡ map field (reach .pre) ++ (field own ∷ ((map field xs ++ map field (ys ++ reach .post)) ++ drop n l)) =
         sym (take-append-drop n l) ∙ (ap (λ z. z ++ drop n l) field-is ∙ append-assoc (map field (reach .pre)) (map field (own ∷ xs) ++ map field (ys ++ reach .post)) (drop n l)) in
@@ -179,12 +179,12 @@ module _ (n : ℕ) (m : Memory) (t : Items) (held : Held n m t) {t′ : Items} {
   store-before : length (stored-at .pre) ≡ h .place
   store-before = omega (arith, stored-at .long)
 
-  pub site-within : h .place + length part ≤ length (packedStore t)
+  pub site-within : h .place + length (share (h .spot .parent) tag body x) ≤ length (packedStore t)
   site-within =
       let rest = storeIn [] (h .spot .parent) y ++ stored-at .post in
       omega (arith, ap length store-split, length-append (stored-at .pre) (part ++ rest), length-append part rest, store-before)
 
-  pub site-span : between (m .store) (h .place) (h .place + length part) ≡ part
+  site-span : between (m .store) (h .place) (h .place + length part) ≡ part
   site-span =
       let s = held-store n m t held in
       part-second (m .store) (length (packedStore t)) (stored-at .pre) part (storeIn [] (h .spot .parent) y ++ stored-at .post) (s .1 ∙ store-split) (h .place)
@@ -197,6 +197,12 @@ module _ (n : ℕ) (m : Memory) (t : Items) (held : Held n m t) {t′ : Items} {
 
   pub site-parent : getD (m .lists .parents) (h .number) 0 ≡ h .up
   site-parent = seen .parent
+
+  pub site-tag : getD (m .lists .tags) (h .number) 0 ≡ tag
+  site-tag = seen .own
+
+  pub site-element : getD (m .lists .tags) (getD (m .lists .parents) (h .number) 0) 0 ≡ h .spot .parent
+  site-element = ap (λ j. getD (m .lists .tags) j 0) (seen .parent) ∙ seen .element
 
   pub site-body : getD (m .bodies) (h .number) 0 ≡ bodySize (h .spot .parent) tag body x
   unfolding atTop
@@ -234,10 +240,9 @@ module _ (n : ℕ) (m : Memory) (t : Items) (held : Held n m t) {t′ : Items} {
       (getD (m .lists .sizes) (h .number) 0) (m .store) (getD (m .bodies) (h .number) 0)
       ≡ adds (h .spot .parent) tag body (bodySize (h .spot .parent) tag body x)
   site-adds =
-      let e : getD (m .lists .tags) (getD (m .lists .parents) (h .number) 0) 0 ≡ p = ap (λ k. getD (m .lists .tags) k 0) (seen .parent) ∙ seen .element in
       let s = field-here (λ r. r .start) (m .lists .starts) (λ j. refl) (enough n m t held .starts) in
       let z = field-here (λ r. r .size) (m .lists .sizes) (λ j. refl) (enough n m t held .sizes) in
-      (λ i. addedBy (e i) (seen .own i) (s i) (z i) (m .store) (site-body i)) ∙ go (opens tag) refl
+      (λ i. addedBy (site-element i) (site-tag i) (s i) (z i) (m .store) (site-body i)) ∙ go (opens tag) refl
     where
       go : (o : Bool) → opens tag ≡ o → added (own .start) (own .size) ≡ adds p tag body (bodySize p tag body x)
       go true o = added-open o

@@ -68,7 +68,7 @@ module _ (was is tag start : ℕ) (r : Listed) (e : r ≡ listedAs (known 0 tag)
 pub ruleset start-ways = (open-kept, nothing-moves, value-moves, nothing-moved, value-moved)
 
 -- ---- a part of a list, from its first number on
-part-later : (i n : ℕ) (l : List ℕ) (x : ℕ) → between (set l i x) (i + 1) n ≡ between l (i + 1) n
+pub part-later : (i n : ℕ) (l : List ℕ) (x : ℕ) → between (set l i x) (i + 1) n ≡ between l (i + 1) n
 part-later i n l x = ap (take (n - (i + 1))) (drop-set-lt (i + 1) l i x (omega arith))
 
 -- ---- the parents: what renumbering from record i on would make of the list is what it was to make from the first on

@@ -38,3 +38,6 @@ pub mod Summed
 pub mod WholeLaid
 pub mod Surveyed
 pub mod Mistaken
+pub mod TextLeaves
+pub mod NewTexts
+pub mod Replaced

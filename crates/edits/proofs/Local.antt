@@ -56,10 +56,15 @@ pub record TextAt (o : List ℕ) (t : Items) (i : ℕ) : Type 0 where
   pub stand : Stands (withBody o) topSite t i (recordAt i t)
   pub words : isText (known (stand .site .spot .parent) (stand .tag)) ≡ true
 
+-- its number is one of a record
+pub text-number : (t : Items) → ruled atTop t ≡ true → (i : ℕ) (o : List ℕ) → isThere (replace i o) t ≡ true → i < count t
+unfolding isThere
+text-number t r i o h = found-number t r i (text-zero (recordAt i t .parent) (firstTag (recordAt i t .items)) h)
+
 pub text-at : (t : Items) → ruled atTop t ≡ true → (i : ℕ) (o : List ℕ) → isThere (replace i o) t ≡ true → TextAt o t i
 unfolding isThere firstTag
 text-at t r i o h =
-    let g = at-record (withBody o) t r i (found-number t r i (text-zero (recordAt i t .parent) (firstTag (recordAt i t .items)) h)) in
+    let g = at-record (withBody o) t r i (text-number t r i o h) in
     record {
       stand = g;
       words = subst (λ p. isText (known p (g .tag)) ≡ true) (g .parent) (subst (λ u. isText (known (recordAt i t .parent) (firstTag u)) ≡ true) (g .is) h);

@@ -98,12 +98,12 @@ module _ (n i : ℕ) (tags depths parents starts sizes bodies : List ℕ) (c : C
         }
 
 -- ---- what memory holds
-heldAs-some : (o : Option Items) (used : ℕ) → heldAs o ≡ Upto used → (t : Items) × (o ≡ some t) × (length (packedStore t) ≡ used)
+pub heldAs-some : (o : Option Items) (used : ℕ) → heldAs o ≡ Upto used → (t : Items) × (o ≡ some t) × (length (packedStore t) ≡ used)
 unfolding heldAs
 heldAs-some none used h = let z : _≡_ {A = ℕ} 0 1 = cc in absurd (omega arith)
 heldAs-some (some t) used h = (t, refl, cc)
 
-held-count : (n : ℕ) (m : Memory) (t : Items) → treeHeld n m ≡ some t → count t ≡ n
+pub held-count : (n : ℕ) (m : Memory) (t : Items) → treeHeld n m ≡ some t → count t ≡ n
 held-count n m t holds = sym (whole-count (row (m .lists)) n (m .store) t (held n m t holds .whole))
 
 -- a record below the top of a tree that memory holds

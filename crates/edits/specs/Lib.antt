@@ -11,3 +11,4 @@ pub mod Removal
 pub mod Removals
 pub mod Store
 pub mod Lay
+pub mod Texts

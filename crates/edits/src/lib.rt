@@ -12,6 +12,7 @@ mod lay;
 mod moving;
 mod raising;
 mod removing;
+mod replacing;
 mod resite;
 mod shifting;
 mod store;
@@ -19,6 +20,7 @@ mod taking;
 
 pub use removing::remove;
 pub use taking::take_in;
+pub use replacing::replace_text;
 
 fn refused(number: u8) -> ReadAnswer
     ensures { λ r. ⌜ r ≡ NotRead (refusal number 0) ⌝ }
