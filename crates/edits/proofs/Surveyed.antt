@@ -30,7 +30,7 @@ use Rattle.edits.specs.Lay.{Layable, LaysTree}
 use Rattle.state.proofs.Packed.{accepted-store}
 
 -- what taking in holds an object against
-abbrev lentFor : OctetCount → Memory → Lent
+abbrev pub lentFor : OctetCount → Memory → Lent
 lentFor most m = record { records = placesIn m; store = sizeOf (m .store); room = most }
 
 -- the places, counted in the code
@@ -77,7 +77,7 @@ module _ (o : List ℕ) (os : Octets o) (most : OctetCount) (m : Memory) where
   lent = lentFor most m
 
   -- the loaded tree takes as much as the object does
-  same-overflow : (t : Items) → judge o ≡ accepted t → overflow most m (loadedOf t) ≡ first (rule 14 0 (leb (count t) (placesIn m)) ∷ rule 15 0 (storedWithin lent t) ∷ [])
+  pub same-overflow : (t : Items) → judge o ≡ accepted t → overflow most m (loadedOf t) ≡ first (rule 14 0 (leb (count t) (placesIn m)) ∷ rule 15 0 (storedWithin lent t) ∷ [])
   unfolding overflow storedWithin
   same-overflow t h = rw (loaded-count o t os h, accepted-store o t os h, loaded-means o t os h)
 

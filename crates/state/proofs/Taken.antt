@@ -75,3 +75,9 @@ pub fitting-tree : {most : OctetCount} {m : Memory} {u : Items} {j : Judged} →
 fitting-tree (crowded a) t q = let z : _≡_ {A = ℕ} 0 1 = cc in absurd (omega arith)
 fitting-tree (overfull a b) t q = let z : _≡_ {A = ℕ} 0 1 = cc in absurd (omega arith)
 fitting-tree {m = m} {u = u} (fits f g) t q = let e : u ≡ t = cc in (e, subst (Fits m) e f)
+
+-- and it is no longer in normal form than the room that is there for it
+pub fitting-room : {most : OctetCount} {m : Memory} {u : Items} {j : Judged} → Fitting most m u j → (t : Items) → j ≡ accepted t → length (encode (means [] u)) ≤ most .0
+fitting-room (crowded a) t q = let z : _≡_ {A = ℕ} 0 1 = cc in absurd (omega arith)
+fitting-room (overfull a b) t q = let z : _≡_ {A = ℕ} 0 1 = cc in absurd (omega arith)
+fitting-room (fits f g) t q = g

@@ -83,7 +83,7 @@ module _ (n : ℕ) (m : Memory) (r : Filled) (e : r ≡ heldAs (treeHeld n m)) w
   state-none q room a ae = let z = told-none (treeHeld n m) (sym q ∙ e) in record { answers = rw z ae; leaves = rw z refl }
 
   module _ (used : ℕ) (q : r ≡ Upto used) where
-    tree : (t : Items) × (treeHeld n m ≡ some t)
+    pub tree : (t : Items) × (treeHeld n m ≡ some t)
     tree = told-some (treeHeld n m) used (sym q ∙ e)
 
     abbrev t : Items
@@ -98,7 +98,7 @@ module _ (n : ℕ) (m : Memory) (r : Filled) (e : r ≡ heldAs (treeHeld n m)) w
         let z = is .given ∙ sym (tree .1) in
         record { answers = c .answers ∙ ap (writeAnswer (sizeOf room)) z; leaves = c .leaves ∙ ap (λ o. sets room 0 (writeOctets (sizeOf room) o)) z }
 
-    size-is : framedSize (getD (m .bodies) 0 0) ≡ length (encode (means [] t))
+    pub size-is : framedSize (getD (m .bodies) 0 0) ≡ length (encode (means [] t))
     size-is = let w = is .whole in top-size t (w .rules) (omega (arith, w .some, whole-count (row (m .lists)) n (m .store) t w)) (m .bodies) n (is .sizes)
 
     pub has-first : 0 < length (m .bodies)
@@ -108,7 +108,7 @@ module _ (n : ℕ) (m : Memory) (r : Filled) (e : r ≡ heldAs (treeHeld n m)) w
     state-more room h a ae =
         rw ae (as-held room room (NotWritten (refusal 15 0)) (too-many n (m .lists) (m .store) t (is .given) room (omega (arith, size-is, min-le-left (length room) 32_768))))
 
-    module _ (os : Octets (m .store)) (room : List ℕ) (h : framedSize (getD (m .bodies) 0 0) ≤ length room) where
+    module _ (room : List ℕ) (h : framedSize (getD (m .bodies) 0 0) ≤ length room) where
       fit : roomy (sizeOf room) (encode (means [] t)) ≡ true
       unfolding roomy
       fit = le-leb (length (encode (means [] t))) (min (length room) 32_768) (le-min (omega (arith, size-is)) (is .small))
@@ -119,9 +119,9 @@ module _ (n : ℕ) (m : Memory) (r : Filled) (e : r ≡ heldAs (treeHeld n m)) w
       pub state-ordered : Ordered 0 (itemsFrom (fourIn (m .lists)) n (m .store) 1 0 .0)
       state-ordered = tree-ordered n (m .lists) (m .store) t (is .given)
 
-      pub state-laid : AsLaid 0 (itemsFrom (fourIn (m .lists)) n (m .store) 1 0 .0)
+      pub state-laid : Octets (m .store) → AsLaid 0 (itemsFrom (fourIn (m .lists)) n (m .store) 1 0 .0)
       unfolding atTop
-      state-laid =
+      state-laid os =
           let told = ruled-told t atTop (located-bytes (m .store) os t (is .whole .located)) (is .whole .rules) in
           subst (AsLaid 0) (is .packs ∙ sym (tree-items n (m .lists) (m .store) t (is .given))) (loaded-laid [] sound-empty t atTop told 0)
 

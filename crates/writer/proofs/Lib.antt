@@ -11,6 +11,7 @@ pub mod Whole
 pub mod HeldSizes
 pub mod Heading
 pub mod HeldWritten
+pub mod Into
 pub mod Storing
 pub mod Pieces
 pub mod Laying

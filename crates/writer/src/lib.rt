@@ -7,7 +7,7 @@ ghost use Rattle.format.specs.Answers.{refusal};
 ghost use Rattle.format.specs.Judge.{judge};
 ghost use Rattle.format.specs.Calls.{lentBy, WriteClaim, NormaliseClaim};
 ghost use Rattle.format.specs.Lent.{lent};
-ghost use Rattle.state.specs.Taking.{WriteStateClaim};
+ghost use Rattle.state.specs.Taking.{memory, IntoClaim, WriteStateClaim};
 ghost use Rattle.survey.specs.declared.Standing.the-variants.{Fits};
 ghost use Rattle.survey.specs.Survey.{surveyed};
 
@@ -24,6 +24,7 @@ use crate::item::framed_size;
 use crate::lay::lay;
 use crate::size::Sized;
 use crate::size::size_items;
+use format::ReadAnswer;
 use format::WriteAnswer;
 use format::refuse;
 use octets::Octets;
@@ -31,6 +32,7 @@ use reader::places;
 use records::is_well_formed;
 use state::Filled;
 use state::held;
+use state::take_in;
 use survey::Standing;
 use survey::survey;
 
@@ -188,6 +190,57 @@ pub fn write_state(
             }
             let reached = emit_sized(
                 count,
+                tags,
+                depths,
+                starts,
+                sizes,
+                bodies,
+                store,
+                0,
+                1,
+                0,
+                room,
+                0,
+                true,
+            );
+            WriteAnswer::Octets(Octets(reached.end))
+        }
+    }
+}
+
+// An object taken in and written at once: memory holds its loaded tree then, and `room` its normal form. On a refusal (1 to 13 of the object, 14, 15) all that is
+// lent is as it was.
+pub fn normalise_into(
+    object: &[u8],
+    tags: &mut [u8],
+    kinds: &mut [u8],
+    depths: &mut [u8],
+    parents: &mut [u16],
+    starts: &mut [u16],
+    sizes: &mut [u16],
+    bodies: &mut [u16],
+    store: &mut [u8],
+    room: &mut [u8],
+) -> WriteAnswer
+    ensures { λ r. ⌜ IntoClaim (now (object .entry)) (memory (tags .entry) (kinds .entry) (depths .entry) (parents .entry) (starts .entry) (sizes .entry) (bodies .entry) (store .entry)) (memory (tags .exit) (kinds .exit) (depths .exit) (parents .exit) (starts .exit) (sizes .exit) (bodies .exit) (store .exit)) (now (room .entry)) (now (room .exit)) r ⌝ }
+{
+    let most = Octets(room.len());
+    match take_in(
+        object,
+        tags,
+        kinds,
+        depths,
+        parents,
+        starts,
+        sizes,
+        bodies,
+        store,
+        most,
+    ) {
+        ReadAnswer::NotRead(refusal) => WriteAnswer::NotWritten(refusal),
+        ReadAnswer::Records(counts) => {
+            let reached = emit_sized(
+                counts.records,
                 tags,
                 depths,
                 starts,

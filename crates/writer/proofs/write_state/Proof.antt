@@ -36,7 +36,7 @@ returns c =
 
 emit-sized-requires : tie.Need-emit-sized-requires
 emit-sized-requires c κs =
-    ((state-holding _ (record { lists = lent (c .before .before .before .before .before .before .before .before .before .before .before .before .before .before .before .before .before .args .tags) (c .before .before .before .before .before .before .before .before .before .before .before .before .before .before .before .before .before .args .kinds) (c .before .before .before .before .before .before .before .before .before .before .before .before .before .before .before .before .before .args .depths) (c .before .before .before .before .before .before .before .before .before .before .before .before .before .before .before .before .before .args .parents) (c .before .before .before .before .before .before .before .before .before .before .before .before .before .before .before .before .before .args .starts) (c .before .before .before .before .before .before .before .before .before .before .before .before .before .before .before .before .before .args .sizes); bodies = c .before .before .before .before .before .before .before .before .before .before .before .before .before .before .before .before .before .args .bodies .now; store = c .before .before .before .before .before .before .before .before .before .before .before .before .before .before .before .before .before .args .store .now }) _ (c .before .before .before .before .before .before .before .held .ensures) _ (c .before .before .before .before .before .enum-told2 .given .1) (λ i. omega (arith, c .before .before .before .before .before .before .before .before .before .shared-slice-known8 .given i)) (c .before .before .before .before .before .before .before .before .before .before .before .before .before .before .before .before .before .args .room .now) (omega (arith, c .before .if1 .left, c .before .before .before .framed-size .ensures)), state-ordered _ (record { lists = lent (c .before .before .before .before .before .before .before .before .before .before .before .before .before .before .before .before .before .args .tags) (c .before .before .before .before .before .before .before .before .before .before .before .before .before .before .before .before .before .args .kinds) (c .before .before .before .before .before .before .before .before .before .before .before .before .before .before .before .before .before .args .depths) (c .before .before .before .before .before .before .before .before .before .before .before .before .before .before .before .before .before .args .parents) (c .before .before .before .before .before .before .before .before .before .before .before .before .before .before .before .before .before .args .starts) (c .before .before .before .before .before .before .before .before .before .before .before .before .before .before .before .before .before .args .sizes); bodies = c .before .before .before .before .before .before .before .before .before .before .before .before .before .before .before .before .before .args .bodies .now; store = c .before .before .before .before .before .before .before .before .before .before .before .before .before .before .before .before .before .args .store .now }) _ (c .before .before .before .before .before .before .before .held .ensures) _ (c .before .before .before .before .before .enum-told2 .given .1) (λ i. omega (arith, c .before .before .before .before .before .before .before .before .before .shared-slice-known8 .given i)) (c .before .before .before .before .before .before .before .before .before .before .before .before .before .before .before .before .before .args .room .now) (omega (arith, c .before .if1 .left, c .before .before .before .framed-size .ensures)), omega arith, omega arith), ((λ q. state-laid _ (record { lists = lent (c .before .before .before .before .before .before .before .before .before .before .before .before .before .before .before .before .before .args .tags) (c .before .before .before .before .before .before .before .before .before .before .before .before .before .before .before .before .before .args .kinds) (c .before .before .before .before .before .before .before .before .before .before .before .before .before .before .before .before .before .args .depths) (c .before .before .before .before .before .before .before .before .before .before .before .before .before .before .before .before .before .args .parents) (c .before .before .before .before .before .before .before .before .before .before .before .before .before .before .before .before .before .args .starts) (c .before .before .before .before .before .before .before .before .before .before .before .before .before .before .before .before .before .args .sizes); bodies = c .before .before .before .before .before .before .before .before .before .before .before .before .before .before .before .before .before .args .bodies .now; store = c .before .before .before .before .before .before .before .before .before .before .before .before .before .before .before .before .before .args .store .now }) _ (c .before .before .before .before .before .before .before .held .ensures) _ (c .before .before .before .before .before .enum-told2 .given .1) (λ i. omega (arith, c .before .before .before .before .before .before .before .before .before .shared-slice-known8 .given i)) (c .before .before .before .before .before .before .before .before .before .before .before .before .before .before .before .before .before .args .room .now) (omega (arith, c .before .if1 .left, c .before .before .before .framed-size .ensures))), (state-sizes _ (record { lists = lent (c .before .before .before .before .before .before .before .before .before .before .before .before .before .before .before .before .before .args .tags) (c .before .before .before .before .before .before .before .before .before .before .before .before .before .before .before .before .before .args .kinds) (c .before .before .before .before .before .before .before .before .before .before .before .before .before .before .before .before .before .args .depths) (c .before .before .before .before .before .before .before .before .before .before .before .before .before .before .before .before .before .args .parents) (c .before .before .before .before .before .before .before .before .before .before .before .before .before .before .before .before .before .args .starts) (c .before .before .before .before .before .before .before .before .before .before .before .before .before .before .before .before .before .args .sizes); bodies = c .before .before .before .before .before .before .before .before .before .before .before .before .before .before .before .before .before .args .bodies .now; store = c .before .before .before .before .before .before .before .before .before .before .before .before .before .before .before .before .before .args .store .now }) _ (c .before .before .before .before .before .before .before .held .ensures) _ (c .before .before .before .before .before .enum-told2 .given .1) (λ i. omega (arith, c .before .before .before .before .before .before .before .before .before .shared-slice-known8 .given i)) (c .before .before .before .before .before .before .before .before .before .before .before .before .before .before .before .before .before .args .room .now) (omega (arith, c .before .if1 .left, c .before .before .before .framed-size .ensures)), state-fits _ (record { lists = lent (c .before .before .before .before .before .before .before .before .before .before .before .before .before .before .before .before .before .args .tags) (c .before .before .before .before .before .before .before .before .before .before .before .before .before .before .before .before .before .args .kinds) (c .before .before .before .before .before .before .before .before .before .before .before .before .before .before .before .before .before .args .depths) (c .before .before .before .before .before .before .before .before .before .before .before .before .before .before .before .before .before .args .parents) (c .before .before .before .before .before .before .before .before .before .before .before .before .before .before .before .before .before .args .starts) (c .before .before .before .before .before .before .before .before .before .before .before .before .before .before .before .before .before .args .sizes); bodies = c .before .before .before .before .before .before .before .before .before .before .before .before .before .before .before .before .before .args .bodies .now; store = c .before .before .before .before .before .before .before .before .before .before .before .before .before .before .before .before .before .args .store .now }) _ (c .before .before .before .before .before .before .before .held .ensures) _ (c .before .before .before .before .before .enum-told2 .given .1) (λ i. omega (arith, c .before .before .before .before .before .before .before .before .before .shared-slice-known8 .given i)) (c .before .before .before .before .before .before .before .before .before .before .before .before .before .before .before .before .before .args .room .now) (omega (arith, c .before .if1 .left, c .before .before .before .framed-size .ensures)))))
+    ((state-holding _ (record { lists = lent (c .before .before .before .before .before .before .before .before .before .before .before .before .before .before .before .before .before .args .tags) (c .before .before .before .before .before .before .before .before .before .before .before .before .before .before .before .before .before .args .kinds) (c .before .before .before .before .before .before .before .before .before .before .before .before .before .before .before .before .before .args .depths) (c .before .before .before .before .before .before .before .before .before .before .before .before .before .before .before .before .before .args .parents) (c .before .before .before .before .before .before .before .before .before .before .before .before .before .before .before .before .before .args .starts) (c .before .before .before .before .before .before .before .before .before .before .before .before .before .before .before .before .before .args .sizes); bodies = c .before .before .before .before .before .before .before .before .before .before .before .before .before .before .before .before .before .args .bodies .now; store = c .before .before .before .before .before .before .before .before .before .before .before .before .before .before .before .before .before .args .store .now }) _ (c .before .before .before .before .before .before .before .held .ensures) _ (c .before .before .before .before .before .enum-told2 .given .1) (c .before .before .before .before .before .before .before .before .before .before .before .before .before .before .before .before .before .args .room .now) (omega (arith, c .before .if1 .left, c .before .before .before .framed-size .ensures)), state-ordered _ (record { lists = lent (c .before .before .before .before .before .before .before .before .before .before .before .before .before .before .before .before .before .args .tags) (c .before .before .before .before .before .before .before .before .before .before .before .before .before .before .before .before .before .args .kinds) (c .before .before .before .before .before .before .before .before .before .before .before .before .before .before .before .before .before .args .depths) (c .before .before .before .before .before .before .before .before .before .before .before .before .before .before .before .before .before .args .parents) (c .before .before .before .before .before .before .before .before .before .before .before .before .before .before .before .before .before .args .starts) (c .before .before .before .before .before .before .before .before .before .before .before .before .before .before .before .before .before .args .sizes); bodies = c .before .before .before .before .before .before .before .before .before .before .before .before .before .before .before .before .before .args .bodies .now; store = c .before .before .before .before .before .before .before .before .before .before .before .before .before .before .before .before .before .args .store .now }) _ (c .before .before .before .before .before .before .before .held .ensures) _ (c .before .before .before .before .before .enum-told2 .given .1) (c .before .before .before .before .before .before .before .before .before .before .before .before .before .before .before .before .before .args .room .now) (omega (arith, c .before .if1 .left, c .before .before .before .framed-size .ensures)), omega arith, omega arith), ((λ q. state-laid _ (record { lists = lent (c .before .before .before .before .before .before .before .before .before .before .before .before .before .before .before .before .before .args .tags) (c .before .before .before .before .before .before .before .before .before .before .before .before .before .before .before .before .before .args .kinds) (c .before .before .before .before .before .before .before .before .before .before .before .before .before .before .before .before .before .args .depths) (c .before .before .before .before .before .before .before .before .before .before .before .before .before .before .before .before .before .args .parents) (c .before .before .before .before .before .before .before .before .before .before .before .before .before .before .before .before .before .args .starts) (c .before .before .before .before .before .before .before .before .before .before .before .before .before .before .before .before .before .args .sizes); bodies = c .before .before .before .before .before .before .before .before .before .before .before .before .before .before .before .before .before .args .bodies .now; store = c .before .before .before .before .before .before .before .before .before .before .before .before .before .before .before .before .before .args .store .now }) _ (c .before .before .before .before .before .before .before .held .ensures) _ (c .before .before .before .before .before .enum-told2 .given .1) (c .before .before .before .before .before .before .before .before .before .before .before .before .before .before .before .before .before .args .room .now) (omega (arith, c .before .if1 .left, c .before .before .before .framed-size .ensures)) (λ i. omega (arith, c .before .before .before .before .before .before .before .before .before .shared-slice-known8 .given i))), (state-sizes _ (record { lists = lent (c .before .before .before .before .before .before .before .before .before .before .before .before .before .before .before .before .before .args .tags) (c .before .before .before .before .before .before .before .before .before .before .before .before .before .before .before .before .before .args .kinds) (c .before .before .before .before .before .before .before .before .before .before .before .before .before .before .before .before .before .args .depths) (c .before .before .before .before .before .before .before .before .before .before .before .before .before .before .before .before .before .args .parents) (c .before .before .before .before .before .before .before .before .before .before .before .before .before .before .before .before .before .args .starts) (c .before .before .before .before .before .before .before .before .before .before .before .before .before .before .before .before .before .args .sizes); bodies = c .before .before .before .before .before .before .before .before .before .before .before .before .before .before .before .before .before .args .bodies .now; store = c .before .before .before .before .before .before .before .before .before .before .before .before .before .before .before .before .before .args .store .now }) _ (c .before .before .before .before .before .before .before .held .ensures) _ (c .before .before .before .before .before .enum-told2 .given .1) (c .before .before .before .before .before .before .before .before .before .before .before .before .before .before .before .before .before .args .room .now) (omega (arith, c .before .if1 .left, c .before .before .before .framed-size .ensures)), state-fits _ (record { lists = lent (c .before .before .before .before .before .before .before .before .before .before .before .before .before .before .before .before .before .args .tags) (c .before .before .before .before .before .before .before .before .before .before .before .before .before .before .before .before .before .args .kinds) (c .before .before .before .before .before .before .before .before .before .before .before .before .before .before .before .before .before .args .depths) (c .before .before .before .before .before .before .before .before .before .before .before .before .before .before .before .before .before .args .parents) (c .before .before .before .before .before .before .before .before .before .before .before .before .before .before .before .before .before .args .starts) (c .before .before .before .before .before .before .before .before .before .before .before .before .before .before .before .before .before .args .sizes); bodies = c .before .before .before .before .before .before .before .before .before .before .before .before .before .before .before .before .before .args .bodies .now; store = c .before .before .before .before .before .before .before .before .before .before .before .before .before .before .before .before .before .args .store .now }) _ (c .before .before .before .before .before .before .before .held .ensures) _ (c .before .before .before .before .before .enum-told2 .given .1) (c .before .before .before .before .before .before .before .before .before .before .before .before .before .before .before .before .before .args .room .now) (omega (arith, c .before .if1 .left, c .before .before .before .framed-size .ensures)))))
 
 returns-2 : tie.Need-returns-2
 returns-2 c =
@@ -47,7 +47,7 @@ same-length c = search needs
 
 returns-3 : tie.Need-returns-3
 returns-3 c =
-    state-written _ (record { lists = lent (c .before .before .before .before .before .before .before .before .before .before .before .before .before .before .before .before .before .before .before .before .args .tags) (c .before .before .before .before .before .before .before .before .before .before .before .before .before .before .before .before .before .before .before .before .args .kinds) (c .before .before .before .before .before .before .before .before .before .before .before .before .before .before .before .before .before .before .before .before .args .depths) (c .before .before .before .before .before .before .before .before .before .before .before .before .before .before .before .before .before .before .before .before .args .parents) (c .before .before .before .before .before .before .before .before .before .before .before .before .before .before .before .before .before .before .before .before .args .starts) (c .before .before .before .before .before .before .before .before .before .before .before .before .before .before .before .before .before .before .before .before .args .sizes); bodies = c .before .before .before .before .before .before .before .before .before .before .before .before .before .before .before .before .before .before .before .before .args .bodies .now; store = c .before .before .before .before .before .before .before .before .before .before .before .before .before .before .before .before .before .before .before .before .args .store .now }) _ (c .before .before .before .before .before .before .before .before .before .before .held .ensures) _ (c .before .before .before .before .before .before .before .before .enum-told2 .given .1) (λ i. omega (arith, c .before .before .before .before .before .before .before .before .before .before .before .before .shared-slice-known8 .given i)) (c .before .before .before .before .before .before .before .before .before .before .before .before .before .before .before .before .before .before .before .before .args .room .now) (omega (arith, c .before .before .before .before .if1 .left, c .before .before .before .before .before .before .framed-size .ensures)) _ _ (c .before .before .emit-sized .ensures)
+    state-written _ (record { lists = lent (c .before .before .before .before .before .before .before .before .before .before .before .before .before .before .before .before .before .before .before .before .args .tags) (c .before .before .before .before .before .before .before .before .before .before .before .before .before .before .before .before .before .before .before .before .args .kinds) (c .before .before .before .before .before .before .before .before .before .before .before .before .before .before .before .before .before .before .before .before .args .depths) (c .before .before .before .before .before .before .before .before .before .before .before .before .before .before .before .before .before .before .before .before .args .parents) (c .before .before .before .before .before .before .before .before .before .before .before .before .before .before .before .before .before .before .before .before .args .starts) (c .before .before .before .before .before .before .before .before .before .before .before .before .before .before .before .before .before .before .before .before .args .sizes); bodies = c .before .before .before .before .before .before .before .before .before .before .before .before .before .before .before .before .before .before .before .before .args .bodies .now; store = c .before .before .before .before .before .before .before .before .before .before .before .before .before .before .before .before .before .before .before .before .args .store .now }) _ (c .before .before .before .before .before .before .before .before .before .before .held .ensures) _ (c .before .before .before .before .before .before .before .before .enum-told2 .given .1) (c .before .before .before .before .before .before .before .before .before .before .before .before .before .before .before .before .before .before .before .before .args .room .now) (omega (arith, c .before .before .before .before .if1 .left, c .before .before .before .before .before .before .framed-size .ensures)) _ _ (c .before .before .emit-sized .ensures)
 
 pub write-state-spec : {M : Type 1} → statement M
 write-state-spec =
