@@ -5,7 +5,6 @@ pub mod Sites
 pub mod Sizes
 pub mod Moves
 pub mod Extents
-pub mod Lent
 pub mod Resites
 pub mod Removal
 pub mod Removals

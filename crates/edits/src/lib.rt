@@ -19,8 +19,8 @@ mod store;
 mod taking;
 
 pub use removing::remove;
-pub use taking::take_in;
 pub use replacing::replace_text;
+pub use taking::take_in;
 
 fn refused(number: u8) -> ReadAnswer
     ensures { λ r. ⌜ r ≡ NotRead (refusal number 0) ⌝ }

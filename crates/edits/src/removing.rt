@@ -2,7 +2,7 @@
 ghost use mathlib.Core.Path.{_≡_};
 ghost use Rattle.edits.specs.Tree.Edit.{remove as removal};
 ghost use Rattle.edits.specs.Calls.{EditClaim};
-ghost use Rattle.edits.specs.Lent.{memory};
+ghost use Rattle.state.specs.Taking.{memory};
 ghost use Rattle.edits.specs.Removal.{gapOf, Closable};
 ghost use Rattle.edits.specs.Removals.{removalOf};
 use crate::extent::end_of;

@@ -8,7 +8,7 @@ ghost use Rattle.format.specs.Judge.{isText};
 ghost use Rattle.format.specs.State.{treeHeld};
 ghost use Rattle.edits.specs.Tree.Edit.{replace};
 ghost use Rattle.edits.specs.Calls.{editedIn, EditClaim};
-ghost use Rattle.edits.specs.Lent.{memory};
+ghost use Rattle.state.specs.Taking.{memory};
 ghost use Rattle.edits.specs.Texts.{replacementIn, isTextAt, textFits, Sized, Settable, TextSet};
 use crate::moving::Move;
 use crate::moving::move_to;

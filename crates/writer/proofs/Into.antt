@@ -34,7 +34,7 @@ use Rattle.state.specs.Order.{heldAs}
 use Rattle.state.specs.Taking.{overflow, settled, takenIn, left, TakeInClaim, lentWith, IntoClaim, WriteStateClaim}
 use Rattle.state.proofs.HeldTree.{Fits, held, accepted-held}
 use Rattle.state.proofs.Taken.{taken-ends, fitting-tree, fitting-room}
-use Rattle.state.proofs.Surveyed.{same-overflow}
+use Rattle.edits.proofs.Surveyed.{same-overflow}
 use Rattle.writer.specs.Steps.{itemsFrom, AsLaid}
 use Rattle.writer.proofs.Copied.{accepted-laid}
 use Rattle.writer.proofs.Rows.{fourIn}

@@ -24,6 +24,7 @@ use crate::item::framed_size;
 use crate::lay::lay;
 use crate::size::Sized;
 use crate::size::size_items;
+use edits::take_in;
 use format::ReadAnswer;
 use format::WriteAnswer;
 use format::refuse;
@@ -32,7 +33,6 @@ use reader::places;
 use records::is_well_formed;
 use state::Filled;
 use state::held;
-use state::take_in;
 use survey::Standing;
 use survey::survey;
 
