@@ -18,11 +18,11 @@ use crate::refused;
 use crate::shifting::shift_starts;
 use format::Counts;
 use format::ReadAnswer;
+use format::octet_at;
 use octets::Octets;
 use state::Filled;
 use state::framed_size;
 use state::held;
-use state::tag_of;
 use values::Kind;
 use values::KnownKind;
 use values::known_kind;
@@ -56,7 +56,7 @@ fn is_text_at(n: usize, number: usize, tags: &[u8], parents: &[u16]) -> bool
     if number >= n {
         return false;
     }
-    is_text(tag_of(tags, parents[number] as usize), tags[number])
+    is_text(octet_at(tags, parents[number] as usize), tags[number])
 }
 
 // A text of so many octets has room, in the store and in an object.
@@ -121,7 +121,7 @@ fn plan_text(
     if !is_text_at(n, number, tags, parents) {
         return Replacement::Refused(18);
     }
-    let element = tag_of(tags, parents[number] as usize);
+    let element = octet_at(tags, parents[number] as usize);
     if !records::is_text_kept(element, tags[number], text) {
         return Replacement::Refused(16);
     }

@@ -10,17 +10,17 @@ returns c = search (at-ways, needs)
 returns-2 : tie.Need-returns-2
 returns-2 c = search (at-ways, needs)
 
-mul-tag-of : tie.Need-mul-tag-of
-mul-tag-of c = search needs
+mul-octet-at : tie.Need-mul-octet-at
+mul-octet-at c = search needs
 
-shared-slice-read-tag-of : tie.Need-shared-slice-read-tag-of
-shared-slice-read-tag-of c = search needs
+shared-slice-read-octet-at : tie.Need-shared-slice-read-octet-at
+shared-slice-read-octet-at c = search needs
 
-cast-tag-of : tie.Need-cast-tag-of
-cast-tag-of c = omega (arith, (c .shared-slice-known3 .given) (c .before .before .before .before .before .args .number))
+cast-octet-at : tie.Need-cast-octet-at
+cast-octet-at c = omega (arith, (c .shared-slice-known3 .given) (c .before .before .before .before .before .args .number))
 
-tag-of-requires : tie.Need-tag-of-requires
-tag-of-requires c κs = search needs
+octet-at-requires : tie.Need-octet-at-requires
+octet-at-requires c κs = search needs
 
 shared-slice-read-is-text : tie.Need-shared-slice-read-is-text
 shared-slice-read-is-text c = search needs
@@ -37,10 +37,10 @@ is-text-at-spec =
     (tie.spec
     returns
     returns-2
-    mul-tag-of
-    shared-slice-read-tag-of
-    cast-tag-of
-    tag-of-requires
+    mul-octet-at
+    shared-slice-read-octet-at
+    cast-octet-at
+    octet-at-requires
     shared-slice-read-is-text
     is-text-requires
     returns-3)

@@ -22,17 +22,17 @@ is-text-at-requires c κs = plan-places _ _ _ (c .before .before .before .held .
 returns-2 : tie.Need-returns-2
 returns-2 c = plan-nowhere _ _ _ _ _ (c .before .before .before .before .before .held .ensures) _ ((c .before .before .before .used .given .1)) _ (c .before .is-text-at .ensures) (c .if1 .taken)
 
-mul-tag-of : tie.Need-mul-tag-of
-mul-tag-of c = omega (arith, plan-number _ _ _ _ _ (c .before .is-text-at .ensures) (c .if1 .left), plan-places _ _ _ (c .before .before .before .before .before .held .ensures) _ ((c .before .before .before .used .given .1)))
+mul-octet-at : tie.Need-mul-octet-at
+mul-octet-at c = omega (arith, plan-number _ _ _ _ _ (c .before .is-text-at .ensures) (c .if1 .left), plan-places _ _ _ (c .before .before .before .before .before .held .ensures) _ ((c .before .before .before .used .given .1)))
 
-shared-slice-read-tag-of : tie.Need-shared-slice-read-tag-of
-shared-slice-read-tag-of c = omega (arith, plan-number _ _ _ _ _ (c .before .before .is-text-at .ensures) (c .before .if1 .left), plan-places _ _ _ (c .before .before .before .before .before .before .held .ensures) _ ((c .before .before .before .before .used .given .1)))
+shared-slice-read-octet-at : tie.Need-shared-slice-read-octet-at
+shared-slice-read-octet-at c = omega (arith, plan-number _ _ _ _ _ (c .before .before .is-text-at .ensures) (c .before .if1 .left), plan-places _ _ _ (c .before .before .before .before .before .before .held .ensures) _ ((c .before .before .before .before .used .given .1)))
 
-cast-tag-of : tie.Need-cast-tag-of
-cast-tag-of c = omega (arith, (c .shared-slice-known10 .given) (c .before .before .before .before .before .before .before .before .before .before .before .before .before .before .before .before .args .number))
+cast-octet-at : tie.Need-cast-octet-at
+cast-octet-at c = omega (arith, (c .shared-slice-known10 .given) (c .before .before .before .before .before .before .before .before .before .before .before .before .before .before .before .before .args .number))
 
-tag-of-requires : tie.Need-tag-of-requires
-tag-of-requires c κs = search needs
+octet-at-requires : tie.Need-octet-at-requires
+octet-at-requires c κs = search needs
 
 shared-slice-read-is-text-kept : tie.Need-shared-slice-read-is-text-kept
 shared-slice-read-is-text-kept c = omega (arith, plan-number _ _ _ _ _ (c .before .before .before .before .is-text-at .ensures) (c .before .before .before .if1 .left), plan-places _ _ _ (c .before .before .before .before .before .before .before .before .held .ensures) _ ((c .before .before .before .before .before .before .used .given .1)))
@@ -41,16 +41,16 @@ is-text-kept-requires : tie.Need-is-text-kept-requires
 is-text-kept-requires c κs = search needs
 
 returns-3 : tie.Need-returns-3
-returns-3 c = plan-unruled _ _ _ _ _ (c .before .before .before .before .before .before .before .before .before .before .held .ensures) _ ((c .before .before .before .before .before .before .before .before .used .given .1)) _ (c .before .before .before .before .before .before .is-text-at .ensures) (c .before .before .before .before .before .if1 .left) (λ j. omega (arith, (c .before .before .before .before .before .before .before .before .before .before .before .shared-slice-known9 .given) j)) (λ j. omega (arith, (c .before .before .before .before .before .before .before .before .before .before .before .before .before .before .before .before .before .before .before .shared-slice-known .given) j)) _ (c .before .before .before .tag-of .ensures) _ (c .before .is-text-kept .ensures) (c .if2 .taken)
+returns-3 c = plan-unruled _ _ _ _ _ (c .before .before .before .before .before .before .before .before .before .before .held .ensures) _ ((c .before .before .before .before .before .before .before .before .used .given .1)) _ (c .before .before .before .before .before .before .is-text-at .ensures) (c .before .before .before .before .before .if1 .left) (λ j. omega (arith, (c .before .before .before .before .before .before .before .before .before .before .before .shared-slice-known9 .given) j)) (λ j. omega (arith, (c .before .before .before .before .before .before .before .before .before .before .before .before .before .before .before .before .before .before .before .shared-slice-known .given) j)) _ (c .before .before .before .octet-at .ensures) _ (c .before .is-text-kept .ensures) (c .if2 .taken)
 
 text-fits-requires : tie.Need-text-fits-requires
-text-fits-requires c κs = plan-sized _ _ _ _ _ (c .before .before .before .before .before .before .before .before .before .before .held .ensures) _ ((c .before .before .before .before .before .before .before .before .used .given .1)) _ (c .before .before .before .before .before .before .is-text-at .ensures) (c .before .before .before .before .before .if1 .left) (λ j. omega (arith, (c .before .before .before .before .before .before .before .before .before .before .before .shared-slice-known9 .given) j)) (λ j. omega (arith, (c .before .before .before .before .before .before .before .before .before .before .before .before .before .before .before .before .before .before .before .shared-slice-known .given) j)) _ (c .before .before .before .tag-of .ensures) _ (c .before .is-text-kept .ensures) (c .if2 .left)
+text-fits-requires c κs = plan-sized _ _ _ _ _ (c .before .before .before .before .before .before .before .before .before .before .held .ensures) _ ((c .before .before .before .before .before .before .before .before .used .given .1)) _ (c .before .before .before .before .before .before .is-text-at .ensures) (c .before .before .before .before .before .if1 .left) (λ j. omega (arith, (c .before .before .before .before .before .before .before .before .before .before .before .shared-slice-known9 .given) j)) (λ j. omega (arith, (c .before .before .before .before .before .before .before .before .before .before .before .before .before .before .before .before .before .before .before .shared-slice-known .given) j)) _ (c .before .before .before .octet-at .ensures) _ (c .before .is-text-kept .ensures) (c .if2 .left)
 
 returns-4 : tie.Need-returns-4
-returns-4 c = plan-full _ _ _ _ _ (c .before .before .before .before .before .before .before .before .before .before .before .before .held .ensures) _ ((c .before .before .before .before .before .before .before .before .before .before .used .given .1)) _ (c .before .before .before .before .before .before .before .before .is-text-at .ensures) (c .before .before .before .before .before .before .before .if1 .left) (λ j. omega (arith, (c .before .before .before .before .before .before .before .before .before .before .before .before .before .shared-slice-known9 .given) j)) (λ j. omega (arith, (c .before .before .before .before .before .before .before .before .before .before .before .before .before .before .before .before .before .before .before .before .before .shared-slice-known .given) j)) _ (c .before .before .before .before .before .tag-of .ensures) _ (c .before .before .before .is-text-kept .ensures) (c .before .before .if2 .left) _ (c .before .text-fits .ensures) (c .if3 .taken)
+returns-4 c = plan-full _ _ _ _ _ (c .before .before .before .before .before .before .before .before .before .before .before .before .held .ensures) _ ((c .before .before .before .before .before .before .before .before .before .before .used .given .1)) _ (c .before .before .before .before .before .before .before .before .is-text-at .ensures) (c .before .before .before .before .before .before .before .if1 .left) (λ j. omega (arith, (c .before .before .before .before .before .before .before .before .before .before .before .before .before .shared-slice-known9 .given) j)) (λ j. omega (arith, (c .before .before .before .before .before .before .before .before .before .before .before .before .before .before .before .before .before .before .before .before .before .shared-slice-known .given) j)) _ (c .before .before .before .before .before .octet-at .ensures) _ (c .before .before .before .is-text-kept .ensures) (c .before .before .if2 .left) _ (c .before .text-fits .ensures) (c .if3 .taken)
 
 returns-5 : tie.Need-returns-5
-returns-5 c = plan-fits _ _ _ _ _ (c .before .before .before .before .before .before .before .before .before .before .before .before .held .ensures) _ ((c .before .before .before .before .before .before .before .before .before .before .used .given .1)) _ (c .before .before .before .before .before .before .before .before .is-text-at .ensures) (c .before .before .before .before .before .before .before .if1 .left) (λ j. omega (arith, (c .before .before .before .before .before .before .before .before .before .before .before .before .before .shared-slice-known9 .given) j)) (λ j. omega (arith, (c .before .before .before .before .before .before .before .before .before .before .before .before .before .before .before .before .before .before .before .before .before .shared-slice-known .given) j)) _ (c .before .before .before .before .before .tag-of .ensures) _ (c .before .before .before .is-text-kept .ensures) (c .before .before .if2 .left) _ (c .before .text-fits .ensures) (c .if3 .left)
+returns-5 c = plan-fits _ _ _ _ _ (c .before .before .before .before .before .before .before .before .before .before .before .before .held .ensures) _ ((c .before .before .before .before .before .before .before .before .before .before .used .given .1)) _ (c .before .before .before .before .before .before .before .before .is-text-at .ensures) (c .before .before .before .before .before .before .before .if1 .left) (λ j. omega (arith, (c .before .before .before .before .before .before .before .before .before .before .before .before .before .shared-slice-known9 .given) j)) (λ j. omega (arith, (c .before .before .before .before .before .before .before .before .before .before .before .before .before .before .before .before .before .before .before .before .before .shared-slice-known .given) j)) _ (c .before .before .before .before .before .octet-at .ensures) _ (c .before .before .before .is-text-kept .ensures) (c .before .before .if2 .left) _ (c .before .text-fits .ensures) (c .if3 .left)
 
 pub plan-text-spec : {M : Type 1} → statement M
 plan-text-spec =
@@ -62,10 +62,10 @@ plan-text-spec =
     returns
     is-text-at-requires
     returns-2
-    mul-tag-of
-    shared-slice-read-tag-of
-    cast-tag-of
-    tag-of-requires
+    mul-octet-at
+    shared-slice-read-octet-at
+    cast-octet-at
+    octet-at-requires
     shared-slice-read-is-text-kept
     is-text-kept-requires
     returns-3
