@@ -1,10 +1,10 @@
 -- An item below the top of a tree that memory holds, by the lists: what its record has, where its records end, where what it takes of the store lies, and what it adds to
 -- its element.
-use mathlib.Core.Path.{_≡_, refl, sym, ap, ap₂, _∙_, subst}
+use mathlib.Core.Path.{_≡_, refl, sym, ap, ap₂, _∙_}
 use mathlib.Core.Bool.{Bool, true, false, cond, and-false}
 use mathlib.Core.List.{List, [], _∷_, _++_, append-assoc, append-nil, map, map-append}
 use Prim.Native.Nat.{ℕ, suc, _+_, _-_, _≤_, _<_}
-use native.Mathlib.Nat.{zero-add, add-sub-cancel-left}
+use native.Mathlib.Nat.{add-sub-cancel-left}
 use native.Mathlib.Omega.{arith}
 use lib.Dec.{leb}
 use lib.ListN.{length, take, drop, getD, length-append, length-map, take-append-drop}
@@ -18,7 +18,7 @@ use Rattle.format.specs.declared.Record.{Record}
 use Rattle.format.specs.Tree.{Items, count}
 use Rattle.format.specs.Tree.Items.{item}
 use Rattle.format.specs.Meaning.{opens}
-use Rattle.format.specs.Writer.{below, past, atTop, isEnd, ruled}
+use Rattle.format.specs.Writer.{below, past, atTop, isEnd}
 use Rattle.format.specs.Loaded.{stored, storeIn}
 use Rattle.format.specs.Calls.{row}
 use Rattle.format.specs.State.{Memory, packedStore}
@@ -28,7 +28,7 @@ use Rattle.state.proofs.HeldTree.{Held}
 use Rattle.state.proofs.BodySizes.{bodySize, adds}
 use Rattle.state.proofs.SizesHeld.{Own, own-packed}
 use Rattle.edits.specs.Tree.{firstTag}
-use Rattle.edits.specs.Sites.{Site, topSite, inner, share, beyond, recordsAt, storeAt, Swapped}
+use Rattle.edits.specs.Sites.{Site, topSite, inner, share, beyond, recordsAt, Swapped}
 use Rattle.edits.specs.Sites.Swapped.{here, inside, after}
 use Rattle.edits.specs.Extents.{deeper, sumOf}
 use Rattle.edits.proofs.Swaps.{Plain, ruled-plain, swapped-plain, swapped-rules}

@@ -179,8 +179,6 @@ module _ (parents bodies : List ℕ) (element was is g old new : ℕ) (m : Tops 
         m .whole ∙ (ap (λ k. outermost (upFrom parents k) old new bodies (m .size)) at-top ∙ outermost-top parents old new bodies (m .size)) in
         omega arith
 
-pub ruleset tops-ways = (tops-start, tops-body, tops-parent, tops-less, tops-asks, tops-over, tops-next, tops-first, tops-asks-top, tops-over-top, tops-end)
-
 -- ---- storing: what raising from the element at hand on leaves is what it was to leave from the first on
 pub record Raises (parents before : List ℕ) (element was is : ℕ) (bodies : List ℕ) (g old new : ℕ) : Type 0 where
   pub climbs : Climbs parents bodies g old

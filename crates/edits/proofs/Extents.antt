@@ -1,15 +1,12 @@
 -- A site of a tree that memory holds, by the lists: which numbers stand there, how far its records reach, and what is taken of the store before it.
-use mathlib.Core.Path.{_≡_, refl, sym, ap, ap₂, _∙_, subst}
+use mathlib.Core.Path.{_≡_, refl, sym, ap, ap₂, _∙_}
 use mathlib.Core.Bool.{Bool, true, false, cond}
 use mathlib.Core.List.{List, [], _∷_, _++_, append-assoc, append-nil, map, map-append}
-use Prim.Native.Nat.{ℕ, suc, _+_, _-_, _≤_, _<_}
-use native.Mathlib.Nat.{zero-add, add-sub-cancel-left}
+use Prim.Native.Nat.{ℕ, suc, _+_, _≤_, _<_}
 use native.Mathlib.Omega.{arith}
 use lib.Dec.{ltb}
-use lib.ListN.{length, take, drop, getD, length-append, length-map, take-append-drop}
-use lib.Seq.{getD-at, take-append-seam, drop-append-seam}
+use lib.ListN.{length, length-append}
 use borrow.Author.Tests.{lt-ltb, le-ltb, ltb-false}
-use Rattle.octets.specs.Places.{between}
 use Rattle.values.specs.Table.{known}
 use Rattle.format.specs.declared.Record.{Record}
 use Rattle.format.specs.Tree.{Items, count, recordOf, records}

@@ -13,7 +13,7 @@ use Rattle.format.specs.State.{Memory, placesIn}
 use Rattle.edits.specs.declared.resite.Gap.{Gap}
 use Rattle.edits.specs.Sites.{Site, shifted, shiftedStarts}
 use Rattle.edits.specs.Sizes.{raised, upFrom}
-use Rattle.edits.specs.Moves.{Carries, Movable}
+use Rattle.edits.specs.Moves.{Carries}
 use Rattle.edits.specs.Resites.{Resites, Resited}
 use Rattle.edits.proofs.Holds.{Piece, nothing, numberPast, placePast, Holds}
 use Rattle.edits.proofs.Climbing.{framed-more}

@@ -41,3 +41,4 @@ pub mod Mistaken
 pub mod TextLeaves
 pub mod NewTexts
 pub mod Replaced
+pub mod Misedited

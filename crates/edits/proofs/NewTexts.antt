@@ -1,17 +1,16 @@
 -- Replacing a text: what it comes to, by what the code asks, and that what is set is the tree with the new text.
 use mathlib.Core.Path.{_≡_, refl, sym, ap, ap₂, _∙_, subst}
 use mathlib.Core.Bool.{Bool, true, false, cond, _&&_, false≢true, and-false}
-use mathlib.Core.Option.{Option, none, some}
+use mathlib.Core.Option.{some}
 use mathlib.Core.List.{List, [], _∷_, _++_, map}
 use Prim.Native.Nat.{ℕ, suc, _+_, _-_, _≤_, _<_}
 use native.Mathlib.Nat.{le-min}
 use native.Mathlib.Numerals.{add-one}
 use native.Mathlib.Omega.{arith}
-use lib.Dec.{eqb, leb, ltb}
-use lib.ListN.{length, take, getD, set, length-append}
-use lib.Seq.{sets, set-getD, drop-set-lt}
+use lib.Dec.{leb, ltb}
+use lib.ListN.{length, getD, set, length-append}
+use lib.Seq.{sets, set-getD}
 use borrow.Author.Tests.{le-leb, lt-leb, leb-true, leb-false, lt-ltb, ltb-true, ltb-false}
-use Rattle.octets.specs.Counts.{asOctets}
 use Rattle.octets.specs.Numbers.{Octets}
 use Rattle.octets.specs.Places.{between}
 use Rattle.octets.proofs.Lists.{sets-same}
@@ -25,24 +24,23 @@ use Rattle.format.specs.declared.Record.{Record}
 use Rattle.format.specs.Answers.{refusal}
 use Rattle.format.specs.Tree.{Items, count, recordOf}
 use Rattle.format.specs.Tree.Items.{end, item}
-use Rattle.format.specs.Judge.{Judged, isText, isItems, first, rule, unless}
+use Rattle.format.specs.Judge.{isText, isItems, first, rule, unless}
 use Rattle.format.specs.Judge.Judged.{refused, accepted}
 use Rattle.format.specs.Meaning.{opens, means, encode}
 use Rattle.format.specs.Writer.{atTop, ruled}
 use Rattle.format.specs.Loaded.{stored, storeIn}
-use Rattle.format.specs.Calls.{Lists, places, row, roomy}
+use Rattle.format.specs.Calls.{Lists, row, roomy}
 use Rattle.format.specs.State.{Memory, placesIn, packed, packedStore, layTree, kept, treeHeld}
 use Rattle.format.proofs.Kept.{ruled-parts, keeps-parts}
 use Rattle.format.proofs.Fine.{placed-parts}
 use Rattle.format.proofs.Force.{top-known}
 use Rattle.format.proofs.Means.{text-known, items-opens}
 use Rattle.format.proofs.Written.{Bytes, located-bytes}
-use Rattle.format.proofs.Tabled.{count-item}
 use Rattle.survey.specs.Normal.{framedSize}
 use Rattle.state.specs.Taking.{overflow, settled}
 use Rattle.state.proofs.HeldTree.{Held, held}
 use Rattle.state.proofs.BodySizes.{bodySize, adds, size-shut}
-use Rattle.edits.specs.Tree.{from, recordAt, changeAt, withBody, firstTag, isThere, changed}
+use Rattle.edits.specs.Tree.{from, changeAt, withBody, firstTag, isThere, changed}
 use Rattle.edits.specs.Tree.Edit.{replace}
 use Rattle.edits.specs.Calls.{edited, editedIn}
 use Rattle.edits.specs.Sites.{Site, share, storeAt, shifted, shiftedStarts}
@@ -59,14 +57,13 @@ use Rattle.edits.proofs.Standing.{packed-means, packed-count, packed-st
 use Rattle.edits.proofs.Local.{text-number}
 use Rattle.edits.proofs.Changed.{changed-bytes}
 use Rattle.edits.proofs.ElementTags.{text-told}
-use Rattle.edits.proofs.Holds.{Piece, textOf, numberPast, placePast, Holds, TextHolds, edit-holds}
-use Rattle.edits.proofs.Parts.{part-first}
+use Rattle.edits.proofs.Holds.{TextHolds, edit-holds}
 use Rattle.edits.proofs.Followed.{part-later}
-use Rattle.edits.proofs.Carrying.{raised-length, raised-behind}
+use Rattle.edits.proofs.Carrying.{raised-behind}
 use Rattle.edits.proofs.Climbing.{framed-more}
 use Rattle.edits.proofs.StoreFits.{store-short}
 use Rattle.edits.proofs.Extents.{here-shut}
-use Rattle.edits.proofs.AtSite.{field-here, site-fits, site-within, site-parent, site-tag, site-element}
+use Rattle.edits.proofs.AtSite.{field-here, site-within, site-parent, site-tag, site-element}
 use Rattle.edits.proofs.Removed.{held-count}
 
 -- ---- lists of which a part is laid anew as it was

@@ -8,7 +8,7 @@ use lib.Seq.{sets, length-sets}
 use Rattle.octets.specs.Places.{between}
 use Rattle.octets.proofs.Lists.{sets-last, set-sets, getD-sets-before, getD-here, drop-sets, length-part, drop-next, part-split, sets-same}
 use Rattle.edits.specs.declared.moving.Move.{Move}
-use Rattle.edits.specs.Moves.{Carries, carried}
+use Rattle.edits.specs.Moves.{carried}
 
 pub part-none : (i : ℕ) (l : List ℕ) → between l i i ≡ []
 part-none i l = let z : i - i ≡ 0 = omega arith in rw z

@@ -2,7 +2,7 @@
 use mathlib.Core.Path.{_≡_, refl, sym, ap, ap₂, _∙_, subst}
 use mathlib.Core.Bool.{Bool, true, false, cond, _&&_, and-false}
 use mathlib.Core.Option.{Option, none, some}
-use mathlib.Core.List.{List, [], _∷_}
+use mathlib.Core.List.{List, []}
 use Prim.Native.Nat.{ℕ, suc, _+_, _-_, _≤_, _<_}
 use native.Mathlib.Nat.{add-zero, le-min}
 use native.Mathlib.Omega.{arith}
@@ -18,7 +18,6 @@ use Rattle.format.specs.declared.ReadAnswer.{ReadAnswer}
 use Rattle.format.specs.declared.ReadAnswer.the-variants.{Records, NotRead}
 use Rattle.format.specs.Answers.{refusal}
 use Rattle.format.specs.Tree.{Items, count}
-use Rattle.format.specs.Tree.Items.{item}
 use Rattle.format.specs.Judge.{rule, unless}
 use Rattle.format.specs.Judge.Judged.{accepted}
 use Rattle.format.specs.Meaning.{means, encode}
@@ -41,9 +40,8 @@ use Rattle.edits.specs.Tree.{changeAt, without, isThere, changed}
 use Rattle.edits.specs.Tree.Edit.{remove}
 use Rattle.edits.specs.Calls.{editedIn, EditClaim}
 use Rattle.edits.specs.Sites.{Site, inner, shifted}
-use Rattle.edits.specs.Extents.{deeper, sumOf}
-use Rattle.edits.specs.Removal.{pastItem, gapOf, Closable}
-use Rattle.edits.specs.Removals.{removalIn, removalOf}
+use Rattle.edits.specs.Extents.{sumOf}
+use Rattle.edits.specs.Removal.{pastItem, gapOf, Closable, removalIn, removalOf}
 use Rattle.edits.specs.Resites.{Resites, Resited}
 use Rattle.edits.proofs.Swaps.{ruled-plain, swapped-rules, swapped-plain, swapped-count}
 use Rattle.edits.proofs.Sites.{shifted-low, shifted-high}

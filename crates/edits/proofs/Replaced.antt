@@ -16,13 +16,13 @@ use Rattle.text.specs.Tokens.{shownLength}
 use Rattle.format.specs.declared.ReadAnswer.{ReadAnswer}
 use Rattle.format.specs.declared.ReadAnswer.the-variants.{Records, NotRead}
 use Rattle.format.specs.Answers.{refusal}
-use Rattle.format.specs.Tree.{Items, count}
-use Rattle.format.specs.Judge.{Judged, first, rule, unless, shown}
+use Rattle.format.specs.Tree.{Items}
+use Rattle.format.specs.Judge.{Judged, rule, unless, shown}
 use Rattle.format.specs.Judge.Judged.{refused, accepted}
 use Rattle.format.specs.Writer.{atTop, ruled}
 use Rattle.format.specs.Loaded.{loadedIn}
 use Rattle.format.specs.Calls.{judgeAnswer}
-use Rattle.format.specs.State.{Memory, packed, packedStore, layTree, kept, treeHeld}
+use Rattle.format.specs.State.{Memory, packed, packedStore, kept, treeHeld}
 use Rattle.state.specs.declared.Filled.{Filled}
 use Rattle.state.specs.declared.Filled.the-variants.{Apart, Upto}
 use Rattle.state.specs.Order.{nth, heldAs}

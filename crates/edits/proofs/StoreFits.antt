@@ -17,7 +17,7 @@ use Rattle.format.specs.Tree.Items.{end, item}
 use Rattle.format.specs.Meaning.{opens, means, encode}
 use Rattle.format.specs.Writer.{Spot, below, past, atTop, ruled}
 use Rattle.format.specs.Loaded.{stored, storeIn}
-use Rattle.format.specs.State.{Memory, packedStore}
+use Rattle.format.specs.State.{packedStore}
 use Rattle.format.proofs.Told.{Told}
 use Rattle.format.proofs.Kept.{Ruled, ruled-parts, keeps-tag}
 use Rattle.format.proofs.Written.{Bytes, ruled-told}

@@ -1,14 +1,13 @@
 -- Replacing a text: the ways through the leaves.
 use mathlib.Core.Path.{_≡_, refl, sym, ap, ap₂, _∙_, subst}
-use mathlib.Core.Bool.{Bool, true, false, cond, _&&_, and-false}
-use mathlib.Core.Option.{some}
-use mathlib.Core.List.{List, [], _∷_, _++_}
-use Prim.Native.Nat.{ℕ, suc, _+_, _-_, _≤_, _<_, min}
+use mathlib.Core.Bool.{Bool, true, false, and-false}
+use mathlib.Core.List.{List}
+use Prim.Native.Nat.{ℕ, _+_, _-_, _≤_, _<_, min}
 use native.Mathlib.Numerals.{add-one}
 use native.Mathlib.Omega.{arith}
 use lib.Dec.{leb, ltb}
 use lib.ListN.{length, getD, set}
-use lib.Seq.{sets, length-sets}
+use lib.Seq.{sets}
 use types.Run.{OneOf}
 use denote.Enum.Declared.{tagOf}
 use borrow.Author.Tests.{le-leb, lt-leb, leb-true, leb-false, lt-ltb, le-ltb}
@@ -31,9 +30,8 @@ use Rattle.survey.specs.Normal.{framedSize}
 use Rattle.state.specs.Order.{nth}
 use Rattle.edits.specs.Sites.{shiftedStarts}
 use Rattle.edits.specs.Sizes.{raised, upFrom, Climbs}
-use Rattle.edits.specs.Moves.{Carries, carried, Shifts}
+use Rattle.edits.specs.Moves.{Shifts}
 use Rattle.edits.specs.Texts.{isTextAt, around, textFits, Sized, Settable, TextSet}
-use Rattle.edits.proofs.Shrinks.{framed-monotone}
 use Rattle.edits.proofs.Climbing.{framed-more, framed-short}
 use Rattle.edits.proofs.Carrying.{raised-length}
 
@@ -85,9 +83,6 @@ module _ (i long used room : ℕ) (parents sizes bodies : List ℕ) where
       fits-climbs c = (subst (λ k. Climbs parents bodies (getD parents i 0) k) (sym we) (c .climbs), omega (arith, framed-short long))
 
       module _ (top : OctetCount) (te : top .0 ≡ min 32_769 (getD (raised (upFrom parents (getD parents i 0)) (was .0) (is .0) bodies) 0 0)) where
-        pub fits-small : top .0 ≤ 32_769
-        fits-small = omega arith
-
         pub fits-top : (all : OctetCount) → all .0 ≡ framedSize (top .0) → (r : Bool) → r ≡ leb (all .0) 32_768 → r ≡ textFits i long used room parents sizes bodies
         unfolding textFits
         fits-top all ae r re =

@@ -7,7 +7,6 @@ pub mod Moves
 pub mod Extents
 pub mod Resites
 pub mod Removal
-pub mod Removals
 pub mod Store
 pub mod Lay
 pub mod Texts

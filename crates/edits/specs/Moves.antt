@@ -2,14 +2,14 @@
 -- this.
 use mathlib.Core.Path.{_≡_}
 use mathlib.Core.Bool.{false}
-use mathlib.Core.List.{List, map}
+use mathlib.Core.List.{List}
 use Prim.Native.Nat.{ℕ, _+_, _-_, _≤_, _<_}
 use lib.ListN.{length, getD}
 use lib.Seq.{sets}
 use Rattle.octets.specs.Places.{between}
 use Rattle.format.specs.Meaning.{opens}
 use Rattle.edits.specs.declared.moving.Move.{Move}
-use Rattle.edits.specs.Sites.{shifted, startAfter, shiftedStarts}
+use Rattle.edits.specs.Sites.{shifted}
 
 -- the part from one place up to another has its places, there and where it goes
 pub record Carries (m : Move) (l : List ℕ) : Type 0 where

@@ -1,10 +1,18 @@
--- The gap that an item leaves that is taken out with all below it, by the lists of memory that holds a tree. Who reads the request has to believe none of this.
+-- Removing a record: what it comes to, by what memory holds, a refusal or the gap that is to be closed behind the item and all below it. Who reads the request has to
+-- believe none of this.
+use mathlib.Core.Bool.{cond, _&&_}
 use mathlib.Core.List.{List}
 use Prim.Native.Nat.{ℕ, suc, _+_, _≤_, _<_}
+use lib.Dec.{ltb}
 use lib.ListN.{length, getD}
 use Rattle.octets.specs.Counts.{asOctets}
 use Rattle.octets.specs.Places.{between}
-use Rattle.state.specs.Order.{addedBy}
+use Rattle.format.specs.State.{Memory, treeHeld}
+use Rattle.state.specs.declared.Filled.{Filled}
+use Rattle.state.specs.declared.Filled.the-variants.{Apart, Upto}
+use Rattle.state.specs.Order.{heldAs, addedBy}
+use Rattle.edits.specs.declared.removing.Removal.{Removal}
+use Rattle.edits.specs.declared.removing.Removal.the-variants.{Refused, Closes}
 use Rattle.edits.specs.declared.resite.Gap.{Gap}
 use Rattle.edits.specs.Extents.{deeper, sumOf}
 
@@ -33,3 +41,13 @@ pub record Closable (n i : ℕ) (tags depths parents starts sizes bodies : List 
   pub in-bodies : n ≤ length bodies
   pub before : sumOf (between sizes 0 i) ≤ 65_535
   pub taken : sumOf (between sizes i (pastItem n i depths)) ≤ 65_535
+
+-- 16 where memory holds no tree, 18 where there is no such record below the top
+unfoldable pub removalIn : (n i : ℕ) → Memory → Filled → Removal
+removalIn n i m Apart = Refused 16
+removalIn n i m (Upto used) =
+    let l = m .lists in
+    cond (ltb 0 i && ltb i n) (Closes (gapOf n i used (l .tags) (l .depths) (l .parents) (l .starts) (l .sizes) (m .bodies) (m .store))) (Refused 18)
+
+abbrev pub removalOf : (n i : ℕ) → Memory → Removal
+removalOf n i m = removalIn n i m (heldAs (treeHeld n m))

@@ -19,7 +19,7 @@ use Rattle.edits.specs.declared.replacing.Replacement.{Replacement}
 use Rattle.edits.specs.declared.replacing.Replacement.the-variants.{Refused, Fits}
 use Rattle.edits.specs.Sites.{shiftedStarts}
 use Rattle.edits.specs.Sizes.{raised, upFrom, Climbs}
-use Rattle.edits.specs.Moves.{Carries, Shifts}
+use Rattle.edits.specs.Moves.{Shifts}
 
 -- what an edit comes to: 16 where there is no tree, the number of the refusal, or how much of the store the tree takes that is to be edited
 unfoldable pub replacementIn : Option Items → Judged → Replacement

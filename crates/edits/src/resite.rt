@@ -1,5 +1,4 @@
 // A gap in lists and store, opened for what is put in or closed behind what is gone.
-ghost use mathlib.Core.Path.{_≡_};
 ghost use Rattle.state.specs.Taking.{memory};
 ghost use Rattle.edits.specs.Resites.{Resites, Resited};
 use crate::moving::Move;
