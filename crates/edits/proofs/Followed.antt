@@ -7,7 +7,6 @@ use native.Mathlib.Numerals.{add-one}
 use native.Mathlib.Omega.{arith}
 use lib.ListN.{length, take, getD, set, length-set}
 use lib.Seq.{sets, getD-set-other, drop-set-lt}
-use borrow.Author.Tests.{lt-ltb, le-ltb}
 use Rattle.octets.specs.Places.{between}
 use Rattle.octets.proofs.Lists.{sets-none}
 use Rattle.values.specs.declared.Kind.{Kind}
@@ -19,16 +18,15 @@ use Rattle.tags.specs.Listed.{listedAs}
 use Rattle.tags.proofs.Listing.{is-nothing, is-inside, is-value}
 use Rattle.edits.specs.Sites.{shifted, startAfter, shiftedStarts}
 use Rattle.edits.specs.Moves.{Renumbers, Movable, Shifts}
+use Rattle.edits.proofs.Sites.{shifted-low, shifted-high}
 use Rattle.edits.proofs.Parts.{part-none, part-first}
 
 -- ---- one number of a parent
 pub parent-low : (from to parent : ℕ) → parent < from → parent ≡ shifted from to parent
-unfolding shifted
-parent-low from to parent h = rw (lt-ltb parent from h)
+parent-low from to parent h = sym (shifted-low from to parent h)
 
 pub parent-high : (from to parent : ℕ) → from ≤ parent → parent - from + to ≡ shifted from to parent
-unfolding shifted
-parent-high from to parent h = rw (le-ltb parent from h)
+parent-high from to parent h = sym (shifted-high from to parent h)
 
 pub parent-fits : (from to parent : ℕ) → shifted from to parent ≤ 65_535 → from ≤ parent → parent - from + to ≤ 65_535
 parent-fits from to parent s h = omega (arith, parent-high from to parent h)

@@ -25,7 +25,7 @@ use Rattle.format.specs.State.{Memory, packed, packedStore, bodySizes, layTree,
 use Rattle.format.proofs.Kept.{ruled-parts, keeps-parts, end-is}
 use Rattle.format.proofs.Fine.{placed-parts}
 use Rattle.format.proofs.Force.{top-known}
-use Rattle.format.proofs.Means.{text-known, items-opens}
+use Rattle.format.proofs.Means.{items-opens}
 use Rattle.format.proofs.Order.{ruled-order, three-end}
 use Rattle.format.proofs.Written.{Bytes, located-bytes}
 use Rattle.format.proofs.Calls.{lay-fields}
@@ -45,7 +45,7 @@ use Rattle.edits.proofs.Cuts.{SiteCut, swapped-up, body-cut, item-cut, 
 use Rattle.edits.proofs.Sizes.{sizesAt, sizeAt}
 use Rattle.edits.proofs.CutLists.{enough, field-cut, later-start, parents-cut, starts-cut, octets-cut, climbs-cut, bodies-cut, whole-cut}
 use Rattle.edits.proofs.Found.{Stands, at-record}
-use Rattle.edits.proofs.Local.{TextAt, text-at}
+use Rattle.edits.proofs.Local.{text-shut, TextAt, text-at}
 use Rattle.edits.proofs.InsertRules.{opens-zero, stand, whole, spot, insert-swaps, in-element}
 use Rattle.edits.proofs.Changed.{map-is, changed-bytes}
 use Rattle.edits.proofs.Standing.{packed-store}
@@ -272,8 +272,7 @@ module _ (n : ℕ) (m : Memory) (t t′ : Items) (k : Held n m t) (bytes : Bytes
     h = g .site
 
     shut : opens (g .tag) ≡ false
-    unfolding isItems
-    shut = sym (items-opens (h .spot .parent) (g .tag)) ∙ rw (text-known (known (h .spot .parent) (g .tag)) (a .words))
+    shut = text-shut (h .spot .parent) (g .tag) (a .words)
 
     none : end ≡ g .x
     none = end-is (g .x) (rw shut at (swapped-plain (g .swapped) (ruled-plain t atTop r) .old .1))

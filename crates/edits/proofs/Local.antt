@@ -15,10 +15,11 @@ use Rattle.values.specs.Table.{known, attribute, rows, kindIn}
 use Rattle.values.specs.Values.{fits}
 use Rattle.format.specs.Tree.{Items, count}
 use Rattle.format.specs.Tree.Items.{item}
-use Rattle.format.specs.Judge.{isKnown, isTokens, isText, isValue, shown}
+use Rattle.format.specs.Judge.{isKnown, isItems, isTokens, isText, isValue, shown}
+use Rattle.format.specs.Meaning.{opens}
 use Rattle.format.specs.Writer.{Spot, past, atTop, bodyKeeps, keeps, ruled}
 use Rattle.format.proofs.Kept.{Ruled, ruled-parts, keeps-parts}
-use Rattle.format.proofs.Means.{text-known}
+use Rattle.format.proofs.Means.{text-known, items-opens}
 use Rattle.format.proofs.Fine.{placed-parts, stage-past, stage-up}
 use Rattle.edits.specs.Tree.{recordAt, changeAt, withBody, without, firstTag, isThere}
 use Rattle.edits.specs.Tree.Edit.{replace}
@@ -31,6 +32,11 @@ use Rattle.edits.proofs.Spots.{ruled-lower}
 text-zero : (p tag : ℕ) → isText (known p tag) ≡ true → eqb tag 0 ≡ false
 unfolding known attribute rows kindIn isText
 text-zero p tag h = ne-eqb tag 0 (λ q. false≢true (subst (λ n. isText (known p n) ≡ true) q h))
+
+-- it holds no items
+pub text-shut : (p tag : ℕ) → isText (known p tag) ≡ true → opens tag ≡ false
+unfolding isItems
+text-shut p tag h = sym (items-opens p tag) ∙ rw (text-known (known p tag) h)
 
 -- what the rules ask of it
 unfoldable pub isNewText : (parent tag : ℕ) → List ℕ → Bool

@@ -24,7 +24,7 @@ use Rattle.format.specs.declared.Record.{Record}
 use Rattle.format.specs.Answers.{refusal}
 use Rattle.format.specs.Tree.{Items, count, recordOf}
 use Rattle.format.specs.Tree.Items.{end, item}
-use Rattle.format.specs.Judge.{isText, isItems, first, rule, unless}
+use Rattle.format.specs.Judge.{isText, first, rule, unless}
 use Rattle.format.specs.Judge.Judged.{refused, accepted}
 use Rattle.format.specs.Meaning.{opens, means, encode}
 use Rattle.format.specs.Writer.{atTop, ruled}
@@ -34,7 +34,7 @@ use Rattle.format.specs.State.{Memory, placesIn, packed, packedStore, layTree, 
 use Rattle.format.proofs.Kept.{ruled-parts, keeps-parts}
 use Rattle.format.proofs.Fine.{placed-parts}
 use Rattle.format.proofs.Force.{top-known}
-use Rattle.format.proofs.Means.{text-known, items-opens}
+use Rattle.format.proofs.Means.{text-known}
 use Rattle.format.proofs.Written.{Bytes, located-bytes}
 use Rattle.survey.specs.Normal.{framedSize}
 use Rattle.state.specs.Taking.{overflow, settled}
@@ -51,10 +51,10 @@ use Rattle.edits.proofs.Swaps.{ruled-plain, swapped-plain, swapped-coun
 use Rattle.edits.proofs.Sites.{recordHere, store-here}
 use Rattle.edits.proofs.Cuts.{share-shut, shifted-same, swapped-up}
 use Rattle.edits.proofs.Records.{swapped-store}
-use Rattle.edits.proofs.Stores.{held-store, held-places}
+use Rattle.edits.proofs.Stores.{held-store, held-places, held-count}
 use Rattle.edits.proofs.CutLists.{enough}
 use Rattle.edits.proofs.Standing.{packed-means, packed-count, packed-store}
-use Rattle.edits.proofs.Local.{text-number}
+use Rattle.edits.proofs.Local.{text-shut, text-number}
 use Rattle.edits.proofs.Changed.{changed-bytes}
 use Rattle.edits.proofs.ElementTags.{text-told}
 use Rattle.edits.proofs.Holds.{TextHolds, edit-holds}
@@ -64,7 +64,6 @@ use Rattle.edits.proofs.Climbing.{framed-more}
 use Rattle.edits.proofs.StoreFits.{store-short}
 use Rattle.edits.proofs.Extents.{here-shut}
 use Rattle.edits.proofs.AtSite.{field-here, site-within, site-parent, site-tag, site-element}
-use Rattle.edits.proofs.Removed.{held-count}
 
 -- ---- lists of which a part is laid anew as it was
 map-same : (f : ℕ → ℕ) → ((a : ℕ) → f a ≡ a) → (l : List ℕ) → map f l ≡ l
@@ -85,10 +84,6 @@ module _ (l : List ℕ) (i n : ℕ) where
 text-stored : (p tag : ℕ) (o : List ℕ) → isText (known p tag) ≡ true → stored [] (known p tag) o ≡ o
 unfolding stored meant octetsOf
 text-stored p tag o h = ap (λ k. stored [] k o) (text-known (known p tag) h) ∙ expanded-empty o
-
-text-shut : (p tag : ℕ) → isText (known p tag) ≡ true → opens tag ≡ false
-unfolding isItems
-text-shut p tag h = sym (items-opens p tag) ∙ rw (text-known (known p tag) h)
 
 -- a text is no default
 text-counts : (p tag : ℕ) (o : List ℕ) (size : ℕ) → isText (known p tag) ≡ true → adds p tag o size ≡ framedSize size

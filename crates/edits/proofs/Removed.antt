@@ -26,7 +26,6 @@ use Rattle.format.specs.Calls.{row, judgeAnswer}
 use Rattle.format.specs.State.{Memory, placesIn, packed, packedStore, layTree, treeHeld}
 use Rattle.format.proofs.Kept.{ruled-parts}
 use Rattle.format.proofs.Written.{Bytes, located-bytes}
-use Rattle.format.proofs.Rebuilt.{whole-count}
 use Rattle.format.proofs.Tabled.{count-item}
 use Rattle.state.specs.declared.Filled.{Filled}
 use Rattle.state.specs.declared.Filled.the-variants.{Apart, Upto}
@@ -47,7 +46,7 @@ use Rattle.edits.proofs.Swaps.{ruled-plain, swapped-rules, swapped-plai
 use Rattle.edits.proofs.Sites.{shifted-low, shifted-high}
 use Rattle.edits.proofs.Cuts.{swapped-up}
 use Rattle.edits.proofs.Records.{records-length}
-use Rattle.edits.proofs.Stores.{held-store, held-places}
+use Rattle.edits.proofs.Stores.{held-store, held-places, held-count, held-as}
 use Rattle.edits.proofs.CutLists.{enough}
 use Rattle.edits.proofs.Standing.{packed-count}
 use Rattle.edits.proofs.Local.{remove-rules}
@@ -94,15 +93,6 @@ module _ (n i : ℕ) (tags depths parents starts sizes bodies : List ℕ) (c : C
           was = asOctets (w k);
           is = asOctets 0;
         }
-
--- ---- what memory holds
-pub heldAs-some : (o : Option Items) (used : ℕ) → heldAs o ≡ Upto used → (t : Items) × (o ≡ some t) × (length (packedStore t) ≡ used)
-unfolding heldAs
-heldAs-some none used h = let z : _≡_ {A = ℕ} 0 1 = cc in absurd (omega arith)
-heldAs-some (some t) used h = (t, refl, cc)
-
-pub held-count : (n : ℕ) (m : Memory) (t : Items) → treeHeld n m ≡ some t → count t ≡ n
-held-count n m t holds = sym (whole-count (row (m .lists)) n (m .store) t (held n m t holds .whole))
 
 -- a record below the top of a tree that memory holds
 module _ (n i : ℕ) (m : Memory) (t : Items) (holds : treeHeld n m ≡ some t) (os : Octets (m .store)) (above : 0 < i) (number : i < n) where
@@ -290,7 +280,7 @@ module _ (n i : ℕ) (m : Memory) (x : Filled) (e : x ≡ heldAs (treeHeld n m))
       above-zero = omega (arith, a)
 
       pub plan-asks : Octets (m .store) → Closable n i (m .lists .tags) (m .lists .depths) (m .lists .parents) (m .lists .starts) (m .lists .sizes) (m .bodies)
-      plan-asks os = let w = heldAs-some (treeHeld n m) used as-held in can-close n i m (w .0) (w .1) os above-zero b
+      plan-asks os = let w = held-as (treeHeld n m) used as-held in can-close n i m (w .0) (w .1) os above-zero b
 
       pub plan-gap : (g : Gap) → g ≡ gapOf n i used (m .lists .tags) (m .lists .depths) (m .lists .parents) (m .lists .starts) (m .lists .sizes) (m .bodies) (m .store)
           → Closes g ≡ removalOf n i m

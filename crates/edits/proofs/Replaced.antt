@@ -36,12 +36,12 @@ use Rattle.edits.specs.Tree.{changeAt, withBody, isThere, changed}
 use Rattle.edits.specs.Tree.Edit.{replace}
 use Rattle.edits.specs.Calls.{edited, editedIn, EditClaim}
 use Rattle.edits.specs.Texts.{replacementIn, isTextAt, textFits, Sized, Settable, TextSet}
+use Rattle.edits.proofs.Stores.{held-as}
 use Rattle.edits.proofs.CutLists.{enough}
 use Rattle.edits.proofs.Local.{isNewText}
 use Rattle.edits.proofs.ElementTags.{text-ruled}
 use Rattle.edits.proofs.Only.{Ends, edit-ends}
 use Rattle.edits.proofs.Only.Ends.{nowhere, unruled, ruled as ends-ruled}
-use Rattle.edits.proofs.Removed.{heldAs-some}
 use Rattle.edits.proofs.NewTexts.{there-is, text-above, text-below, text-sized, text-judged, text-settable, text-set, text-count}
 
 -- ---- how an edit of a text ends, by what was planned
@@ -122,7 +122,7 @@ fine-of n i o m used os ot (some t) h q =
 -- ---- plan_text
 pub plan-places : (n : ℕ) (m : Memory) (x : Filled) → x ≡ heldAs (treeHeld n m) → (used : ℕ) → x ≡ Upto used → (n ≤ length (m .lists .tags)) × (n ≤ length (m .lists .parents))
 plan-places n m x e used q =
-    let tree = heldAs-some (treeHeld n m) used (sym e ∙ q) in
+    let tree = held-as (treeHeld n m) used (sym e ∙ q) in
     let w = enough n m (tree .0) (held n m (tree .0) (tree .1)) in
     (w .tags, w .parents)
 
@@ -144,7 +144,7 @@ module _ (n i : ℕ) (o : List ℕ) (m : Memory) (x : Filled) (e : x ≡ heldAs 
 
   module _ (used : ℕ) (q : x ≡ Upto used) where
     tree : (t : Items) × (treeHeld n m ≡ some t) × (length (packedStore t) ≡ used)
-    tree = heldAs-some (treeHeld n m) used (sym e ∙ q)
+    tree = held-as (treeHeld n m) used (sym e ∙ q)
 
     abbrev t : Items
     t = tree .0

@@ -1,7 +1,7 @@
 -- Memory that holds a tree begins with what the tree takes of the store, and its lists have a place for each record.
 use mathlib.Core.Path.{_≡_, refl, sym, ap, ap₂, _∙_, subst}
 use mathlib.Core.Bool.{Bool, true, false, cond}
-use mathlib.Core.Option.{none, some, Option·none-ne-some}
+use mathlib.Core.Option.{Option, none, some, Option·none-ne-some}
 use mathlib.Core.List.{List, [], _++_}
 use Prim.Native.Nat.{ℕ, _+_, _≤_}
 use native.Mathlib.Omega.{arith}
@@ -10,16 +10,19 @@ use lib.ListN.{length, take, drop, length-append}
 use borrow.Author.Tests.{leb-true}
 use Rattle.octets.proofs.Lists.{part-split}
 use Rattle.values.specs.Table.{known}
-use Rattle.format.specs.Tree.{Items}
+use Rattle.format.specs.Tree.{Items, count}
 use Rattle.format.specs.Tree.Items.{end, item}
 use Rattle.format.specs.Meaning.{opens}
 use Rattle.format.specs.Writer.{atTop, rebuilt}
 use Rattle.format.specs.Loaded.{stored, storeIn, loadedIn}
 use Rattle.format.specs.Calls.{places, row, treeGiven}
-use Rattle.format.specs.State.{Memory, packedStore}
+use Rattle.format.specs.State.{Memory, packedStore, treeHeld}
 use Rattle.format.proofs.Spans.{Located, part-span}
 use Rattle.format.proofs.Loading.{loaded-held, loaded-single}
-use Rattle.state.proofs.HeldTree.{Held}
+use Rattle.format.proofs.Rebuilt.{whole-count}
+use Rattle.state.specs.declared.Filled.the-variants.{Upto}
+use Rattle.state.specs.Order.{heldAs}
+use Rattle.state.proofs.HeldTree.{Held, held as held-whole}
 use Rattle.state.proofs.Packed.{store-held, store-single}
 use Rattle.edits.proofs.Swaps.{Plain, ruled-plain}
 
@@ -68,3 +71,12 @@ held-places n m t held = go (leb n (places (m .lists))) refl (held .given)
     go : (b : Bool) → leb n (places (m .lists)) ≡ b → cond b (rebuilt (row (m .lists)) n (m .store)) none ≡ some t → n ≤ places (m .lists)
     go true e g = leb-true n (places (m .lists)) e
     go false e g = absurd (Option·none-ne-some t g)
+
+pub held-count : (n : ℕ) (m : Memory) (t : Items) → treeHeld n m ≡ some t → count t ≡ n
+held-count n m t h = sym (whole-count (row (m .lists)) n (m .store) t (held-whole n m t h .whole))
+
+-- the tree that the check of memory speaks of
+pub held-as : (o : Option Items) (used : ℕ) → heldAs o ≡ Upto used → (t : Items) × (o ≡ some t) × (length (packedStore t) ≡ used)
+unfolding heldAs
+held-as none used h = let z : _≡_ {A = ℕ} 0 1 = cc in absurd (omega arith)
+held-as (some t) used h = (t, refl, cc)

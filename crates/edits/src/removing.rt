@@ -72,7 +72,7 @@ enum Removal {
 }
 
 // Nothing is written: 16 where memory holds no tree, 18 where there is no such record below the top.
-fn plan(
+fn plan_removal(
     n: usize,
     number: usize,
     tags: &[u8],
@@ -135,7 +135,7 @@ pub fn remove(
 ) -> ReadAnswer
     ensures { λ r. ⌜ EditClaim (removal number) n (memory (tags .entry) (kinds .entry) (depths .entry) (parents .entry) (starts .entry) (sizes .entry) (bodies .entry) (store .entry)) (memory (tags .exit) (kinds .exit) (depths .exit) (parents .exit) (starts .exit) (sizes .exit) (bodies .exit) (store .exit)) r ⌝ }
 {
-    match plan(
+    match plan_removal(
         n,
         number,
         tags,

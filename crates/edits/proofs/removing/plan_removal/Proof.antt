@@ -1,8 +1,8 @@
 use native.Mathlib.Omega.{arith}
 use Rattle.edits.proofs.Removed.{plan-none, plan-top, plan-past, plan-asks, plan-gap}
 use borrow.Author.Needs.{needs}
-use Rattle.edits.proofs.removing.plan.Statement.{statement}
-use Rattle.edits.proofs.removing.plan.Tie as tie
+use Rattle.edits.proofs.removing.plan_removal.Statement.{statement}
+use Rattle.edits.proofs.removing.plan_removal.Tie as tie
 
 held-requires : tie.Need-held-requires
 held-requires c κs = search needs
@@ -28,8 +28,8 @@ gap-of-requires c κs = plan-asks _ _ _ _ (c .before .before .before .before .be
 returns-4 : tie.Need-returns-4
 returns-4 c = plan-gap _ _ _ _ (c .before .before .before .before .before .before .held .ensures) _ ((c .before .before .before .before .used .given .1)) (c .before .before .if1 .left) (c .before .if2 .left) _ (c .gap-of .ensures)
 
-pub plan-spec : {M : Type 1} → statement M
-plan-spec =
+pub plan-removal-spec : {M : Type 1} → statement M
+plan-removal-spec =
     tie.close
     (tie.spec
     held-requires
