@@ -1,7 +1,7 @@
--- Records at which a wrong answer of `is_well_formed` would show: the answers of the definition, computed.
+-- Records and texts at which a wrong answer of `is_well_formed` or `is_text_kept` would show: the answers of the definitions, computed.
 use mathlib.Core.Path.{_≡_, refl}
-use mathlib.Core.Bool.{true, false}
-use mathlib.Core.List.{[], _∷_}
+use mathlib.Core.Bool.{Bool, true, false, _&&_}
+use mathlib.Core.List.{List, [], _∷_}
 use Prim.Native.Nat.{ℕ}
 use Rattle.octets.specs.Numbers.{among}
 use Rattle.text.specs.Text.{layout, token, character, single, goesOn, utf8, text}
@@ -39,3 +39,11 @@ pub ill-formed : (isGiven (treeGiven 3 (nameIn 0 2) (0x61 ∷ 0x62 ∷ [])) ≡ 
     × (isGiven (treeGiven 3 (nameIn 0 16) (accented 8)) ≡ true) × (isGiven (treeGiven 3 (nameIn 0 18) (accented 9)) ≡ false)
 unfolding among layout token character single goesOn utf8 text entry orItself stands expanded starts shownLength rows kindIn known attribute fits kindOf isKnown isItems isTokens isText isValue isTop allowed latest stageAfter limit notAbove shown opens below past atTop placed bodyKeeps keeps bodyIn good here onward walk tree toEnd rebuilt places treeGiven accented isGiven
 ill-formed = (refl, refl, refl, refl, refl, refl, refl, refl, refl, refl)
+
+-- of a short name's text by itself: a token octet is a fault, eight characters are kept, whatever their octets, and nine are too many
+abbrev kept : List ℕ → Bool
+kept body = text false body && shown 0x10 1 (shownLength [] body)
+
+pub texts-told : (kept (0x61 ∷ 0x01 ∷ []) ≡ false) × (kept (accented 8) ≡ true) × (kept (accented 9) ≡ false)
+unfolding among layout token character single goesOn utf8 text entry orItself stands expanded starts shownLength limit notAbove shown accented
+texts-told = (refl, refl, refl)

@@ -1,4 +1,4 @@
--- Wrong answers of `held`, refuted by computing the definitions at closed memory.
+-- Wrong answers of `held`, and of what is asked of a size or a record, refuted by computing the definitions at closed memory.
 use mathlib.Core.Path.{_≡_, refl, sym, _∙_}
 use mathlib.Core.List.{List, [], _∷_}
 use Prim.Native.Nat.{ℕ}
@@ -8,6 +8,7 @@ use Rattle.octets.specs.Header.{lengthField, framed}
 use Rattle.values.specs.Table.{rows, kindIn, known, attribute, defaults, defaultIn}
 use Rattle.values.specs.Times.{bits, longFlag, offsetFlag, offsetOctet, timeOf, inRange, isTime, sign, timeOctets}
 use Rattle.values.specs.Values.{width, fits, meant, octetsOf, isDefault}
+use Rattle.values.specs.Calls.{defaultOctets}
 use Rattle.format.specs.Tree.{find, kindOf}
 use Rattle.format.specs.Judge.{isKnown, isItems, isTokens, isText, isValue, isTop, allowed, latest, stageAfter}
 use Rattle.format.specs.Meaning.{opens, isChild, valueIn, counted, attributesIn, cdataIn, leafOctets, means, maybe, rising, encode}
@@ -16,8 +17,9 @@ use Rattle.format.specs.Loaded.{stored, storeIn, loadedIn}
 use Rattle.format.specs.Same.{sameOctets}
 use Rattle.format.specs.Calls.{places, treeGiven}
 use Rattle.format.specs.State.{Memory, normalBody, bodySizes, sameItems, kept, inOrder, treeHeld}
+use Rattle.survey.specs.Normal.{framedSize}
 use Rattle.state.specs.declared.Filled.the-variants.{Apart, Upto}
-use Rattle.state.specs.Order.{heldAs}
+use Rattle.state.specs.Order.{heldAs, addedBy}
 
 -- a top, a schedule in it, a programme in that, and the recommendation of the programme, whose octet begins at a place of the store. 1, "no", is its default (request
 -- 2026-05) and 2 is "yes"
@@ -76,3 +78,13 @@ whole-store h = let e : Upto 2 ≡ Upto 1 = sym h ∙ computed .said in let z : 
 -- a value that isn't in its normal octets
 pub minus-zero-held : heldAs (treeHeld 2 (made 5 (7 ∷ 5 ∷ []) (0x30 ∷ 0xD4 ∷ 0x10 ∷ 0x00 ∷ 0x20 ∷ []))) ≡ Upto 5 → ⊥
 minus-zero-held h = let e : Apart ≡ Upto 5 = sym (computed .minus-zero) ∙ h in let z : _≡_ {A = ℕ} 0 1 = cc in omega arith
+
+-- the short header still taken for a body of 254 octets, the long one for 253
+pub framed-told : (framedSize 253 ≡ 255) × (framedSize 254 ≡ 258)
+unfolding digits lengthField framedSize
+framed-told = (refl, refl)
+
+-- a default counted, or one that isn't left out: the recommendations "no" and "yes" of a programme
+pub added-told : (addedBy 0x1C 0x83 0 1 (1 ∷ []) 1 ≡ 0) × (addedBy 0x1C 0x83 0 1 (2 ∷ []) 1 ≡ 3)
+unfolding digits value lengthField framedSize rows kindIn known attribute defaults defaultIn width fits meant octetsOf isDefault defaultOctets addedBy
+added-told = (refl, refl)
