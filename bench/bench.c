@@ -48,7 +48,7 @@ enum { SIZES = sizeof kilos / sizeof kilos[0] };
 static struct set sets[SIZES], *set;
 static struct {
     uint8_t tags[PLACES], kinds[PLACES], depths[PLACES];
-    uint16_t parents[PLACES], starts[PLACES], sizes[PLACES];
+    uint16_t parents[PLACES], starts[PLACES], sizes[PLACES], bodies[PLACES];
 } lists;
 static uint8_t store[ROOM], room[ROOM];
 static uint8_t xml_by_library[XML_ROOM], xml_by_second[XML_ROOM];
@@ -91,7 +91,7 @@ static uint64_t read_by_second(const struct file *object, const struct file *oth
 static uint64_t normalise_by_library(const struct file *object, const struct file *other)
 {
     (void)other;
-    return spi_normalise(object->octets, object->size, SIX_LISTS, store, ROOM, room, ROOM);
+    return spi_normalise(object->octets, object->size, SIX_LISTS, lists.bodies, PLACES, store, ROOM, room, ROOM);
 }
 
 static uint64_t normalise_by_second(const struct file *object, const struct file *other)

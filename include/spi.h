@@ -147,9 +147,10 @@ uint64_t spi_write(size_t records,
                    uint8_t *room, size_t room_count);
 
 /* Writes the normal form of an object to the room.  The lists and the store then hold its records
- * with every token replaced and every value in normal form: the store has their bodies.  An attribute
- * that has its default is among these, and not in the normal form.  Refused by 1 to 15; the count is that
- * of the octets.  With SPI_MOST_RECORDS places and SPI_MOST_OCTETS of store and of room, 14 never comes,
+ * with every token replaced and every value in normal form: the store has their bodies, and a seventh
+ * list, `bodies`, whose places count too, how many octets each item's body has in the normal form.  An
+ * attribute that has its default is among these, and not in the normal form.  Refused by 1 to 15; the count
+ * is that of the octets.  With SPI_MOST_RECORDS places and SPI_MOST_OCTETS of store and of room, 14 never comes,
  * and 15 only where the normal form has more octets than an object may. */
 uint64_t spi_normalise(const uint8_t *object, size_t octets,
                        uint8_t *tags, size_t tags_count,
@@ -158,6 +159,7 @@ uint64_t spi_normalise(const uint8_t *object, size_t octets,
                        uint16_t *parents, size_t parents_count,
                        uint16_t *starts, size_t starts_count,
                        uint16_t *sizes, size_t sizes_count,
+                       uint16_t *bodies, size_t bodies_count,
                        uint8_t *store, size_t store_count,
                        uint8_t *room, size_t room_count);
 

@@ -18,7 +18,7 @@ enum {
 
 /* ---- Lent memory -------------------------------------------------------------------------------- */
 
-enum { TAGS, KINDS, DEPTHS, PARENTS, STARTS, SIZES, STORE, ROOM, FIRST, SECOND, PIECES };
+enum { TAGS, KINDS, DEPTHS, PARENTS, STARTS, SIZES, BODIES, STORE, ROOM, FIRST, SECOND, PIECES };
 
 union memory {
     uint8_t octets[AROUND + 2 * MOST + AROUND];
@@ -51,7 +51,7 @@ static uint16_t *numbers_of(int piece)
 
 static size_t width_of(int piece)
 {
-    return piece == PARENTS || piece == STARTS || piece == SIZES ? 2 : 1;
+    return piece >= PARENTS && piece <= BODIES ? 2 : 1;
 }
 
 static size_t end_of(int piece)
@@ -75,7 +75,7 @@ static void lend(int piece, size_t count)
 
 static void lend_lists(size_t places)
 {
-    for (int piece = TAGS; piece <= SIZES; piece++)
+    for (int piece = TAGS; piece <= BODIES; piece++)
         lend(piece, places);
 }
 
@@ -224,7 +224,7 @@ static uint64_t call_read(void)
 
 static uint64_t call_normalise(void)
 {
-    return spi_normalise(OCTETS(FIRST), LISTS, OCTETS(STORE), OCTETS(ROOM));
+    return spi_normalise(OCTETS(FIRST), LISTS, NUMBERS(BODIES), OCTETS(STORE), OCTETS(ROOM));
 }
 
 static uint64_t call_write(void)
@@ -289,6 +289,7 @@ static void print_normal(size_t octets)
     size_t stored = 0;
 
     hand_out_lists(spi_value(spi_read(OCTETS(FIRST), OWN_LISTS)));
+    hand_out(BODIES, lent[TAGS].handed);
     for (size_t i = 0; i < lent[TAGS].handed; i++) {
         size_t end = (size_t)numbers_of(STARTS)[i] + numbers_of(SIZES)[i];
         stored = end > stored ? end : stored;

@@ -59,9 +59,9 @@ bench-read object before after answer c =
     }
 
 pub bench-normalise : BenchNormalise
-bench-normalise object lists lists′ store store′ room room′ n c k o e =
+bench-normalise object memory memory′ room room′ n c k o e =
     let f = table-accepted object k o e in
-    let g = normalised object lists lists′ store store′ room room′ n c in
+    let g = normalised object memory memory′ room room′ n c in
     let same : g .tree ≡ f .0 = (let p = g .is in let q = f .1 in cc) in
     g .octets ∙ ap normalOf same ∙ f .3
 

@@ -35,13 +35,13 @@ pub refuses-all : RefusesAll
 refuses-all before after r l c = let e = bench-read p9 before after (NotRead r) c .counting 1 p9 p9-is l in never (cc)
 
 pub one-output : OneOutput
-one-output listsA listsA′ storeA storeA′ roomA roomA′ n c listsB listsB′ storeB storeB′ roomB roomB′ m d e =
-    let f = bench-normalise p9 listsA listsA′ storeA storeA′ roomA roomA′ n c 1 p9 p9-is in
-    let g = bench-normalise p10 listsB listsB′ storeB storeB′ roomB roomB′ m d 2 listedObject p10-is in
+one-output memoryA memoryA′ roomA roomA′ n c memoryB memoryB′ roomB roomB′ m d e =
+    let f = bench-normalise p9 memoryA memoryA′ roomA roomA′ n c 1 p9 p9-is in
+    let g = bench-normalise p10 memoryB memoryB′ roomB roomB′ m d 2 listedObject p10-is in
     never (cc)
 
 pub input-back : InputBack
-input-back lists lists′ store store′ room room′ n c e = let g = bench-normalise p10 lists lists′ store store′ room room′ n c 2 listedObject p10-is in never (cc)
+input-back memory memory′ room room′ n c e = let g = bench-normalise p10 memory memory′ room room′ n c 2 listedObject p10-is in never (cc)
 
 pub writes-nothing : WritesNothing
 writes-nothing n lists lent before after os c =

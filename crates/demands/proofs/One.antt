@@ -30,9 +30,12 @@ use Rattle.format.specs.Tree.{Items, count, recordsOf}
 use Rattle.format.specs.Judge.{Judged, rule, unless, judge}
 use Rattle.format.specs.Judge.Judged.{refused, accepted}
 use Rattle.format.specs.Meaning.{means, meaningOf, encode, normalOf}
-use Rattle.format.specs.Calls.{Lists, places, lay, judgeAnswer, readAnswer, readRecords, roomy, treeGiven, writeAnswer, writeOctets, Lent, lentBy, fitsLent, misfit, normalAnswer, handed}
+use Rattle.format.specs.Calls.{Lists, places, lay, judgeAnswer, readAnswer, readRecords, roomy, treeGiven, writeAnswer, writeOctets, Lent, fitsLent, misfit, normalAnswer, handed}
 use Rattle.format.specs.Same.{sameMeaning, sameAnswer}
 use Rattle.format.proofs.Lays.{lay-none}
+use Rattle.format.specs.Loaded.{loadedOf}
+use Rattle.format.specs.State.{Memory, layTree}
+use Rattle.state.specs.Taking.{lentBy, loadedInto}
 use Rattle.demands.specs.One.{OfObject, OfCall, Refuses, Ends, SameEnds, JudgeEnds, ReadEnds, ReadAtMostEnds, ReadRecordsEnds, WriteEnds, NormaliseEnds, SameCallEnds, OneExactly, ReadOrder, ReadInOrder, ReadAtMostInOrder, ReadRecordsInOrder, GivenTree, WriteOrder, WriteInOrder, Suffices, Lacks, NormaliseOrder, NormaliseInOrder, SameOrder, SameInOrder, PutEnds, PutCallEnds}
 use Rattle.demands.specs.One.OfCall.{ofCall}
 use Rattle.demands.specs.One.Refuses.{forObject, forCall}
@@ -104,6 +107,16 @@ nothing-handed lent f (accepted t) r h = go (fitsLent lent t) h
     go true e = never (cc)
     go false e = refl
 
+-- nor taken in
+nothing-loaded : (lent : Lent) (memory : Memory) (j : Judged) (r : Refusal) → normalAnswer lent j ≡ NotWritten r → loadedInto lent j memory ≡ memory
+unfolding normalAnswer loadedInto
+nothing-loaded lent memory (refused q) r h = refl
+nothing-loaded lent memory (accepted t) r h = go (fitsLent lent t) h
+  where
+    go : (b : Bool) → cond b (Octets (sizeOf (normalOf t))) (misfit lent t) ≡ NotWritten r → cond b (layTree (loadedOf t) memory) memory ≡ memory
+    go true e = never (cc)
+    go false e = refl
+
 -- what an accepted object lacks
 lack : (lent : Lent) (t : Items) → fitsLent lent t ≡ false → (r : Refusal) × (misfit lent t ≡ NotWritten r) × Lacks lent t r
 unfolding misfit
@@ -135,20 +148,19 @@ normal lent (accepted t) = go (fitsLent lent t) refl
     go false f = let l = lack lent t f in lacking {t = t} (l .0) (rw f (l .1)) (l .2)
 
 pub normalise-ends : NormaliseEnds
-normalise-ends object lists lists′ store store′ room room′ answer c =
-    subst (λ x. Ends (Refuses object (14 ∷ 15 ∷ [])) ((lists′ ≡ lists) × (store′ ≡ store) × (room′ ≡ room)) (writeOutcome x)) (sym (c .answers)) (go (judge object) refl (normal lent (judge object)))
+normalise-ends object memory memory′ room room′ answer c =
+    subst (λ x. Ends (Refuses object (14 ∷ 15 ∷ [])) ((memory′ ≡ memory) × (room′ ≡ room)) (writeOutcome x)) (sym (c .answers)) (go (judge object) refl (normal lent (judge object)))
   where
     lent : Lent
-    lent = lentBy lists store room
+    lent = lentBy memory room
 
-    kept : (r : Refusal) → normalAnswer lent (judge object) ≡ NotWritten r → (lists′ ≡ lists) × (store′ ≡ store) × (room′ ≡ room)
+    kept : (r : Refusal) → normalAnswer lent (judge object) ≡ NotWritten r → (memory′ ≡ memory) × (room′ ≡ room)
     kept r e = (
-      c .leavesLists ∙ ap (λ rs. lay 0 rs lists) (nothing-handed lent _ (judge object) r e) ∙ lay-none 0 lists,
-      c .leavesStore ∙ ap (sets store 0) (nothing-handed lent _ (judge object) r e) ∙ sets-none store 0,
-      c .leavesRoom ∙ ap (sets room 0) (nothing-handed lent _ (judge object) r e) ∙ sets-none room 0,
+      c .leaves ∙ nothing-loaded lent memory (judge object) r e,
+      c .writes ∙ ap (sets room 0) (nothing-handed lent _ (judge object) r e) ∙ sets-none room 0,
     )
 
-    go : (j : Judged) → judge object ≡ j → Normal lent j → Ends (Refuses object (14 ∷ 15 ∷ [])) ((lists′ ≡ lists) × (store′ ≡ store) × (room′ ≡ room)) (writeOutcome (normalAnswer lent (judge object)))
+    go : (j : Judged) → judge object ≡ j → Normal lent j → Ends (Refuses object (14 ∷ 15 ∷ [])) ((memory′ ≡ memory) × (room′ ≡ room)) (writeOutcome (normalAnswer lent (judge object)))
     go (refused r) h (bad e) = rw (h, e) (refusedAt (r .number) (r .place) (r .field) (forObject (r .number) (r .place) (r .field) (of-object object r h)) (kept r (rw h e)))
     go (accepted t) h (lacking r e l) = rw (h, e) (refusedAt (r .number) (r .place) (r .field) (lack-told object lent t r l) (kept r (rw h e)))
     go (accepted t) h (good e s) = rw (h, e) (answered (length (normalOf t)))
@@ -325,8 +337,8 @@ module _ (j : Judged) (lent : Lent) (answer : WriteAnswer) where
       go (accepted t) h (good f s) e = fine t h s (e ∙ ap (normalAnswer lent) h ∙ f)
 
 pub normalise-in-order : NormaliseInOrder
-normalise-in-order object lists lists′ store store′ room room′ answer c =
-    normalise-order (judge object) (lentBy lists store room) answer (λ r h. of-object object r h .most) (c .answers)
+normalise-in-order object memory memory′ room room′ answer c =
+    normalise-order (judge object) (lentBy memory room) answer (λ r h. of-object object r h .most) (c .answers)
 
 module _ (j k : Judged) (answer : SameAnswer) where
   same-order : answer ≡ sameAnswer j k → SameOrder j k answer

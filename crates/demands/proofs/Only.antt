@@ -24,11 +24,10 @@ pub one-write : OneWrite
 one-write n lists lent before one other answer answer′ c d = (one-answer _ _ answer answer′ (c .answers) (d .answers), one-answer _ _ one other (c .leaves) (d .leaves))
 
 pub one-normalise : OneNormalise
-one-normalise object lists oneLists otherLists store oneStore otherStore room oneRoom otherRoom answer answer′ c d = (
+one-normalise object memory oneMemory otherMemory room oneRoom otherRoom answer answer′ c d = (
   one-answer _ _ answer answer′ (c .answers) (d .answers),
-  one-answer _ _ oneLists otherLists (c .leavesLists) (d .leavesLists),
-  one-answer _ _ oneStore otherStore (c .leavesStore) (d .leavesStore),
-  one-answer _ _ oneRoom otherRoom (c .leavesRoom) (d .leavesRoom),
+  one-answer _ _ oneMemory otherMemory (c .leaves) (d .leaves),
+  one-answer _ _ oneRoom otherRoom (c .writes) (d .writes),
 )
 
 pub one-export : OneExport
@@ -59,11 +58,10 @@ pub one-write-c : OneWriteC
 one-write-c n lists lent before one other answer answer′ c d = (one-answer _ _ answer answer′ (c .answers) (d .answers), one-answer _ _ one other (c .leaves .leaves) (d .leaves .leaves))
 
 pub one-normalise-c : OneNormaliseC
-one-normalise-c object lists oneLists otherLists store oneStore otherStore room oneRoom otherRoom answer answer′ c d = (
+one-normalise-c object memory oneMemory otherMemory room oneRoom otherRoom answer answer′ c d = (
   one-answer _ _ answer answer′ (c .answers) (d .answers),
-  one-answer _ _ oneLists otherLists (c .leaves .leavesLists) (d .leaves .leavesLists),
-  one-answer _ _ oneStore otherStore (c .leaves .leavesStore) (d .leaves .leavesStore),
-  one-answer _ _ oneRoom otherRoom (c .leaves .leavesRoom) (d .leaves .leavesRoom),
+  one-answer _ _ oneMemory otherMemory (c .leaves .leaves) (d .leaves .leaves),
+  one-answer _ _ oneRoom otherRoom (c .leaves .writes) (d .leaves .writes),
 )
 
 pub one-same-c : OneSameC

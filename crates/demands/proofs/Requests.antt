@@ -65,15 +65,15 @@ module _ (n : ℕ) (lists : Lists) (lent before after : List ℕ) where
 pub eight-pass : EightPass
 eight-pass = record {
   read = λ before after answer c l. bench-read (named 8) before after answer c .counting 3 (named 8) eight-is l;
-  normalised = λ lists lists′ store store′ room room′ n c. bench-normalise (named 8) lists lists′ store store′ room room′ n c 3 (named 8) eight-is;
+  normalised = λ memory memory′ room room′ n c. bench-normalise (named 8) memory memory′ room room′ n c 3 (named 8) eight-is;
   written = λ before after c. given-passes 3 (namedRecords 8) (accented 8) before after (ill-formed .8) c;
 }
 
 pub nine-fail : NineFail
 nine-fail = record {
   read = λ before after answer c. bench-read (named 9) before after answer c .refusing (refusal 13 4) nine-is;
-  normalised = λ lists lists′ store store′ room room′ answer c.
-      normalise-in-order (named 9) lists lists′ store store′ room room′ answer c .ofObject (refusal 13 4) (omega arith) .1 (table-refused (named 9) (refusal 13 4) nine-is);
+  normalised = λ memory memory′ room room′ answer c.
+      normalise-in-order (named 9) memory memory′ room room′ answer c .ofObject (refusal 13 4) (omega arith) .1 (table-refused (named 9) (refusal 13 4) nine-is);
   written = λ before after answer c. not-given-fails 3 (namedRecords 9) (accented 9) before after (ill-formed .9) answer c;
 }
 
@@ -82,8 +82,8 @@ tells : (object : List ℕ) (place field : ℕ) → outcome true object ≡ refu
 unfolding exportOf exportAnswer
 tells object place field e = record {
   read = λ before after answer c. bench-read object before after answer c .refusing (wrongValue place field) e;
-  normalised = λ lists lists′ store store′ room room′ answer c.
-      normalise-in-order object lists lists′ store store′ room room′ answer c .ofObject (wrongValue place field) (omega arith) .1 (table-refused object (wrongValue place field) e);
+  normalised = λ memory memory′ room room′ answer c.
+      normalise-in-order object memory memory′ room room′ answer c .ofObject (wrongValue place field) (omega arith) .1 (table-refused object (wrongValue place field) e);
   compared = λ other answer a. same-in-order object other answer a .ofFirst (wrongValue place field) .1 (table-refused object (wrongValue place field) e);
   exported = λ before after answer c. c .answers ∙ ap (λ j. exportAnswer (sizeOf before) (exportOf object j)) (table-refused object (wrongValue place field) e);
 }
@@ -153,7 +153,7 @@ pub recommendation-no : RecommendationNo
 unfolding areOctets
 recommendation-no = record {
   read = λ before after answer c l. bench-read (recommended 1) before after answer c .counting 4 unrecommended no-is l;
-  normalised = λ lists lists′ store store′ room room′ n c. bench-normalise (recommended 1) lists lists′ store store′ room room′ n c 4 unrecommended no-is;
+  normalised = λ memory memory′ room room′ n c. bench-normalise (recommended 1) memory memory′ room room′ n c 4 unrecommended no-is;
   compared = table-same (recommended 1) unrecommended 4 3 unrecommended unrecommended (are-octets (recommended 1) refl) (are-octets unrecommended refl) no-is none-is (omega arith) refl;
   yes-differs = table-different (recommended 2) unrecommended 4 3 (recommended 2) unrecommended (are-octets (recommended 2) refl) (are-octets unrecommended refl) yes-is none-is (omega arith) (λ e. let z : _≡_ {A = ℕ} 9 6 = ap length e in omega arith);
 }

@@ -20,13 +20,15 @@ use Rattle.format.specs.Tree.{Items}
 use Rattle.format.specs.Judge.{Judged, judge}
 use Rattle.format.specs.Judge.Judged.{refused, accepted}
 use Rattle.format.specs.Meaning.{means, meaningOf, meaning, encode, normalOf}
-use Rattle.format.specs.Calls.{Lists, Lent, lentBy, handed, NormaliseClaim}
+use Rattle.format.specs.Calls.{Lent, handed}
 use Rattle.format.specs.Same.{sameAnswer}
 use Rattle.format.proofs.Normal.{accepted-ok, normal-means, same-normal}
 use Rattle.format.proofs.Round.{reread}
 use Rattle.format.proofs.NormalOctets.{normal-octets}
 use Rattle.format.proofs.Takes.{ofMeaning, inRecords, inStore, records-means, store-means}
 use Rattle.format.proofs.Same.{same-exactly as same-meaning, different-exactly as different-meaning, normal-exactly}
+use Rattle.format.specs.State.{Memory}
+use Rattle.state.specs.Taking.{lentBy, NormaliseClaim}
 use Rattle.grammar.proofs.Complete.{complete}
 use Rattle.demands.specs.One.{Suffices}
 use Rattle.demands.specs.Three.{SameNormalForms, NormalAccepted, NormalTakesNoMore, NormalAgain, NormalAgainIfAny, BothAccepted, Comparison, SameExactly, IsNormalExactly}
@@ -42,14 +44,14 @@ pub record Normalised (object : List ℕ) (lent : Lent) (room room′ : List ℕ
   pub suffices : Suffices lent tree
   pub behind : drop (n .0) room′ ≡ drop (n .0) room
 
-pub normalised : (object : List ℕ) (lists lists′ : Lists) (store store′ room room′ : List ℕ) (n : OctetCount) → NormaliseClaim object lists lists′ store store′ room room′ (Written n)
-    → Normalised object (lentBy lists store room) room room′ n
+pub normalised : (object : List ℕ) (memory memory′ : Memory) (room room′ : List ℕ) (n : OctetCount) → NormaliseClaim object memory memory′ room room′ (Written n)
+    → Normalised object (lentBy memory room) room room′ n
 unfolding handed
-normalised object lists lists′ store store′ room room′ n c =
-    let f = normalise-in-order object lists lists′ store store′ room room′ (Written n) c .octets n .0 refl in
+normalised object memory memory′ room room′ n c =
+    let f = normalise-in-order object memory memory′ room room′ (Written n) c .octets n .0 refl in
     let t = f .0 in
     let many : n .0 ≡ length (normalOf t) = ap (λ m. m .0) (f .2) in
-    let laid : room′ ≡ sets room 0 (normalOf t) = c .leavesRoom ∙ rw (f .1, suffices-fits (lentBy lists store room) t (f .3)) in
+    let laid : room′ ≡ sets room 0 (normalOf t) = c .writes ∙ rw (f .1, suffices-fits (lentBy memory room) t (f .3)) in
     record {
       tree = t;
       is = f .1;
@@ -60,9 +62,9 @@ normalised object lists lists′ store store′ room room′ n c =
     }
 
 pub same-normal-forms : SameNormalForms
-same-normal-forms a b os ps listsA listsA′ storeA storeA′ roomA roomA′ n c listsB listsB′ storeB storeB′ roomB roomB′ m d =
-    let f = normalised a listsA listsA′ storeA storeA′ roomA roomA′ n c in
-    let g = normalised b listsB listsB′ storeB storeB′ roomB roomB′ m d in
+same-normal-forms a b os ps memoryA memoryA′ roomA roomA′ n c memoryB memoryB′ roomB roomB′ m d =
+    let f = normalised a memoryA memoryA′ roomA roomA′ n c in
+    let g = normalised b memoryB memoryB′ roomB roomB′ m d in
     let p = accepted-means a (f .tree) (f .is) in
     let q = accepted-means b (g .tree) (g .is) in
     let one = same-normal a b os ps (meaningOf (f .tree)) (meaningOf (g .tree)) p q (f .suffices .object) in (
@@ -75,9 +77,9 @@ form-means : (object : List ℕ) → Octets object → (lent : Lent) (room room�
 form-means object os lent room room′ n f = ap meaning (f .octets) ∙ normal-means object os (meaningOf (f .tree)) (accepted-means object (f .tree) (f .is)) (f .suffices .object)
 
 pub normal-accepted : NormalAccepted
-normal-accepted object os lists lists′ store store′ room room′ n c =
-    let f = normalised object lists lists′ store store′ room room′ n c in
-    let e = form-means object os (lentBy lists store room) room room′ n f in
+normal-accepted object os memory memory′ room room′ n c =
+    let f = normalised object memory memory′ room room′ n c in
+    let e = form-means object os (lentBy memory room) room room′ n f in
     let m = has-meaning (take (n .0) room′) (meaningOf (f .tree)) e in
     record {
       again = m .0;
@@ -110,26 +112,26 @@ form-again object os lent room room′ n f u h =
     ap encode (Option·some-injective (meaningOf u) (meaningOf (f .tree)) (sym (accepted-means (take (n .0) room′) u h) ∙ e)) ∙ sym (f .octets)
 
 pub normal-again-if-any : NormalAgainIfAny
-normal-again-if-any object os lists lists′ store store′ room room′ n c again again′ store₂ store₂′ room₂ room₂′ m d =
-    let f = normalised object lists lists′ store store′ room room′ n c in
-    let g = normalised (take (n .0) room′) again again′ store₂ store₂′ room₂ room₂′ m d in
-    let same : normalOf (g .tree) ≡ take (n .0) room′ = form-again object os (lentBy lists store room) room room′ n f (g .tree) (g .is) in
+normal-again-if-any object os memory memory′ room room′ n c again again′ room₂ room₂′ m d =
+    let f = normalised object memory memory′ room room′ n c in
+    let g = normalised (take (n .0) room′) again again′ room₂ room₂′ m d in
+    let same : normalOf (g .tree) ≡ take (n .0) room′ = form-again object os (lentBy memory room) room room′ n f (g .tree) (g .is) in
     (ap asOctets (g .many ∙ ap length (same ∙ f .octets) ∙ sym (f .many)), g .octets ∙ same)
 
 pub normal-again : NormalAgain
-normal-again object os lists lists′ store store′ room room′ n c again again′ store₂ store₂′ room₂ room₂′ answer d places-more store-more room-enough =
-    let f = normalised object lists lists′ store store′ room room′ n c in
+normal-again object os memory memory′ room room′ n c again again′ room₂ room₂′ answer d places-more store-more room-enough =
+    let f = normalised object memory memory′ room room′ n c in
     let u = normal-takes-no-more object os (f .tree) (f .is) (f .suffices .object) in
     let long : n .0 ≡ length (normalOf (u .again)) = f .many ∙ ap length (sym (u .octets)) in
-    let enough : Suffices (lentBy again store₂ room₂) (u .again) = record {
+    let enough : Suffices (lentBy again room₂) (u .again) = record {
       records = omega (arith, u .records, f .suffices .records);
       store = omega (arith, u .store, f .suffices .store);
       room = omega arith;
       object = omega (arith, f .many, f .suffices .object);
     } in
-    let written : answer ≡ Written n = normalise-in-order (take (n .0) room′) again again′ store₂ store₂′ room₂ room₂′ answer d .octets n .1 (u .again, ap judge (f .octets) ∙ u .accepts, ap asOctets long, enough) in
-    let given = subst (NormaliseClaim (take (n .0) room′) again again′ store₂ store₂′ room₂ room₂′) written d in
-    (written, normal-again-if-any object os lists lists′ store store′ room room′ n c again again′ store₂ store₂′ room₂ room₂′ n given .1)
+    let written : answer ≡ Written n = normalise-in-order (take (n .0) room′) again again′ room₂ room₂′ answer d .octets n .1 (u .again, ap judge (f .octets) ∙ u .accepts, ap asOctets long, enough) in
+    let given = subst (NormaliseClaim (take (n .0) room′) again again′ room₂ room₂′) written d in
+    (written, normal-again-if-any object os memory memory′ room room′ n c again again′ room₂ room₂′ n given .1)
 
 -- ---- comparing
 module _ (a b : List ℕ) (answer : SameAnswer) (e : answer ≡ sameAnswer (judge a) (judge b)) where

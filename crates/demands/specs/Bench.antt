@@ -12,9 +12,11 @@ use Rattle.format.specs.declared.ReadAnswer.the-variants.{Records, NotRead}
 use Rattle.format.specs.declared.WriteAnswer.the-variants.{Octets as Written}
 use Rattle.format.specs.Judge.{judge}
 use Rattle.format.specs.Writer.{tabled}
-use Rattle.format.specs.Calls.{Lists, row, places, ReadClaim, NormaliseClaim}
+use Rattle.format.specs.Calls.{Lists, row, places, ReadClaim}
 use Rattle.format.specs.Bench.{outcome, cases, listed, slips}
 use Rattle.format.specs.Bench.Outcome.{refuses, normally}
+use Rattle.format.specs.State.{Memory}
+use Rattle.state.specs.Taking.{NormaliseClaim}
 
 -- P1 to P14, one table under one claim: for each object the refusal, or how many records and which normal form; for the octets of a time, that they are accepted
 -- as one, which time they mean and its normal octets (format/specs/Bench has the table, as document 01 has it)
@@ -48,7 +50,7 @@ BenchRead = (object : List ℕ) (before after : Lists) (answer : ReadAnswer) →
 -- the octets of normalise are those that the table says
 abbrev pub BenchNormalise : Type 0
 BenchNormalise =
-    (object : List ℕ) (lists lists′ : Lists) (store store′ room room′ : List ℕ) (n : OctetCount) → NormaliseClaim object lists lists′ store store′ room room′ (Written n)
+    (object : List ℕ) (memory memory′ : Memory) (room room′ : List ℕ) (n : OctetCount) → NormaliseClaim object memory memory′ room room′ (Written n)
     → (k : ℕ) (o : List ℕ) → outcome true object ≡ normally k o → take (n .0) room′ ≡ o
 
 -- read with two places or more puts the listing's records into the lists

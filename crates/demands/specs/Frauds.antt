@@ -12,7 +12,9 @@ use Rattle.format.specs.declared.Refusal.{Refusal}
 use Rattle.format.specs.declared.ReadAnswer.the-variants.{Records, NotRead}
 use Rattle.format.specs.declared.WriteAnswer.the-variants.{Octets as Written}
 use Rattle.format.specs.Tree.{Items, count, recordsOf}
-use Rattle.format.specs.Calls.{Lists, row, places, ReadClaim, WriteClaim, NormaliseClaim}
+use Rattle.format.specs.Calls.{Lists, row, places, ReadClaim, WriteClaim}
+use Rattle.format.specs.State.{Memory}
+use Rattle.state.specs.Taking.{NormaliseClaim}
 use Rattle.grammar.specs.Grammar.{Accepts}
 
 -- P9 and P10
@@ -29,14 +31,14 @@ RefusesAll = (before after : Lists) (r : Refusal) → 1 ≤ places before → Re
 -- a normaliser with one fixed output: P9 and P10 have two
 abbrev pub OneOutput : Type 0
 OneOutput =
-    (listsA listsA′ : Lists) (storeA storeA′ roomA roomA′ : List ℕ) (n : OctetCount) → NormaliseClaim p9 listsA listsA′ storeA storeA′ roomA roomA′ (Written n)
-    → (listsB listsB′ : Lists) (storeB storeB′ roomB roomB′ : List ℕ) (m : OctetCount) → NormaliseClaim p10 listsB listsB′ storeB storeB′ roomB roomB′ (Written m)
+    (memoryA memoryA′ : Memory) (roomA roomA′ : List ℕ) (n : OctetCount) → NormaliseClaim p9 memoryA memoryA′ roomA roomA′ (Written n)
+    → (memoryB memoryB′ : Memory) (roomB roomB′ : List ℕ) (m : OctetCount) → NormaliseClaim p10 memoryB memoryB′ roomB roomB′ (Written m)
     → take (n .0) roomA′ ≡ take (m .0) roomB′ → ⊥
 
 -- one that hands its input back: P10 has another normal form
 abbrev pub InputBack : Type 0
 InputBack =
-    (lists lists′ : Lists) (store store′ room room′ : List ℕ) (n : OctetCount) → NormaliseClaim p10 lists lists′ store store′ room room′ (Written n) → take (n .0) room′ ≡ p10 → ⊥
+    (memory memory′ : Memory) (room room′ : List ℕ) (n : OctetCount) → NormaliseClaim p10 memory memory′ room room′ (Written n) → take (n .0) room′ ≡ p10 → ⊥
 
 -- a writer that writes nothing
 abbrev pub WritesNothing : Type 0

@@ -32,8 +32,10 @@ use Rattle.format.specs.Judge.Judged.{refused, accepted}
 use Rattle.format.specs.Meaning.{means, encode, normalOf}
 use Rattle.format.specs.Writer.{atTop, ruled, tabled}
 use Rattle.format.specs.Loaded.{storeOf}
-use Rattle.format.specs.Calls.{Lists, row, places, Lent, lentBy, judgeAnswer, ReadClaim, ReadAtMostClaim, ReadRecordsClaim, WriteClaim, NormaliseClaim}
+use Rattle.format.specs.Calls.{Lists, row, places, Lent, judgeAnswer, ReadClaim, ReadAtMostClaim, ReadRecordsClaim, WriteClaim}
 use Rattle.format.specs.Same.{sameAnswer}
+use Rattle.format.specs.State.{Memory}
+use Rattle.state.specs.Taking.{lentBy, NormaliseClaim}
 
 -- ---- an answer, or one numbered refusal with a place and a field; and a refusal leaves all lent memory untouched
 
@@ -99,8 +101,8 @@ WriteEnds =
 -- normalise gives 1 to 13, 14 and 15
 abbrev pub NormaliseEnds : Type 0
 NormaliseEnds =
-    (object : List ℕ) (lists lists′ : Lists) (store store′ room room′ : List ℕ) (answer : WriteAnswer) → NormaliseClaim object lists lists′ store store′ room room′ answer
-    → Ends (Refuses object (14 ∷ 15 ∷ [])) ((lists′ ≡ lists) × (store′ ≡ store) × (room′ ≡ room)) (writeOutcome answer)
+    (object : List ℕ) (memory memory′ : Memory) (room room′ : List ℕ) (answer : WriteAnswer) → NormaliseClaim object memory memory′ room room′ answer
+    → Ends (Refuses object (14 ∷ 15 ∷ [])) ((memory′ ≡ memory) × (room′ ≡ room)) (writeOutcome answer)
 
 -- same gives 1 to 13 of either object; nothing is lent to it
 abbrev pub SameCallEnds : Type 0
@@ -180,8 +182,8 @@ pub record NormaliseOrder (judged : Judged) (lent : Lent) (answer : WriteAnswer)
 
 abbrev pub NormaliseInOrder : Type 0
 NormaliseInOrder =
-    (object : List ℕ) (lists lists′ : Lists) (store store′ room room′ : List ℕ) (answer : WriteAnswer) → NormaliseClaim object lists lists′ store store′ room room′ answer
-    → NormaliseOrder (judge object) (lentBy lists store room) answer
+    (object : List ℕ) (memory memory′ : Memory) (room room′ : List ℕ) (answer : WriteAnswer) → NormaliseClaim object memory memory′ room room′ answer
+    → NormaliseOrder (judge object) (lentBy memory room) answer
 
 -- same: the first object's refusal exactly when it has one; the second's exactly when it has one and the first is accepted
 pub record SameOrder (judgedA judgedB : Judged) (answer : SameAnswer) : Type 0 where

@@ -12,7 +12,9 @@ use Rattle.text.specs.Weighing.{Marks, Widths, Shows}
 use Rattle.format.specs.declared.Record.{Record}
 use Rattle.format.specs.declared.ReadAnswer.{ReadAnswer}
 use Rattle.format.specs.declared.WriteAnswer.{WriteAnswer}
-use Rattle.format.specs.Calls.{Lists, ReadClaim, ReadAtMostClaim, ReadRecordsClaim, WriteClaim, NormaliseClaim}
+use Rattle.format.specs.Calls.{Lists, ReadClaim, ReadAtMostClaim, ReadRecordsClaim, WriteClaim}
+use Rattle.format.specs.State.{Memory}
+use Rattle.state.specs.Taking.{NormaliseClaim}
 use Rattle.xml.specs.Export.{ExportClaim}
 use Rattle.spi_c.specs.Claims.{ReadsC, SpansC, WritesC, NormalisesC, SameC, ExportsC}
 
@@ -57,9 +59,9 @@ OneWrite =
 -- normalise
 abbrev pub OneNormalise : Type 0
 OneNormalise =
-    (object : List ℕ) (lists oneLists otherLists : Lists) (store oneStore otherStore room oneRoom otherRoom : List ℕ) (answer answer′ : WriteAnswer)
-    → NormaliseClaim object lists oneLists store oneStore room oneRoom answer → NormaliseClaim object lists otherLists store otherStore room otherRoom answer′
-    → (answer ≡ answer′) × (oneLists ≡ otherLists) × (oneStore ≡ otherStore) × (oneRoom ≡ otherRoom)
+    (object : List ℕ) (memory oneMemory otherMemory : Memory) (room oneRoom otherRoom : List ℕ) (answer answer′ : WriteAnswer)
+    → NormaliseClaim object memory oneMemory room oneRoom answer → NormaliseClaim object memory otherMemory room otherRoom answer′
+    → (answer ≡ answer′) × (oneMemory ≡ otherMemory) × (oneRoom ≡ otherRoom)
 
 -- export
 abbrev pub OneExport : Type 0
@@ -108,9 +110,9 @@ OneWriteC =
 
 abbrev pub OneNormaliseC : Type 0
 OneNormaliseC =
-    (object : List ℕ) (lists oneLists otherLists : Lists) (store oneStore otherStore room oneRoom otherRoom : List ℕ) (answer answer′ : ℕ)
-    → NormalisesC object lists oneLists store oneStore room oneRoom answer → NormalisesC object lists otherLists store otherStore room otherRoom answer′
-    → (answer ≡ answer′) × (oneLists ≡ otherLists) × (oneStore ≡ otherStore) × (oneRoom ≡ otherRoom)
+    (object : List ℕ) (memory oneMemory otherMemory : Memory) (room oneRoom otherRoom : List ℕ) (answer answer′ : ℕ)
+    → NormalisesC object memory oneMemory room oneRoom answer → NormalisesC object memory otherMemory room otherRoom answer′
+    → (answer ≡ answer′) × (oneMemory ≡ otherMemory) × (oneRoom ≡ otherRoom)
 
 abbrev pub OneSameC : Type 0
 OneSameC = (a b : List ℕ) (answer answer′ : ℕ) → SameC a b answer → SameC a b answer′ → answer ≡ answer′

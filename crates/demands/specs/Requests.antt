@@ -16,9 +16,11 @@ use Rattle.format.specs.Tree.{Items, withoutDefaults}
 use Rattle.format.specs.Judge.{judge}
 use Rattle.format.specs.Judge.Judged.{accepted}
 use Rattle.format.specs.Meaning.{means, tableOf, meaningOf, normalOf}
-use Rattle.format.specs.Calls.{Lists, places, ReadClaim, WriteClaim, NormaliseClaim}
+use Rattle.format.specs.Calls.{Lists, places, ReadClaim, WriteClaim}
 use Rattle.format.specs.Same.{sameAnswer}
 use Rattle.format.specs.Bench.{accented}
+use Rattle.format.specs.State.{Memory}
+use Rattle.state.specs.Taking.{NormaliseClaim}
 use Rattle.xml.specs.Export.{ExportClaim}
 
 -- 2026-01: shown text is counted in characters. A top with a short name of so many letters of two octets each, as an object
@@ -40,14 +42,14 @@ namedRecords n = record {
 pub record EightPass : Type 0 where
   pub read : (before after : Lists) (answer : ReadAnswer) → ReadClaim (named 8) before after answer → 3 ≤ places before → answer ≡ Records (record { records = 3 })
   pub normalised :
-      (lists lists′ : Lists) (store store′ room room′ : List ℕ) (n : OctetCount) → NormaliseClaim (named 8) lists lists′ store store′ room room′ (Written n) → take (n .0) room′ ≡ named 8
+      (memory memory′ : Memory) (room room′ : List ℕ) (n : OctetCount) → NormaliseClaim (named 8) memory memory′ room room′ (Written n) → take (n .0) room′ ≡ named 8
   pub written : (before after : List ℕ) → WriteClaim 3 (namedRecords 8) (accented 8) before after (NotWritten (refusal 16 0)) → ⊥
 
 -- nine fail: 13 at the name's CDATA, and 16 of its records, whatever is lent
 pub record NineFail : Type 0 where
   pub read : (before after : Lists) (answer : ReadAnswer) → ReadClaim (named 9) before after answer → answer ≡ NotRead (refusal 13 4)
   pub normalised :
-      (lists lists′ : Lists) (store store′ room room′ : List ℕ) (answer : WriteAnswer) → NormaliseClaim (named 9) lists lists′ store store′ room room′ answer
+      (memory memory′ : Memory) (room room′ : List ℕ) (answer : WriteAnswer) → NormaliseClaim (named 9) memory memory′ room room′ answer
       → answer ≡ NotWritten (refusal 13 4)
   pub written : (before after : List ℕ) (answer : WriteAnswer) → WriteClaim 3 (namedRecords 9) (accented 9) before after answer → answer ≡ NotWritten (refusal 16 0)
 
@@ -55,7 +57,7 @@ pub record NineFail : Type 0 where
 pub record TellsField (object : List ℕ) (place field : ℕ) : Type 0 where
   pub read : (before after : Lists) (answer : ReadAnswer) → ReadClaim object before after answer → answer ≡ NotRead (wrongValue place field)
   pub normalised :
-      (lists lists′ : Lists) (store store′ room room′ : List ℕ) (answer : WriteAnswer) → NormaliseClaim object lists lists′ store store′ room room′ answer
+      (memory memory′ : Memory) (room room′ : List ℕ) (answer : WriteAnswer) → NormaliseClaim object memory memory′ room room′ answer
       → answer ≡ NotWritten (wrongValue place field)
   pub compared : (other : List ℕ) (answer : SameAnswer) → answer ≡ sameAnswer (judge object) (judge other) → answer ≡ FirstRefused (wrongValue place field)
   pub exported : (before after : List ℕ) (answer : WriteAnswer) → ExportClaim object before after answer → answer ≡ NotWritten (wrongValue place field)
@@ -87,7 +89,7 @@ unrecommended = 0x02 ∷ 0x04 ∷ 0x21 ∷ 0x02 ∷ 0x1C ∷ 0x00 ∷ []
 pub record RecommendationNo : Type 0 where
   pub read : (before after : Lists) (answer : ReadAnswer) → ReadClaim (recommended 1) before after answer → 4 ≤ places before → answer ≡ Records (record { records = 4 })
   pub normalised :
-      (lists lists′ : Lists) (store store′ room room′ : List ℕ) (n : OctetCount) → NormaliseClaim (recommended 1) lists lists′ store store′ room room′ (Written n)
+      (memory memory′ : Memory) (room room′ : List ℕ) (n : OctetCount) → NormaliseClaim (recommended 1) memory memory′ room room′ (Written n)
       → take (n .0) room′ ≡ unrecommended
   pub compared : (answer : SameAnswer) → answer ≡ sameAnswer (judge (recommended 1)) (judge unrecommended) → answer ≡ Same
   pub yes-differs : (answer : SameAnswer) → answer ≡ sameAnswer (judge (recommended 2)) (judge unrecommended) → answer ≡ Different

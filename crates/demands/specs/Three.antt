@@ -22,16 +22,17 @@ use Rattle.format.specs.Judge.{judge}
 use Rattle.format.specs.Judge.Judged.{accepted}
 use Rattle.format.specs.Meaning.{meaning, normalOf, normal}
 use Rattle.format.specs.Loaded.{storeOf}
-use Rattle.format.specs.Calls.{Lists, places, NormaliseClaim}
 use Rattle.format.specs.Same.{sameAnswer, isNormal}
+use Rattle.format.specs.State.{Memory, placesIn}
+use Rattle.state.specs.Taking.{NormaliseClaim}
 use Rattle.grammar.specs.Grammar.{Accepts}
 
 -- the normal forms of two accepted objects are the same octets exactly when the objects mean the same
 abbrev pub SameNormalForms : Type 0
 SameNormalForms =
     (a b : List ℕ) → Octets a → Octets b
-    → (listsA listsA′ : Lists) (storeA storeA′ roomA roomA′ : List ℕ) (n : OctetCount) → NormaliseClaim a listsA listsA′ storeA storeA′ roomA roomA′ (Written n)
-    → (listsB listsB′ : Lists) (storeB storeB′ roomB roomB′ : List ℕ) (m : OctetCount) → NormaliseClaim b listsB listsB′ storeB storeB′ roomB roomB′ (Written m)
+    → (memoryA memoryA′ : Memory) (roomA roomA′ : List ℕ) (n : OctetCount) → NormaliseClaim a memoryA memoryA′ roomA roomA′ (Written n)
+    → (memoryB memoryB′ : Memory) (roomB roomB′ : List ℕ) (m : OctetCount) → NormaliseClaim b memoryB memoryB′ roomB roomB′ (Written m)
     → (take (n .0) roomA′ ≡ take (m .0) roomB′) ↔ (meaning a ≡ meaning b)
 
 -- a normal form is accepted and means what its source meant; behind it the room is as before
@@ -43,8 +44,8 @@ pub record NormalForm (object room room′ : List ℕ) (n : OctetCount) : Type 0
 
 abbrev pub NormalAccepted : Type 0
 NormalAccepted =
-    (object : List ℕ) → Octets object → (lists lists′ : Lists) (store store′ room room′ : List ℕ) (n : OctetCount)
-    → NormaliseClaim object lists lists′ store store′ room room′ (Written n) → NormalForm object room room′ n
+    (object : List ℕ) → Octets object → (memory memory′ : Memory) (room room′ : List ℕ) (n : OctetCount)
+    → NormaliseClaim object memory memory′ room room′ (Written n) → NormalForm object room room′ n
 
 -- the normal form of an accepted object with a tree, taken as an object: it is accepted, takes no more places and no more of a store than its source, and is its
 -- own normal form
@@ -63,17 +64,17 @@ NormalTakesNoMore = (object : List ℕ) → Octets object → (t : Items) → ju
 abbrev pub NormalAgain : Type 0
 NormalAgain =
     (object : List ℕ) → Octets object
-    → (lists lists′ : Lists) (store store′ room room′ : List ℕ) (n : OctetCount) → NormaliseClaim object lists lists′ store store′ room room′ (Written n)
-    → (again again′ : Lists) (store₂ store₂′ room₂ room₂′ : List ℕ) (answer : WriteAnswer) → NormaliseClaim (take (n .0) room′) again again′ store₂ store₂′ room₂ room₂′ answer
-    → places lists ≤ places again → length store ≤ length store₂ → n .0 ≤ length room₂
+    → (memory memory′ : Memory) (room room′ : List ℕ) (n : OctetCount) → NormaliseClaim object memory memory′ room room′ (Written n)
+    → (again again′ : Memory) (room₂ room₂′ : List ℕ) (answer : WriteAnswer) → NormaliseClaim (take (n .0) room′) again again′ room₂ room₂′ answer
+    → placesIn memory ≤ placesIn again → length (memory .store) ≤ length (again .store) → n .0 ≤ length room₂
     → (answer ≡ Written n) × (take (n .0) room₂′ ≡ take (n .0) room′)
 
 -- and whatever is lent to the second call, its octets are the same wherever it gives any
 abbrev pub NormalAgainIfAny : Type 0
 NormalAgainIfAny =
     (object : List ℕ) → Octets object
-    → (lists lists′ : Lists) (store store′ room room′ : List ℕ) (n : OctetCount) → NormaliseClaim object lists lists′ store store′ room room′ (Written n)
-    → (again again′ : Lists) (store₂ store₂′ room₂ room₂′ : List ℕ) (m : OctetCount) → NormaliseClaim (take (n .0) room′) again again′ store₂ store₂′ room₂ room₂′ (Written m)
+    → (memory memory′ : Memory) (room room′ : List ℕ) (n : OctetCount) → NormaliseClaim object memory memory′ room room′ (Written n)
+    → (again again′ : Memory) (room₂ room₂′ : List ℕ) (m : OctetCount) → NormaliseClaim (take (n .0) room′) again again′ room₂ room₂′ (Written m)
     → (m ≡ n) × (take (m .0) room₂′ ≡ take (n .0) room′)
 
 -- two accepted objects

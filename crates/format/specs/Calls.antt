@@ -22,7 +22,7 @@ use Rattle.format.specs.Judge.{Judged, judge}
 use Rattle.format.specs.Judge.Judged.{refused, accepted}
 use Rattle.format.specs.Meaning.{means, encode, normalOf}
 use Rattle.format.specs.Writer.{rebuilt}
-use Rattle.format.specs.Loaded.{storeOf, loadedOf}
+use Rattle.format.specs.Loaded.{storeOf}
 
 -- the record list as the core keeps it: a list of numbers for each field
 pub record Lists : Type 0 where
@@ -118,9 +118,6 @@ pub record Lent : Type 0 where
   pub store : OctetCount
   pub room : OctetCount
 
-abbrev pub lentBy : Lists → List ℕ → List ℕ → Lent
-lentBy lists store room = record { records = places lists; store = sizeOf store; room = sizeOf room }
-
 unfoldable pub storedWithin : Lent → Items → Bool
 storedWithin lent t = octetsWithin (sizeOf (storeOf t)) (lent .store) && roomy (lent .room) (normalOf t)
 
@@ -141,12 +138,3 @@ normalAnswer lent (accepted t) = cond (fitsLent lent t) (Octets (sizeOf (normalO
 unfoldable pub handed : {A : Type 0} → Lent → (Items → List A) → Judged → List A
 handed lent f (refused r) = []
 handed lent f (accepted t) = cond (fitsLent lent t) (f t) []
-
-unfoldable pub loadedRecords : Items → List Record
-loadedRecords t = recordsOf (loadedOf t)
-
-pub record NormaliseClaim (object : List ℕ) (lists lists′ : Lists) (store store′ room room′ : List ℕ) (answer : WriteAnswer) : Type 0 where
-  pub answers : answer ≡ normalAnswer (lentBy lists store room) (judge object)
-  pub leavesLists : lists′ ≡ lay 0 (handed (lentBy lists store room) loadedRecords (judge object)) lists
-  pub leavesStore : store′ ≡ sets store 0 (handed (lentBy lists store room) storeOf (judge object))
-  pub leavesRoom : room′ ≡ sets room 0 (handed (lentBy lists store room) normalOf (judge object))

@@ -1,5 +1,5 @@
 -- The ways through the program's functions that aren't arithmetic alone: where octets first differ, a normal form and an XML within their room, items that lie in a part.
-use mathlib.Core.Path.{_≡_, refl}
+use mathlib.Core.Path.{_≡_}
 use mathlib.Core.List.{List}
 use Prim.Native.Nat.{ℕ, suc, _+_, _-_, _^_, _≤_, _<_}
 use native.Mathlib.Omega.{arith}
@@ -17,7 +17,8 @@ use Rattle.io.proofs.Counting.{counts}
 use Rattle.format.specs.declared.WriteAnswer.{WriteAnswer}
 use Rattle.format.specs.declared.WriteAnswer.the-variants.{Octets, NotWritten}
 use Rattle.format.specs.Answers.{writeOutcome}
-use Rattle.format.specs.Calls.{Lists, NormaliseClaim}
+use Rattle.format.specs.State.{Memory}
+use Rattle.state.specs.Taking.{NormaliseClaim}
 use Rattle.xml.specs.Export.{ExportClaim}
 use Rattle.xml.proofs.Objects.{export-inside}
 use Rattle.writer.proofs.Normalised.{written-inside}
@@ -65,11 +66,11 @@ pub ruleset shared-ways = (shared-begin, shared-first, shared-second, shared-dif
 -- ---- a normal form, and an XML
 
 -- what is handed out lies in the room
-pub normal-within : (o : List ℕ) (l l′ : Lists) (store store′ room room′ : List ℕ) (answer : WriteAnswer) → NormaliseClaim o l l′ store store′ room room′ answer
+pub normal-within : (o : List ℕ) (m m′ : Memory) (room room′ : List ℕ) (answer : WriteAnswer) → NormaliseClaim o m m′ room room′ answer
     → length room′ ≡ length room → (r : Made) → r .size .0 ≡ writeOutcome answer .count → Counts (r .size .0) room′
-normal-within o l l′ store store′ room room′ (Octets n) c e r q =
-    counts (r .size .0) room′ (omega (arith, q, written-inside o l l′ store store′ room room′ (Octets n) c n refl))
-normal-within o l l′ store store′ room room′ (NotWritten r₁) c e r q = counts (r .size .0) room′ (omega (arith, q))
+normal-within o m m′ room room′ (Octets n) c e r q =
+    counts (r .size .0) room′ (omega (arith, q, written-inside o m m′ room room′ n c))
+normal-within o m m′ room room′ (NotWritten r₁) c e r q = counts (r .size .0) room′ (omega (arith, q))
 
 pub xml-within : (o room room′ : List ℕ) (answer : WriteAnswer) → ExportClaim o room room′ answer → length room′ ≡ length room
     → (r : Made) → r .size .0 ≡ writeOutcome answer .count → Counts (r .size .0) room′

@@ -121,6 +121,7 @@ pub fn normal_form(object: &[u8], lent: &mut [u8]) -> Made
     let mut parents = number_places();
     let mut starts = number_places();
     let mut sizes = number_places();
+    let mut bodies = number_places();
     let mut store = room();
     let answer = writer::normalise(
         object,
@@ -130,6 +131,7 @@ pub fn normal_form(object: &[u8], lent: &mut [u8]) -> Made
         &mut parents,
         &mut starts,
         &mut sizes,
+        &mut bodies,
         &mut store,
         lent,
     );

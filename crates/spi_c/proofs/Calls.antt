@@ -16,9 +16,11 @@ use Rattle.format.specs.declared.ReadAnswer.{ReadAnswer}
 use Rattle.format.specs.declared.WriteAnswer.{WriteAnswer}
 use Rattle.format.specs.declared.SameAnswer.{SameAnswer}
 use Rattle.format.specs.Answers.{readOutcome, writeOutcome, sameOutcome}
-use Rattle.format.specs.Calls.{Lists, places, ReadClaim, spanOf, treeGiven, WriteClaim, lentBy, NormaliseClaim}
+use Rattle.format.specs.Calls.{Lists, places, ReadClaim, spanOf, treeGiven, WriteClaim}
 use Rattle.format.specs.Judge.{judge}
 use Rattle.format.specs.Same.{sameAnswer}
+use Rattle.format.specs.State.{Memory}
+use Rattle.state.specs.Taking.{lentBy, NormaliseClaim}
 use Rattle.spi_c.specs.Packed.{packedOutcome, packedSame, Small, SmallSame, SmallSpan}
 use Rattle.octets.proofs.Lists.{sets-left}
 use Rattle.xml.specs.Export.{Exported, exportOf, exportAnswer, exportOctets, ExportClaim}
@@ -51,16 +53,16 @@ module _ (n : ℕ) (lists : Lists) (lent before after : List ℕ) (answer : Writ
   pub write-says : (a : ℕ) → a ≡ packedOutcome o → WritesC n lists lent before after a
   write-says a h = record { answers = outcome-packed writeOutcome _ _ (claim .answers) o told packedOutcome a h; leaves = record { answers = refl; leaves = claim .leaves } }
 
-module _ (object : List ℕ) (lists lists′ : Lists) (store store′ room room′ : List ℕ) (answer : WriteAnswer) (claim : NormaliseClaim object lists lists′ store store′ room room′ answer) (o : Outcome)
+module _ (object : List ℕ) (m m′ : Memory) (room room′ : List ℕ) (answer : WriteAnswer) (claim : NormaliseClaim object m m′ room room′ answer) (o : Outcome)
     (told : o ≡ writeOutcome answer) where
   pub normal-small : Small o
-  normal-small = outcome-is writeOutcome _ _ (claim .answers) o told Small (told-small (normal-told (lentBy lists store room) object))
+  normal-small = outcome-is writeOutcome _ _ (claim .answers) o told Small (told-small (normal-told (lentBy m room) object))
 
-  pub normal-says : (a : ℕ) → a ≡ packedOutcome o → NormalisesC object lists lists′ store store′ room room′ a
+  pub normal-says : (a : ℕ) → a ≡ packedOutcome o → NormalisesC object m m′ room room′ a
   normal-says a h =
       record {
         answers = outcome-packed writeOutcome _ _ (claim .answers) o told packedOutcome a h;
-        leaves = record { answers = refl; leavesLists = claim .leavesLists; leavesStore = claim .leavesStore; leavesRoom = claim .leavesRoom };
+        leaves = record { answers = refl; leaves = claim .leaves; writes = claim .writes };
       }
 
 module _ (a b : List ℕ) (answer : SameAnswer) (claim : answer ≡ sameAnswer (judge a) (judge b)) (o : SameOutcome) (told : o ≡ sameOutcome answer) where

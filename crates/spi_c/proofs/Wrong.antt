@@ -10,8 +10,10 @@ use Rattle.format.specs.declared.ReadAnswer.the-variants.{Records, NotRead}
 use Rattle.format.specs.declared.SameAnswer.the-variants.{Same, Different, FirstRefused, SecondRefused}
 use Rattle.format.specs.Answers.{refusal, wrongValue, readOutcome, writeOutcome, sameOutcome}
 use Rattle.format.specs.Judge.{judge}
-use Rattle.format.specs.Calls.{Lists, places, readAnswer, spanOf, treeGiven, writeAnswer, lentBy, normalAnswer}
+use Rattle.format.specs.Calls.{Lists, places, readAnswer, spanOf, treeGiven, writeAnswer, normalAnswer}
 use Rattle.format.specs.Same.{sameAnswer}
+use Rattle.format.specs.State.{Memory}
+use Rattle.state.specs.Taking.{lentBy}
 use Rattle.xml.specs.Export.{exportOf, exportAnswer}
 use Rattle.spi_c.specs.Packed.{packed, packedOutcome, outcomeIn, packedSame, sameIn, packedSpan, spanIn}
 use Rattle.spi_c.specs.Claims.{ReadsC, SpansC, WritesC, NormalisesC, SameC, roomFor, ExportsC}
@@ -30,9 +32,9 @@ pub write-back : (n : ℕ) (lists : Lists) (lent before after : List ℕ) (a : �
     → outcomeIn a ≡ writeOutcome (writeAnswer (sizeOf before) (treeGiven n lists lent))
 write-back n lists lent before after a c = ap outcomeIn (c .answers) ∙ told-back (write-told (sizeOf before) (treeGiven n lists lent))
 
-pub normalise-back : (object : List ℕ) (lists lists′ : Lists) (store store′ room room′ : List ℕ) (a : ℕ) → NormalisesC object lists lists′ store store′ room room′ a
-    → outcomeIn a ≡ writeOutcome (normalAnswer (lentBy lists store room) (judge object))
-normalise-back object lists lists′ store store′ room room′ a c = ap outcomeIn (c .answers) ∙ told-back (normal-told (lentBy lists store room) object)
+pub normalise-back : (object : List ℕ) (m m′ : Memory) (room room′ : List ℕ) (a : ℕ) → NormalisesC object m m′ room room′ a
+    → outcomeIn a ≡ writeOutcome (normalAnswer (lentBy m room) (judge object))
+normalise-back object m m′ room room′ a c = ap outcomeIn (c .answers) ∙ told-back (normal-told (lentBy m room) object)
 
 pub same-back : (a b : List ℕ) (n : ℕ) → SameC a b n → sameIn n ≡ sameOutcome (sameAnswer (judge a) (judge b))
 same-back a b n c = ap sameIn (c .answers) ∙ told-same-back (same-told a b)

@@ -8,8 +8,10 @@ use Rattle.octets.specs.declared.counts.Octets.{Octets as OctetCount}
 use Rattle.octets.specs.Counts.{asOctets, sizeOf}
 use Rattle.format.specs.Answers.{readOutcome, writeOutcome, sameOutcome}
 use Rattle.format.specs.Judge.{judge}
-use Rattle.format.specs.Calls.{Lists, places, readAnswer, ReadClaim, spanOf, treeGiven, writeAnswer, WriteClaim, lentBy, normalAnswer, NormaliseClaim}
+use Rattle.format.specs.Calls.{Lists, places, readAnswer, ReadClaim, spanOf, treeGiven, writeAnswer, WriteClaim, normalAnswer}
 use Rattle.format.specs.Same.{sameAnswer}
+use Rattle.format.specs.State.{Memory}
+use Rattle.state.specs.Taking.{lentBy, NormaliseClaim}
 use Rattle.xml.specs.Export.{exportOf, exportAnswer, exportOctets}
 use Rattle.spi_c.specs.Packed.{packedOutcome, packedSame, packedSpan}
 
@@ -24,9 +26,9 @@ pub record WritesC (n : ℕ) (lists : Lists) (lent before after : List ℕ) (a :
   pub answers : a ≡ packedOutcome (writeOutcome (writeAnswer (sizeOf before) (treeGiven n lists lent)))
   pub leaves : WriteClaim n lists lent before after (writeAnswer (sizeOf before) (treeGiven n lists lent))
 
-pub record NormalisesC (object : List ℕ) (lists lists′ : Lists) (store store′ room room′ : List ℕ) (a : ℕ) : Type 0 where
-  pub answers : a ≡ packedOutcome (writeOutcome (normalAnswer (lentBy lists store room) (judge object)))
-  pub leaves : NormaliseClaim object lists lists′ store store′ room room′ (normalAnswer (lentBy lists store room) (judge object))
+pub record NormalisesC (object : List ℕ) (m m′ : Memory) (room room′ : List ℕ) (a : ℕ) : Type 0 where
+  pub answers : a ≡ packedOutcome (writeOutcome (normalAnswer (lentBy m room) (judge object)))
+  pub leaves : NormaliseClaim object m m′ room room′ (normalAnswer (lentBy m room) (judge object))
 
 pub record SameC (a b : List ℕ) (answer : ℕ) : Type 0 where
   pub answers : answer ≡ packedSame (sameOutcome (sameAnswer (judge a) (judge b)))

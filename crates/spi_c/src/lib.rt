@@ -3,6 +3,7 @@ ghost use mathlib.Core.Path.{_≡_};
 ghost use Prim.Native.Nat.{_<_, min};
 ghost use Rattle.text.specs.Text.{text};
 ghost use Rattle.format.specs.Lent.{lent};
+ghost use Rattle.state.specs.Taking.{memory};
 ghost use Rattle.spi_c.specs.Packed.{packed, packedOutcome, packedSame, packedSpan, Small, SmallSame, SmallSpan};
 ghost use Rattle.spi_c.specs.Claims.{ReadsC, SpansC, WritesC, NormalisesC, SameC, ExportsC};
 use format::Outcome;
@@ -104,7 +105,7 @@ pub extern "C" fn spi_write(
     packed_outcome(answer.outcome())
 }
 
-// The normal form of an object, into `room`; the lists and the store then hold its loaded tree.
+// The normal form of an object, into `room`; the seven lists and the store then hold its loaded tree.
 #[no_mangle]
 pub extern "C" fn spi_normalise(
     object: &[u8],
@@ -114,10 +115,11 @@ pub extern "C" fn spi_normalise(
     parents: &mut [u16],
     starts: &mut [u16],
     sizes: &mut [u16],
+    bodies: &mut [u16],
     store: &mut [u8],
     room: &mut [u8],
 ) -> u64
-    ensures { λ r. ⌜ NormalisesC (now (object .entry)) (lent (tags .entry) (kinds .entry) (depths .entry) (parents .entry) (starts .entry) (sizes .entry)) (lent (tags .exit) (kinds .exit) (depths .exit) (parents .exit) (starts .exit) (sizes .exit)) (now (store .entry)) (now (store .exit)) (now (room .entry)) (now (room .exit)) r ⌝ }
+    ensures { λ r. ⌜ NormalisesC (now (object .entry)) (memory (tags .entry) (kinds .entry) (depths .entry) (parents .entry) (starts .entry) (sizes .entry) (bodies .entry) (store .entry)) (memory (tags .exit) (kinds .exit) (depths .exit) (parents .exit) (starts .exit) (sizes .exit) (bodies .exit) (store .exit)) (now (room .entry)) (now (room .exit)) r ⌝ }
 {
     let answer = writer::normalise(
         object,
@@ -127,6 +129,7 @@ pub extern "C" fn spi_normalise(
         parents,
         starts,
         sizes,
+        bodies,
         store,
         room,
     );

@@ -1,6 +1,6 @@
 -- How a tree comes into lent memory: it fits what is lent, or the call is refused (change request 2026-06). The place of 14 to 16 is zero.
 use mathlib.Core.Path.{_≡_}
-use mathlib.Core.Bool.{_&&_}
+use mathlib.Core.Bool.{cond, _&&_}
 use mathlib.Core.Option.{Option, none, some}
 use mathlib.Core.List.{List, [], _∷_}
 use Prim.Native.Nat.{ℕ}
@@ -18,7 +18,7 @@ use Rattle.format.specs.Judge.{Judged, first, rule, unless, judge}
 use Rattle.format.specs.Judge.Judged.{refused, accepted}
 use Rattle.format.specs.Meaning.{means, encode, normalOf}
 use Rattle.format.specs.Loaded.{loadedOf}
-use Rattle.format.specs.Calls.{Lent, roomy, judgeAnswer, writeAnswer, writeOctets, normalAnswer, handed}
+use Rattle.format.specs.Calls.{Lent, roomy, fitsLent, judgeAnswer, writeAnswer, writeOctets, normalAnswer, handed}
 use Rattle.format.specs.Lent.{lent}
 use Rattle.format.specs.State.{Memory, placesIn, packedStore, layTree, treeHeld}
 
@@ -57,15 +57,20 @@ pub record Leaves (outcome : Judged) (m m′ : Memory) (answer : ReadAnswer) : T
 abbrev pub TakeInClaim : (object : List ℕ) (most : OctetCount) (m m′ : Memory) (answer : ReadAnswer) → Type 0
 TakeInClaim object most m m′ answer = Leaves (takenIn most m (judge object)) m m′ answer
 
--- what a call that writes an object at once holds it against
-abbrev pub lentWith : Memory → List ℕ → Lent
-lentWith m room = record { records = placesIn m; store = sizeOf (m .store); room = sizeOf room }
+-- what is lent to normalise
+abbrev pub lentBy : Memory → List ℕ → Lent
+lentBy m room = record { records = placesIn m; store = sizeOf (m .store); room = sizeOf room }
 
--- an object taken in and written: memory holds its loaded tree then, and the room its normal form
-pub record IntoClaim (object : List ℕ) (m m′ : Memory) (room room′ : List ℕ) (answer : WriteAnswer) : Type 0 where
-  pub answers : answer ≡ normalAnswer (lentWith m room) (judge object)
-  pub leaves : m′ ≡ left (takenIn (sizeOf room) m (judge object)) m
-  pub writes : room′ ≡ sets room 0 (handed (lentWith m room) normalOf (judge object))
+-- the loaded tree of an accepted object that fits what is lent, laid over what memory holds
+unfoldable pub loadedInto : Lent → Judged → Memory → Memory
+loadedInto lent (refused r) m = m
+loadedInto lent (accepted t) m = cond (fitsLent lent t) (layTree (loadedOf t) m) m
+
+-- normalise, an object taken in and written: memory holds its loaded tree then, and the room its normal form
+pub record NormaliseClaim (object : List ℕ) (m m′ : Memory) (room room′ : List ℕ) (answer : WriteAnswer) : Type 0 where
+  pub answers : answer ≡ normalAnswer (lentBy m room) (judge object)
+  pub leaves : m′ ≡ loadedInto (lentBy m room) (judge object) m
+  pub writes : room′ ≡ sets room 0 (handed (lentBy m room) normalOf (judge object))
 
 -- what memory holds is written: 16 where that is no tree, else 15, else the octets of its normal form, as `write` has them (format/specs/Calls)
 pub record WriteStateClaim (n : ℕ) (m : Memory) (before after : List ℕ) (answer : WriteAnswer) : Type 0 where

@@ -11,11 +11,6 @@ pub mod Whole
 pub mod HeldSizes
 pub mod Heading
 pub mod HeldWritten
-pub mod Into
-pub mod Storing
-pub mod Pieces
-pub mod Laying
-pub mod WholeLaid
 pub mod Normalised
 pub mod Theorems
 pub mod Miswritten

@@ -1,4 +1,2 @@
 pub mod Steps
 pub mod Theorems
-pub mod Store
-pub mod Lay

@@ -2,26 +2,20 @@
 // checked, then measured, and only what is known to fit the room is written. An object has one normal form with all objects that mean the same: it is loaded as
 // records that are known to be well formed and to fit, so they are written without being looked at before.
 ghost use mathlib.Core.Path.{_≡_};
-ghost use Rattle.format.specs.declared.WriteAnswer.the-variants.{NotWritten, Octets as Handed};
+ghost use Rattle.format.specs.declared.WriteAnswer.the-variants.{NotWritten};
 ghost use Rattle.format.specs.Answers.{refusal};
-ghost use Rattle.format.specs.Judge.{judge};
-ghost use Rattle.format.specs.Calls.{lentBy, WriteClaim, NormaliseClaim};
+ghost use Rattle.format.specs.Calls.{WriteClaim};
 ghost use Rattle.format.specs.Lent.{lent};
-ghost use Rattle.state.specs.Taking.{memory, IntoClaim, WriteStateClaim};
-ghost use Rattle.survey.specs.declared.Standing.the-variants.{Fits};
-ghost use Rattle.survey.specs.Survey.{surveyed};
+ghost use Rattle.state.specs.Taking.{memory, NormaliseClaim, WriteStateClaim};
 
 mod emit;
 mod frame;
 mod item;
-mod lay;
 mod size;
-mod store;
 
 use crate::emit::emit_items;
 use crate::emit::emit_sized;
 use crate::item::framed_size;
-use crate::lay::lay;
 use crate::size::Sized;
 use crate::size::size_items;
 use edits::take_in;
@@ -29,12 +23,9 @@ use format::ReadAnswer;
 use format::WriteAnswer;
 use format::refuse;
 use octets::Octets;
-use reader::places;
 use records::is_well_formed;
 use state::Filled;
 use state::held;
-use survey::Standing;
-use survey::survey;
 
 fn refused(number: u8) -> WriteAnswer
     ensures { λ r. ⌜ r ≡ NotWritten (refusal number 0) ⌝ }
@@ -85,75 +76,6 @@ pub fn write(
         }
     }
     refused(16)
-}
-
-// An object that is known to fit what is lent: its loaded tree into the lists and the store, and its normal form to `room`. Answers how many octets that has.
-fn write_normal(
-    object: &[u8],
-    tags: &mut [u8],
-    kinds: &mut [u8],
-    depths: &mut [u8],
-    parents: &mut [u16],
-    starts: &mut [u16],
-    sizes: &mut [u16],
-    store: &mut [u8],
-    room: &mut [u8],
-) -> Octets
-    requires { ⌜ surveyed (lentBy (lent tags kinds depths parents starts sizes) (now store) (now room)) (judge (now object)) ≡ Fits ⌝ }
-    ensures { λ r. ⌜ NormaliseClaim (now (object .entry)) (lent (tags .entry) (kinds .entry) (depths .entry) (parents .entry) (starts .entry) (sizes .entry)) (lent (tags .exit) (kinds .exit) (depths .exit) (parents .exit) (starts .exit) (sizes .exit)) (now (store .entry)) (now (store .exit)) (now (room .entry)) (now (room .exit)) (Handed r) ⌝ }
-{
-    let count = lay(object, tags, kinds, depths, parents, starts, sizes, store);
-    let reached = emit_items(
-        count,
-        tags,
-        depths,
-        starts,
-        sizes,
-        store,
-        0,
-        1,
-        0,
-        room,
-        0,
-        true,
-    );
-    Octets(reached.end)
-}
-
-// The normal form of an object, written to `room`. The lists and the store then hold the loaded tree. On a refusal (1 to 13 of the object, 14, 15) all that is
-// lent is as it was.
-pub fn normalise(
-    object: &[u8],
-    tags: &mut [u8],
-    kinds: &mut [u8],
-    depths: &mut [u8],
-    parents: &mut [u16],
-    starts: &mut [u16],
-    sizes: &mut [u16],
-    store: &mut [u8],
-    room: &mut [u8],
-) -> WriteAnswer
-    ensures { λ r. ⌜ NormaliseClaim (now (object .entry)) (lent (tags .entry) (kinds .entry) (depths .entry) (parents .entry) (starts .entry) (sizes .entry)) (lent (tags .exit) (kinds .exit) (depths .exit) (parents .exit) (starts .exit) (sizes .exit)) (now (store .entry)) (now (store .exit)) (now (room .entry)) (now (room .exit)) r ⌝ }
-{
-    let most = places(tags, kinds, depths, parents, starts, sizes);
-    match survey(object, most, Octets(store.len()), Octets(room.len())) {
-        Standing::Bad(refusal) => WriteAnswer::NotWritten(refusal),
-        Standing::Misfit(refusal) => WriteAnswer::NotWritten(refusal),
-        Standing::Fits => {
-            let n = write_normal(
-                object,
-                tags,
-                kinds,
-                depths,
-                parents,
-                starts,
-                sizes,
-                store,
-                room,
-            );
-            WriteAnswer::Octets(n)
-        }
-    }
 }
 
 // The normal form of the tree that memory holds, written to `room` front to back. 16: memory holds no tree of `count` records. 15: the octets are more than the room.
@@ -210,7 +132,7 @@ pub fn write_state(
 
 // An object taken in and written at once: memory holds its loaded tree then, and `room` its normal form. On a refusal (1 to 13 of the object, 14, 15) all that is
 // lent is as it was.
-pub fn normalise_into(
+pub fn normalise(
     object: &[u8],
     tags: &mut [u8],
     kinds: &mut [u8],
@@ -222,7 +144,7 @@ pub fn normalise_into(
     store: &mut [u8],
     room: &mut [u8],
 ) -> WriteAnswer
-    ensures { λ r. ⌜ IntoClaim (now (object .entry)) (memory (tags .entry) (kinds .entry) (depths .entry) (parents .entry) (starts .entry) (sizes .entry) (bodies .entry) (store .entry)) (memory (tags .exit) (kinds .exit) (depths .exit) (parents .exit) (starts .exit) (sizes .exit) (bodies .exit) (store .exit)) (now (room .entry)) (now (room .exit)) r ⌝ }
+    ensures { λ r. ⌜ NormaliseClaim (now (object .entry)) (memory (tags .entry) (kinds .entry) (depths .entry) (parents .entry) (starts .entry) (sizes .entry) (bodies .entry) (store .entry)) (memory (tags .exit) (kinds .exit) (depths .exit) (parents .exit) (starts .exit) (sizes .exit) (bodies .exit) (store .exit)) (now (room .entry)) (now (room .exit)) r ⌝ }
 {
     let most = Octets(room.len());
     match take_in(

@@ -10,7 +10,7 @@ outcome-requires : tie.Need-outcome-requires
 outcome-requires c κs = search needs
 
 packed-outcome-requires : tie.Need-packed-outcome-requires
-packed-outcome-requires c κs = normal-small _ _ _ _ _ _ _ _ (c .before .before .before .before .before .before .before .before .before .before .before .before .before .before .before .before .before .normalise .ensures) _ (c .outcome .ensures)
+packed-outcome-requires c κs = normal-small _ _ _ _ _ _ (c .before .before .before .before .before .before .before .before .before .before .before .before .before .before .before .before .before .before .before .normalise .ensures) _ (c .outcome .ensures)
 
 same-length : tie.Need-same-length
 same-length c = search needs
@@ -36,8 +36,11 @@ same-length-7 c = search needs
 same-length-8 : tie.Need-same-length-8
 same-length-8 c = search needs
 
+same-length-9 : tie.Need-same-length-9
+same-length-9 c = search needs
+
 returns : tie.Need-returns
-returns c = normal-says _ _ _ _ _ _ _ _ (c .before .before .before .before .before .before .before .before .before .before .before .before .before .before .before .before .before .before .normalise .ensures) _ (c .before .outcome .ensures) _ (c .packed-outcome .ensures)
+returns c = normal-says _ _ _ _ _ _ (c .before .before .before .before .before .before .before .before .before .before .before .before .before .before .before .before .before .before .before .before .normalise .ensures) _ (c .before .outcome .ensures) _ (c .packed-outcome .ensures)
 
 pub spi-normalise-spec : {M : Type 1} → statement M
 spi-normalise-spec =
@@ -54,4 +57,5 @@ spi-normalise-spec =
     same-length-6
     same-length-7
     same-length-8
+    same-length-9
     returns)

@@ -21,6 +21,9 @@ number-places-requires-2 c κs = search needs
 number-places-requires-3 : tie.Need-number-places-requires-3
 number-places-requires-3 c κs = search needs
 
+number-places-requires-4 : tie.Need-number-places-requires-4
+number-places-requires-4 c κs = search needs
+
 room-requires : tie.Need-room-requires
 room-requires c κs = search needs
 
@@ -45,6 +48,9 @@ slice-aggregate-normalise-6 c = search needs
 slice-aggregate-normalise-7 : tie.Need-slice-aggregate-normalise-7
 slice-aggregate-normalise-7 c = search needs
 
+slice-aggregate-normalise-8 : tie.Need-slice-aggregate-normalise-8
+slice-aggregate-normalise-8 c = search needs
+
 normalise-requires : tie.Need-normalise-requires
 normalise-requires c κs = search needs
 
@@ -67,6 +73,7 @@ normal-form-spec =
     number-places-requires
     number-places-requires-2
     number-places-requires-3
+    number-places-requires-4
     room-requires
     slice-aggregate-normalise
     slice-aggregate-normalise-2
@@ -75,6 +82,7 @@ normal-form-spec =
     slice-aggregate-normalise-5
     slice-aggregate-normalise-6
     slice-aggregate-normalise-7
+    slice-aggregate-normalise-8
     normalise-requires
     as-made-requires
     same-length
