@@ -91,7 +91,8 @@ def place_refusals():
     octets = top(item(0x82, b"abc"), item(0x10, item(0x01, b"PM")), item(0x34, b"12"))  # 5 records, 7 octets of store, 20 in all
     elements = [item(0x11), NAME, item(0x11, item(0x01, b"a" * 17)), item(0x07), item(0x06, b"en"), item(0x06, b"\x01"), b"", b"\x10", item(0x34, b"a" * 40000),
                 item(0x16, item(0x01, b"a" * 32740)), item(0x16, item(0x01, b"a" * 32741)), item(0x16, item(0x01, b"a" * 40000 + b"\xff")), NAME + b"\x00",
-                item(0x20, NAME * 3), item(0x20, NAME * 3 + b"\x00"), item(0x20, b"\x10\x00" * 20000)]
+                item(0x20, NAME * 3), item(0x20, NAME * 3 + b"\x00"), item(0x20, b"\x10\x00" * 20000), item(0x20, b"\x10\x00" * 16382),
+                item(0x34, b"a" * 32764)]
     for element, (record, place), lent in product(elements, ((0, 0), (0, 1), (0, 2), (0, 3), (1, 0), (2, 0), (2, 1), (4, 0), (5, 0)),
                                                   ((5, 7), (6, 7), (7, 9), (12, 12), (12, 13), PLENTY)):
         yield run(octets, edit_i(record, place, element), lent=lent)
@@ -188,14 +189,15 @@ def places_among_brothers():
 
 
 def unknown_inside():
-    """Unknown items in what is put in: they have no record, and still obey the order and the depth; octets above 32,768 that mean little."""
+    """Unknown items in what is put in: they have no record, and still obey the order and the depth; octets up to 32,768 and above that mean little."""
     for parts in each("9000|9000 9000|0700|0700 1000|1000 0700|0700 0101 63|8000 8000|0500|0101 63 0700|1000 9000|07FE0001 3F|7F00 8000|0702 0200"):
         yield run(top(), edit_i(0, 0, item(0x33, parts)), edit_i(0, 0, item(0x20, item(0x33, parts))))
-    for size in (32000, 32755, 32760, 32764, 32765, 32766, 65520):
+    for size in (32000, 32755, 32759, 32760, 32761, 32764, 32765, 32766, 65520):
         for unknown in (item(0x90, bytes(size)), item(0x07, bytes(size))):
             yield run(top(NAME), edit_i(0, 1, item(0x33, unknown)), edit_t(3, b"x"))
-    many = item(0x20, b"\x90\x00" * 32760)
-    yield run(top(), edit_i(0, 0, many), edit_i(0, 0, many), lent=(3, 0))
+    for count in (16382, 16383, 32760):
+        many = item(0x20, b"\x90\x00" * count)
+        yield run(top(), edit_i(0, 0, many), edit_i(0, 0, many), lent=(3, 0))
 
 
 # ---- Texts ---------------------------------------------------------------------------------------------
@@ -256,6 +258,8 @@ def whole_limit():
         yield run(top(item(0x01, b"c")), edit_t(1, b"a" * size), lent=(2, size - 1))
         yield run(top(), edit_i(0, 0, item(0x34, bytes(size - 5))), lent=(2, 65536))
         yield run(top(), edit_i(0, 0, item(0x35, bytes(min(size, 65530)))), lent=(2, 65536))
+    for size, lent in product((32763, 32764, 32765), ((1, 0), (2, 0), (2, 65536))):
+        yield run(top(), edit_i(0, 0, item(0x34, bytes(size))), lent=lent)
     for depth in (1, 2, 4):
         for rest in range(5 + 4 * depth):
             inner = item(0x01, b"c" * (253 - 2 * depth))
@@ -295,12 +299,12 @@ def thousands():
     many = top(b"\x10\x00" * 16382)
     yield run(many, edit_d(1), edit_i(0, 16381, item(0x11)), edit_i(0, 0, item(0x12)), edit_d(16382), edit_d(16382), lent=(16383, 0))
     both = item(0x83, DEFAULT) + item(0x84, DEFAULT)
-    crowd = item(0x20, item(0x1C, both) * 8000)
-    larger = item(0x20, item(0x1C, both) * 8180)
-    yield run(top(), edit_i(0, 0, crowd), edit_i(0, 1, crowd), edit_i(0, 1, larger), edit_d(65535), edit_d(48000), edit_t(48000, b""))
-    yield run(top(), edit_i(0, 0, crowd), edit_i(0, 1, crowd), lent=(48002, 32000))
-    yield run(top(), edit_i(0, 0, crowd), edit_i(0, 1, crowd), lent=(48003, 32000))
-    yield run(top(), edit_i(0, 0, crowd), edit_i(0, 1, crowd), lent=(48003, 31999))
+    crowds = [edit_i(0, place, item(0x20, item(0x1C, both) * 4000)) for place in (0, 1, 1, 0)]
+    larger = item(0x20, item(0x1C, both) * 4095)
+    yield run(top(), *crowds, edit_i(0, 1, larger), edit_d(65535), edit_d(48000), edit_t(48000, b""))
+    yield run(top(), *crowds[:3], edit_i(0, 1, larger), edit_d(12001), edit_d(1), edit_i(0, 1, larger), edit_d(49000))
+    for lent in ((48004, 32000), (48005, 32000), (48005, 31999)):
+        yield run(top(), *crowds, lent=lent)
 
 
 # ---- Defaults ------------------------------------------------------------------------------------------

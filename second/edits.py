@@ -169,7 +169,15 @@ def too_deep(rng, raw):
     return inner.octets()
 
 
-SPOILED = [lambda rng, raw: b"", cut_off, more_behind, longer_length, no_element, bad_item, bad_item, attribute_twice, bad_value, bad_text, too_deep]
+def too_large(rng, raw):
+    """More octets than an object may have, most of them in an attribute that is unknown."""
+    if not isinstance(raw.body, list):
+        return None
+    raw.body.insert(0, Raw(0x90, bytes(rng.choice([OBJECT_LIMIT, 40000]))))
+    return raw.octets()
+
+
+SPOILED = [lambda rng, raw: b"", cut_off, more_behind, longer_length, no_element, bad_item, bad_item, attribute_twice, bad_value, bad_text, too_deep, too_large]
 
 
 def spoiled(rng, raw):
@@ -294,7 +302,7 @@ class Editor:
         element, octets = listed(raw), raw.octets()
         if len(octets) > SIZE_LIMIT:
             return None
-        refused = depth + height(element) > DEEPEST or element.too_long() or not in_order(parent, place, element)
+        refused = len(octets) > OBJECT_LIMIT or depth + height(element) > DEEPEST or element.too_long() or not in_order(parent, place, element)
         return put_in(record, place, octets, element, 16 if refused else 0)
 
     def bad_insertion(self):
