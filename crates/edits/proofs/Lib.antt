@@ -42,3 +42,4 @@ pub mod TextLeaves
 pub mod NewTexts
 pub mod Replaced
 pub mod Misedited
+pub mod FewRecords
