@@ -80,13 +80,17 @@ room-words : refusalWords 0 15 ≡ ascii "a room or store is too small, or the o
 unfolding refusalWords reasons ascii
 room-words = refl
 
-tree-words : refusalWords 0 16 ≡ ascii "the records are not a well-formed tree"
+tree-words : refusalWords 0 16 ≡ ascii "the records are not a well-formed tree, or would not be after the edit"
 unfolding refusalWords reasons ascii
 tree-words = refl
 
 plain-words : refusalWords 0 17 ≡ ascii "an item holds plain octets, which have no XML"
 unfolding refusalWords reasons ascii
 plain-words = refl
+
+nowhere-words : refusalWords 0 18 ≡ ascii "there is no such record or place, the record is of the wrong kind, or it is the top, which stays"
+unfolding refusalWords reasons ascii
+nowhere-words = refl
 
 hours-words : refusalWords 3 9 ≡ ascii "hours of a time out of range"
 unfolding refusalWords reasons fieldReasons fieldReason ascii

@@ -60,7 +60,7 @@ fieldReasons =
 unfoldable pub fieldReason : ℕ → String
 fieldReason field = getD fieldReasons field "no such field"
 
--- why an object, a request or a list of records is refused, by the refusal's number (document 01, Refusal numbers; 17: request 2026-02); of 9 the field says more
+-- why an object, a request or a list of records is refused, by the refusal's number (document 01, Refusal numbers; 17: request 2026-02; 18: 2026-06); of 9 the field says more
 unfoldable pub reasons : ℕ → List String
 reasons field =
     "nothing is refused"
@@ -79,8 +79,9 @@ reasons field =
     ∷ "a text is too long to be shown"
     ∷ "there are more records than places"
     ∷ "a room or store is too small, or the output has more than 32768 octets"
-    ∷ "the records are not a well-formed tree"
+    ∷ "the records are not a well-formed tree, or would not be after the edit"
     ∷ "an item holds plain octets, which have no XML"
+    ∷ "there is no such record or place, the record is of the wrong kind, or it is the top, which stays"
     ∷ []
 
 unfoldable pub refusalWords : (field number : ℕ) → List ℕ

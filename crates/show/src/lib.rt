@@ -354,8 +354,17 @@ pub fn put_refusal_words(out: &mut [u8], at: usize, number: u8, field: u8) -> Pu
             at,
             b"a room or store is too small, or the output has more than 32768 octets",
         ),
-        16 => put_bytes(out, at, b"the records are not a well-formed tree"),
+        16 => put_bytes(
+            out,
+            at,
+            b"the records are not a well-formed tree, or would not be after the edit",
+        ),
         17 => put_bytes(out, at, b"an item holds plain octets, which have no XML"),
+        18 => put_bytes(
+            out,
+            at,
+            b"there is no such record or place, the record is of the wrong kind, or it is the top, which stays",
+        ),
         _ => put_bytes(out, at, b"no such refusal"),
     }
 }

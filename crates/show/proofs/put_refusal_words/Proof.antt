@@ -117,6 +117,12 @@ slice-aggregate-put-bytes-18 c = search needs
 put-bytes-requires-18 : tie.Need-put-bytes-requires-18
 put-bytes-requires-18 c κs = search needs
 
+slice-aggregate-put-bytes-19 : tie.Need-slice-aggregate-put-bytes-19
+slice-aggregate-put-bytes-19 c = search needs
+
+put-bytes-requires-19 : tie.Need-put-bytes-requires-19
+put-bytes-requires-19 c κs = search needs
+
 same-length : tie.Need-same-length
 same-length c = search needs
 
@@ -248,7 +254,14 @@ same-length-19 c = search needs
 
 returns-19 : tie.Need-returns-19
 unfolding ascii reasons refusalWords
-returns-19 c = puts-same _ _ (words-other _ _ (above _ (above _ (above _ (above _ (above _ (above _ (above _ (above _ (above _ (above _ (above _ (above _ (above _ (above _ (above _ (above _ (above _ (above _ zero-le (c .before .before .before .before .before .match .rest .0 .0 .0 .0 .0 .0 .0 .0 .0 .0 .0 .0 .0 .0 .0 .0 .0 .1)) (c .before .before .before .before .before .match .rest .0 .0 .0 .0 .0 .0 .0 .0 .0 .0 .0 .0 .0 .0 .0 .0 .1)) (c .before .before .before .before .before .match .rest .0 .0 .0 .0 .0 .0 .0 .0 .0 .0 .0 .0 .0 .0 .0 .1)) (c .before .before .before .before .before .match .rest .0 .0 .0 .0 .0 .0 .0 .0 .0 .0 .0 .0 .0 .0 .1)) (c .before .before .before .before .before .match .rest .0 .0 .0 .0 .0 .0 .0 .0 .0 .0 .0 .0 .0 .1)) (c .before .before .before .before .before .match .rest .0 .0 .0 .0 .0 .0 .0 .0 .0 .0 .0 .0 .1)) (c .before .before .before .before .before .match .rest .0 .0 .0 .0 .0 .0 .0 .0 .0 .0 .0 .1)) (c .before .before .before .before .before .match .rest .0 .0 .0 .0 .0 .0 .0 .0 .0 .0 .1)) (c .before .before .before .before .before .match .rest .0 .0 .0 .0 .0 .0 .0 .0 .0 .1)) (c .before .before .before .before .before .match .rest .0 .0 .0 .0 .0 .0 .0 .0 .1)) (c .before .before .before .before .before .match .rest .0 .0 .0 .0 .0 .0 .0 .1)) (c .before .before .before .before .before .match .rest .0 .0 .0 .0 .0 .0 .1)) (c .before .before .before .before .before .match .rest .0 .0 .0 .0 .0 .1)) (c .before .before .before .before .before .match .rest .0 .0 .0 .0 .1)) (c .before .before .before .before .before .match .rest .0 .0 .0 .1)) (c .before .before .before .before .before .match .rest .0 .0 .1)) (c .before .before .before .before .before .match .rest .0 .1)) (c .before .before .before .before .before .match .rest .1))) _ _ _ _ (c .before .before .put-bytes18 .ensures)
+returns-19 c = words-same (refusalWords _) _ 18 (c .before .before .before .before .before .match .keys19) _ _ _ _ (c .before .before .put-bytes18 .ensures)
+
+same-length-20 : tie.Need-same-length-20
+same-length-20 c = search needs
+
+returns-20 : tie.Need-returns-20
+unfolding ascii reasons refusalWords
+returns-20 c = puts-same _ _ (words-other _ _ (above _ (above _ (above _ (above _ (above _ (above _ (above _ (above _ (above _ (above _ (above _ (above _ (above _ (above _ (above _ (above _ (above _ (above _ (above _ zero-le (c .before .before .before .before .before .match .rest .0 .0 .0 .0 .0 .0 .0 .0 .0 .0 .0 .0 .0 .0 .0 .0 .0 .0 .1)) (c .before .before .before .before .before .match .rest .0 .0 .0 .0 .0 .0 .0 .0 .0 .0 .0 .0 .0 .0 .0 .0 .0 .1)) (c .before .before .before .before .before .match .rest .0 .0 .0 .0 .0 .0 .0 .0 .0 .0 .0 .0 .0 .0 .0 .0 .1)) (c .before .before .before .before .before .match .rest .0 .0 .0 .0 .0 .0 .0 .0 .0 .0 .0 .0 .0 .0 .0 .1)) (c .before .before .before .before .before .match .rest .0 .0 .0 .0 .0 .0 .0 .0 .0 .0 .0 .0 .0 .0 .1)) (c .before .before .before .before .before .match .rest .0 .0 .0 .0 .0 .0 .0 .0 .0 .0 .0 .0 .0 .1)) (c .before .before .before .before .before .match .rest .0 .0 .0 .0 .0 .0 .0 .0 .0 .0 .0 .0 .1)) (c .before .before .before .before .before .match .rest .0 .0 .0 .0 .0 .0 .0 .0 .0 .0 .0 .1)) (c .before .before .before .before .before .match .rest .0 .0 .0 .0 .0 .0 .0 .0 .0 .0 .1)) (c .before .before .before .before .before .match .rest .0 .0 .0 .0 .0 .0 .0 .0 .0 .1)) (c .before .before .before .before .before .match .rest .0 .0 .0 .0 .0 .0 .0 .0 .1)) (c .before .before .before .before .before .match .rest .0 .0 .0 .0 .0 .0 .0 .1)) (c .before .before .before .before .before .match .rest .0 .0 .0 .0 .0 .0 .1)) (c .before .before .before .before .before .match .rest .0 .0 .0 .0 .0 .1)) (c .before .before .before .before .before .match .rest .0 .0 .0 .0 .1)) (c .before .before .before .before .before .match .rest .0 .0 .0 .1)) (c .before .before .before .before .before .match .rest .0 .0 .1)) (c .before .before .before .before .before .match .rest .0 .1)) (c .before .before .before .before .before .match .rest .1))) _ _ _ _ (c .before .before .put-bytes19 .ensures)
 
 pub put-refusal-words-spec : {M : Type 1} → statement M
 put-refusal-words-spec =
@@ -291,6 +304,8 @@ put-refusal-words-spec =
     put-bytes-requires-17
     slice-aggregate-put-bytes-18
     put-bytes-requires-18
+    slice-aggregate-put-bytes-19
+    put-bytes-requires-19
     same-length
     returns
     same-length-2
@@ -328,4 +343,6 @@ put-refusal-words-spec =
     same-length-18
     returns-18
     same-length-19
-    returns-19)
+    returns-19
+    same-length-20
+    returns-20)
