@@ -53,8 +53,9 @@ enum spi_refusal {
     SPI_TEXT_TOO_LONG = 13,       /* a shown text above its limit of characters */
     SPI_TOO_FEW_PLACES = 14,      /* fewer places for records than there are records */
     SPI_TOO_LARGE = 15,           /* a room or store too small, or octets above 32,768 */
-    SPI_NOT_WELL_FORMED = 16,     /* records that are no well-formed tree */
-    SPI_PLAIN_OCTETS = 17         /* an item of plain octets, which have no XML */
+    SPI_NOT_WELL_FORMED = 16,     /* records that are no well-formed tree, or would be none after the edit */
+    SPI_PLAIN_OCTETS = 17,        /* an item of plain octets, which have no XML */
+    SPI_NOT_THERE = 18            /* no such record or place, a record of the wrong kind, or the top to be removed */
 };
 
 /* The field of a time that is wrong, the lowest that applies.  A wrong length hides all others. */
@@ -104,8 +105,9 @@ static inline size_t spi_value(uint64_t answer)
 enum spi_kind { SPI_ELEMENT = 0, SPI_ATTRIBUTE = 1, SPI_CDATA = 2 };
 
 enum {
-    SPI_MOST_OCTETS = 32768, /* of an object, read or written */
-    SPI_MOST_RECORDS = 16384 /* of an object that is accepted */
+    SPI_MOST_OCTETS = 32768,      /* of an object, read or written */
+    SPI_MOST_RECORDS = 16384,     /* of an object that is accepted */
+    SPI_MOST_TREE_RECORDS = 65536 /* of a tree that is edited */
 };
 
 /* Reads an object into the lists.  Refused by 1 to 14; the count is that of the records. */
@@ -173,6 +175,74 @@ uint64_t spi_same(const uint8_t *first, size_t first_octets,
  * 17, at the tag of the first item of plain octets; then by 15, where the room is too small.  The text is no
  * object, so SPI_MOST_OCTETS is no limit of it.  The count is that of the octets. */
 uint64_t spi_export(const uint8_t *object, size_t octets, uint8_t *room, size_t room_count);
+
+/* ---- A tree that is edited ----------------------------------------------------------------------
+ *
+ * An object that is taken in lies in the six lists, in a seventh and in a store.
+ *
+ * bodies    how many octets the item's body has in normal form
+ * store     the texts, with every token replaced, the values in normal form and the plain octets, one right behind
+ *           the other in record order, from the store's start on
+ *
+ * Here starts and sizes say where a body lies in the store; both are 0 for an element that holds items.  The shortest
+ * of the seven lists counts as the number of places.  The first `records` records are the tree; taking in and each
+ * edit answer how many there are.  Behind them, and in the store behind the last body, everything stays as it was, so
+ * room that an edit frees is used again.
+ *
+ * The calls below ask nothing of memory: where it doesn't hold a tree of so many records in this form, as after it was
+ * written to by others, they refuse with SPI_NOT_WELL_FORMED.  Refusals of edits are at place 0, in the order 18, 16,
+ * 14, 15.  With SPI_MOST_TREE_RECORDS places and SPI_MOST_OCTETS of store, 14 and 15 come only where the normal form
+ * would have more octets than an object may.
+ */
+
+/* Takes an object in.  Refused by 1 to 13, then by 14, then by 15, where its texts and values are more than the store
+ * or its normal form has more octets than an object may.  The count is that of the records. */
+uint64_t spi_take_in(const uint8_t *object, size_t octets,
+                     uint8_t *tags, size_t tags_count,
+                     uint8_t *kinds, size_t kinds_count,
+                     uint8_t *depths, size_t depths_count,
+                     uint16_t *parents, size_t parents_count,
+                     uint16_t *starts, size_t starts_count,
+                     uint16_t *sizes, size_t sizes_count,
+                     uint16_t *bodies, size_t bodies_count,
+                     uint8_t *store, size_t store_count);
+
+/* Replaces a text: CDATA, a text attribute or the default language (0x06).  `text` has no token octets.  Refused by 18,
+ * 16, 15. */
+uint64_t spi_replace_text(size_t records, size_t number,
+                          const uint8_t *text, size_t octets,
+                          const uint8_t *tags, size_t tags_count,
+                          const uint8_t *kinds, size_t kinds_count,
+                          const uint8_t *depths, size_t depths_count,
+                          const uint16_t *parents, size_t parents_count,
+                          uint16_t *starts, size_t starts_count,
+                          uint16_t *sizes, size_t sizes_count,
+                          uint16_t *bodies, size_t bodies_count,
+                          uint8_t *store, size_t store_count);
+
+/* Removes a record with all below it.  Refused by 18, and by 16 only where memory holds no tree. */
+uint64_t spi_remove(size_t records, size_t number,
+                    uint8_t *tags, size_t tags_count,
+                    uint8_t *kinds, size_t kinds_count,
+                    uint8_t *depths, size_t depths_count,
+                    uint16_t *parents, size_t parents_count,
+                    uint16_t *starts, size_t starts_count,
+                    uint16_t *sizes, size_t sizes_count,
+                    uint16_t *bodies, size_t bodies_count,
+                    uint8_t *store, size_t store_count);
+
+/* Writes the normal form of the tree to the room.  Refused by 16, then by 15, where the room is too small; the count is
+ * that of the octets. */
+uint64_t spi_write_state(size_t records,
+                         const uint8_t *tags, size_t tags_count,
+                         const uint8_t *kinds, size_t kinds_count,
+                         const uint8_t *depths, size_t depths_count,
+                         const uint16_t *parents, size_t parents_count,
+                         const uint16_t *starts, size_t starts_count,
+                         const uint16_t *sizes, size_t sizes_count,
+                         const uint16_t *bodies, size_t bodies_count,
+                         const uint8_t *store, size_t store_count,
+                         uint8_t *room, size_t room_count);
 
 /* Whether octets are text; `tokens` says whether token octets may stand in it. */
 bool spi_check_text(const uint8_t *text, size_t octets, bool tokens);

@@ -16,17 +16,17 @@ use Rattle.format.specs.declared.ReadAnswer.{ReadAnswer}
 use Rattle.format.specs.declared.WriteAnswer.{WriteAnswer}
 use Rattle.format.specs.declared.SameAnswer.{SameAnswer}
 use Rattle.format.specs.Answers.{readOutcome, writeOutcome, sameOutcome}
-use Rattle.format.specs.Calls.{Lists, places, ReadClaim, spanOf, treeGiven, WriteClaim}
-use Rattle.format.specs.Judge.{judge}
+use Rattle.format.specs.Calls.{Lists, places, ReadClaim, spanOf, treeGiven, WriteClaim, judgeAnswer}
+use Rattle.format.specs.Judge.{judge, Judged}
 use Rattle.format.specs.Same.{sameAnswer}
-use Rattle.format.specs.State.{Memory}
-use Rattle.state.specs.Taking.{lentBy, NormaliseClaim}
+use Rattle.format.specs.State.{Memory, treeHeld}
+use Rattle.state.specs.Taking.{lentBy, NormaliseClaim, Leaves, WriteStateClaim}
 use Rattle.spi_c.specs.Packed.{packedOutcome, packedSame, Small, SmallSame, SmallSpan}
 use Rattle.octets.proofs.Lists.{sets-left}
 use Rattle.xml.specs.Export.{Exported, exportOf, exportAnswer, exportOctets, ExportClaim}
 use Rattle.xml.specs.Export.Exported.{refuses, shows}
-use Rattle.spi_c.specs.Claims.{ReadsC, WritesC, NormalisesC, SameC, roomFor, ExportsC}
-use Rattle.spi_c.proofs.Told.{told-small, told-same-small, read-told, write-told, normal-told, same-told, export-told}
+use Rattle.spi_c.specs.Claims.{ReadsC, WritesC, NormalisesC, LeavesC, WritesStateC, SameC, roomFor, ExportsC}
+use Rattle.spi_c.proofs.Told.{Told, told-small, told-same-small, read-told, write-told, normal-told, same-told, export-told}
 
 -- an answer is known, and with it its outcome and the number
 module _ {A O : Type 0} (outcome : A → O) (answer known : A) (e : answer ≡ known) (o : O) (told : o ≡ outcome answer) where
@@ -64,6 +64,22 @@ module _ (object : List ℕ) (m m′ : Memory) (room room′ : List ℕ) (answer
         answers = outcome-packed writeOutcome _ _ (claim .answers) o told packedOutcome a h;
         leaves = record { answers = refl; leaves = claim .leaves; writes = claim .writes };
       }
+
+-- taking in and editing, whose outcomes are told by the laws of Told
+module _ (outcome : Judged) (m m′ : Memory) (answer : ReadAnswer) (claim : Leaves outcome m m′ answer) (tells : Told (readOutcome (judgeAnswer outcome))) (o : Outcome)
+    (told : o ≡ readOutcome answer) where
+  pub leaves-small : Small o
+  leaves-small = outcome-is readOutcome _ _ (claim .answers) o told Small (told-small tells)
+
+  pub leaves-says : (a : ℕ) → a ≡ packedOutcome o → LeavesC outcome m m′ a
+  leaves-says a h = record { answers = outcome-packed readOutcome _ _ (claim .answers) o told packedOutcome a h; leaves = record { answers = refl; leaves = claim .leaves } }
+
+module _ (n : ℕ) (m : Memory) (before after : List ℕ) (answer : WriteAnswer) (claim : WriteStateClaim n m before after answer) (o : Outcome) (told : o ≡ writeOutcome answer) where
+  pub write-state-small : Small o
+  write-state-small = outcome-is writeOutcome _ _ (claim .answers) o told Small (told-small (write-told (sizeOf before) (treeHeld n m)))
+
+  pub write-state-says : (a : ℕ) → a ≡ packedOutcome o → WritesStateC n m before after a
+  write-state-says a h = record { answers = outcome-packed writeOutcome _ _ (claim .answers) o told packedOutcome a h; leaves = record { answers = refl; leaves = claim .leaves } }
 
 module _ (a b : List ℕ) (answer : SameAnswer) (claim : answer ≡ sameAnswer (judge a) (judge b)) (o : SameOutcome) (told : o ≡ sameOutcome answer) where
   pub same-small : SmallSame o

@@ -9,7 +9,8 @@ use lib.Dec.{eqb, leb}
 use lib.ListN.{length}
 use borrow.Author.Tests.{ne-eqb, leb-true}
 use Rattle.octets.specs.declared.counts.Octets.{Octets as OctetCount}
-use Rattle.octets.specs.Counts.{sizeOf}
+use Rattle.octets.specs.Counts.{asOctets, sizeOf}
+use Rattle.octets.specs.Numbers.{Octets as AreOctets}
 use Rattle.octets.proofs.Tests.{and-left, and-right}
 use Rattle.format.specs.declared.Refusal.{Refusal}
 use Rattle.format.specs.declared.Outcome.{Outcome}
@@ -23,11 +24,26 @@ use Rattle.format.specs.Judge.{Judged, rule, unless, outermost, read, judge}
 use Rattle.format.specs.Judge.Judged.{refused, accepted}
 use Rattle.format.specs.Meaning.{means, meaningOf, encode, normalOf}
 use Rattle.format.specs.Loaded.{storeOf}
-use Rattle.format.specs.Calls.{readAnswer, roomy, writeAnswer, Lent, storedWithin, fitsLent, misfit, normalAnswer}
+use Rattle.format.specs.Calls.{judgeAnswer, readAnswer, roomy, writeAnswer, Lent, storedWithin, fitsLent, misfit, normalAnswer}
 use Rattle.format.specs.Same.{sameMeaning, sameAnswer}
+use Rattle.format.specs.State.{Memory, treeHeld}
 use Rattle.format.proofs.Induction.{few}
 use Rattle.format.proofs.Refusals.{refusal-inside}
 use Rattle.format.proofs.Rules.{accepted-size}
+use Rattle.format.proofs.Loading.{loaded-count}
+use Rattle.format.proofs.Written.{located-bytes}
+use Rattle.state.specs.Taking.{takenIn}
+use Rattle.state.proofs.HeldTree.{held}
+use Rattle.state.proofs.Taken.{Fitting, taken-ends}
+use Rattle.state.proofs.Taken.Fitting.{crowded, overfull, fits}
+use Rattle.edits.specs.Tree.{Edit}
+use Rattle.edits.specs.Calls.{editedIn}
+use Rattle.edits.specs.Runs.{BringsOctets}
+use Rattle.edits.proofs.Standing.{held-stands}
+use Rattle.edits.proofs.Changed.{edit-outcome}
+use Rattle.edits.proofs.FewRecords.{tree-few}
+use Rattle.edits.proofs.Only.{Ends, edit-ends}
+use Rattle.edits.proofs.Only.Ends.{nowhere, unruled, ruled}
 use Rattle.xml.specs.Xml.{xml}
 use Rattle.xml.specs.Named.{plainAt}
 use Rattle.xml.specs.Export.{unlessPlain, exportOf, exportAnswer}
@@ -38,7 +54,7 @@ use Rattle.spi_c.proofs.Packing.{packed-number, packed-object, packed-f
 -- what every refusal of a call is
 pub record Kept (r : Refusal) : Type 0 where
   pub least : 1 ≤ r .number
-  pub most : r .number ≤ 17
+  pub most : r .number ≤ 18
   pub place : r .place ≤ 32_768
   pub field : r .field ≤ 5
 
@@ -113,7 +129,7 @@ module _ (o : List ℕ) where
   accepted-few : (t : Items) → judge o ≡ accepted t → count t ≤ 32_768
   accepted-few t h = omega (arith, accepted-size o t h .1, few o t h)
 
-late-refusal : (n : ℕ) → 1 ≤ n → n ≤ 16 → Kept (refusal n 0)
+late-refusal : (n : ℕ) → 1 ≤ n → n ≤ 18 → Kept (refusal n 0)
 late-refusal n l m = record { least = l; most = omega arith; place = omega arith; field = omega arith }
 
 -- ---- read
@@ -170,6 +186,41 @@ normal-cases lent o (accepted t) h = go (fitsLent lent t) refl
 
 pub normal-told : (lent : Lent) (o : List ℕ) → Told (writeOutcome (normalAnswer lent (judge o)))
 normal-told lent o = normal-cases lent o (judge o) refl
+
+-- ---- taking in and editing: a tree that is laid has as many records as an object may have, or at most two for each octet of its normal form
+fitting-told : {most : OctetCount} {m : Memory} {u : Items} {j : Judged} → Fitting most m u j → count u < 0x100_0000_0000 → Told (readOutcome (judgeAnswer j))
+unfolding judgeAnswer
+fitting-told (crowded a) l = refuses (refusal 14 0) (late-refusal 14 (omega arith) (omega arith))
+fitting-told (overfull a b) l = refuses (refusal 15 0) (late-refusal 15 (omega arith) (omega arith))
+fitting-told {u = u} (fits f g) l = counts (count u) l
+
+taken-cases : (most : OctetCount) (m : Memory) (o : List ℕ) → AreOctets o → (j : Judged) → judge o ≡ j → Told (readOutcome (judgeAnswer (takenIn most m j)))
+unfolding takenIn judgeAnswer
+taken-cases most m o os (refused r) h = refuses r (judged-kept o r h)
+taken-cases most m o os (accepted t) h = fitting-told (taken-ends most m t) (omega (arith, accepted-few o t h, loaded-count o t os h))
+
+pub taken-told : (most : OctetCount) (m : Memory) (o : List ℕ) → AreOctets o → Told (readOutcome (judgeAnswer (takenIn most m (judge o))))
+taken-told most m o os = taken-cases most m o os (judge o) refl
+
+edit-cases : (e : Edit) (n : ℕ) (m : Memory) → AreOctets (m .store) → BringsOctets e → (t : Items) → treeHeld n m ≡ some t → {j : Judged} → Ends m e t j
+    → Told (readOutcome (judgeAnswer j))
+unfolding judgeAnswer
+edit-cases e n m os b t h (nowhere p) = refuses (refusal 18 0) (late-refusal 18 (omega arith) (omega arith))
+edit-cases e n m os b t h (unruled p q) = refuses (refusal 16 0) (late-refusal 16 (omega arith) (omega arith))
+edit-cases e n m os b t h (ruled u j p q (crowded a)) = refuses (refusal 14 0) (late-refusal 14 (omega arith) (omega arith))
+edit-cases e n m os b t h (ruled u j p q (overfull a c)) = refuses (refusal 15 0) (late-refusal 15 (omega arith) (omega arith))
+edit-cases e n m os b t h (ruled u j p q (fits f g)) =
+    let held = held n m t h in
+    let o = edit-outcome e t u (located-bytes (m .store) os t (held .whole .located)) b (held-stands n m t held) p q in
+    counts (count u) (omega (arith, tree-few u (o .stands .rules), f .small))
+
+pub edit-told : (e : Edit) (n : ℕ) (m : Memory) → AreOctets (m .store) → BringsOctets e → Told (readOutcome (judgeAnswer (editedIn m e (treeHeld n m))))
+unfolding editedIn judgeAnswer
+edit-told e n m os b = go (treeHeld n m) refl
+  where
+    go : (o : Option Items) → treeHeld n m ≡ o → Told (readOutcome (judgeAnswer (editedIn m e o)))
+    go none h = refuses (refusal 16 0) (late-refusal 16 (omega arith) (omega arith))
+    go (some t) h = edit-cases e n m os b t h (edit-ends m e t)
 
 -- ---- same
 decided : (b : Bool) → ToldSame (sameOutcome (cond b Same Different))

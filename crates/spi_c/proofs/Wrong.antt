@@ -5,20 +5,24 @@ use mathlib.Core.List.{List}
 use Prim.Native.Nat.{ℕ, _+_, _<_}
 use native.Mathlib.Omega.{arith}
 use lib.ListN.{getD}
-use Rattle.octets.specs.Counts.{sizeOf}
+use Rattle.octets.specs.Counts.{asOctets, sizeOf}
+use Rattle.octets.specs.Numbers.{Octets}
 use Rattle.format.specs.declared.ReadAnswer.the-variants.{Records, NotRead}
 use Rattle.format.specs.declared.SameAnswer.the-variants.{Same, Different, FirstRefused, SecondRefused}
 use Rattle.format.specs.Answers.{refusal, wrongValue, readOutcome, writeOutcome, sameOutcome}
 use Rattle.format.specs.Judge.{judge}
-use Rattle.format.specs.Calls.{Lists, places, readAnswer, spanOf, treeGiven, writeAnswer, normalAnswer}
+use Rattle.format.specs.Calls.{Lists, places, readAnswer, spanOf, treeGiven, writeAnswer, normalAnswer, judgeAnswer}
 use Rattle.format.specs.Same.{sameAnswer}
-use Rattle.format.specs.State.{Memory}
-use Rattle.state.specs.Taking.{lentBy}
+use Rattle.format.specs.State.{Memory, treeHeld}
+use Rattle.state.specs.Taking.{lentBy, takenIn}
+use Rattle.edits.specs.Tree.{Edit}
+use Rattle.edits.specs.Calls.{editedIn}
+use Rattle.edits.specs.Runs.{BringsOctets}
 use Rattle.xml.specs.Export.{exportOf, exportAnswer}
 use Rattle.spi_c.specs.Packed.{packed, packedOutcome, outcomeIn, packedSame, sameIn, packedSpan, spanIn}
-use Rattle.spi_c.specs.Claims.{ReadsC, SpansC, WritesC, NormalisesC, SameC, roomFor, ExportsC}
+use Rattle.spi_c.specs.Claims.{ReadsC, SpansC, WritesC, NormalisesC, TakesInC, EditsC, WritesStateC, SameC, roomFor, ExportsC}
 use Rattle.spi_c.proofs.Packing.{span-back}
-use Rattle.spi_c.proofs.Told.{told-back, told-same-back, read-told, write-told, normal-told, same-told, export-told}
+use Rattle.spi_c.proofs.Told.{told-back, told-same-back, read-told, write-told, normal-told, taken-told, edit-told, same-told, export-told}
 use Rattle.spi_c.proofs.Calls.{span-small}
 
 -- ---- each call's number, read back
@@ -35,6 +39,17 @@ write-back n lists lent before after a c = ap outcomeIn (c .answers) ∙ told-ba
 pub normalise-back : (object : List ℕ) (m m′ : Memory) (room room′ : List ℕ) (a : ℕ) → NormalisesC object m m′ room room′ a
     → outcomeIn a ≡ writeOutcome (normalAnswer (lentBy m room) (judge object))
 normalise-back object m m′ room room′ a c = ap outcomeIn (c .answers) ∙ told-back (normal-told (lentBy m room) object)
+
+pub take-in-back : (object : List ℕ) → Octets object → (m m′ : Memory) (a : ℕ) → TakesInC object m m′ a
+    → outcomeIn a ≡ readOutcome (judgeAnswer (takenIn (asOctets 32_768) m (judge object)))
+take-in-back object os m m′ a c = ap outcomeIn (c .answers) ∙ told-back (taken-told (asOctets 32_768) m object os)
+
+pub edit-back : (e : Edit) (n : ℕ) (m m′ : Memory) → Octets (m .store) → BringsOctets e → (a : ℕ) → EditsC e n m m′ a
+    → outcomeIn a ≡ readOutcome (judgeAnswer (editedIn m e (treeHeld n m)))
+edit-back e n m m′ os b a c = ap outcomeIn (c .answers) ∙ told-back (edit-told e n m os b)
+
+pub write-state-back : (n : ℕ) (m : Memory) (before after : List ℕ) (a : ℕ) → WritesStateC n m before after a → outcomeIn a ≡ writeOutcome (writeAnswer (sizeOf before) (treeHeld n m))
+write-state-back n m before after a c = ap outcomeIn (c .answers) ∙ told-back (write-told (sizeOf before) (treeHeld n m))
 
 pub same-back : (a b : List ℕ) (n : ℕ) → SameC a b n → sameIn n ≡ sameOutcome (sameAnswer (judge a) (judge b))
 same-back a b n c = ap sameIn (c .answers) ∙ told-same-back (same-told a b)

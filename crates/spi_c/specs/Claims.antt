@@ -7,11 +7,13 @@ use lib.Seq.{sets}
 use Rattle.octets.specs.declared.counts.Octets.{Octets as OctetCount}
 use Rattle.octets.specs.Counts.{asOctets, sizeOf}
 use Rattle.format.specs.Answers.{readOutcome, writeOutcome, sameOutcome}
-use Rattle.format.specs.Judge.{judge}
-use Rattle.format.specs.Calls.{Lists, places, readAnswer, ReadClaim, spanOf, treeGiven, writeAnswer, WriteClaim, normalAnswer}
+use Rattle.format.specs.Judge.{judge, Judged}
+use Rattle.format.specs.Calls.{Lists, places, readAnswer, ReadClaim, spanOf, treeGiven, writeAnswer, WriteClaim, normalAnswer, judgeAnswer}
 use Rattle.format.specs.Same.{sameAnswer}
-use Rattle.format.specs.State.{Memory}
-use Rattle.state.specs.Taking.{lentBy, NormaliseClaim}
+use Rattle.format.specs.State.{Memory, treeHeld}
+use Rattle.state.specs.Taking.{lentBy, NormaliseClaim, takenIn, Leaves, WriteStateClaim}
+use Rattle.edits.specs.Tree.{Edit}
+use Rattle.edits.specs.Calls.{editedIn}
 use Rattle.xml.specs.Export.{exportOf, exportAnswer, exportOctets}
 use Rattle.spi_c.specs.Packed.{packedOutcome, packedSame, packedSpan}
 
@@ -32,6 +34,22 @@ pub record NormalisesC (object : List ℕ) (m m′ : Memory) (room room′ : Lis
 
 pub record SameC (a b : List ℕ) (answer : ℕ) : Type 0 where
   pub answers : answer ≡ packedSame (sameOutcome (sameAnswer (judge a) (judge b)))
+
+-- a tree that is to lie in lent memory: the number of its records, or the refusal, and what memory then holds
+pub record LeavesC (outcome : Judged) (m m′ : Memory) (a : ℕ) : Type 0 where
+  pub answers : a ≡ packedOutcome (readOutcome (judgeAnswer outcome))
+  pub leaves : Leaves outcome m m′ (judgeAnswer outcome)
+
+-- an object is taken in to be edited, so its normal form has no more octets than an object may have
+abbrev pub TakesInC : (object : List ℕ) (m m′ : Memory) (a : ℕ) → Type 0
+TakesInC object m m′ a = LeavesC (takenIn (asOctets 32_768) m (judge object)) m m′ a
+
+abbrev pub EditsC : (e : Edit) (n : ℕ) (m m′ : Memory) (a : ℕ) → Type 0
+EditsC e n m m′ a = LeavesC (editedIn m e (treeHeld n m)) m m′ a
+
+pub record WritesStateC (n : ℕ) (m : Memory) (before after : List ℕ) (a : ℕ) : Type 0 where
+  pub answers : a ≡ packedOutcome (writeOutcome (writeAnswer (sizeOf before) (treeHeld n m)))
+  pub leaves : WriteStateClaim n m before after (writeAnswer (sizeOf before) (treeHeld n m))
 
 -- of the room for XML, which has no limit of its own, as many octets count as an answer can tell: 2^40 less one
 abbrev pub roomFor : List ℕ → OctetCount

@@ -5,7 +5,9 @@ ghost use Rattle.text.specs.Text.{text};
 ghost use Rattle.format.specs.Lent.{lent};
 ghost use Rattle.state.specs.Taking.{memory};
 ghost use Rattle.spi_c.specs.Packed.{packed, packedOutcome, packedSame, packedSpan, Small, SmallSame, SmallSpan};
-ghost use Rattle.spi_c.specs.Claims.{ReadsC, SpansC, WritesC, NormalisesC, SameC, ExportsC};
+ghost use Rattle.state.specs.Taking.{memory};
+ghost use Rattle.edits.specs.Tree.Edit.{replace, remove};
+ghost use Rattle.spi_c.specs.Claims.{ReadsC, SpansC, WritesC, NormalisesC, TakesInC, EditsC, WritesStateC, SameC, ExportsC};
 use format::Outcome;
 use format::SameOutcome;
 use format::Span;
@@ -123,6 +125,131 @@ pub extern "C" fn spi_normalise(
 {
     let answer = writer::normalise(
         object,
+        tags,
+        kinds,
+        depths,
+        parents,
+        starts,
+        sizes,
+        bodies,
+        store,
+        room,
+    );
+    packed_outcome(answer.outcome())
+}
+
+// An object into lent memory, to be edited there: its records, the sizes of their bodies in normal form, and its texts and values.
+#[no_mangle]
+pub extern "C" fn spi_take_in(
+    object: &[u8],
+    tags: &mut [u8],
+    kinds: &mut [u8],
+    depths: &mut [u8],
+    parents: &mut [u16],
+    starts: &mut [u16],
+    sizes: &mut [u16],
+    bodies: &mut [u16],
+    store: &mut [u8],
+) -> u64
+    ensures { λ r. ⌜ TakesInC (now (object .entry)) (memory (tags .entry) (kinds .entry) (depths .entry) (parents .entry) (starts .entry) (sizes .entry) (bodies .entry) (store .entry)) (memory (tags .exit) (kinds .exit) (depths .exit) (parents .exit) (starts .exit) (sizes .exit) (bodies .exit) (store .exit)) r ⌝ }
+{
+    let answer = edits::take_in(
+        object,
+        tags,
+        kinds,
+        depths,
+        parents,
+        starts,
+        sizes,
+        bodies,
+        store,
+        Octets(32_768),
+    );
+    packed_outcome(answer.outcome())
+}
+
+// Another text for a record of the tree in lent memory.
+#[no_mangle]
+pub extern "C" fn spi_replace_text(
+    count: usize,
+    number: usize,
+    text: &[u8],
+    tags: &[u8],
+    kinds: &[u8],
+    depths: &[u8],
+    parents: &[u16],
+    starts: &mut [u16],
+    sizes: &mut [u16],
+    bodies: &mut [u16],
+    store: &mut [u8],
+) -> u64
+    ensures { λ r. ⌜ EditsC (replace number (now (text .entry))) count (memory (tags .entry) (kinds .entry) (depths .entry) (parents .entry) (starts .entry) (sizes .entry) (bodies .entry) (store .entry)) (memory (tags .entry) (kinds .entry) (depths .entry) (parents .entry) (starts .exit) (sizes .exit) (bodies .exit) (store .exit)) r ⌝ }
+{
+    let answer = edits::replace_text(
+        count,
+        number,
+        text,
+        tags,
+        kinds,
+        depths,
+        parents,
+        starts,
+        sizes,
+        bodies,
+        store,
+    );
+    packed_outcome(answer.outcome())
+}
+
+// A record of the tree in lent memory goes, with all below it.
+#[no_mangle]
+pub extern "C" fn spi_remove(
+    count: usize,
+    number: usize,
+    tags: &mut [u8],
+    kinds: &mut [u8],
+    depths: &mut [u8],
+    parents: &mut [u16],
+    starts: &mut [u16],
+    sizes: &mut [u16],
+    bodies: &mut [u16],
+    store: &mut [u8],
+) -> u64
+    ensures { λ r. ⌜ EditsC (remove number) count (memory (tags .entry) (kinds .entry) (depths .entry) (parents .entry) (starts .entry) (sizes .entry) (bodies .entry) (store .entry)) (memory (tags .exit) (kinds .exit) (depths .exit) (parents .exit) (starts .exit) (sizes .exit) (bodies .exit) (store .exit)) r ⌝ }
+{
+    let answer = edits::remove(
+        count,
+        number,
+        tags,
+        kinds,
+        depths,
+        parents,
+        starts,
+        sizes,
+        bodies,
+        store,
+    );
+    packed_outcome(answer.outcome())
+}
+
+// The normal form of the tree in lent memory, into `room`.
+#[no_mangle]
+pub extern "C" fn spi_write_state(
+    count: usize,
+    tags: &[u8],
+    kinds: &[u8],
+    depths: &[u8],
+    parents: &[u16],
+    starts: &[u16],
+    sizes: &[u16],
+    bodies: &[u16],
+    store: &[u8],
+    room: &mut [u8],
+) -> u64
+    ensures { λ r. ⌜ WritesStateC count (memory (tags .entry) (kinds .entry) (depths .entry) (parents .entry) (starts .entry) (sizes .entry) (bodies .entry) (store .entry)) (now (room .entry)) (now (room .exit)) r ⌝ }
+{
+    let answer = writer::write_state(
+        count,
         tags,
         kinds,
         depths,
