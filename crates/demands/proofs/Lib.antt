@@ -7,4 +7,5 @@ pub mod Xml
 pub mod Only
 pub mod Bench
 pub mod Frauds
+pub mod Edits
 pub mod Requests

@@ -83,10 +83,12 @@ read-records-ends object before after slice slice′ answer c =
     (read-ended object n ((after ≡ before) × (slice′ ≡ slice)) (judge object) refl
     (λ e. (c .leaves ∙ ap (λ rs. lay 0 rs before) e ∙ lay-none 0 before, c .fills ∙ ap (λ rs. rs ++ drop (length rs) slice) e)))
 
-pub write-ends : WriteEnds
+-- a tree, if there is one, that is written to a room
+pub written-ends : (o : Option Items) (before after : List ℕ) (answer : WriteAnswer) → answer ≡ writeAnswer (sizeOf before) o
+    → after ≡ sets before 0 (writeOctets (sizeOf before) o) → Ends (OfCall (15 ∷ 16 ∷ [])) (after ≡ before) (writeOutcome answer)
 unfolding writeAnswer writeOctets among
-write-ends n lists lent before after answer c =
-    subst (λ x. Ends (OfCall (15 ∷ 16 ∷ [])) (after ≡ before) (writeOutcome x)) (sym (c .answers)) (go (treeGiven n lists lent) (c .leaves))
+written-ends o before after answer told leaves =
+    subst (λ x. Ends (OfCall (15 ∷ 16 ∷ [])) (after ≡ before) (writeOutcome x)) (sym told) (go o leaves)
   where
     one : (t : Items) (b : Bool) → after ≡ sets before 0 (cond b (encode (means [] t)) [])
         → Ends (OfCall (15 ∷ 16 ∷ [])) (after ≡ before) (writeOutcome (cond b (Octets (sizeOf (encode (means [] t)))) (NotWritten (refusal 15 0))))
@@ -96,6 +98,9 @@ write-ends n lists lent before after answer c =
     go : (o : Option Items) → after ≡ sets before 0 (writeOctets (sizeOf before) o) → Ends (OfCall (15 ∷ 16 ∷ [])) (after ≡ before) (writeOutcome (writeAnswer (sizeOf before) o))
     go none e = refusedAt 16 0 0 (ofCall 16 refl) (e ∙ sets-none before 0)
     go (some t) e = one t (roomy (sizeOf before) (encode (means [] t))) e
+
+pub write-ends : WriteEnds
+write-ends n lists lent before after answer c = written-ends (treeGiven n lists lent) before after answer (c .answers) (c .leaves)
 
 -- nothing is handed out of an object with a refusal
 nothing-handed : {A : Type 0} (lent : Lent) (f : Items → List A) (j : Judged) (r : Refusal) → normalAnswer lent j ≡ NotWritten r → handed lent f j ≡ []

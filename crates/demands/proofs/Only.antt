@@ -1,6 +1,6 @@
 -- Only one answer: each claim gives an equation for the answer and one for each lent thing, and two things that equal a third are equal.
 use mathlib.Core.Path.{sym, _∙_}
-use Rattle.demands.specs.Only.{OneAnswer, OneRead, OneReadAtMost, OneReadRecords, OneWrite, OneNormalise, OneExport, OnePut, OneMarks, OneWidths, OneShows, OneIndex, OneReadC, OneSpanC, OneWriteC, OneNormaliseC, OneSameC, OneExportC}
+use Rattle.demands.specs.Only.{OneAnswer, OneRead, OneReadAtMost, OneReadRecords, OneWrite, OneNormalise, OneTakeIn, OneEdit, OneWriteState, OneExport, OnePut, OneMarks, OneWidths, OneShows, OneIndex, OneReadC, OneSpanC, OneWriteC, OneNormaliseC, OneTakeInC, OneEditC, OneWriteStateC, OneSameC, OneExportC}
 use Rattle.text.proofs.Index.{one-index as index-alone}
 use Rattle.text.proofs.WeighLaws.{marks-one, widths-one, shows-one}
 
@@ -29,6 +29,15 @@ one-normalise object memory oneMemory otherMemory room oneRoom otherRoom answer 
   one-answer _ _ oneMemory otherMemory (c .leaves) (d .leaves),
   one-answer _ _ oneRoom otherRoom (c .writes) (d .writes),
 )
+
+pub one-take-in : OneTakeIn
+one-take-in object most before one other answer answer′ c d = (one-answer _ _ answer answer′ (c .answers) (d .answers), one-answer _ _ one other (c .leaves) (d .leaves))
+
+pub one-edit : OneEdit
+one-edit e n before one other answer answer′ c d = (one-answer _ _ answer answer′ (c .answers) (d .answers), one-answer _ _ one other (c .leaves) (d .leaves))
+
+pub one-write-state : OneWriteState
+one-write-state n m before one other answer answer′ c d = (one-answer _ _ answer answer′ (c .answers) (d .answers), one-answer _ _ one other (c .leaves) (d .leaves))
 
 pub one-export : OneExport
 one-export object before one other answer answer′ c d = (one-answer _ _ answer answer′ (c .answers) (d .answers), one-answer _ _ one other (c .leaves) (d .leaves))
@@ -63,6 +72,15 @@ one-normalise-c object memory oneMemory otherMemory room oneRoom otherRoom answe
   one-answer _ _ oneMemory otherMemory (c .leaves .leaves) (d .leaves .leaves),
   one-answer _ _ oneRoom otherRoom (c .leaves .writes) (d .leaves .writes),
 )
+
+pub one-take-in-c : OneTakeInC
+one-take-in-c object before one other answer answer′ c d = (one-answer _ _ answer answer′ (c .answers) (d .answers), one-answer _ _ one other (c .leaves .leaves) (d .leaves .leaves))
+
+pub one-edit-c : OneEditC
+one-edit-c e n before one other answer answer′ c d = (one-answer _ _ answer answer′ (c .answers) (d .answers), one-answer _ _ one other (c .leaves .leaves) (d .leaves .leaves))
+
+pub one-write-state-c : OneWriteStateC
+one-write-state-c n m before one other answer answer′ c d = (one-answer _ _ answer answer′ (c .answers) (d .answers), one-answer _ _ one other (c .leaves .leaves) (d .leaves .leaves))
 
 pub one-same-c : OneSameC
 one-same-c a b answer answer′ c d = one-answer _ _ answer answer′ (c .answers) (d .answers)

@@ -5,4 +5,5 @@ pub mod Xml
 pub mod Only
 pub mod Bench
 pub mod Frauds
+pub mod Edits
 pub mod Requests

@@ -4,6 +4,7 @@ use mathlib.Core.Path.{_≡_}
 use mathlib.Core.Bool.{Bool}
 use mathlib.Core.List.{List}
 use Prim.Native.Nat.{ℕ}
+use Rattle.octets.specs.declared.counts.Octets.{Octets as OctetCount}
 use Rattle.octets.specs.declared.Put.{Put}
 use Rattle.octets.specs.Puts.{Puts}
 use Rattle.text.specs.Tokens.{Entries}
@@ -14,9 +15,11 @@ use Rattle.format.specs.declared.ReadAnswer.{ReadAnswer}
 use Rattle.format.specs.declared.WriteAnswer.{WriteAnswer}
 use Rattle.format.specs.Calls.{Lists, ReadClaim, ReadAtMostClaim, ReadRecordsClaim, WriteClaim}
 use Rattle.format.specs.State.{Memory}
-use Rattle.state.specs.Taking.{NormaliseClaim}
+use Rattle.state.specs.Taking.{NormaliseClaim, TakeInClaim, WriteStateClaim}
+use Rattle.edits.specs.Tree.{Edit}
+use Rattle.edits.specs.Calls.{EditClaim}
 use Rattle.xml.specs.Export.{ExportClaim}
-use Rattle.spi_c.specs.Claims.{ReadsC, SpansC, WritesC, NormalisesC, SameC, ExportsC}
+use Rattle.spi_c.specs.Claims.{ReadsC, SpansC, WritesC, NormalisesC, TakesInC, EditsC, WritesStateC, SameC, ExportsC}
 
 -- every call whose claim is one equation for its answer; none of them is lent anything to write.
 -- octets: read_header, item_at, header_size, read_number. text: check, is_token, is_table, is_covered, weigh, expanded_size. values: is_attribute, known_kind,
@@ -63,6 +66,27 @@ OneNormalise =
     → NormaliseClaim object memory oneMemory room oneRoom answer → NormaliseClaim object memory otherMemory room otherRoom answer′
     → (answer ≡ answer′) × (oneMemory ≡ otherMemory) × (oneRoom ≡ otherRoom)
 
+-- take_in
+abbrev pub OneTakeIn : Type 0
+OneTakeIn =
+    (object : List ℕ) (most : OctetCount) (before one other : Memory) (answer answer′ : ReadAnswer)
+    → TakeInClaim object most before one answer → TakeInClaim object most before other answer′
+    → (answer ≡ answer′) × (one ≡ other)
+
+-- replace_text, remove, insert
+abbrev pub OneEdit : Type 0
+OneEdit =
+    (e : Edit) (n : ℕ) (before one other : Memory) (answer answer′ : ReadAnswer)
+    → EditClaim e n before one answer → EditClaim e n before other answer′
+    → (answer ≡ answer′) × (one ≡ other)
+
+-- write_state
+abbrev pub OneWriteState : Type 0
+OneWriteState =
+    (n : ℕ) (m : Memory) (before one other : List ℕ) (answer answer′ : WriteAnswer)
+    → WriteStateClaim n m before one answer → WriteStateClaim n m before other answer′
+    → (answer ≡ answer′) × (one ≡ other)
+
 -- export
 abbrev pub OneExport : Type 0
 OneExport =
@@ -93,7 +117,8 @@ OneShows = (entries : Entries) (one other : List ℕ) → Shows 32 entries one �
 abbrev pub OneIndex : Type 0
 OneIndex = (entries : Entries) (one other : List ℕ) → Indexes entries one → Indexes entries other → one ≡ other
 
--- spi_read, spi_span, spi_write, spi_normalise, spi_same, spi_export: the one number that each answers, and what is lent as above
+-- spi_read, spi_span, spi_write, spi_normalise, spi_take_in, the three edits, spi_write_state, spi_same, spi_export: the one number that each answers, and what is lent
+-- as above
 abbrev pub OneReadC : Type 0
 OneReadC =
     (object : List ℕ) (before one other : Lists) (answer answer′ : ℕ) → ReadsC object before one answer → ReadsC object before other answer′
@@ -113,6 +138,21 @@ OneNormaliseC =
     (object : List ℕ) (memory oneMemory otherMemory : Memory) (room oneRoom otherRoom : List ℕ) (answer answer′ : ℕ)
     → NormalisesC object memory oneMemory room oneRoom answer → NormalisesC object memory otherMemory room otherRoom answer′
     → (answer ≡ answer′) × (oneMemory ≡ otherMemory) × (oneRoom ≡ otherRoom)
+
+abbrev pub OneTakeInC : Type 0
+OneTakeInC =
+    (object : List ℕ) (before one other : Memory) (answer answer′ : ℕ) → TakesInC object before one answer → TakesInC object before other answer′
+    → (answer ≡ answer′) × (one ≡ other)
+
+abbrev pub OneEditC : Type 0
+OneEditC =
+    (e : Edit) (n : ℕ) (before one other : Memory) (answer answer′ : ℕ) → EditsC e n before one answer → EditsC e n before other answer′
+    → (answer ≡ answer′) × (one ≡ other)
+
+abbrev pub OneWriteStateC : Type 0
+OneWriteStateC =
+    (n : ℕ) (m : Memory) (before one other : List ℕ) (answer answer′ : ℕ) → WritesStateC n m before one answer → WritesStateC n m before other answer′
+    → (answer ≡ answer′) × (one ≡ other)
 
 abbrev pub OneSameC : Type 0
 OneSameC = (a b : List ℕ) (answer answer′ : ℕ) → SameC a b answer → SameC a b answer′ → answer ≡ answer′
