@@ -1,12 +1,16 @@
 -- The ways through the program's functions that aren't arithmetic alone: where octets first differ, a normal form and an XML within their room, items that lie in a part.
-use mathlib.Core.Path.{_≡_}
-use mathlib.Core.List.{List}
-use Prim.Native.Nat.{ℕ, suc, _+_, _-_, _^_, _≤_, _<_}
+use mathlib.Core.Path.{_≡_, refl, ap}
+use mathlib.Core.List.{List, []}
+use Prim.Native.Nat.{ℕ, suc, _+_, _-_, _^_, _≤_, _<_, min}
+use mathlib.Core.Bool.{Bool, true, false, cond}
+use mathlib.Core.Option.{Option, none, some}
 use native.Mathlib.Omega.{arith}
 use lib.ListN.{length, take, drop, getD, drop-of-length-le}
+use lib.Dec.{leb}
 use mir.Syntax.{w64}
 use mir.Val.{Fits}
-use borrow.Author.Tests.{eq-eqb, ne-eqb}
+use borrow.Author.Tests.{eq-eqb, ne-eqb, leb-true}
+use Rattle.octets.specs.Counts.{sizeOf}
 use Rattle.octets.specs.declared.Lies.{Lies}
 use Rattle.octets.specs.declared.Lies.the-variants.{Between}
 use Rattle.octets.specs.Places.{liesAt}
@@ -16,9 +20,12 @@ use Rattle.io.specs.Counts.{Counts}
 use Rattle.io.proofs.Counting.{counts}
 use Rattle.format.specs.declared.WriteAnswer.{WriteAnswer}
 use Rattle.format.specs.declared.WriteAnswer.the-variants.{Octets, NotWritten}
-use Rattle.format.specs.Answers.{writeOutcome}
-use Rattle.format.specs.State.{Memory}
-use Rattle.state.specs.Taking.{NormaliseClaim}
+use Rattle.format.specs.Answers.{writeOutcome, refusal}
+use Rattle.format.specs.State.{Memory, treeHeld}
+use Rattle.state.specs.Taking.{NormaliseClaim, WriteStateClaim}
+use Rattle.format.specs.Tree.{Items}
+use Rattle.format.specs.Meaning.{means, encode}
+use Rattle.format.specs.Calls.{roomy, writeAnswer}
 use Rattle.xml.specs.Export.{ExportClaim}
 use Rattle.xml.proofs.Objects.{export-inside}
 use Rattle.writer.proofs.Normalised.{written-inside}
@@ -76,6 +83,21 @@ pub xml-within : (o room room′ : List ℕ) (answer : WriteAnswer) → ExportCl
     → (r : Made) → r .size .0 ≡ writeOutcome answer .count → Counts (r .size .0) room′
 xml-within o room room′ (Octets n) c e r q = counts (r .size .0) room′ (omega (arith, q, export-inside o room room′ n c))
 xml-within o room room′ (NotWritten r₁) c e r q = counts (r .size .0) room′ (omega (arith, q))
+
+pub state-within : (n : ℕ) (m : Memory) (room room′ : List ℕ) (answer : WriteAnswer) → WriteStateClaim n m room room′ answer → length room′ ≡ length room
+    → (r : Made) → r .size .0 ≡ writeOutcome answer .count → Counts (r .size .0) room′
+unfolding writeAnswer roomy
+state-within n m room room′ answer c e r q =
+    counts (r .size .0) room′ (omega (arith, q, ap (λ a. writeOutcome a .count) (c .answers), few (treeHeld n m)))
+  where
+    few : (o : Option Items) → writeOutcome (writeAnswer (sizeOf room) o) .count ≤ length room
+    few none = omega arith
+    few (some t) = go (leb (length (encode (means [] t))) (min (length room) 32_768)) refl
+      where
+        go : (b : Bool) → leb (length (encode (means [] t))) (min (length room) 32_768) ≡ b
+            → writeOutcome (cond b (Octets (sizeOf (encode (means [] t)))) (NotWritten (refusal 15 0))) .count ≤ length room
+        go true h = omega (arith, leb-true (length (encode (means [] t))) (min (length room) 32_768) h)
+        go false h = omega arith
 
 -- ---- items in a part
 

@@ -9,9 +9,9 @@ ghost use Rattle.io.specs.Counts.{Counts};
 const LONGEST: usize = 4_000;
 
 // How many octets were read, where nothing failed.
-struct Got {
-    whole: bool,
-    size: Octets,
+pub struct Got {
+    pub whole: bool,
+    pub size: Octets,
 }
 
 // How many octets an argument has, and the file that it names.
@@ -74,6 +74,19 @@ fn load(path: &[u8], buf: &mut [u8]) -> Got
     }
     let got = read_all(fd, path, buf);
     libc::close(fd);
+    got
+}
+
+// Standard input. A buffer that it fills may not hold all of it, so that is a failure.
+pub fn load_input(buf: &mut [u8]) -> Got
+    ensures { λ r. ⌜ Counts (r .size .0) (now (buf .exit)) ⌝ }
+{
+    let got = read_all(libc::STDIN_FILENO, b"spi: standard input", buf);
+    let size = got.size;
+    if size.0 == buf.len() {
+        io::write_all(libc::STDERR_FILENO, b"spi: standard input is too long\n");
+        return Got { whole: false, size };
+    }
     got
 }
 

@@ -58,9 +58,22 @@ fn say_words(number: u8, field: u8) {
     say(&line[..end]);
 }
 
-// The line of a refused file, and the status. The field of a time that is wrong is told in words.
+// The line of a refused file, and the status.
 pub fn say_refused(path: &[u8], number: u8, place: usize, field: u8) -> u8 {
     say(path);
+    say_refusal(number, place, field);
+    BAD
+}
+
+// Which edit of a file a line is about.
+pub fn say_edit(path: &[u8], made: usize) {
+    say(path);
+    say(b": edit ");
+    say_number(made);
+}
+
+// The rest of a line about a refusal. The field of a time that is wrong is told in words.
+pub fn say_refusal(number: u8, place: usize, field: u8) {
     say(b": refused ");
     say_number(number as usize);
     say(b" at ");
@@ -68,7 +81,6 @@ pub fn say_refused(path: &[u8], number: u8, place: usize, field: u8) -> u8 {
     say(b": ");
     say_words(number, field);
     say(b"\n");
-    BAD
 }
 
 pub fn say_accepted(path: &[u8], records: usize, size: Octets) {
@@ -78,6 +90,14 @@ pub fn say_accepted(path: &[u8], records: usize, size: Octets) {
     say(b" records, ");
     say_octets(size);
     say(b"\n");
+}
+
+// What is made of an edited object, in words.
+pub fn edited_words(made: usize, words: &mut [u8]) -> usize
+    ensures { λ r. ⌜ Counts r (now (words .exit)) ⌝ }
+{
+    let number = end_of(show::put_bytes(words, 0, b"normal form after edit "), words);
+    end_of(show::put_decimal(words, number, made), words)
 }
 
 // What was made of an object and where it was written.

@@ -1,9 +1,11 @@
-// The command for people: checks objects in files, lists their records, shows their items, writes their normal form or XML, compares two. The script ./spi builds it and
-// runs it, once a pair of files where two folders are compared.
+// The command for people: checks objects in files, lists their records, shows their items, writes their normal form or XML, edits one, compares two. The script ./spi
+// builds it and runs it, once a pair of files where two folders are compared.
 //
-// What is said of an object is proved where it is found, in `judge`, `reader`, `compare`, `writer`, `xml` and `show`; here every function is safe and ends. A program has no exit
-// status, so the last line on standard output is a status of its own, which the script takes away and ends with.
+// What is said of an object is proved where it is found, in `judge`, `reader`, `compare`, `edits`, `writer`, `xml` and `show`; here every function is safe and ends. A
+// program has no exit status, so the last line on standard output is a status of its own, which the script takes away and ends with.
+mod asking;
 mod comparing;
+mod editing;
 mod files;
 mod lines;
 mod memory;
@@ -13,13 +15,17 @@ mod tree;
 mod words;
 
 use crate::comparing::compare;
+use crate::editing::edited_form;
 use crate::files::load_argument;
+use crate::files::load_input;
 use crate::files::save;
+use crate::lines::edited_words;
 use crate::lines::say;
 use crate::lines::say_number;
 use crate::lines::say_refused;
 use crate::lines::say_saved;
 use crate::memory::file_buffer;
+use crate::memory::input_buffer;
 use crate::memory::room;
 use crate::memory::text_room;
 use crate::objects::check;
@@ -41,6 +47,7 @@ enum Task {
     Show,
     Normal,
     Xml,
+    Edit,
     Compare,
 }
 
@@ -52,7 +59,19 @@ fn usage(text: &[u8]) -> u8 {
 }
 
 fn usage_of_all() -> u8 {
-    usage(b"check | list | show | normal | xml | compare | help")
+    usage(b"check | list | show | normal | xml | edit | compare | help")
+}
+
+fn help_edit() {
+    say(
+        b"spi edit FILE OUT       edits an object, by lines of standard input or by the words behind OUT, and writes its normal form to OUT:\n",
+    );
+    say(b"  text NUMBER TEXT      another text for a record, all that is left of the line\n");
+    say(b"  text-hex NUMBER HEX   the same by hexadecimal digits, for a text with a line end\n");
+    say(b"  remove NUMBER         a record goes, with all below it\n");
+    say(
+        b"  Records have numbers from 0 in the order of spi list. One edit that is refused, and OUT isn't written.\n",
+    );
 }
 
 fn help() -> u8 {
@@ -63,6 +82,7 @@ fn help() -> u8 {
     );
     say(b"spi normal FILE OUT     writes an object's normal form to the file OUT\n");
     say(b"spi xml FILE OUT        writes an object's XML to the file OUT\n");
+    help_edit();
     say(b"spi compare FILE FILE   whether two objects mean the same\n");
     say(b"spi compare DIR DIR     the same of the objects in two folders, by file name\n");
     say(b"spi help                these lines\n");
@@ -107,6 +127,25 @@ fn save_xml(path: &[u8], object: &[u8]) -> u8 {
     save_made(path, object, b"XML", &text[..size])
 }
 
+// An object edited as standard input says.
+fn save_edited(path: &[u8], object: &[u8]) -> u8 {
+    let mut input = input_buffer();
+    let got = load_input(&mut input);
+    if !got.whole {
+        return FAILED;
+    }
+    let lines = got.size.0;
+    let mut normal = room();
+    let done = edited_form(path, object, &input[..lines], &mut normal);
+    if done.status > GOOD {
+        return done.status;
+    }
+    let size = done.size.0;
+    let mut words = io::buffer();
+    let end = edited_words(done.made, &mut words);
+    save_made(path, object, &words[..end], &normal[..size])
+}
+
 // An object compared with that in the file that the third argument names.
 fn compare_with(first: &[u8], a: &[u8]) -> u8 {
     let mut path = io::buffer();
@@ -127,6 +166,7 @@ fn treat(task: Task, path: &[u8], object: &[u8]) -> u8 {
         Task::Show => outline(path, object),
         Task::Normal => save_normal(path, object),
         Task::Xml => save_xml(path, object),
+        Task::Edit => save_edited(path, object),
         Task::Compare => compare_with(path, object),
     }
 }
@@ -189,6 +229,9 @@ fn obey(command: &[u8], count: usize) -> u8 {
     }
     if is_word(command, b"xml") {
         return treat_first(Task::Xml, count == 4, b"xml FILE OUT");
+    }
+    if is_word(command, b"edit") {
+        return treat_first(Task::Edit, count == 4, b"edit FILE OUT [EDIT]");
     }
     if is_word(command, b"compare") {
         return treat_first(Task::Compare, count == 4, b"compare FILE FILE, or DIR DIR");

@@ -13,6 +13,12 @@ const TEXT: usize = 655_360;
 
 const PLACES: usize = 16_384;
 
+// A tree that is edited has at most two records for each octet of its normal form.
+const TREE_PLACES: usize = 65_536;
+
+// The lines of edits.
+const INPUT: usize = 1_048_576;
+
 pub fn file_buffer() -> [u8; FILE]
     ensures { λ r. ⌜ 32_769 ≡ length r ⌝ }
 {
@@ -29,6 +35,24 @@ pub fn text_room() -> [u8; TEXT]
     ensures { λ r. ⌜ 655_360 ≡ length r ⌝ }
 {
     [0; TEXT]
+}
+
+pub fn input_buffer() -> [u8; INPUT]
+    ensures { λ r. ⌜ 1_048_576 ≡ length r ⌝ }
+{
+    [0; INPUT]
+}
+
+pub fn tree_octets() -> [u8; TREE_PLACES]
+    ensures { λ r. ⌜ 65_536 ≡ length r ⌝ }
+{
+    [0; TREE_PLACES]
+}
+
+pub fn tree_numbers() -> [u16; TREE_PLACES]
+    ensures { λ r. ⌜ 65_536 ≡ length r ⌝ }
+{
+    [0; TREE_PLACES]
 }
 
 pub fn octet_places() -> [u8; PLACES]

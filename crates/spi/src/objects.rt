@@ -92,7 +92,7 @@ pub fn outline(path: &[u8], object: &[u8]) -> u8 {
     GOOD
 }
 
-fn as_made(answer: WriteAnswer) -> Made
+pub fn as_made(answer: WriteAnswer) -> Made
     ensures { λ r. ⌜ r .size .0 ≡ writeOutcome answer .count ⌝ }
 {
     match answer {
