@@ -167,6 +167,48 @@ ON_EACH_TEXT(second_text, check_by_second)
 ON_EACH_TEXT(octet_text, check_by_octet)
 ON_EACH_TEXT(table_text, check_by_table)
 
+/* ---- A day in which one description is edited, against the same day normalised anew; each answers 0 ----- */
+
+/* A tree in memory, its record that is edited, and two texts for that, of which one is a letter shorter. */
+static struct tree_in_memory {
+    uint8_t tags[PLACES], kinds[PLACES], depths[PLACES], store[ROOM];
+    uint16_t parents[PLACES], starts[PLACES], sizes[PLACES], bodies[PLACES];
+    size_t records, number, size, turn;
+    uint8_t text[ROOM];
+} trees[SIZES][MOST_OBJECTS];
+
+#define MEMORY(tree)                                                                                                   \
+    (tree)->tags, PLACES, (tree)->kinds, PLACES, (tree)->depths, PLACES, (tree)->parents, PLACES, (tree)->starts,      \
+        PLACES, (tree)->sizes, PLACES, (tree)->bodies, PLACES, (tree)->store, ROOM
+
+static struct tree_in_memory *tree_of(const struct file *object)
+{
+    return &trees[set - sets][object - set->objects];
+}
+
+static uint64_t edit_by_library(const struct file *object, const struct file *other)
+{
+    (void)other;
+    struct tree_in_memory *tree = tree_of(object);
+    tree->turn = 1 - tree->turn;
+    return spi_refused(spi_replace_text(tree->records, tree->number, tree->text, tree->size - tree->turn, MEMORY(tree)));
+}
+
+static uint64_t edit_and_write_by_library(const struct file *object, const struct file *other)
+{
+    const struct tree_in_memory *tree = tree_of(object);
+    return edit_by_library(object, other) + spi_refused(spi_write_state(tree->records, MEMORY(tree), room, ROOM));
+}
+
+static uint64_t make_anew_by_library(const struct file *object, const struct file *other)
+{
+    return spi_refused(normalise_by_library(object, other));
+}
+
+ON_EACH(library_edit, edit_by_library)
+ON_EACH(library_edit_and_write, edit_and_write_by_library)
+ON_EACH(library_anew, make_anew_by_library)
+
 typedef uint64_t (*call)(void);
 
 /* The library's call, then those of the programs that it is held to. */
@@ -180,6 +222,8 @@ static const struct calls reading = {2, {library_read, second_read}};
 static const struct calls normalising = {2, {library_normalise, second_normalise}};
 static const struct calls comparing = {2, {library_same, second_same}};
 static const struct calls exporting = {2, {library_export, second_export}};
+static const struct calls editing = {2, {library_edit, library_anew}};
+static const struct calls editing_and_writing = {2, {library_edit_and_write, library_anew}};
 static const struct calls checking = {4, {library_text, second_text, octet_text, table_text}};
 
 /* ---- Timing ------------------------------------------------------------------------------------- */
@@ -415,6 +459,51 @@ static void compare_export(const char *folder, const char *name, const char *lab
     compare(label, object_octets, &exporting);
 }
 
+/* The description in the middle of a tree: the CDATA of a longDescription, 0x1B, or else any CDATA. */
+static size_t middle_text(const struct tree_in_memory *tree)
+{
+    size_t found = 0;
+    for (size_t i = 0; i < tree->records && (found == 0 || i <= tree->records / 2); i++)
+        if (tree->kinds[i] == SPI_CDATA && (found == 0 || tree->tags[tree->parents[i]] == 0x1B))
+            found = i;
+    return found;
+}
+
+/* Takes an object in, and holds what is written of it after two edits that leave it as it was to its normal form. */
+static void prepare_tree(const struct file *object)
+{
+    struct tree_in_memory *tree = tree_of(object);
+    uint64_t taken_in = spi_take_in(object->octets, object->size, MEMORY(tree));
+    if (spi_refused(taken_in) != SPI_OK)
+        stop("a day isn't taken in");
+    tree->records = spi_value(taken_in);
+    tree->number = middle_text(tree);
+    tree->size = tree->sizes[tree->number];
+    tree->turn = 0;
+    memcpy(tree->text, tree->store + tree->starts[tree->number], tree->size);
+    uint64_t refused = edit_by_library(object, object);
+    size_t size = (size_t)normalise_by_second(object, object);
+    uint64_t shorter = spi_write_state(tree->records, MEMORY(tree), room, ROOM);
+    if (refused != 0 || spi_value(shorter) >= size)
+        stop("an edit isn't made");
+    if (edit_and_write_by_library(object, object) != 0 || memcmp(room, normal_form, size) != 0)
+        stop("a day that is edited is written otherwise than its normal form");
+}
+
+/* How long an edit takes, with the check that memory holds a tree, against the whole day. */
+static void compare_edits(const char *folder)
+{
+    load_all(folder, "day", "other");
+    for (size_t k = 0; k < SIZES; k++) {
+        set = &sets[k];
+        for (size_t i = 0; i < set->count; i++)
+            prepare_tree(&set->objects[i]);
+    }
+    printf("edits, against normalising the day anew by the library (goal of the ratio: 0.5)\n");
+    compare("edit a description", object_octets, &editing);
+    compare("edit and write", object_octets, &editing_and_writing);
+}
+
 /* One call alone on an object of 32 KB, many times, for a profiler to look at: bench FOLDER CALL OBJECT RUNS. */
 static void repeat_call(const char *folder, const char *name, const char *of, unsigned runs)
 {
@@ -423,9 +512,12 @@ static void repeat_call(const char *folder, const char *name, const char *of, un
         call called;
     } calls[] = {{"library_read", library_read}, {"second_read", second_read}, {"library_normalise", library_normalise},
                  {"second_normalise", second_normalise}, {"library_same", library_same}, {"second_same", second_same},
-                 {"library_export", library_export}, {"second_export", second_export}};
+                 {"library_export", library_export}, {"second_export", second_export}, {"library_edit", library_edit},
+                 {"library_edit_and_write", library_edit_and_write}};
     load_all(folder, of, strcmp(of, "day") == 0 ? "other" : strcmp(of, "small") == 0 ? "twin" : of);
     set = &sets[SIZES - 1];
+    if (strncmp(name, "library_edit", strlen("library_edit")) == 0)
+        prepare_tree(&set->objects[0]);
     for (size_t i = 0; i < sizeof calls / sizeof calls[0]; i++)
         if (strcmp(calls[i].name, name) == 0)
             time_runs(calls[i].called, runs);
@@ -453,6 +545,7 @@ int main(int count, char **arguments)
     compare("text English", text_octets, &checking);
     repeat_text("Le café de São João à Łódź, avec Jürgen. ");
     compare("text accented", text_octets, &checking);
+    compare_edits(folder);
     printf("greatest ratio %.2f (goal 1.50), greatest growth %.2f (goal 1.20)\n", greatest_ratio, greatest_growth);
     return 0;
 }
