@@ -43,7 +43,7 @@ use Rattle.edits.proofs.ElementTags.{Seen, site-seen}
 use Rattle.edits.proofs.Extents.{here-open, here-shut, here-depth, item-sum, sum-records, deep-records, stop-records, Extent, extent}
 
 -- ---- a list that begins with three parts: the second of them
-part-second : (l : List ℕ) (n : ℕ) (a b c : List ℕ) → take n l ≡ a ++ (b ++ c) → (i j : ℕ) → length a ≡ i → i + length b ≡ j → between l i j ≡ b
+pub part-second : (l : List ℕ) (n : ℕ) (a b c : List ℕ) → take n l ≡ a ++ (b ++ c) → (i j : ℕ) → length a ≡ i → i + length b ≡ j → between l i j ≡ b
 part-second l n a b c e i j p q =
     let whole : l ≡ a ++ (b ++ (c ++ drop n l)) = sym (take-append-drop n l) ∙ (ap (λ z. z ++ drop n l) e ∙ (append-assoc a (b ++ c) (drop n l) ∙ ap (λ z. a ++ z) (append-assoc b c (drop n l)))) in
     let k : j - i ≡ length b = omega arith in

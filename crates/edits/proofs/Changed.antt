@@ -47,7 +47,7 @@ made-cases = record {
 read-bytes : (c : Context) (o : List ℕ) (t : Items) → Octets o → read c 0 o ≡ accepted t → Bytes t
 read-bytes c o t os h = accepted-all Made made-cases (suc (length o)) c 0 o t h os
 
-element-bytes : (c : Context) (o : List ℕ) (e : Items) → Octets o → elementOf c o ≡ some e → Bytes e
+pub element-bytes : (c : Context) (o : List ℕ) (e : Items) → Octets o → elementOf c o ≡ some e → Bytes e
 element-bytes c o e os h = read-bytes c o e os (element-whole c o e h .reads)
 
 change-bytes : (f : Items → Items) → ((t : Items) → Bytes t → Bytes (f t)) → (t : Items) (i : ℕ) → Bytes t → Bytes (changeAt f i t)

@@ -38,7 +38,7 @@ record Single (part : List ℕ) (t : Items) : Type 0 where
   empty : part ≡ [] → t ≡ end
   alone : headerSize part + bodySize part ≡ length part → without t ≡ end
 
-later-none : (p : List ℕ) → headerSize p + bodySize p ≡ length p → afterFirst p ≡ []
+pub later-none : (p : List ℕ) → headerSize p + bodySize p ≡ length p → afterFirst p ≡ []
 later-none p e = drop-drop (bodySize p) (headerSize p) p ∙ drop-of-length-le p {i = headerSize p + bodySize p} (omega arith)
 
 single-cases : Cases (λ c at part t. Single part t)
@@ -50,7 +50,7 @@ single-cases = record {
   atLeaf = λ c at tag rest u k q e l later. record { empty = λ n. absurd (cons≢nil n); alone = λ n. later .empty (later-none (tag ∷ rest) n) };
 }
 
-single : (c : Context) (o : List ℕ) (t : Items) → isOneItem o ≡ true → read c 0 o ≡ accepted t → without t ≡ end
+pub single : (c : Context) (o : List ℕ) (t : Items) → isOneItem o ≡ true → read c 0 o ≡ accepted t → without t ≡ end
 unfolding isOneItem
 single c o t h q =
     let e = eqb-true (headerSize o + bodySize o) (length o) (and-left (eqb (headerSize o + bodySize o) (length o)) (leb (length o) 32_768) h) in
@@ -124,7 +124,7 @@ told-ruled (item tag at body x y) s z n h =
       beside = told-ruled y (past s tag) z n (h .2);
     })
 
-child-four : (tag : ℕ) → isChild tag ≡ true → eqb tag 4 ≡ false
+pub child-four : (tag : ℕ) → isChild tag ≡ true → eqb tag 4 ≡ false
 unfolding isChild
 child-four tag h = go (attribute tag || eqb tag 1) (eqb tag 4) h
   where

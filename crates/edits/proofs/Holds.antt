@@ -46,6 +46,7 @@ use Rattle.edits.proofs.Sizes.{sizesAt, sizeAt}
 use Rattle.edits.proofs.CutLists.{enough, field-cut, later-start, parents-cut, starts-cut, octets-cut, climbs-cut, bodies-cut, whole-cut}
 use Rattle.edits.proofs.Found.{Stands, at-record}
 use Rattle.edits.proofs.Local.{text-shut, TextAt, text-at}
+use Rattle.edits.proofs.Putting.{Place}
 use Rattle.edits.proofs.InsertRules.{opens-zero, stand, whole, spot, insert-swaps, in-element}
 use Rattle.edits.proofs.Changed.{map-is, changed-bytes}
 use Rattle.edits.proofs.Standing.{packed-store}
@@ -200,22 +201,22 @@ module _ (n : ℕ) (m : Memory) (t t′ : Items) where
     pub swapped : Swapped topSite t t′ site (item tag at body x y) y
     pub holds : After site (pieceOf site tag body x) nothing
 
-  -- the element of octets, in the element of record i
-  pub record InsertHolds (i : ℕ) (o : List ℕ) : Type 0 where
-    pub site : Site
+  -- the element of octets, as a child element of record i
+  pub record InsertHolds (i k : ℕ) (o : List ℕ) : Type 0 where
     pub tag : ℕ
     pub at : ℕ
     pub body : List ℕ
     pub x : Items
-    pub y : Items
+    pub stands : Stands (holding (putChild k (item tag at body x end))) topSite t i (recordAt i t)
+    pub place : Place k (item tag at body x end) (inner (stands .site) (stands .tag)) (stands .x)
     pub element : elementOf (insideOf (recordAt i t)) o ≡ some (item tag at body x end)
-    pub swapped : Swapped topSite t t′ site y (item tag at body x y)
-    pub holds : After site nothing (pieceOf site tag body x)
+    pub swapped : Swapped topSite t t′ (place .site) (place .rest) (item tag at body x (place .rest))
+    pub holds : After (place .site) nothing (pieceOf (place .site) tag body x)
 
   abbrev pub HoldsAfter : Edit → Type 0
   HoldsAfter (replace i o) = TextHolds i o
   HoldsAfter (remove i) = RemoveHolds i
-  HoldsAfter (insert i k o) = InsertHolds i o
+  HoldsAfter (insert i k o) = InsertHolds i k o
 
 module _ (n : ℕ) (m : Memory) (t t′ : Items) (k : Held n m t) (bytes : Bytes t′) (rules : ruled atTop t′ ≡ true) where
   module _ (i : ℕ) (there : isThere (remove i) t ≡ true) (is : changeAt without i t ≡ t′) where
@@ -332,7 +333,7 @@ module _ (n : ℕ) (m : Memory) (t t′ : Items) (k : Held n m t) (bytes : Bytes
 
   module _ (i j : ℕ) (o : List ℕ) (os : Octets o) (there : isThere (insert i j o) t ≡ true) (tag at : ℕ) (body : List ℕ) (x : Items)
       (one : elementOf (insideOf (recordAt i t)) o ≡ some (item tag at body x end)) (is : changeAt (holding (putChild j (item tag at body x end))) i t ≡ t′) where
-    insert-holds : InsertHolds n m t t′ i o
+    insert-holds : InsertHolds n m t t′ i j o
     unfolding before bodySizes below
     insert-holds =
         let e = item tag at body x end in
@@ -362,12 +363,12 @@ module _ (n : ℕ) (m : Memory) (t t′ : Items) (k : Held n m t) (bytes : Bytes
           new = refl;
         } in
         record {
-          site = h;
           tag = tag;
           at = at;
           body = body;
           x = x;
-          y = pl .rest;
+          stands = g;
+          place = pl;
           element = one;
           swapped = v;
           holds = cut-holds n m t t′ k bytes rules h nothing put v p cut (omega arith) (in-element t r i j o os there e one) sized;

@@ -24,7 +24,7 @@ use Rattle.edits.proofs.Swaps.{swapped-rules, swapped-then}
 use Rattle.edits.proofs.Found.{Stands, found-number, at-record}
 use Rattle.edits.proofs.Spots.{firstIn}
 use Rattle.edits.proofs.Elements.{Whole, element-whole, element-ruled}
-use Rattle.edits.proofs.Insert.{Place, place, comesAt, put-rules}
+use Rattle.edits.proofs.Putting.{Place, place, comesAt, put-rules}
 
 pub opens-zero : (tag : ℕ) → opens tag ≡ true → eqb tag 0 ≡ false
 unfolding opens

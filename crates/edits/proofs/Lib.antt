@@ -11,7 +11,8 @@ pub mod Holds
 pub mod Spots
 pub mod Found
 pub mod Local
-pub mod Insert
+pub mod ChildWalks
+pub mod Putting
 pub mod InsertRules
 pub mod Elements
 pub mod Standing
@@ -31,6 +32,13 @@ pub mod Extents
 pub mod AtSite
 pub mod Gaps
 pub mod Removed
+pub mod InsertLeaves
+pub mod FoundPlaces
+pub mod FoundElements
+pub mod InsertSizes
+pub mod Inserted
+pub mod Opened
+pub mod InsertWays
 pub mod Storing
 pub mod Pieces
 pub mod Laying
@@ -43,3 +51,4 @@ pub mod NewTexts
 pub mod Replaced
 pub mod Misedited
 pub mod FewRecords
+pub mod Misinserted

@@ -116,6 +116,11 @@ same-sizes (item tag from body x y) s r h =
     go inside later true o = same-held s tag from body x y r h o inside later
     go inside later false o = same-single s tag from body x y r h o (h .0) (end-is x (rw o at (ruled-parts s tag from body x y r .holder))) later
 
+-- of items, wherever they are loaded
+pub sizes-loaded : (t : Items) (s : Spot) → ruled s t ≡ true → Told [] s t → (at : ℕ)
+    → (bodySizes (s .parent) (loadedIn [] (s .parent) at t) ≡ bodySizes (s .parent) t) × (normalSize (s .parent) (loadedIn [] (s .parent) at t) ≡ normalSize (s .parent) t)
+sizes-loaded t s r h at = let g = same-sizes t s r h in (g .sizes at, g .size at)
+
 pub sizes-packed : (t : Items) → Bytes t → ruled atTop t ≡ true → bodySizes 0 (packed t) ≡ bodySizes 0 t
 unfolding atTop
 sizes-packed t b r = same-sizes t atTop r (ruled-told t atTop b r) .sizes 0

@@ -54,7 +54,7 @@ module _ (s : Spot) (tag : ℕ) (body : List ℕ) (x y : Items) (u : Ruled s tag
       go false o true d = omega (arith, ap length (share-shut p tag body x o), default-one p tag body d)
       go false o false d = omega (arith, ap length (share-shut p tag body x o), size-shut p tag body x o)
 
-store-less : (t : Items) (s : Spot) → ruled s t ≡ true → Told [] s t → length (storeIn [] (s .parent) t) ≤ normalSize (s .parent) t + ownDefaults (s .parent) t
+pub store-less : (t : Items) (s : Spot) → ruled s t ≡ true → Told [] s t → length (storeIn [] (s .parent) t) ≤ normalSize (s .parent) t + ownDefaults (s .parent) t
 unfolding storeIn normalSize ownDefaults below past
 store-less end s r h = omega arith
 store-less (item tag at body x y) s r h =

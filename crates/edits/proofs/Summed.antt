@@ -48,6 +48,10 @@ same (item tag at body x y) s r w =
     let u = ruled-parts s tag at body x y r in
     same-item s tag at body x y u (w .0) (same x (below s tag) (u .within) (w .1)) (same y (past s tag) (u .beside) (w .2))
 
+-- of items that are as the store has them
+pub own-sizes : (t : Items) (s : Spot) → ruled s t ≡ true → Own (s .parent) t → (ownSizes (s .parent) t ≡ bodySizes (s .parent) t) × (addedIn (s .parent) t ≡ normalSize (s .parent) t)
+own-sizes t s r w = let g = same t s r w in (g .sizes, g .adds)
+
 -- of a packed tree
 module _ (t : Items) (rules : ruled atTop t ≡ true) (packs : packed t ≡ t) where
   whole : Same 0 t

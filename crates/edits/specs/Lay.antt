@@ -64,7 +64,7 @@ pub record ValueCountable (done : Laid) (to : ℕ) (bodies : List ℕ) : Type 0 
   pub within : done .next < length bodies
   pub behind : done .end ≤ to
   pub low : to ≤ 32_768
-  pub few : done .next ≤ 32_768
+  pub few : done .next ≤ 65_535
   pub sum : done .body .0 ≤ 32_768
 
 pub record ValueCounts (element tag : ℕ) (done : Laid) (to : ℕ) (store bodies bodies′ : List ℕ) (r : Laid) : Type 0 where
@@ -90,7 +90,7 @@ pub record InsideCounts (done inner : Laid) (bodies bodies′ : List ℕ) (r : L
 -- places for so many records, room for so many octets of the store and of a body, which no object may pass, and numbers that the records' fields can hold
 pub record Space (level : Level) (done : Laid) (many size octets : ℕ) (m : Memory) : Type 0 where
   pub above : level .number ≤ done .next
-  pub few : done .next + many ≤ 32_768
+  pub few : done .next + many ≤ 65_535
   pub holds : done .next + many ≤ placesIn m
   pub low : done .end + size ≤ 32_768
   pub room : done .end + size ≤ length (m .store)

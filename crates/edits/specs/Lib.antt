@@ -10,3 +10,4 @@ pub mod Removal
 pub mod Store
 pub mod Lay
 pub mod Texts
+pub mod Insertion

@@ -269,7 +269,7 @@ fn lay_item(
 }
 
 // The items in a part.
-fn lay_items(
+pub fn lay_items(
     part: &[u8],
     index: &[usize; 32],
     table: &[u8],

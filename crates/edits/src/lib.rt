@@ -8,6 +8,7 @@ use format::ReadAnswer;
 use format::refuse;
 
 mod extent;
+mod inserting;
 mod lay;
 mod moving;
 mod raising;
@@ -18,6 +19,7 @@ mod shifting;
 mod store;
 mod taking;
 
+pub use inserting::insert;
 pub use removing::remove;
 pub use replacing::replace_text;
 pub use taking::take_in;

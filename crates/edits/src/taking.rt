@@ -14,7 +14,7 @@ use survey::Standing;
 use survey::survey;
 
 // How many records the seven lists have places for.
-fn places_in(
+pub fn places_in(
     tags: &[u8],
     kinds: &[u8],
     depths: &[u8],
