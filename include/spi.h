@@ -231,6 +231,20 @@ uint64_t spi_remove(size_t records, size_t number,
                     uint16_t *bodies, size_t bodies_count,
                     uint8_t *store, size_t store_count);
 
+/* Puts an element in, with all below it, as the child element of number `place`, from 0, of the element of number
+ * `parent`; the language counts as one, attributes and CDATA don't.  `element` are the octets of one known element
+ * without token octets, at most SPI_MOST_OCTETS.  Refused by 18, 16, 14, 15. */
+uint64_t spi_insert(size_t records, size_t parent, size_t place,
+                    const uint8_t *element, size_t octets,
+                    uint8_t *tags, size_t tags_count,
+                    uint8_t *kinds, size_t kinds_count,
+                    uint8_t *depths, size_t depths_count,
+                    uint16_t *parents, size_t parents_count,
+                    uint16_t *starts, size_t starts_count,
+                    uint16_t *sizes, size_t sizes_count,
+                    uint16_t *bodies, size_t bodies_count,
+                    uint8_t *store, size_t store_count);
+
 /* Writes the normal form of the tree to the room.  Refused by 16, then by 15, where the room is too small; the count is
  * that of the octets. */
 uint64_t spi_write_state(size_t records,

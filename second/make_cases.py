@@ -810,8 +810,8 @@ def random_e(rng):
 
 
 RANDOM = {"L": random_l, "N": random_n, "W": random_w, "S": random_s, "X": random_x, "E": random_e}
-# The letters that are made and tried where none are named.  E is not among them before the library has edits (request 2026-06).
-CASE_LETTERS = "LNWSX"
+# The letters that are made and tried where none are named.
+CASE_LETTERS = "LNWSXE"
 
 
 def random_cases(seed, count, letters=CASE_LETTERS):

@@ -12,6 +12,7 @@
 
 enum {
     MOST = 65536, /* octets of an object, a store or a room in a case; places are fewer */
+    EDITS = 255,  /* in a case */
     AROUND = 64,  /* octets on each side of what is lent */
     FIELDS = 8    /* a letter has fewer */
 };
@@ -32,12 +33,13 @@ struct piece {
 };
 
 static struct piece lent[PIECES];
-static bool overrun; /* an answer said that more was handed out than was lent */
+static bool astray; /* an answer said that more was handed out than was lent, or an earlier call of the case touched what it had to leave */
 static uint8_t pattern[sizeof(union memory)];
 
 #define OCTETS(piece) lent[piece].now.octets + AROUND, lent[piece].count
 #define NUMBERS(piece) lent[piece].now.numbers + AROUND / 2, lent[piece].count
 #define LISTS OCTETS(TAGS), OCTETS(KINDS), OCTETS(DEPTHS), NUMBERS(PARENTS), NUMBERS(STARTS), NUMBERS(SIZES)
+#define MEMORY LISTS, NUMBERS(BODIES), OCTETS(STORE)
 
 static uint8_t *octets_of(int piece)
 {
@@ -81,7 +83,7 @@ static void lend_lists(size_t places)
 
 static void lend_nothing(void)
 {
-    overrun = false;
+    astray = false;
     for (int piece = 0; piece < PIECES; piece++)
         lend(piece, 0);
 }
@@ -95,7 +97,7 @@ static void keep_before(void)
 /* The first `count` elements of a piece are the answer's, and no more than were lent. */
 static void hand_out(int piece, size_t count)
 {
-    overrun = overrun || count > lent[piece].count;
+    astray = astray || count > lent[piece].count;
     lent[piece].handed = count < lent[piece].count ? count : lent[piece].count;
 }
 
@@ -103,6 +105,18 @@ static void hand_out_lists(size_t records)
 {
     for (int piece = TAGS; piece <= SIZES; piece++)
         hand_out(piece, records);
+}
+
+/* The lists have as many records as they hand out, and the store ends with the last of their bodies. */
+static void hand_out_store(void)
+{
+    size_t stored = 0;
+
+    for (size_t i = 0; i < lent[TAGS].handed; i++) {
+        size_t end = (size_t)numbers_of(STARTS)[i] + numbers_of(SIZES)[i];
+        stored = end > stored ? end : stored;
+    }
+    hand_out(STORE, stored);
 }
 
 /* Whether all that the call had to leave is as it was: what was not handed out, and what lies around it. */
@@ -114,7 +128,7 @@ static bool is_kept(void)
         if (memcmp(now, before, AROUND) != 0 || memcmp(now + rest, before + rest, end_of(piece) + AROUND - rest) != 0)
             return false;
     }
-    return !overrun;
+    return !astray;
 }
 
 /* ---- The fields of a case: each is taken from the stream and lent; false where the stream is bad -- */
@@ -185,6 +199,55 @@ static bool take_second_object(void)
     return take_size(SECOND) && take_octets(octets_of(SECOND), lent[SECOND].count);
 }
 
+/* Places for a tree that is edited. */
+static bool take_tree_places(void)
+{
+    if (!take_places())
+        return false;
+    lend(BODIES, lent[TAGS].count);
+    return true;
+}
+
+/* An edit, with the octets of a text or an element. */
+struct edit {
+    uint8_t letter;
+    size_t number, place, size;
+    uint8_t octets[MOST];
+    uint64_t answer;
+};
+
+static struct edit edits[EDITS];
+static size_t edit_count;
+
+static bool take_edit(struct edit *edit)
+{
+    if (!take_octets(&edit->letter, 1) || !take_number(2, &edit->number))
+        return false;
+    switch (edit->letter) {
+    case 'T':
+        return take_number(2, &edit->size) && take_octets(edit->octets, edit->size);
+    case 'D':
+        edit->size = 0;
+        return true;
+    case 'I':
+        return take_number(2, &edit->place) && take_number(2, &edit->size) && take_octets(edit->octets, edit->size);
+    default:
+        return false;
+    }
+}
+
+/* The room is for what is written behind the last of them. */
+static bool take_edits(void)
+{
+    if (!take_number(1, &edit_count))
+        return false;
+    for (size_t i = 0; i < edit_count; i++)
+        if (!take_edit(&edits[i]))
+            return false;
+    lend(ROOM, SPI_MOST_OCTETS);
+    return true;
+}
+
 /* Places, and a record for each. */
 static bool take_records(void)
 {
@@ -242,6 +305,56 @@ static uint64_t call_export(void)
     return spi_export(OCTETS(FIRST), OCTETS(ROOM));
 }
 
+/* A call of a run has left what it had to leave, and the next one begins with what is there now. */
+static uint64_t watched(uint64_t answer)
+{
+    if (spi_refused(answer) == SPI_OK) {
+        hand_out_lists(spi_value(answer));
+        hand_out(BODIES, spi_value(answer));
+        hand_out_store();
+    }
+    astray = !is_kept();
+    for (int piece = 0; piece < PIECES; piece++)
+        lent[piece].handed = 0;
+    return answer;
+}
+
+static uint64_t call_edit(const struct edit *edit, size_t records)
+{
+    lend(SECOND, edit->size);
+    memcpy(octets_of(SECOND), edit->octets, edit->size);
+    keep_before();
+    switch (edit->letter) {
+    case 'T':
+        return spi_replace_text(records, edit->number, OCTETS(SECOND), MEMORY);
+    case 'D':
+        return spi_remove(records, edit->number, MEMORY);
+    default: /* I */
+        return spi_insert(records, edit->number, edit->place, OCTETS(SECOND), MEMORY);
+    }
+}
+
+static size_t edited_records;
+
+/* The run, and then the write, whose answer is that of all where the object was taken in. */
+static uint64_t call_edits(void)
+{
+    uint64_t taken_in = watched(spi_take_in(OCTETS(FIRST), MEMORY));
+
+    if (spi_refused(taken_in) != SPI_OK) {
+        keep_before();
+        return taken_in;
+    }
+    edited_records = spi_value(taken_in);
+    for (size_t i = 0; i < edit_count; i++) {
+        edits[i].answer = watched(call_edit(&edits[i], edited_records));
+        if (spi_refused(edits[i].answer) == SPI_OK)
+            edited_records = spi_value(edits[i].answer);
+    }
+    keep_before();
+    return spi_write_state(edited_records, MEMORY, OCTETS(ROOM));
+}
+
 /* ---- What is printed where nothing is refused; each says what was handed out --------------------- */
 
 /* A line of the listing.  Where the body lies is asked of the library once more, and CDATA has to be text. */
@@ -282,19 +395,12 @@ static void print_room(const char *word, size_t octets)
     printf("\n");
 }
 
-/* The answer tells the octets alone.  The lists have as many records as `spi_read` counts, and the store ends with the
- * last of their bodies. */
+/* The answer tells the octets alone; the lists have as many records as `spi_read` counts. */
 static void print_normal(size_t octets)
 {
-    size_t stored = 0;
-
     hand_out_lists(spi_value(spi_read(OCTETS(FIRST), OWN_LISTS)));
     hand_out(BODIES, lent[TAGS].handed);
-    for (size_t i = 0; i < lent[TAGS].handed; i++) {
-        size_t end = (size_t)numbers_of(STARTS)[i] + numbers_of(SIZES)[i];
-        stored = end > stored ? end : stored;
-    }
-    hand_out(STORE, stored);
+    hand_out_store();
     print_room("normal", octets);
 }
 
@@ -325,6 +431,20 @@ static void print_refusal(uint64_t answer)
     printf("%s\n", object <= 2 ? which[object] : " in neither");
 }
 
+static void print_edited(size_t octets)
+{
+    for (size_t i = 0; i < edit_count; i++)
+        if (spi_refused(edits[i].answer) == SPI_OK)
+            printf("edited\n");
+        else
+            print_refusal(edits[i].answer);
+    print_room("written", octets);
+    printf("sizes");
+    for (size_t i = 0; i < edited_records && i < lent[BODIES].count; i++)
+        printf(" %u", (unsigned)numbers_of(BODIES)[i]);
+    printf("\n");
+}
+
 /* ---- The letters -------------------------------------------------------------------------------- */
 
 struct letter {
@@ -340,6 +460,7 @@ static const struct letter letters[] = {
     {'W', {take_count, take_records, take_room, take_object}, call_write, print_written},
     {'S', {take_object, take_second_object}, call_same, print_same},
     {'X', {take_room, take_object}, call_export, print_xml},
+    {'E', {take_tree_places, take_store, take_object, take_edits}, call_edits, print_edited},
 };
 
 static const struct letter *find_letter(int letter)

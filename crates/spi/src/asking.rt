@@ -11,6 +11,8 @@ pub enum Verb {
     Text,
     TextHex,
     Remove,
+    Insert,
+    InsertFile,
     Unknown,
 }
 
@@ -24,7 +26,22 @@ pub fn verb_of(word: &[u8]) -> Verb {
     if is_word(word, b"remove") {
         return Verb::Remove;
     }
+    if is_word(word, b"insert") {
+        return Verb::Insert;
+    }
+    if is_word(word, b"insert-file") {
+        return Verb::InsertFile;
+    }
     Verb::Unknown
+}
+
+// An insertion has a place beside the number of a record.
+fn has_place(word: &[u8]) -> bool {
+    match verb_of(word) {
+        Verb::Insert => true,
+        Verb::InsertFile => true,
+        _ => false,
+    }
 }
 
 // Where a mark comes next, or where the octets end.
@@ -93,13 +110,13 @@ pub fn number_of(s: &[u8]) -> Number {
 }
 
 // The number that begins at a place of a line, and where what is behind it begins.
-pub struct Next {
-    pub whole: bool,
-    pub value: usize,
-    pub from: usize,
+struct Next {
+    whole: bool,
+    value: usize,
+    from: usize,
 }
 
-pub fn next_number(line: &[u8], from: usize) -> Next
+fn next_number(line: &[u8], from: usize) -> Next
     requires { ⌜ from ≤ length (now line) ⌝ }
     ensures { λ r. ⌜ r .from ≤ length (now (line .entry)) ⌝ }
 {
@@ -109,6 +126,37 @@ pub fn next_number(line: &[u8], from: usize) -> Next
         whole: number.whole,
         value: number.value,
         from: behind(line, end),
+    }
+}
+
+// The numbers of an edit, whether all are there, and where its octets begin.
+pub struct Numbers {
+    pub whole: bool,
+    pub record: usize,
+    pub place: usize,
+    pub from: usize,
+}
+
+pub fn numbers_of(line: &[u8], word: usize) -> Numbers
+    requires { ⌜ word ≤ length (now line) ⌝ }
+    ensures { λ r. ⌜ r .from ≤ length (now (line .entry)) ⌝ }
+{
+    let placed = has_place(&line[0..word]);
+    let record = next_number(line, behind(line, word));
+    if !placed {
+        return Numbers {
+            whole: record.whole,
+            record: record.value,
+            place: 0,
+            from: record.from,
+        };
+    }
+    let place = next_number(line, record.from);
+    Numbers {
+        whole: record.whole & place.whole,
+        record: record.value,
+        place: place.value,
+        from: place.from,
     }
 }
 

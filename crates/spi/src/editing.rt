@@ -3,10 +3,11 @@
 use crate::asking::Verb;
 use crate::asking::behind;
 use crate::asking::find;
-use crate::asking::next_number;
+use crate::asking::numbers_of;
 use crate::asking::octets_in;
 use crate::asking::verb_of;
 use crate::files::Got;
+use crate::files::load;
 use crate::lines::end_of;
 use crate::lines::say_edit;
 use crate::lines::say_refusal;
@@ -34,7 +35,7 @@ pub struct Edited {
     pub records: usize,
 }
 
-// The octets that an edit brings, in a lent buffer: what is left of its line, as it stands or as digits. One that brings none has nothing left.
+// The octets that an edit brings, in a lent buffer: what is left of its line as it stands or as digits, or a file of that name. One that brings none has nothing left.
 fn bring(word: &[u8], rest: &[u8], buf: &mut [u8]) -> Got
     ensures { λ r. ⌜ Counts (r .size .0) (now (buf .exit)) ⌝ }
 {
@@ -45,6 +46,8 @@ fn bring(word: &[u8], rest: &[u8], buf: &mut [u8]) -> Got
             whole: rest.len() == 0,
             size: Octets(0),
         },
+        Verb::Insert => octets_in(rest, buf),
+        Verb::InsertFile => load(rest, buf),
         Verb::Unknown => Got {
             whole: false,
             size: Octets(0),
@@ -66,6 +69,7 @@ fn copied(s: &[u8], buf: &mut [u8]) -> Got
 fn make(
     word: &[u8],
     number: usize,
+    place: usize,
     given: &[u8],
     records: usize,
     tags: &mut [u8],
@@ -82,6 +86,40 @@ fn make(
             let answer = edits::remove(
                 records,
                 number,
+                tags,
+                kinds,
+                depths,
+                parents,
+                starts,
+                sizes,
+                bodies,
+                store,
+            );
+            answer.outcome()
+        }
+        Verb::Insert => {
+            let answer = edits::insert(
+                records,
+                number,
+                place,
+                given,
+                tags,
+                kinds,
+                depths,
+                parents,
+                starts,
+                sizes,
+                bodies,
+                store,
+            );
+            answer.outcome()
+        }
+        Verb::InsertFile => {
+            let answer = edits::insert(
+                records,
+                number,
+                place,
+                given,
                 tags,
                 kinds,
                 depths,
@@ -157,17 +195,18 @@ fn edit_line(
     }
     let this = one_more(made);
     let word = find(line, b' ', 0);
-    let number = next_number(line, behind(line, word));
-    let from = number.from;
+    let numbers = numbers_of(line, word);
+    let from = numbers.from;
     let mut buf = file_buffer();
     let brought = bring(&line[0..word], &line[from..], &mut buf);
-    if !(number.whole & brought.whole) {
+    if !(numbers.whole & brought.whole) {
         return ended(fail_edit(path, this), made, records);
     }
     let size = brought.size.0;
     let came = make(
         &line[0..word],
-        number.value,
+        numbers.record,
+        numbers.place,
         &buf[..size],
         records,
         tags,

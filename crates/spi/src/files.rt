@@ -61,7 +61,7 @@ fn read_all(fd: i32, path: &[u8], buf: &mut [u8]) -> Got
     }
 }
 
-fn load(path: &[u8], buf: &mut [u8]) -> Got
+pub fn load(path: &[u8], buf: &mut [u8]) -> Got
     ensures { λ r. ⌜ Counts (r .size .0) (now (buf .exit)) ⌝ }
 {
     let fd = os::open_read(path);

@@ -66,9 +66,17 @@ fn help_edit() {
     say(
         b"spi edit FILE OUT       edits an object, by lines of standard input or by the words behind OUT, and writes its normal form to OUT:\n",
     );
-    say(b"  text NUMBER TEXT      another text for a record, all that is left of the line\n");
-    say(b"  text-hex NUMBER HEX   the same by hexadecimal digits, for a text with a line end\n");
-    say(b"  remove NUMBER         a record goes, with all below it\n");
+    say(
+        b"  text NUMBER TEXT                another text for a record, all that is left of the line\n",
+    );
+    say(
+        b"  text-hex NUMBER HEX             the same by hexadecimal digits, for a text with a line end\n",
+    );
+    say(b"  remove NUMBER                   a record goes, with all below it\n");
+    say(
+        b"  insert PARENT PLACE HEX         an element comes, by its octets, as the child element of that number from 0\n",
+    );
+    say(b"  insert-file PARENT PLACE FILE   the same by a file of its octets\n");
     say(
         b"  Records have numbers from 0 in the order of spi list. One edit that is refused, and OUT isn't written.\n",
     );

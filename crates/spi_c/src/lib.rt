@@ -6,7 +6,7 @@ ghost use Rattle.format.specs.Lent.{lent};
 ghost use Rattle.state.specs.Taking.{memory};
 ghost use Rattle.spi_c.specs.Packed.{packed, packedOutcome, packedSame, packedSpan, Small, SmallSame, SmallSpan};
 ghost use Rattle.state.specs.Taking.{memory};
-ghost use Rattle.edits.specs.Tree.Edit.{replace, remove};
+ghost use Rattle.edits.specs.Tree.Edit.{replace, remove, insert};
 ghost use Rattle.spi_c.specs.Claims.{ReadsC, SpansC, WritesC, NormalisesC, TakesInC, EditsC, WritesStateC, SameC, ExportsC};
 use format::Outcome;
 use format::SameOutcome;
@@ -220,6 +220,41 @@ pub extern "C" fn spi_remove(
     let answer = edits::remove(
         count,
         number,
+        tags,
+        kinds,
+        depths,
+        parents,
+        starts,
+        sizes,
+        bodies,
+        store,
+    );
+    packed_outcome(answer.outcome())
+}
+
+// An element comes into the tree in lent memory, with all below it, as the child element of a number of a record.
+#[no_mangle]
+pub extern "C" fn spi_insert(
+    count: usize,
+    parent: usize,
+    place: usize,
+    element: &[u8],
+    tags: &mut [u8],
+    kinds: &mut [u8],
+    depths: &mut [u8],
+    parents: &mut [u16],
+    starts: &mut [u16],
+    sizes: &mut [u16],
+    bodies: &mut [u16],
+    store: &mut [u8],
+) -> u64
+    ensures { λ r. ⌜ EditsC (insert parent place (now (element .entry))) count (memory (tags .entry) (kinds .entry) (depths .entry) (parents .entry) (starts .entry) (sizes .entry) (bodies .entry) (store .entry)) (memory (tags .exit) (kinds .exit) (depths .exit) (parents .exit) (starts .exit) (sizes .exit) (bodies .exit) (store .exit)) r ⌝ }
+{
+    let answer = edits::insert(
+        count,
+        parent,
+        place,
+        element,
         tags,
         kinds,
         depths,
