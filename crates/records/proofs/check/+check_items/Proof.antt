@@ -11,7 +11,7 @@ use Rattle.records.proofs.check.check_items.Kinds as check-items-kinds
 use Rattle.records.proofs.check.+check_items.Lts-check_items as check-items-lts
 use Rattle.records.proofs.check.check_record.Reads as check-record-reads
 use Rattle.records.proofs.check.parent_at.Reads as parent-at-reads
-use Rattle.format.proofs.record_at.Reads as record-at-reads
+use Rattle.records.proofs.check.record_at.Reads as record-at-reads
 use Rattle.records.proofs.check.+check_items.{statement}
 use Rattle.records.proofs.check.+check_items.Tie.{close}
 
