@@ -34,7 +34,7 @@ use Rattle.reader.proofs.Opening.{Opened, fits-in, opened, opened-end}
 use Rattle.compare.specs.declared.walks.Child.the-variants.{End, Found}
 use Rattle.compare.specs.Walks.{isMeant, childrenWithin, childrenIn, Children}
 
--- ---- is_child
+-- ---- is_meant
 
 module _ (tag : ℕ) (a : Bool) (e : a ≡ attribute tag) where
   pub child-attribute : a ≡ true → false ≡ isChild tag && isKnown (known 0 tag)

@@ -14,7 +14,7 @@ pub enum Child {
 }
 
 // An element that has a meaning of its own: known, and not the token table.
-fn is_child(tag: u8) -> bool
+fn is_meant(tag: u8) -> bool
     ensures { λ r. ⌜ r ≡ isMeant tag ⌝ }
 {
     if is_attribute(tag) {
@@ -39,7 +39,7 @@ pub fn next_child(part: &[u8], at: usize) -> Child
         let Lies::Between { from, to } = item_at(part, i) else {
             return Child::End;
         };
-        if is_child(part[i]) {
+        if is_meant(part[i]) {
             return Child::Found { at: i, from, to };
         }
         i = to;

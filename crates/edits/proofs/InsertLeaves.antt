@@ -35,22 +35,6 @@ use Rattle.edits.specs.Tree.{isOneItem}
 use Rattle.edits.specs.Insertion.{countsAt, stopsAt, leftAfter, foundAt, childFrom, childBehind, childOf, tagThere, comesBetween, isElement, asAdmitted, admittedAt, admittedBy, admission}
 use Rattle.edits.proofs.Parts.{part-none, part-first}
 
--- ---- holds_items
-module _ (tag : ℕ) (r : Listed) (e : r ≡ listedAs (known 0 tag)) where
-  pub holds-nothing : r ≡ Nothing → false ≡ opens tag
-  unfolding opens
-  holds-nothing q = sym (is-nothing (known 0 tag) (sym q ∙ e) .0)
-
-  pub holds-inside : r ≡ Inside → true ≡ opens tag
-  unfolding opens
-  holds-inside q = rw (is-inside (known 0 tag) (sym q ∙ e) .0)
-
-  pub holds-value : (k : Kind) → r ≡ Value k → false ≡ opens tag
-  unfolding opens
-  holds-value k q = sym (is-value (known 0 tag) k (sym q ∙ e) .shut)
-
-pub ruleset holds-ways = (holds-nothing, holds-inside, holds-value)
-
 -- ---- is_child
 module _ (tag : ℕ) (a : Bool) (e : a ≡ attribute tag) where
   pub child-attribute : a ≡ true → false ≡ isChild tag

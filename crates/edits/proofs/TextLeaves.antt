@@ -35,22 +35,6 @@ use Rattle.edits.specs.Texts.{isTextAt, around, textFits, Sized, Settabl
 use Rattle.edits.proofs.Climbing.{framed-more, framed-short}
 use Rattle.edits.proofs.Carrying.{raised-length}
 
--- ---- is_text
-module _ (p tag : ℕ) (r : KnownKind) (e : r ≡ knownKind p tag) where
-  pub text-unknown : r ≡ Unknown → false ≡ isText (known p tag)
-  unfolding isText
-  text-unknown q = rw (unknown-kind p tag r e q)
-
-  module _ (k : Kind) (q : r ≡ Known k) where
-    pub text-is : k ≡ HoldsText → true ≡ isText (known p tag)
-    unfolding isText
-    text-is w = rw (known-kind p tag r e k q, w)
-
-    pub text-not : OneOf Untexted (tagOf the-type k) → false ≡ isText (known p tag)
-    text-not w = sym (ap isText (known-kind p tag r e k q) ∙ not-text k w)
-
-pub ruleset text-ways = (text-unknown, text-is, text-not)
-
 -- ---- is_text_at
 module _ (n i : ℕ) (tags parents : List ℕ) where
   pub at-top : i ≡ 0 → false ≡ isTextAt n i tags parents

@@ -2,7 +2,7 @@
 ghost use mathlib.Core.Path.{_≡_};
 ghost use Prim.Native.Nat.{_≤_, _<_};
 ghost use lib.ListN.{length};
-ghost use Rattle.format.specs.Meaning.{opens, isChild};
+ghost use Rattle.format.specs.Meaning.{isChild};
 ghost use Rattle.state.specs.Taking.{memory};
 ghost use Rattle.edits.specs.Tree.{isOneItem};
 ghost use Rattle.edits.specs.Tree.Edit.{insert as insertion};
@@ -31,8 +31,7 @@ use state::held;
 use survey::Measured;
 use survey::Needed;
 use survey::survey_inside;
-use tags::Listed;
-use tags::listed_as;
+use tags::holds_items;
 use text::index_of;
 use values::is_attribute;
 
@@ -56,16 +55,6 @@ enum Admission {
 enum Insertion {
     Refused(u8),
     Opens(Gap),
-}
-
-fn holds_items(tag: u8) -> bool
-    ensures { λ r. ⌜ r ≡ opens tag ⌝ }
-{
-    match listed_as(0, tag) {
-        Listed::Nothing => false,
-        Listed::Inside => true,
-        Listed::Value(_) => false,
-    }
 }
 
 fn is_child(tag: u8) -> bool

@@ -3,8 +3,6 @@ ghost use mathlib.Core.Path.{_≡_};
 ghost use Prim.Native.Nat.{_+_, _≤_, _<_};
 ghost use lib.ListN.{length, set};
 ghost use lib.Seq.{sets};
-ghost use Rattle.values.specs.Table.{known};
-ghost use Rattle.format.specs.Judge.{isText};
 ghost use Rattle.format.specs.State.{treeHeld};
 ghost use Rattle.edits.specs.Tree.Edit.{replace};
 ghost use Rattle.edits.specs.Calls.{editedIn, EditClaim};
@@ -23,26 +21,12 @@ use octets::Octets;
 use state::Filled;
 use state::framed_size;
 use state::held;
-use values::Kind;
-use values::KnownKind;
-use values::known_kind;
+use tags::holds_text;
 
 // What replacing comes to: the number of the refusal, or how much of the store is taken before.
 enum Replacement {
     Refused(u8),
     Fits(usize),
-}
-
-fn is_text(element: u8, tag: u8) -> bool
-    ensures { λ r. ⌜ r ≡ isText (known element tag) ⌝ }
-{
-    match known_kind(element, tag) {
-        KnownKind::Unknown => false,
-        KnownKind::Known(kind) => match kind {
-            Kind::HoldsText => true,
-            _ => false,
-        },
-    }
 }
 
 // Record `number` of `n` is a text below the top.
@@ -56,7 +40,7 @@ fn is_text_at(n: usize, number: usize, tags: &[u8], parents: &[u16]) -> bool
     if number >= n {
         return false;
     }
-    is_text(octet_at(tags, parents[number] as usize), tags[number])
+    holds_text(octet_at(tags, parents[number] as usize), tags[number])
 }
 
 // A text of so many octets has room, in the store and in an object.

@@ -179,21 +179,7 @@ module _ (known : KnownKind) where
     unfolding asKind
     sort-leaf h = rw e (leaf-sort k h)
 
-    pub text-is : k ≡ HoldsText → true ≡ isText (asKind known)
-    unfolding isText asKind
-    text-is f = rw (e, f)
-
-    pub text-isnt : OneOf Untexted (tagOf the-type k) → false ≡ isText (asKind known)
-    unfolding asKind
-    text-isnt h = rw e (sym (not-text k h))
-
-  pub text-unknown : known ≡ Unknown → false ≡ isText (asKind known)
-  unfolding isText asKind
-  text-unknown e = rw e
-
 pub ruleset sort-ways = (sort-unknown, sort-items, sort-table, sort-leaf)
-
-pub ruleset is-text-ways = (text-is, text-isnt, text-unknown)
 
 -- rules 9 to 13, and rule 8, for what the lookup answers
 module _ (known : KnownKind) where

@@ -34,12 +34,12 @@ use Rattle.judge.proofs.ItemWays.{kind-known}
 use Rattle.judge.proofs.OwnWays.{framed}
 
 -- one attribute
-module _ (parent tag : ℕ) (table body : List ℕ) (k : KnownKind) (e : k ≡ knownKind parent tag) (t : Bool) (f : t ≡ isText (asKind k)) where
+module _ (parent tag : ℕ) (table body : List ℕ) (t : Bool) (f : t ≡ isText (known parent tag)) where
   pub settled-text : t ≡ true → (b : Bool) → b ≡ covered (entries table) body → b ≡ (not (isText (known parent tag)) || covered (entries table) body)
-  settled-text g b h = rw (← kind-known k parent tag e, sym f ∙ g) h
+  settled-text g b h = rw (sym f ∙ g) h
 
   pub settled-other : t ≡ false → true ≡ (not (isText (known parent tag)) || covered (entries table) body)
-  settled-other g = rw (← kind-known k parent tag e, sym f ∙ g)
+  settled-other g = rw (sym f ∙ g)
 
 pub ruleset settled-ways = (settled-text, settled-other)
 

@@ -8,17 +8,15 @@ ghost use lib.ListN.{length};
 ghost use Rattle.text.specs.Tokens.{entries, covered};
 ghost use Rattle.values.specs.Table.{known, attribute};
 ghost use Rattle.format.specs.Judge.{isTop, isText};
-ghost use Rattle.judge.specs.Says.{asKind, LateSays};
+ghost use Rattle.judge.specs.Says.{LateSays};
 use crate::Check;
 use format::refuse;
 use octets::Header;
 use octets::read_header;
+use tags::holds_text;
 use tags::is_top;
 use text::is_covered;
-use values::Kind;
-use values::KnownKind;
 use values::is_attribute;
-use values::known_kind;
 
 // The rule waits while attributes of the top are read.
 pub fn is_waiting(parent: u8, stage: u8) -> bool
@@ -43,23 +41,11 @@ pub fn is_due_before(parent: u8, stage: u8, tag: u8) -> bool
     is_waiting(parent, stage)
 }
 
-fn is_text(known: KnownKind) -> bool
-    ensures { λ r. ⌜ r ≡ isText (asKind known) ⌝ }
-{
-    match known {
-        KnownKind::Unknown => false,
-        KnownKind::Known(kind) => match kind {
-            Kind::HoldsText => true,
-            _ => false,
-        },
-    }
-}
-
 // Each token octet of an attribute has an entry, if the attribute is text.
 fn is_settled(parent: u8, tag: u8, table: &[u8], body: &[u8]) -> bool
     ensures { λ r. ⌜ r ≡ (not (isText (known parent tag)) || covered (entries (now (table .entry))) (now (body .entry))) ⌝ }
 {
-    if is_text(known_kind(parent, tag)) {
+    if holds_text(parent, tag) {
         return is_covered(table, body);
     }
     true

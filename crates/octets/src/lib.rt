@@ -64,10 +64,8 @@ pub fn read_header(part: &[u8]) -> Header
     }
     let first = part[1];
     if first < 0xFE {
-        return Header::Found {
-            start: 2,
-            size: wide(first),
-        };
+        let size = first as usize;
+        return Header::Found { start: 2, size };
     }
     if first == 0xFE {
         if part.len() < 4 {
@@ -111,12 +109,6 @@ fn joined(n: u32, b: u8) -> u32
     ensures { λ r. ⌜ r ≡ n * 256 + b ⌝ }
 {
     (n << 8) | (b as u32)
-}
-
-fn wide(b: u8) -> usize
-    ensures { λ r. ⌜ r ≡ b ⌝ }
-{
-    b as usize
 }
 
 // The one place that chooses the form in which a length is written: the shortest (document 01, Records and meaning). Whatever writes or measures a header goes

@@ -1,8 +1,10 @@
--- What is listed of an item: the ways through the code, and what the answer says of the kind.
-use mathlib.Core.Path.{_≡_, refl}
+-- What is listed of an item, and what its body holds: the ways through the code, and what the answers say of the kind.
+use mathlib.Core.Path.{_≡_, refl, sym, ap, _∙_}
 use mathlib.Core.Bool.{true, false}
 use mathlib.Core.Option.{Option, none, some}
 use Prim.Native.Nat.{ℕ}
+use types.Run.{OneOf}
+use denote.Enum.Declared.{tagOf}
 use Rattle.octets.proofs.Tests.{never}
 use Rattle.values.specs.declared.Kind.{Kind}
 use Rattle.values.specs.declared.Kind.the-variants.{HoldsItems, HoldsTokens, HoldsText, HoldsPlain, HoldsTime, HoldsBearer, HoldsNumber}
@@ -11,10 +13,14 @@ use Rattle.values.specs.declared.KnownKind.{KnownKind}
 use Rattle.values.specs.declared.KnownKind.the-variants.{Unknown, Known}
 use Rattle.values.specs.Table.{known}
 use Rattle.values.specs.Calls.{knownKind}
+use Rattle.values.proofs.Kind.{the-type}
 use Rattle.values.proofs.Laws.{known-kind, unknown-kind}
 use Rattle.format.specs.Judge.{isKnown, isItems, isTokens, isText}
+use Rattle.format.specs.Meaning.{opens}
+use Rattle.tags.specs.declared.Listed.{Listed}
 use Rattle.tags.specs.declared.Listed.the-variants.{Nothing, Inside, Value}
 use Rattle.tags.specs.Listed.{listedAs}
+use Rattle.tags.proofs.Arms.{Untexted, not-text}
 
 -- ---- listed_as
 module _ (p tag : ℕ) (r : KnownKind) (e : r ≡ knownKind p tag) where
@@ -95,3 +101,35 @@ is-value (some HoldsPlain) v h = record { is = cc; shut = refl; noTable = refl }
 is-value (some HoldsTime) v h = record { is = cc; shut = refl; noTable = refl }
 is-value (some HoldsBearer) v h = record { is = cc; shut = refl; noTable = refl }
 is-value (some (HoldsNumber n)) v h = record { is = cc; shut = refl; noTable = refl }
+
+-- ---- holds_items
+module _ (tag : ℕ) (r : Listed) (e : r ≡ listedAs (known 0 tag)) where
+  pub holds-nothing : r ≡ Nothing → false ≡ opens tag
+  unfolding opens
+  holds-nothing q = sym (is-nothing (known 0 tag) (sym q ∙ e) .0)
+
+  pub holds-inside : r ≡ Inside → true ≡ opens tag
+  unfolding opens
+  holds-inside q = rw (is-inside (known 0 tag) (sym q ∙ e) .0)
+
+  pub holds-value : (k : Kind) → r ≡ Value k → false ≡ opens tag
+  unfolding opens
+  holds-value k q = sym (is-value (known 0 tag) k (sym q ∙ e) .shut)
+
+pub ruleset holds-ways = (holds-nothing, holds-inside, holds-value)
+
+-- ---- holds_text
+module _ (p tag : ℕ) (r : KnownKind) (e : r ≡ knownKind p tag) where
+  pub text-unknown : r ≡ Unknown → false ≡ isText (known p tag)
+  unfolding isText
+  text-unknown q = rw (unknown-kind p tag r e q)
+
+  module _ (k : Kind) (q : r ≡ Known k) where
+    pub text-is : k ≡ HoldsText → true ≡ isText (known p tag)
+    unfolding isText
+    text-is w = rw (known-kind p tag r e k q, w)
+
+    pub text-not : OneOf Untexted (tagOf the-type k) → false ≡ isText (known p tag)
+    text-not w = sym (ap isText (known-kind p tag r e k q) ∙ not-text k w)
+
+pub ruleset text-ways = (text-unknown, text-is, text-not)

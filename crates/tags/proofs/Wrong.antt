@@ -6,7 +6,8 @@ use Rattle.octets.specs.Counts.{asCharacters}
 use Rattle.octets.proofs.Tests.{never}
 use Rattle.values.specs.declared.Kind.the-variants.{HoldsItems, HoldsTokens}
 use Rattle.values.specs.Table.{rows, kindIn, known, attribute}
-use Rattle.format.specs.Judge.{isTop, allowed, latest, stageAfter, limit, notAbove, shown}
+use Rattle.format.specs.Judge.{isTop, allowed, latest, stageAfter, limit, notAbove, shown, isItems, isText}
+use Rattle.format.specs.Meaning.{opens}
 use Rattle.tags.specs.Rules.{withinDepth, hasBit, withBit}
 use Rattle.tags.specs.Listed.{listedAs}
 use Rattle.tags.specs.declared.Listed.the-variants.{Nothing, Value}
@@ -99,3 +100,21 @@ element-a-value h = never (cc)
 pub cdata-unlisted : listedAs (known 0x10 0x01) ≡ Nothing → ⊥
 unfolding listedAs known rows kindIn attribute
 cdata-unlisted h = never (cc)
+
+-- `holds_items`: CDATA taken for an element that holds items; the token table
+pub cdata-opened : opens 0x01 ≡ true → ⊥
+unfolding opens isItems known rows kindIn attribute
+cdata-opened h = false≢true h
+
+pub table-opened : opens 0x04 ≡ true → ⊥
+unfolding opens isItems known rows kindIn attribute
+table-opened h = false≢true h
+
+-- `holds_text`: an unknown attribute taken for text; CDATA of a name not
+pub unknown-a-text : isText (known 0x10 0xBF) ≡ true → ⊥
+unfolding isText known rows kindIn attribute
+unknown-a-text h = false≢true h
+
+pub cdata-no-text : isText (known 0x10 0x01) ≡ false → ⊥
+unfolding isText known rows kindIn attribute
+cdata-no-text h = true≢false h

@@ -12,6 +12,8 @@ pub use rules::latest_of;
 pub use rules::stage_after;
 pub use seen::has_bit;
 pub use seen::with_bit;
+pub use sorts::holds_items;
+pub use sorts::holds_text;
 pub use sorts::listed_as;
 use values::Kind;
 

@@ -1,3 +1,4 @@
+use native.Mathlib.Omega.{arith}
 use Rattle.octets.proofs.Reading.{header-ways}
 use borrow.Author.Needs.{needs}
 use Rattle.octets.proofs.read_header.Statement.{statement}
@@ -9,8 +10,8 @@ returns c = search (header-ways, needs)
 shared-slice-read-first : tie.Need-shared-slice-read-first
 shared-slice-read-first c = search (header-ways, needs)
 
-wide-requires : tie.Need-wide-requires
-wide-requires c κs = search (header-ways, needs)
+cast-size : tie.Need-cast-size
+cast-size c = omega (arith, c .before .shared-slice-known2 .given 1)
 
 returns-2 : tie.Need-returns-2
 returns-2 c = search (header-ways, needs)
@@ -30,8 +31,8 @@ part-value-of-end c = search (header-ways, needs)
 value-of-requires : tie.Need-value-of-requires
 value-of-requires c κs = search (header-ways, needs)
 
-cast-size : tie.Need-cast-size
-cast-size c = search (header-ways, needs)
+cast-size-2 : tie.Need-cast-size-2
+cast-size-2 c = search (header-ways, needs)
 
 returns-4 : tie.Need-returns-4
 returns-4 c = search (header-ways, needs)
@@ -51,8 +52,8 @@ part-value-of-end-2 c = search (header-ways, needs)
 value-of-requires-2 : tie.Need-value-of-requires-2
 value-of-requires-2 c κs = search (header-ways, needs)
 
-cast-size-2 : tie.Need-cast-size-2
-cast-size-2 c = search (header-ways, needs)
+cast-size-3 : tie.Need-cast-size-3
+cast-size-3 c = search (header-ways, needs)
 
 returns-6 : tie.Need-returns-6
 returns-6 c = search (header-ways, c .before .before .before .before .before .before .before .shared-slice-known .given 1, needs)
@@ -63,19 +64,19 @@ read-header-spec =
     (tie.spec
     returns
     shared-slice-read-first
-    wide-requires
+    cast-size
     returns-2
     returns-3
     sub-value-of
     part-value-of-start
     part-value-of-end
     value-of-requires
-    cast-size
+    cast-size-2
     returns-4
     returns-5
     sub-value-of-2
     part-value-of-start-2
     part-value-of-end-2
     value-of-requires-2
-    cast-size-2
+    cast-size-3
     returns-6)

@@ -22,11 +22,11 @@ cast-octet-at c = omega (arith, (c .shared-slice-known3 .given) (c .before .befo
 octet-at-requires : tie.Need-octet-at-requires
 octet-at-requires c κs = search needs
 
-shared-slice-read-is-text : tie.Need-shared-slice-read-is-text
-shared-slice-read-is-text c = search needs
+shared-slice-read-holds-text : tie.Need-shared-slice-read-is-text
+shared-slice-read-holds-text c = search needs
 
-is-text-requires : tie.Need-is-text-requires
-is-text-requires c κs = search needs
+holds-text-requires : tie.Need-holds-text-requires
+holds-text-requires c κs = search needs
 
 returns-3 : tie.Need-returns-3
 returns-3 c = search (at-ways, needs)
@@ -41,6 +41,6 @@ is-text-at-spec =
     shared-slice-read-octet-at
     cast-octet-at
     octet-at-requires
-    shared-slice-read-is-text
-    is-text-requires
+    shared-slice-read-holds-text
+    holds-text-requires
     returns-3)

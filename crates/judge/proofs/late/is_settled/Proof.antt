@@ -3,11 +3,8 @@ use borrow.Author.Needs.{needs}
 use Rattle.judge.proofs.late.is_settled.Statement.{statement}
 use Rattle.judge.proofs.late.is_settled.Tie as tie
 
-known-kind-requires : tie.Need-known-kind-requires
-known-kind-requires c κs = search needs
-
-is-text-requires : tie.Need-is-text-requires
-is-text-requires c κs = search needs
+holds-text-requires : tie.Need-holds-text-requires
+holds-text-requires c κs = search needs
 
 is-covered-requires : tie.Need-is-covered-requires
 is-covered-requires c κs = search needs
@@ -20,4 +17,4 @@ returns-2 c = search (settled-ways, needs)
 
 pub is-settled-spec : {M : Type 1} → statement M
 is-settled-spec =
-    tie.close (tie.spec known-kind-requires is-text-requires is-covered-requires returns returns-2)
+    tie.close (tie.spec holds-text-requires is-covered-requires returns returns-2)

@@ -1,7 +1,7 @@
-use Rattle.edits.proofs.InsertLeaves.{holds-ways}
+use Rattle.tags.proofs.Listing.{holds-ways}
 use borrow.Author.Needs.{needs}
-use Rattle.edits.proofs.inserting.holds_items.Statement.{statement}
-use Rattle.edits.proofs.inserting.holds_items.Tie as tie
+use Rattle.tags.proofs.sorts.holds_items.Statement.{statement}
+use Rattle.tags.proofs.sorts.holds_items.Tie as tie
 
 listed-as-requires : tie.Need-listed-as-requires
 listed-as-requires c κs = search needs

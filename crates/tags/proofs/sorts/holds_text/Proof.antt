@@ -1,7 +1,7 @@
-use Rattle.edits.proofs.TextLeaves.{text-ways}
+use Rattle.tags.proofs.Listing.{text-ways}
 use borrow.Author.Needs.{needs}
-use Rattle.edits.proofs.replacing.is_text.Statement.{statement}
-use Rattle.edits.proofs.replacing.is_text.Tie as tie
+use Rattle.tags.proofs.sorts.holds_text.Statement.{statement}
+use Rattle.tags.proofs.sorts.holds_text.Tie as tie
 
 known-kind-requires : tie.Need-known-kind-requires
 known-kind-requires c κs = search needs
@@ -24,8 +24,8 @@ returns-2 c = search (text-ways, needs)
 returns-3 : tie.Need-returns-3
 returns-3 c = search (text-ways, needs)
 
-pub is-text-spec : {M : Type 1} → statement M
-is-text-spec =
+pub holds-text-spec : {M : Type 1} → statement M
+holds-text-spec =
     tie.close
     (tie.spec
     known-kind-requires
