@@ -108,10 +108,6 @@ unfoldable pub writeOctets : OctetCount → Option Items → List ℕ
 writeOctets room none = []
 writeOctets room (some t) = cond (roomy room (encode (means [] t))) (encode (means [] t)) []
 
-pub record WriteClaim (n : ℕ) (lists : Lists) (lent before after : List ℕ) (answer : WriteAnswer) : Type 0 where
-  pub answers : answer ≡ writeAnswer (sizeOf before) (treeGiven n lists lent)
-  pub leaves : after ≡ sets before 0 (writeOctets (sizeOf before) (treeGiven n lists lent))
-
 -- what is lent to normalise: how many places for records, and how many octets of a store for texts and values and of a room
 pub record Lent : Type 0 where
   pub records : ℕ

@@ -67,6 +67,10 @@ kept f (some t) = cond (f t) (some t) none
 unfoldable pub inOrder : ℕ → List ℕ → Items → Bool
 inOrder n bodies t = sameItems t (packed t) && (sameOctets (take n bodies) (bodySizes 0 t) && leb (length (encode (means [] t))) 32_768)
 
--- the tree of the first n records, where these are well-formed (document 01, 16 of the refusal numbers) and lie as `layTree` lays them
+-- the tree of the first n records, where each has a place in all seven lists and they are well-formed (document 01, 16 of the refusal numbers)
+abbrev pub treeIn : ℕ → Memory → Option Items
+treeIn n m = cond (leb n (length (m .bodies))) (treeGiven n (m .lists) (m .store)) none
+
+-- and lie as `layTree` lays them
 unfoldable pub treeHeld : ℕ → Memory → Option Items
-treeHeld n m = kept (inOrder n (m .bodies)) (cond (leb n (length (m .bodies))) (treeGiven n (m .lists) (m .store)) none)
+treeHeld n m = kept (inOrder n (m .bodies)) (treeIn n m)

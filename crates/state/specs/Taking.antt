@@ -20,7 +20,7 @@ use Rattle.format.specs.Meaning.{means, encode, normalOf}
 use Rattle.format.specs.Loaded.{loadedOf}
 use Rattle.format.specs.Calls.{Lent, roomy, fitsLent, judgeAnswer, writeAnswer, writeOctets, normalAnswer, handed}
 use Rattle.format.specs.Lent.{lent}
-use Rattle.format.specs.State.{Memory, placesIn, packedStore, layTree, treeHeld}
+use Rattle.format.specs.State.{Memory, placesIn, bodySizes, packedStore, layTree, treeIn, treeHeld}
 
 -- the memory that eight references lend
 abbrev pub memory : (tags kinds depths parents starts sizes bodies store : RefT (List ℕ)) → Memory
@@ -72,7 +72,19 @@ pub record NormaliseClaim (object : List ℕ) (m m′ : Memory) (room room′ : 
   pub leaves : m′ ≡ loadedInto (lentBy m room) (judge object) m
   pub writes : room′ ≡ sets room 0 (handed (lentBy m room) normalOf (judge object))
 
--- what memory holds is written: 16 where that is no tree, else 15, else the octets of its normal form, as `write` has them (format/specs/Calls)
+-- the sizes of bodies that writing a tree leaves: those of all its records, or none where it is refused
+unfoldable pub writeSizes : OctetCount → Option Items → List ℕ
+writeSizes room none = []
+writeSizes room (some t) = cond (roomy room (encode (means [] t))) (bodySizes 0 t) []
+
+-- records over octets that a caller lends are written: 16 where they are no tree, else 15, else the octets of its normal form. The size of each record's body stands in
+-- the seventh list then, for that of an element comes before its header; what the list held before doesn't matter
+pub record WriteClaim (n : ℕ) (m : Memory) (bodies′ before after : List ℕ) (answer : WriteAnswer) : Type 0 where
+  pub answers : answer ≡ writeAnswer (sizeOf before) (treeIn n m)
+  pub sizes : bodies′ ≡ sets (m .bodies) 0 (writeSizes (sizeOf before) (treeIn n m))
+  pub leaves : after ≡ sets before 0 (writeOctets (sizeOf before) (treeIn n m))
+
+-- what memory holds is written likewise, and its sizes stand as they are
 pub record WriteStateClaim (n : ℕ) (m : Memory) (before after : List ℕ) (answer : WriteAnswer) : Type 0 where
   pub answers : answer ≡ writeAnswer (sizeOf before) (treeHeld n m)
   pub leaves : after ≡ sets before 0 (writeOctets (sizeOf before) (treeHeld n m))
