@@ -22,7 +22,7 @@ cast-octet-at c = omega (arith, (c .shared-slice-known3 .given) (c .before .befo
 octet-at-requires : tie.Need-octet-at-requires
 octet-at-requires c κs = search needs
 
-shared-slice-read-holds-text : tie.Need-shared-slice-read-is-text
+shared-slice-read-holds-text : tie.Need-shared-slice-read-holds-text
 shared-slice-read-holds-text c = search needs
 
 holds-text-requires : tie.Need-holds-text-requires
