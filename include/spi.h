@@ -136,8 +136,9 @@ static inline size_t spi_span_size(uint64_t span)
     return (size_t)(span & 0xFFFFFFFF);
 }
 
-/* Writes the normal form of the first `records` records, whose bodies lie in `lent`, to the room.
- * Refused by 16 and 15, at place 0; the count is that of the octets. */
+/* Writes the normal form of the first `records` records, whose bodies lie in `lent`, to the room.  A seventh list,
+ * `bodies`, whose places count too, then has how many octets the body of each has in the normal form; what it held
+ * before doesn't matter.  Refused by 16 and 15, at place 0; the count is that of the octets. */
 uint64_t spi_write(size_t records,
                    const uint8_t *tags, size_t tags_count,
                    const uint8_t *kinds, size_t kinds_count,
@@ -145,6 +146,7 @@ uint64_t spi_write(size_t records,
                    const uint16_t *parents, size_t parents_count,
                    const uint16_t *starts, size_t starts_count,
                    const uint16_t *sizes, size_t sizes_count,
+                   uint16_t *bodies, size_t bodies_count,
                    const uint8_t *lent, size_t lent_count,
                    uint8_t *room, size_t room_count);
 

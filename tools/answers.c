@@ -292,7 +292,7 @@ static uint64_t call_normalise(void)
 
 static uint64_t call_write(void)
 {
-    return spi_write(records_given, LISTS, OCTETS(FIRST), OCTETS(ROOM));
+    return spi_write(records_given, LISTS, NUMBERS(BODIES), OCTETS(FIRST), OCTETS(ROOM));
 }
 
 static uint64_t call_same(void)
@@ -406,6 +406,7 @@ static void print_normal(size_t octets)
 
 static void print_written(size_t octets)
 {
+    hand_out(BODIES, records_given);
     print_room("written", octets);
 }
 

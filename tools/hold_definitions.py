@@ -46,9 +46,9 @@ use Rattle.format.specs.Tree.{Items}
 use Rattle.format.specs.Judge.{Judged, judge}
 use Rattle.format.specs.Judge.Judged.{refused as isRefused, accepted as isAccepted}
 use Rattle.format.specs.Meaning.{means, encode, normalOf}
-use Rattle.format.specs.Calls.{Lists, readAnswer, readRecords, treeGiven, writeAnswer, writeOctets, Lent, normalAnswer, handed}
+use Rattle.format.specs.Calls.{Lists, readAnswer, readRecords, writeAnswer, writeOctets, Lent, normalAnswer, handed}
 use Rattle.format.specs.Same.{sameAnswer}
-use Rattle.format.specs.State.{Memory, bodySizes}
+use Rattle.format.specs.State.{Memory, bodySizes, treeIn}
 use Rattle.state.specs.Taking.{takenIn}
 use Rattle.edits.specs.Tree.{Edit}
 use Rattle.edits.specs.Calls.{editedIn}
@@ -116,7 +116,9 @@ begin m es (isAccepted t) = runFrom m es [] t
 abbrev pub answer : Case → Answer
 answer (list places o) = afterRead (readAnswer places (judge o)) (readRecords places (judge o))
 answer (normalise p s r o) = afterWrite (normalAnswer (lentOf p s r) (judge o)) (handed (lentOf p s r) normalOf (judge o))
-answer (write n lists room o) = afterWrite (writeAnswer (asOctets room) (treeGiven n lists o)) (writeOctets (asOctets room) (treeGiven n lists o))
+answer (write n lists room o) =
+    let t = treeIn n (record { lists = lists; bodies = lists .sizes; store = o }) in
+    afterWrite (writeAnswer (asOctets room) t) (writeOctets (asOctets room) t)
 answer (compare a b) = afterSame (sameAnswer (judge a) (judge b))
 answer (edit p s o es) = begin (memoryOf p s) es (takenIn (asOctets 32_768) (memoryOf p s) (judge o))
 """

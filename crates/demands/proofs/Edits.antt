@@ -45,7 +45,7 @@ use Rattle.demands.specs.One.Ends.{answered, refusedAt}
 use Rattle.demands.specs.Edits.{TakeInEnds, EditEnds, RemoveEnds, WriteStateEnds, Holds, Overflows, TakeInOrder, TakeInInOrder, EditOrder, EditInOrder, WriteStateOrder, WriteStateInOrder, RunHolds, RunMeans, WritesAfresh, TakenContent}
 use Rattle.demands.specs.Edits.Overflows.{fourteen, fifteen}
 use Rattle.demands.proofs.Laws.{of-object}
-use Rattle.demands.proofs.One.{written-ends}
+use Rattle.demands.proofs.One.{written-ends, none-set}
 
 -- ---- an outcome of a call that leaves a tree in memory
 leaves-ends : (Reason : ℕ → ℕ → ℕ → Type 0) (j : Judged) (m m′ : Memory) (answer : ReadAnswer) → Leaves j m m′ answer
@@ -295,7 +295,7 @@ edit-in-order = record {
 
 -- ---- write_state
 pub write-state-ends : WriteStateEnds
-write-state-ends n m before after answer c = written-ends (treeHeld n m) before after answer (c .answers) (c .leaves)
+write-state-ends n m before after answer c = written-ends _ (sizeOf before) (treeHeld n m) answer (c .answers) (λ p q. none-set before _ after (c .leaves) p)
 
 module _ (n : ℕ) (m : Memory) (room : OctetCount) (answer : WriteAnswer) where
   abbrev size : Items → ℕ

@@ -44,8 +44,8 @@ pub input-back : InputBack
 input-back memory memory′ room room′ n c e = let g = bench-normalise p10 memory memory′ room room′ n c 2 listedObject p10-is in never (cc)
 
 pub writes-nothing : WritesNothing
-writes-nothing n lists lent before after os c =
-    let d = delivered n lists lent before after os (asOctets 0) c in
+writes-nothing n memory bodies′ before after os c =
+    let d = delivered n memory bodies′ before after os (asOctets 0) c in
     let m = has-meaning [] (means [] (d .tree)) (d .meant) in
     never (let p = m .1 in let q = empty-refused in cc)
 

@@ -11,7 +11,7 @@ use lib.ListN.{length, take, drop, take-append-drop}
 use lib.Seq.{length-take-le}
 use borrow.Author.Tests.{eqb-true, eq-eqb, leb-true, le-leb}
 use Rattle.writer.proofs.Whole.{given-both}
-use Rattle.octets.proofs.Tests.{and-left, and-right, and-true}
+use Rattle.octets.proofs.Tests.{and-left, and-right, and-true, chosen, never}
 use Rattle.format.specs.declared.Refusal.{Refusal}
 use Rattle.format.specs.Answers.{refusal}
 use Rattle.format.specs.Tree.{Items, count}
@@ -21,6 +21,7 @@ use Rattle.format.specs.Judge.Judged.{refused, accepted}
 use Rattle.format.specs.Meaning.{Meaning, meaningOf, ifAccepted, meaning, normalOf}
 use Rattle.format.specs.Loaded.{storeOf}
 use Rattle.format.specs.Calls.{Lists, row, places, Lent, roomy, storedWithin, fitsLent, treeGiven}
+use Rattle.format.specs.State.{Memory, placesIn, treeIn}
 use Rattle.format.proofs.Refusals.{refusal-inside}
 use Rattle.format.proofs.Spans.{Part, part-span, Located}
 use Rattle.format.proofs.Rebuilt.{rebuilt-whole, whole-rebuilt}
@@ -108,19 +109,34 @@ located-lies o (item tag at body inside after) l =
     let s = part-span o at body (l .0) in
     (s .0, s .1, located-lies o inside (l .1), located-lies o after (l .2))
 
--- records that are a well-formed tree are those that `treeGiven` finds one for
-module _ (n : ℕ) (lists : Lists) (lent : List ℕ) (t : Items) where
-  pub tree-given : GivenTree n lists lent t → treeGiven n lists lent ≡ some t
-  unfolding treeGiven
+-- records that are a well-formed tree are those that `treeIn` finds one for
+module _ (n : ℕ) (memory : Memory) (t : Items) where
+  abbrev lists : Lists
+  lists = memory .lists
+
+  abbrev lent : List ℕ
+  lent = memory .store
+
+  pub tree-given : GivenTree n memory t → treeIn n memory ≡ some t
+  unfolding treeGiven placesIn
   tree-given g =
-      rw (le-leb n (places lists) (g .placed))
+      let p = g .placed in
+      rw (le-leb n (length (memory .bodies)) (omega (arith, p, min-le-right (places lists) (length (memory .bodies)))), le-leb n (places lists) (omega (arith, p, min-le-left (places lists) (length (memory .bodies)))))
       (whole-rebuilt (row lists) n lent t (record { some = g .some; records = sym (g .records); located = lies-located lent t (g .lies); rules = g .rules }))
 
-  pub given-tree : treeGiven n lists lent ≡ some t → GivenTree n lists lent t
+  pub given-tree : treeIn n memory ≡ some t → GivenTree n memory t
+  unfolding placesIn
   given-tree h =
-      let b = given-both n lists lent t h in
+      let in-all = chosen (leb n (length (memory .bodies))) (sym h) (λ z. never (cc)) in
+      let b = given-both n lists lent t (sym (in-all .1)) in
       let w = rebuilt-whole (row lists) n lent t (b .1) in
-      record { some = w .some; placed = b .0; records = sym (w .records); lies = located-lies lent t (w .located); rules = w .rules }
+      record {
+        some = w .some;
+        placed = le-min (b .0) (leb-true n (length (memory .bodies)) (in-all .0));
+        records = sym (w .records);
+        lies = located-lies lent t (w .located);
+        rules = w .rules;
+      }
 
 -- an object that means something is accepted, with a tree that means it
 pub has-meaning : (o : List ℕ) (m : Meaning) → meaning o ≡ some m → (t : Items) × (judge o ≡ accepted t) × (meaningOf t ≡ m)

@@ -30,12 +30,12 @@ use Rattle.format.specs.Tree.{Items, count, recordsOf}
 use Rattle.format.specs.Judge.{Judged, rule, unless, judge}
 use Rattle.format.specs.Judge.Judged.{refused, accepted}
 use Rattle.format.specs.Meaning.{means, meaningOf, encode, normalOf}
-use Rattle.format.specs.Calls.{Lists, places, lay, judgeAnswer, readAnswer, readRecords, roomy, treeGiven, writeAnswer, writeOctets, Lent, fitsLent, misfit, normalAnswer, handed}
+use Rattle.format.specs.Calls.{Lists, places, lay, judgeAnswer, readAnswer, readRecords, roomy, writeAnswer, writeOctets, Lent, fitsLent, misfit, normalAnswer, handed}
 use Rattle.format.specs.Same.{sameMeaning, sameAnswer}
 use Rattle.format.proofs.Lays.{lay-none}
 use Rattle.format.specs.Loaded.{loadedOf}
-use Rattle.format.specs.State.{Memory, layTree}
-use Rattle.state.specs.Taking.{lentBy, loadedInto}
+use Rattle.format.specs.State.{Memory, bodySizes, layTree, treeIn}
+use Rattle.state.specs.Taking.{lentBy, loadedInto, writeSizes}
 use Rattle.demands.specs.One.{OfObject, OfCall, Refuses, Ends, SameEnds, JudgeEnds, ReadEnds, ReadAtMostEnds, ReadRecordsEnds, WriteEnds, NormaliseEnds, SameCallEnds, OneExactly, ReadOrder, ReadInOrder, ReadAtMostInOrder, ReadRecordsInOrder, GivenTree, WriteOrder, WriteInOrder, Suffices, Lacks, NormaliseOrder, NormaliseInOrder, SameOrder, SameInOrder, PutEnds, PutCallEnds}
 use Rattle.demands.specs.One.OfCall.{ofCall}
 use Rattle.demands.specs.One.Refuses.{forObject, forCall}
@@ -83,24 +83,28 @@ read-records-ends object before after slice slice′ answer c =
     (read-ended object n ((after ≡ before) × (slice′ ≡ slice)) (judge object) refl
     (λ e. (c .leaves ∙ ap (λ rs. lay 0 rs before) e ∙ lay-none 0 before, c .fills ∙ ap (λ rs. rs ++ drop (length rs) slice) e)))
 
--- a tree, if there is one, that is written to a room
-pub written-ends : (o : Option Items) (before after : List ℕ) (answer : WriteAnswer) → answer ≡ writeAnswer (sizeOf before) o
-    → after ≡ sets before 0 (writeOctets (sizeOf before) o) → Ends (OfCall (15 ∷ 16 ∷ [])) (after ≡ before) (writeOutcome answer)
-unfolding writeAnswer writeOctets among
-written-ends o before after answer told leaves =
-    subst (λ x. Ends (OfCall (15 ∷ 16 ∷ [])) (after ≡ before) (writeOutcome x)) (sym told) (go o leaves)
+-- a tree, if there is one, that is written to a room: a refusal writes no octets and stores no sizes
+pub written-ends : (Kept : Type 0) (room : OctetCount) (o : Option Items) (answer : WriteAnswer) → answer ≡ writeAnswer room o → (writeOctets room o ≡ [] → writeSizes room o ≡ [] → Kept)
+    → Ends (OfCall (15 ∷ 16 ∷ [])) Kept (writeOutcome answer)
+unfolding writeAnswer writeOctets writeSizes among
+written-ends Kept room o answer told keeps = subst (λ x. Ends (OfCall (15 ∷ 16 ∷ [])) Kept (writeOutcome x)) (sym told) (go o keeps)
   where
-    one : (t : Items) (b : Bool) → after ≡ sets before 0 (cond b (encode (means [] t)) [])
-        → Ends (OfCall (15 ∷ 16 ∷ [])) (after ≡ before) (writeOutcome (cond b (Octets (sizeOf (encode (means [] t)))) (NotWritten (refusal 15 0))))
-    one t true e = answered (length (encode (means [] t)))
-    one t false e = refusedAt 15 0 0 (ofCall 15 refl) (e ∙ sets-none before 0)
+    one : (t : Items) (b : Bool) → (cond b (encode (means [] t)) [] ≡ [] → cond b (bodySizes 0 t) [] ≡ [] → Kept)
+        → Ends (OfCall (15 ∷ 16 ∷ [])) Kept (writeOutcome (cond b (Octets (sizeOf (encode (means [] t)))) (NotWritten (refusal 15 0))))
+    one t true f = answered (length (encode (means [] t)))
+    one t false f = refusedAt 15 0 0 (ofCall 15 refl) (f refl refl)
 
-    go : (o : Option Items) → after ≡ sets before 0 (writeOctets (sizeOf before) o) → Ends (OfCall (15 ∷ 16 ∷ [])) (after ≡ before) (writeOutcome (writeAnswer (sizeOf before) o))
-    go none e = refusedAt 16 0 0 (ofCall 16 refl) (e ∙ sets-none before 0)
-    go (some t) e = one t (roomy (sizeOf before) (encode (means [] t))) e
+    go : (o : Option Items) → (writeOctets room o ≡ [] → writeSizes room o ≡ [] → Kept) → Ends (OfCall (15 ∷ 16 ∷ [])) Kept (writeOutcome (writeAnswer room o))
+    go none f = refusedAt 16 0 0 (ofCall 16 refl) (f refl refl)
+    go (some t) f = one t (roomy room (encode (means [] t))) f
+
+-- nothing set leaves a list as it was
+pub none-set : (l xs l′ : List ℕ) → l′ ≡ sets l 0 xs → xs ≡ [] → l′ ≡ l
+none-set l xs l′ e q = e ∙ (ap (sets l 0) q ∙ sets-none l 0)
 
 pub write-ends : WriteEnds
-write-ends n lists lent before after answer c = written-ends (treeGiven n lists lent) before after answer (c .answers) (c .leaves)
+write-ends n memory bodies′ before after answer c =
+    written-ends _ (sizeOf before) (treeIn n memory) answer (c .answers) (λ p q. (none-set before _ after (c .leaves) p, none-set (memory .bodies) _ bodies′ (c .sizes) q))
 
 -- nothing is handed out of an object with a refusal
 nothing-handed : {A : Type 0} (lent : Lent) (f : Items → List A) (j : Judged) (r : Refusal) → normalAnswer lent j ≡ NotWritten r → handed lent f j ≡ []
@@ -238,14 +242,14 @@ read-at-most-in-order object most before after answer c = read-order (judge obje
 pub read-records-in-order : ReadRecordsInOrder
 read-records-in-order object before after slice slice′ answer c = read-order (judge object) (min (length slice) (places before)) answer (λ r h. of-object object r h .most) (c .answers)
 
-module _ (n : ℕ) (lists : Lists) (lent : List ℕ) (room : OctetCount) (answer : WriteAnswer) where
+module _ (n : ℕ) (memory : Memory) (room : OctetCount) (answer : WriteAnswer) where
   -- two trees of the same records are one
-  one-given : (t u : Items) → treeGiven n lists lent ≡ some t → GivenTree n lists lent u → u ≡ t
-  one-given t u h g = Option·some-injective u t (sym (tree-given n lists lent u g) ∙ h)
+  one-given : (t u : Items) → treeIn n memory ≡ some t → GivenTree n memory u → u ≡ t
+  one-given t u h g = Option·some-injective u t (sym (tree-given n memory u g) ∙ h)
 
-  write-order : answer ≡ writeAnswer room (treeGiven n lists lent) → WriteOrder n lists lent room answer
+  write-order : answer ≡ writeAnswer room (treeIn n memory) → WriteOrder n memory room answer
   unfolding writeAnswer roomy
-  write-order e = go (treeGiven n lists lent) refl e
+  write-order e = go (treeIn n memory) refl e
     where
       size : Items → ℕ
       size t = length (encode (means [] t))
@@ -253,42 +257,42 @@ module _ (n : ℕ) (lists : Lists) (lent : List ℕ) (room : OctetCount) (answer
       apart : NotWritten (refusal 16 0) ≡ NotWritten (refusal 15 0) → ⊥
       apart q = let p : refusal 16 0 ≡ refusal 15 0 = cc in omega (arith, ap (λ x. x .number) p)
 
-      none-given : treeGiven n lists lent ≡ none → answer ≡ NotWritten (refusal 16 0) → WriteOrder n lists lent room answer
+      none-given : treeIn n memory ≡ none → answer ≡ NotWritten (refusal 16 0) → WriteOrder n memory room answer
       none-given h e =
-          let lost : (t : Items) → GivenTree n lists lent t → ⊥ = λ t g. Option·none-ne-some t (sym h ∙ tree-given n lists lent t g) in
+          let lost : (t : Items) → GivenTree n memory t → ⊥ = λ t g. Option·none-ne-some t (sym h ∙ tree-given n memory t g) in
           record {
             sixteen = ((λ q. lost), (λ q. e));
             fifteen = ((λ q. absurd (apart (sym e ∙ q))), (λ q. absurd (lost (q .0) (q .1))));
             octets = λ k. ((λ q. never (cc)), (λ q. absurd (lost (q .0) (q .1))));
           }
 
-      no-room : (t : Items) → treeGiven n lists lent ≡ some t → min (room .0) 32_768 < size t → answer ≡ NotWritten (refusal 15 0) → WriteOrder n lists lent room answer
+      no-room : (t : Items) → treeIn n memory ≡ some t → min (room .0) 32_768 < size t → answer ≡ NotWritten (refusal 15 0) → WriteOrder n memory room answer
       no-room t h l e = record {
-        sixteen = ((λ q. absurd (apart (sym q ∙ e))), (λ q. absurd (q t (given-tree n lists lent t h))));
-        fifteen = ((λ q. (t, given-tree n lists lent t h, l)), (λ q. e));
+        sixteen = ((λ q. absurd (apart (sym q ∙ e))), (λ q. absurd (q t (given-tree n memory t h))));
+        fifteen = ((λ q. (t, given-tree n memory t h, l)), (λ q. e));
         octets = λ k. ((λ q. never (cc)), (λ q. absurd (omega (arith, l, ap (λ m. m .0) (q .2), q .3, ap size (one-given t (q .0) h (q .1))))));
       }
 
-      written : (t : Items) → treeGiven n lists lent ≡ some t → size t ≤ min (room .0) 32_768 → answer ≡ Octets (asOctets (size t)) → WriteOrder n lists lent room answer
+      written : (t : Items) → treeIn n memory ≡ some t → size t ≤ min (room .0) 32_768 → answer ≡ Octets (asOctets (size t)) → WriteOrder n memory room answer
       written t h l e = record {
-        sixteen = ((λ q. never (cc)), (λ q. absurd (q t (given-tree n lists lent t h))));
+        sixteen = ((λ q. never (cc)), (λ q. absurd (q t (given-tree n memory t h))));
         fifteen = ((λ q. never (cc)), (λ q. absurd (omega (arith, l, q .2, ap size (one-given t (q .0) h (q .1))))));
         octets = λ k. (
-          (λ q. let p : k .0 ≡ size t = cc in (t, given-tree n lists lent t h, ap asOctets p, omega arith)),
+          (λ q. let p : k .0 ≡ size t = cc in (t, given-tree n memory t h, ap asOctets p, omega arith)),
           (λ q. e ∙ ap Octets (ap (λ u. asOctets (size u)) (sym (one-given t (q .0) h (q .1))) ∙ sym (q .2))),
         );
       }
 
-      go : (o : Option Items) → treeGiven n lists lent ≡ o → answer ≡ writeAnswer room o → WriteOrder n lists lent room answer
+      go : (o : Option Items) → treeIn n memory ≡ o → answer ≡ writeAnswer room o → WriteOrder n memory room answer
       go none h e = none-given h e
       go (some t) h e = one (leb (size t) (min (room .0) 32_768)) refl e
         where
-          one : (b : Bool) → leb (size t) (min (room .0) 32_768) ≡ b → answer ≡ cond b (Octets (asOctets (size t))) (NotWritten (refusal 15 0)) → WriteOrder n lists lent room answer
+          one : (b : Bool) → leb (size t) (min (room .0) 32_768) ≡ b → answer ≡ cond b (Octets (asOctets (size t))) (NotWritten (refusal 15 0)) → WriteOrder n memory room answer
           one true q e = written t h (leb-true (size t) (min (room .0) 32_768) q) e
           one false q e = no-room t h (leb-false (size t) (min (room .0) 32_768) q) e
 
 pub write-in-order : WriteInOrder
-write-in-order n lists lent before after answer c = write-order n lists lent (sizeOf before) answer (c .answers)
+write-in-order n memory bodies′ before after answer c = write-order n memory (sizeOf before) answer (c .answers)
 
 -- what is lacking has one number, 14 or 15, and nothing suffices then
 lack-one : (lent : Lent) (t : Items) (r s : Refusal) → Lacks lent t r → Lacks lent t s → r ≡ s

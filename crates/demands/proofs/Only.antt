@@ -21,7 +21,11 @@ one-read-records object before one other slice oneSlice otherSlice answer answer
 )
 
 pub one-write : OneWrite
-one-write n lists lent before one other answer answer′ c d = (one-answer _ _ answer answer′ (c .answers) (d .answers), one-answer _ _ one other (c .leaves) (d .leaves))
+one-write n memory oneBodies otherBodies before one other answer answer′ c d = (
+  one-answer _ _ answer answer′ (c .answers) (d .answers),
+  one-answer _ _ oneBodies otherBodies (c .sizes) (d .sizes),
+  one-answer _ _ one other (c .leaves) (d .leaves),
+)
 
 pub one-normalise : OneNormalise
 one-normalise object memory oneMemory otherMemory room oneRoom otherRoom answer answer′ c d = (
@@ -64,7 +68,11 @@ pub one-span-c : OneSpanC
 one-span-c object starts sizes number answer answer′ c d = one-answer _ _ answer answer′ (c .answers) (d .answers)
 
 pub one-write-c : OneWriteC
-one-write-c n lists lent before one other answer answer′ c d = (one-answer _ _ answer answer′ (c .answers) (d .answers), one-answer _ _ one other (c .leaves .leaves) (d .leaves .leaves))
+one-write-c n memory oneBodies otherBodies before one other answer answer′ c d = (
+  one-answer _ _ answer answer′ (c .answers) (d .answers),
+  one-answer _ _ oneBodies otherBodies (c .leaves .sizes) (d .leaves .sizes),
+  one-answer _ _ one other (c .leaves .leaves) (d .leaves .leaves),
+)
 
 pub one-normalise-c : OneNormaliseC
 one-normalise-c object memory oneMemory otherMemory room oneRoom otherRoom answer answer′ c d = (

@@ -1,14 +1,14 @@
 -- The cases of change requests, from format's table of slips, what the check of records answers, and what the calls say of them.
 use mathlib.Core.Path.{_≡_, refl, sym, ap, _∙_, subst}
-use mathlib.Core.Bool.{Bool, true, false, _&&_, false≢true}
+use mathlib.Core.Bool.{Bool, true, false, cond, _&&_, false≢true}
 use mathlib.Core.Logic.{_↔_}
 use mathlib.Core.Option.{Option, none, some, Option·some-injective}
 use mathlib.Core.List.{List, [], _∷_}
 use Prim.Native.Nat.{ℕ, _≤_}
 use native.Mathlib.Omega.{arith}
-use lib.Dec.{ltb}
+use lib.Dec.{leb, ltb}
 use lib.ListN.{length, getD}
-use borrow.Author.Tests.{ltb-true}
+use borrow.Author.Tests.{ltb-true, le-leb}
 use Rattle.octets.specs.Numbers.{Octets}
 use Rattle.octets.proofs.Tests.{and-left, and-right}
 use Rattle.octets.specs.Counts.{sizeOf}
@@ -21,7 +21,9 @@ use Rattle.format.specs.Answers.{refusal, wrongValue}
 use Rattle.format.specs.Tree.{Items}
 use Rattle.format.specs.Judge.{judge}
 use Rattle.format.specs.Meaning.{meaningOf, meaning}
-use Rattle.format.specs.Calls.{Lists, treeGiven, WriteClaim}
+use Rattle.format.specs.Calls.{treeGiven}
+use Rattle.format.specs.State.{Memory, treeIn}
+use Rattle.state.specs.Taking.{WriteClaim}
 use Rattle.format.specs.Same.{sameAnswer}
 use Rattle.format.specs.Bench.{Outcome, outcome, accented, slips}
 use Rattle.format.specs.Bench.Outcome.{refuses, normally}
@@ -31,7 +33,7 @@ use Rattle.format.proofs.Normal.{normal-bare, same-normal}
 use Rattle.records.specs.Check.{isGiven}
 use Rattle.records.proofs.IllFormed.{ill-formed}
 use Rattle.xml.specs.Export.{exportOf, exportAnswer}
-use Rattle.demands.specs.Requests.{named, namedRecords, EightPass, NineFail, TellsField, FieldsTold, DefaultsNothing, recommended, unrecommended, RecommendationNo}
+use Rattle.demands.specs.Requests.{named, namedMemory, EightPass, NineFail, TellsField, FieldsTold, DefaultsNothing, recommended, unrecommended, RecommendationNo}
 use Rattle.demands.specs.Three.{BothAccepted}
 use Rattle.demands.proofs.Laws.{tree-given, given-tree, accepted-means}
 use Rattle.demands.proofs.One.{write-in-order, normalise-in-order, same-in-order}
@@ -48,25 +50,37 @@ unfolding slips accented
 nine-is = ap (λ (l : List Outcome). getD l 6 (refuses (refusal 0 0))) slipped
 
 -- records that are a tree aren't refused with 16, and others are
-module _ (n : ℕ) (lists : Lists) (lent before after : List ℕ) where
-  given-passes : isGiven (treeGiven n lists lent) ≡ true → WriteClaim n lists lent before after (NotWritten (refusal 16 0)) → ⊥
+module _ (n : ℕ) (memory : Memory) (bodies′ before after : List ℕ) where
+  given-passes : isGiven (treeIn n memory) ≡ true → WriteClaim n memory bodies′ before after (NotWritten (refusal 16 0)) → ⊥
   unfolding isGiven
-  given-passes g c = go (treeGiven n lists lent) refl g
+  given-passes g c = go (treeIn n memory) refl g
     where
-      go : (o : Option Items) → treeGiven n lists lent ≡ o → isGiven o ≡ true → ⊥
+      go : (o : Option Items) → treeIn n memory ≡ o → isGiven o ≡ true → ⊥
       go none e h = false≢true h
-      go (some t) e h = write-in-order n lists lent before after (NotWritten (refusal 16 0)) c .sixteen .0 refl t (given-tree n lists lent t e)
+      go (some t) e h = write-in-order n memory bodies′ before after (NotWritten (refusal 16 0)) c .sixteen .0 refl t (given-tree n memory t e)
 
-  not-given-fails : isGiven (treeGiven n lists lent) ≡ false → (answer : WriteAnswer) → WriteClaim n lists lent before after answer → answer ≡ NotWritten (refusal 16 0)
+  not-given-fails : isGiven (treeIn n memory) ≡ false → (answer : WriteAnswer) → WriteClaim n memory bodies′ before after answer → answer ≡ NotWritten (refusal 16 0)
   unfolding isGiven
   not-given-fails g answer c =
-      write-in-order n lists lent before after answer c .sixteen .1 (λ t h. false≢true (sym g ∙ ap isGiven (tree-given n lists lent t h)))
+      write-in-order n memory bodies′ before after answer c .sixteen .1 (λ t h. false≢true (sym g ∙ ap isGiven (tree-given n memory t h)))
+
+-- whether the seventh list has places too
+in-all : (n : ℕ) (memory : Memory) → n ≤ length (memory .bodies) → treeIn n memory ≡ treeGiven n (memory .lists) (memory .store)
+in-all n memory h = rw (le-leb n (length (memory .bodies)) h)
+
+none-in : (n : ℕ) (memory : Memory) → isGiven (treeGiven n (memory .lists) (memory .store)) ≡ false → isGiven (treeIn n memory) ≡ false
+unfolding isGiven
+none-in n memory h = go (leb n (length (memory .bodies)))
+  where
+    go : (b : Bool) → isGiven (cond b (treeGiven n (memory .lists) (memory .store)) none) ≡ false
+    go true = h
+    go false = refl
 
 pub eight-pass : EightPass
 eight-pass = record {
   read = λ before after answer c l. bench-read (named 8) before after answer c .counting 3 (named 8) eight-is l;
   normalised = λ memory memory′ room room′ n c. bench-normalise (named 8) memory memory′ room room′ n c 3 (named 8) eight-is;
-  written = λ before after c. given-passes 3 (namedRecords 8) (accented 8) before after (ill-formed .8) c;
+  written = λ bodies bodies′ before after h c. given-passes 3 (namedMemory 8 bodies) bodies′ before after (ap isGiven (in-all 3 (namedMemory 8 bodies) h) ∙ ill-formed .8) c;
 }
 
 pub nine-fail : NineFail
@@ -74,7 +88,7 @@ nine-fail = record {
   read = λ before after answer c. bench-read (named 9) before after answer c .refusing (refusal 13 4) nine-is;
   normalised = λ memory memory′ room room′ answer c.
       normalise-in-order (named 9) memory memory′ room room′ answer c .ofObject (refusal 13 4) (omega arith) .1 (table-refused (named 9) (refusal 13 4) nine-is);
-  written = λ before after answer c. not-given-fails 3 (namedRecords 9) (accented 9) before after (ill-formed .9) answer c;
+  written = λ bodies bodies′ before after answer c. not-given-fails 3 (namedMemory 9 bodies) bodies′ before after (none-in 3 (namedMemory 9 bodies) (ill-formed .9)) answer c;
 }
 
 -- the field is told of a row that says so

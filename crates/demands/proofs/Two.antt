@@ -5,6 +5,7 @@ use Prim.Native.Nat.{ℕ, _+_, _≤_, _<_, min}
 use native.Mathlib.Nat.{zero-add, min-le-right, le-min}
 use native.Mathlib.Omega.{arith}
 use lib.ListN.{length, take, drop, getD}
+use lib.Seq.{sets}
 use borrow.Author.Tests.{le-leb}
 use Rattle.octets.specs.Counts.{sizeOf}
 use Rattle.octets.proofs.Numbers.{octets-take}
@@ -18,7 +19,9 @@ use Rattle.format.specs.Judge.{Judged, judge}
 use Rattle.format.specs.Judge.Judged.{refused, accepted}
 use Rattle.format.specs.Meaning.{means, tableOf, encode}
 use Rattle.format.specs.Writer.{tabled}
-use Rattle.format.specs.Calls.{Lists, row, places, lay, judgeAnswer, readRecords, spanOf, bodyAt, WriteClaim}
+use Rattle.format.specs.Calls.{Lists, row, places, lay, judgeAnswer, readRecords, spanOf, bodyAt}
+use Rattle.format.specs.State.{bodySizes}
+use Rattle.state.specs.Taking.{WriteClaim}
 use Rattle.format.proofs.Lays.{places-lay, within-places, row-lay-behind, tabled-laid, getD-tabled}
 use Rattle.format.proofs.Spans.{Part, part-span, Located, located, records-count, Bodied, bodied-length, bodied-at, records-bodied}
 use Rattle.format.proofs.Regrown.{shaped, regrows-all, regrown-means}
@@ -135,11 +138,11 @@ slice-handed-out object os before after slice slice′ n c t a =
     )
 
 pub written-reads-back : WrittenReadsBack
-written-reads-back n lists lent before after answer os out c t g room object =
+written-reads-back n memory bodies′ before after answer os out c t g room object =
     let k = sizeOf (encode (means [] t)) in
-    let e : answer ≡ Written k = write-in-order n lists lent before after answer c .octets k .1 (t, g, refl, le-min room object) in
-    let d = delivered n lists lent before after os k (subst (WriteClaim n lists lent before after) e c) in
-    let same : d .tree ≡ t = (let p = d .given in let q = tree-given n lists lent t g in cc) in
+    let e : answer ≡ Written k = write-in-order n memory bodies′ before after answer c .octets k .1 (t, g, refl, le-min room object) in
+    let d = delivered n memory bodies′ before after os k (subst (WriteClaim n memory bodies′ before after) e c) in
+    let same : d .tree ≡ t = (let p = d .given in let q = tree-given n memory t g in cc) in
     let m = has-meaning (take (k .0) after) (means [] (d .tree)) (d .meant) in (
       k,
       e,
@@ -150,4 +153,5 @@ written-reads-back n lists lent before after answer os out c t g room object =
         means-same = m .2 ∙ ap (means []) same;
         behind = d .rest;
       },
+      d .sizes ∙ ap (λ x. sets (memory .bodies) 0 (bodySizes 0 x)) same,
     )

@@ -12,9 +12,9 @@ use Rattle.format.specs.declared.Refusal.{Refusal}
 use Rattle.format.specs.declared.ReadAnswer.the-variants.{Records, NotRead}
 use Rattle.format.specs.declared.WriteAnswer.the-variants.{Octets as Written}
 use Rattle.format.specs.Tree.{Items, count, recordsOf}
-use Rattle.format.specs.Calls.{Lists, row, places, ReadClaim, WriteClaim}
+use Rattle.format.specs.Calls.{Lists, row, places, ReadClaim}
 use Rattle.format.specs.State.{Memory}
-use Rattle.state.specs.Taking.{NormaliseClaim}
+use Rattle.state.specs.Taking.{WriteClaim, NormaliseClaim}
 use Rattle.grammar.specs.Grammar.{Accepts}
 
 -- P9 and P10
@@ -42,7 +42,7 @@ InputBack =
 
 -- a writer that writes nothing
 abbrev pub WritesNothing : Type 0
-WritesNothing = (n : ℕ) (lists : Lists) (lent before after : List ℕ) → Octets lent → WriteClaim n lists lent before after (Written (asOctets 0)) → ⊥
+WritesNothing = (n : ℕ) (memory : Memory) (bodies′ before after : List ℕ) → Octets (memory .store) → WriteClaim n memory bodies′ before after (Written (asOctets 0)) → ⊥
 
 -- a reader that reads the first child and invents the rest: a record that isn't the one of its number in the object's tree
 abbrev pub InventsRecord : Type 0

@@ -32,10 +32,10 @@ use Rattle.format.specs.Judge.Judged.{refused, accepted}
 use Rattle.format.specs.Meaning.{means, encode, normalOf}
 use Rattle.format.specs.Writer.{atTop, ruled, tabled}
 use Rattle.format.specs.Loaded.{storeOf}
-use Rattle.format.specs.Calls.{Lists, row, places, Lent, judgeAnswer, ReadClaim, ReadAtMostClaim, ReadRecordsClaim, WriteClaim}
+use Rattle.format.specs.Calls.{Lists, row, places, Lent, judgeAnswer, ReadClaim, ReadAtMostClaim, ReadRecordsClaim}
 use Rattle.format.specs.Same.{sameAnswer}
-use Rattle.format.specs.State.{Memory}
-use Rattle.state.specs.Taking.{lentBy, NormaliseClaim}
+use Rattle.format.specs.State.{Memory, placesIn}
+use Rattle.state.specs.Taking.{lentBy, WriteClaim, NormaliseClaim}
 
 -- ---- an answer, or one numbered refusal with a place and a field; and a refusal leaves all lent memory untouched
 
@@ -95,8 +95,8 @@ ReadRecordsEnds =
 -- write gives 15 and 16
 abbrev pub WriteEnds : Type 0
 WriteEnds =
-    (n : ℕ) (lists : Lists) (lent before after : List ℕ) (answer : WriteAnswer) → WriteClaim n lists lent before after answer
-    → Ends (OfCall (15 ∷ 16 ∷ [])) (after ≡ before) (writeOutcome answer)
+    (n : ℕ) (memory : Memory) (bodies′ before after : List ℕ) (answer : WriteAnswer) → WriteClaim n memory bodies′ before after answer
+    → Ends (OfCall (15 ∷ 16 ∷ [])) ((after ≡ before) × (bodies′ ≡ memory .bodies)) (writeOutcome answer)
 
 -- normalise gives 1 to 13, 14 and 15
 abbrev pub NormaliseEnds : Type 0
@@ -142,25 +142,26 @@ LiesIn octets end = Unit {0}
 LiesIn octets (item tag at body inside after) =
     (at + length body ≤ length octets) × (take (length body) (drop at octets) ≡ body) × LiesIn octets inside × LiesIn octets after
 
--- the n records of the lists, over lent octets, are a well-formed tree: there is one, and no more of them than places; they are the records of the tree, so that
--- kinds, reading order, parents and depths agree; each body lies in the lent octets; and each item keeps rules 4 and 6 to 13, as a known item other than 0x04
--- without token octets, of which only elements that hold items hold any
-pub record GivenTree (n : ℕ) (lists : Lists) (lent : List ℕ) (t : Items) : Type 0 where
+-- the n records of lent memory are a well-formed tree: there is one, and no more of them than places; they are the records of the tree, so that kinds, reading order,
+-- parents and depths agree; each body lies in the lent octets; and each item keeps rules 4 and 6 to 13, as a known item other than 0x04 without token octets, of which
+-- only elements that hold items hold any
+pub record GivenTree (n : ℕ) (memory : Memory) (t : Items) : Type 0 where
   pub some : 0 < n
-  pub placed : n ≤ places lists
-  pub records : tabled (row lists) n 0 ≡ recordsOf t
-  pub lies : LiesIn lent t
+  pub placed : n ≤ placesIn memory
+  pub records : tabled (row (memory .lists)) n 0 ≡ recordsOf t
+  pub lies : LiesIn (memory .store) t
   pub rules : ruled atTop t ≡ true
 
 -- write: 16 exactly when the records aren't a well-formed tree; 15 exactly when they are and its normal form is above the room or above 32,768; else its octets
-pub record WriteOrder (n : ℕ) (lists : Lists) (lent : List ℕ) (room : OctetCount) (answer : WriteAnswer) : Type 0 where
-  pub sixteen : (answer ≡ NotWritten (refusal 16 0)) ↔ ((t : Items) → GivenTree n lists lent t → ⊥)
-  pub fifteen : (answer ≡ NotWritten (refusal 15 0)) ↔ ((t : Items) × GivenTree n lists lent t × (min (room .0) 32_768 < length (encode (means [] t))))
-  pub octets : (k : OctetCount) → (answer ≡ Octets k) ↔ ((t : Items) × GivenTree n lists lent t × (k ≡ sizeOf (encode (means [] t))) × (k .0 ≤ min (room .0) 32_768))
+pub record WriteOrder (n : ℕ) (memory : Memory) (room : OctetCount) (answer : WriteAnswer) : Type 0 where
+  pub sixteen : (answer ≡ NotWritten (refusal 16 0)) ↔ ((t : Items) → GivenTree n memory t → ⊥)
+  pub fifteen : (answer ≡ NotWritten (refusal 15 0)) ↔ ((t : Items) × GivenTree n memory t × (min (room .0) 32_768 < length (encode (means [] t))))
+  pub octets : (k : OctetCount) → (answer ≡ Octets k) ↔ ((t : Items) × GivenTree n memory t × (k ≡ sizeOf (encode (means [] t))) × (k .0 ≤ min (room .0) 32_768))
 
 abbrev pub WriteInOrder : Type 0
 WriteInOrder =
-    (n : ℕ) (lists : Lists) (lent before after : List ℕ) (answer : WriteAnswer) → WriteClaim n lists lent before after answer → WriteOrder n lists lent (sizeOf before) answer
+    (n : ℕ) (memory : Memory) (bodies′ before after : List ℕ) (answer : WriteAnswer) → WriteClaim n memory bodies′ before after answer
+    → WriteOrder n memory (sizeOf before) answer
 
 -- what is lent suffices for an accepted object: places for its records, a store for its texts and values, a room for its normal form, which isn't above 32,768
 pub record Suffices (lent : Lent) (t : Items) : Type 0 where

@@ -13,9 +13,9 @@ use Rattle.text.specs.Weighing.{Marks, Widths, Shows}
 use Rattle.format.specs.declared.Record.{Record}
 use Rattle.format.specs.declared.ReadAnswer.{ReadAnswer}
 use Rattle.format.specs.declared.WriteAnswer.{WriteAnswer}
-use Rattle.format.specs.Calls.{Lists, ReadClaim, ReadAtMostClaim, ReadRecordsClaim, WriteClaim}
+use Rattle.format.specs.Calls.{Lists, ReadClaim, ReadAtMostClaim, ReadRecordsClaim}
 use Rattle.format.specs.State.{Memory}
-use Rattle.state.specs.Taking.{NormaliseClaim, TakeInClaim, WriteStateClaim}
+use Rattle.state.specs.Taking.{WriteClaim, NormaliseClaim, TakeInClaim, WriteStateClaim}
 use Rattle.edits.specs.Tree.{Edit}
 use Rattle.edits.specs.Calls.{EditClaim}
 use Rattle.xml.specs.Export.{ExportClaim}
@@ -55,9 +55,9 @@ OneReadRecords =
 -- write
 abbrev pub OneWrite : Type 0
 OneWrite =
-    (n : ℕ) (lists : Lists) (lent before one other : List ℕ) (answer answer′ : WriteAnswer)
-    → WriteClaim n lists lent before one answer → WriteClaim n lists lent before other answer′
-    → (answer ≡ answer′) × (one ≡ other)
+    (n : ℕ) (memory : Memory) (oneBodies otherBodies before one other : List ℕ) (answer answer′ : WriteAnswer)
+    → WriteClaim n memory oneBodies before one answer → WriteClaim n memory otherBodies before other answer′
+    → (answer ≡ answer′) × (oneBodies ≡ otherBodies) × (one ≡ other)
 
 -- normalise
 abbrev pub OneNormalise : Type 0
@@ -129,9 +129,9 @@ OneSpanC = (object starts sizes : List ℕ) (number answer answer′ : ℕ) → 
 
 abbrev pub OneWriteC : Type 0
 OneWriteC =
-    (n : ℕ) (lists : Lists) (lent before one other : List ℕ) (answer answer′ : ℕ)
-    → WritesC n lists lent before one answer → WritesC n lists lent before other answer′
-    → (answer ≡ answer′) × (one ≡ other)
+    (n : ℕ) (memory : Memory) (oneBodies otherBodies before one other : List ℕ) (answer answer′ : ℕ)
+    → WritesC n memory oneBodies before one answer → WritesC n memory otherBodies before other answer′
+    → (answer ≡ answer′) × (oneBodies ≡ otherBodies) × (one ≡ other)
 
 abbrev pub OneNormaliseC : Type 0
 OneNormaliseC =

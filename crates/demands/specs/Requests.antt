@@ -16,11 +16,11 @@ use Rattle.format.specs.Tree.{Items, withoutDefaults}
 use Rattle.format.specs.Judge.{judge}
 use Rattle.format.specs.Judge.Judged.{accepted}
 use Rattle.format.specs.Meaning.{means, tableOf, meaningOf, normalOf}
-use Rattle.format.specs.Calls.{Lists, places, ReadClaim, WriteClaim}
+use Rattle.format.specs.Calls.{Lists, places, ReadClaim}
 use Rattle.format.specs.Same.{sameAnswer}
 use Rattle.format.specs.Bench.{accented}
 use Rattle.format.specs.State.{Memory}
-use Rattle.state.specs.Taking.{NormaliseClaim}
+use Rattle.state.specs.Taking.{WriteClaim, NormaliseClaim}
 use Rattle.xml.specs.Export.{ExportClaim}
 
 -- 2026-01: shown text is counted in characters. A top with a short name of so many letters of two octets each, as an object
@@ -38,12 +38,15 @@ namedRecords n = record {
   sizes = 0 ∷ 0 ∷ (2 * n) ∷ [];
 }
 
+abbrev pub namedMemory : ℕ → List ℕ → Memory
+namedMemory n bodies = record { lists = namedRecords n; bodies = bodies; store = accented n }
+
 -- eight pass: read gives the three records where there are places, normalise gives these octets again, and write doesn't find the records ill-formed
 pub record EightPass : Type 0 where
   pub read : (before after : Lists) (answer : ReadAnswer) → ReadClaim (named 8) before after answer → 3 ≤ places before → answer ≡ Records (record { records = 3 })
   pub normalised :
       (memory memory′ : Memory) (room room′ : List ℕ) (n : OctetCount) → NormaliseClaim (named 8) memory memory′ room room′ (Written n) → take (n .0) room′ ≡ named 8
-  pub written : (before after : List ℕ) → WriteClaim 3 (namedRecords 8) (accented 8) before after (NotWritten (refusal 16 0)) → ⊥
+  pub written : (bodies bodies′ before after : List ℕ) → 3 ≤ length bodies → WriteClaim 3 (namedMemory 8 bodies) bodies′ before after (NotWritten (refusal 16 0)) → ⊥
 
 -- nine fail: 13 at the name's CDATA, and 16 of its records, whatever is lent
 pub record NineFail : Type 0 where
@@ -51,7 +54,8 @@ pub record NineFail : Type 0 where
   pub normalised :
       (memory memory′ : Memory) (room room′ : List ℕ) (answer : WriteAnswer) → NormaliseClaim (named 9) memory memory′ room room′ answer
       → answer ≡ NotWritten (refusal 13 4)
-  pub written : (before after : List ℕ) (answer : WriteAnswer) → WriteClaim 3 (namedRecords 9) (accented 9) before after answer → answer ≡ NotWritten (refusal 16 0)
+  pub written :
+      (bodies bodies′ before after : List ℕ) (answer : WriteAnswer) → WriteClaim 3 (namedMemory 9 bodies) bodies′ before after answer → answer ≡ NotWritten (refusal 16 0)
 
 -- 2026-04: refusal 9 tells the field of a time that is wrong. What the calls answer of an object with one, whatever is lent
 pub record TellsField (object : List ℕ) (place field : ℕ) : Type 0 where

@@ -8,6 +8,7 @@ use mathlib.Core.Logic.{_↔_}
 use mathlib.Core.List.{List, [], _++_}
 use Prim.Native.Nat.{ℕ, suc, _≤_, _<_}
 use lib.ListN.{length, take, drop, getD}
+use lib.Seq.{sets}
 use Rattle.octets.specs.declared.counts.Octets.{Octets as OctetCount}
 use Rattle.octets.specs.Numbers.{Octets}
 use Rattle.format.specs.declared.Record.{Record}
@@ -20,7 +21,9 @@ use Rattle.format.specs.Tree.{Items, count, recordsOf, bodiesOf}
 use Rattle.format.specs.Judge.{judge}
 use Rattle.format.specs.Meaning.{means, tableOf, meaningOf, encode}
 use Rattle.format.specs.Writer.{tree, tabled}
-use Rattle.format.specs.Calls.{Lists, row, places, judgeAnswer, spanOf, bodyAt, ReadClaim, ReadRecordsClaim, WriteClaim}
+use Rattle.format.specs.Calls.{Lists, row, places, judgeAnswer, spanOf, bodyAt, ReadClaim, ReadRecordsClaim}
+use Rattle.format.specs.State.{Memory, bodySizes}
+use Rattle.state.specs.Taking.{WriteClaim}
 use Rattle.grammar.specs.Grammar.{Accepts}
 use Rattle.demands.specs.One.{LiesIn, GivenTree}
 
@@ -93,6 +96,7 @@ pub record ReadsBack (t : Items) (before after : List ℕ) (k : OctetCount) : Ty
 
 abbrev pub WrittenReadsBack : Type 0
 WrittenReadsBack =
-    (n : ℕ) (lists : Lists) (lent before after : List ℕ) (answer : WriteAnswer) → Octets lent → Octets after → WriteClaim n lists lent before after answer
-    → (t : Items) → GivenTree n lists lent t → length (encode (means [] t)) ≤ length before → length (encode (means [] t)) ≤ 32_768
-    → (k : OctetCount) × (answer ≡ Written k) × ReadsBack t before after k
+    (n : ℕ) (memory : Memory) (bodies′ before after : List ℕ) (answer : WriteAnswer) → Octets (memory .store) → Octets after
+    → WriteClaim n memory bodies′ before after answer
+    → (t : Items) → GivenTree n memory t → length (encode (means [] t)) ≤ length before → length (encode (means [] t)) ≤ 32_768
+    → (k : OctetCount) × (answer ≡ Written k) × ReadsBack t before after k × (bodies′ ≡ sets (memory .bodies) 0 (bodySizes 0 t))

@@ -16,11 +16,11 @@ use Rattle.format.specs.declared.ReadAnswer.{ReadAnswer}
 use Rattle.format.specs.declared.WriteAnswer.{WriteAnswer}
 use Rattle.format.specs.declared.SameAnswer.{SameAnswer}
 use Rattle.format.specs.Answers.{readOutcome, writeOutcome, sameOutcome}
-use Rattle.format.specs.Calls.{Lists, places, ReadClaim, spanOf, treeGiven, WriteClaim, judgeAnswer}
+use Rattle.format.specs.Calls.{Lists, places, ReadClaim, spanOf, judgeAnswer}
 use Rattle.format.specs.Judge.{judge, Judged}
 use Rattle.format.specs.Same.{sameAnswer}
-use Rattle.format.specs.State.{Memory, treeHeld}
-use Rattle.state.specs.Taking.{lentBy, NormaliseClaim, Leaves, WriteStateClaim}
+use Rattle.format.specs.State.{Memory, treeIn, treeHeld}
+use Rattle.state.specs.Taking.{lentBy, NormaliseClaim, Leaves, WriteClaim, WriteStateClaim}
 use Rattle.spi_c.specs.Packed.{packedOutcome, packedSame, Small, SmallSame, SmallSpan}
 use Rattle.octets.proofs.Lists.{sets-left}
 use Rattle.xml.specs.Export.{Exported, exportOf, exportAnswer, exportOctets, ExportClaim}
@@ -46,12 +46,13 @@ module _ (object : List ℕ) (before after : Lists) (answer : ReadAnswer) (claim
   pub read-says : (a : ℕ) → a ≡ packedOutcome o → ReadsC object before after a
   read-says a h = record { answers = outcome-packed readOutcome _ _ (claim .answers) o told packedOutcome a h; leaves = record { answers = refl; leaves = claim .leaves } }
 
-module _ (n : ℕ) (lists : Lists) (lent before after : List ℕ) (answer : WriteAnswer) (claim : WriteClaim n lists lent before after answer) (o : Outcome) (told : o ≡ writeOutcome answer) where
+module _ (n : ℕ) (m : Memory) (bodies′ before after : List ℕ) (answer : WriteAnswer) (claim : WriteClaim n m bodies′ before after answer) (o : Outcome) (told : o ≡ writeOutcome answer) where
   pub write-small : Small o
-  write-small = outcome-is writeOutcome _ _ (claim .answers) o told Small (told-small (write-told (sizeOf before) (treeGiven n lists lent)))
+  write-small = outcome-is writeOutcome _ _ (claim .answers) o told Small (told-small (write-told (sizeOf before) (treeIn n m)))
 
-  pub write-says : (a : ℕ) → a ≡ packedOutcome o → WritesC n lists lent before after a
-  write-says a h = record { answers = outcome-packed writeOutcome _ _ (claim .answers) o told packedOutcome a h; leaves = record { answers = refl; leaves = claim .leaves } }
+  pub write-says : (a : ℕ) → a ≡ packedOutcome o → WritesC n m bodies′ before after a
+  write-says a h =
+      record { answers = outcome-packed writeOutcome _ _ (claim .answers) o told packedOutcome a h; leaves = record { answers = refl; sizes = claim .sizes; leaves = claim .leaves } }
 
 module _ (object : List ℕ) (m m′ : Memory) (room room′ : List ℕ) (answer : WriteAnswer) (claim : NormaliseClaim object m m′ room room′ answer) (o : Outcome)
     (told : o ≡ writeOutcome answer) where

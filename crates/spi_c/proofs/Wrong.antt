@@ -11,9 +11,9 @@ use Rattle.format.specs.declared.ReadAnswer.the-variants.{Records, NotRead}
 use Rattle.format.specs.declared.SameAnswer.the-variants.{Same, Different, FirstRefused, SecondRefused}
 use Rattle.format.specs.Answers.{refusal, wrongValue, readOutcome, writeOutcome, sameOutcome}
 use Rattle.format.specs.Judge.{judge}
-use Rattle.format.specs.Calls.{Lists, places, readAnswer, spanOf, treeGiven, writeAnswer, normalAnswer, judgeAnswer}
+use Rattle.format.specs.Calls.{Lists, places, readAnswer, spanOf, writeAnswer, normalAnswer, judgeAnswer}
 use Rattle.format.specs.Same.{sameAnswer}
-use Rattle.format.specs.State.{Memory, treeHeld}
+use Rattle.format.specs.State.{Memory, treeIn, treeHeld}
 use Rattle.state.specs.Taking.{lentBy, takenIn}
 use Rattle.edits.specs.Tree.{Edit}
 use Rattle.edits.specs.Calls.{editedIn}
@@ -32,9 +32,9 @@ read-back object before after a c = ap outcomeIn (c .answers) ∙ told-back (rea
 pub span-back-of : (object starts sizes : List ℕ) (i a : ℕ) → getD starts i 0 < 0x1_0000 → getD sizes i 0 < 0x1_0000 → SpansC object starts sizes i a → spanIn a ≡ spanOf object starts sizes i
 span-back-of object starts sizes i a f g c = ap spanIn (c .answers) ∙ span-back (spanOf object starts sizes i) (span-small object starts sizes i f g (spanOf object starts sizes i) refl)
 
-pub write-back : (n : ℕ) (lists : Lists) (lent before after : List ℕ) (a : ℕ) → WritesC n lists lent before after a
-    → outcomeIn a ≡ writeOutcome (writeAnswer (sizeOf before) (treeGiven n lists lent))
-write-back n lists lent before after a c = ap outcomeIn (c .answers) ∙ told-back (write-told (sizeOf before) (treeGiven n lists lent))
+pub write-back : (n : ℕ) (m : Memory) (bodies′ before after : List ℕ) (a : ℕ) → WritesC n m bodies′ before after a
+    → outcomeIn a ≡ writeOutcome (writeAnswer (sizeOf before) (treeIn n m))
+write-back n m bodies′ before after a c = ap outcomeIn (c .answers) ∙ told-back (write-told (sizeOf before) (treeIn n m))
 
 pub normalise-back : (object : List ℕ) (m m′ : Memory) (room room′ : List ℕ) (a : ℕ) → NormalisesC object m m′ room room′ a
     → outcomeIn a ≡ writeOutcome (normalAnswer (lentBy m room) (judge object))

@@ -8,10 +8,10 @@ use Rattle.octets.specs.declared.counts.Octets.{Octets as OctetCount}
 use Rattle.octets.specs.Counts.{asOctets, sizeOf}
 use Rattle.format.specs.Answers.{readOutcome, writeOutcome, sameOutcome}
 use Rattle.format.specs.Judge.{judge, Judged}
-use Rattle.format.specs.Calls.{Lists, places, readAnswer, ReadClaim, spanOf, treeGiven, writeAnswer, WriteClaim, normalAnswer, judgeAnswer}
+use Rattle.format.specs.Calls.{Lists, places, readAnswer, ReadClaim, spanOf, writeAnswer, normalAnswer, judgeAnswer}
 use Rattle.format.specs.Same.{sameAnswer}
-use Rattle.format.specs.State.{Memory, treeHeld}
-use Rattle.state.specs.Taking.{lentBy, NormaliseClaim, takenIn, Leaves, WriteStateClaim}
+use Rattle.format.specs.State.{Memory, treeIn, treeHeld}
+use Rattle.state.specs.Taking.{lentBy, NormaliseClaim, takenIn, Leaves, WriteClaim, WriteStateClaim}
 use Rattle.edits.specs.Tree.{Edit}
 use Rattle.edits.specs.Calls.{editedIn}
 use Rattle.xml.specs.Export.{exportOf, exportAnswer, exportOctets}
@@ -24,9 +24,9 @@ pub record ReadsC (object : List ℕ) (before after : Lists) (a : ℕ) : Type 0 
 pub record SpansC (object starts sizes : List ℕ) (number a : ℕ) : Type 0 where
   pub answers : a ≡ packedSpan (spanOf object starts sizes number)
 
-pub record WritesC (n : ℕ) (lists : Lists) (lent before after : List ℕ) (a : ℕ) : Type 0 where
-  pub answers : a ≡ packedOutcome (writeOutcome (writeAnswer (sizeOf before) (treeGiven n lists lent)))
-  pub leaves : WriteClaim n lists lent before after (writeAnswer (sizeOf before) (treeGiven n lists lent))
+pub record WritesC (n : ℕ) (m : Memory) (bodies′ before after : List ℕ) (a : ℕ) : Type 0 where
+  pub answers : a ≡ packedOutcome (writeOutcome (writeAnswer (sizeOf before) (treeIn n m)))
+  pub leaves : WriteClaim n m bodies′ before after (writeAnswer (sizeOf before) (treeIn n m))
 
 pub record NormalisesC (object : List ℕ) (m m′ : Memory) (room room′ : List ℕ) (a : ℕ) : Type 0 where
   pub answers : a ≡ packedOutcome (writeOutcome (normalAnswer (lentBy m room) (judge object)))

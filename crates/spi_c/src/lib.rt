@@ -78,7 +78,7 @@ pub extern "C" fn spi_span(object: &[u8], starts: &[u16], sizes: &[u16], number:
     packed_span(reader::span(object, starts, sizes, number))
 }
 
-// The normal form of the first `count` records, whose bodies lie in `octets`, into `room`.
+// The normal form of the first `count` records, whose bodies lie in `octets`, into `room`; `bodies` then has the size of each record's body in it.
 #[no_mangle]
 pub extern "C" fn spi_write(
     count: usize,
@@ -88,10 +88,11 @@ pub extern "C" fn spi_write(
     parents: &[u16],
     starts: &[u16],
     sizes: &[u16],
+    bodies: &mut [u16],
     octets: &[u8],
     room: &mut [u8],
 ) -> u64
-    ensures { λ r. ⌜ WritesC count (lent (tags .entry) (kinds .entry) (depths .entry) (parents .entry) (starts .entry) (sizes .entry)) (now (octets .entry)) (now (room .entry)) (now (room .exit)) r ⌝ }
+    ensures { λ r. ⌜ WritesC count (memory (tags .entry) (kinds .entry) (depths .entry) (parents .entry) (starts .entry) (sizes .entry) (bodies .entry) (octets .entry)) (now (bodies .exit)) (now (room .entry)) (now (room .exit)) r ⌝ }
 {
     let answer = writer::write(
         count,
@@ -101,6 +102,7 @@ pub extern "C" fn spi_write(
         parents,
         starts,
         sizes,
+        bodies,
         octets,
         room,
     );
