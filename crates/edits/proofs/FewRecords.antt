@@ -1,7 +1,7 @@
 -- A tree has at most two records for each octet of its normal form: an item has two octets there or more, but for a default, which has none, and of these an element
 -- has no more than there are attributes with a default.
 use mathlib.Core.Path.{_≡_, refl, sym, ap, _∙_, subst}
-use mathlib.Core.Bool.{Bool, true, false, cond, not, _&&_, _||_, false≢true}
+use mathlib.Core.Bool.{Bool, true, false, cond, _&&_, _||_, false≢true}
 use mathlib.Core.List.{List, [], _∷_}
 use Prim.Native.Nat.{ℕ, suc, _+_, _*_, _≤_}
 use native.Mathlib.Omega.{arith}
@@ -10,7 +10,7 @@ use lib.ListN.{length, getD}
 use borrow.Author.Tests.{eqb-true, eq-eqb, not-true}
 use Rattle.octets.specs.Numbers.{among}
 use Rattle.octets.proofs.Answers.{size-two}
-use Rattle.octets.proofs.Tests.{and-left, and-right, or-elim}
+use Rattle.octets.proofs.Tests.{and-right, or-elim}
 use Rattle.values.specs.Table.{attribute, defaults, defaultIn}
 use Rattle.values.specs.Calls.{defaultOctets}
 use Rattle.values.proofs.DefaultValues.{no-default}

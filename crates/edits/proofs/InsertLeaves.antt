@@ -14,13 +14,8 @@ use Rattle.octets.specs.declared.Lies.the-variants.{Outside, Between}
 use Rattle.octets.specs.Places.{between, liesAt, liesIn}
 use Rattle.octets.proofs.Places.{lying}
 use Rattle.octets.proofs.Tests.{never, cond-same}
-use Rattle.values.specs.declared.Kind.{Kind}
-use Rattle.values.specs.Table.{known, attribute}
+use Rattle.values.specs.Table.{attribute}
 use Rattle.format.specs.Meaning.{opens, isChild}
-use Rattle.tags.specs.declared.Listed.{Listed}
-use Rattle.tags.specs.declared.Listed.the-variants.{Nothing, Inside, Value}
-use Rattle.tags.specs.Listed.{listedAs}
-use Rattle.tags.proofs.Listing.{is-nothing, is-inside, is-value}
 use Rattle.format.specs.declared.Refusal.{Refusal}
 use Rattle.judge.specs.Inside.{judgeInside}
 use Rattle.survey.specs.declared.measure.Measured.{Measured}

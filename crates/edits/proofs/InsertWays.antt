@@ -95,9 +95,6 @@ module _ (n used i j c : ℕ) (takes : Measured) (m : Memory) (f : Fittable n us
       fit-asks = let w : (a .0 ≤ 32_768) × (s .0 ≤ 32_770) = subst SmallSizes q (f .small) in (f .climbs, omega (arith, w .0))
 
       module _ (l : s .0 ≤ length (m .store) - used) (top : OctetCount) (pe : top .0 ≡ min 32_769 (topThen i (a .0) m)) where
-        pub fit-cast : top .0 ≤ 32_769
-        fit-cast = omega arith
-
         module _ (r : OctetCount) (re : r .0 ≡ framedSize (top .0)) where
           pub fit-large : 32_768 < r .0 → Refused 15 ≡ fittedBy n used i m (Admitted j c takes)
           unfolding openedBy

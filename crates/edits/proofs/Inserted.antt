@@ -3,7 +3,7 @@ use mathlib.Core.Path.{_≡_, refl, sym, ap, _∙_}
 use mathlib.Core.Bool.{Bool, true, false, cond, _&&_}
 use mathlib.Core.Option.{none, some}
 use mathlib.Core.List.{List, [], _∷_}
-use Prim.Native.Nat.{ℕ, suc, _-_, _≤_, _<_}
+use Prim.Native.Nat.{ℕ, suc, _≤_, _<_}
 use native.Mathlib.Omega.{arith}
 use lib.Dec.{eqb, leb, ltb}
 use lib.ListN.{length, getD}
@@ -17,7 +17,7 @@ use Rattle.format.specs.Tree.Items.{end, item}
 use Rattle.format.specs.Judge.{first, rule, unless}
 use Rattle.format.specs.Judge.Judged.{refused, accepted}
 use Rattle.format.specs.Meaning.{opens, isChild, means, encode}
-use Rattle.format.specs.Writer.{past, atTop, ruled}
+use Rattle.format.specs.Writer.{atTop, ruled}
 use Rattle.format.specs.Calls.{roomy}
 use Rattle.format.specs.State.{Memory, placesIn, packed, packedStore, kept, treeHeld}
 use Rattle.judge.specs.Inside.{beginning, judgeInside}

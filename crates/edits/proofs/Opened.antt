@@ -3,7 +3,7 @@ use mathlib.Core.Path.{_≡_, refl, sym, ap, ap₂, _∙_, subst}
 use mathlib.Core.Bool.{Bool, true, false, cond, not, _&&_, _||_, and-false, false≢true}
 use mathlib.Core.Option.{some, Option·some-injective}
 use mathlib.Core.List.{List, [], _∷_, _++_, append-nil, map}
-use Prim.Native.Nat.{ℕ, suc, _+_, _-_, _≤_, _<_}
+use Prim.Native.Nat.{ℕ, suc, _+_, _≤_, _<_}
 use native.Mathlib.Nat.{add-zero, le-min}
 use native.Mathlib.Omega.{arith}
 use lib.Dec.{eqb, leb, ltb}

@@ -22,7 +22,7 @@ use Rattle.format.specs.Judge.{rule, unless}
 use Rattle.format.specs.Judge.Judged.{accepted}
 use Rattle.format.specs.Meaning.{means, encode}
 use Rattle.format.specs.Writer.{below, atTop, ruled}
-use Rattle.format.specs.Calls.{row, judgeAnswer}
+use Rattle.format.specs.Calls.{judgeAnswer}
 use Rattle.format.specs.State.{Memory, placesIn, packed, packedStore, layTree, treeHeld}
 use Rattle.format.proofs.Kept.{ruled-parts}
 use Rattle.format.proofs.Written.{Bytes, located-bytes}

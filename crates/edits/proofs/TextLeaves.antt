@@ -8,24 +8,14 @@ use native.Mathlib.Omega.{arith}
 use lib.Dec.{leb, ltb}
 use lib.ListN.{length, getD, set}
 use lib.Seq.{sets}
-use types.Run.{OneOf}
-use denote.Enum.Declared.{tagOf}
 use borrow.Author.Tests.{le-leb, lt-leb, leb-true, leb-false, lt-ltb, le-ltb}
 use Rattle.octets.specs.declared.Put.{Put}
 use Rattle.octets.specs.declared.counts.Octets.{Octets as OctetCount}
 use Rattle.octets.specs.Places.{between}
 use Rattle.octets.specs.Puts.{Puts, putOut}
 use Rattle.octets.proofs.Lists.{sets-append, sets-comm}
-use Rattle.values.specs.declared.Kind.{Kind}
-use Rattle.values.specs.declared.Kind.the-variants.{HoldsText}
-use Rattle.values.specs.declared.KnownKind.{KnownKind}
-use Rattle.values.specs.declared.KnownKind.the-variants.{Known, Unknown}
-use Rattle.values.specs.Calls.{knownKind}
 use Rattle.values.specs.Table.{known}
-use Rattle.values.proofs.Kind.{the-type}
-use Rattle.values.proofs.Laws.{known-kind, unknown-kind}
 use Rattle.format.specs.Judge.{isText}
-use Rattle.tags.proofs.Arms.{Untexted, not-text}
 use Rattle.survey.specs.Normal.{framedSize}
 use Rattle.state.specs.Order.{nth}
 use Rattle.edits.specs.Sites.{shiftedStarts}

@@ -5,7 +5,6 @@ use mathlib.Core.List.{[], _∷_}
 use Prim.Native.Nat.{ℕ}
 use borrow.Author.Tests.{eq-eqb, ne-eqb}
 use Rattle.values.specs.Table.{attribute}
-use Rattle.format.specs.declared.Record.{Record}
 use Rattle.format.specs.Tree.{kindOf}
 use Rattle.format.specs.Calls.{Lists, row}
 use Rattle.format.specs.Lent.{six}

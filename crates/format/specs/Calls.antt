@@ -7,7 +7,6 @@ use mathlib.Core.List.{List, [], _∷_, _++_}
 use Prim.Native.Nat.{ℕ, suc, _+_, min}
 use lib.Dec.{leb, ltb}
 use lib.ListN.{length, take, drop, getD, set}
-use lib.Seq.{sets}
 use Rattle.octets.specs.declared.counts.Octets.{Octets as OctetCount}
 use Rattle.octets.specs.Counts.{asOctets, sizeOf, octetsWithin}
 use Rattle.format.specs.declared.Record.{Record}

@@ -18,7 +18,7 @@ use Rattle.format.specs.declared.ReadAnswer.the-variants.{Records, NotRead}
 use Rattle.format.specs.Answers.{refusal}
 use Rattle.format.specs.Tree.{Items}
 use Rattle.format.specs.Tree.Items.{item}
-use Rattle.format.specs.Judge.{Judged, Context, ofTop, rule, kindRules, itemRules, own, lateBefore, lateAfter, broken, within, next, unless, byKind, items, read, outermost, judge}
+use Rattle.format.specs.Judge.{Judged, ofTop, rule, kindRules, itemRules, own, lateBefore, lateAfter, broken, within, next, unless, byKind, items, read, outermost, judge}
 use Rattle.format.specs.Judge.Judged.{refused, accepted}
 use Rattle.format.specs.Calls.{judgeAnswer}
 use Rattle.format.proofs.Rules.{unless-accepted}

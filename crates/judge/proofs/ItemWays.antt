@@ -29,7 +29,7 @@ use Rattle.values.specs.Calls.{asKnown, knownKind}
 use Rattle.values.specs.declared.KnownKind.{KnownKind}
 use Rattle.values.specs.declared.KnownKind.the-variants.{Unknown, Known}
 use Rattle.tags.specs.Rules.{withinDepth, hasBit, Seen}
-use Rattle.tags.proofs.Arms.{never, Untexted, not-text}
+use Rattle.tags.proofs.Arms.{never}
 use Rattle.tags.proofs.Masks.{twice-is}
 use Rattle.tags.proofs.TagTests.{capped-shown}
 use Rattle.judge.specs.Says.{ctx, bare, InForce, depthOf, asKind, checked, sorted, ItemSays}

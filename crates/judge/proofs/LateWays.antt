@@ -22,15 +22,12 @@ use Rattle.format.specs.Answers.{refusal}
 use Rattle.format.specs.Judge.{isText, rule, first, late, waits}
 use Rattle.format.proofs.Rules.{first-one}
 use Rattle.octets.specs.Calls.{headerOf}
-use Rattle.values.specs.Calls.{knownKind}
 use Rattle.octets.specs.declared.Header.{Header}
 use Rattle.octets.specs.declared.Header.the-variants.{Past, Found}
-use Rattle.values.specs.declared.KnownKind.{KnownKind}
-use Rattle.judge.specs.Says.{asKind, checked, Framed, Waits, WaitsWhen, LateSays}
+use Rattle.judge.specs.Says.{checked, Framed, Waits, WaitsWhen, LateSays}
 use Rattle.judge.specs.Says.Waits.{done, more}
 use Rattle.judge.specs.declared.Check.{Check}
 use Rattle.judge.specs.declared.Check.the-variants.{Kept, Broken}
-use Rattle.judge.proofs.ItemWays.{kind-known}
 use Rattle.judge.proofs.OwnWays.{framed}
 
 -- one attribute

@@ -11,7 +11,7 @@ use lib.ListN.{length, getD, take, drop, length-take, length-drop, drop-of-lengt
 use lib.Seq.{drop-drop}
 use mir.Syntax.{w64}
 use mir.Val.{Fits}
-use borrow.Author.Tests.{eq-eqb, leb-true, le-leb, lt-leb}
+use borrow.Author.Tests.{eq-eqb, leb-true}
 use Rattle.octets.specs.Header.{headerSize, bodySize}
 use Rattle.text.specs.Tokens.{entries}
 use Rattle.values.specs.declared.Kind.{Kind}
@@ -22,13 +22,11 @@ use Rattle.format.specs.declared.Refusal.{Refusal}
 use Rattle.format.specs.declared.Counts.{Counts}
 use Rattle.format.specs.declared.ReadAnswer.{ReadAnswer}
 use Rattle.format.specs.declared.ReadAnswer.the-variants.{Records, NotRead}
-use Rattle.format.specs.Answers.{refusal}
 use Rattle.format.specs.Tree.{count}
 use Rattle.format.specs.Tree.Items.{end, item}
-use Rattle.format.specs.Calls.{judgeAnswer}
-use Rattle.format.specs.Judge.{Judged, Context, isTop, isItems, isKnown, ofTop, latest, stageAfter, rule, waits, unless, byKind, followed, joined, within, next, read, outermost, judge}
+use Rattle.format.specs.Judge.{Judged, Context, isTop, isItems, isKnown, ofTop, latest, stageAfter, waits, unless, byKind, followed, joined, within, next, read}
 use Rattle.format.specs.Judge.Judged.{refused, accepted}
-use Rattle.format.proofs.Fuel.{read-end, read-item, judge-read}
+use Rattle.format.proofs.Fuel.{read-end, read-item}
 use Rattle.format.proofs.Rules.{Held, held}
 use Rattle.format.proofs.Means.{items-known}
 use Rattle.format.proofs.Force.{attribute-latest}
@@ -43,7 +41,7 @@ use Rattle.judge.specs.declared.Item.{Item}
 use Rattle.judge.specs.declared.Item.the-variants.{Bad, Good}
 use Rattle.judge.proofs.OwnWays.{start-two}
 use Rattle.judge.proofs.LateWays.{waits-from, tag-at, body-at}
-use Rattle.judge.proofs.AllWays.{sort-four, no-entries}
+use Rattle.judge.proofs.AllWays.{sort-four}
 
 one-waits : (parent base : ℕ) (part : List ℕ) (stop : ℕ) (start size : ℕ) → 2 ≤ start → Framed (drop stop part) start size → stop + start + size ≤ length part
     → Waits parent base part (stop + start + size) stop ([] ++ waits (known parent (getD (drop stop part) 0 0)) [] (base + stop) (take size (drop start (drop stop part))))

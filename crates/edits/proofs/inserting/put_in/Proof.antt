@@ -1,5 +1,4 @@
 use mathlib.Core.Path.{_∙_}
-use native.Mathlib.Omega.{arith}
 use Rattle.edits.proofs.InsertWays.{put-lays, put-leaves}
 use borrow.Author.Needs.{needs}
 use Rattle.edits.proofs.inserting.put_in.Statement.{statement}
