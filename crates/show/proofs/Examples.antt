@@ -92,6 +92,10 @@ nowhere-words : refusalWords 0 18 ≡ ascii "there is no such record or place, t
 unfolding refusalWords reasons ascii
 nowhere-words = refl
 
+profile-words : refusalWords 0 19 ≡ ascii "an item is not in the Basic profile of this data type"
+unfolding refusalWords reasons ascii
+profile-words = refl
+
 hours-words : refusalWords 3 9 ≡ ascii "hours of a time out of range"
 unfolding refusalWords reasons fieldReasons fieldReason ascii
 hours-words = refl

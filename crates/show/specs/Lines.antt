@@ -60,7 +60,7 @@ fieldReasons =
 unfoldable pub fieldReason : ℕ → String
 fieldReason field = getD fieldReasons field "no such field"
 
--- why an object, a request or a list of records is refused, by the refusal's number (document 01, Refusal numbers; 17: request 2026-02; 18: 2026-06); of 9 the field says more
+-- why an object, a request or a list of records is refused, by the refusal's number (document 01, Refusal numbers; 17: request 2026-02; 18: 2026-06; 19: 2026-07); of 9 the field says more
 unfoldable pub reasons : ℕ → List String
 reasons field =
     "nothing is refused"
@@ -82,6 +82,7 @@ reasons field =
     ∷ "the records are not a well-formed tree, or would not be after the edit"
     ∷ "an item holds plain octets, which have no XML"
     ∷ "there is no such record or place, the record is of the wrong kind, or it is the top, which stays"
+    ∷ "an item is not in the Basic profile of this data type"
     ∷ []
 
 unfoldable pub refusalWords : (field number : ℕ) → List ℕ

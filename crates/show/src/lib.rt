@@ -365,6 +365,11 @@ pub fn put_refusal_words(out: &mut [u8], at: usize, number: u8, field: u8) -> Pu
             at,
             b"there is no such record or place, the record is of the wrong kind, or it is the top, which stays",
         ),
+        19 => put_bytes(
+            out,
+            at,
+            b"an item is not in the Basic profile of this data type",
+        ),
         _ => put_bytes(out, at, b"no such refusal"),
     }
 }

@@ -123,6 +123,12 @@ slice-aggregate-put-bytes-19 c = search needs
 put-bytes-requires-19 : tie.Need-put-bytes-requires-19
 put-bytes-requires-19 c κs = search needs
 
+slice-aggregate-put-bytes-20 : tie.Need-slice-aggregate-put-bytes-20
+slice-aggregate-put-bytes-20 c = search needs
+
+put-bytes-requires-20 : tie.Need-put-bytes-requires-20
+put-bytes-requires-20 c κs = search needs
+
 same-length : tie.Need-same-length
 same-length c = search needs
 
@@ -261,7 +267,14 @@ same-length-20 c = search needs
 
 returns-20 : tie.Need-returns-20
 unfolding ascii reasons refusalWords
-returns-20 c = puts-same _ _ (words-other _ _ (above _ (above _ (above _ (above _ (above _ (above _ (above _ (above _ (above _ (above _ (above _ (above _ (above _ (above _ (above _ (above _ (above _ (above _ (above _ zero-le (c .before .before .before .before .before .match .rest .0 .0 .0 .0 .0 .0 .0 .0 .0 .0 .0 .0 .0 .0 .0 .0 .0 .0 .1)) (c .before .before .before .before .before .match .rest .0 .0 .0 .0 .0 .0 .0 .0 .0 .0 .0 .0 .0 .0 .0 .0 .0 .1)) (c .before .before .before .before .before .match .rest .0 .0 .0 .0 .0 .0 .0 .0 .0 .0 .0 .0 .0 .0 .0 .0 .1)) (c .before .before .before .before .before .match .rest .0 .0 .0 .0 .0 .0 .0 .0 .0 .0 .0 .0 .0 .0 .0 .1)) (c .before .before .before .before .before .match .rest .0 .0 .0 .0 .0 .0 .0 .0 .0 .0 .0 .0 .0 .0 .1)) (c .before .before .before .before .before .match .rest .0 .0 .0 .0 .0 .0 .0 .0 .0 .0 .0 .0 .0 .1)) (c .before .before .before .before .before .match .rest .0 .0 .0 .0 .0 .0 .0 .0 .0 .0 .0 .0 .1)) (c .before .before .before .before .before .match .rest .0 .0 .0 .0 .0 .0 .0 .0 .0 .0 .0 .1)) (c .before .before .before .before .before .match .rest .0 .0 .0 .0 .0 .0 .0 .0 .0 .0 .1)) (c .before .before .before .before .before .match .rest .0 .0 .0 .0 .0 .0 .0 .0 .0 .1)) (c .before .before .before .before .before .match .rest .0 .0 .0 .0 .0 .0 .0 .0 .1)) (c .before .before .before .before .before .match .rest .0 .0 .0 .0 .0 .0 .0 .1)) (c .before .before .before .before .before .match .rest .0 .0 .0 .0 .0 .0 .1)) (c .before .before .before .before .before .match .rest .0 .0 .0 .0 .0 .1)) (c .before .before .before .before .before .match .rest .0 .0 .0 .0 .1)) (c .before .before .before .before .before .match .rest .0 .0 .0 .1)) (c .before .before .before .before .before .match .rest .0 .0 .1)) (c .before .before .before .before .before .match .rest .0 .1)) (c .before .before .before .before .before .match .rest .1))) _ _ _ _ (c .before .before .put-bytes19 .ensures)
+returns-20 c = words-same (refusalWords _) _ 19 (c .before .before .before .before .before .match .keys20) _ _ _ _ (c .before .before .put-bytes19 .ensures)
+
+same-length-21 : tie.Need-same-length-21
+same-length-21 c = search needs
+
+returns-21 : tie.Need-returns-21
+unfolding ascii reasons refusalWords
+returns-21 c = puts-same _ _ (words-other _ _ (above _ (above _ (above _ (above _ (above _ (above _ (above _ (above _ (above _ (above _ (above _ (above _ (above _ (above _ (above _ (above _ (above _ (above _ (above _ (above _ zero-le (c .before .before .before .before .before .match .rest .0 .0 .0 .0 .0 .0 .0 .0 .0 .0 .0 .0 .0 .0 .0 .0 .0 .0 .0 .1)) (c .before .before .before .before .before .match .rest .0 .0 .0 .0 .0 .0 .0 .0 .0 .0 .0 .0 .0 .0 .0 .0 .0 .0 .1)) (c .before .before .before .before .before .match .rest .0 .0 .0 .0 .0 .0 .0 .0 .0 .0 .0 .0 .0 .0 .0 .0 .0 .1)) (c .before .before .before .before .before .match .rest .0 .0 .0 .0 .0 .0 .0 .0 .0 .0 .0 .0 .0 .0 .0 .0 .1)) (c .before .before .before .before .before .match .rest .0 .0 .0 .0 .0 .0 .0 .0 .0 .0 .0 .0 .0 .0 .0 .1)) (c .before .before .before .before .before .match .rest .0 .0 .0 .0 .0 .0 .0 .0 .0 .0 .0 .0 .0 .0 .1)) (c .before .before .before .before .before .match .rest .0 .0 .0 .0 .0 .0 .0 .0 .0 .0 .0 .0 .0 .1)) (c .before .before .before .before .before .match .rest .0 .0 .0 .0 .0 .0 .0 .0 .0 .0 .0 .0 .1)) (c .before .before .before .before .before .match .rest .0 .0 .0 .0 .0 .0 .0 .0 .0 .0 .0 .1)) (c .before .before .before .before .before .match .rest .0 .0 .0 .0 .0 .0 .0 .0 .0 .0 .1)) (c .before .before .before .before .before .match .rest .0 .0 .0 .0 .0 .0 .0 .0 .0 .1)) (c .before .before .before .before .before .match .rest .0 .0 .0 .0 .0 .0 .0 .0 .1)) (c .before .before .before .before .before .match .rest .0 .0 .0 .0 .0 .0 .0 .1)) (c .before .before .before .before .before .match .rest .0 .0 .0 .0 .0 .0 .1)) (c .before .before .before .before .before .match .rest .0 .0 .0 .0 .0 .1)) (c .before .before .before .before .before .match .rest .0 .0 .0 .0 .1)) (c .before .before .before .before .before .match .rest .0 .0 .0 .1)) (c .before .before .before .before .before .match .rest .0 .0 .1)) (c .before .before .before .before .before .match .rest .0 .1)) (c .before .before .before .before .before .match .rest .1))) _ _ _ _ (c .before .before .put-bytes20 .ensures)
 
 pub put-refusal-words-spec : {M : Type 1} → statement M
 put-refusal-words-spec =
@@ -306,6 +319,8 @@ put-refusal-words-spec =
     put-bytes-requires-18
     slice-aggregate-put-bytes-19
     put-bytes-requires-19
+    slice-aggregate-put-bytes-20
+    put-bytes-requires-20
     same-length
     returns
     same-length-2
@@ -345,4 +360,6 @@ put-refusal-words-spec =
     same-length-19
     returns-19
     same-length-20
-    returns-20)
+    returns-20
+    same-length-21
+    returns-21)
