@@ -16,9 +16,8 @@ use Rattle.values.proofs.Known.{high-attribute}
 use Rattle.format.specs.Tree.{Items}
 use Rattle.format.specs.Tree.Items.{end, item}
 use Rattle.format.specs.Meaning.{opens, attributesIn, rising}
-use Rattle.format.specs.Writer.{below, past, bodyIn, here, ruled}
+use Rattle.format.specs.Writer.{bodyIn, here}
 use Rattle.format.specs.Calls.{Lists, row}
-use Rattle.format.proofs.Kept.{ruled-parts}
 use Rattle.format.proofs.Means.{attribute-shut}
 use Rattle.format.proofs.Walk.{here-end, here-not, here-is}
 use Rattle.writer.specs.declared.emit.Lowest.{Lowest}
@@ -26,15 +25,14 @@ use Rattle.writer.specs.declared.emit.Role.{Role}
 use Rattle.writer.specs.declared.emit.Role.the-variants.{Gone, Element, Attribute, Other}
 use Rattle.writer.specs.declared.emit.Reached.{Reached}
 use Rattle.survey.specs.Normal.{itemOctets, attributeOctets, laterOctets}
-use Rattle.writer.specs.Steps.{fourOf, itemsFrom, Holding, roleOf, bodyAt, BodyAt, Fitting, Ordered, Stands, FindsLowest, bodyOctets, elementOctets, between, Framable, SizesStand, Emits, Standing, AsLaid}
+use Rattle.writer.specs.Steps.{fourOf, itemsFrom, Holding, roleOf, bodyAt, BodyAt, Fitting, Ordered, Stands, FindsLowest, bodyOctets, elementOctets, SizesStand, Emits, Standing, AsLaid}
 use Rattle.survey.proofs.Rising.{rising-seven, rising-skip}
 use Rattle.writer.proofs.Copied.{laid-inside, laid-own, laid-after, laid-found}
 use Rattle.writer.proofs.Finding.{found-octets, none-between, found-body}
 use Rattle.survey.proofs.Sizes.{opens-no-attribute}
 use Rattle.writer.proofs.Lays.{fitting-left, fitting-right}
-use Rattle.writer.proofs.Framing.{first-fits, second-fits, framable, frame-laid}
 use Rattle.writer.proofs.Heading.{head-small, head-fits, one-fits, other-fits as other-fits-behind, headed-laid}
-use Rattle.writer.proofs.Rows.{from-stop, from-single, from-nested, from-ahead, from-within}
+use Rattle.writer.proofs.Rows.{from-stop, from-single, from-nested, from-ahead, from-within, ordered-inside, ordered-behind}
 
 -- the roles of a record, by the code's tests
 module _ (depth own tag : ℕ) where
@@ -243,12 +241,9 @@ module _ (stored : Bool) (l : Lists) (n : ℕ) (lent : List ℕ) (p depth at to 
     -- the items behind an item keep the rules, and so do those inside it
     ordered-parts : (y z : Items) → itemsFrom l n lent depth i .0 ≡ item (row l i .tag) (row l i .start) (bodyIn lent (row l i)) y z
         → Ordered (row l i .tag) y × Ordered p z
-    unfolding below past
     ordered-parts y z e =
-        let o = inv .ordered in
-        let r : ruled (o .spot) (item (row l i .tag) (row l i .start) (bodyIn lent (row l i)) y z) ≡ true = rw e at (o .rules) in
-        let u = ruled-parts (o .spot) (row l i .tag) (row l i .start) (bodyIn lent (row l i)) y z r in
-        (record { spot = below (o .spot) (row l i .tag); element = refl; rules = u .within }, record { spot = past (o .spot) (row l i .tag); element = o .element; rules = u .beside })
+        let o = subst (Ordered p) e (inv .ordered) in
+        (ordered-inside p (row l i .tag) (row l i .start) (bodyIn lent (row l i)) y z o, ordered-behind p (row l i .tag) (row l i .start) (bodyIn lent (row l i)) y z o)
 
     -- and they are to be written as they stand where these are
     parts-stand : (y z : Items) → itemsFrom l n lent depth i .0 ≡ item (row l i .tag) (row l i .start) (bodyIn lent (row l i)) y z → stored ≡ true
@@ -343,38 +338,6 @@ module _ (stored : Bool) (l : Lists) (n : ℕ) (lent : List ℕ) (p depth at to 
 
       abbrev held : Items
       held = itemsFrom l n lent (depth + 1) (i + 1) .0
-
-      -- its attributes and its other items are written behind two places, then its header
-      module _ (f : Fitting (later l n lent p depth at) to (length before)) where
-        framed-fits : Fitting (framed m (attributeOctets m held ++ laterOctets m held)) stop (length room)
-        unfolding elementOctets
-        framed-fits = element-fits f
-
-        pub attributes-fit : Fitting (attributeOctets m held) (stop + 2) (length room)
-        attributes-fit = first-fits m stop (attributeOctets m held) (laterOctets m held) room framed-fits
-
-        module _ (mid : List ℕ) (from : ℕ) (h : Lays (attributeOctets m held) (stop + 2) room mid from) where
-          pub inner-fits : Fitting (laterOctets m held) from (length mid)
-          inner-fits = second-fits m stop (attributeOctets m held) (laterOctets m held) room framed-fits mid from h
-
-          module _ (after : List ℕ) (r : Reached) (g : Emits (itemsFrom l n lent (depth + 1) (i + 1)) m from mid after r) where
-            pub element-framable : Framable m stop (r .end) after
-            element-framable = framable m stop (attributeOctets m held) (laterOctets m held) room framed-fits mid from h after (r .end) (g .lays)
-
-            pub element-less : n - r .next < n - i
-            element-less = let e = g .next in omega (arith, from-ahead l n lent (depth + 1) (i + 1))
-
-            pub element-next : (last : List ℕ) (next : ℕ) → Lays (framed m (between (stop + 2) (r .end) after)) stop after last next
-                → Written stored l n lent p depth at to before last (r .next) next
-            unfolding elementOctets
-            element-next last next k =
-                let all : Lays (elementOctets m held) stop room last next =
-                frame-laid m stop (attributeOctets m held) (laterOctets m held) room framed-fits mid from h after (r .end) (g .lays) last next k in
-                rw (g .next)
-                (own-next (elementOctets m held) (itemsFrom l n lent (depth + 1) (i + 1) .1) element-first
-                (ordered-parts held (itemsFrom l n lent depth (itemsFrom l n lent (depth + 1) (i + 1) .1) .0) (ap (λ y. y .0) nested) .1)
-                (after-stand held (itemsFrom l n lent depth (itemsFrom l n lent (depth + 1) (i + 1) .1) .0) (ap (λ y. y .0) nested))
-                (ap (λ y. y .1) nested) (omega (arith, from-ahead l n lent (depth + 1) (i + 1))) (from-within l n lent (depth + 1) (i + 1) (omega arith)) last next all)
 
       -- its header is written first, where the size of its body stands in a list
       module _ (bodies : List ℕ) (z : SizesStand n l lent bodies) (f : Fitting (later l n lent p depth at) to (length before)) where

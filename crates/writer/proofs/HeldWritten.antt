@@ -21,7 +21,7 @@ use Rattle.format.specs.Tree.Items.{end, item}
 use Rattle.format.specs.Judge.{isItems}
 use Rattle.format.specs.Meaning.{opens, means, encode}
 use Rattle.format.specs.Writer.{past, atTop, ruled}
-use Rattle.format.specs.Calls.{row, roomy, writeAnswer, writeOctets, WriteClaim}
+use Rattle.format.specs.Calls.{row, roomy, writeAnswer, writeOctets}
 use Rattle.format.specs.State.{Memory, packed, bodySizes, treeHeld}
 use Rattle.format.proofs.Kept.{Ruled, ruled-parts, keeps-parts}
 use Rattle.format.proofs.Fine.{placed-parts}
@@ -42,8 +42,8 @@ use Rattle.writer.specs.declared.emit.Reached.{Reached}
 use Rattle.writer.specs.Steps.{itemsFrom, Holding, Ordered, Fitting, AsLaid, SizesStand, Emits}
 use Rattle.writer.proofs.Copied.{loaded-laid}
 use Rattle.writer.proofs.Rows.{fourIn}
-use Rattle.writer.proofs.Whole.{too-many, tree-holding, tree-items, tree-ordered, tree-fits, tree-written}
-use Rattle.writer.proofs.HeldSizes.{held-stand}
+use Rattle.writer.proofs.Whole.{Gives, not-roomy, too-many, tree-holding, tree-items, tree-ordered, tree-fits, tree-written}
+use Rattle.writer.proofs.StandingSizes.{sizes-stand}
 
 -- ---- the top's size
 top-opens : (tag : ℕ) (body : List ℕ) (x y : Items) → Ruled atTop tag body x y → opens tag ≡ true
@@ -92,11 +92,11 @@ module _ (n : ℕ) (m : Memory) (r : Filled) (e : r ≡ heldAs (treeHeld n m)) w
     is : Held n m t
     is = held n m t (tree .1)
 
-    -- what is claimed of records that are given is claimed of what is held
-    as-held : (room after : List ℕ) (a : WriteAnswer) → WriteClaim n (m .lists) (m .store) room after a → WriteStateClaim n m room after a
-    as-held room after a c =
-        let z = is .given ∙ sym (tree .1) in
-        record { answers = c .answers ∙ ap (writeAnswer (sizeOf room)) z; leaves = c .leaves ∙ ap (λ o. sets room 0 (writeOctets (sizeOf room) o)) z }
+    -- what is claimed of a tree is claimed of the memory that holds it
+    as-held : (room after : List ℕ) (a : WriteAnswer) → Gives (some t) room after a → WriteStateClaim n m room after a
+    as-held room after a g =
+        let e = sym (tree .1) in
+        record { answers = g .answers ∙ ap (writeAnswer (sizeOf room)) e; leaves = g .leaves ∙ ap (λ o. sets room 0 (writeOctets (sizeOf room) o)) e }
 
     pub size-is : framedSize (getD (m .bodies) 0 0) ≡ length (encode (means [] t))
     size-is = let w = is .whole in top-size t (w .rules) (omega (arith, w .some, whole-count (row (m .lists)) n (m .store) t w)) (m .bodies) n (is .sizes)
@@ -106,7 +106,8 @@ module _ (n : ℕ) (m : Memory) (r : Filled) (e : r ≡ heldAs (treeHeld n m)) w
 
     pub state-more : (room : List ℕ) → length room < framedSize (getD (m .bodies) 0 0) → (a : WriteAnswer) → a ≡ NotWritten (refusal 15 0) → WriteStateClaim n m room room a
     state-more room h a ae =
-        rw ae (as-held room room (NotWritten (refusal 15 0)) (too-many n (m .lists) (m .store) t (is .given) room (omega (arith, size-is, min-le-left (length room) 32_768))))
+        let f = not-roomy n (m .lists) (m .store) t (is .given) room (omega (arith, size-is, min-le-left (length room) 32_768)) in
+        rw ae (as-held room room (NotWritten (refusal 15 0)) (too-many n (m .lists) (m .store) t (is .given) room f))
 
     module _ (room : List ℕ) (h : framedSize (getD (m .bodies) 0 0) ≤ length room) where
       fit : roomy (sizeOf room) (encode (means [] t)) ≡ true
@@ -126,7 +127,7 @@ module _ (n : ℕ) (m : Memory) (r : Filled) (e : r ≡ heldAs (treeHeld n m)) w
           subst (AsLaid 0) (is .packs ∙ sym (tree-items n (m .lists) (m .store) t (is .given))) (loaded-laid [] sound-empty t atTop told 0)
 
       pub state-sizes : SizesStand n (fourIn (m .lists)) (m .store) (m .bodies)
-      state-sizes = held-stand n m t is
+      state-sizes = sizes-stand n (m .lists) (m .store) t (is .given) (m .bodies) (is .fewer) (is .sizes)
 
       pub state-fits : Fitting (laterOctets 0 (itemsFrom (fourIn (m .lists)) n (m .store) 1 0 .0)) 0 (length room)
       state-fits = tree-fits n (m .lists) (m .store) t (is .given) room fit

@@ -1,17 +1,17 @@
--- An item that holds no items: how long its octets can be, and what is measured and written of it.
+-- An item that holds no items: how long its octets can be, and what is written of it.
 use mathlib.Core.Path.{_≡_, refl, sym, ap}
 use mathlib.Core.Bool.{Bool, true, false, cond}
-use mathlib.Core.Option.{Option, none, some}
 use mathlib.Core.List.{List, [], _∷_, _++_}
 use Prim.Native.Nat.{ℕ, _+_, _^_, _≤_, _<_}
 use native.Mathlib.Omega.{arith}
+use mir.Syntax.{w16}
+use mir.Val.{Fits}
 use lib.Dec.{ltb}
 use lib.ListN.{length, length-append}
 use borrow.Author.Tests.{lt-ltb}
 use Rattle.octets.specs.Header.{lengthField, framed}
 use Rattle.octets.specs.declared.Put.{Put}
 use Rattle.octets.specs.Puts.{Puts, Lays}
-use Rattle.octets.proofs.Answers.{size-five}
 use Rattle.octets.proofs.Puts.{put-done, put-no-room, put-invalid, put-room, put-there, put-laid}
 use Rattle.octets.proofs.Left.{lays-none, lays-append}
 use Rattle.values.specs.declared.Kind.{Kind}
@@ -19,20 +19,13 @@ use Rattle.values.specs.declared.Kind.the-variants.{HoldsPlain}
 use Rattle.values.specs.declared.KnownKind.{KnownKind}
 use Rattle.values.specs.declared.KnownKind.the-variants.{Unknown, Known}
 use Rattle.values.specs.Values.{fits, meant, octetsOf}
-use Rattle.values.specs.Calls.{asKnown, knownKind, normalOctets}
-use Rattle.values.proofs.Laws.{known-kind, unknown-kind, normal-shorter}
-use Rattle.format.specs.Judge.{isItems}
-use Rattle.format.specs.Meaning.{opens, maybe}
-use Rattle.survey.specs.Normal.{framedSize, valueOctets, writtenAs, itemOctets}
+use Rattle.values.specs.Calls.{asKnown, normalOctets}
+use Rattle.values.proofs.Laws.{normal-shorter}
+use Rattle.survey.specs.Normal.{valueOctets, writtenAs, itemOctets}
 use Rattle.writer.specs.Steps.{Fitting, Standing}
-use Rattle.survey.proofs.Ways.{framed-length, value-fits}
+use Rattle.survey.proofs.Ways.{value-fits}
 use Rattle.survey.proofs.WrittenAs.{written-kind, written-octets, unwritten-octets}
 use Rattle.writer.proofs.Lays.{fitting-left, fitting-right}
-
--- an item is at most five octets longer than its body
-pub framed-short : (n : ℕ) → framedSize n ≤ n + 5
-unfolding framedSize
-framed-short n = omega (arith, size-five n)
 
 -- a value's normal octets are no more than its octets
 pub value-short : (k : Kind) (body : List ℕ) → length (valueOctets k body) ≤ length body
@@ -42,19 +35,6 @@ value-short k body = go (fits k body) refl
     go : (b : Bool) → fits k body ≡ b → length (cond b (octetsOf (meant [] k body)) []) ≤ length body
     go true e = normal-shorter k body e
     go false e = omega arith
-
--- whether a kind holds items, by its variant
-pub holder-is : (k l : Kind) → k ≡ l → (b : Bool) → b ≡ isItems (some l) → b ≡ isItems (some k)
-holder-is k l e b h = rw e h
-
-module _ (tag : ℕ) (r : KnownKind) (e : r ≡ knownKind 0 tag) where
-  pub opens-unknown : r ≡ Unknown → false ≡ opens tag
-  unfolding opens isItems
-  opens-unknown q = rw (unknown-kind 0 tag r e q)
-
-  pub opens-known : (k : Kind) → r ≡ Known k → (b : Bool) → b ≡ isItems (some k) → b ≡ opens tag
-  unfolding opens
-  opens-known k q b h = rw (known-kind 0 tag r e k q) h
 
 -- a header written where it has room
 module _ (tag n to : ℕ) (before after : List ℕ) (answer : Put) (f : (n ≤ 32_768) × Fitting (tag ∷ lengthField n) to (length before))
@@ -94,7 +74,7 @@ module _ (k : Kind) (body : List ℕ) (to : ℕ) (before after : List ℕ) (answ
 
 -- an item that is written as a value of a kind
 module _ (tag : ℕ) (k : Kind) (body : List ℕ) (n : ℕ) (e : n ≡ length (valueOctets k body)) where
-  pub value-bound : length body < 65536 → n < 131072
+  pub value-bound : length body < 65536 → Fits w16 n
   value-bound l = omega (arith, value-short k body)
 
   value-parts : framed tag (valueOctets k body) ≡ (tag ∷ lengthField n) ++ valueOctets k body
@@ -137,15 +117,6 @@ module _ (p tag to : ℕ) (body room : List ℕ) (r : KnownKind) (e : r ≡ asKn
 
       pub standing-laid : (after : List ℕ) (end : ℕ) → Lays (framed tag body) to room after end → Lays (itemOctets p tag body) to room after end
       standing-laid after end h = rw (stands (written-kind p tag body r e k q .counts)) h
-
-module _ (p tag : ℕ) (body : List ℕ) where
-  pub item-short : length (itemOctets p tag body) ≤ length body + 5
-  unfolding itemOctets maybe
-  item-short = go (writtenAs p tag body)
-    where
-      go : (o : Option Kind) → length (maybe (λ k. framed tag (valueOctets k body)) o) ≤ length body + 5
-      go none = omega arith
-      go (some k) = omega (arith, framed-length tag (valueOctets k body), framed-short (length (valueOctets k body)), value-short k body)
 
 -- an item whose body is written as it stands
 module _ (tag to : ℕ) (body room : List ℕ) (f : Fitting (framed tag body) to (length room)) where

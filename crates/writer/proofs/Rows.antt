@@ -1,17 +1,21 @@
--- Records by number in the lists that measuring and writing read: whether one is here, and the items from it on.
+-- Records by number in the lists that measuring and writing read: whether one is here, the items from it on, how many they are, and the rules that they keep.
 use mathlib.Core.Path.{_≡_, refl, ap, _∙_, fun-ext}
 use mathlib.Core.Bool.{Bool, true, false, cond}
 use mathlib.Core.List.{List}
-use Prim.Native.Nat.{ℕ, zero, suc, _+_, _≤_, _<_}
+use Prim.Native.Nat.{ℕ, zero, suc, _+_, _-_, _≤_, _<_}
 use native.Mathlib.Omega.{arith}
 use native.Mathlib.Numerals.{add-one}
+use lib.ListN.{length, length-append}
 use Rattle.format.specs.Tree.{Items}
 use Rattle.format.specs.Tree.Items.{end, item}
 use Rattle.format.specs.Meaning.{opens}
-use Rattle.format.specs.Writer.{bodyIn, here, tree}
+use Rattle.format.specs.Writer.{below, past, bodyIn, here, tree}
 use Rattle.format.specs.Calls.{Lists, row}
+use Rattle.format.specs.State.{bodySizes}
+use Rattle.format.proofs.Kept.{Ruled, ruled-parts}
+use Rattle.format.proofs.Walk.{here-less}
 use Rattle.format.proofs.Trees.{tree-stop, tree-single, tree-nested, tree-ahead, tree-within}
-use Rattle.writer.specs.Steps.{fourOf, itemsFrom, Holding}
+use Rattle.writer.specs.Steps.{fourOf, itemsFrom, Holding, Ordered}
 
 module _ (l : Lists) (n : ℕ) (lent : List ℕ) (d i : ℕ) where
   -- the items from record i on: none, one that holds no items, one that does
@@ -46,6 +50,47 @@ module _ (l : Lists) (n : ℕ) (lent : List ℕ) (d i : ℕ) where
   pub from-within : i ≤ n → itemsFrom l n lent d i .1 ≤ n
   unfolding itemsFrom
   from-within h = tree-within (row l) n lent d i h
+
+-- they have as many records as sizes of bodies
+module _ (l : Lists) (n : ℕ) (lent : List ℕ) where
+  abbrev Many : ℕ → Type 0
+  Many k = (d i p : ℕ) → n - i < k → itemsFrom l n lent d i .1 ≡ i + length (bodySizes p (itemsFrom l n lent d i .0))
+
+  many-below : (k : ℕ) → Many k
+  unfolding bodySizes
+  many-below zero d i p lt = absurd (omega arith)
+  many-below (suc k) d i p lt = go (here (row l) n d i) refl (opens (row l i .tag)) refl (many-below k)
+    where
+      go : (b : Bool) → here (row l) n d i ≡ b → (c : Bool) → opens (row l i .tag) ≡ c → Many k → itemsFrom l n lent d i .1 ≡ i + length (bodySizes p (itemsFrom l n lent d i .0))
+      go false h c o ih = let t = from-stop l n lent d i h in omega (arith, ap (λ z. z .1) t, ap (λ z. length (bodySizes p (z .0))) t)
+      go true h false o ih =
+          let t = from-single l n lent d i h o in
+          omega (arith, ap (λ z. z .1) t, ap (λ z. length (bodySizes p (z .0))) t, ih d (i + 1) p (omega (arith, here-less (row l) n d i h)))
+      go true h true o ih =
+          let x = itemsFrom l n lent (d + 1) (i + 1) .0 in
+          let j = itemsFrom l n lent (d + 1) (i + 1) .1 in
+          let t = from-nested l n lent d i h o x j refl in
+          let less = here-less (row l) n d i h in
+          let inside = ih (d + 1) (i + 1) (row l i .tag) (omega (arith, less)) in
+          let behind = ih d j p (omega (arith, less, from-ahead l n lent (d + 1) (i + 1))) in
+          let both = length-append (bodySizes (row l i .tag) x) (bodySizes p (itemsFrom l n lent d j .0)) in
+          omega (arith, ap (λ z. z .1) t, ap (λ z. length (bodySizes p (z .0))) t, inside, behind, both)
+
+  pub from-many : (d i p : ℕ) → itemsFrom l n lent d i .1 ≡ i + length (bodySizes p (itemsFrom l n lent d i .0))
+  from-many d i p = many-below (suc (n - i)) d i p (omega arith)
+
+-- items keep the rules: so do those inside the first of them, and those behind it
+module _ (p tag at : ℕ) (body : List ℕ) (x y : Items) (o : Ordered p (item tag at body x y)) where
+  pub ordered-first : Ruled (o .spot) tag body x y
+  ordered-first = ruled-parts (o .spot) tag at body x y (o .rules)
+
+  pub ordered-inside : Ordered tag x
+  unfolding below
+  ordered-inside = record { spot = below (o .spot) tag; element = refl; rules = ordered-first .within }
+
+  pub ordered-behind : Ordered p y
+  unfolding past
+  ordered-behind = record { spot = past (o .spot) tag; element = o .element; rules = ordered-first .beside }
 
 -- fewer records have their places too
 pub holding-at : (n i : ℕ) (l : Lists) (lent : List ℕ) → Holding n l lent → i < n → Holding (i + 1) l lent

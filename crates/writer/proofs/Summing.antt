@@ -1,58 +1,69 @@
--- One turn of the loop of `size_items`, by what the record at hand adds.
+-- One turn of the loop of `size_items`, by what the record at hand is.
 use mathlib.Core.Path.{_≡_, refl, sym, ap, _∙_, subst}
-use mathlib.Core.Bool.{Bool, true, false, cond}
-use mathlib.Core.Option.{some}
-use mathlib.Core.List.{List}
-use Prim.Native.Nat.{ℕ, _+_, _-_, _≤_, _<_}
+use mathlib.Core.Bool.{Bool, true, false, cond, false≢true}
+use mathlib.Core.List.{List, [], _∷_, _++_}
+use Prim.Native.Nat.{ℕ, suc, _+_, _-_, _≤_, _<_}
 use native.Mathlib.Omega.{arith}
 use native.Mathlib.Nat.{add-sub-cancel-left}
+use native.Mathlib.Numerals.{add-one}
 use lib.Dec.{eqb, leb}
-use lib.ListN.{length, take, drop, getD, length-take}
+use lib.ListN.{length, take, drop, getD, set, length-take}
+use lib.Seq.{sets, length-sets}
 use borrow.Author.Tests.{lt-leb, le-leb, leb-false, leb-true, eq-eqb, ne-eqb}
 use mir.Syntax.{w16, w64}
 use mir.Val.{Fits}
 use Rattle.octets.specs.declared.counts.Octets.{Octets}
-use Rattle.octets.specs.Counts.{asOctets, sizeOf}
+use Rattle.octets.specs.Counts.{asOctets}
+use Rattle.octets.proofs.Lists.{sets-append, set-sets}
 use Rattle.values.specs.declared.Kind.{Kind}
-use Rattle.values.specs.declared.KnownKind.{KnownKind}
-use Rattle.values.specs.declared.KnownKind.the-variants.{Unknown, Known}
-use Rattle.values.specs.Calls.{asKnown}
+use Rattle.values.specs.Table.{known}
+use Rattle.values.specs.Values.{meant, octetsOf}
+use Rattle.values.specs.Calls.{defaultOctets}
 use Rattle.format.specs.declared.Record.{Record}
-use Rattle.format.specs.Judge.{isItems}
+use Rattle.format.specs.Tree.{Items}
+use Rattle.format.specs.Tree.Items.{end, item}
+use Rattle.format.specs.Judge.{isValue}
 use Rattle.format.specs.Meaning.{opens}
-use Rattle.format.specs.Writer.{bodyIn, here}
+use Rattle.format.specs.Writer.{Spot, bodyIn, here}
+use Rattle.format.specs.Loaded.{stored}
 use Rattle.format.specs.Calls.{Lists, row}
+use Rattle.format.specs.State.{bodySizes}
+use Rattle.format.proofs.Kept.{Kept, keeps-parts}
+use Rattle.format.proofs.Means.{items-opens}
+use Rattle.format.proofs.Walk.{here-end, here-not, here-is}
+use Rattle.tags.specs.declared.Listed.{Listed}
+use Rattle.tags.specs.declared.Listed.the-variants.{Nothing, Inside, Value}
+use Rattle.tags.specs.Listed.{listedAs}
+use Rattle.tags.proofs.Listing.{is-nothing, is-inside, is-value}
+use Rattle.survey.specs.Normal.{framedSize, valueOctets, normalSize}
+use Rattle.survey.proofs.Ways.{value-fits}
+use Rattle.state.proofs.BodySizes.{bodySize, adds, size-item, size-open, size-shut, framed-few}
 use Rattle.writer.specs.declared.size.Part.{Part}
 use Rattle.writer.specs.declared.size.Part.the-variants.{Past, Holds, Single}
 use Rattle.writer.specs.declared.size.Sized.{Sized}
 use Rattle.writer.specs.declared.size.Sized.the-variants.{Over, Size}
-use Rattle.survey.specs.Normal.{framedSize, valueOctets, writtenAs, itemOctets, normalSize}
-use Rattle.survey.proofs.Ways.{framed-length}
-use Rattle.survey.proofs.WrittenAs.{written-kind, written-octets, unwritten-octets, unwritten-opens}
-use Rattle.writer.specs.Steps.{itemsFrom, partOf, partAt, sizedOf, sizedFrom}
-use Rattle.writer.proofs.Items.{item-short, framed-short}
-use Rattle.format.proofs.Means.{items-opens}
-use Rattle.format.proofs.Walk.{here-end, here-not, here-is}
-use Rattle.writer.proofs.Rows.{from-stop, from-single, from-nested, from-ahead, from-within}
+use Rattle.writer.specs.Steps.{itemsFrom, partListed, partOf, partAt, sizedOf, Ordered, Sizes}
+use Rattle.writer.proofs.Items.{value-short}
+use Rattle.writer.proofs.Rows.{from-stop, from-single, from-nested, from-ahead, from-within, from-many, ordered-first, ordered-inside, ordered-behind}
 
--- what a record adds, by whether and as what it is written
-module _ (p tag : ℕ) (body : List ℕ) (r : KnownKind) (e : r ≡ asKnown (writtenAs p tag body)) where
-  pub part-nothing : r ≡ Unknown → Single (asOctets 0) ≡ partOf p tag body
-  unfolding partOf
-  part-nothing q = rw (unwritten-opens p tag body r e q, unwritten-octets p tag body r e q)
+-- what a record is, by what is listed of its item
+module _ (p tag : ℕ) (body : List ℕ) (r : Listed) (e : r ≡ listedAs (known p tag)) where
+  pub part-nothing : r ≡ Nothing → Single 0 (asOctets 0) ≡ partOf p tag body
+  unfolding partOf partListed
+  part-nothing q = rw (sym e ∙ q)
 
-  module _ (k : Kind) (q : r ≡ Known k) (o : Bool) (h : o ≡ isItems (some k)) where
-    holds : opens tag ≡ o
-    holds = sym (items-opens p tag) ∙ (ap isItems (written-kind p tag body r e k q .kind) ∙ sym h)
+  pub part-holds : r ≡ Inside → Holds tag ≡ partOf p tag body
+  unfolding partOf partListed
+  part-holds q = rw (sym e ∙ q)
 
-    pub part-holds : o ≡ true → Holds tag ≡ partOf p tag body
-    unfolding partOf
-    part-holds y = rw (holds ∙ y)
+  module _ (k : Kind) (q : r ≡ Value k) (n : Octets) (ne : n .0 ≡ length (valueOctets k body)) (d : Bool) (de : d ≡ defaultOctets p tag body) where
+    pub part-default : d ≡ true → Single (n .0) (asOctets 0) ≡ partOf p tag body
+    unfolding partOf partListed
+    part-default y = rw (sym e ∙ q, sym de ∙ y, ne)
 
-    pub part-single : o ≡ false → (n : Octets) → n .0 ≡ length (valueOctets k body) → (m : Octets) → m .0 ≡ framedSize (n .0) → Single m ≡ partOf p tag body
-    unfolding partOf
-    part-single y n l m f =
-        rw (holds ∙ y, written-octets p tag body r e k q) (ap (λ size. Single (asOctets size)) (f ∙ (ap framedSize l ∙ sym (framed-length tag (valueOctets k body)))))
+    pub part-value : d ≡ false → (m : Octets) → m .0 ≡ framedSize (n .0) → Single (n .0) m ≡ partOf p tag body
+    unfolding partOf partListed
+    part-value y m f = rw (sym e ∙ q, sym de ∙ y, ← ne) (ap (λ size. Single (n .0) (asOctets size)) f)
 
 module _ (p depth : ℕ) (lent : List ℕ) (l : Lists) (i : ℕ) where
   abbrev part : List ℕ
@@ -69,21 +80,48 @@ module _ (p depth : ℕ) (lent : List ℕ) (l : Lists) (i : ℕ) where
   unfolding partAt bodyIn
   part-here h r q = rw (eq-eqb (getD (l .depths) i 0) depth h) (rw add-sub-cancel-left at q)
 
--- and what such an answer says of the record
+-- and what such an answer says of the record: of one with a size of its own that this is the size of its body in normal form, where it keeps the rules
+module _ (p tag : ℕ) (body : List ℕ) where
+  record Alone (size added : ℕ) : Type 0 where
+    shut : opens tag ≡ false
+    short : added ≤ length body + 5
+    right : (s : Spot) → Kept s tag body (known p tag) → (size ≡ bodySize p tag body end) × (added ≡ adds p tag body size)
+
+  alone-nothing : Nothing ≡ listedAs (known p tag) → Alone 0 0
+  alone-nothing e =
+      let t = is-nothing (known p tag) e in
+      record { shut = sym (items-opens p tag) ∙ t .0; short = omega arith; right = λ s k. absurd (false≢true (sym (k .noTable) ∙ (sym (t .1) ∙ k .isOne))) }
+
+  alone-value : (k : Kind) → Value k ≡ listedAs (known p tag) → Alone (length (valueOctets k body)) (adds p tag body (length (valueOctets k body)))
+  unfolding stored isValue
+  alone-value k e =
+      let t = is-value (known p tag) k e in
+      let o : opens tag ≡ false = sym (items-opens p tag) ∙ t .shut in
+      let own : bodySize p tag body end ≡ length (octetsOf (meant [] k body)) = size-shut p tag body end o ∙ ap (λ q. length (stored [] q body)) (t .is) in
+      record { shut = o; short = few (defaultOctets p tag body); right = λ s h. (ap length (value-fits k body (rw (t .is) at (h .value))) ∙ sym own, refl) }
+    where
+      few : (d : Bool) → cond d 0 (framedSize (length (valueOctets k body))) ≤ length body + 5
+      few true = omega arith
+      few false = omega (arith, framed-few (length (valueOctets k body)), value-short k body)
+
 module _ (p depth : ℕ) (lent : List ℕ) (r : Record) where
   unfoldable Tells : Part → Type 0
   Tells Past = eqb (r .depth) depth ≡ false
   Tells (Holds tag) = (eqb (r .depth) depth ≡ true) × (opens (r .tag) ≡ true) × (tag ≡ r .tag)
-  Tells (Single m) = (eqb (r .depth) depth ≡ true) × (opens (r .tag) ≡ false) × (m .0 ≡ length (itemOctets p (r .tag) (bodyIn lent r)))
+  Tells (Single size added) = (eqb (r .depth) depth ≡ true) × Alone p (r .tag) (bodyIn lent r) size (added .0)
 
   tells : (x : Part) → x ≡ partAt p depth lent r → Tells x
-  unfolding partAt partOf Tells
-  tells x e = subst Tells (sym e) (go (eqb (r .depth) depth) (opens (r .tag)) refl refl)
+  unfolding partAt partOf partListed Tells
+  tells x e = subst Tells (sym e) (go (eqb (r .depth) depth) refl)
     where
-      go : (a b : Bool) → eqb (r .depth) depth ≡ a → opens (r .tag) ≡ b → Tells (cond a (cond b (Holds (r .tag)) (Single (sizeOf (itemOctets p (r .tag) (bodyIn lent r))))) Past)
-      go false b f g = f
-      go true true f g = (f, g, refl)
-      go true false f g = (f, g, refl)
+      listed : eqb (r .depth) depth ≡ true → (g : Listed) → g ≡ listedAs (known p (r .tag)) → Tells (partListed p (r .tag) (bodyIn lent r) g)
+      listed f Nothing h = (f, alone-nothing p (r .tag) (bodyIn lent r) h)
+      listed f Inside h = (f, sym (items-opens p (r .tag)) ∙ is-inside (known p (r .tag)) h .0, refl)
+      listed f (Value k) h = (f, alone-value p (r .tag) (bodyIn lent r) k h)
+
+      go : (a : Bool) → eqb (r .depth) depth ≡ a → Tells (cond a (partOf p (r .tag) (bodyIn lent r)) Past)
+      go false f = f
+      go true f = listed f (listedAs (known p (r .tag))) refl
 
 abbrev sum : Lists → ℕ → List ℕ → (p d i : ℕ) → ℕ
 sum l n lent p d i = normalSize p (itemsFrom l n lent d i .0)
@@ -120,43 +158,81 @@ size-is : (m j t k : ℕ) → m ≡ t → j ≡ k → t ≤ 32_768 → Size (asO
 unfolding sizedOf
 size-is m j t k e f h = rw (e, f, le-leb t 32_768 h)
 
--- the loop's invariant: the size so far with the size from record i on is the size of all, and both end at one record
-pub record Sums (l : Lists) (n : ℕ) (lent : List ℕ) (at depth p i total : ℕ) : Type 0 where
+abbrev own : Lists → ℕ → List ℕ → (p d i : ℕ) → List ℕ
+own l n lent p d i = bodySizes p (itemsFrom l n lent d i .0)
+
+-- an element's size, stored behind those of the items in it
+own-behind : (l : List ℕ) (i size : ℕ) (xs ys : List ℕ) → sets l i (size ∷ (xs ++ ys)) ≡ sets (set (sets l (i + 1) xs) i size) (i + 1 + length xs) ys
+own-behind l i size xs ys =
+    ap (λ j. sets (set l i size) j (xs ++ ys)) (sym (add-one i))
+    ∙ (sym (sets-append (set l i size) (i + 1) xs ys) ∙ ap (λ o. sets o (i + 1 + length xs) ys) (sym (set-sets l (i + 1) xs i size (omega arith))))
+
+-- stores change no length
+stood-length : (before bodies : List ℕ) (at i : ℕ) (xs ys : List ℕ) → sets before at xs ≡ sets bodies i ys → length bodies ≡ length before
+stood-length before bodies at i xs ys e = sym (length-sets bodies i ys) ∙ (ap length (sym e) ∙ length-sets before at xs)
+
+-- the loop's invariant: the size so far with the size from record i on is the size of all, both end at one record, and the sizes of bodies from record i on are those
+-- that have no place in the list yet
+pub record Sums (l : Lists) (n : ℕ) (lent : List ℕ) (at depth p : ℕ) (before bodies : List ℕ) (i total : ℕ) : Type 0 where
   pub low : at ≤ i
   pub high : i ≤ n
   pub small : total ≤ 32_768
+  pub ordered : Ordered p (itemsFrom l n lent depth i .0)
   pub added : sum l n lent p depth at ≡ total + sum l n lent p depth i
   pub same : next l n lent depth at ≡ next l n lent depth i
+  pub stands : sets before at (own l n lent p depth at) ≡ sets bodies i (own l n lent p depth i)
 
 -- one part more, up to record j: with it the size so far is t
-pub record Added (l : Lists) (n : ℕ) (lent : List ℕ) (at depth p i j t : ℕ) : Type 0 where
+pub record Added (l : Lists) (n : ℕ) (lent : List ℕ) (at depth p : ℕ) (before bodies : List ℕ) (i j t : ℕ) : Type 0 where
   pub ahead : i < j
   pub within : j ≤ n
+  pub ordered : Ordered p (itemsFrom l n lent depth j .0)
   pub added : sum l n lent p depth at ≡ t + sum l n lent p depth j
   pub same : next l n lent depth at ≡ next l n lent depth j
+  pub stands : sets before at (own l n lent p depth at) ≡ sets bodies j (own l n lent p depth j)
 
-pub sums-start : (l : Lists) (n : ℕ) (lent : List ℕ) (at depth p : ℕ) → at ≤ n → Sums l n lent at depth p at 0
-sums-start l n lent at depth p h = record { low = omega arith; high = h; small = omega arith; added = omega arith; same = refl }
+pub sums-start : (l : Lists) (n : ℕ) (lent : List ℕ) (at depth p : ℕ) (bodies : List ℕ) → at ≤ n → Ordered p (itemsFrom l n lent depth at .0) → Sums l n lent at depth p bodies bodies at 0
+sums-start l n lent at depth p bodies h o =
+    record { low = omega arith; high = h; small = omega arith; ordered = o; added = omega arith; same = refl; stands = refl }
 
-module _ (l : Lists) (n : ℕ) (lent : List ℕ) (at depth p i total : ℕ) (inv : Sums l n lent at depth p i total) where
-  ended : here (row l) n depth i ≡ false → Size (asOctets total) i ≡ sizedFrom l n lent p depth at
-  unfolding normalSize
+-- a sum that no object may have leaves nothing to say of the list
+sizes-over : (l : Lists) (n : ℕ) (lent : List ℕ) (at depth p : ℕ) (before bodies : List ℕ) → 32_768 < sum l n lent p depth at → Sizes n l lent p depth at before bodies Over
+sizes-over l n lent at depth p before bodies h = record { answers = over-is _ _ h; stands = λ q. absurd (omega (arith, h, q)) }
+
+module _ (l : Lists) (n : ℕ) (lent : List ℕ) (at depth p : ℕ) (before bodies : List ℕ) (i total : ℕ) (inv : Sums l n lent at depth p before bodies i total) where
+  pub sums-length : length bodies ≡ length before
+  sums-length = stood-length before bodies at i (own l n lent p depth at) (own l n lent p depth i) (inv .stands)
+
+  ended : here (row l) n depth i ≡ false → Sizes n l lent p depth at before bodies (Size (asOctets total) i)
+  unfolding normalSize bodySizes
   ended e =
       let t = from-stop l n lent depth i e in
       let z : sum l n lent p depth i ≡ 0 = ap (λ x. normalSize p (x .0)) t in
       let a = inv .added in
-      size-is _ _ total i (omega arith) (inv .same ∙ ap (λ x. x .1) t) (inv .small)
+      record {
+        answers = size-is _ _ total i (omega arith) (inv .same ∙ ap (λ x. x .1) t) (inv .small);
+        stands = λ q. sym (inv .stands ∙ ap (λ x. sets bodies i (bodySizes p (x .0))) t);
+      }
 
-  pub sums-end : n ≤ i → Size (asOctets total) i ≡ sizedFrom l n lent p depth at
+  pub sums-end : n ≤ i → Sizes n l lent p depth at before bodies (Size (asOctets total) i)
   sums-end h = ended (here-end (row l) n depth i h)
 
   module _ (lt : i < n) (x : Part) (xe : x ≡ partAt p depth lent (row l i)) where
-    pub sums-past : x ≡ Past → Size (asOctets total) i ≡ sizedFrom l n lent p depth at
+    abbrev tag-here : ℕ
+    tag-here = row l i .tag
+
+    abbrev body-here : List ℕ
+    body-here = bodyIn lent (row l i)
+
+    pub sums-past : x ≡ Past → Sizes n l lent p depth at before bodies (Size (asOctets total) i)
     unfolding Tells
     sums-past f = ended (here-not (row l) n depth i (subst (Tells p depth lent (row l i)) f (tells p depth lent (row l i) x xe)))
 
-    module _ (m : Octets) (f : x ≡ Single m) where
-      single-says : (eqb (row l i .depth) depth ≡ true) × (opens (row l i .tag) ≡ false) × (m .0 ≡ length (itemOctets p (row l i .tag) (bodyIn lent (row l i))))
+    first-ordered : (y z : Items) → itemsFrom l n lent depth i .0 ≡ item tag-here (row l i .start) body-here y z → Ordered p (item tag-here (row l i .start) body-here y z)
+    first-ordered y z e = subst (Ordered p) e (inv .ordered)
+
+    module _ (size : ℕ) (m : Octets) (f : x ≡ Single size m) where
+      single-says : (eqb (row l i .depth) depth ≡ true) × Alone p tag-here body-here size (m .0)
       unfolding Tells
       single-says = subst (Tells p depth lent (row l i)) f (tells p depth lent (row l i) x xe)
 
@@ -164,68 +240,138 @@ module _ (l : Lists) (n : ℕ) (lent : List ℕ) (at depth p i total : ℕ) (inv
       unfolding bodyIn
       single-fits h =
           let s = inv .small in
-          omega (arith, single-says .2, item-short p (row l i .tag) (bodyIn lent (row l i)), length-take (row l i .size) (drop (row l i .start) lent))
+          omega (arith, single-says .1 .short, length-take (row l i .size) (drop (row l i .start) lent))
 
-      single-turn : (sum l n lent p depth at ≡ total + m .0 + sum l n lent p depth (i + 1)) × (next l n lent depth at ≡ next l n lent depth (i + 1))
+      single : itemsFrom l n lent depth i ≡ (item tag-here (row l i .start) body-here end (itemsFrom l n lent depth (i + 1) .0), itemsFrom l n lent depth (i + 1) .1)
+      single = let t = single-says in from-single l n lent depth i (here-is (row l) n depth i lt (t .0)) (t .1 .shut)
+
+      single-ordered : Ordered p (item tag-here (row l i .start) body-here end (itemsFrom l n lent depth (i + 1) .0))
+      single-ordered = first-ordered end (itemsFrom l n lent depth (i + 1) .0) (ap (λ y. y .0) single)
+
+      single-right : (size ≡ bodySize p tag-here body-here end) × (m .0 ≡ adds p tag-here body-here size)
+      single-right =
+          let o = single-ordered in
+          let u = ordered-first p tag-here (row l i .start) body-here end (itemsFrom l n lent depth (i + 1) .0) o in
+          single-says .1 .right (o .spot) (subst (λ z. Kept (o .spot) tag-here body-here (known z tag-here)) (o .element) (keeps-parts (o .spot) tag-here body-here (u .rules)))
+
+      single-sum : sum l n lent p depth i ≡ m .0 + sum l n lent p depth (i + 1)
+      single-sum =
+          let o = single-ordered in
+          let y = itemsFrom l n lent depth (i + 1) .0 in
+          let r = single-right in
+          let u = size-item (o .spot) tag-here (row l i .start) body-here end y (ordered-first p tag-here (row l i .start) body-here end y o) in
+          let z = subst (λ q. normalSize q (item tag-here (row l i .start) body-here end y) ≡ adds q tag-here body-here (bodySize q tag-here body-here end) + normalSize q y) (o .element) u in
+          ap (λ y. normalSize p (y .0)) single ∙ (z ∙ ap (λ q. q + normalSize p y) (sym (r .1 ∙ ap (adds p tag-here body-here) (r .0))))
+
+      single-stands : sets bodies i (own l n lent p depth i) ≡ sets (set bodies i size) (i + 1) (own l n lent p depth (i + 1))
+      unfolding bodySizes
+      single-stands =
+          ap (λ y. sets bodies i (bodySizes p (y .0))) single
+          ∙ (ap (λ q. sets (set bodies i q) (suc i) (own l n lent p depth (i + 1))) (sym (single-right .0))
+          ∙ ap (λ j. sets (set bodies i size) j (own l n lent p depth (i + 1))) (sym (add-one i)))
+
+      pub single-added : (bodies′ : List ℕ) → bodies′ ≡ set bodies i size → (j t : ℕ) → j ≡ i + 1 → t ≡ total + m .0 → Added l n lent at depth p before bodies′ i j t
+      single-added bodies′ b j t e g =
+          let a = inv .added in
+          let z = single-sum in
+          rw (e, g, b)
+          (record {
+            ahead = omega arith;
+            within = omega arith;
+            ordered = ordered-behind p tag-here (row l i .start) body-here end (itemsFrom l n lent depth (i + 1) .0) single-ordered;
+            added = omega arith;
+            same = inv .same ∙ ap (λ y. y .1) single;
+            stands = inv .stands ∙ single-stands;
+          })
+
+    module _ (tag : ℕ) (f : x ≡ Holds tag) where
+      abbrev inside : Items
+      inside = itemsFrom l n lent (depth + 1) (i + 1) .0
+
+      abbrev stop : ℕ
+      stop = itemsFrom l n lent (depth + 1) (i + 1) .1
+
+      abbrev behind : Items
+      behind = itemsFrom l n lent depth stop .0
+
+      holds-says : (eqb (row l i .depth) depth ≡ true) × (opens tag-here ≡ true) × (tag ≡ tag-here)
+      unfolding Tells
+      holds-says = subst (Tells p depth lent (row l i)) f (tells p depth lent (row l i) x xe)
+
+      nested : itemsFrom l n lent depth i ≡ (item tag-here (row l i .start) body-here inside behind, itemsFrom l n lent depth stop .1)
+      nested = let t = holds-says in from-nested l n lent depth i (here-is (row l) n depth i lt (t .0)) (t .1) inside stop refl
+
+      nested-ordered : Ordered p (item tag-here (row l i .start) body-here inside behind)
+      nested-ordered = first-ordered inside behind (ap (λ y. y .0) nested)
+
+      pub holds-ordered : Ordered tag inside
+      holds-ordered = rw (holds-says .2) (ordered-inside p tag-here (row l i .start) body-here inside behind nested-ordered)
+
+      holds-sum : sum l n lent p depth i ≡ framedSize (normalSize tag inside) + sum l n lent p depth stop
       unfolding normalSize
-      single-turn =
-          let t = single-says in
-          let u = from-single l n lent depth i (here-is (row l) n depth i lt (t .0)) (t .1) in
-          let z : sum l n lent p depth i ≡ length (itemOctets p (row l i .tag) (bodyIn lent (row l i))) + sum l n lent p depth (i + 1) = ap (λ y. normalSize p (y .0)) u ∙ rw (t .1) in
-          let a = inv .added in
-          let e = t .2 in
-          (omega arith, inv .same ∙ ap (λ y. y .1) u)
+      holds-sum = let t = holds-says in ap (λ y. normalSize p (y .0)) nested ∙ rw (t .1, t .2)
 
-      pub single-added : (j t : ℕ) → j ≡ i + 1 → t ≡ total + m .0 → Added l n lent at depth p i j t
-      single-added j t e f = rw (e, f) (record { ahead = omega arith; within = omega arith; added = single-turn .0; same = single-turn .1 })
+      holds-size : bodySize p tag-here body-here inside ≡ normalSize tag inside
+      holds-size =
+          let o = nested-ordered in
+          let u = ordered-first p tag-here (row l i .start) body-here inside behind o in
+          size-open (o .spot) p tag-here body-here inside (holds-says .1) (u .within) ∙ ap (λ k. normalSize k inside) (sym (holds-says .2))
 
-    module _ (tag : ℕ) (f : x ≡ Holds tag) (v : Sized) (ve : v ≡ sizedFrom l n lent tag (depth + 1) (i + 1)) where
-      holds-turn : (sum l n lent p depth at ≡ total + framedSize (sum l n lent tag (depth + 1) (i + 1)) + sum l n lent p depth (next l n lent (depth + 1) (i + 1)))
-          × (next l n lent depth at ≡ next l n lent depth (next l n lent (depth + 1) (i + 1)))
-      unfolding Tells normalSize
-      holds-turn =
-          let t : (eqb (row l i .depth) depth ≡ true) × (opens (row l i .tag) ≡ true) × (tag ≡ row l i .tag) = subst (Tells p depth lent (row l i)) f (tells p depth lent (row l i) x xe) in
-          let u = from-nested l n lent depth i (here-is (row l) n depth i lt (t .0)) (t .1) (itemsFrom l n lent (depth + 1) (i + 1) .0) (next l n lent (depth + 1) (i + 1)) refl in
-          let z : sum l n lent p depth i ≡ framedSize (sum l n lent tag (depth + 1) (i + 1)) + sum l n lent p depth (next l n lent (depth + 1) (i + 1)) =
-          ap (λ y. normalSize p (y .0)) u ∙ rw (t .1, ← t .2) in
-          let a = inv .added in
-          (omega arith, inv .same ∙ ap (λ y. y .1) u)
+      module _ (mid : List ℕ) (v : Sized) (g : Sizes n l lent tag (depth + 1) (i + 1) bodies mid v) where
+        pub holds-over : v ≡ Over → Sizes n l lent p depth at before mid Over
+        unfolding framedSize
+        holds-over q = sizes-over l n lent at depth p before mid (omega (arith, size-over _ _ v (g .answers) q, holds-sum, inv .added))
 
-      pub holds-over : v ≡ Over → Over ≡ sizedFrom l n lent p depth at
-      unfolding framedSize
-      holds-over q = let w = size-over _ _ v ve q in let a = holds-turn .0 in over-is _ _ (omega arith)
+        module _ (t : Octets) (j : ℕ) (q : v ≡ Size t j) where
+          within : (normalSize tag inside ≡ t .0) × (stop ≡ j) × (t .0 ≤ 32_768)
+          within = size-told _ _ v (g .answers) t j q
 
-      module _ (t : Octets) (j : ℕ) (q : v ≡ Size t j) where
-        within : (sum l n lent tag (depth + 1) (i + 1) ≡ t .0) × (next l n lent (depth + 1) (i + 1) ≡ j) × (t .0 ≤ 32_768)
-        within = size-told _ _ v ve t j q
+          pub inner-small : Fits w16 (t .0)
+          inner-small = omega (arith, within .2)
 
-        pub inner-small : t .0 < 131072
-        inner-small = let k = within .2 in omega arith
+          pub inner-fits : (m : Octets) → m .0 ≡ framedSize (t .0) → Fits w64 (total + m .0)
+          inner-fits m e = omega (arith, e, inv .small, within .2, framed-few (t .0))
 
-        between : (i + 1 ≤ j) × (j ≤ n)
-        between =
-            let k = within .1 in
-            (omega (arith, from-ahead l n lent (depth + 1) (i + 1)), omega (arith, from-within l n lent (depth + 1) (i + 1) (omega arith)))
+          nested-stands : sets bodies i (own l n lent p depth i) ≡ sets (set mid i (t .0)) stop (own l n lent p depth stop)
+          unfolding bodySizes
+          nested-stands =
+              let w = within in
+              let size : bodySize p tag-here body-here inside ≡ t .0 = holds-size ∙ w .0 in
+              let there : mid ≡ sets bodies (i + 1) (bodySizes tag-here inside) = g .stands (omega (arith, w .0, w .2)) ∙ ap (λ k. sets bodies (i + 1) (bodySizes k inside)) (holds-says .2) in
+              ap (λ y. sets bodies i (bodySizes p (y .0))) nested
+              ∙ (own-behind bodies i (bodySize p tag-here body-here inside) (bodySizes tag-here inside) (bodySizes p behind)
+              ∙ rw (size, ← there, ← from-many l n lent (depth + 1) (i + 1) tag-here))
 
-        module _ (m : Octets) (me : m .0 ≡ framedSize (t .0)) where
-          pub inner-fits : Fits w64 (total + m .0)
-          inner-fits = let s = inv .small in omega (arith, inner-small, framed-short (t .0))
+          pub holds-added : (bodies′ : List ℕ) → bodies′ ≡ set mid i (t .0) → (m : Octets) → m .0 ≡ framedSize (t .0) → (k o : ℕ) → k ≡ j → o ≡ total + m .0
+              → Added l n lent at depth p before bodies′ i k o
+          holds-added bodies′ b m me k o e h =
+              let w = within in
+              let s : framedSize (normalSize tag inside) ≡ m .0 = ap framedSize (w .0) ∙ sym me in
+              rw (e ∙ sym (w .1), h, b)
+              (record {
+                ahead = omega (arith, from-ahead l n lent (depth + 1) (i + 1));
+                within = from-within l n lent (depth + 1) (i + 1) (omega arith);
+                ordered = ordered-behind p tag-here (row l i .start) body-here inside behind nested-ordered;
+                added = omega (arith, inv .added, holds-sum, s);
+                same = inv .same ∙ ap (λ y. y .1) nested;
+                stands = inv .stands ∙ nested-stands;
+              })
 
-          holds-both : (sum l n lent p depth at ≡ total + m .0 + sum l n lent p depth j) × (next l n lent depth at ≡ next l n lent depth j)
-          holds-both = rw (within .0, within .1, ← me) at holds-turn
+  module _ (bodies′ : List ℕ) (j t : ℕ) (a : Added l n lent at depth p before bodies′ i j t) where
+    pub added-length : length bodies′ ≡ length before
+    added-length = stood-length before bodies′ at j (own l n lent p depth at) (own l n lent p depth j) (a .stands)
 
-          pub holds-added : (k o : ℕ) → k ≡ j → o ≡ total + m .0 → Added l n lent at depth p i k o
-          holds-added k o e g = let b = between in rw (e, g) (record { ahead = omega arith; within = b .1; added = holds-both .0; same = holds-both .1 })
-
-  module _ (j t : ℕ) (a : Added l n lent at depth p i j t) where
-    pub added-over : 32_768 < t → Over ≡ sizedFrom l n lent p depth at
-    added-over h = let e = a .added in over-is _ _ (omega arith)
+    pub added-over : 32_768 < t → Sizes n l lent p depth at before bodies′ Over
+    added-over h = sizes-over l n lent at depth p before bodies′ (omega (arith, a .added, h))
 
     pub added-less : n - j < n - i
     added-less = let e = a .ahead in let w = a .within in omega arith
 
-    pub added-next : t ≤ 32_768 → Sums l n lent at depth p j t
-    added-next h = let k = inv .low in let e = a .ahead in record { low = omega arith; high = a .within; small = h; added = a .added; same = a .same }
+    pub added-next : t ≤ 32_768 → Sums l n lent at depth p before bodies′ j t
+    added-next h =
+        let k = inv .low in
+        let e = a .ahead in
+        record { low = omega arith; high = a .within; small = h; ordered = a .ordered; added = a .added; same = a .same; stands = a .stands }
 
 -- the call for the items inside: fewer records are left, and no depth is beyond the number of its record
 pub falls-within : (n at i t : ℕ) → n - at ≡ t → at ≤ i → i < n → n - (i + 1) < t

@@ -14,7 +14,7 @@ use borrow.Author.Tests.{leb-true, le-leb, eqb-false, ne-eqb, not-true}
 use Rattle.octets.specs.declared.counts.Octets.{Octets as OctetCount}
 use Rattle.octets.specs.Counts.{sizeOf}
 use Rattle.octets.specs.Numbers.{Octets as AllOctets}
-use Rattle.octets.proofs.Tests.{and-left, and-right, and-true, never}
+use Rattle.octets.proofs.Tests.{and-left, and-right, and-true, chosen, never}
 use Rattle.octets.proofs.Lists.{part-of-sets, drop-sets}
 use Rattle.text.specs.Text.{text}
 use Rattle.text.specs.Tokens.{Entries, expanded, covered, shownLength}
@@ -37,7 +37,8 @@ use Rattle.format.specs.Judge.Judged.{accepted}
 use Rattle.format.specs.Meaning.{valueIn, counted, attributesIn, cdataIn, leafOctets, means, tableIn, tableOf, meaningOf, meaning, encode, normalOf}
 use Rattle.format.specs.Meaning.Meaning.{leaf}
 use Rattle.format.specs.Writer.{Spot, below, past, atTop, bodyKeeps, keeps, ruled, tabled}
-use Rattle.format.specs.Calls.{Lists, row, places, roomy, treeGiven, writeAnswer, writeOctets, WriteClaim}
+use Rattle.format.specs.Calls.{Lists, row, places, roomy, treeGiven, writeAnswer, writeOctets}
+use Rattle.format.specs.State.{Memory, bodySizes, treeIn}
 use Rattle.format.proofs.Spans.{located, records-count}
 use Rattle.format.proofs.Kept.{Kept, Ruled, ruled-parts, is-ruled, keeps-parts}
 use Rattle.format.proofs.Tabled.{tabled-length}
@@ -48,6 +49,7 @@ use Rattle.format.proofs.Fine.{known-is}
 use Rattle.format.proofs.Force.{top-known}
 use Rattle.format.proofs.Means.{means-attribute, means-cdata, means-element, means-leaf}
 use Rattle.format.proofs.Calls.{written-means}
+use Rattle.state.specs.Taking.{writeSizes, WriteClaim}
 use Rattle.writer.specs.Theorems.{tableless, Delivered}
 use Rattle.survey.proofs.Ways.{Way, way}
 use Rattle.survey.proofs.Ways.Way.{isAttribute, isCdata, isElement, isLeaf}
@@ -55,43 +57,57 @@ use Rattle.writer.proofs.Finding.{found-kept}
 use Rattle.writer.proofs.Whole.{given-both, rebuilt-reached}
 
 -- ---- what the claim says of an answer
-module _ (n : ℕ) (l : Lists) (lent before after : List ℕ) where
+module _ (n : ℕ) (m : Memory) (bodies′ before after : List ℕ) where
   pub record Fits (k : OctetCount) : Type 0 where
     pub tree : Items
-    pub given : treeGiven n l lent ≡ some tree
+    pub given : treeGiven n (m .lists) (m .store) ≡ some tree
     pub size : k .0 ≡ length (encode (means [] tree))
     pub room : k .0 ≤ length before
     pub object : k .0 ≤ 32_768
+    pub sizes : bodies′ ≡ sets (m .bodies) 0 (bodySizes 0 tree)
     pub leaves : after ≡ sets before 0 (encode (means [] tree))
 
-  pub claim-fits : (k : OctetCount) → WriteClaim n l lent before after (Octets k) → Fits k
-  unfolding writeAnswer writeOctets roomy
-  claim-fits k c = go (treeGiven n l lent) refl (c .answers) (c .leaves)
+  pub claim-fits : (k : OctetCount) → WriteClaim n m bodies′ before after (Octets k) → Fits k
+  unfolding writeAnswer writeOctets writeSizes roomy
+  claim-fits k c = go (treeIn n m) refl (c .answers) (c .sizes) (c .leaves)
     where
-      some-tree : (t : Items) → treeGiven n l lent ≡ some t → (b : Bool) → leb (length (encode (means [] t))) (min (length before) 32_768) ≡ b
-          → Octets k ≡ cond b (Octets (sizeOf (encode (means [] t)))) (NotWritten (refusal 15 0)) → after ≡ sets before 0 (cond b (encode (means [] t)) []) → Fits k
-      some-tree t e true q a g =
+      some-tree : (t : Items) → treeIn n m ≡ some t → (b : Bool) → leb (length (encode (means [] t))) (min (length before) 32_768) ≡ b
+          → Octets k ≡ cond b (Octets (sizeOf (encode (means [] t)))) (NotWritten (refusal 15 0)) → bodies′ ≡ sets (m .bodies) 0 (cond b (bodySizes 0 t) [])
+          → after ≡ sets before 0 (cond b (encode (means [] t)) []) → Fits k
+      some-tree t e true q a z g =
           let s : k .0 ≡ length (encode (means [] t)) = cc in
-          let m = leb-true (length (encode (means [] t))) (min (length before) 32_768) q in
-          record { tree = t; given = e; size = s; room = omega (arith, min-le-left (length before) 32_768); object = omega (arith, min-le-right (length before) 32_768); leaves = g }
-      some-tree t e false q a g = never (cc)
+          let l = leb-true (length (encode (means [] t))) (min (length before) 32_768) q in
+          let w = chosen (leb n (length (m .bodies))) (sym e) (λ y. never (cc)) in
+          record {
+            tree = t;
+            given = sym (w .1);
+            size = s;
+            room = omega (arith, min-le-left (length before) 32_768);
+            object = omega (arith, min-le-right (length before) 32_768);
+            sizes = z;
+            leaves = g;
+          }
+      some-tree t e false q a z g = never (cc)
 
-      go : (o : Option Items) → treeGiven n l lent ≡ o → Octets k ≡ writeAnswer (sizeOf before) o → after ≡ sets before 0 (writeOctets (sizeOf before) o) → Fits k
-      go none e a g = never (cc)
-      go (some t) e a g = some-tree t e (leb (length (encode (means [] t))) (min (length before) 32_768)) refl a g
+      go : (o : Option Items) → treeIn n m ≡ o → Octets k ≡ writeAnswer (sizeOf before) o → bodies′ ≡ sets (m .bodies) 0 (writeSizes (sizeOf before) o)
+          → after ≡ sets before 0 (writeOctets (sizeOf before) o) → Fits k
+      go none e a z g = never (cc)
+      go (some t) e a z g = some-tree t e (leb (length (encode (means [] t))) (min (length before) 32_768)) refl a z g
 
   -- what is written is accepted, and means what the records mean
-  pub delivered : AllOctets lent → (k : OctetCount) → WriteClaim n l lent before after (Octets k) → Delivered n l lent before after k
+  pub delivered : AllOctets (m .store) → (k : OctetCount) → WriteClaim n m bodies′ before after (Octets k) → Delivered n m bodies′ before after k
   delivered os k c =
       let f = claim-fits k c in
       let o = encode (means [] (f .tree)) in
       let front : take (k .0) after ≡ o =
       ap₂ (λ m x. take m x) (f .size) (f .leaves) ∙ part-of-sets before 0 o (omega (arith, f .size, f .room)) in
+      let rebuilds = given-both n (m .lists) (m .store) (f .tree) (f .given) .1 in
       record {
         tree = f .tree;
         given = f .given;
+        sizes = f .sizes;
         octets = front;
-        meant = ap meaning front ∙ written-means (row l) n lent (f .tree) os (given-both n l lent (f .tree) (f .given) .1) (omega (arith, f .size, f .object));
+        meant = ap meaning front ∙ written-means (row (m .lists)) n (m .store) (f .tree) os rebuilds (omega (arith, f .size, f .object));
         rest = ap (drop (k .0)) (f .leaves) ∙ drop-sets (k .0) before 0 o (omega (arith, f .size));
       }
 
@@ -177,9 +193,10 @@ module _ (o : List ℕ) (t : Items) (h : judge o ≡ accepted t) (n : ℕ) (l : 
       bare-means (tableOf t) u atTop (rebuilt-whole (row l) n o u b .rules) ∙ (ap (means (tableOf t)) same ∙ regrown-means t)
 
   -- so what is written from them is the object's normal form
-  pub object-written : (before after : List ℕ) (k : OctetCount) → WriteClaim n l o before after (Octets k) → take (k .0) after ≡ normalOf t
-  object-written before after k c =
-      let f = claim-fits n l o before after k c in
+  pub object-written : (bodies bodies′ before after : List ℕ) (k : OctetCount)
+      → WriteClaim n (record { lists = l; bodies = bodies; store = o }) bodies′ before after (Octets k) → take (k .0) after ≡ normalOf t
+  object-written bodies bodies′ before after k c =
+      let f = claim-fits n (record { lists = l; bodies = bodies; store = o }) bodies′ before after k c in
       let p = encode (means [] (f .tree)) in
       ap₂ (λ m x. take m x) (f .size) (f .leaves) ∙ (part-of-sets before 0 p (omega (arith, f .size, f .room)) ∙ ap encode (object-means (f .tree) (f .given)))
 
@@ -258,10 +275,12 @@ module _ (o : List ℕ) (t : Items) (os : AllOctets o) (h : judge o ≡ accepted
       rw (le-leb (count t) (places l) places-enough)
       (whole-rebuilt (row l) (count t) o t (record { some = some-record; records = sym e; located = located o t h; rules = rules }))
 
-  pub tableless-written : (before after : List ℕ) (answer : WriteAnswer) → roomy (sizeOf before) (normalOf t) ≡ true → WriteClaim (count t) l o before after answer
-      → (answer ≡ Octets (sizeOf (normalOf t))) × (after ≡ sets before 0 (normalOf t))
-  unfolding writeAnswer writeOctets
-  tableless-written before after answer r c =
+  pub tableless-written : (bodies bodies′ before after : List ℕ) (answer : WriteAnswer) → count t ≤ length bodies → roomy (sizeOf before) (normalOf t) ≡ true
+      → WriteClaim (count t) (record { lists = l; bodies = bodies; store = o }) bodies′ before after answer
+      → (answer ≡ Octets (sizeOf (normalOf t))) × (bodies′ ≡ sets bodies 0 (bodySizes 0 t)) × (after ≡ sets before 0 (normalOf t))
+  unfolding writeAnswer writeOctets writeSizes
+  tableless-written bodies bodies′ before after answer many r c =
       let m : means [] t ≡ meaningOf t = object-means o t h (count t) l e t tableless-given in
       let fit : roomy (sizeOf before) (encode (means [] t)) ≡ true = rw m r in
-      (c .answers ∙ rw (tableless-given, fit, m), c .leaves ∙ rw (tableless-given, fit, m))
+      let all : leb (count t) (length bodies) ≡ true = le-leb (count t) (length bodies) many in
+      (c .answers ∙ rw (all, tableless-given, fit, m), c .sizes ∙ rw (all, tableless-given, fit), c .leaves ∙ rw (all, tableless-given, fit, m))

@@ -1,15 +1,15 @@
--- The whole call: what the check, the size and the writing together say.
+-- A tree that well-formed records give: what is measured and written of it, and what a call that writes it answers then.
 use mathlib.Core.Path.{_≡_, refl, sym, ap, _∙_, subst}
-use mathlib.Core.Bool.{Bool, true, false, cond, _&&_, false≢true}
+use mathlib.Core.Bool.{Bool, true, false, cond, _&&_}
 use mathlib.Core.Option.{Option, none, some, Option·some-injective, Option·none-ne-some}
 use mathlib.Core.List.{List, []}
 use Prim.Native.Nat.{ℕ, suc, _+_, _-_, _≤_, _<_, min}
 use native.Mathlib.Omega.{arith}
-use native.Mathlib.Nat.{min-le-left, min-le-right, le-min}
+use native.Mathlib.Nat.{min-le-left, min-le-right}
 use lib.Dec.{eqb, leb, ltb}
 use lib.ListN.{length}
-use borrow.Author.Tests.{leb-true, lt-leb, le-leb, eqb-true, eqb-false, ltb-true, ltb-false}
-use Rattle.octets.specs.declared.counts.Octets.{Octets as OctetCount}
+use lib.Seq.{sets}
+use borrow.Author.Tests.{leb-true, lt-leb, eqb-true, eqb-false, ltb-true, ltb-false}
 use Rattle.octets.specs.Counts.{asOctets, sizeOf}
 use Rattle.octets.proofs.Tests.{and-right, chosen, never}
 use Rattle.octets.specs.Puts.{Lays}
@@ -21,22 +21,20 @@ use Rattle.format.specs.Tree.{Items}
 use Rattle.format.specs.Tree.Items.{end}
 use Rattle.format.specs.Meaning.{means, encode}
 use Rattle.format.specs.Writer.{Spot, atTop, walk, tree, toEnd, rebuilt, ruled}
-use Rattle.format.specs.Calls.{Lists, places, row, roomy, treeGiven, writeAnswer, writeOctets, WriteClaim}
+use Rattle.format.specs.Calls.{Lists, places, row, roomy, treeGiven, writeAnswer, writeOctets}
 use Rattle.format.proofs.Kept.{good-parts}
 use Rattle.format.proofs.Walk.{Walked, walk-walked}
 use Rattle.format.proofs.Walk.Walked.{stop, single, nested}
 use Rattle.format.proofs.Trees.{whole-tree}
-use Rattle.format.proofs.Rebuilt.{rebuilt-whole}
-use Rattle.writer.specs.declared.size.Sized.{Sized}
-use Rattle.writer.specs.declared.size.Sized.the-variants.{Over, Size}
+use Rattle.format.specs.State.{bodySizes}
+use Rattle.format.proofs.Rebuilt.{Whole, rebuilt-whole, whole-count}
 use Rattle.writer.specs.declared.emit.Reached.{Reached}
-use Rattle.records.specs.Check.{isGiven}
 use Rattle.survey.specs.Normal.{normalSize, laterOctets}
-use Rattle.writer.specs.Steps.{itemsFrom, Holding, sizedFrom, Ordered, Fitting, Emits}
+use Rattle.writer.specs.Steps.{itemsFrom, Holding, Ordered, Fitting, Emits}
 use Rattle.survey.proofs.Sizes.{size-whole}
+use Rattle.state.proofs.HeldTree.{sizes-count}
 use Rattle.writer.proofs.Order.{laid-whole}
 use Rattle.writer.proofs.Rows.{fourIn, tree-four}
-use Rattle.writer.proofs.Summing.{size-over, size-told}
 
 -- each record that was walked over has its body in the lent octets
 walked-body : (row : ℕ → Record) (n : ℕ) (lent : List ℕ) {s : Spot} {p i j : ℕ} → Walked row n lent s p i j → (k : ℕ) → i ≤ k → k < j → row k .start + row k .size ≤ length lent
@@ -98,6 +96,11 @@ placed n l h =
     let i = min-le-right (length (l .starts)) (length (l .sizes)) in
     record { tags = omega arith; depths = omega arith; starts = omega arith; sizes = omega arith }
 
+-- what a call answers that is to write a tree, and leaves in the room
+pub record Gives (o : Option Items) (room after : List ℕ) (answer : WriteAnswer) : Type 0 where
+  pub answers : answer ≡ writeAnswer (sizeOf room) o
+  pub leaves : after ≡ sets room 0 (writeOctets (sizeOf room) o)
+
 -- records that were given, with their tree
 module _ (n : ℕ) (l : Lists) (lent : List ℕ) (t : Items) (e : treeGiven n l lent ≡ some t) where
   pub given-both : (n ≤ places l) × (rebuilt (row l) n lent ≡ some t)
@@ -115,25 +118,34 @@ module _ (n : ℕ) (l : Lists) (lent : List ℕ) (t : Items) (e : treeGiven n l 
       ap (λ x. x .0) (tree-four l n lent (suc (n - 0)) 1 0)
       ∙ (sym (ap (λ x. x .0) (whole-tree (row l) n lent 1)) ∙ rebuilt-reached (row l) n lent t (given-both .1) .1)
 
-  tree-rules : ruled atTop t ≡ true
-  tree-rules = rebuilt-whole (row l) n lent t (given-both .1) .rules
+  tree-whole : Whole (row l) n lent t
+  tree-whole = rebuilt-whole (row l) n lent t (given-both .1)
+
+  pub tree-rules : ruled atTop t ≡ true
+  tree-rules = tree-whole .rules
+
+  -- it has a size for each record
+  pub tree-many : length (bodySizes 0 t) ≡ n
+  tree-many = sizes-count t atTop 0 tree-rules ∙ sym (whole-count (row l) n lent t tree-whole)
 
   pub tree-ordered : Ordered 0 (itemsFrom (fourIn l) n lent 1 0 .0)
   unfolding atTop
   tree-ordered = rw tree-items (record { spot = atTop; element = refl; rules = tree-rules })
 
-  tree-size : normalSize 0 (itemsFrom (fourIn l) n lent 1 0 .0) ≡ length (encode (means [] t))
+  pub tree-size : normalSize 0 (itemsFrom (fourIn l) n lent 1 0 .0) ≡ length (encode (means [] t))
   tree-size = rw tree-items (size-whole t tree-rules)
 
   tree-octets : laterOctets 0 (itemsFrom (fourIn l) n lent 1 0 .0) ≡ encode (means [] t)
   tree-octets = rw tree-items (laid-whole t tree-rules)
 
   -- 15: the octets are more than the room or than an object may have
-  pub too-many : (room : List ℕ) → min (length room) 32_768 < length (encode (means [] t)) → WriteClaim n l lent room room (NotWritten (refusal 15 0))
-  unfolding writeAnswer writeOctets roomy
-  too-many room h =
-      let no : roomy (sizeOf room) (encode (means [] t)) ≡ false = lt-leb (length (encode (means [] t))) (min (length room) 32_768) h in
-      record { answers = rw (e, no); leaves = rw (e, no) }
+  pub not-roomy : (room : List ℕ) → min (length room) 32_768 < length (encode (means [] t)) → roomy (sizeOf room) (encode (means [] t)) ≡ false
+  unfolding roomy
+  not-roomy room h = lt-leb (length (encode (means [] t))) (min (length room) 32_768) h
+
+  pub too-many : (room : List ℕ) → roomy (sizeOf room) (encode (means [] t)) ≡ false → Gives (some t) room room (NotWritten (refusal 15 0))
+  unfolding writeAnswer writeOctets
+  too-many room f = record { answers = rw f; leaves = rw f }
 
   -- all fits, so that all can be written, and the answer is how much
   module _ (room : List ℕ) (fit : roomy (sizeOf room) (encode (means [] t)) ≡ true) where
@@ -145,64 +157,8 @@ module _ (n : ℕ) (l : Lists) (lent : List ℕ) (t : Items) (e : treeGiven n l 
         let b = min-le-right (length room) 32_768 in
         rw tree-octets (record { inRoom = omega (arith, k, a); inObject = omega (arith, k, b) })
 
-    pub tree-written : (after : List ℕ) (r : Reached) → Emits (itemsFrom (fourIn l) n lent 1 0) 0 0 room after r → WriteClaim n l lent room after (Octets (asOctets (r .end)))
+    pub tree-written : (after : List ℕ) (r : Reached) → Emits (itemsFrom (fourIn l) n lent 1 0) 0 0 room after r → Gives (some t) room after (Octets (asOctets (r .end)))
     unfolding writeAnswer writeOctets
     tree-written after r g =
         let laid : Lays (encode (means [] t)) 0 room after (r .end) = rw tree-octets at (g .lays) in
-        record { answers = rw (e, fit) (ap (λ size. Octets (asOctets size)) (laid .ends ∙ omega arith)); leaves = rw (e, fit) (laid .leaves) }
-
-  module _ (v : Sized) (ve : v ≡ sizedFrom (fourIn l) n lent 0 1 0) where
-    over-claim : v ≡ Over → (room : List ℕ) → WriteClaim n l lent room room (NotWritten (refusal 15 0))
-    over-claim q room = too-many room (omega (arith, size-over _ _ v ve q, tree-size, min-le-right (length room) 32_768))
-
-    module _ (total : OctetCount) (next : ℕ) (q : v ≡ Size total next) (room : List ℕ) where
-      length-is : length (encode (means [] t)) ≡ total .0
-      length-is = sym tree-size ∙ size-told _ _ v ve total next q .0
-
-      room-claim : length room < total .0 → WriteClaim n l lent room room (NotWritten (refusal 15 0))
-      room-claim h = too-many room (omega (arith, length-is, min-le-left (length room) 32_768))
-
-      whole-fit : total .0 ≤ length room → roomy (sizeOf room) (encode (means [] t)) ≡ true
-      unfolding roomy
-      whole-fit h =
-          let k = size-told _ _ v ve total next q .2 in
-          le-leb (length (encode (means [] t))) (min (length room) 32_768) (le-min (omega (arith, length-is)) (omega (arith, length-is)))
-
--- the ways through the code of `write`
-module _ (n : ℕ) (l : Lists) (lent : List ℕ) (b : Bool) (be : b ≡ isGiven (treeGiven n l lent)) where
-  pub not-given : b ≡ false → (room : List ℕ) (a : WriteAnswer) → a ≡ NotWritten (refusal 16 0) → WriteClaim n l lent room room a
-  unfolding isGiven writeAnswer writeOctets
-  not-given q room a ae = go (treeGiven n l lent) refl (sym be ∙ q)
-    where
-      go : (o : Option Items) → treeGiven n l lent ≡ o → isGiven o ≡ false → WriteClaim n l lent room room a
-      go none e h = record { answers = rw e ae; leaves = rw e }
-      go (some t) e h = absurd (false≢true (sym h))
-
-  module _ (q : b ≡ true) where
-    given-some : (t : Items) × (treeGiven n l lent ≡ some t)
-    unfolding isGiven
-    given-some = go (treeGiven n l lent) refl (sym be ∙ q)
-      where
-        go : (o : Option Items) → treeGiven n l lent ≡ o → isGiven o ≡ true → (t : Items) × (treeGiven n l lent ≡ some t)
-        go none e h = absurd (false≢true h)
-        go (some t) e h = (t, e)
-
-    pub given-holding : Holding n (fourIn l) lent
-    given-holding = tree-holding n l lent (given-some .0) (given-some .1)
-
-    pub given-ordered : Ordered 0 (itemsFrom (fourIn l) n lent 1 0 .0)
-    given-ordered = tree-ordered n l lent (given-some .0) (given-some .1)
-
-    module _ (v : Sized) (ve : v ≡ sizedFrom (fourIn l) n lent 0 1 0) where
-      pub given-over : v ≡ Over → (room : List ℕ) (a : WriteAnswer) → a ≡ NotWritten (refusal 15 0) → WriteClaim n l lent room room a
-      given-over f room a ae = rw ae (over-claim n l lent (given-some .0) (given-some .1) v ve f room)
-
-      module _ (total : OctetCount) (next : ℕ) (f : v ≡ Size total next) (room : List ℕ) where
-        pub given-more : length room < total .0 → (a : WriteAnswer) → a ≡ NotWritten (refusal 15 0) → WriteClaim n l lent room room a
-        given-more h a ae = rw ae (room-claim n l lent (given-some .0) (given-some .1) v ve total next f room h)
-
-        pub given-fits : total .0 ≤ length room → Fitting (laterOctets 0 (itemsFrom (fourIn l) n lent 1 0 .0)) 0 (length room)
-        given-fits h = tree-fits n l lent (given-some .0) (given-some .1) room (whole-fit n l lent (given-some .0) (given-some .1) v ve total next f room h)
-
-        pub given-written : total .0 ≤ length room → (after : List ℕ) (r : Reached) → Emits (itemsFrom (fourIn l) n lent 1 0) 0 0 room after r → WriteClaim n l lent room after (Octets (asOctets (r .end)))
-        given-written h after r g = tree-written n l lent (given-some .0) (given-some .1) room (whole-fit n l lent (given-some .0) (given-some .1) v ve total next f room h) after r g
+        record { answers = rw fit (ap (λ size. Octets (asOctets size)) (laid .ends ∙ omega arith)); leaves = rw fit (laid .leaves) }

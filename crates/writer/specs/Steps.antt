@@ -6,11 +6,12 @@ use mathlib.Core.List.{List, [], _++_}
 use Prim.Native.Nat.{ℕ, suc, _+_, _-_, _≤_, _<_}
 use lib.Dec.{eqb, leb, ltb}
 use lib.ListN.{length, take, drop, getD}
+use lib.Seq.{sets}
 use denote.Ref.{RefT}
 pub use Rattle.octets.specs.Puts.{Lays}
-use Rattle.octets.specs.Counts.{asOctets, sizeOf}
+use Rattle.octets.specs.Counts.{asOctets}
 use Rattle.octets.specs.Header.{framed}
-use Rattle.values.specs.Table.{attribute}
+use Rattle.values.specs.Table.{known, attribute}
 use Rattle.values.specs.Calls.{defaultOctets}
 use Rattle.format.specs.declared.Record.{Record}
 use Rattle.format.specs.Tree.{Items, find}
@@ -18,7 +19,11 @@ use Rattle.format.specs.Tree.Items.{end, item}
 use Rattle.format.specs.Meaning.{opens}
 use Rattle.format.specs.Writer.{Spot, bodyIn, tree, ruled}
 use Rattle.format.specs.Calls.{Lists, row}
-use Rattle.survey.specs.Normal.{itemOctets, normalSize, attributeOctets, laterOctets}
+use Rattle.format.specs.State.{bodySizes}
+use Rattle.tags.specs.declared.Listed.{Listed}
+use Rattle.tags.specs.declared.Listed.the-variants.{Nothing, Inside, Value}
+use Rattle.tags.specs.Listed.{listedAs}
+use Rattle.survey.specs.Normal.{framedSize, valueOctets, itemOctets, normalSize, attributeOctets, laterOctets}
 use Rattle.writer.specs.declared.size.Part.{Part}
 use Rattle.writer.specs.declared.size.Part.the-variants.{Past, Holds, Single}
 use Rattle.writer.specs.declared.size.Sized.{Sized}
@@ -47,9 +52,17 @@ pub record Holding (n : ℕ) (l : Lists) (lent : List ℕ) : Type 0 where
   pub sizes : n ≤ length (l .sizes)
   pub bodies : (i : ℕ) → i < n → getD (l .starts) i 0 + getD (l .sizes) i 0 ≤ length lent
 
--- what a record adds to the size of an element's items: it holds items, or has a size of its own, or is none of them
+-- what a record is to the items of an element, by what is listed of its item: one that holds items, or one with the size of its normal octets, which with a header is
+-- what it adds unless it is a default. What isn't listed has no octets
+unfoldable pub partListed : (parent tag : ℕ) → List ℕ → Listed → Part
+partListed parent tag body Nothing = Single 0 (asOctets 0)
+partListed parent tag body Inside = Holds tag
+partListed parent tag body (Value kind) =
+    let size = length (valueOctets kind body) in
+    Single size (asOctets (cond (defaultOctets parent tag body) 0 (framedSize size)))
+
 unfoldable pub partOf : (parent tag : ℕ) → List ℕ → Part
-partOf parent tag body = cond (opens tag) (Holds tag) (Single (sizeOf (itemOctets parent tag body)))
+partOf parent tag body = partListed parent tag body (listedAs (known parent tag))
 
 unfoldable pub partAt : (parent depth : ℕ) → List ℕ → Record → Part
 partAt parent depth lent r = cond (eqb (r .depth) depth) (partOf parent (r .tag) (bodyIn lent r)) Past
@@ -60,6 +73,11 @@ sizedOf total next = cond (leb total 32_768) (Size (asOctets total) next) Over
 
 abbrev pub sizedFrom : Lists → ℕ → List ℕ → (parent depth i : ℕ) → Sized
 sizedFrom l n lent parent depth i = sizedOf (normalSize parent (itemsFrom l n lent depth i .0)) (itemsFrom l n lent depth i .1)
+
+-- the items of an element from record i on are measured: where an object may have their size, the size of each record's body stands in a list, if that has a place for it
+pub record Sizes (n : ℕ) (l : Lists) (lent : List ℕ) (parent depth i : ℕ) (before after : List ℕ) (answer : Sized) : Type 0 where
+  pub answers : answer ≡ sizedFrom l n lent parent depth i
+  pub stands : normalSize parent (itemsFrom l n lent depth i .0) ≤ 32_768 → after ≡ sets before i (bodySizes parent (itemsFrom l n lent depth i .0))
 
 -- items of an element of a tag that keep the rules, whatever came before them
 pub record Ordered (parent : ℕ) (t : Items) : Type 0 where
@@ -101,16 +119,6 @@ elementOctets tag inside = framed tag (bodyOctets tag inside)
 pub record SizesStand (n : ℕ) (l : Lists) (lent bodies : List ℕ) : Type 0 where
   pub places : n ≤ length bodies
   pub right : (i : ℕ) → i < n → opens (row l i .tag) ≡ true → getD bodies i 0 ≡ length (bodyOctets (row l i .tag) (itemsFrom l n lent (row l i .depth + 1) (i + 1) .0))
-
--- what a room holds from a place up to another
-unfoldable pub between : (from to : ℕ) → List ℕ → List ℕ
-between from to room = take (to - from) (drop from room)
-
--- a body lies behind the two places of a short header, and the room has places for it with the header that it takes
-pub record Framable (tag to end : ℕ) (room : List ℕ) : Type 0 where
-  pub behind : to + 2 ≤ end
-  pub inside : end ≤ length room
-  pub fits : Fitting (framed tag (between (to + 2) end room)) to (length room)
 
 unfoldable pub roleOf : (depth own tag : ℕ) → Role
 roleOf depth own tag = cond (eqb own depth) (cond (opens tag) (Element tag) (cond (attribute tag) Attribute (Other tag))) Gone

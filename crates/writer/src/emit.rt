@@ -1,7 +1,6 @@
 // Records written in normal form, into a room that is known to suffice. Of an element its attributes are written by rising tag, its child elements in the order of
-// their records and its CDATA, all behind two places, and then the header that comes before them (frame.rt).
-// Cost: each record is looked at once, and the attributes of an element once for each of them and once more, 8 times at most. An octet moves once for each element
-// around it whose length takes more than one octet, 16 at most.
+// their records and its CDATA, all behind its header: the size of its body is known before (document 01), so every octet is written once, where it stays.
+// Cost: each record is looked at once, and the attributes of an element once for each of them and once more, 8 times at most.
 // Bodies that are `stored`, laid as normal octets before, are copied as they stand; of others the normal octets are made.
 ghost use mathlib.Core.Path.{_≡_};
 ghost use mathlib.Core.Bool.{true};
@@ -11,13 +10,12 @@ ghost use Rattle.octets.specs.Puts.{Lays};
 ghost use Rattle.survey.specs.Normal.{itemOctets, attributeOctets, laterOctets};
 ghost use Rattle.writer.specs.Steps.{four, itemsFrom, Holding, Ordered, Fitting, lowerOf, FindsLowest, BodyAt, bodyAt};
 ghost use Rattle.writer.specs.Steps.{roleOf, Emits, Standing, AsLaid, SizesStand};
-use crate::frame::put_frame;
-use crate::item::holds_items;
 use crate::item::put_header;
 use crate::item::put_item;
 use crate::item::put_stored;
 use octets::Octets;
 use survey::written_as;
+use tags::holds_items;
 use values::KnownKind;
 
 // An attribute and its record: the one with the lowest tag of those that were asked for. With the tag 0x87 there is none: the table of
@@ -180,80 +178,10 @@ fn role_at(tags: &[u8], depths: &[u8], i: usize, depth: usize) -> Role
     Role::Other(tag)
 }
 
-// The items of an element of a tag but for its attributes, from record `at` on. An element among them is no function of its own: one that calls this one, and is
-// called by it, lays every slice that is lent on the stack once more for each element, and `write` took 4 % longer so.
+// The items of an element of a tag but for its attributes, from record `at` on, front to back: the size of an element's body stands in `bodies`, so that its header is
+// written before what is in it. An element among them is no function of its own: one that calls this one, and is called by it, lays every slice that is lent on the
+// stack once more for each element, and `write` took 4 % longer so.
 pub fn emit_items(
-    count: usize,
-    tags: &[u8],
-    depths: &[u8],
-    starts: &[u16],
-    sizes: &[u16],
-    octets: &[u8],
-    at: usize,
-    depth: usize,
-    parent: u8,
-    room: &mut [u8],
-    to: usize,
-    stored: bool,
-) -> Reached
-    requires { ⌜ Holding count (four tags depths starts sizes) (now octets) × Ordered parent (itemsFrom (four tags depths starts sizes) count (now octets) depth at .0) × (at ≤ count) × (depth ≤ at + 1) ⌝ }
-    requires { ⌜ (stored ≡ true → AsLaid parent (itemsFrom (four tags depths starts sizes) count (now octets) depth at .0)) ⌝ }
-    requires { ⌜ Fitting (laterOctets parent (itemsFrom (four tags depths starts sizes) count (now octets) depth at .0)) to (length (now room)) ⌝ }
-    ensures { λ r. ⌜ Emits (itemsFrom (four (tags .entry) (depths .entry) (starts .entry) (sizes .entry)) count (now (octets .entry)) depth at) parent to (now (room .entry)) (now (room .exit)) r ⌝ }
-{
-    let mut i = at;
-    let mut end = to;
-    while i < count {
-        match role_at(tags, depths, i, depth) {
-            Role::Gone => {
-                return Reached { end, next: i };
-            }
-            Role::Attribute => {
-                i = i + 1;
-            }
-            Role::Other(tag) => {
-                end = put_body(room, end, parent, tag, starts, sizes, octets, i, stored);
-                i = i + 1;
-            }
-            Role::Element(tag) => {
-                let from = emit_attributes(
-                    count,
-                    tags,
-                    depths,
-                    starts,
-                    sizes,
-                    octets,
-                    i + 1,
-                    depth + 1,
-                    tag,
-                    room,
-                    end + 2,
-                    stored,
-                );
-                let inner = emit_items(
-                    count,
-                    tags,
-                    depths,
-                    starts,
-                    sizes,
-                    octets,
-                    i + 1,
-                    depth + 1,
-                    tag,
-                    room,
-                    from,
-                    stored,
-                );
-                end = put_frame(room, end, tag, inner.end);
-                i = inner.next;
-            }
-        }
-    }
-    Reached { end, next: i }
-}
-
-// The same, front to back: the size of an element's body stands in `bodies`, so that its header is written before what is in it.
-pub fn emit_sized(
     count: usize,
     tags: &[u8],
     depths: &[u8],
@@ -305,7 +233,7 @@ pub fn emit_sized(
                     from,
                     stored,
                 );
-                let inner = emit_sized(
+                let inner = emit_items(
                     count,
                     tags,
                     depths,

@@ -1,56 +1,18 @@
-// An item that holds no items, once it is known to be written: how many octets it has, and its octets. Whether it is written is asked before, of survey's
-// `written_as`, by whoever measures records (size.rt) and whoever writes them, stored ones too (put_written in emit.rt).
+// The octets of an item that holds no items, once it is known to be written, and any item's header. Whether it is written is asked before, of survey's
+// `written_as` (put_written in emit.rt).
 ghost use mathlib.Core.Path.{_≡_};
-ghost use mathlib.Core.Option.{some};
 ghost use mathlib.Core.List.{_∷_};
-ghost use Prim.Native.Nat.{_+_, _≤_, _<_};
+ghost use Prim.Native.Nat.{_≤_};
 ghost use lib.ListN.{length};
 ghost use Rattle.octets.specs.Header.{lengthField, framed};
 ghost use Rattle.octets.specs.Puts.{Lays};
-ghost use Rattle.format.specs.Judge.{isItems};
-ghost use Rattle.format.specs.Meaning.{opens};
-ghost use Rattle.survey.specs.Normal.{framedSize, valueOctets};
+ghost use Rattle.survey.specs.Normal.{valueOctets};
 ghost use Rattle.writer.specs.Steps.{Fitting};
 use octets::Octets;
 use octets::Put;
 use survey::value_size;
 use values::Kind;
-use values::KnownKind;
-use values::known_kind;
 use values::put_normal;
-
-pub fn is_holder(kind: Kind) -> bool
-    ensures { λ r. ⌜ r ≡ isItems (some kind) ⌝ }
-{
-    match kind {
-        Kind::HoldsItems => true,
-        Kind::HoldsTokens => false,
-        Kind::HoldsText => false,
-        Kind::HoldsPlain => false,
-        Kind::HoldsTime => false,
-        Kind::HoldsBearer => false,
-        Kind::HoldsNumber(_) => false,
-    }
-}
-
-// An element that holds items.
-pub fn holds_items(tag: u8) -> bool
-    ensures { λ r. ⌜ r ≡ opens tag ⌝ }
-{
-    match known_kind(0, tag) {
-        KnownKind::Unknown => false,
-        KnownKind::Known(kind) => is_holder(kind),
-    }
-}
-
-// An item whose body has `n` octets.
-pub fn framed_size(n: Octets) -> Octets
-    requires { ⌜ n .0 < 131072 ⌝ }
-    ensures { λ r. ⌜ r .0 ≡ framedSize (n .0) ⌝ }
-{
-    let size = octets::header_size(n).0 + n.0;
-    Octets(size)
-}
 
 pub fn put_header(room: &mut [u8], to: usize, tag: u8, n: Octets) -> usize
     requires { ⌜ n .0 ≤ 32768 ⌝ }

@@ -4,18 +4,14 @@
 ghost use mathlib.Core.Path.{_≡_};
 ghost use Rattle.format.specs.declared.WriteAnswer.the-variants.{NotWritten};
 ghost use Rattle.format.specs.Answers.{refusal};
-ghost use Rattle.format.specs.Calls.{WriteClaim};
 ghost use Rattle.format.specs.Lent.{lent};
-ghost use Rattle.state.specs.Taking.{memory, NormaliseClaim, WriteStateClaim};
+ghost use Rattle.state.specs.Taking.{memory, NormaliseClaim, WriteClaim, WriteStateClaim};
 
 mod emit;
-mod frame;
 mod item;
 mod size;
 
 use crate::emit::emit_items;
-use crate::emit::emit_sized;
-use crate::item::framed_size;
 use crate::size::Sized;
 use crate::size::size_items;
 use edits::take_in;
@@ -25,6 +21,7 @@ use format::refuse;
 use octets::Octets;
 use records::is_well_formed;
 use state::Filled;
+use state::framed_size;
 use state::held;
 
 fn refused(number: u8) -> WriteAnswer
@@ -33,8 +30,9 @@ fn refused(number: u8) -> WriteAnswer
     WriteAnswer::NotWritten(refuse(number, 0))
 }
 
-// The first `count` records of the lists, whose bodies lie in `octets`, written to `room`. 16: they aren't a well-formed tree, or there
-// are fewer places. 15: the octets are more than the room or more than an object may have. On a refusal the room is as it was.
+// The first `count` records of the lists, whose bodies lie in `octets`, written to `room` front to back, with the size of each record's body in `bodies`. 16: they
+// aren't a well-formed tree, or there are fewer places. 15: the octets are more than the room or more than an object may have. On a refusal `bodies` and the room
+// are as they were, so sizes are stored only when all is known to fit: records are measured once for how many octets they take, and once more for the sizes.
 pub fn write(
     count: usize,
     tags: &[u8],
@@ -43,39 +41,55 @@ pub fn write(
     parents: &[u16],
     starts: &[u16],
     sizes: &[u16],
+    bodies: &mut [u16],
     octets: &[u8],
     room: &mut [u8],
 ) -> WriteAnswer
-    ensures { λ r. ⌜ WriteClaim count (lent (tags .entry) (kinds .entry) (depths .entry) (parents .entry) (starts .entry) (sizes .entry)) (now (octets .entry)) (now (room .entry)) (now (room .exit)) r ⌝ }
+    ensures { λ r. ⌜ WriteClaim count (memory (tags .entry) (kinds .entry) (depths .entry) (parents .entry) (starts .entry) (sizes .entry) (bodies .entry) (octets .entry)) (now (bodies .exit)) (now (room .entry)) (now (room .exit)) r ⌝ }
 {
-    if is_well_formed(count, tags, kinds, depths, parents, starts, sizes, octets) {
-        match size_items(count, tags, depths, starts, sizes, octets, 0, 1, 0) {
-            Sized::Over => {
+    if count > bodies.len() {
+        return refused(16);
+    }
+    if !is_well_formed(count, tags, kinds, depths, parents, starts, sizes, octets) {
+        return refused(16);
+    }
+    let mut nowhere: [u16; 1] = [0; 1];
+    match size_items(
+        count,
+        tags,
+        depths,
+        starts,
+        sizes,
+        &mut nowhere,
+        octets,
+        0,
+        1,
+        0,
+    ) {
+        Sized::Over => refused(15),
+        Sized::Size { total, next: _ } => {
+            if total.0 > room.len() {
                 return refused(15);
             }
-            Sized::Size { total, next: _ } => {
-                if total.0 > room.len() {
-                    return refused(15);
-                }
-                let reached = emit_items(
-                    count,
-                    tags,
-                    depths,
-                    starts,
-                    sizes,
-                    octets,
-                    0,
-                    1,
-                    0,
-                    room,
-                    0,
-                    false,
-                );
-                return WriteAnswer::Octets(Octets(reached.end));
-            }
+            size_items(count, tags, depths, starts, sizes, bodies, octets, 0, 1, 0);
+            let reached = emit_items(
+                count,
+                tags,
+                depths,
+                starts,
+                sizes,
+                bodies,
+                octets,
+                0,
+                1,
+                0,
+                room,
+                0,
+                false,
+            );
+            WriteAnswer::Octets(Octets(reached.end))
         }
     }
-    refused(16)
 }
 
 // The normal form of the tree that memory holds, written to `room` front to back. 16: memory holds no tree of `count` records. 15: the octets are more than the room.
@@ -107,10 +121,10 @@ pub fn write_state(
     ) {
         Filled::Apart => refused(16),
         Filled::Upto(_) => {
-            if framed_size(Octets(bodies[0] as usize)).0 > room.len() {
+            if framed_size(bodies[0]).0 > room.len() {
                 return refused(15);
             }
-            let reached = emit_sized(
+            let reached = emit_items(
                 count,
                 tags,
                 depths,
@@ -161,7 +175,7 @@ pub fn normalise(
     ) {
         ReadAnswer::NotRead(refusal) => WriteAnswer::NotWritten(refusal),
         ReadAnswer::Records(counts) => {
-            let reached = emit_sized(
+            let reached = emit_items(
                 counts.records,
                 tags,
                 depths,

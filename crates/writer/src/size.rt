@@ -1,23 +1,23 @@
-// How many octets records have in normal form. The size of an element's body comes from the items inside it, before the form of its
-// length is chosen. A size above 32,768 is never told: no object may have it, so the whole is refused (15), however long lists may be.
-// Cost: each record is looked at once.
+// How many octets records have in normal form, and the size of each record's body, which stands in a list of its own then: that of an element's comes from the items
+// inside it, before the form of its length is chosen. A size above 32,768 is never told: no object may have it, so the whole is refused (15), however long lists
+// may be. Cost: each record is looked at once.
 ghost use mathlib.Core.Path.{_≡_};
 ghost use Prim.Native.Nat.{_+_, _≤_, _<_};
-ghost use lib.ListN.{length};
+ghost use lib.ListN.{length, set};
 ghost use Rattle.format.specs.Calls.{row};
-ghost use Rattle.writer.specs.Steps.{four, Holding, partOf, partAt, sizedFrom};
-use crate::item::framed_size;
-use crate::item::is_holder;
+ghost use Rattle.writer.specs.Steps.{four, itemsFrom, Holding, Ordered, partOf, partAt, Sizes};
 use octets::Octets;
+use state::framed_size;
 use survey::value_size;
-use survey::written_as;
-use values::KnownKind;
+use tags::Listed;
+use tags::listed_as;
+use values::is_default;
 
-// What a record adds to the items of an element: it is none of them; it holds items that are to be measured; so many octets.
+// What a record is to the items of an element: none of them; one that holds items, which are to be measured; one that has a size of its own, and adds so many octets.
 pub enum Part {
     Past,
     Holds(u8),
-    Single(Octets),
+    Single { size: u16, adds: Octets },
 }
 
 // The size of the items of an element, and the number of the first record past them. Over: above 32,768.
@@ -26,18 +26,27 @@ pub enum Sized {
     Size { total: Octets, next: usize },
 }
 
-// One lookup tells whether an item is written and whether it holds items: what holds items in one element holds them in all.
+// One lookup tells whether an item holds items, and as what it is written. The size of a default is told too, but it isn't written, so it adds nothing.
 fn part_of(parent: u8, tag: u8, body: &[u8]) -> Part
     requires { ⌜ length (now body) < 65536 ⌝ }
     ensures { λ r. ⌜ r ≡ partOf parent tag (now (body .entry)) ⌝ }
 {
-    match written_as(parent, tag, body) {
-        KnownKind::Unknown => Part::Single(Octets(0)),
-        KnownKind::Known(kind) => {
-            if is_holder(kind) {
-                return Part::Holds(tag);
+    match listed_as(parent, tag) {
+        Listed::Nothing => Part::Single {
+            size: 0,
+            adds: Octets(0),
+        },
+        Listed::Inside => Part::Holds(tag),
+        Listed::Value(kind) => {
+            let size = value_size(kind, body).0 as u16;
+            if is_default(parent, tag, body) {
+                return Part::Single {
+                    size,
+                    adds: Octets(0),
+                };
             }
-            Part::Single(framed_size(value_size(kind, body)))
+            let adds = framed_size(size);
+            Part::Single { size, adds }
         }
     }
 }
@@ -63,6 +72,15 @@ fn part_at(
     part_of(parent, tags[i], &octets[start..end])
 }
 
+// The size of record `i`, where the list has a place for it.
+fn put_size(bodies: &mut [u16], i: usize, size: u16)
+    ensures { λ _. ⌜ now (bodies .exit) ≡ set (now (bodies .entry)) i size ⌝ }
+{
+    if i < bodies.len() {
+        bodies[i] = size;
+    }
+}
+
 // The items of an element of a tag from record `at` on, at a depth.
 pub fn size_items(
     count: usize,
@@ -70,13 +88,14 @@ pub fn size_items(
     depths: &[u8],
     starts: &[u16],
     sizes: &[u16],
+    bodies: &mut [u16],
     octets: &[u8],
     at: usize,
     depth: usize,
     parent: u8,
 ) -> Sized
-    requires { ⌜ Holding count (four tags depths starts sizes) (now octets) × (at ≤ count) × (depth ≤ at + 1) ⌝ }
-    ensures { λ r. ⌜ r ≡ sizedFrom (four (tags .entry) (depths .entry) (starts .entry) (sizes .entry)) count (now (octets .entry)) parent depth at ⌝ }
+    requires { ⌜ Holding count (four tags depths starts sizes) (now octets) × Ordered parent (itemsFrom (four tags depths starts sizes) count (now octets) depth at .0) × (at ≤ count) × (depth ≤ at + 1) ⌝ }
+    ensures { λ r. ⌜ Sizes count (four (tags .entry) (depths .entry) (starts .entry) (sizes .entry)) (now (octets .entry)) parent depth at (now (bodies .entry)) (now (bodies .exit)) r ⌝ }
 {
     let mut i = at;
     let mut total: usize = 0;
@@ -88,8 +107,9 @@ pub fn size_items(
                     next: i,
                 };
             }
-            Part::Single(size) => {
-                total = total + size.0;
+            Part::Single { size, adds } => {
+                put_size(bodies, i, size);
+                total = total + adds.0;
                 i = i + 1;
             }
             Part::Holds(tag) => {
@@ -99,6 +119,7 @@ pub fn size_items(
                     depths,
                     starts,
                     sizes,
+                    bodies,
                     octets,
                     i + 1,
                     depth + 1,
@@ -106,7 +127,9 @@ pub fn size_items(
                 ) else {
                     return Sized::Over;
                 };
-                total = total + framed_size(inner).0;
+                let size = inner.0 as u16;
+                put_size(bodies, i, size);
+                total = total + framed_size(size).0;
                 i = next;
             }
         }

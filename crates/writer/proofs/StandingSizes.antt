@@ -1,11 +1,12 @@
--- A tree that memory holds has the sizes of its elements' bodies in the list for them, each at its record.
+-- A list whose first numbers are the sizes of a tree's bodies has the size of each element's body at its record.
 use mathlib.Core.Path.{_≡_, refl, sym, ap, _∙_, subst}
 use mathlib.Core.Bool.{Bool, true, false, false≢true}
+use mathlib.Core.Option.{some}
 use mathlib.Core.List.{List, [], _∷_, _++_, append-assoc}
 use Prim.Native.Nat.{ℕ, zero, suc, _+_, _-_, _≤_, _<_}
 use native.Mathlib.Omega.{arith}
 use lib.Dec.{eqb, ltb}
-use lib.ListN.{length, take, drop, getD, length-drop, take-append-drop}
+use lib.ListN.{length, take, drop, getD, take-append-drop}
 use lib.Seq.{drop-drop}
 use borrow.Author.Tests.{eqb-true, eqb-false, ltb-true, ltb-false}
 use Rattle.octets.proofs.Lists.{getD-here}
@@ -13,16 +14,15 @@ use Rattle.format.specs.Tree.{Items}
 use Rattle.format.specs.Tree.Items.{end, item}
 use Rattle.format.specs.Meaning.{opens, attributesIn, rising}
 use Rattle.format.specs.Writer.{Spot, below, past, atTop, bodyIn, here, ruled}
-use Rattle.format.specs.Calls.{Lists, row}
-use Rattle.format.specs.State.{Memory, normalBody, bodySizes}
+use Rattle.format.specs.Calls.{Lists, row, treeGiven}
+use Rattle.format.specs.State.{normalBody, bodySizes}
 use Rattle.format.proofs.Kept.{Ruled, ruled-parts}
 use Rattle.format.proofs.Walk.{here-less, here-depth}
 use Rattle.survey.specs.Normal.{attributeOctets}
-use Rattle.state.proofs.HeldTree.{Held}
 use Rattle.writer.specs.Steps.{itemsFrom, bodyOctets, SizesStand}
 use Rattle.writer.proofs.Order.{laid}
-use Rattle.writer.proofs.Rows.{from-stop, from-single, from-nested, from-ahead, from-within, fourIn}
-use Rattle.writer.proofs.Whole.{tree-items}
+use Rattle.writer.proofs.Rows.{from-stop, from-single, from-nested, from-ahead, from-many, fourIn}
+use Rattle.writer.proofs.Whole.{tree-items, tree-rules, tree-many}
 
 -- what is known of the first number from a place on, and of those behind it
 first-at : (l : List ℕ) (i x : ℕ) (xs : List ℕ) → drop i l ≡ x ∷ xs → getD l i 0 ≡ x
@@ -121,15 +121,16 @@ module _ (l : Lists) (n : ℕ) (lent bodies : List ℕ) where
       go true h false o ih = stood-single k ih d i s rest lt r e h o
       go true h true o ih = stood-nested k ih d i s rest lt r e h o
 
--- so it is with all records of a tree that is held
-pub held-stand : (n : ℕ) (m : Memory) (t : Items) → Held n m t → SizesStand n (fourIn (m .lists)) (m .store) (m .bodies)
+-- so it is with all records
+pub sizes-stand : (n : ℕ) (lists : Lists) (lent : List ℕ) (t : Items) → treeGiven n lists lent ≡ some t → (bodies : List ℕ) → n ≤ length bodies → take n bodies ≡ bodySizes 0 t
+    → SizesStand n (fourIn lists) lent bodies
 unfolding atTop
-held-stand n m t h =
-    let l = fourIn (m .lists) in
-    let is : itemsFrom l n (m .store) 1 0 .0 ≡ t = tree-items n (m .lists) (m .store) t (h .given) in
-    let all : drop 0 (m .bodies) ≡ bodySizes 0 (itemsFrom l n (m .store) 1 0 .0) ++ drop n (m .bodies) =
-    sym (take-append-drop n (m .bodies)) ∙ ap (λ z. z ++ drop n (m .bodies)) (h .sizes ∙ ap (bodySizes 0) (sym is)) in
-    let g = stood l n (m .store) (m .bodies) (suc n) 1 0 atTop (drop n (m .bodies)) (omega arith) (subst (λ z. ruled atTop z ≡ true) (sym is) (h .whole .rules)) all in
-    let last : itemsFrom l n (m .store) 1 0 .1 ≡ n =
-    omega (arith, h .fewer, from-within l n (m .store) 1 0 (omega arith), ap length (g .next), length-drop n (m .bodies), length-drop (itemsFrom l n (m .store) 1 0 .1) (m .bodies)) in
-    record { places = h .fewer; right = λ i lt. g .right i (omega arith) (omega (arith, lt, last)) }
+sizes-stand n lists lent t given bodies fewer sizes =
+    let l = fourIn lists in
+    let is : itemsFrom l n lent 1 0 .0 ≡ t = tree-items n lists lent t given in
+    let all : drop 0 bodies ≡ bodySizes 0 (itemsFrom l n lent 1 0 .0) ++ drop n bodies =
+    sym (take-append-drop n bodies) ∙ ap (λ z. z ++ drop n bodies) (sizes ∙ ap (bodySizes 0) (sym is)) in
+    let rules = subst (λ z. ruled atTop z ≡ true) (sym is) (tree-rules n lists lent t given) in
+    let g = stood l n lent bodies (suc n) 1 0 atTop (drop n bodies) (omega arith) rules all in
+    let last : itemsFrom l n lent 1 0 .1 ≡ n = omega (arith, from-many l n lent 1 0 0, ap (λ z. length (bodySizes 0 z)) is, tree-many n lists lent t given) in
+    record { places = fewer; right = λ i lt. g .right i (omega arith) (omega (arith, lt, last)) }
