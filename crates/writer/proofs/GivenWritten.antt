@@ -1,13 +1,12 @@
 -- The ways through `write`: the records that are lent are no tree, or its octets don't fit, or it is written once the sizes of its bodies stand.
-use mathlib.Core.Path.{_≡_, refl, sym, ap, _∙_, subst}
+use mathlib.Core.Path.{_≡_, refl, sym, ap, _∙_}
 use mathlib.Core.Bool.{Bool, true, false, not, false≢true}
 use mathlib.Core.Option.{Option, none, some}
 use mathlib.Core.List.{List, []}
-use Prim.Native.Nat.{ℕ, _+_, _≤_, _<_, min}
+use Prim.Native.Nat.{ℕ, _≤_, _<_, min}
 use native.Mathlib.Omega.{arith}
 use native.Mathlib.Nat.{min-le-left, min-le-right, le-min}
-use lib.Dec.{leb}
-use lib.ListN.{length, take, drop}
+use lib.ListN.{length, take}
 use lib.Seq.{sets, length-sets}
 use borrow.Author.Tests.{le-leb, lt-leb, not-true, not-false}
 use Rattle.octets.specs.declared.counts.Octets.{Octets as OctetCount}
@@ -33,10 +32,21 @@ use Rattle.writer.proofs.Whole.{Gives, tree-holding, tree-items, tree-o
 use Rattle.writer.proofs.StandingSizes.{sizes-stand}
 
 module _ (n : ℕ) (m : Memory) where
+  -- what is claimed of a tree, or of none, is claimed of the records that give it, where its sizes are stored
+  as-given : (o : Option Items) → treeIn n m ≡ o → (bodies′ room after : List ℕ) (a : WriteAnswer) → Gives o room after a → bodies′ ≡ sets (m .bodies) 0 (writeSizes (sizeOf room) o)
+      → WriteClaim n m bodies′ room after a
+  as-given o q bodies′ room after a g z =
+      let e = sym q in
+      record {
+        answers = g .answers ∙ ap (writeAnswer (sizeOf room)) e;
+        sizes = z ∙ ap (λ o. sets (m .bodies) 0 (writeSizes (sizeOf room) o)) e;
+        leaves = g .leaves ∙ ap (λ o. sets room 0 (writeOctets (sizeOf room) o)) e;
+      }
+
   -- 16
   none-given : treeIn n m ≡ none → (room : List ℕ) (a : WriteAnswer) → a ≡ NotWritten (refusal 16 0) → WriteClaim n m (m .bodies) room room a
   unfolding writeAnswer writeOctets writeSizes
-  none-given e room a ae = record { answers = ae ∙ sym (ap (writeAnswer (sizeOf room)) e); sizes = sym (ap (λ o. sets (m .bodies) 0 (writeSizes (sizeOf room) o)) e); leaves = sym (ap (λ o. sets room 0 (writeOctets (sizeOf room) o)) e) }
+  none-given e room a ae = as-given none e (m .bodies) room room a (record { answers = ae; leaves = refl }) refl
 
   pub few-places : length (m .bodies) < n → (room : List ℕ) (a : WriteAnswer) → a ≡ NotWritten (refusal 16 0) → WriteClaim n m (m .bodies) room room a
   few-places h = none-given (rw (lt-leb n (length (m .bodies)) h))
@@ -71,23 +81,16 @@ module _ (n : ℕ) (m : Memory) where
       abbrev items : Items
       items = itemsFrom (fourIn (m .lists)) n (m .store) 1 0 .0
 
-      -- what is claimed of a tree is claimed of the records that give it, where its sizes are stored
-      as-given : (bodies′ room after : List ℕ) (a : WriteAnswer) → Gives (some t) room after a → bodies′ ≡ sets (m .bodies) 0 (writeSizes (sizeOf room) (some t))
-          → WriteClaim n m bodies′ room after a
-      as-given bodies′ room after a g z =
-          let e = sym (in-all ∙ given) in
-          record {
-            answers = g .answers ∙ ap (writeAnswer (sizeOf room)) e;
-            sizes = z ∙ ap (λ o. sets (m .bodies) 0 (writeSizes (sizeOf room) o)) e;
-            leaves = g .leaves ∙ ap (λ o. sets room 0 (writeOctets (sizeOf room) o)) e;
-          }
+      in-some : treeIn n m ≡ some t
+      in-some = in-all ∙ given
 
       -- 15: nothing is stored
-      unfit : (room : List ℕ) → min (length room) 32_768 < length (encode (means [] t)) → (a : WriteAnswer) → a ≡ NotWritten (refusal 15 0) → WriteClaim n m (m .bodies) room room a
+      unfit : (room : List ℕ) → min (length room) 32_768 < length (encode (means [] t)) → (a : WriteAnswer)
+          → a ≡ NotWritten (refusal 15 0) → WriteClaim n m (m .bodies) room room a
       unfolding writeSizes
       unfit room l a ae =
           let f = not-roomy n (m .lists) (m .store) t given room l in
-          rw ae (as-given (m .bodies) room room (NotWritten (refusal 15 0)) (too-many n (m .lists) (m .store) t given room f) (rw f))
+          rw ae (as-given (some t) in-some (m .bodies) room room (NotWritten (refusal 15 0)) (too-many n (m .lists) (m .store) t given room f) (rw f))
 
       pub given-holding : Holding n (fourIn (m .lists)) (m .store)
       given-holding = tree-holding n (m .lists) (m .store) t given
@@ -134,4 +137,5 @@ module _ (n : ℕ) (m : Memory) where
             pub given-written : (after : List ℕ) (r : Reached) → Emits (itemsFrom (fourIn (m .lists)) n (m .store) 1 0) 0 0 room after r
                 → WriteClaim n m bodies′ room after (Octets (asOctets (r .end)))
             unfolding writeSizes
-            given-written after r g = as-given bodies′ room after (Octets (asOctets (r .end))) (tree-written n (m .lists) (m .store) t given room fit after r g) (rw fit stored)
+            given-written after r g =
+                as-given (some t) in-some bodies′ room after (Octets (asOctets (r .end))) (tree-written n (m .lists) (m .store) t given room fit after r g) (rw fit stored)

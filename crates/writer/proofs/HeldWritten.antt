@@ -22,7 +22,7 @@ use Rattle.format.specs.Judge.{isItems}
 use Rattle.format.specs.Meaning.{opens, means, encode}
 use Rattle.format.specs.Writer.{past, atTop, ruled}
 use Rattle.format.specs.Calls.{row, roomy, writeAnswer, writeOctets}
-use Rattle.format.specs.State.{Memory, packed, bodySizes, treeHeld}
+use Rattle.format.specs.State.{Memory, bodySizes, treeHeld}
 use Rattle.format.proofs.Kept.{Ruled, ruled-parts, keeps-parts}
 use Rattle.format.proofs.Fine.{placed-parts}
 use Rattle.format.proofs.Force.{top-known}

@@ -1,6 +1,6 @@
 -- Answers that `write_state` doesn't give, refuted at one memory: a top, a schedule in it, a programme in that, and the recommendation of the programme, whose value 1,
 -- "no", is its default (request 2026-05), so that it is held but not written.
-use mathlib.Core.Path.{_≡_, refl, sym, _∙_}
+use mathlib.Core.Path.{_≡_, refl, _∙_}
 use mathlib.Core.List.{List, [], _∷_}
 use Prim.Native.Nat.{ℕ}
 use native.Mathlib.Omega.{arith}
@@ -9,7 +9,6 @@ use Rattle.octets.specs.Numbers.{among, value, digits}
 use Rattle.octets.specs.Header.{lengthField, framed}
 use Rattle.values.specs.Table.{rows, kindIn, known, attribute, defaults, defaultIn}
 use Rattle.values.specs.Values.{width, fits, meant, octetsOf, isDefault}
-use Rattle.format.specs.declared.WriteAnswer.{WriteAnswer}
 use Rattle.format.specs.declared.WriteAnswer.the-variants.{Octets, NotWritten}
 use Rattle.format.specs.Answers.{refusal}
 use Rattle.format.specs.Tree.{find, kindOf}

@@ -32,7 +32,7 @@ use Rattle.format.proofs.Loading.{loaded-means, loaded-count}
 use Rattle.survey.specs.Normal.{framedSize}
 use Rattle.state.specs.declared.Filled.the-variants.{Upto}
 use Rattle.state.specs.Order.{heldAs}
-use Rattle.state.specs.Taking.{overflow, settled, takenIn, left, TakeInClaim, lentBy, loadedInto, NormaliseClaim, WriteStateClaim}
+use Rattle.state.specs.Taking.{settled, takenIn, left, TakeInClaim, lentBy, loadedInto, NormaliseClaim, WriteStateClaim}
 use Rattle.state.proofs.HeldTree.{Fits, held, accepted-held}
 use Rattle.state.proofs.Taken.{taken-ends, fitting-tree, fitting-room}
 use Rattle.edits.proofs.Surveyed.{same-overflow}

@@ -171,8 +171,8 @@ own-behind l i size xs ys =
 stood-length : (before bodies : List ℕ) (at i : ℕ) (xs ys : List ℕ) → sets before at xs ≡ sets bodies i ys → length bodies ≡ length before
 stood-length before bodies at i xs ys e = sym (length-sets bodies i ys) ∙ (ap length (sym e) ∙ length-sets before at xs)
 
--- the loop's invariant: the size so far with the size from record i on is the size of all, both end at one record, and the sizes of bodies from record i on are those
--- that have no place in the list yet
+-- the loop's invariant: the size so far with the size from record i on is the size of all, both end at one record, and what is left keeps the rules. Its sizes of
+-- bodies, stored in the list from record i on, leave what all of them leave
 pub record Sums (l : Lists) (n : ℕ) (lent : List ℕ) (at depth p : ℕ) (before bodies : List ℕ) (i total : ℕ) : Type 0 where
   pub low : at ≤ i
   pub high : i ≤ n
@@ -191,7 +191,8 @@ pub record Added (l : Lists) (n : ℕ) (lent : List ℕ) (at depth p : ℕ) (bef
   pub same : next l n lent depth at ≡ next l n lent depth j
   pub stands : sets before at (own l n lent p depth at) ≡ sets bodies j (own l n lent p depth j)
 
-pub sums-start : (l : Lists) (n : ℕ) (lent : List ℕ) (at depth p : ℕ) (bodies : List ℕ) → at ≤ n → Ordered p (itemsFrom l n lent depth at .0) → Sums l n lent at depth p bodies bodies at 0
+pub sums-start : (l : Lists) (n : ℕ) (lent : List ℕ) (at depth p : ℕ) (bodies : List ℕ) → at ≤ n → Ordered p (itemsFrom l n lent depth at .0)
+    → Sums l n lent at depth p bodies bodies at 0
 sums-start l n lent at depth p bodies h o =
     record { low = omega arith; high = h; small = omega arith; ordered = o; added = omega arith; same = refl; stands = refl }
 
@@ -260,7 +261,8 @@ module _ (l : Lists) (n : ℕ) (lent : List ℕ) (at depth p : ℕ) (before bodi
           let y = itemsFrom l n lent depth (i + 1) .0 in
           let r = single-right in
           let u = size-item (o .spot) tag-here (row l i .start) body-here end y (ordered-first p tag-here (row l i .start) body-here end y o) in
-          let z = subst (λ q. normalSize q (item tag-here (row l i .start) body-here end y) ≡ adds q tag-here body-here (bodySize q tag-here body-here end) + normalSize q y) (o .element) u in
+          let first = item tag-here (row l i .start) body-here end y in
+          let z = subst (λ q. normalSize q first ≡ adds q tag-here body-here (bodySize q tag-here body-here end) + normalSize q y) (o .element) u in
           ap (λ y. normalSize p (y .0)) single ∙ (z ∙ ap (λ q. q + normalSize p y) (sym (r .1 ∙ ap (adds p tag-here body-here) (r .0))))
 
       single-stands : sets bodies i (own l n lent p depth i) ≡ sets (set bodies i size) (i + 1) (own l n lent p depth (i + 1))
@@ -337,7 +339,8 @@ module _ (l : Lists) (n : ℕ) (lent : List ℕ) (at depth p : ℕ) (before bodi
           nested-stands =
               let w = within in
               let size : bodySize p tag-here body-here inside ≡ t .0 = holds-size ∙ w .0 in
-              let there : mid ≡ sets bodies (i + 1) (bodySizes tag-here inside) = g .stands (omega (arith, w .0, w .2)) ∙ ap (λ k. sets bodies (i + 1) (bodySizes k inside)) (holds-says .2) in
+              let there : mid ≡ sets bodies (i + 1) (bodySizes tag-here inside) =
+              g .stands (omega (arith, w .0, w .2)) ∙ ap (λ k. sets bodies (i + 1) (bodySizes k inside)) (holds-says .2) in
               ap (λ y. sets bodies i (bodySizes p (y .0))) nested
               ∙ (own-behind bodies i (bodySize p tag-here body-here inside) (bodySizes tag-here inside) (bodySizes p behind)
               ∙ rw (size, ← there, ← from-many l n lent (depth + 1) (i + 1) tag-here))

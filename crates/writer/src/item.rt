@@ -1,6 +1,5 @@
 // The octets of an item that holds no items, once it is known to be written, and any item's header. Whether it is written is asked before, of survey's
 // `written_as` (put_written in emit.rt).
-ghost use mathlib.Core.Path.{_≡_};
 ghost use mathlib.Core.List.{_∷_};
 ghost use Prim.Native.Nat.{_≤_};
 ghost use lib.ListN.{length};

@@ -1,10 +1,10 @@
-// The writer and the normaliser. Records over lent octets become the octets of their normal form (document 01, Records and meaning): those that a caller lends are
-// checked, then measured, and only what is known to fit the room is written. An object has one normal form with all objects that mean the same: it is loaded as
-// records that are known to be well formed and to fit, so they are written without being looked at before.
+// The writer and the normaliser. Records over lent octets become the octets of their normal form (document 01, Records and meaning), front to back: the size of each
+// record's body stands in a list of its own, so a header is written before what is in it. Records that a caller lends are checked, then measured, and only what is
+// known to fit the room is written. An object has one normal form with all objects that mean the same: it is loaded as records that are known to be well formed and
+// to fit, with their sizes, so they are written without being looked at before.
 ghost use mathlib.Core.Path.{_≡_};
 ghost use Rattle.format.specs.declared.WriteAnswer.the-variants.{NotWritten};
 ghost use Rattle.format.specs.Answers.{refusal};
-ghost use Rattle.format.specs.Lent.{lent};
 ghost use Rattle.state.specs.Taking.{memory, NormaliseClaim, WriteClaim, WriteStateClaim};
 
 mod emit;
@@ -106,7 +106,7 @@ pub fn write_state(
     store: &[u8],
     room: &mut [u8],
 ) -> WriteAnswer
-    ensures { λ r. ⌜ WriteStateClaim count (record { lists = lent (tags .entry) (kinds .entry) (depths .entry) (parents .entry) (starts .entry) (sizes .entry); bodies = now (bodies .entry); store = now (store .entry) }) (now (room .entry)) (now (room .exit)) r ⌝ }
+    ensures { λ r. ⌜ WriteStateClaim count (memory (tags .entry) (kinds .entry) (depths .entry) (parents .entry) (starts .entry) (sizes .entry) (bodies .entry) (store .entry)) (now (room .entry)) (now (room .exit)) r ⌝ }
 {
     match held(
         count,
