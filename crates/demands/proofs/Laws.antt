@@ -117,12 +117,15 @@ module _ (n : ℕ) (memory : Memory) (t : Items) where
   abbrev lent : List ℕ
   lent = memory .store
 
-  pub tree-given : GivenTree n memory t → treeIn n memory ≡ some t
+  pub lists-given : GivenTree n memory t → treeGiven n lists lent ≡ some t
   unfolding treeGiven placesIn
-  tree-given g =
-      let p = g .placed in
-      rw (le-leb n (length (memory .bodies)) (omega (arith, p, min-le-right (places lists) (length (memory .bodies)))), le-leb n (places lists) (omega (arith, p, min-le-left (places lists) (length (memory .bodies)))))
+  lists-given g =
+      rw (le-leb n (places lists) (omega (arith, g .placed, min-le-left (places lists) (length (memory .bodies)))))
       (whole-rebuilt (row lists) n lent t (record { some = g .some; records = sym (g .records); located = lies-located lent t (g .lies); rules = g .rules }))
+
+  pub tree-given : GivenTree n memory t → treeIn n memory ≡ some t
+  unfolding placesIn
+  tree-given g = rw (le-leb n (length (memory .bodies)) (omega (arith, g .placed, min-le-right (places lists) (length (memory .bodies))))) (lists-given g)
 
   pub given-tree : treeIn n memory ≡ some t → GivenTree n memory t
   unfolding placesIn

@@ -32,7 +32,7 @@ use Rattle.reader.proofs.Parts.{inside as span-is}
 use Rattle.writer.proofs.Theorems.{delivered}
 use Rattle.demands.specs.One.{ReadOrder}
 use Rattle.demands.specs.Two.{AcceptedExactly, ReadExactly, JudgedExactly, OneTree, BodiesFound, HandedOut, TreeHandedOut, SliceHandedOut, WrittenReadsBack}
-use Rattle.demands.proofs.Laws.{of-object, tree-given, located-lies, has-meaning}
+use Rattle.demands.proofs.Laws.{of-object, lists-given, located-lies, has-meaning}
 use Rattle.demands.proofs.One.{read-in-order, read-records-in-order, write-in-order}
 
 pub accepted-exactly : AcceptedExactly
@@ -142,7 +142,7 @@ written-reads-back n memory bodies′ before after answer os out c t g room obje
     let k = sizeOf (encode (means [] t)) in
     let e : answer ≡ Written k = write-in-order n memory bodies′ before after answer c .octets k .1 (t, g, refl, le-min room object) in
     let d = delivered n memory bodies′ before after os k (subst (WriteClaim n memory bodies′ before after) e c) in
-    let same : d .tree ≡ t = (let p = d .given in let q = tree-given n memory t g in cc) in
+    let same : d .tree ≡ t = (let p = d .given in let q = lists-given n memory t g in cc) in
     let m = has-meaning (take (k .0) after) (means [] (d .tree)) (d .meant) in (
       k,
       e,
