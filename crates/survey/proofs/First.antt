@@ -1,4 +1,4 @@
--- The place of the first item that a test picks: it lies inside the object, and it is the tag's of the tree's first such item.
+-- The place of the first item that a test picks: it lies inside the object, it is the tag's of the tree's first such item, and it is the same for tests that pick the same.
 use mathlib.Core.Path.{_≡_, refl, sym, ap, ap₂, _∙_, subst}
 use mathlib.Core.Bool.{Bool, true, false, cond, _&&_, false≢true}
 use mathlib.Core.Option.{Option, none, some, Option·some-injective, Option·none-ne-some}
@@ -224,3 +224,21 @@ seated o P (suc k) parent depth at (tag ∷ rest) t l w a p e =
 pub place-seated : (P : ℕ → ℕ → Bool) (o : List ℕ) (t : Items) → judge o ≡ accepted t → (p : ℕ) → placeAt P o ≡ some p → Seated o p
 unfolding placeAt
 place-seated P o t h = seated o P (suc (length o)) 0 1 0 o t (omega arith) (itself o) (whole o t h)
+
+-- ---- two tests
+
+-- tests that pick the same known items find the same place
+same-within : (P Q : ℕ → ℕ → Bool) → ((parent tag : ℕ) → picks P parent tag ≡ picks Q parent tag) → (k parent at : ℕ) (s : List ℕ) → placeIn k P parent at s ≡ placeIn k Q parent at s
+unfolding placeIn
+same-within P Q h zero parent at s = refl
+same-within P Q h (suc k) parent at [] = refl
+same-within P Q h (suc k) parent at (tag ∷ rest) =
+    let s : List ℕ = tag ∷ rest in
+    rw (h parent tag)
+    (ap₂ (λ inner later. cond (picks Q parent tag) (some at) (orElse (cond (isItems (known parent tag)) inner none) later))
+    (same-within P Q h k tag (at + headerSize s) (firstBody s))
+    (same-within P Q h k parent (at + headerSize s + bodySize s) (afterFirst s)))
+
+pub place-same : (P Q : ℕ → ℕ → Bool) → ((parent tag : ℕ) → picks P parent tag ≡ picks Q parent tag) → (o : List ℕ) → placeAt P o ≡ placeAt Q o
+unfolding placeAt
+place-same P Q h o = same-within P Q h (suc (length o)) 0 0 o

@@ -8,6 +8,7 @@ pub mod Seeking
 pub mod First
 pub mod Once
 pub mod Looking
+pub mod Listing
 pub mod Parts
 pub mod Adding
 pub mod Measuring

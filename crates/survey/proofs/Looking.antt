@@ -1,4 +1,4 @@
--- The ways through functions that look for the first item that a test picks, whatever the test is.
+-- The ways through look_item and look_items, whatever the test is.
 use mathlib.Core.Path.{_≡_, refl, sym, ap, _∙_}
 use mathlib.Core.Bool.{Bool, true, false, cond}
 use mathlib.Core.Option.{Option, none, some}
@@ -21,13 +21,12 @@ use Rattle.format.specs.Tree.{Items}
 use Rattle.format.specs.Judge.{isItems}
 use Rattle.reader.specs.Filling.{Accepts}
 use Rattle.reader.proofs.Opening.{lies-inside, met}
-use Rattle.reader.proofs.Reading.{whole}
-use Rattle.survey.specs.declared.Place.{Place}
-use Rattle.survey.specs.declared.Place.the-variants.{Nowhere, At}
-use Rattle.survey.specs.declared.Step.{Step}
-use Rattle.survey.specs.declared.Step.the-variants.{Past, Into, Picked}
-use Rattle.survey.specs.First.{orElse, picks, placeIn, placeAt}
-use Rattle.survey.specs.Looks.{stepOf, placeOf, ItemLooked, ItemsLooked, ObjectLooked}
+use Rattle.survey.specs.declared.look.Place.{Place}
+use Rattle.survey.specs.declared.look.Place.the-variants.{Nowhere, At}
+use Rattle.survey.specs.declared.look.Step.{Step}
+use Rattle.survey.specs.declared.look.Step.the-variants.{Past, Into, Picked}
+use Rattle.survey.specs.First.{orElse, picks, placeIn}
+use Rattle.survey.specs.Looks.{stepOf, placeOf, ItemLooked, ItemsLooked}
 
 -- ---- look_item
 
@@ -221,10 +220,6 @@ module _ (P : ℕ → ℕ → Bool) (parent left : ℕ) (part : List ℕ) (offse
           }
 
 pub ruleset look-ways = (look-begin, look-end, look-past, look-to, look-ordered, look-less, look-body, look-from, look-found, look-again)
-
-pub look-whole : (P : ℕ → ℕ → Bool) (object : List ℕ) (r : Place) → ItemsLooked P 0 16 object 0 r → ObjectLooked P object r
-unfolding ItemsLooked ObjectLooked placeAt
-look-whole P object r w t h = w 1 t (suc (length object)) refl (omega arith) (whole object t h)
 
 pub place-none : (o : Option ℕ) → Nowhere ≡ placeOf o → o ≡ none
 unfolding placeOf

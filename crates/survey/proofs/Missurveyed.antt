@@ -1,11 +1,13 @@
 -- Wrong answers of the calls, each refuted by what its contract says.
 use mathlib.Core.Path.{_≡_, refl, sym, ap, _∙_}
+use mathlib.Core.Bool.{true, false}
+use mathlib.Core.Option.{Option}
 use mathlib.Core.List.{List, [], _∷_}
 use Prim.Native.Nat.{ℕ, _<_}
 use native.Mathlib.Omega.{arith}
 use lib.ListN.{length, getD}
 use borrow.Author.Tests.{lt-leb}
-use Rattle.octets.specs.Numbers.{digits, value}
+use Rattle.octets.specs.Numbers.{among, digits, value}
 use Rattle.octets.specs.Header.{headerSize, bodySize, lengthField, framed}
 use Rattle.octets.specs.Counts.{asOctets}
 use Rattle.octets.specs.declared.Lies.the-variants.{Outside, Between}
@@ -20,7 +22,7 @@ use Rattle.format.specs.declared.Refusal.{Refusal}
 use Rattle.format.specs.Answers.{refusal, wrongValue}
 use Rattle.format.specs.Tree.{Items, count}
 use Rattle.format.specs.Tree.Items.{end, item}
-use Rattle.format.specs.Judge.{isItems}
+use Rattle.format.specs.Judge.{isKnown, isItems}
 use Rattle.format.specs.Judge.Judged.{refused, accepted}
 use Rattle.format.specs.Meaning.{opens, maybe}
 use Rattle.format.specs.Loaded.{stored, storeIn}
@@ -29,11 +31,13 @@ use Rattle.survey.specs.declared.measure.Measured.{Measured}
 use Rattle.survey.specs.declared.measure.Measured.the-variants.{Over, Sizes}
 use Rattle.survey.specs.declared.Needed.{Needed}
 use Rattle.survey.specs.declared.Needed.the-variants.{Refused, Takes}
+use Rattle.survey.specs.declared.look.Sought.the-variants.{Refused as Sought-Refused, Nowhere as Sought-Nowhere, At as Sought-At}
 use Rattle.survey.specs.declared.Standing.the-variants.{Bad, Misfit, Fits}
 use Rattle.survey.specs.Normal.{framedSize, valueOctets, writtenAs, itemOctets, normalSize}
 use Rattle.survey.specs.Sizes.{sizesOf}
 use Rattle.survey.specs.Measure.{measuredIn}
 use Rattle.survey.specs.Survey.{surveyed, neededBy}
+use Rattle.survey.specs.First.{orElse, picks, placeIn, placeAt, inRows, soughtBy, soughtAs}
 use Rattle.survey.specs.Places.{tableWithin, firstTable, tableBody, spanWithin, spanOfTag}
 
 -- ---- survey
@@ -104,6 +108,23 @@ inner-found h = let z : Outside ≡ Between 4 4 = h in never (cc)
 pub late-found : spanOfTag 0x80 (0x10 ∷ 0x00 ∷ 0x80 ∷ 0x01 ∷ 0x61 ∷ []) ≡ Between 4 5 → ⊥
 unfolding spanOfTag spanWithin attribute headerSize bodySize
 late-found h = let z : Outside ≡ Between 4 5 = h in never (cc)
+
+-- ---- find_first
+
+-- nothing found in an object that is refused
+pub refused-searched : (r : Refusal) (place : Option ℕ) → soughtAs (refused r) place ≡ Sought-Nowhere → ⊥
+unfolding soughtAs
+refused-searched r place h = let w : Sought-Refused r ≡ Sought-Nowhere = h in never (cc)
+
+-- an unknown item that isn't listed
+pub unknown-sought : (t : Items) → soughtAs (accepted t) (placeAt (soughtBy false (0x00_03 ∷ []) []) (0x03 ∷ 0x02 ∷ 0x7F ∷ 0x00 ∷ [])) ≡ Sought-At 2 → ⊥
+unfolding soughtAs placeAt placeIn picks soughtBy inRows among orElse headerSize bodySize isKnown isItems known rows kindIn attribute
+unknown-sought t h = let w : Sought-Nowhere ≡ Sought-At 2 = h in never (cc)
+
+-- the last of two
+pub last-sought : (t : Items) → soughtAs (accepted t) (placeAt (soughtBy true (0x03_28 ∷ []) []) (0x03 ∷ 0x04 ∷ 0x28 ∷ 0x00 ∷ 0x28 ∷ 0x00 ∷ [])) ≡ Sought-At 4 → ⊥
+unfolding soughtAs placeAt placeIn picks soughtBy inRows among orElse headerSize bodySize isKnown isItems known rows kindIn attribute
+last-sought t h = let w : Sought-At 2 ≡ Sought-At 4 = h in let z : _≡_ {A = ℕ} 2 4 = cc in omega arith
 
 -- ---- table_of
 

@@ -1,14 +1,19 @@
--- The first known item, in reading order, that a test of its element's tag and its own picks: of a tree, and its place in the octets. 17 is given so (request 2026-02).
-use mathlib.Core.Bool.{Bool, cond, _&&_}
+-- The first known item, in reading order, that a test of its element's tag and its own picks: of a tree, and its place in the octets. 17 and 19 are given so (requests
+-- 2026-02 and 2026-07).
+use mathlib.Core.Bool.{Bool, cond, not, _&&_, _||_}
 use mathlib.Core.Option.{Option, none, some}
 use mathlib.Core.List.{List, [], _∷_}
-use Prim.Native.Nat.{ℕ, zero, suc, _+_}
+use Prim.Native.Nat.{ℕ, zero, suc, _+_, _*_}
 use lib.ListN.{length, take, drop, getD}
+use Rattle.octets.specs.Numbers.{among}
 use Rattle.octets.specs.Header.{headerSize, bodySize}
 use Rattle.values.specs.Table.{known}
 use Rattle.format.specs.Tree.{Items}
 use Rattle.format.specs.Tree.Items.{end, item}
-use Rattle.format.specs.Judge.{isKnown, isItems}
+use Rattle.format.specs.Judge.{Judged, isKnown, isItems, judge}
+use Rattle.format.specs.Judge.Judged.{refused, accepted}
+use Rattle.survey.specs.declared.look.Sought.{Sought}
+use Rattle.survey.specs.declared.look.Sought.the-variants.{Refused, Nowhere, At}
 
 unfoldable pub orElse : {A : Type 0} → Option A → Option A → Option A
 orElse none b = b
@@ -46,3 +51,21 @@ itemAt o place = (getD o place 0, place + headerSize (drop place o), bodySize (d
 unfoldable pub asItem : List ℕ → Option ℕ → Option (ℕ × ℕ × ℕ)
 asItem o none = none
 asItem o (some place) = some (itemAt o place)
+
+-- a test as numbers, since no function can be handed to code: tags of items wherever they stand, and rows, each of them 256 times the tag of an element and the tag of an
+-- item directly in it. The object counts as an element with the tag 0
+unfoldable pub inRows : (rows anywhere : List ℕ) (parent tag : ℕ) → Bool
+inRows rows anywhere parent tag = among tag anywhere || among (parent * 256 + tag) rows
+
+-- looked for is the first item that is listed so, or the first that isn't
+unfoldable pub soughtBy : (listed : Bool) (rows anywhere : List ℕ) (parent tag : ℕ) → Bool
+soughtBy listed rows anywhere parent tag = cond (inRows rows anywhere parent tag) listed (not listed)
+
+-- the answer: 1 to 13 by the judgement, else where the tag of the first such item lies
+unfoldable pub soughtAs : Judged → Option ℕ → Sought
+soughtAs (refused r) place = Refused r
+soughtAs (accepted t) none = Nowhere
+soughtAs (accepted t) (some place) = At place
+
+unfoldable pub soughtIn : (ℕ → ℕ → Bool) → List ℕ → Sought
+soughtIn P object = soughtAs (judge object) (placeAt P object)

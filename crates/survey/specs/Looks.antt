@@ -1,5 +1,4 @@
--- What functions say that look for the first item that a test picks. A test can't be handed to code, so each crate that has one has such functions of its own, and
--- says these of them.
+-- What the functions below `find_first` say, which look for the first item that a test picks.
 use mathlib.Core.Path.{_≡_}
 use mathlib.Core.Bool.{Bool, true, cond}
 use mathlib.Core.Option.{Option, none, some}
@@ -8,14 +7,13 @@ use Prim.Native.Nat.{ℕ, _+_, _≤_, _<_}
 use lib.ListN.{length}
 use Rattle.values.specs.Table.{known}
 use Rattle.format.specs.Tree.{Items}
-use Rattle.format.specs.Judge.{isItems, judge}
-use Rattle.format.specs.Judge.Judged.{accepted}
+use Rattle.format.specs.Judge.{isItems}
 use Rattle.reader.specs.Filling.{Accepts}
-use Rattle.survey.specs.declared.Place.{Place}
-use Rattle.survey.specs.declared.Place.the-variants.{Nowhere, At}
-use Rattle.survey.specs.declared.Step.{Step}
-use Rattle.survey.specs.declared.Step.the-variants.{Past, Into, Picked}
-use Rattle.survey.specs.First.{picks, placeIn, placeAt}
+use Rattle.survey.specs.declared.look.Place.{Place}
+use Rattle.survey.specs.declared.look.Place.the-variants.{Nowhere, At}
+use Rattle.survey.specs.declared.look.Step.{Step}
+use Rattle.survey.specs.declared.look.Step.the-variants.{Past, Into, Picked}
+use Rattle.survey.specs.First.{picks, placeIn}
 
 -- what is to be done with an item
 unfoldable pub stepOf : (ℕ → ℕ → Bool) → ℕ → ℕ → Step
@@ -35,6 +33,3 @@ ItemLooked P parent tag left body place from r =
 unfoldable pub ItemsLooked : (ℕ → ℕ → Bool) → (parent left : ℕ) (part : List ℕ) (offset : ℕ) → Place → Type 0
 ItemsLooked P parent left part offset r =
     (depth : ℕ) (t : Items) (k : ℕ) → depth + left ≡ 17 → length part < k → Accepts parent depth offset part t → r ≡ placeOf (placeIn k P parent offset part)
-
-unfoldable pub ObjectLooked : (ℕ → ℕ → Bool) → List ℕ → Place → Type 0
-ObjectLooked P object r = (t : Items) → judge object ≡ accepted t → r ≡ placeOf (placeAt P object)

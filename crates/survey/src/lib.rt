@@ -1,11 +1,13 @@
-// An object is surveyed before anything is written: judged, and then measured and held against what is lent. Also where an item of a tag lies, and the token table of an
-// object, for whoever walks over an object again, and whether an item is written in normal form. No call asks anything of its arguments, and none is lent memory to write to.
+// An object is surveyed before anything is written: judged, and then measured and held against what is lent. Also where an item of a tag lies, and the first item that a
+// list has or lacks, the token table of an object, for whoever walks over an object again, and whether an item is written in normal form. No call asks anything of its
+// arguments, and none is lent memory to write to.
 ghost use mathlib.Core.Path.{_≡_};
 ghost use Rattle.format.specs.Judge.{judge};
 ghost use Rattle.judge.specs.Inside.{judgeInside};
 ghost use Rattle.survey.specs.Survey.{sufficient, surveyed, neededBy};
 
 mod find;
+mod look;
 mod measure;
 mod table;
 mod written;
@@ -18,6 +20,8 @@ use format::Refusal;
 use format::refuse;
 use judge::judge;
 use judge::judge_inside;
+pub use look::Sought;
+pub use look::find_first;
 pub use measure::Measured;
 use octets::Octets;
 pub use table::table_of;
@@ -35,19 +39,6 @@ pub enum Standing {
 pub enum Needed {
     Refused(Refusal),
     Takes { records: usize, sizes: Measured },
-}
-
-// Where the tag of an item lies that is looked for, if there is one.
-pub enum Place {
-    Nowhere,
-    At(usize),
-}
-
-// What is to be done with an item where one is looked for: it is passed over, looked into, or it is the one.
-pub enum Step {
-    Past,
-    Into,
-    Picked,
 }
 
 fn is_sufficient(needs: Measured, store: Octets, room: Octets) -> bool

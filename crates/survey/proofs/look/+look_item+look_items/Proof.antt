@@ -1,41 +1,41 @@
-use Rattle.xml.specs.Named.{plainHere}
+use Rattle.survey.specs.First.{soughtBy}
 use Rattle.survey.proofs.Looking.{item-ways, look-ways, Looks}
+use borrow.Author.Needs.{needs}
 use Prim.Native.Nat.{_+_, _*_, _-_, ℕ, _<_}
 use lib.ListN.{length}
-use borrow.Author.Needs.{needs}
 use borrow.Fn.Kinds.{In}
 use borrow.Fn.PlainCycle.{Measures, is, falls, and}
-use Rattle.xml.proofs.plain.look_item.Reads as look-item
-use Rattle.xml.proofs.plain.look_item.Kinds as look-item-kinds
-use Rattle.xml.proofs.plain.+look_item+look_items.Lts-look_item as look-item-lts
-use Rattle.xml.proofs.plain.look_items.Reads as look-items
-use Rattle.xml.proofs.plain.look_items.Kinds as look-items-kinds
-use Rattle.xml.proofs.plain.+look_item+look_items.Lts-look_items as look-items-lts
-use Rattle.xml.proofs.plain.step_of.Reads as step-of-reads
+use Rattle.survey.proofs.look.look_item.Reads as look-item
+use Rattle.survey.proofs.look.look_item.Kinds as look-item-kinds
+use Rattle.survey.proofs.look.+look_item+look_items.Lts-look_item as look-item-lts
+use Rattle.survey.proofs.look.look_items.Reads as look-items
+use Rattle.survey.proofs.look.look_items.Kinds as look-items-kinds
+use Rattle.survey.proofs.look.+look_item+look_items.Lts-look_items as look-items-lts
 use Rattle.octets.proofs.item_at.Reads as item-at-reads
-use Rattle.xml.proofs.plain.+look_item+look_items.{statement}
-use Rattle.xml.proofs.plain.+look_item+look_items.Tie.{close}
+use Rattle.survey.proofs.look.step_of.Reads as step-of-reads
+use Rattle.survey.proofs.look.+look_item+look_items.{statement}
+use Rattle.survey.proofs.look.+look_item+look_items.Tie.{close}
 
-abbrev μ-look-item : Measures 1 look-item-kinds.ps ℕ
-μ-look-item κs a = 2 * a .1 .1 .0
+abbrev μ-look-item : Measures 3 look-item-kinds.ps ℕ
+μ-look-item κs a = 2 * a .1 .1 .1 .1 .1 .0
 
-abbrev μ-look-items : Measures 1 look-items-kinds.ps ℕ
-μ-look-items κs a = 2 * a .1 .0 + 1
+abbrev μ-look-items : Measures 3 look-items-kinds.ps ℕ
+μ-look-items κs a = 2 * a .1 .1 .1 .1 .0 + 1
 
-abbrev look-item-at : ℕ → In 1 look-item-kinds.ps
-look-item-at t = and 1 look-item-kinds.ps (is 1 look-item-kinds.ps μ-look-item t) look-item.Pre
+abbrev look-item-at : ℕ → In 3 look-item-kinds.ps
+look-item-at t = and 3 look-item-kinds.ps (is 3 look-item-kinds.ps μ-look-item t) look-item.Pre
 
-abbrev look-item-below : ℕ → In 1 look-item-kinds.ps
+abbrev look-item-below : ℕ → In 3 look-item-kinds.ps
 look-item-below t =
-    and 1 look-item-kinds.ps (falls 1 look-item-kinds.ps _<_ μ-look-item t) look-item.Pre
+    and 3 look-item-kinds.ps (falls 3 look-item-kinds.ps _<_ μ-look-item t) look-item.Pre
 
-abbrev look-items-at : ℕ → In 1 look-items-kinds.ps
+abbrev look-items-at : ℕ → In 3 look-items-kinds.ps
 look-items-at t =
-    and 1 look-items-kinds.ps (is 1 look-items-kinds.ps μ-look-items t) look-items.Pre
+    and 3 look-items-kinds.ps (is 3 look-items-kinds.ps μ-look-items t) look-items.Pre
 
-abbrev look-items-below : ℕ → In 1 look-items-kinds.ps
+abbrev look-items-below : ℕ → In 3 look-items-kinds.ps
 look-items-below t =
-    and 1 look-items-kinds.ps (falls 1 look-items-kinds.ps _<_ μ-look-items t) look-items.Pre
+    and 3 look-items-kinds.ps (falls 3 look-items-kinds.ps _<_ μ-look-items t) look-items.Pre
 
 look-item-step-of-requires : (t : ℕ) → look-item-lts.Need-step-of-requires (
   step-of-reads.Asked,
@@ -118,10 +118,10 @@ look-item-returns-4 : (t : ℕ) → look-item-lts.Need-returns-4 (
 look-item-returns-4 t c = search (item-ways, needs)
 
 abbrev look-items-Inv-loop : look-items-lts.InvT-loop
-look-items-Inv-loop parent left part offset at₀ at = Looks plainHere parent left part offset at
+look-items-Inv-loop rows anywhere listed parent left part offset at₀ at = Looks (soughtBy listed rows anywhere) parent left part offset at
 
 abbrev look-items-μ-loop : look-items-lts.MeasureT-loop
-look-items-μ-loop parent left part offset at₀ at = length part - at
+look-items-μ-loop rows anywhere listed parent left part offset at₀ at = length part - at
 
 look-items-loop-holds : (t : ℕ) → look-items-lts.Need-loop-holds (
   item-at-reads.Asked,
