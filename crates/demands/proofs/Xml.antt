@@ -23,9 +23,8 @@ use Rattle.format.specs.Tree.{Items}
 use Rattle.format.specs.Judge.{Judged, judge}
 use Rattle.format.specs.Judge.Judged.{refused, accepted}
 use Rattle.format.specs.Meaning.{meaningOf}
-use Rattle.survey.specs.First.{firstIn, itemAt, asItem, placeAt}
-use Rattle.survey.proofs.First.{first-told, place-seated}
-use Rattle.survey.proofs.Once.{place-one}
+use Rattle.survey.specs.First.{firstIn, itemAt}
+use Rattle.survey.proofs.Once.{first-place}
 use Rattle.xml.specs.Xml.{xml}
 use Rattle.xml.specs.Named.{plainHere, plainAt, Named}
 use Rattle.xml.specs.Export.{unlessPlain, exportOf, exportAnswer, exportOctets}
@@ -85,19 +84,9 @@ export-ends object before after answer c =
 -- ---- in which order it refuses
 
 -- the first item of plain octets, by its place
-first-place : (object : List ℕ) → Octets object → (t : Items) → judge object ≡ accepted t → (place : ℕ) → plainAt object ≡ some place ↔ firstIn plainHere 0 t ≡ some (itemAt object place)
-unfolding plainAt asItem
-first-place object os t h place = (
-  (λ e. first-told plainHere object t h ∙ ap (asItem object) e),
-  (λ e. go (placeAt plainHere object) refl (sym (first-told plainHere object t h) ∙ e)),
-)
-  where
-    go : (p : Option ℕ) → placeAt plainHere object ≡ p → asItem object (placeAt plainHere object) ≡ some (itemAt object place) → placeAt plainHere object ≡ some place
-    go none q e = absurd (Option·none-ne-some _ (sym (ap (asItem object) q) ∙ e))
-    go (some p) q e =
-        let s = place-seated plainHere object t h p q in
-        let same : itemAt object p ≡ itemAt object place = Option·some-injective _ _ (sym (ap (asItem object) q) ∙ e) in
-        q ∙ ap some (place-one object os p place same (s .tagged) (s .fits))
+plain-place : (object : List ℕ) → Octets object → (t : Items) → judge object ≡ accepted t → (place : ℕ) → plainAt object ≡ some place ↔ firstIn plainHere 0 t ≡ some (itemAt object place)
+unfolding plainAt
+plain-place = first-place plainHere
 
 module _ (object : List ℕ) (os : Octets object) (room : OctetCount) (j : Judged) (judged : judge object ≡ j) (answer : WriteAnswer) where
   refusing : (s : Refusal) → j ≡ refused s → s .number ≤ 13 → answer ≡ NotWritten s → ExportOrder object j room answer
@@ -119,10 +108,10 @@ module _ (object : List ℕ) (os : Octets object) (room : OctetCount) (j : Judge
     plainly place p e = record {
       ofObject = λ r l. ((λ q. let w : refusal 17 place ≡ r = cc in absurd (omega (arith, ap (λ x. x .number) w))), (λ q. never (cc)));
       seventeen = λ other. (
-        (λ q. let w : refusal 17 place ≡ refusal 17 other = cc in (t, h, first-place object os t tree other .0 (p ∙ ap some (ap (λ x. x .place) w)))),
+        (λ q. let w : refusal 17 place ≡ refusal 17 other = cc in (t, h, plain-place object os t tree other .0 (p ∙ ap some (ap (λ x. x .place) w)))),
         (λ q.
             let f = subst (λ x. firstIn plainHere 0 x ≡ some (itemAt object other)) (same-tree (q .0) (q .1)) (q .2) in
-            e ∙ ap (λ x. NotWritten (refusal 17 x)) (Option·some-injective place other (sym p ∙ first-place object os t tree other .1 f))),
+            e ∙ ap (λ x. NotWritten (refusal 17 x)) (Option·some-injective place other (sym p ∙ plain-place object os t tree other .1 f))),
       );
       fifteen = ((λ q. let w : refusal 17 place ≡ refusal 15 0 = cc in absurd (omega (arith, ap (λ x. x .number) w))), (λ q. absurd (unnamed (q .0) (q .1) (q .2))));
       octets = λ k. ((λ q. never (cc)), (λ q. absurd (unnamed (q .0) (q .1) (q .2))));
@@ -132,7 +121,7 @@ module _ (object : List ℕ) (os : Octets object) (room : OctetCount) (j : Judge
         unnamed u g n = Option·none-ne-some place (sym (named-exactly object t tree .1 (subst (λ x. Named (meaningOf x)) (same-tree u g) n)) ∙ p)
 
     nowhere : plainAt object ≡ none → (place : ℕ) (u : Items) → j ≡ accepted u → firstIn plainHere 0 u ≡ some (itemAt object place) → ⊥
-    nowhere p place u g f = Option·none-ne-some place (sym p ∙ first-place object os t tree place .1 (subst (λ x. firstIn plainHere 0 x ≡ some (itemAt object place)) (same-tree u g) f))
+    nowhere p place u g f = Option·none-ne-some place (sym p ∙ plain-place object os t tree place .1 (subst (λ x. firstIn plainHere 0 x ≡ some (itemAt object place)) (same-tree u g) f))
 
     longer : plainAt object ≡ none → room .0 < length (xml (meaningOf t)) → answer ≡ NotWritten (refusal 15 0) → ExportOrder object j room answer
     longer p l e = record {

@@ -1,7 +1,7 @@
 -- The place of the first item that a test picks: it lies inside the object, it is the tag's of the tree's first such item, and it is the same for tests that pick the same.
 use mathlib.Core.Path.{_≡_, refl, sym, ap, ap₂, _∙_, subst}
 use mathlib.Core.Bool.{Bool, true, false, cond, _&&_, false≢true}
-use mathlib.Core.Option.{Option, none, some, Option·some-injective, Option·none-ne-some}
+use mathlib.Core.Option.{Option, none, some, Option·some-injective, Option·none-ne-some, Option·some-ne-none}
 use mathlib.Core.List.{List, [], _∷_}
 use Prim.Native.Nat.{ℕ, zero, suc, _+_, _≤_, _<_}
 use native.Mathlib.Omega.{arith}
@@ -224,6 +224,13 @@ seated o P (suc k) parent depth at (tag ∷ rest) t l w a p e =
 pub place-seated : (P : ℕ → ℕ → Bool) (o : List ℕ) (t : Items) → judge o ≡ accepted t → (p : ℕ) → placeAt P o ≡ some p → Seated o p
 unfolding placeAt
 place-seated P o t h = seated o P (suc (length o)) 0 1 0 o t (omega arith) (itself o) (whole o t h)
+
+-- ---- no such item
+
+pub or-else-none : {A : Type 0} (a b : Option A) → orElse a b ≡ none → (a ≡ none) × (b ≡ none)
+unfolding orElse
+or-else-none none b h = (refl, h)
+or-else-none (some x) b h = absurd (Option·some-ne-none x h)
 
 -- ---- two tests
 

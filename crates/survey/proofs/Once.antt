@@ -1,6 +1,8 @@
--- Two places of an object don't tell the same item: so its place is the only one.
+-- Two places of an object don't tell the same item: so its place is the only one, also that of the first item that a test picks.
 use mathlib.Core.Path.{_≡_, refl, sym, ap, _∙_, subst}
 use mathlib.Core.Bool.{Bool, true, false}
+use mathlib.Core.Logic.{_↔_}
+use mathlib.Core.Option.{Option, none, some, Option·some-injective, Option·none-ne-some}
 use mathlib.Core.List.{List, [], _∷_}
 use Prim.Native.Nat.{ℕ, _+_, _*_, _≤_, _<_}
 use native.Mathlib.Omega.{arith}
@@ -10,7 +12,11 @@ use lib.Seq.{getD-drop}
 use borrow.Author.Tests.{eqb-true}
 use Rattle.octets.specs.Numbers.{value, Octets}
 use Rattle.octets.specs.Header.{headerSize, bodySize}
-use Rattle.survey.specs.First.{itemAt}
+use Rattle.format.specs.Tree.{Items}
+use Rattle.format.specs.Judge.{judge}
+use Rattle.format.specs.Judge.Judged.{accepted}
+use Rattle.survey.specs.First.{firstIn, placeAt, itemAt, asItem}
+use Rattle.survey.proofs.First.{first-told, place-seated}
 
 -- the header of a part, in one of the three forms
 data Formed (s : List ℕ) : Type 0 where
@@ -92,9 +98,24 @@ module _ (o : List ℕ) (os : Octets o) (p q : ℕ) (same : getD o p 0 ≡ getD 
   one-form (short a b) (long c y d) = absurd (long-short o os q p (sym same) other (omega (arith, a, c, begins)) (sym d ∙ sym sizes ∙ b))
   one-form (middle a x b) (long c y d) = absurd (long-middle o os q p (sym same) other (omega (arith, a, c, begins)) x (sym d ∙ sym sizes ∙ b))
 
-pub place-one : (o : List ℕ) → Octets o → (p q : ℕ) → itemAt o p ≡ itemAt o q → 0 < getD o p 0 → p + headerSize (drop p o) ≤ length o → p ≡ q
+place-one : (o : List ℕ) → Octets o → (p q : ℕ) → itemAt o p ≡ itemAt o q → 0 < getD o p 0 → p + headerSize (drop p o) ≤ length o → p ≡ q
 place-one o os p q e t l =
     let b = ap (λ x. x .1) e in
     one-form o os p q (ap (λ x. x .0) e) b (ap (λ x. x .2) e) t
     (formed (drop p o) (omega (arith, l, length-drop p o)))
     (formed (drop q o) (omega (arith, l, b, length-drop q o)))
+
+-- the first item of a tree that a test picks, by its place in the object
+pub first-place : (P : ℕ → ℕ → Bool) (o : List ℕ) → Octets o → (t : Items) → judge o ≡ accepted t → (place : ℕ) → placeAt P o ≡ some place ↔ firstIn P 0 t ≡ some (itemAt o place)
+unfolding asItem
+first-place P o os t h place = (
+  (λ e. first-told P o t h ∙ ap (asItem o) e),
+  (λ e. go (placeAt P o) refl (sym (first-told P o t h) ∙ e)),
+)
+  where
+    go : (p : Option ℕ) → placeAt P o ≡ p → asItem o (placeAt P o) ≡ some (itemAt o place) → placeAt P o ≡ some place
+    go none q e = absurd (Option·none-ne-some _ (sym (ap (asItem o) q) ∙ e))
+    go (some p) q e =
+        let s = place-seated P o t h p q in
+        let same : itemAt o p ≡ itemAt o place = Option·some-injective _ _ (sym (ap (asItem o) q) ∙ e) in
+        q ∙ ap some (place-one o os p place same (s .tagged) (s .fits))

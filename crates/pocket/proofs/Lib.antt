@@ -1,0 +1,3 @@
+pub mod Gating
+pub mod Passing
+pub mod Examples
