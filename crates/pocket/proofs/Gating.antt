@@ -18,24 +18,9 @@ use Rattle.pocket.specs.Gate.{offends, gateAnswer, gateOf}
 -- ---- find_offender
 
 -- the rows that the code hands over are those of the data type
-module _ (d : DataType) (o : List ℕ) (s : Sought) where
-  by-table : (e : DataType) → s ≡ soughtIn (soughtBy false (rows e) anywhere) o → d ≡ e → s ≡ soughtIn (offends d) o
-  unfolding offends
-  by-table e h q = rw q h
-
-  pub of-service : s ≡ soughtIn (soughtBy false (rows Service) anywhere) o → d ≡ Service → s ≡ soughtIn (offends d) o
-  of-service = by-table Service
-
-  pub of-programme : s ≡ soughtIn (soughtBy false (rows Programme) anywhere) o → d ≡ Programme → s ≡ soughtIn (offends d) o
-  of-programme = by-table Programme
-
-  pub of-group : s ≡ soughtIn (soughtBy false (rows Group) anywhere) o → d ≡ Group → s ≡ soughtIn (offends d) o
-  of-group = by-table Group
-
-  pub of-untabled : s ≡ soughtIn (soughtBy false (rows Untabled) anywhere) o → d ≡ Untabled → s ≡ soughtIn (offends d) o
-  of-untabled = by-table Untabled
-
-pub ruleset table-ways = (of-service, of-programme, of-group, of-untabled)
+pub by-table : (d : DataType) (o : List ℕ) (s : Sought) (e : DataType) → d ≡ e → s ≡ soughtIn (soughtBy false (rows e) anywhere) o → s ≡ soughtIn (offends d) o
+unfolding offends
+by-table d o s e q h = rw q h
 
 -- ---- gate
 

@@ -30,7 +30,6 @@ use Rattle.format.specs.Judge.Judged.{refused, accepted}
 use Rattle.format.specs.Calls.{judgeAnswer}
 use Rattle.tags.proofs.Arms.{never}
 use Rattle.reader.proofs.Reading.{was-refused, was-accepted, whole}
-use Rattle.survey.specs.declared.look.Sought.{Sought}
 use Rattle.survey.specs.declared.look.Sought.the-variants.{Refused, Nowhere, At}
 use Rattle.survey.specs.declared.look.Place.{Place}
 use Rattle.survey.specs.declared.look.Place.the-variants.{Nowhere as No-place, At as Place-at}

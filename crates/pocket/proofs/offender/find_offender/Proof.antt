@@ -1,4 +1,4 @@
-use Rattle.pocket.proofs.Gating.{table-ways}
+use Rattle.pocket.proofs.Gating.{by-table}
 use borrow.Author.Needs.{needs}
 use Rattle.pocket.proofs.offender.find_offender.Statement.{statement}
 use Rattle.pocket.proofs.offender.find_offender.Tie as tie
@@ -52,16 +52,16 @@ find-first-requires-4 : tie.Need-find-first-requires-4
 find-first-requires-4 c κs = search needs
 
 returns : tie.Need-returns
-returns c = search (table-ways, needs)
+returns c = search (by-table, needs)
 
 returns-2 : tie.Need-returns-2
-returns-2 c = search (table-ways, needs)
+returns-2 c = search (by-table, needs)
 
 returns-3 : tie.Need-returns-3
-returns-3 c = search (table-ways, needs)
+returns-3 c = search (by-table, needs)
 
 returns-4 : tie.Need-returns-4
-returns-4 c = search (table-ways, needs)
+returns-4 c = search (by-table, needs)
 
 pub find-offender-spec : {M : Type 1} → statement M
 find-offender-spec =
