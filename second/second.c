@@ -3,10 +3,11 @@
  *
  * Reads a stream of cases on standard input and prints one answer for each: the listing of a
  * binary SPI object (L), its normal form (N), the octets that records stand for (W), whether two
- * objects mean the same (S), the XML of an object (X), and what a run of edits makes of an object (E).
+ * objects mean the same (S), the XML of an object (X), what a run of edits makes of an object (E), and
+ * whether the small receiver's gate lets an object pass (G).
  * Written from documents 01 (the rules) and 02 (the requests that amend them), from 002, TS 102 371 V3.2.1
- * (the layouts), and for the XML and the defaults from document 003, TS 102 818, alone, so that it can be
- * held against the proved program.
+ * (the layouts, and annex A for the gate), and for the XML and the defaults from document 003, TS 102 818,
+ * alone, so that it can be held against the proved program.
  *
  * All memory is fixed; nothing is allocated.  Each octet of an object is looked at once while it is
  * judged and once more while its normal form is written or its meaning compared; twice more for its XML.
@@ -50,7 +51,8 @@ enum {
     OUTPUT_TOO_LARGE = 15,
     NOT_WELL_FORMED = 16,
     PLAIN_OCTETS = 17,  /* of document 02, request 2026-02 */
-    NO_SUCH_RECORD = 18 /* and 2026-06; a place, a wrong kind of record and the top to be removed too */
+    NO_SUCH_RECORD = 18, /* and 2026-06; a place, a wrong kind of record and the top to be removed too */
+    OUTSIDE_PROFILE = 19 /* and 2026-07 */
 };
 
 /* Which field of a time is wrong, where 9 refuses it (document 02, request 2026-04); 0 for other kinds. */
@@ -536,6 +538,7 @@ struct node {
     uint8_t tag;
     uint8_t depth;
     uint8_t body;         /* what the body is, UNKNOWN never */
+    uint8_t header;       /* octets of its tag and length, which stand right before the body */
     bool has_tokens;
     bool is_default;      /* it has a record and its octet in a store, and no meaning */
 };
@@ -772,7 +775,8 @@ static struct node *add_node(struct tree *tree, const struct open_element *paren
                           .parent = (uint16_t)parent->node,
                           .tag = item->tag,
                           .depth = (uint8_t)(parent->depth + 1),
-                          .body = body};
+                          .body = body,
+                          .header = (uint8_t)(item->start - item->place)};
     if (body == PLAIN && tree->first_plain == 0)
         tree->first_plain = item->place;
     return node;
@@ -1938,6 +1942,92 @@ static int make_edit(struct editing *editing, const struct edit *edit)
     }
 }
 
+/* ---- The small receiver's gate: refusal 19 (02, 2026-07; 002, annex A) ------------------------- */
+
+enum {
+    SI = 0, /* the data types, as a G case numbers them */
+    PI = 1,
+    GI = 2,
+    DATA_TYPES = 3,
+    PROFILE_ITEMS = 9 /* the most that one element may hold: a programme of table A.3 */
+};
+
+/* The top of a data type, and what may stand directly in each element: attributes by their tags of annex E,
+ * then elements.  Rows that aren't filled end in 0, which is no tag. */
+struct profile {
+    uint8_t top;
+    uint8_t inside[ELEMENT_TAGS][PROFILE_ITEMS];
+};
+
+/* Annex A spells some names in another way than annexes D and E; here they go by these.  What is required
+ * isn't asked. */
+static const struct profile basic_profile[DATA_TYPES] = {
+    /* tables A.1 (DAB) and A.2 (DRM) together */
+    [SI] = {.top = SERVICE_INFORMATION,
+            .inside = {[SERVICE_INFORMATION] = {0x80, ENSEMBLE, SERVICE},
+                       [ENSEMBLE] = {0x80, SHORT_NAME, MEDIUM_NAME, MEDIA_DESCRIPTION, SERVICE},
+                       [SHORT_NAME] = {0x80},
+                       [MEDIUM_NAME] = {0x80},
+                       [MEDIA_DESCRIPTION] = {MULTIMEDIA},
+                       [MULTIMEDIA] = {0x83, 0x80, 0x81, 0x82, 0x84, 0x85},
+                       [SERVICE] = {SERVICE_BEARER, SHORT_NAME, MEDIUM_NAME, MEDIA_DESCRIPTION, RADIODNS},
+                       [SERVICE_BEARER] = {0x80},
+                       [RADIODNS] = {0x80, 0x81}}},
+    /* table A.3; its attribute `time` is that of the element time, since a location has none */
+    [PI] = {.top = EPG,
+            .inside = {[EPG] = {SCHEDULE},
+                       [SCHEDULE] = {0x80, SCOPE, PROGRAMME},
+                       [SCOPE] = {0x80, 0x81, SERVICE_SCOPE},
+                       [SERVICE_SCOPE] = {0x80},
+                       [PROGRAMME] = {0x81, 0x83, 0x84, MEDIUM_NAME, LONG_NAME, LOCATION, MEDIA_DESCRIPTION,
+                                      GENRE, MEMBER_OF},
+                       [MEDIUM_NAME] = {0x80},
+                       [LONG_NAME] = {0x80},
+                       [LOCATION] = {TIME_ELEMENT, LOCATION_BEARER},
+                       [TIME_ELEMENT] = {0x80, 0x81},
+                       [LOCATION_BEARER] = {0x80},
+                       [MEDIA_DESCRIPTION] = {SHORT_DESCRIPTION},
+                       [SHORT_DESCRIPTION] = {0x80},
+                       [GENRE] = {0x80, 0x81},
+                       [MEMBER_OF] = {0x81, 0x82}}},
+    /* table A.4 */
+    [GI] = {.top = EPG,
+            .inside = {[EPG] = {PROGRAMME_GROUPS},
+                       [PROGRAMME_GROUPS] = {0x80, PROGRAMME_GROUP},
+                       [PROGRAMME_GROUP] = {0x81, 0x83, 0x84, MEDIUM_NAME, LONG_NAME, GENRE, MEMBER_OF},
+                       [MEDIUM_NAME] = {0x80},
+                       [LONG_NAME] = {0x80},
+                       [GENRE] = {0x80, 0x81},
+                       [MEMBER_OF] = {0x81, 0x82}}}
+};
+
+/* Whether a known item may stand in an element.  The language is allowed always; it, like the token table,
+ * stands in the top or the object is refused. */
+static bool in_profile(const struct profile *profile, uint8_t parent_tag, uint8_t tag)
+{
+    const uint8_t *inside = profile->inside[parent_tag];
+
+    if (tag == CDATA || tag == DEFAULT_LANGUAGE)
+        return true;
+    for (size_t i = 0; i < PROFILE_ITEMS; i++)
+        if (inside[i] == tag)
+            return true;
+    return false;
+}
+
+/* Judges an accepted object: its top, then its records, which are its known items but the token table. */
+static struct verdict judge_profile(const struct tree *tree, uint8_t data_type)
+{
+    if (data_type >= DATA_TYPES || tree->nodes[0].tag != basic_profile[data_type].top)
+        return refused(OUTSIDE_PROFILE, 0);
+    for (size_t i = 1; i < tree->count; i++) {
+        const struct node *node = &tree->nodes[i];
+        if (!in_profile(&basic_profile[data_type], tree->nodes[node->parent].tag, node->tag))
+            return refused(OUTSIDE_PROFILE, node->start - node->header);
+    }
+    return accepted;
+}
+
 /* ---- The stream of cases ----------------------------------------------------------------------- */
 
 static struct {
@@ -2292,6 +2382,24 @@ static bool answer_edits(void)
     return true;
 }
 
+/* Nothing is lent, so the places that the case names say nothing. */
+static bool answer_gate(void)
+{
+    uint8_t data_type;
+    uint32_t places;
+
+    if (!take_octets(&data_type, 1) || !take_short(&places) || !take_object(&first_object))
+        return false;
+    struct verdict verdict = read_object(&first_tree, first_object.octets, first_object.size);
+    if (verdict.number == ACCEPTED)
+        verdict = judge_profile(&first_tree, data_type);
+    if (verdict.number != ACCEPTED)
+        put_refusal(verdict);
+    else
+        put_string("yes");
+    return true;
+}
+
 static bool answer_case(uint8_t letter)
 {
     switch (letter) {
@@ -2307,6 +2415,8 @@ static bool answer_case(uint8_t letter)
         return answer_xml();
     case 'E':
         return answer_edits();
+    case 'G':
+        return answer_gate();
     default:
         return false;
     }
