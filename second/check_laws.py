@@ -39,19 +39,6 @@ def pair_law(rng, answer, way, draw=random_tree):
     return f"{answer}: {way}", case_s(first.octets(), second.octets()), answer
 
 
-def first_item(raw, fits, at=0):
-    """The first item in reading order that fits, asked of its parent and it, and its place; `at` is the place of the whole.  None where none fits."""
-    at += len(raw.octets()) - sum(len(part.octets()) for part in raw.body)
-    for part in raw.body:
-        if fits(raw, part):
-            return part, at
-        found = first_item(part, fits, at) if isinstance(part.body, list) else None
-        if found is not None:
-            return found
-        at += len(part.octets())
-    return None
-
-
 def records_of(rng, tree):
     pool, records = bytearray(), []
     make_records(rng, tree, 1, 0, pool, records)
@@ -61,7 +48,7 @@ def records_of(rng, tree):
 def over_laws(rng, tree):
     """The same for a tree with such a text, whatever is lent."""
     normal = tree.normal()
-    _, place = first_item(written(tree), lambda parent, part: parent.node.is_over(part.node))
+    _, place = written(tree).first_item(lambda parent, part: parent.node.is_over(part.node))
     records, pool = records_of(rng, tree)
     yield case_l(rng.choice([0, 65535]), normal), f"refused 13 at {place}"
     yield case_n(rng.choice([0, 65535]), 65536, 65536, normal), f"refused 13 at {place}"
@@ -113,7 +100,7 @@ def xml_laws(rng, draw):
             break
     for form in (raw, again):
         if has_plain(tree):
-            yield case_x(rng.choice([0, FIELD_LIMIT]), form.octets()), f"refused 17 at {first_item(form, is_plain)[1]}"
+            yield case_x(rng.choice([0, FIELD_LIMIT]), form.octets()), f"refused 17 at {form.first_item(is_plain)[1]}"
         else:
             octets = xml(tree)
             yield case_x(len(octets), form.octets()), f"xml {octets.hex()}"
@@ -129,7 +116,7 @@ def field_laws(rng):
             if part:
                 part.value = maker.bad_value(kind)
         raw = Encoder(maker, rng.choice([0, 0.1, 0.3])).raw(tree)
-        found = first_item(raw, lambda _, part: part.node is not None and isinstance(part.node.value, Bad))
+        found = raw.first_item(lambda _, part: part.node is not None and isinstance(part.node.value, Bad))
         if found and not tree.too_long() and len(raw.octets()) <= OBJECT_LIMIT:
             break
     part, place = found
@@ -150,7 +137,7 @@ def twice_laws(rng):
         if len(raw.octets()) <= OBJECT_LIMIT:
             break
     _, second = (below for above, _ in raw.walk() if above.node is node for below in above.body if below.node in twins)
-    _, place = first_item(raw, lambda _, part: part is second)
+    _, place = raw.first_item(lambda _, part: part is second)
     yield from refused_laws(rng, tree, raw.octets(), f"refused 8 at {place}")
 
 

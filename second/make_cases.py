@@ -1,8 +1,8 @@
 #!/usr/bin/env python3
 """Makes streams of test cases for the two programs (docs/STREAM.md).
 
-    make_cases.py SEED COUNT [--letters LNWSXE]    COUNT random cases, the same for the same seed
-    make_cases.py --edges [--letters LNWSXE]       the fixed edge cases of edges.py
+    make_cases.py SEED COUNT [--letters LNWSXEG]   COUNT random cases, the same for the same seed
+    make_cases.py --edges [--letters LNWSXEG]      the fixed edge cases of edges.py
 
 A random case begins as a tree of known items with its meaning.  From the tree come its octets (in
 any of the many forms that mean the same), its normal form, its records and what has to be lent;
@@ -124,6 +124,10 @@ def case_e(places, store, octets, edits):
     return b"E" + number(places, 2) + bounded(store) + sized(octets) + number(len(edits), 1) + b"".join(edits)
 
 
+def case_g(data_type, places, octets):
+    return b"G" + number(data_type, 1) + number(places, 2) + sized(octets)
+
+
 # ---- Items as they stand in octets -------------------------------------------------------------
 
 def header(tag, size, form=0):
@@ -163,6 +167,18 @@ class Raw:
     def lists(self):
         """Every list of items in it, its own first."""
         return (part.body for part, _ in self.walk() if isinstance(part.body, list))
+
+    def first_item(self, fits, at=0):
+        """The first item in it, in reading order, that fits, asked of its parent and it, and its place; None where none does.  `at` is its own place."""
+        at += len(self.octets()) - sum(len(part.octets()) for part in self.body)
+        for part in self.body:
+            if fits(self, part):
+                return part, at
+            found = part.first_item(fits, at) if isinstance(part.body, list) else None
+            if found is not None:
+                return found
+            at += len(part.octets())
+        return None
 
 
 # ---- Values and their meaning ------------------------------------------------------------------
@@ -809,8 +825,14 @@ def random_e(rng):
     return random_run(rng).case()
 
 
-RANDOM = {"L": random_l, "N": random_n, "W": random_w, "S": random_s, "X": random_x, "E": random_e}
-# The letters that are made and tried where none are named.
+def random_g(rng):
+    """An object within a profile, or with strays, or any; now and then damaged, or asked about with another data type."""
+    from gate import random_gate  # which stands on the trees of this file
+    return random_gate(rng)
+
+
+RANDOM = {"L": random_l, "N": random_n, "W": random_w, "S": random_s, "X": random_x, "E": random_e, "G": random_g}
+# The letters that are made and tried where none are named.  G is not among them before the library has the gate (request 2026-07).
 CASE_LETTERS = "LNWSXE"
 
 
