@@ -749,5 +749,7 @@ def edge_cases():
             changed = ANNEX_C[:at] + bytes([ANNEX_C[at] ^ change]) + ANNEX_C[at + 1:]
             yield from both(changed)
             yield whole_xml(changed)
-    from edit_edges import edit_edge_cases  # which stands on this file
+    from edit_edges import edit_edge_cases  # which stands on this file, as the next does
+    from gate_edges import gate_edge_cases
     yield from edit_edge_cases()
+    yield from gate_edge_cases()
