@@ -1,5 +1,5 @@
 #!/usr/bin/env python3
-"""Checks laws that hold for any right program:  check_laws.py PROGRAM SEED COUNT [--letters LNWSXE]
+"""Checks laws that hold for any right program:  check_laws.py PROGRAM SEED COUNT [--letters LNWSXEG]
 
 For random trees, of which the maker knows the meaning: each way to write a tree has the tree's normal
 form, its number of records and just its needs in store and room; a normal form is its own normal form
@@ -16,7 +16,8 @@ Of XML: a tree without plain octets has the XML that the maker makes of it, howe
 plain octets it is refused at the first of them.  Two objects of a pair without plain octets have the same XML exactly where
 they mean the same, and that is UTF-8 and well-formed, by Python's own parser.
 
-Of edits, where E is among the letters: the laws of edit_laws.py, on runs of three kinds, COUNT of each; no others where E is the only one.
+Of edits, where E is among the letters: the laws of edit_laws.py, on runs of three kinds, COUNT of each.  Of the gate, where G is: those of gate_laws.py, on
+trees of seven kinds, COUNT of each, and on its edge cases.  No others where there are no other letters.
 """
 import argparse
 import random
@@ -25,6 +26,7 @@ from xml.parsers import expat
 
 from as_xml import KINDS, has_plain, xml
 from edit_laws import broken_edit_laws
+from gate_laws import broken_gate_laws
 from make_cases import (CASE_LETTERS, COORDINATES, DEFAULT, FIELD_LIMIT, JUDGED, OBJECT_LIMIT, PLAIN, TIME, Bad, Encoder, Fixed, Maker, Node, case_l, case_n,
                         case_s, case_w, case_x, make_records, named_tree, random_raw)
 from meanings import NAMED_WAYS, SWOLLEN_WAYS, WAYS, known_pair, random_tree, valued, written
@@ -231,7 +233,8 @@ def main():
     options = parser.parse_args()
     if options.count < len(WAYS):
         parser.error(f"COUNT is at least {len(WAYS)}")
-    parts = [broken_laws] * (options.letters != "E") + [broken_edit_laws] * ("E" in options.letters)
+    laws_of = ("LNWSX", broken_laws), ("E", broken_edit_laws), ("G", broken_gate_laws)
+    parts = [part for letters, part in laws_of if set(letters) & set(options.letters)]
     results = [part(options.program, options.seed, options.count) for part in parts]
     broken = [what for _, found in results for what in found]
     for what in broken[:3]:
