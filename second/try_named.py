@@ -1,7 +1,7 @@
 #!/usr/bin/env python3
-"""Runs a program on the named cases of expected.txt:  try_named.py PROGRAM [--letters LNWSXE]
+"""Runs a program on the named cases of expected.txt:  try_named.py PROGRAM [--letters LNWSXEG]
 
-Those of edits stand in expected_edits.txt, and are tried where E is among the letters.
+Those of edits stand in expected_edits.txt, and are tried where E is among the letters; those of the gate in expected_gate.txt, where G is.
 
 Prints each mismatch with its name and a last line `named cases: N held, M not`; the exit status is 0
 only where there are cases and all of them hold.
@@ -11,7 +11,7 @@ import os
 import re
 import sys
 
-from make_cases import CASE_LETTERS, case_e, case_l, case_n, case_s, case_w, case_x, edit_d, edit_i, edit_t
+from make_cases import CASE_LETTERS, case_e, case_g, case_l, case_n, case_s, case_w, case_x, edit_d, edit_i, edit_t
 from streams import ask, run
 
 HEX_PART = re.compile(r'''\s*(?:(["'])((?:(?!\1).)*)\1|([0-9A-Fa-f]{2})|\(([^()]*)\)|(-))(?:\*(\d+))?(?=\s|$)''')
@@ -81,6 +81,8 @@ class Named:
             return case_x(*numbers, *self.octets)
         if letter == "E":
             return case_e(*numbers, *self.octets, self.edits)
+        if letter == "G":
+            return case_g(*numbers, *self.octets)
         if letter == "stream":
             return b"".join(self.octets)
         raise ValueError(f"in case {self.name}: letter {letter}")
@@ -131,7 +133,7 @@ def main():
     parser.add_argument("program")
     parser.add_argument("--letters", default=CASE_LETTERS)
     options = parser.parse_args()
-    files = ["expected.txt"] + ["expected_edits.txt"] * ("E" in options.letters)
+    files = ["expected.txt"] + ["expected_edits.txt"] * ("E" in options.letters) + ["expected_gate.txt"] * ("G" in options.letters)
     here = os.path.dirname(os.path.abspath(__file__))
     cases = [named for file in files for named in read_named(os.path.join(here, file))]
     if len({named.name for named in cases}) != len(cases):
