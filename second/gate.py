@@ -75,18 +75,16 @@ SPELT = {"servicelIdentifier": "serviceIdentifier", "memberof": "memberOf", "num
 
 def element_code(parent, name):
     """By annex D; a bearer has a code under location that is not the one under service."""
-    first, *others = CODES[SPELT.get(name, name)]
+    first, *others = CODES[name]
     return others[0] if name == "bearer" and parent == "location" else first
 
 
 def codes_of_row(row):
     """The codes of the elements of a row's path, and those of the attributes of the last of them."""
-    path, _, attributes = row.partition(":")
-    names = path.split(".")
+    path, _, listed = row.partition(":")
+    names, attributes = ([SPELT.get(name, name) for name in words] for words in (path.split("."), listed.replace(",", " ").split()))
     codes = [element_code(parent, name) for parent, name in zip([None] + names, names)]
-    known = {attribute: dict(pairs_named(SPELT.get(names[-1], names[-1]), SPELT.get(attribute, attribute)))[codes[-1]]
-             for attribute in attributes.replace(",", " ").split()}
-    return codes, list(known.values())
+    return codes, [dict(pairs_named(names[-1], name))[codes[-1]] for name in attributes]
 
 
 ROWS = {data_type: [codes_of_row(row) for row in table.split("\n") if row] for data_type, table in TABLES.items()}
