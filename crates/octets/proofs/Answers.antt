@@ -32,38 +32,35 @@ module _ (part : List ℕ) where
   header-past r e q = leb-false (headerSize part) (length part) (not-chosen (leb (headerSize part) (length part)) (sym q ∙ e) (λ z. never (cc)) .0)
 
 -- ---- header_size
-pub size-five : (n : ℕ) → suc (length (lengthField n)) ≤ 5
+pub size-four : (n : ℕ) → suc (length (lengthField n)) ≤ 4
 unfolding lengthField
-size-five n = go (leb n 0xFD) (leb n 0xFFFF)
+size-four n = go (leb n 0xFD)
   where
-    go : (a b : Bool) → suc (length (cond a (n ∷ []) (cond b (0xFE ∷ digits 2 n) (0xFF ∷ digits 3 n)))) ≤ 5
-    go true b = omega arith
-    go false true = simp length-digits (omega arith)
-    go false false = simp length-digits (omega arith)
+    go : (a : Bool) → suc (length (cond a (n ∷ []) (0xFE ∷ digits 2 n))) ≤ 4
+    go true = omega arith
+    go false = simp length-digits (omega arith)
 
 pub size-two : (n : ℕ) → 2 ≤ suc (length (lengthField n))
 unfolding lengthField
-size-two n = go (leb n 0xFD) (leb n 0xFFFF)
+size-two n = go (leb n 0xFD)
   where
-    go : (a b : Bool) → 2 ≤ suc (length (cond a (n ∷ []) (cond b (0xFE ∷ digits 2 n) (0xFF ∷ digits 3 n))))
-    go true b = omega arith
-    go false true = omega arith
-    go false false = omega arith
+    go : (a : Bool) → 2 ≤ suc (length (cond a (n ∷ []) (0xFE ∷ digits 2 n)))
+    go true = omega arith
+    go false = omega arith
 
 -- ---- an item: its header, and then its body behind it
 pub framed-length : (tag : ℕ) (body : List ℕ) → length (framed tag body) ≡ suc (length (lengthField (length body))) + length body
 unfolding framed
 framed-length tag body = length-append (tag ∷ lengthField (length body)) body
 
-length-octets : (n : ℕ) → n < 256 ^ 3 → Octets (lengthField n)
+length-octets : (n : ℕ) → n < 256 ^ 2 → Octets (lengthField n)
 unfolding lengthField
-length-octets n h = go (leb n 0xFD) refl (leb n 0xFFFF) refl
+length-octets n h = go (leb n 0xFD) refl
   where
-    go : (a : Bool) → leb n 0xFD ≡ a → (b : Bool) → leb n 0xFFFF ≡ b → Octets (cond a (n ∷ []) (cond b (0xFE ∷ digits 2 n) (0xFF ∷ digits 3 n)))
-    go true p b q = octets-cons n [] (omega (arith, leb-true n 0xFD p)) octets-none
-    go false p true q = octets-cons 0xFE (digits 2 n) (omega arith) (octets-digits 2 n (omega (arith, leb-true n 0xFFFF q)))
-    go false p false q = octets-cons 0xFF (digits 3 n) (omega arith) (octets-digits 3 n h)
+    go : (a : Bool) → leb n 0xFD ≡ a → Octets (cond a (n ∷ []) (0xFE ∷ digits 2 n))
+    go true p = octets-cons n [] (omega (arith, leb-true n 0xFD p)) octets-none
+    go false p = octets-cons 0xFE (digits 2 n) (omega arith) (octets-digits 2 n h)
 
-pub framed-octets : (tag : ℕ) (body : List ℕ) → tag < 256 → length body < 256 ^ 3 → Octets body → Octets (framed tag body)
+pub framed-octets : (tag : ℕ) (body : List ℕ) → tag < 256 → length body < 256 ^ 2 → Octets body → Octets (framed tag body)
 unfolding framed
 framed-octets tag body t l os = octets-cons tag (lengthField (length body) ++ body) t (octets-append (lengthField (length body)) body (length-octets (length body) l) os)

@@ -1,13 +1,13 @@
 -- The header of a framed item, read back.
 use mathlib.Core.Path.{_≡_, refl}
 use mathlib.Core.Bool.{Bool, true, false, cond}
-use mathlib.Core.List.{List, _∷_, _++_, append-assoc}
+use mathlib.Core.List.{List, [], _∷_, _++_, append-assoc}
 use Prim.Native.Nat.{ℕ, suc, _+_, _^_, _≤_, _<_}
 use native.Mathlib.Omega.{arith}
 use lib.Dec.{eqb, leb}
 use lib.ListN.{length, take, drop, getD, length-append}
 use lib.Seq.{take-append-seam, drop-append-seam, take-at}
-use borrow.Author.Tests.{leb-true, ne-eqb}
+use borrow.Author.Tests.{leb-true, le-leb, ne-eqb}
 use Rattle.octets.specs.Numbers.{digits}
 use Rattle.octets.specs.Header.{headerSize, bodySize, lengthField, framed}
 use Rattle.octets.proofs.Numbers.{length-digits, value-digits}
@@ -26,21 +26,22 @@ pub record Field (tag n : ℕ) (rest : List ℕ) : Type 0 where
   pub header : headerSize (tag ∷ (lengthField n ++ rest)) ≡ suc (length (lengthField n))
   pub body : bodySize (tag ∷ (lengthField n ++ rest)) ≡ n
 
-pub field : (tag n : ℕ) (rest : List ℕ) → n < 256 ^ 3 → Field tag n rest
+pub field : (tag n : ℕ) (rest : List ℕ) → n < 256 ^ 2 → Field tag n rest
 unfolding headerSize bodySize lengthField
 field tag n rest h = short (leb n 0xFD) refl
   where
-    long : leb n 0xFD ≡ false → (b : Bool) → leb n 0xFFFF ≡ b → Field tag n rest
-    long e true f = record { header = rw (e, f) (rw length-digits); body = rw (e, f) (rw (take-at (digits 2 n) rest 2 (length-digits 2 n)) (value-digits 2 n (omega (arith, leb-true n 0xFFFF f)))) }
-    long e false f = record { header = rw (e, f) (rw length-digits); body = rw (e, f) (rw (take-at (digits 3 n) rest 3 (length-digits 3 n)) (value-digits 3 n h)) }
-
     short : (b : Bool) → leb n 0xFD ≡ b → Field tag n rest
     short true e =
         let small : n ≤ 0xFD = leb-true n 0xFD e in
         let x : eqb n 0xFE ≡ false = ne-eqb n 0xFE (λ q. omega arith) in
         let y : eqb n 0xFF ≡ false = ne-eqb n 0xFF (λ q. omega arith) in
         record { header = rw (e, x, y); body = rw (e, x, y) }
-    short false e = long e (leb n 0xFFFF) refl
+    short false e = record { header = rw e (rw length-digits); body = rw e (rw (take-at (digits 2 n) rest 2 (length-digits 2 n)) (value-digits 2 n h)) }
+
+-- wherever 16 bits hold the length, the shorter of two forms is the shortest of the three: what was written before change request 2026-08 is written still
+pub shortest-form : (n : ℕ) → n < 256 ^ 2 → lengthField n ≡ cond (leb n 0xFD) (n ∷ []) (cond (leb n 0xFFFF) (0xFE ∷ digits 2 n) (0xFF ∷ digits 3 n))
+unfolding lengthField
+shortest-form n h = rw (le-leb n 0xFFFF (omega arith))
 
 -- the size of the header of a body of n octets
 unfoldable pub headed : ℕ → ℕ
@@ -57,7 +58,7 @@ pub record Split (tag : ℕ) (body rest : List ℕ) : Type 0 where
   pub after : drop (length body) (drop (headed (length body)) (tag ∷ behind body rest)) ≡ rest
   pub room : suc (length (behind body rest)) ≡ headed (length body) + length body + length rest
 
-pub split : (tag : ℕ) (body rest : List ℕ) → length body < 256 ^ 3 → Split tag body rest
+pub split : (tag : ℕ) (body rest : List ℕ) → length body < 256 ^ 2 → Split tag body rest
 unfolding headed behind
 split tag body rest h =
     let f = field tag (length body) (body ++ rest) h in

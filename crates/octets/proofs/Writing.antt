@@ -19,7 +19,7 @@ use Rattle.octets.specs.Header.{lengthField}
 use Rattle.octets.specs.Calls.{fitsWidth, announced, widthOf, Formed}
 use Rattle.octets.specs.declared.counts.Octets.{Octets}
 use Rattle.octets.specs.declared.LengthForm.{LengthForm}
-use Rattle.octets.specs.declared.LengthForm.the-variants.{One, Two, Three}
+use Rattle.octets.specs.declared.LengthForm.the-variants.{One, Two}
 use Rattle.octets.proofs.Tests.{and-left, and-right}
 use Rattle.octets.proofs.Lists.{drop-next}
 use Rattle.octets.proofs.Numbers.{pow-pos, pow-octets, length-digits, digits-more}
@@ -32,16 +32,11 @@ module _ (n : ℕ) where
   unfolding lengthField announced widthOf digits
   form-one h = let e : n ≡ n / 1 = omega arith in record { field = rw (le-leb n 0xFD h) (ap (λ m. m ∷ []) e); fits = λ b. omega arith }
 
-  module _ (h : 0xFD < n) where
-    pub form-two : n ≤ 0xFFFF → Formed n Two
-    unfolding lengthField announced widthOf
-    form-two g = record { field = rw (lt-leb n 0xFD h, le-leb n 0xFFFF g); fits = λ b. omega arith }
+  pub form-two : 0xFD < n → Formed n Two
+  unfolding lengthField announced widthOf
+  form-two h = record { field = rw (lt-leb n 0xFD h); fits = λ b. b }
 
-    pub form-three : 0xFFFF < n → Formed n Three
-    unfolding lengthField announced widthOf
-    form-three g = record { field = rw (lt-leb n 0xFD h, lt-leb n 0xFFFF g); fits = λ b. b }
-
-pub ruleset form-ways = (form-one, form-two, form-three)
+pub ruleset form-ways = (form-one, form-two)
 
 module _ (n : ℕ) (f : LengthForm) (k : Formed n f) where
   length-field : length (lengthField n) ≡ length (announced f) + widthOf f
@@ -55,11 +50,7 @@ module _ (n : ℕ) (f : LengthForm) (k : Formed n f) where
   unfolding announced widthOf
   size-two e = rw (length-field, e)
 
-  pub size-three : f ≡ Three → asOctets 5 ≡ asOctets (suc (length (lengthField n)))
-  unfolding announced widthOf
-  size-three e = rw (length-field, e)
-
-pub ruleset size-ways = (size-one, size-two, size-three)
+pub ruleset size-ways = (size-one, size-two)
 
 -- ---- one octet of a number
 module _ (n place : ℕ) where
@@ -174,7 +165,7 @@ pub ruleset put-number-ways = (puts-invalid, asked-ways, width-sized, number-no,
 
 -- ---- a length in its form
 module _ (out : List ℕ) (at n : ℕ) (f : LengthForm) (k : Formed n f) where
-  module _ (h : n < 256 ^ 3) where
+  module _ (h : n < 256 ^ 2) where
     pub one-fits : f ≡ One → n < 256 ^ 1
     unfolding widthOf
     one-fits e = rw e at (k .fits h)
@@ -199,14 +190,6 @@ module _ (out : List ℕ) (at n : ℕ) (f : LengthForm) (k : Formed n f) where
     unfolding announced widthOf
     two-room b e = let q = rw e at field-in in simp length-set (omega arith)
 
-    pub three-in : f ≡ Three → at < length out
-    unfolding announced widthOf
-    three-in e = let q = rw e at field-in in omega arith
-
-    pub three-room : (b : ℕ) → f ≡ Three → at + 1 + 3 ≤ length (set out at b)
-    unfolding announced widthOf
-    three-room b e = let q = rw e at field-in in simp length-set (omega arith)
-
   laid : (out′ : List ℕ) → out′ ≡ sets out at (announced f ++ digits (widthOf f) n) → out′ ≡ sets out at (lengthField n)
   laid out′ e = e ∙ ap (sets out at) (sym (k .field))
 
@@ -218,21 +201,17 @@ module _ (out : List ℕ) (at n : ℕ) (f : LengthForm) (k : Formed n f) where
   unfolding announced widthOf
   two-done out′ e q = laid out′ (rw e (q ∙ ap (λ m. sets (set out at 0xFE) m (digits 2 n)) (add-one at)))
 
-  pub three-done : (out′ : List ℕ) → f ≡ Three → out′ ≡ sets (set out at 0xFF) (at + 1) (digits 3 n) → out′ ≡ sets out at (lengthField n)
-  unfolding announced widthOf
-  three-done out′ e q = laid out′ (rw e (q ∙ ap (λ m. sets (set out at 0xFF) m (digits 3 n)) (add-one at)))
-
 pub same-after-set : (out : List ℕ) (at b : ℕ) (out′ : List ℕ) → length out′ ≡ length (set out at b) → length out′ ≡ length out
 same-after-set out at b out′ e = e ∙ length-set out at b
 
-pub ruleset length-ways = (one-fits, two-fits, one-room, two-in, two-room, three-in, three-room, one-done, two-done, three-done, same-after-set)
+pub ruleset length-ways = (one-fits, two-fits, one-room, two-in, two-room, one-done, two-done, same-after-set)
 
 -- ---- a header
-pub header-long : (n : ℕ) → 0xFFFFFF < n → ltb n (256 ^ 3) ≡ false
-header-long n h = le-ltb n (256 ^ 3) (omega arith)
+pub header-long : (n : ℕ) → 0xFFFF < n → ltb n (256 ^ 2) ≡ false
+header-long n h = le-ltb n (256 ^ 2) (omega arith)
 
-pub header-short : (n : ℕ) → n ≤ 0xFFFFFF → ltb n (256 ^ 3) ≡ true
-header-short n h = lt-ltb n (256 ^ 3) (omega arith)
+pub header-short : (n : ℕ) → n ≤ 0xFFFF → ltb n (256 ^ 2) ≡ true
+header-short n h = lt-ltb n (256 ^ 2) (omega arith)
 
 module _ (tag n : ℕ) (size : Octets) (l : size ≡ asOctets (suc (length (lengthField n)))) (out : List ℕ) (at : ℕ) (b : Bool) (k : b ≡ leb (at + size .0) (length out)) (q : b ≡ true) where
   room : at + suc (length (lengthField n)) ≤ length out

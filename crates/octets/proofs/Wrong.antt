@@ -48,7 +48,7 @@ pub counted-from-item : liesAt (0x10 ∷ 0x00 ∷ 0x06 ∷ 0x01 ∷ 0x65 ∷ [])
 unfolding liesAt liesIn headerSize bodySize
 counted-from-item h = let z : _≡_ {A = ℕ} 4 2 = cc h in omega arith
 
--- ---- header_size: one octet long forms from 253 on, and up to 254; 65,536 in two octets
+-- ---- header_size: the long form from 253 on; the length octet itself for 254; a third form for 65,536
 pub size-early : asOctets 4 ≡ asOctets (suc (length (lengthField 0xFD))) → ⊥
 unfolding lengthField
 size-early h = omega (arith, ap (λ n. n .0) h)
@@ -57,22 +57,31 @@ pub size-late : asOctets 2 ≡ asOctets (suc (length (lengthField 0xFE))) → �
 unfolding lengthField digits
 size-late h = omega (arith, ap (λ n. n .0) h)
 
-pub size-middle : asOctets 4 ≡ asOctets (suc (length (lengthField 0x10000))) → ⊥
+pub size-third : asOctets 5 ≡ asOctets (suc (length (lengthField 0x10000))) → ⊥
 unfolding lengthField digits
-size-middle h = omega (arith, ap (λ n. n .0) h)
+size-third h = omega (arith, ap (λ n. n .0) h)
 
--- ---- write_header: no room where the octets just fit; what fits of it written; 2 to the 24th cut to three octets
-pub written-just : (after : List ℕ) → Puts (ltb 2 (256 ^ 3)) (0x03 ∷ lengthField 2) 1 (9 ∷ 9 ∷ 9 ∷ []) after Put.NoRoom → ⊥
+-- ---- write_header: no room where the octets just fit; what fits of it written; 65,536 cut to two octets; 65,536 in the third form, and a length that has a
+-- shorter form in it
+pub written-just : (after : List ℕ) → Puts (ltb 2 (256 ^ 2)) (0x03 ∷ lengthField 2) 1 (9 ∷ 9 ∷ 9 ∷ []) after Put.NoRoom → ⊥
 unfolding lengthField putAnswer
 written-just after p = let h = p .answers in never (cc h)
 
-pub written-part : Puts (ltb 0xFE (256 ^ 3)) (0x03 ∷ lengthField 0xFE) 0 (9 ∷ 9 ∷ 9 ∷ []) (0x03 ∷ 0xFE ∷ 0x00 ∷ []) Put.NoRoom → ⊥
+pub written-part : Puts (ltb 0xFE (256 ^ 2)) (0x03 ∷ lengthField 0xFE) 0 (9 ∷ 9 ∷ 9 ∷ []) (0x03 ∷ 0xFE ∷ 0x00 ∷ []) Put.NoRoom → ⊥
 unfolding lengthField digits putOut
 written-part p = let z : _≡_ {A = ℕ} 0x03 9 = ap (λ l. getD l 0 0) (p .leaves) in omega arith
 
-pub written-long : (after : List ℕ) → Puts (ltb 0x1000000 (256 ^ 3)) (0x03 ∷ lengthField 0x1000000) 0 (9 ∷ 9 ∷ 9 ∷ 9 ∷ 9 ∷ []) after (Put.Done 5) → ⊥
+pub written-cut : (after : List ℕ) → Puts (ltb 0x10000 (256 ^ 2)) (0x03 ∷ lengthField 0x10000) 0 (9 ∷ 9 ∷ 9 ∷ 9 ∷ []) after (Put.Done 4) → ⊥
 unfolding putAnswer
-written-long after p = let h = p .answers in never (cc h)
+written-cut after p = let h = p .answers in never (cc h)
+
+pub written-third : (answer : Put) → Puts (ltb 0x10000 (256 ^ 2)) (0x03 ∷ lengthField 0x10000) 0 (9 ∷ 9 ∷ 9 ∷ 9 ∷ 9 ∷ []) (0x03 ∷ 0xFF ∷ 0x01 ∷ 0x00 ∷ 0x00 ∷ []) answer → ⊥
+unfolding putOut
+written-third answer p = let z : _≡_ {A = ℕ} 0x03 9 = ap (λ l. getD l 0 0) (p .leaves) in omega arith
+
+pub written-needless : (answer : Put) → Puts (ltb 0xFE (256 ^ 2)) (0x03 ∷ lengthField 0xFE) 0 (9 ∷ 9 ∷ 9 ∷ 9 ∷ 9 ∷ []) (0x03 ∷ 0xFF ∷ 0x00 ∷ 0x00 ∷ 0xFE ∷ []) answer → ⊥
+unfolding lengthField digits putOut
+written-needless answer p = let z : _≡_ {A = ℕ} 0xFF 0xFE = ap (λ l. getD l 1 0) (p .leaves) in omega arith
 
 -- ---- read_number: the least significant octet first; five octets for the zeros before a small number
 pub number-backwards : numberOf (0x01 ∷ 0x02 ∷ []) ≡ Number.Is 0x0201 → ⊥

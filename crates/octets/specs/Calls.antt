@@ -11,7 +11,7 @@ use Rattle.octets.specs.declared.Header.{Header}
 use Rattle.octets.specs.declared.Header.the-variants.{Past, Found}
 use Rattle.octets.specs.declared.Number.{Number}
 use Rattle.octets.specs.declared.LengthForm.{LengthForm}
-use Rattle.octets.specs.declared.LengthForm.the-variants.{One, Two, Three}
+use Rattle.octets.specs.declared.LengthForm.the-variants.{One, Two}
 
 -- the header with which a part begins, or that the part ends within it (document 01, Framing, and 2 of the refusal numbers)
 unfoldable pub headerOf : List ℕ → Header
@@ -29,14 +29,12 @@ fitsWidth width n = leb width 4 && ltb n (256 ^ width)
 unfoldable pub announced : LengthForm → List ℕ
 announced One = []
 announced Two = 0xFE ∷ []
-announced Three = 0xFF ∷ []
 
 unfoldable pub widthOf : LengthForm → ℕ
 widthOf One = 1
 widthOf Two = 2
-widthOf Three = 3
 
--- the form in which the length field of normal form stands. It has room for every length that has a field at all
+-- the form in which the length field of normal form stands. It has room for every length that has a field at all: those below 65,536
 pub record Formed (n : ℕ) (form : LengthForm) : Type 0 where
   pub field : lengthField n ≡ announced form ++ digits (widthOf form) n
-  pub fits : n < 256 ^ 3 → n < 256 ^ widthOf form
+  pub fits : n < 256 ^ 2 → n < 256 ^ widthOf form

@@ -17,10 +17,12 @@ bodySize part =
     cond (eqb (getD part 1 0) 0xFE) (value (take 2 (drop 2 part)))
     (cond (eqb (getD part 1 0) 0xFF) (value (take 3 (drop 2 part))) (getD part 1 0))
 
--- the length of a body in the shortest of the three forms (document 01, Records and meaning: normal form)
+-- the length of a body as normal form writes it: the shorter of two forms, the length octet itself or 16 bits behind 0xFE (document 01, Records and meaning, as
+-- change request 2026-08 amends it). It is told of every n, but above 65,535 it is no length's field: whoever writes a header asks for less, and no body of an
+-- object that is written has more than 32,768 octets (format/specs/Bodies)
 unfoldable pub lengthField : ℕ → List ℕ
-lengthField n = cond (leb n 0xFD) (n ∷ []) (cond (leb n 0xFFFF) (0xFE ∷ digits 2 n) (0xFF ∷ digits 3 n))
+lengthField n = cond (leb n 0xFD) (n ∷ []) (0xFE ∷ digits 2 n)
 
--- an item in normal form: its tag, the shortest length, its body
+-- an item in normal form: its tag, the shorter length, its body
 unfoldable pub framed : ℕ → List ℕ → List ℕ
 framed tag body = tag ∷ lengthField (length body) ++ body

@@ -48,11 +48,10 @@ pub enum Put {
     Invalid,
 }
 
-// How a length is written: as the length octet itself, or behind 0xFE in two octets, or behind 0xFF in three.
+// How a length is written: as the length octet itself, or behind 0xFE in two octets. A length in three octets is read, but never written.
 enum LengthForm {
     One,
     Two,
-    Three,
 }
 
 // The header of the item with which a part begins. Looks at the octets of the length alone: at most four.
@@ -111,36 +110,32 @@ fn joined(n: u32, b: u8) -> u32
     (n << 8) | (b as u32)
 }
 
-// The one place that chooses the form in which a length is written: the shortest (document 01, Records and meaning). Whatever writes or measures a header goes
-// by its answer.
+// The one place that chooses the form in which a length is written: the shorter of two (document 01, Records and meaning, as change request 2026-08 amends it).
+// Whatever writes or measures a header goes by its answer.
 fn length_form(n: Octets) -> LengthForm
     ensures { λ r. ⌜ Formed (n .0) r ⌝ }
 {
     if n.0 <= 0xFD {
         return LengthForm::One;
     }
-    if n.0 <= 0xFFFF {
-        return LengthForm::Two;
-    }
-    LengthForm::Three
+    LengthForm::Two
 }
 
-// How many octets the header of a body of n octets takes. Told of every n; that none has a header from 2 to the 24th on is for write_header to say.
+// How many octets the header of a body of n octets takes. Told of every n; that none has a header from 65,536 on is for write_header to say.
 pub fn header_size(n: Octets) -> Octets
     ensures { λ r. ⌜ r ≡ asOctets (suc (length (lengthField (n .0)))) ⌝ }
 {
     match length_form(n) {
         LengthForm::One => Octets(2),
         LengthForm::Two => Octets(4),
-        LengthForm::Three => Octets(5),
     }
 }
 
-// The header of a body of n octets, put at a place. Invalid: n is 2 to the 24th or more.
+// The header of a body of n octets, put at a place. Invalid: n is 65,536 or more, a length that has no form here.
 pub fn write_header(out: &mut [u8], at: usize, tag: u8, n: Octets) -> Put
-    ensures { λ r. ⌜ Puts (ltb (n .0) (256 ^ 3)) (tag ∷ lengthField (n .0)) at (now (out .entry)) (now (out .exit)) r ⌝ }
+    ensures { λ r. ⌜ Puts (ltb (n .0) (256 ^ 2)) (tag ∷ lengthField (n .0)) at (now (out .entry)) (now (out .exit)) r ⌝ }
 {
-    if n.0 > 0xFFFFFF {
+    if n.0 > 0xFFFF {
         return Put::Invalid;
     }
     let size = header_size(n);
@@ -153,7 +148,7 @@ pub fn write_header(out: &mut [u8], at: usize, tag: u8, n: Octets) -> Put
 }
 
 fn store_length(out: &mut [u8], at: usize, n: Octets)
-    requires { ⌜ n .0 < 256 ^ 3 ⌝ }
+    requires { ⌜ n .0 < 256 ^ 2 ⌝ }
     requires { ⌜ at + length (lengthField (n .0)) ≤ length (now out) ⌝ }
     ensures { λ _. ⌜ now (out .exit) ≡ sets (now (out .entry)) at (lengthField (n .0)) ⌝ }
 {
@@ -164,10 +159,6 @@ fn store_length(out: &mut [u8], at: usize, n: Octets)
         LengthForm::Two => {
             out[at] = 0xFE;
             store_number(out, at + 1, Octets(2), n.0 as u32);
-        }
-        LengthForm::Three => {
-            out[at] = 0xFF;
-            store_number(out, at + 1, Octets(3), n.0 as u32);
         }
     }
 }

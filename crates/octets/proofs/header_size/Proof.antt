@@ -12,19 +12,13 @@ enum-told c = search (size-ways, needs)
 enum-told-2 : tie.Need-enum-told-2
 enum-told-2 c = search (size-ways, needs)
 
-enum-told-3 : tie.Need-enum-told-3
-enum-told-3 c = search (size-ways, needs)
-
 returns : tie.Need-returns
 returns c = search (size-ways, needs)
 
 returns-2 : tie.Need-returns-2
 returns-2 c = search (size-ways, needs)
 
-returns-3 : tie.Need-returns-3
-returns-3 c = search (size-ways, needs)
-
 pub header-size-spec : {M : Type 1} → statement M
 header-size-spec =
     tie.close
-    (tie.spec length-form-requires enum-told enum-told-2 enum-told-3 returns returns-2 returns-3)
+    (tie.spec length-form-requires enum-told enum-told-2 returns returns-2)

@@ -9,8 +9,5 @@ returns c = search (form-ways, needs)
 returns-2 : tie.Need-returns-2
 returns-2 c = search (form-ways, needs)
 
-returns-3 : tie.Need-returns-3
-returns-3 c = search (form-ways, needs)
-
 pub length-form-spec : {M : Type 1} → statement M
-length-form-spec = tie.close (tie.spec returns returns-2 returns-3)
+length-form-spec = tie.close (tie.spec returns returns-2)

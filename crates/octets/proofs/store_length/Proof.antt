@@ -30,21 +30,6 @@ cast-store-number-2 c = search (length-ways, needs)
 store-number-requires-2 : tie.Need-store-number-requires-2
 store-number-requires-2 c κs = search (length-ways, needs)
 
-enum-told-3 : tie.Need-enum-told-3
-enum-told-3 c = search (length-ways, needs)
-
-slice-write-out-2 : tie.Need-slice-write-out-2
-slice-write-out-2 c = search (length-ways, needs)
-
-add-store-number-2 : tie.Need-add-store-number-2
-add-store-number-2 c = search (length-ways, needs)
-
-cast-store-number-3 : tie.Need-cast-store-number-3
-cast-store-number-3 c = search (length-ways, needs)
-
-store-number-requires-3 : tie.Need-store-number-requires-3
-store-number-requires-3 c κs = search (length-ways, needs)
-
 same-length : tie.Need-same-length
 same-length c = search (length-ways, needs)
 
@@ -56,12 +41,6 @@ same-length-2 c = search (length-ways, needs)
 
 returns-2 : tie.Need-returns-2
 returns-2 c = search (length-ways, needs)
-
-same-length-3 : tie.Need-same-length-3
-same-length-3 c = search (length-ways, needs)
-
-returns-3 : tie.Need-returns-3
-returns-3 c = search (length-ways, needs)
 
 pub store-length-spec : {M : Type 1} → statement M
 store-length-spec =
@@ -76,14 +55,7 @@ store-length-spec =
     add-store-number
     cast-store-number-2
     store-number-requires-2
-    enum-told-3
-    slice-write-out-2
-    add-store-number-2
-    cast-store-number-3
-    store-number-requires-3
     same-length
     returns
     same-length-2
-    returns-2
-    same-length-3
-    returns-3)
+    returns-2)
