@@ -34,3 +34,4 @@ pub mod Written
 pub mod Calls
 pub mod Lays
 pub mod Shown
+pub mod Bodies

@@ -62,12 +62,12 @@ module _ (T : Entries) (ok : Sound T) where
                 (proper-octets (w .2 .2) (λ p. subst (λ x. Octets (octetsOf (meant T x o))) (sym (same ∙ p)) (found-octets T a o t s h r))),
           )
 
-cdata-octets : (p : ℕ) (c : Option (List ℕ)) → CdataOk p c → length (maybe (framed 1) c) < 256 ^ 3 → Octets (maybe (framed 1) c)
+cdata-octets : (p : ℕ) (c : Option (List ℕ)) → CdataOk p c → length (maybe (framed 1) c) < 256 ^ 2 → Octets (maybe (framed 1) c)
 unfolding maybe
 cdata-octets p none c l = octets-none
 cdata-octets p (some o) c l = framed-octets 1 o (omega arith) (omega (arith, framed-length 1 o)) (text-octets false o (c .0))
 
-rising-octets : (n a : ℕ) (f : ℕ → Option Value) → ((b : ℕ) (v : Value) → f b ≡ some v → (b < 256) × Octets (octetsOf v)) → length (rising n a f) < 256 ^ 3 → Octets (rising n a f)
+rising-octets : (n a : ℕ) (f : ℕ → Option Value) → ((b : ℕ) (v : Value) → f b ≡ some v → (b < 256) × Octets (octetsOf v)) → length (rising n a f) < 256 ^ 2 → Octets (rising n a f)
 unfolding rising maybe
 rising-octets zero a f h l = octets-none
 rising-octets (suc n) a f h l = go (f a) refl l (λ q. rising-octets n (suc a) f h q)
@@ -75,7 +75,7 @@ rising-octets (suc n) a f h l = go (f a) refl l (λ q. rising-octets n (suc a) f
     rest : List ℕ
     rest = rising n (suc a) f
 
-    go : (o : Option Value) → f a ≡ o → length (maybe (λ v. framed a (octetsOf v)) o ++ rest) < 256 ^ 3 → (length rest < 256 ^ 3 → Octets rest) → Octets (maybe (λ v. framed a (octetsOf v)) o ++ rest)
+    go : (o : Option Value) → f a ≡ o → length (maybe (λ v. framed a (octetsOf v)) o ++ rest) < 256 ^ 2 → (length rest < 256 ^ 2 → Octets rest) → Octets (maybe (λ v. framed a (octetsOf v)) o ++ rest)
     go none e l ih = ih l
     go (some v) e l ih =
         let w = h a v e in
@@ -93,11 +93,11 @@ child-no-attribute tag h = go (attribute tag) (eqb tag 1) (eqb tag 4) h
 module _ (T : Entries) (ok : Sound T) where
   -- what items mean, written
   abbrev Pure : Items → Type 0
-  Pure t = length (encode (means T t)) < 256 ^ 3 → Octets (encode (means T t))
+  Pure t = length (encode (means T t)) < 256 ^ 2 → Octets (encode (means T t))
 
   -- an element that holds items
   element-octets : (s : Spot) (tag : ℕ) (x u : Items) → tag < 256 → Told T (below s tag) x → Pure x → Pure u
-      → length (encode (element tag (attributesIn T tag x) (means T x) (cdataIn T x) (means T u))) < 256 ^ 3
+      → length (encode (element tag (attributesIn T tag x) (means T x) (cdataIn T x) (means T u))) < 256 ^ 2
       → Octets (encode (element tag (attributesIn T tag x) (means T x) (cdataIn T x) (means T u)))
   unfolding encode below
   element-octets s tag x u o h inside later l =
@@ -133,7 +133,7 @@ module _ (T : Entries) (ok : Sound T) where
       single : Meaning
       single = leaf tag (leafOctets T tag body) (means T u)
 
-      go : (b o : Bool) → isChild tag ≡ b → length (encode (cond b (cond o held single) (means T u))) < 256 ^ 3 → Octets (encode (cond b (cond o held single) (means T u)))
+      go : (b o : Bool) → isChild tag ≡ b → length (encode (cond b (cond o held single) (means T u))) < 256 ^ 2 → Octets (encode (cond b (cond o held single) (means T u)))
       go false o q l = later l
       go true true q l = element-octets s tag x u (i .octet) h inside later l
       go true false q l =
@@ -146,6 +146,6 @@ module _ (T : Entries) (ok : Sound T) where
   pure end s h l = octets-none
   pure (item tag at body x u) s h l = pure-item s tag at body x u (h .0) (h .1) (pure x (below s tag) (h .1)) (pure u (past s tag) (h .2)) l
 
--- the bound is an object's: a length above 24 bits would have no octets
+-- the bound is an object's: a length above 16 bits has no form in which it is written
 pub normal-octets : (o : List ℕ) (t : Items) → Octets o → judge o ≡ accepted t → length (normalOf t) ≤ 32_768 → Octets (normalOf t)
 normal-octets o t os h l = pure (tableOf t) (accepted-sound o t os h) t atTop (accepted-told o t os h) (omega arith)

@@ -42,7 +42,7 @@ unfolding byKind isKnown
 leaf-kind k q f a b = rw q
 
 -- an item that keeps its rules is read by its kind; the number below suffices for what is inside it and after it
-module _ (c : Context) (at tag : ℕ) (body rest : List ℕ) (small : length body < 256 ^ 3) (p : Held c tag body) (a : Alone c rest) where
+module _ (c : Context) (at tag : ℕ) (body rest : List ℕ) (small : length body < 256 ^ 2) (p : Held c tag body) (a : Alone c rest) where
   step : (k : ℕ) → items (suc k) c at (tag ∷ behind body rest)
       ≡ byKind (known (c .parent) tag) (item tag (at + headed (length body)) body) (items k (within c tag) (at + headed (length body)) body)
       (items k (next c at tag body) (at + headed (length body) + length body) rest)

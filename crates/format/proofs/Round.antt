@@ -67,11 +67,11 @@ unfolding isItems
 text-no-items = refl
 
 cdata-reads : (c : Context) (parent depth stage at : ℕ) (cd : Option (List ℕ)) → Ready c parent depth stage → eqb parent 0 ≡ false → leb stage 2 ≡ true
-    → CdataOk parent cd → length (maybe (framed 1) cd) < 256 ^ 3 → (u : Items) × Reads c at (maybe (framed 1) cd) u × Body cd nothing u
+    → CdataOk parent cd → length (maybe (framed 1) cd) < 256 ^ 2 → (u : Items) × Reads c at (maybe (framed 1) cd) u × Body cd nothing u
 unfolding maybe means find defaultsIn
 cdata-reads c parent depth stage at none r z s ok h = (end, reads-end c at (r .quiet), record { children = refl; cdata = refl; table = refl; attributes = λ b q. refl; bare = λ p. refl })
 cdata-reads c parent depth stage at (some o) r z s ok h =
-    let small : length o < 256 ^ 3 = omega (arith, rw (append-nil (framed 1 o)) at (framed-longer 1 o [])) in
+    let small : length o < 256 ^ 2 = omega (arith, rw (append-nil (framed 1 o)) at (framed-longer 1 o [])) in
     let n = next-ready c parent depth stage at 1 o r cdata-no-attribute refl in (
       item 1 (at + headed (length o)) o end end,
       rw (append-nil (framed 1 o)) at (reads-leaf c at 1 o [] small (cdata-held c parent depth stage o r z s (ok .0) (ok .1)) (inside-parent c parent depth stage [] r z) HoldsText (known-cdata (c .parent)) text-no-items (reads-end (next c at 1 o) (at + headed (length o) + length o) (n .quiet))),
@@ -148,7 +148,7 @@ fresh-next c at a body fresh b h = rw (ne-eqb b a (λ q. omega arith)) (fresh b 
 
 rising-reads : (n a : ℕ) → a + n ≡ 256 → 0x80 ≤ a → (parent depth : ℕ) (f : ℕ → Option Value) → ((b : ℕ) → AttributeOk parent b (f b)) → eqb parent 0 ≡ false
     → (rest : List ℕ) (cd : Option (List ℕ)) (m : Meaning) → Follows parent depth rest (λ s. s ≡ 0) (Body cd m)
-    → (c : Context) (at : ℕ) → Ready c parent depth 0 → Fresh a (c .seen) → length (rising n a f ++ rest) < 256 ^ 3
+    → (c : Context) (at : ℕ) → Ready c parent depth 0 → Fresh a (c .seen) → length (rising n a f ++ rest) < 256 ^ 2
     → (t : Items) × Reads c at (rising n a f ++ rest) t × Inside parent f a cd m t
 unfolding rising maybe
 rising-reads zero a q l parent depth f ok z rest cd m follows c at r fresh h =
@@ -157,9 +157,9 @@ rising-reads zero a q l parent depth f ok z rest cd m follows c at r fresh h =
 rising-reads (suc n) a q l parent depth f ok z rest cd m follows c at r fresh h =
     go (rising-reads n (suc a) (omega arith) (omega arith) parent depth f ok z rest cd m follows) (f a) refl (ok a .value) h
   where
-    go : ((c : Context) (at : ℕ) → Ready c parent depth 0 → Fresh (suc a) (c .seen) → length (rising n (suc a) f ++ rest) < 256 ^ 3
+    go : ((c : Context) (at : ℕ) → Ready c parent depth 0 → Fresh (suc a) (c .seen) → length (rising n (suc a) f ++ rest) < 256 ^ 2
         → (t : Items) × Reads c at (rising n (suc a) f ++ rest) t × Inside parent f (suc a) cd m t)
-        → (o : Option Value) → f a ≡ o → ValueOk parent a o → length (maybe (λ v. framed a (octetsOf v)) o ++ rising n (suc a) f ++ rest) < 256 ^ 3
+        → (o : Option Value) → f a ≡ o → ValueOk parent a o → length (maybe (λ v. framed a (octetsOf v)) o ++ rising n (suc a) f ++ rest) < 256 ^ 2
         → (t : Items) × Reads c at (maybe (λ v. framed a (octetsOf v)) o ++ rising n (suc a) f ++ rest) t × Inside parent f a cd m t
     go ih none e p s =
         let u = ih c at r (λ b g. fresh b (omega arith)) s in
@@ -167,7 +167,7 @@ rising-reads (suc n) a q l parent depth f ok z rest cd m follows c at r fresh h 
     go ih (some v) e p s =
         let o = octetsOf v in
         let k = p .2 .0 in
-        let s′ : length (framed a o ++ (rising n (suc a) f ++ rest)) < 256 ^ 3 = rw append-assoc at s in
+        let s′ : length (framed a o ++ (rising n (suc a) f ++ rest)) < 256 ^ 2 = rw append-assoc at s in
         let g = framed-longer a o (rising n (suc a) f ++ rest) in
         let u = ih (next c at a o) (at + headed (length o) + length o) (next-attribute c parent depth at a r (attribute-tag a l) k v (p .2 .1) (p .2 .2)) (fresh-next c at a o fresh) (omega arith) in (
           item a (at + headed (length o)) o end (u .0),
@@ -210,7 +210,7 @@ stage-element tag e = rw (e .notAttribute, e .notTable, e .notCdata)
 
 -- an element whose inside and later brothers are read
 element-reads : (c : Context) (parent depth stage at tag : ℕ) (f : ℕ → Option Value) (kids after : Meaning) (cd cdata : Option (List ℕ)) (body rest : List ℕ)
-    → Ready c parent depth stage → PlaceOk parent depth stage tag → known 0 tag ≡ some HoldsItems → ((b : ℕ) → AttributeOk tag b (f b)) → length body < 256 ^ 3 → Alone c rest
+    → Ready c parent depth stage → PlaceOk parent depth stage tag → known 0 tag ≡ some HoldsItems → ((b : ℕ) → AttributeOk tag b (f b)) → length body < 256 ^ 2 → Alone c rest
     → ((c : Context) (at : ℕ) → Ready c tag (suc depth) 0 → c .seen ≡ [] → (t : Items) × Reads c at body t × Inside tag f 0x80 cdata kids t)
     → ((c : Context) (at : ℕ) → Ready c parent depth (stageAfter tag) → (u : Items) × Reads c at rest u × Body cd after u)
     → (t : Items) × Reads c at (framed tag body ++ rest) t × Body cd (element tag f kids cdata after) t × (tableOf t ≡ [])
@@ -233,7 +233,7 @@ fresh-none a seen e b h = rw e
 
 -- an element's body: its attributes by rising tag, its children, its CDATA
 body-reads : (tag depth : ℕ) (f : ℕ → Option Value) (kids : Meaning) (cdata : Option (List ℕ)) (rest : List ℕ) → eqb tag 0 ≡ false → ((b : ℕ) → AttributeOk tag b (f b))
-    → length (rising 128 0x80 f ++ rest) < 256 ^ 3 → Follows tag (suc depth) rest (λ s. s ≡ 0) (Body cdata kids)
+    → length (rising 128 0x80 f ++ rest) < 256 ^ 2 → Follows tag (suc depth) rest (λ s. s ≡ 0) (Body cdata kids)
     → (c : Context) (at : ℕ) → Ready c tag (suc depth) 0 → c .seen ≡ [] → (t : Items) × Reads c at (rising 128 0x80 f ++ rest) t × Inside tag f 0x80 cdata kids t
 body-reads tag depth f kids cdata rest z ok small follows c at r e =
     rising-reads 128 0x80 refl (omega arith) tag (suc depth) f ok z rest cdata kids follows c at r (fresh-none 0x80 (c .seen) e) small
@@ -241,7 +241,7 @@ body-reads tag depth f kids cdata rest z ok small follows c at r e =
 -- a leaf whose later brothers are read
 leaf-one : (c : Context) (parent depth stage at tag : ℕ) (after : Meaning) (cd : Option (List ℕ)) (o rest : List ℕ) (k : Kind)
     → Ready c parent depth stage → PlaceOk parent depth stage tag → known 0 tag ≡ some k → isItems (some k) ≡ false → ElementTag tag → KindHeld c tag o (some k)
-    → leafOctets [] tag o ≡ o → length o < 256 ^ 3 → Alone c rest
+    → leafOctets [] tag o ≡ o → length o < 256 ^ 2 → Alone c rest
     → ((c : Context) (at : ℕ) → Ready c parent depth (stageAfter tag) → (u : Items) × Reads c at rest u × Body cd after u)
     → (t : Items) × Reads c at (framed tag o ++ rest) t × Body cd (leaf tag o after) t
 unfolding defaultsIn
@@ -256,7 +256,7 @@ leaf-one c parent depth stage at tag after cd o rest k r place e l tagged rules 
     )
 
 leaf-reads : (c : Context) (parent depth stage at tag : ℕ) (after : Meaning) (cd : Option (List ℕ)) (o rest : List ℕ)
-    → Ready c parent depth stage → PlaceOk parent depth stage tag → LeafOk tag o → length o < 256 ^ 3 → Alone c rest
+    → Ready c parent depth stage → PlaceOk parent depth stage tag → LeafOk tag o → length o < 256 ^ 2 → Alone c rest
     → ((c : Context) (at : ℕ) → leb (stageAfter tag) 2 ≡ true → Ready c parent depth (stageAfter tag) → (u : Items) × Reads c at rest u × Body cd after u)
     → (t : Items) × Reads c at (framed tag o ++ rest) t × Body cd (leaf tag o after) t
 unfolding isItems
@@ -274,7 +274,7 @@ leaf-reads c parent depth stage at tag after cd o rest r place (plainly e) small
 abbrev Children : Meaning → Type 0
 Children m = (parent depth stage : ℕ) → eqb parent 0 ≡ false → leb stage 2 ≡ true → WellFormed parent depth stage m
     → (rest : List ℕ) (cd : Option (List ℕ)) → Follows parent depth rest (λ s. leb s 2 ≡ true) (Body cd nothing)
-    → (c : Context) (at : ℕ) → Ready c parent depth stage → length (encode m ++ rest) < 256 ^ 3 → (t : Items) × Reads c at (encode m ++ rest) t × Body cd m t
+    → (c : Context) (at : ℕ) → Ready c parent depth stage → length (encode m ++ rest) < 256 ^ 2 → (t : Items) × Reads c at (encode m ++ rest) t × Body cd m t
 
 children-nothing : Children nothing
 unfolding encode
@@ -285,7 +285,7 @@ unfolding encode
 children-element tag f kids cdata after inside later parent depth stage z s ok rest cd follows c at r h =
     let text = maybe (framed 1) cdata in
     let body = rising 128 0x80 f ++ (encode kids ++ text) in
-    let h′ : length (framed tag body ++ (encode after ++ rest)) < 256 ^ 3 = rw append-assoc at h in
+    let h′ : length (framed tag body ++ (encode after ++ rest)) < 256 ^ 2 = rw append-assoc at h in
     let g = framed-longer tag body (encode after ++ rest) in
     let b : length body ≡ length (rising 128 0x80 f) + (length (encode kids) + length text) = simp length-append in
     let d : length (encode kids ++ text) ≡ length (encode kids) + length text = simp length-append in
@@ -301,7 +301,7 @@ children-element tag f kids cdata after inside later parent depth stage z s ok r
 children-leaf : (tag : ℕ) (o : List ℕ) (after : Meaning) → Children after → Children (leaf tag o after)
 unfolding encode
 children-leaf tag o after later parent depth stage z s ok rest cd follows c at r h =
-    let h′ : length (framed tag o ++ (encode after ++ rest)) < 256 ^ 3 = rw append-assoc at h in
+    let h′ : length (framed tag o ++ (encode after ++ rest)) < 256 ^ 2 = rw append-assoc at h in
     let g = framed-longer tag o (encode after ++ rest) in
     rw append-assoc
     (leaf-reads c parent depth stage at tag after cd o (encode after ++ rest) r (ok .0) (ok .1) (omega arith) (inside-parent c parent depth stage (encode after ++ rest) r z)

@@ -8,5 +8,6 @@ pub mod Loaded
 pub mod Same
 pub mod Calls
 pub mod State
+pub mod Bodies
 pub mod Lent
 pub mod Bench

@@ -91,8 +91,8 @@ unfoldable pub rising : ℕ → ℕ → (ℕ → Option Value) → List ℕ
 rising zero tag f = []
 rising (suc n) tag f = maybe (λ v. framed tag (octetsOf v)) (f tag) ++ rising n (suc tag) f
 
--- the normal form: no token table and no unknown item, as a meaning has none; attributes by rising tag, then child elements, then CDATA; each length in its
--- shortest form; each value in its normal octets
+-- the normal form: no token table and no unknown item, as a meaning has none; attributes by rising tag, then child elements, then CDATA; each length in the
+-- shorter of two forms; each value in its normal octets
 unfoldable pub encode : Meaning → List ℕ
 encode nothing = []
 encode (element tag attributes children cdata after) =
