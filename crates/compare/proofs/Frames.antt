@@ -13,7 +13,8 @@ use borrow.Author.Tests.{eqb-true, eqb-false, eq-eqb, leb-true, le-leb}
 use Rattle.octets.specs.Numbers.{value, digits, Octets}
 use Rattle.octets.specs.Header.{headerSize, bodySize, lengthField, framed}
 use Rattle.octets.specs.Places.{isWhole, firstBody, afterFirst}
-use Rattle.octets.proofs.Numbers.{length-digits, digits-value, value-of-length, octets-take}
+use Rattle.octets.proofs.Numbers.{digits-value, octets-take}
+use Rattle.octets.proofs.Answers.{size-four}
 use Rattle.octets.proofs.Frames.{header-two, headed, behind, split, framed-behind}
 use Rattle.values.specs.Values.{Value, octetsOf}
 use Rattle.format.specs.Meaning.{maybe, rising}
@@ -27,7 +28,7 @@ pub record Framing (s : List ℕ) (tag : ℕ) (body later : List ℕ) : Type 0 w
   pub inside : firstBody s ≡ body
   pub after : afterFirst s ≡ later
 
-begun : (tag : ℕ) (body later : List ℕ) → length body < 256 ^ 3 → Framing (tag ∷ behind body later) tag body later
+begun : (tag : ℕ) (body later : List ℕ) → length body < 256 ^ 2 → Framing (tag ∷ behind body later) tag body later
 unfolding isShortest headed
 begun tag body later h =
     let k = split tag body later h in
@@ -38,10 +39,10 @@ begun tag body later h =
       after = rw (k .size, k .header) (k .after);
     }
 
-pub framing : (s : List ℕ) (tag : ℕ) (body later : List ℕ) → length body < 256 ^ 3 → s ≡ framed tag body ++ later → Framing s tag body later
+pub framing : (s : List ℕ) (tag : ℕ) (body later : List ℕ) → length body < 256 ^ 2 → s ≡ framed tag body ++ later → Framing s tag body later
 framing s tag body later h e = subst (λ x. Framing x tag body later) (sym (e ∙ framed-behind tag body later)) (begun tag body later h)
 
--- the other way: a header in its shortest form is the one that is written
+-- the other way: a header of the size that is written is the one that is written. One of five octets never is
 module _ (tag b : ℕ) (bs : List ℕ) (os : Octets (tag ∷ b ∷ bs)) where
   later-octets : Octets bs
   later-octets i = os (suc (suc i))
@@ -49,27 +50,13 @@ module _ (tag b : ℕ) (bs : List ℕ) (os : Octets (tag ∷ b ∷ bs)) where
   number-front : (n : ℕ) → n ≤ length bs → digits n (value (take n bs)) ≡ take n bs
   number-front n h = ap (λ w. digits w (value (take n bs))) (sym (length-take-le n bs h)) ∙ digits-value (take n bs) (octets-take n bs later-octets)
 
-  number-small : (n : ℕ) → n ≤ length bs → value (take n bs) < 256 ^ n
-  number-small n h = value-of-length n (take n bs) (octets-take n bs later-octets) (length-take-le n bs h)
-
-  middle : (n : ℕ) → n < 256 ^ 2 → 4 ≡ suc (length (lengthField n)) → lengthField n ≡ 0xFE ∷ digits 2 n
+  long : (n : ℕ) → 4 ≡ suc (length (lengthField n)) → lengthField n ≡ 0xFE ∷ digits 2 n
   unfolding lengthField
-  middle n h e = go (leb n 0xFD) e
+  long n e = go (leb n 0xFD) e
     where
-      go : (x : Bool) → 4 ≡ suc (length (cond x (n ∷ []) (cond (leb n 0xFFFF) (0xFE ∷ digits 2 n) (0xFF ∷ digits 3 n))))
-          → cond x (n ∷ []) (cond (leb n 0xFFFF) (0xFE ∷ digits 2 n) (0xFF ∷ digits 3 n)) ≡ 0xFE ∷ digits 2 n
+      go : (x : Bool) → 4 ≡ suc (length (cond x (n ∷ []) (0xFE ∷ digits 2 n))) → cond x (n ∷ []) (0xFE ∷ digits 2 n) ≡ 0xFE ∷ digits 2 n
       go true q = absurd (omega arith)
-      go false q = rw (le-leb n 0xFFFF (omega arith))
-
-  long : (n : ℕ) → 5 ≡ suc (length (lengthField n)) → lengthField n ≡ 0xFF ∷ digits 3 n
-  unfolding lengthField
-  long n e = go (leb n 0xFD) (leb n 0xFFFF) e
-    where
-      go : (x y : Bool) → 5 ≡ suc (length (cond x (n ∷ []) (cond y (0xFE ∷ digits 2 n) (0xFF ∷ digits 3 n))))
-          → cond x (n ∷ []) (cond y (0xFE ∷ digits 2 n) (0xFF ∷ digits 3 n)) ≡ 0xFF ∷ digits 3 n
-      go true y q = absurd (omega arith)
-      go false true q = absurd (omega (arith, length-digits 2 n))
-      go false false q = refl
+      go false q = refl
 
   short : (n : ℕ) → n ≤ 0xFD → lengthField n ≡ n ∷ []
   unfolding lengthField
@@ -84,12 +71,12 @@ module _ (tag b : ℕ) (bs : List ℕ) (os : Octets (tag ∷ b ∷ bs)) where
           → take (headerSize (tag ∷ b ∷ bs)) (tag ∷ b ∷ bs) ≡ tag ∷ lengthField (bodySize (tag ∷ b ∷ bs))
       go true p y q =
           let h : 2 ≤ length bs = let g : 4 ≤ suc (suc (length bs)) = rw p at r in omega arith in
-          let m = middle (value (take 2 bs)) (number-small 2 h) (rw p at e) in
+          let m = long (value (take 2 bs)) (rw p at e) in
           rw p (ap₂ (λ k o. tag ∷ k ∷ o) (eqb-true b 0xFE p) (sym (number-front 2 h)) ∙ ap (λ o. tag ∷ o) (sym m))
       go false p true q =
-          let h : 3 ≤ length bs = let g : 5 ≤ suc (suc (length bs)) = rw (p, q) at r in omega arith in
-          let m = long (value (take 3 bs)) (rw (p, q) at e) in
-          rw (p, q) (ap₂ (λ k o. tag ∷ k ∷ o) (eqb-true b 0xFF q) (sym (number-front 3 h)) ∙ ap (λ o. tag ∷ o) (sym m))
+          let n = value (take 3 bs) in
+          let m : 5 ≡ suc (length (lengthField n)) = rw (p, q) at e in
+          absurd (omega (arith, size-four n))
       go false p false q = rw (p, q) (ap (λ o. tag ∷ o) (sym (short b (omega (arith, os 1, eqb-false b 0xFE p, eqb-false b 0xFF q)))))
 
 fronted : (s : List ℕ) → Octets s → headerSize s ≤ length s → isShortest s ≡ true → take (headerSize s) s ≡ getD s 0 0 ∷ lengthField (bodySize s)

@@ -213,7 +213,7 @@ pub record Shape (p stage : ℕ) (part : List ℕ) (t : Items) : Type 0 where
   tableless : (last : ℕ) → shaped p last part ≡ true → tableOf t ≡ []
   above : (last b : ℕ) → shaped p last part ≡ true → attribute b ≡ true → b ≤ last → find b t ≡ none
   forth : (last : ℕ) → 0x7F ≤ last → last < 256 → shaped p last part ≡ true → part ≡ N [] p last t
-  back : (es : Entries) (last : ℕ) → 0x7F ≤ last → last < 256 → length part < 256 ^ 3 → part ≡ N es p last t → shaped p last part ≡ true
+  back : (es : Entries) (last : ℕ) → 0x7F ≤ last → last < 256 → length part < 256 ^ 2 → part ≡ N es p last t → shaped p last part ≡ true
 
 abbrev Shaped : Context → ℕ → List ℕ → Items → Type 0
 Shaped c at part t = Octets part → Shape (c .parent) (c .stage) part t
@@ -381,7 +381,7 @@ module _ (c : Context) (at tag : ℕ) (rest : List ℕ) (u : Items) (q : Unbroke
       let n = behind-attributes c at tag rest q h in
       find-other b tag from body w u (eqb-false b tag (not-attribute b tag a n)) ∙ later-bare n b a
 
-  later-small : length whole < 256 ^ 3 → length (afterFirst whole) < 256 ^ 3
+  later-small : length whole < 256 ^ 2 → length (afterFirst whole) < 256 ^ 2
   later-small h = omega (arith, shorter c at tag rest q)
 
   value-here : (k : Kind) → known p tag ≡ some k → fits k body ≡ true
@@ -479,7 +479,7 @@ module _ (c : Context) (at tag : ℕ) (rest : List ℕ) (u : Items) (q : Unbroke
         ∙ ap₂ (λ x z. framed tag x ++ z) (sym v) (later .forth tag (omega (arith, above-tag)) (os 0) y)
         ∙ sym (attribute-adds [] p last tag from body end u k a e (value-here k e) d r (os 0) none-between)
 
-    attribute-back : (es : Entries) (last : ℕ) → 0x7F ≤ last → last < 256 → length whole < 256 ^ 3 → whole ≡ N es p last tree → shaped p last whole ≡ true
+    attribute-back : (es : Entries) (last : ℕ) → 0x7F ≤ last → last < 256 → length whole < 256 ^ 2 → whole ≡ N es p last tree → shaped p last whole ≡ true
     unfolding isKnown
     attribute-back es last l m s x =
         let r = heads es p last tree (ap isKnown e, later .allKnown) l m tag rest (sym x) .higher a in
@@ -561,11 +561,11 @@ module _ (c : Context) (at tag : ℕ) (rest : List ℕ) (u : Items) (q : Unbroke
     written-body false h = stands-written k body (element-stands tag k (shut h .1))
     written-body true h = stands-written k body (ap asItStands (opened-kind h))
 
-    body-back : (es : Entries) → length whole < 256 ^ 3 → body ≡ content es tag body w → (b : Bool) → opens tag ≡ b → cond b (shaped tag 0x7F body) true ≡ true
+    body-back : (es : Entries) → length whole < 256 ^ 2 → body ≡ content es tag body w → (b : Bool) → opens tag ≡ b → cond b (shaped tag 0x7F body) true ≡ true
     body-back es s x true h = opened h .back es 0x7F (omega arith) (omega arith) (omega (arith, shorter c at tag rest q)) (x ∙ content-open es h)
     body-back es s x false h = refl
 
-    child-back : (es : Entries) (last : ℕ) → 0x7F ≤ last → last < 256 → length whole < 256 ^ 3 → whole ≡ N es p last grown → shaped p last whole ≡ true
+    child-back : (es : Entries) (last : ℕ) → 0x7F ≤ last → last < 256 → length whole < 256 ^ 2 → whole ≡ N es p last grown → shaped p last whole ≡ true
     child-back es last l m s x =
         let y : whole ≡ framed tag (content es tag body w) ++ N es p last u = x ∙ adds es last in
         let f = framing whole tag (content es tag body w) (N es p last u) (omega (arith, ap length y, framed-longer tag (content es tag body w) (N es p last u))) y in

@@ -16,7 +16,7 @@ use Rattle.format.specs.Judge.{isItems}
 use Rattle.format.specs.Same.{sameOctets}
 use Rattle.survey.specs.Normal.{writtenAs}
 
--- the length of the first item stands in its shortest form
+-- the length of the first item stands in the form that is written, the shorter of two
 unfoldable pub isShortest : List ℕ → Bool
 isShortest s = eqb (headerSize s) (suc (length (lengthField (bodySize s))))
 

@@ -1,4 +1,4 @@
-// Whether octets stand in normal form (document 01, Records and meaning): each item is one that is written, its length in the shortest form, attributes by
+// Whether octets stand in normal form (document 01, Records and meaning): each item is one that is written, its length in the shorter of two forms, attributes by
 // rising tag, each value in its normal octets. The normal octets of a time or a bearer are made in an array of eight and compared; nothing else is written
 // anywhere. Cost: each item is looked at once.
 ghost use mathlib.Core.Path.{_≡_};

@@ -6,7 +6,7 @@ use Prim.Native.Nat.{ℕ, _+_, _≤_}
 use native.Mathlib.Omega.{arith}
 use lib.ListN.{length}
 use Rattle.octets.specs.Header.{framed}
-use Rattle.octets.proofs.Answers.{size-five}
+use Rattle.octets.proofs.Answers.{size-four}
 use Rattle.values.specs.Table.{known}
 use Rattle.values.specs.Values.{meant, octetsOf}
 use Rattle.values.specs.Calls.{defaultOctets}
@@ -36,10 +36,10 @@ pub size-shut : (p tag : ℕ) (body : List ℕ) (x : Items) → opens tag ≡ fa
 unfolding normalBody
 size-shut p tag body x o = rw o
 
--- a header has no more than five octets
-pub framed-few : (n : ℕ) → framedSize n ≤ n + 5
+-- a header has no more than four octets
+pub framed-few : (n : ℕ) → framedSize n ≤ n + 4
 unfolding framedSize
-framed-few n = omega (arith, size-five n)
+framed-few n = omega (arith, size-four n)
 
 -- no element that holds items is a default
 pub open-counts : (p tag : ℕ) (body : List ℕ) → opens tag ≡ true → defaultOctets p tag body ≡ false

@@ -24,7 +24,7 @@ use Rattle.values.specs.declared.NormalSize.the-variants as sized
 use Rattle.values.specs.Table.{known}
 use Rattle.values.specs.Values.{fits, meant, octetsOf}
 use Rattle.values.specs.Calls.{normalOctets, normalSize, defaultOctets}
-use Rattle.octets.proofs.Answers.{size-five}
+use Rattle.octets.proofs.Answers.{size-four}
 use Rattle.octets.proofs.Tests.{chosen, not-chosen, never}
 use Rattle.text.proofs.Widths.{weight-is}
 use Rattle.values.proofs.Laws.{normal-sized, not-sized}
@@ -56,7 +56,7 @@ module _ (n h : OctetCount) (e : h ≡ asOctets (suc (length (lengthField (n .0)
   header-is = ap (λ m. m .0) e
 
   pub framed-fits : n .0 < 131072 → Fits w64 (h .0 + n .0)
-  framed-fits l = omega (arith, header-is, size-five (n .0))
+  framed-fits l = omega (arith, header-is, size-four (n .0))
 
   pub framed-is : h .0 + n .0 ≡ framedSize (n .0)
   unfolding framedSize

@@ -15,7 +15,7 @@ use Rattle.format.specs.Tree.{Items}
 use Rattle.format.specs.Tree.Items.{end, item}
 use Rattle.format.specs.Meaning.{opens, attributesIn, maybe, rising}
 
--- how many octets an item has whose body has n: its tag, the shortest length, its body
+-- how many octets an item has whose body has n: its tag, the shorter length, its body
 unfoldable pub framedSize : ℕ → ℕ
 framedSize n = suc (length (lengthField n)) + n
 
