@@ -957,12 +957,11 @@ static bool read_records(struct tree *tree, const uint8_t *records, size_t count
 
 /* ---- Normal form (01, "Records and meaning") --------------------------------------------------- */
 
-/* The octets of tag and length before a body: the shortest of the three forms. */
+/* The octets of tag and length before a body: the shorter of two forms (02, 2026-08).  A body above
+ * 65,535 octets is measured too, in a tree that is then refused with 15; its length is never written. */
 static uint64_t header_size(uint64_t body)
 {
-    if (body <= 0xFD)
-        return 2;
-    return body <= 0xFFFF ? 4 : 5;
+    return body <= 0xFD ? 2 : 4;
 }
 
 struct sizes {
@@ -987,8 +986,7 @@ static struct sizes measure(struct tree *tree)
     return sizes;
 }
 
-/* Writes tag and length.  Output is never above 32,768 octets, so the 24-bit form is never the
- * shortest here. */
+/* Writes tag and length.  Output is never above 32,768 octets, so 16 bits hold every length. */
 static uint8_t *write_header(uint8_t *out, const struct node *node)
 {
     *out++ = node->tag;
