@@ -5,20 +5,20 @@ use Prim.Native.Nat.{ℕ, zero, suc, _+_, _-_, _≤_, _<_, min}
 use native.Mathlib.Omega.{arith}
 use lib.ListN.{length, getD, set, length-set}
 use lib.Seq.{getD-set-other, getD-set-same}
-use Rattle.octets.proofs.Answers.{size-five}
+use Rattle.octets.proofs.Answers.{size-four}
 use Rattle.survey.specs.Normal.{framedSize}
 use Rattle.edits.specs.Sizes.{raised, around, upFrom, Climbs}
 use Rattle.edits.specs.Sizes.Climbs.{top, step}
 use Rattle.edits.proofs.Around.{up-next}
 
--- an item is longer than its body, by five octets at most
+-- an item is longer than its body, by four octets at most
 pub framed-more : (n : ℕ) → n < framedSize n
 unfolding framedSize
 framed-more n = omega arith
 
-pub framed-short : (n : ℕ) → framedSize n ≤ n + 5
+pub framed-short : (n : ℕ) → framedSize n ≤ n + 4
 unfolding framedSize
-framed-short n = omega (arith, size-five n)
+framed-short n = omega (arith, size-four n)
 
 -- ---- what climbing says of the element at hand
 pub climbs-body : (parents bodies : List ℕ) (g was : ℕ) → Climbs parents bodies g was → g < length bodies

@@ -59,11 +59,11 @@ in-bodies n m h = omega arith
 
 -- ---- count_value and count_inside: no sum wraps
 
-few-added : (element tag start size : ℕ) (store : List ℕ) (body : ℕ) → addedBy element tag start size store body ≤ body + 5
+few-added : (element tag start size : ℕ) (store : List ℕ) (body : ℕ) → addedBy element tag start size store body ≤ body + 4
 unfolding addedBy
 few-added element tag start size store body = go (leb (start + size) (length store) && defaultOctets element tag (take size (drop start store)))
   where
-    go : (b : Bool) → cond b 0 (framedSize body) ≤ body + 5
+    go : (b : Bool) → cond b 0 (framedSize body) ≤ body + 4
     go true = omega arith
     go false = framed-few body
 

@@ -61,18 +61,13 @@ module _ (f : ℕ → Items → ℕ) (measure : Measure f) where
 -- ---- the octets of the normal form: a longer body has no shorter header
 field-more : (m n : ℕ) → m ≤ n → length (lengthField m) ≤ length (lengthField n)
 unfolding lengthField digits
-field-more m n h = go (leb m 0xFD) refl (leb m 0xFFFF) refl (leb n 0xFD) refl (leb n 0xFFFF) refl
+field-more m n h = go (leb m 0xFD) refl (leb n 0xFD) refl
   where
-    go : (a : Bool) → leb m 0xFD ≡ a → (b : Bool) → leb m 0xFFFF ≡ b → (c : Bool) → leb n 0xFD ≡ c → (d : Bool) → leb n 0xFFFF ≡ d
-        → length (cond a (m ∷ []) (cond b (0xFE ∷ digits 2 m) (0xFF ∷ digits 3 m))) ≤ length (cond c (n ∷ []) (cond d (0xFE ∷ digits 2 n) (0xFF ∷ digits 3 n)))
-    go true p b q true r d s = omega arith
-    go true p b q false r true s = omega arith
-    go true p b q false r false s = omega arith
-    go false p b q true r d s = absurd (omega (arith, leb-false m 0xFD p, leb-true n 0xFD r))
-    go false p true q false r true s = omega arith
-    go false p true q false r false s = omega arith
-    go false p false q false r true s = absurd (omega (arith, leb-false m 0xFFFF q, leb-true n 0xFFFF s))
-    go false p false q false r false s = omega arith
+    go : (a : Bool) → leb m 0xFD ≡ a → (b : Bool) → leb n 0xFD ≡ b → length (cond a (m ∷ []) (0xFE ∷ digits 2 m)) ≤ length (cond b (n ∷ []) (0xFE ∷ digits 2 n))
+    go true p true q = omega arith
+    go true p false q = omega arith
+    go false p true q = absurd (omega (arith, leb-false m 0xFD p, leb-true n 0xFD q))
+    go false p false q = omega arith
 
 pub framed-monotone : (m n : ℕ) → m ≤ n → framedSize m ≤ framedSize n
 unfolding framedSize
