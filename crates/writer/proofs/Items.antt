@@ -38,15 +38,15 @@ value-short k body = go (fits k body) refl
 
 -- a header written where it has room
 module _ (tag n to : ℕ) (before after : List ℕ) (answer : Put) (f : (n ≤ 32_768) × Fitting (tag ∷ lengthField n) to (length before))
-    (p : Puts (ltb n (256 ^ 3)) (tag ∷ lengthField n) to before after answer) where
+    (p : Puts (ltb n (256 ^ 2)) (tag ∷ lengthField n) to before after answer) where
   pub header-done : (stop : ℕ) → answer ≡ Put.Done stop → Lays (tag ∷ lengthField n) to before after stop
-  header-done = put-laid (ltb n (256 ^ 3)) (tag ∷ lengthField n) to before after answer p
+  header-done = put-laid (ltb n (256 ^ 2)) (tag ∷ lengthField n) to before after answer p
 
   pub header-no-room : answer ≡ Put.NoRoom → Lays (tag ∷ lengthField n) to before after to
-  header-no-room q = put-room (ltb n (256 ^ 3)) (tag ∷ lengthField n) to before after answer p (f .1 .inRoom) q
+  header-no-room q = put-room (ltb n (256 ^ 2)) (tag ∷ lengthField n) to before after answer p (f .1 .inRoom) q
 
   pub header-invalid : answer ≡ Put.Invalid → Lays (tag ∷ lengthField n) to before after to
-  header-invalid q = put-there (ltb n (256 ^ 3)) (tag ∷ lengthField n) to before after answer p (lt-ltb n (256 ^ 3) (omega (arith, f .0))) q
+  header-invalid q = put-there (ltb n (256 ^ 2)) (tag ∷ lengthField n) to before after answer p (lt-ltb n (256 ^ 2) (omega (arith, f .0))) q
 
 -- a value written where it has room
 module _ (k : Kind) (body : List ℕ) (to : ℕ) (before after : List ℕ) (answer : Put) (f : Fitting (valueOctets k body) to (length before))
