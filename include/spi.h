@@ -55,7 +55,8 @@ enum spi_refusal {
     SPI_TOO_LARGE = 15,           /* a room or store too small, or octets above 32,768 */
     SPI_NOT_WELL_FORMED = 16,     /* records that are no well-formed tree, or would be none after the edit */
     SPI_PLAIN_OCTETS = 17,        /* an item of plain octets, which have no XML */
-    SPI_NOT_THERE = 18            /* no such record or place, a record of the wrong kind, or the top to be removed */
+    SPI_NOT_THERE = 18,           /* no such record or place, a record of the wrong kind, or the top to be removed */
+    SPI_NOT_IN_PROFILE = 19       /* an item that the Basic profile hasn't got for the data type */
 };
 
 /* The field of a time that is wrong, the lowest that applies.  A wrong length hides all others. */
@@ -177,6 +178,15 @@ uint64_t spi_same(const uint8_t *first, size_t first_octets,
  * 17, at the tag of the first item of plain octets; then by 15, where the room is too small.  The text is no
  * object, so SPI_MOST_OCTETS is no limit of it.  The count is that of the octets. */
 uint64_t spi_export(const uint8_t *object, size_t octets, uint8_t *room, size_t room_count);
+
+/* Whether an object may be sent to the small receiver, which takes the Basic profile alone (annex A of TS 102 371), as one
+ * of a data type: every known element and attribute stands in the annex's table, each element in one that the table
+ * allows; the token table and the default language may always stand in the top.  Refused by 1 to 13; then by 19, at
+ * the tag of the first item that isn't allowed, which is the top at 0 for any other number than these.  Nothing is
+ * lent to it but the object; the count of a yes is 0. */
+enum spi_data_type { SPI_SERVICE_INFORMATION = 0, SPI_PROGRAMME_INFORMATION = 1, SPI_GROUP_INFORMATION = 2 };
+
+uint64_t spi_gate(const uint8_t *object, size_t octets, uint8_t data_type);
 
 /* ---- A tree that is edited ----------------------------------------------------------------------
  *

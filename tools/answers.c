@@ -134,6 +134,7 @@ static bool is_kept(void)
 /* ---- The fields of a case: each is taken from the stream and lent; false where the stream is bad -- */
 
 static size_t taken;         /* octets of the stream so far */
+static size_t data_type_given; /* by a G case */
 static size_t records_given; /* by a W case, whose lists may have more places */
 
 static bool take_octets(uint8_t *into, size_t count)
@@ -157,6 +158,11 @@ static bool take_number(size_t octets, size_t *number)
 static bool take_count(void)
 {
     return take_number(2, &records_given);
+}
+
+static bool take_data_type(void)
+{
+    return take_number(1, &data_type_given);
 }
 
 static bool take_places(void)
@@ -300,6 +306,11 @@ static uint64_t call_same(void)
     return spi_same(OCTETS(FIRST), OCTETS(SECOND));
 }
 
+static uint64_t call_gate(void)
+{
+    return spi_gate(OCTETS(FIRST), (uint8_t)data_type_given);
+}
+
 static uint64_t call_export(void)
 {
     return spi_export(OCTETS(FIRST), OCTETS(ROOM));
@@ -415,6 +426,12 @@ static void print_xml(size_t octets)
     print_room("xml", octets);
 }
 
+static void print_yes(size_t nothing)
+{
+    (void)nothing;
+    printf("yes\n");
+}
+
 static void print_same(size_t same)
 {
     printf(same == 1 ? "same\n" : "different\n");
@@ -461,6 +478,7 @@ static const struct letter letters[] = {
     {'W', {take_count, take_records, take_room, take_object}, call_write, print_written},
     {'S', {take_object, take_second_object}, call_same, print_same},
     {'X', {take_room, take_object}, call_export, print_xml},
+    {'G', {take_data_type, take_places, take_object}, call_gate, print_yes},
     {'E', {take_tree_places, take_store, take_object, take_edits}, call_edits, print_edited},
 };
 

@@ -11,13 +11,13 @@ use Rattle.text.specs.Tokens.{cut, entries, filled, isTable, entry, orItself, s
 use Rattle.values.specs.Table.{rows as known-rows, attribute, kindIn, known}
 use Rattle.values.specs.Values.{width, fits, wrongField}
 use Rattle.format.specs.Judge.{isKnown, isItems, isTokens, isText, isValue, wrongIn, isTop, allowed, latest, stageAfter, limit, notAbove, shown, ofTop, rule, valueRule, first, kindRules, itemRules, own, late, lateBefore, lateAfter, broken, within, waits, next, unless, followed, joined, byKind, items, outermost, judge}
-use Rattle.format.specs.Answers.{refusal}
+use Rattle.format.specs.Answers.{refusal, wrongValue}
 use Rattle.survey.specs.First.{orElse, picks, placeIn, placeAt, inRows, soughtBy, soughtAs, soughtIn}
 use Rattle.pocket.specs.declared.DataType.the-variants.{Service, Programme, Group, Untabled}
 use Rattle.pocket.specs.declared.GateAnswer.{GateAnswer}
 use Rattle.pocket.specs.declared.GateAnswer.the-variants.{Yes, No}
 use Rattle.pocket.specs.Table.{dataType}
-use Rattle.pocket.specs.Gate.{offends, gateAnswer, gateOf}
+use Rattle.pocket.specs.Gate.{offends, gateAnswer, gateOutcome, gateOf}
 
 pub record Computed : Type 0 where
   -- an ensemble (A.1) and a service directly in the top (A.2), with the token table, the default language and CDATA
@@ -85,3 +85,13 @@ number-taken e = let w : Untabled ≡ Service = e in never (cc)
 pub numbers-swapped : dataType 1 ≡ Group → ⊥
 unfolding dataType
 numbers-swapped e = let w : Programme ≡ Group = e in never (cc)
+
+-- ---- GateAnswer::outcome
+
+-- a refusal without its number, which is yes
+pub refusal-unnumbered : gateOutcome (No (refusal 19 4)) ≡ record { number = 0; place = 4; field = 0; count = 0 } → ⊥
+refusal-unnumbered e = let z : _≡_ {A = ℕ} 19 0 = ap (λ o. o .number) e in omega arith
+
+-- the field of a time left out
+pub field-left-out : gateOutcome (No (wrongValue 4 2)) ≡ record { number = 9; place = 4; field = 0; count = 0 } → ⊥
+field-left-out e = let z : _≡_ {A = ℕ} 2 0 = ap (λ o. o .field) e in omega arith

@@ -3,6 +3,7 @@ use mathlib.Core.Path.{_≡_}
 use mathlib.Core.Bool.{Bool, true, false}
 use mathlib.Core.List.{List}
 use Prim.Native.Nat.{ℕ}
+use Rattle.format.specs.declared.Outcome.{Outcome}
 use Rattle.format.specs.Answers.{refusal}
 use Rattle.format.specs.Tree.{Items}
 use Rattle.format.specs.Tree.Items.{end, item}
@@ -28,6 +29,11 @@ unfoldable pub gateAnswer : Sought → GateAnswer
 gateAnswer (Refused r) = No r
 gateAnswer Nowhere = Yes
 gateAnswer (At place) = No (refusal 19 place)
+
+-- in document 01's numbers; yes counts nothing
+abbrev pub gateOutcome : GateAnswer → Outcome
+gateOutcome Yes = record { number = 0; place = 0; field = 0; count = 0 }
+gateOutcome (No r) = record { number = r .number; place = r .place; field = r .field; count = 0 }
 
 unfoldable pub gateOf : DataType → List ℕ → GateAnswer
 gateOf d object = gateAnswer (soughtIn (offends d) object)

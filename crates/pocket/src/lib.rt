@@ -3,11 +3,12 @@
 // A product over the library: `find_first` judges, and looks for the first item that isn't in the annex's table. No list is lent, so 14 never comes.
 ghost use mathlib.Core.Path.{_≡_};
 ghost use Rattle.pocket.specs.Table.{dataType};
-ghost use Rattle.pocket.specs.Gate.{gateOf};
+ghost use Rattle.pocket.specs.Gate.{gateOf, gateOutcome};
 
 mod offender;
 
 use crate::offender::find_offender;
+use format::Outcome;
 use format::Refusal;
 use format::refuse;
 use survey::Sought;
@@ -23,6 +24,27 @@ pub enum DataType {
 pub enum GateAnswer {
     Yes,
     No(Refusal),
+}
+
+impl GateAnswer {
+    pub fn outcome(self) -> Outcome
+        ensures { λ r. ⌜ r ≡ gateOutcome self ⌝ }
+    {
+        match self {
+            GateAnswer::Yes => Outcome {
+                number: 0,
+                place: 0,
+                field: 0,
+                count: 0,
+            },
+            GateAnswer::No(refusal) => Outcome {
+                number: refusal.number,
+                place: refusal.place,
+                field: refusal.field,
+                count: 0,
+            },
+        }
+    }
 }
 
 pub fn gate(object: &[u8], subject: DataType) -> GateAnswer

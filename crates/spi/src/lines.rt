@@ -92,6 +92,11 @@ pub fn say_accepted(path: &[u8], records: usize, size: Octets) {
     say(b"\n");
 }
 
+pub fn say_passed(path: &[u8]) {
+    say(path);
+    say(b": yes\n");
+}
+
 // What is made of an edited object, in words.
 pub fn edited_words(made: usize, words: &mut [u8]) -> usize
     ensures { λ r. ⌜ Counts r (now (words .exit)) ⌝ }

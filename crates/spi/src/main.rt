@@ -1,7 +1,7 @@
-// The command for people: checks objects in files, lists their records, shows their items, writes their normal form or XML, edits one, compares two. The script ./spi
-// builds it and runs it, once a pair of files where two folders are compared.
+// The command for people: checks objects in files, also for the small receiver, lists their records, shows their items, writes their normal form or XML, edits one, compares
+// two. The script ./spi builds it and runs it, once a pair of files where two folders are compared.
 //
-// What is said of an object is proved where it is found, in `judge`, `reader`, `compare`, `edits`, `writer`, `xml` and `show`; here every function is safe and ends. A
+// What is said of an object is proved where it is found, in `judge`, `reader`, `pocket`, `compare`, `edits`, `writer`, `xml` and `show`; here every function is safe and ends. A
 // program has no exit status, so the last line on standard output is a status of its own, which the script takes away and ends with.
 mod asking;
 mod comparing;
@@ -32,6 +32,7 @@ use crate::objects::check;
 use crate::objects::list;
 use crate::objects::normal_form;
 use crate::objects::outline;
+use crate::objects::pass;
 use crate::objects::xml_text;
 use crate::status::FAILED;
 use crate::status::GOOD;
@@ -39,10 +40,12 @@ use crate::status::worse;
 use crate::words::is_word;
 use libc::STDERR_FILENO;
 use octets::Octets;
+use pocket::DataType;
 
 // What is to be done with a file.
 enum Task {
     Check,
+    Gate(DataType),
     List,
     Show,
     Normal,
@@ -59,7 +62,7 @@ fn usage(text: &[u8]) -> u8 {
 }
 
 fn usage_of_all() -> u8 {
-    usage(b"check | list | show | normal | xml | edit | compare | help")
+    usage(b"check | gate | list | show | normal | xml | edit | compare | help")
 }
 
 fn help_edit() {
@@ -84,6 +87,9 @@ fn help_edit() {
 
 fn help() -> u8 {
     say(b"spi check FILE..        for each file: ok, or why it is refused and where\n");
+    say(
+        b"spi gate TYPE FILE..    for each file, as one of the data type SI, PI or GI: yes, or why the small receiver isn't sent it and where\n",
+    );
     say(b"spi list FILE           the records of an object\n");
     say(
         b"spi show FILE           its items as a tree: place, name and value as in the XML (line feed as &#10;), or octets in hexadecimal\n",
@@ -170,6 +176,7 @@ fn compare_with(first: &[u8], a: &[u8]) -> u8 {
 fn treat(task: Task, path: &[u8], object: &[u8]) -> u8 {
     match task {
         Task::Check => check(path, object),
+        Task::Gate(subject) => pass(path, object, subject),
         Task::List => list(path, object),
         Task::Show => outline(path, object),
         Task::Normal => save_normal(path, object),
@@ -192,14 +199,46 @@ fn treat_argument(task: Task, i: usize) -> u8 {
     treat(task, &path[..name], &object[..size])
 }
 
-fn check_all(count: usize) -> u8 {
+// A task on each file from an argument on.
+fn treat_all(task: Task, from: usize, count: usize) -> u8 {
     let mut status = GOOD;
-    let mut i: usize = 2;
+    let mut i = from;
     while i < count {
-        status = worse(status, treat_argument(Task::Check, i));
+        status = worse(status, treat_argument(task, i));
         i = i + 1;
     }
     status
+}
+
+// The data type that a word names, or none.
+fn data_type(word: &[u8]) -> DataType {
+    if is_word(word, b"SI") {
+        return DataType::Service;
+    }
+    if is_word(word, b"PI") {
+        return DataType::Programme;
+    }
+    if is_word(word, b"GI") {
+        return DataType::Group;
+    }
+    DataType::Untabled
+}
+
+fn usage_of_gate() -> u8 {
+    usage(b"gate SI|PI|GI FILE..")
+}
+
+fn gate_all(count: usize) -> u8 {
+    if count < 4 {
+        return usage_of_gate();
+    }
+    let mut word = io::buffer();
+    let n = os::arg(2, &mut word);
+    let subject = data_type(&word[..n]);
+    match subject {
+        DataType::Untabled => usage_of_gate(),
+        _ => treat_all(Task::Gate(subject), 3, count),
+    }
 }
 
 fn no_such_command(command: &[u8]) -> u8 {
@@ -221,10 +260,13 @@ fn treat_first(task: Task, whole: bool, words: &[u8]) -> u8 {
 fn obey(command: &[u8], count: usize) -> u8 {
     if is_word(command, b"check") {
         return if count > 2 {
-            check_all(count)
+            treat_all(Task::Check, 2, count)
         } else {
             usage(b"check FILE..")
         };
+    }
+    if is_word(command, b"gate") {
+        return gate_all(count);
     }
     if is_word(command, b"list") {
         return treat_first(Task::List, count == 3, b"list FILE");

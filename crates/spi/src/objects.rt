@@ -1,6 +1,7 @@
 // What the library says of one object.
 use crate::lines::say_accepted;
 use crate::lines::say_header;
+use crate::lines::say_passed;
 use crate::lines::say_record;
 use crate::lines::say_records;
 use crate::lines::say_refused;
@@ -12,6 +13,7 @@ use crate::tree::show_tree;
 use format::WriteAnswer;
 use format::record_at;
 use octets::Octets;
+use pocket::DataType;
 ghost use mathlib.Core.Path.{_≡_};
 ghost use Rattle.format.specs.Answers.{writeOutcome};
 ghost use Rattle.io.specs.Counts.{Counts};
@@ -30,6 +32,16 @@ pub fn check(path: &[u8], object: &[u8]) -> u8 {
         return say_refused(path, judged.number, judged.place, judged.field);
     }
     say_accepted(path, judged.count, Octets(object.len()));
+    GOOD
+}
+
+// Whether an object may be sent to the small receiver.
+pub fn pass(path: &[u8], object: &[u8], subject: DataType) -> u8 {
+    let gated = pocket::gate(object, subject).outcome();
+    if gated.number > 0 {
+        return say_refused(path, gated.number, gated.place, gated.field);
+    }
+    say_passed(path);
     GOOD
 }
 

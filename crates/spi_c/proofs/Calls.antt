@@ -23,10 +23,14 @@ use Rattle.format.specs.State.{Memory, treeIn, treeHeld}
 use Rattle.state.specs.Taking.{lentBy, NormaliseClaim, Leaves, WriteClaim, WriteStateClaim}
 use Rattle.spi_c.specs.Packed.{packedOutcome, packedSame, Small, SmallSame, SmallSpan}
 use Rattle.octets.proofs.Lists.{sets-left}
+use Rattle.pocket.specs.declared.DataType.{DataType}
+use Rattle.pocket.specs.declared.GateAnswer.{GateAnswer}
+use Rattle.pocket.specs.Table.{dataType}
+use Rattle.pocket.specs.Gate.{gateOutcome, gateOf}
 use Rattle.xml.specs.Export.{Exported, exportOf, exportAnswer, exportOctets, ExportClaim}
 use Rattle.xml.specs.Export.Exported.{refuses, shows}
-use Rattle.spi_c.specs.Claims.{ReadsC, WritesC, NormalisesC, LeavesC, WritesStateC, SameC, roomFor, ExportsC}
-use Rattle.spi_c.proofs.Told.{Told, told-small, told-same-small, read-told, write-told, normal-told, same-told, export-told}
+use Rattle.spi_c.specs.Claims.{ReadsC, WritesC, NormalisesC, LeavesC, WritesStateC, GatesC, SameC, roomFor, ExportsC}
+use Rattle.spi_c.proofs.Told.{Told, told-small, told-same-small, read-told, write-told, normal-told, same-told, gate-told, export-told}
 
 -- an answer is known, and with it its outcome and the number
 module _ {A O : Type 0} (outcome : A → O) (answer known : A) (e : answer ≡ known) (o : O) (told : o ≡ outcome answer) where
@@ -88,6 +92,16 @@ module _ (a b : List ℕ) (answer : SameAnswer) (claim : answer ≡ sameAnswer (
 
   pub same-says : (n : ℕ) → n ≡ packedSame o → SameC a b n
   same-says n h = record { answers = outcome-packed sameOutcome _ _ claim o told packedSame n h }
+
+module _ (object : List ℕ) (number : ℕ) (d : DataType) (de : d ≡ dataType number) (answer : GateAnswer) (claim : answer ≡ gateOf d object) (o : Outcome) (told : o ≡ gateOutcome answer) where
+  by-number : answer ≡ gateOf (dataType number) object
+  by-number = claim ∙ ap (λ e. gateOf e object) de
+
+  pub gate-small : Small o
+  gate-small = outcome-is gateOutcome _ _ by-number o told Small (told-small (gate-told (dataType number) object))
+
+  pub gate-says : (a : ℕ) → a ≡ packedOutcome o → GatesC object number a
+  gate-says a h = record { answers = outcome-packed gateOutcome _ _ by-number o told packedOutcome a h }
 
 module _ (object before : List ℕ) (most : ℕ) (m : most ≡ min (length before) 0xFF_FFFF_FFFF) (part : List ℕ) (answer : WriteAnswer)
     (claim : ExportClaim object (take (most - 0) (drop 0 before)) part answer) (o : Outcome) (told : o ≡ writeOutcome answer) where

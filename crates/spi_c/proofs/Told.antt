@@ -44,6 +44,10 @@ use Rattle.edits.proofs.Changed.{edit-outcome}
 use Rattle.edits.proofs.FewRecords.{tree-few}
 use Rattle.edits.proofs.Only.{Ends, edit-ends}
 use Rattle.edits.proofs.Only.Ends.{nowhere, unruled, ruled}
+use Rattle.survey.specs.First.{placeAt, soughtAs, soughtIn}
+use Rattle.survey.proofs.First.{place-inside}
+use Rattle.pocket.specs.declared.DataType.{DataType}
+use Rattle.pocket.specs.Gate.{offends, gateAnswer, gateOutcome, gateOf}
 use Rattle.xml.specs.Xml.{xml}
 use Rattle.xml.specs.Named.{plainAt}
 use Rattle.xml.specs.Export.{unlessPlain, exportOf, exportAnswer}
@@ -54,7 +58,7 @@ use Rattle.spi_c.proofs.Packing.{packed-number, packed-object, packed-f
 -- what every refusal of a call is
 pub record Kept (r : Refusal) : Type 0 where
   pub least : 1 ≤ r .number
-  pub most : r .number ≤ 18
+  pub most : r .number ≤ 19
   pub place : r .place ≤ 32_768
   pub field : r .field ≤ 5
 
@@ -235,6 +239,17 @@ same-cases o p (accepted t) (accepted u) h g = decided (sameMeaning (meaningOf t
 
 pub same-told : (o p : List ℕ) → ToldSame (sameOutcome (sameAnswer (judge o) (judge p)))
 same-told o p = same-cases o p (judge o) (judge p) refl refl
+
+-- ---- gate
+pub gate-told : (d : DataType) (o : List ℕ) → Told (gateOutcome (gateOf d o))
+unfolding gateOf gateAnswer soughtIn soughtAs
+gate-told d o = go (judge o) refl (placeAt (offends d) o) refl
+  where
+    go : (j : Judged) → judge o ≡ j → (p : Option ℕ) → placeAt (offends d) o ≡ p → Told (gateOutcome (gateAnswer (soughtAs j p)))
+    go (refused r) h p e = refuses r (judged-kept o r h)
+    go (accepted t) h none e = counts 0 (omega arith)
+    go (accepted t) h (some place) e =
+        refuses (refusal 19 place) (record { least = omega arith; most = omega arith; place = omega (arith, place-inside (offends d) o place e, accepted-size o t h .1); field = omega arith })
 
 -- ---- export
 export-cases : (o : List ℕ) (room : OctetCount) → room .0 < 0x100_0000_0000 → (j : Judged) → judge o ≡ j → Told (writeOutcome (exportAnswer room (exportOf o j)))

@@ -18,11 +18,13 @@ use Rattle.state.specs.Taking.{lentBy, takenIn}
 use Rattle.edits.specs.Tree.{Edit}
 use Rattle.edits.specs.Calls.{editedIn}
 use Rattle.edits.specs.Runs.{BringsOctets}
+use Rattle.pocket.specs.Table.{dataType}
+use Rattle.pocket.specs.Gate.{gateOutcome, gateOf}
 use Rattle.xml.specs.Export.{exportOf, exportAnswer}
 use Rattle.spi_c.specs.Packed.{packed, packedOutcome, outcomeIn, packedSame, sameIn, packedSpan, spanIn}
-use Rattle.spi_c.specs.Claims.{ReadsC, SpansC, WritesC, NormalisesC, TakesInC, EditsC, WritesStateC, SameC, roomFor, ExportsC}
+use Rattle.spi_c.specs.Claims.{ReadsC, SpansC, WritesC, NormalisesC, TakesInC, EditsC, WritesStateC, GatesC, SameC, roomFor, ExportsC}
 use Rattle.spi_c.proofs.Packing.{span-back}
-use Rattle.spi_c.proofs.Told.{told-back, told-same-back, read-told, write-told, normal-told, taken-told, edit-told, same-told, export-told}
+use Rattle.spi_c.proofs.Told.{told-back, told-same-back, read-told, write-told, normal-told, taken-told, edit-told, same-told, gate-told, export-told}
 use Rattle.spi_c.proofs.Calls.{span-small}
 
 -- ---- each call's number, read back
@@ -53,6 +55,9 @@ write-state-back n m before after a c = ap outcomeIn (c .answers) ∙ told-back 
 
 pub same-back : (a b : List ℕ) (n : ℕ) → SameC a b n → sameIn n ≡ sameOutcome (sameAnswer (judge a) (judge b))
 same-back a b n c = ap sameIn (c .answers) ∙ told-same-back (same-told a b)
+
+pub gate-back : (object : List ℕ) (number a : ℕ) → GatesC object number a → outcomeIn a ≡ gateOutcome (gateOf (dataType number) object)
+gate-back object number a c = ap outcomeIn (c .answers) ∙ told-back (gate-told (dataType number) object)
 
 pub export-back : (object before after : List ℕ) (a : ℕ) → ExportsC object before after a → outcomeIn a ≡ writeOutcome (exportAnswer (roomFor before) (exportOf object (judge object)))
 export-back object before after a c = ap outcomeIn (c .answers) ∙ told-back (export-told object (roomFor before) (omega arith))

@@ -14,6 +14,8 @@ use Rattle.format.specs.State.{Memory, treeIn, treeHeld}
 use Rattle.state.specs.Taking.{lentBy, NormaliseClaim, takenIn, Leaves, WriteClaim, WriteStateClaim}
 use Rattle.edits.specs.Tree.{Edit}
 use Rattle.edits.specs.Calls.{editedIn}
+use Rattle.pocket.specs.Table.{dataType}
+use Rattle.pocket.specs.Gate.{gateOf, gateOutcome}
 use Rattle.xml.specs.Export.{exportOf, exportAnswer, exportOctets}
 use Rattle.spi_c.specs.Packed.{packedOutcome, packedSame, packedSpan}
 
@@ -50,6 +52,9 @@ EditsC e n m m′ a = LeavesC (editedIn m e (treeHeld n m)) m m′ a
 pub record WritesStateC (n : ℕ) (m : Memory) (before after : List ℕ) (a : ℕ) : Type 0 where
   pub answers : a ≡ packedOutcome (writeOutcome (writeAnswer (sizeOf before) (treeHeld n m)))
   pub leaves : WriteStateClaim n m before after (writeAnswer (sizeOf before) (treeHeld n m))
+
+pub record GatesC (object : List ℕ) (number : ℕ) (a : ℕ) : Type 0 where
+  pub answers : a ≡ packedOutcome (gateOutcome (gateOf (dataType number) object))
 
 -- of the room for XML, which has no limit of its own, as many octets count as an answer can tell: 2^40 less one
 abbrev pub roomFor : List ℕ → OctetCount

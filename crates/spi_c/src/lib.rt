@@ -7,7 +7,7 @@ ghost use Rattle.state.specs.Taking.{memory};
 ghost use Rattle.spi_c.specs.Packed.{packed, packedOutcome, packedSame, packedSpan, Small, SmallSame, SmallSpan};
 ghost use Rattle.state.specs.Taking.{memory};
 ghost use Rattle.edits.specs.Tree.Edit.{replace, remove, insert};
-ghost use Rattle.spi_c.specs.Claims.{ReadsC, SpansC, WritesC, NormalisesC, TakesInC, EditsC, WritesStateC, SameC, ExportsC};
+ghost use Rattle.spi_c.specs.Claims.{ReadsC, SpansC, WritesC, NormalisesC, TakesInC, EditsC, WritesStateC, GatesC, SameC, ExportsC};
 use format::Outcome;
 use format::SameOutcome;
 use format::Span;
@@ -307,6 +307,15 @@ pub extern "C" fn spi_same(a: &[u8], b: &[u8]) -> u64
 {
     let answer = compare::same(a, b);
     packed_same(answer.outcome())
+}
+
+// Whether an object may be sent to the small receiver as one of a data type: 0 SI, 1 PI, 2 GI; as any other nothing may.
+#[no_mangle]
+pub extern "C" fn spi_gate(object: &[u8], number: u8) -> u64
+    ensures { λ r. ⌜ GatesC (now (object .entry)) number r ⌝ }
+{
+    let answer = pocket::gate(object, pocket::data_type(number));
+    packed_outcome(answer.outcome())
 }
 
 // As many octets as an answer can tell.

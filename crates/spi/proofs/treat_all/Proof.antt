@@ -1,13 +1,13 @@
 use Prim.Native.Nat.{_-_}
 use borrow.Author.Needs.{needs}
-use Rattle.spi.proofs.check_all.Statement.{statement}
-use Rattle.spi.proofs.check_all.Tie as tie
+use Rattle.spi.proofs.treat_all.Statement.{statement}
+use Rattle.spi.proofs.treat_all.Tie as tie
 
 abbrev Inv-loop : tie.InvT-loop
-Inv-loop count status₀ i₀ status i = Unit {0}
+Inv-loop task from count status₀ i₀ status i = Unit {0}
 
 abbrev μ-loop : tie.MeasureT-loop
-μ-loop count status₀ i₀ status i = count - i
+μ-loop task from count status₀ i₀ status i = count - i
 
 loop-holds : tie.Need-loop-holds Inv-loop μ-loop
 loop-holds c = search needs
@@ -30,8 +30,8 @@ loop-again c = search needs
 returns : tie.Need-returns Inv-loop μ-loop
 returns c = search needs
 
-pub check-all-spec : {M : Type 1} → statement M
-check-all-spec =
+pub treat-all-spec : {M : Type 1} → statement M
+treat-all-spec =
     tie.close
     (tie.spec
     Inv-loop
