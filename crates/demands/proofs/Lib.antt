@@ -10,3 +10,4 @@ pub mod Bench
 pub mod Frauds
 pub mod Edits
 pub mod Requests
+pub mod Lengths

@@ -8,3 +8,4 @@ pub mod Bench
 pub mod Frauds
 pub mod Edits
 pub mod Requests
+pub mod Lengths
