@@ -132,6 +132,21 @@ static uint64_t export_by_second(const struct file *object, const struct file *o
     return size;
 }
 
+static uint64_t gate_by_library(const struct file *object, const struct file *other)
+{
+    (void)other;
+    return spi_gate(object->octets, object->size, SPI_PROGRAMME_INFORMATION);
+}
+
+static uint64_t gate_by_second(const struct file *object, const struct file *other)
+{
+    (void)other;
+    struct verdict verdict = read_object(&first_tree, object->octets, (uint32_t)object->size);
+    if (verdict.number != ACCEPTED || judge_profile(&first_tree, SPI_PROGRAMME_INFORMATION).number != ACCEPTED)
+        return UINT64_MAX;
+    return 0;
+}
+
 ON_EACH(library_read, read_by_library)
 ON_EACH(second_read, read_by_second)
 ON_EACH(library_normalise, normalise_by_library)
@@ -140,6 +155,8 @@ ON_EACH(library_same, same_by_library)
 ON_EACH(second_same, same_by_second)
 ON_EACH(library_export, export_by_library)
 ON_EACH(second_export, export_by_second)
+ON_EACH(library_gate, gate_by_library)
+ON_EACH(second_gate, gate_by_second)
 
 static bool check_by_library(const uint8_t *text, size_t size, bool tokens)
 {
@@ -222,6 +239,7 @@ static const struct calls reading = {2, {library_read, second_read}};
 static const struct calls normalising = {2, {library_normalise, second_normalise}};
 static const struct calls comparing = {2, {library_same, second_same}};
 static const struct calls exporting = {2, {library_export, second_export}};
+static const struct calls gating = {2, {library_gate, second_gate}};
 static const struct calls editing = {2, {library_edit, library_anew}};
 static const struct calls editing_and_writing = {2, {library_edit_and_write, library_anew}};
 static const struct calls checking = {4, {library_text, second_text, octet_text, table_text}};
@@ -459,6 +477,17 @@ static void compare_export(const char *folder, const char *name, const char *lab
     compare(label, object_octets, &exporting);
 }
 
+/* The small receiver's gate, which lets all of these objects pass: an offender would end the look. */
+static void compare_gate(const char *folder)
+{
+    load_all(folder, "basic", "basic");
+    for (size_t k = 0; k < SIZES; k++)
+        for (size_t i = 0; i < sets[k].count; i++)
+            if (gate_by_library(&sets[k].objects[i], NULL) != 0)
+                stop("an object within the Basic profile isn't let pass");
+    compare("gate a day", object_octets, &gating);
+}
+
 /* The description in the middle of a tree: the CDATA of a longDescription, 0x1B, or else any CDATA. */
 static size_t middle_text(const struct tree_in_memory *tree)
 {
@@ -512,7 +541,8 @@ static void repeat_call(const char *folder, const char *name, const char *of, un
         call called;
     } calls[] = {{"library_read", library_read}, {"second_read", second_read}, {"library_normalise", library_normalise},
                  {"second_normalise", second_normalise}, {"library_same", library_same}, {"second_same", second_same},
-                 {"library_export", library_export}, {"second_export", second_export}, {"library_edit", library_edit},
+                 {"library_export", library_export}, {"second_export", second_export}, {"library_gate", library_gate},
+                 {"second_gate", second_gate}, {"library_edit", library_edit},
                  {"library_edit_and_write", library_edit_and_write}};
     load_all(folder, of, strcmp(of, "day") == 0 ? "other" : strcmp(of, "small") == 0 ? "twin" : of);
     set = &sets[SIZES - 1];
@@ -541,6 +571,7 @@ int main(int count, char **arguments)
                   (const char *[]){"read small", "normalise small", "same small", "texts of small items"});
     compare_export(folder, "named", "export day");
     compare_export(folder, "numbers", "export small");
+    compare_gate(folder);
     repeat_text("The news at one, and then the weather for the coast. ");
     compare("text English", text_octets, &checking);
     repeat_text("Le café de São João à Łódź, avec Jürgen. ");

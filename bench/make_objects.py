@@ -7,6 +7,7 @@
     twin-N-I.spi    the small items again without tokens
     named-N-I.spi   the day without its items of plain octets, so that it has an XML
     numbers-N-I.spi the small items likewise
+    basic-N-I.spi   a day's programmes within the Basic profile, so that the small receiver's gate lets them pass
 
 N is 1, 4, 16 and 32: the object and its normal form have as many octets as fit N * 1024. I counts the objects of a size, 32 / N of
 them, so that a round over those of one size is as many octets as over those of another: a processor that has learnt the branches of one
@@ -90,6 +91,15 @@ def small(rng, minute):
         element(0x14, number(rng, 0x80, 1), number(rng, 0x81, 1)), element(0x17, number(rng, 0x81, 3), number(rng, 0x82, 2)))
 
 
+def basic(rng, minute):
+    """A programme of what annex A of 002 has alone."""
+    return element(
+        0x1C, number(rng, 0x81, 3), number(rng, 0x83, 1), shown(rng, 0x11, 12, 16), shown(rng, 0x12, 40, 128),
+        element(0x19, element(0x2C, time(rng, 0x80, minute), number(rng, 0x81, 2)), element(0x2D, bearer(0x80))),
+        element(0x13, shown(rng, 0x1A, 120, 180)), element(0x14, number(rng, 0x80, 4), number(rng, 0x81, 1)),
+        element(0x17, number(rng, 0x81, 3), number(rng, 0x82, 2)))
+
+
 def octets(rng, node, form, tokens):
     """An element or value as it stands: its length in one of the three forms, tokens as such or replaced."""
     if node.value is None:
@@ -108,8 +118,10 @@ def whole(rng, schedule, form, tokens):
 def grown(make, limit, number_of, form):
     """As many programmes as fit the limit: their octets with tokens and without, the latter with lengths of a form; and with tokens, but no plain octets."""
     rng = random.Random(f"{make.__name__} {limit} {number_of}")
-    schedule = element(0x21, number(rng, 0x80, 2), time(rng, 0x81, 0), Node(0x82, text(rng, 20, 40)),
-                       element(0x24, time(rng, 0x80, 0), time(rng, 0x81, MINUTES - 1), element(0x25, bearer(0x80))))
+    version = number(rng, 0x80, 2)
+    made = [] if make is basic else [time(rng, 0x81, 0), Node(0x82, text(rng, 20, 40))]
+    scope = element(0x24, time(rng, 0x80, 0), time(rng, 0x81, MINUTES - 1), element(0x25, bearer(0x80)))
+    schedule = element(0x21, version, *made, scope)
     kept = None
     for count in range(4 * limit):
         seed = f"{limit} {number_of} {count}"
@@ -149,6 +161,7 @@ def main():
             (folder / f"small-{kilo}-{i}.spi").write_bytes(items)
             (folder / f"twin-{kilo}-{i}.spi").write_bytes(twin)
             (folder / f"numbers-{kilo}-{i}.spi").write_bytes(numbers)
+            (folder / f"basic-{kilo}-{i}.spi").write_bytes(grown(basic, kilo * KILO, i, 0)[0])
 
 
 if __name__ == "__main__":

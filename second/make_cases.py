@@ -832,8 +832,8 @@ def random_g(rng):
 
 
 RANDOM = {"L": random_l, "N": random_n, "W": random_w, "S": random_s, "X": random_x, "E": random_e, "G": random_g}
-# The letters that are made and tried where none are named.  G is not among them before the library has the gate (request 2026-07).
-CASE_LETTERS = "LNWSXE"
+# The letters that are made and tried where none are named.
+CASE_LETTERS = "LNWSXEG"
 
 
 def random_cases(seed, count, letters=CASE_LETTERS):
