@@ -1,9 +1,7 @@
 -- Request 2026-07: how the gate ends, from its equation. That it refuses in order is a theorem of the crate pocket.
 use mathlib.Core.Path.{_≡_, refl, sym, subst}
 use mathlib.Core.Option.{Option, none, some}
-use mathlib.Core.List.{List}
 use Prim.Native.Nat.{ℕ}
-use Rattle.format.specs.Answers.{refusal}
 use Rattle.format.specs.Judge.{Judged, judge}
 use Rattle.format.specs.Judge.Judged.{refused, accepted}
 use Rattle.survey.specs.First.{placeAt, soughtAs, soughtIn}

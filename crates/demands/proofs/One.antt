@@ -30,7 +30,7 @@ use Rattle.format.specs.Tree.{Items, count, recordsOf}
 use Rattle.format.specs.Judge.{Judged, rule, unless, judge}
 use Rattle.format.specs.Judge.Judged.{refused, accepted}
 use Rattle.format.specs.Meaning.{means, meaningOf, encode, normalOf}
-use Rattle.format.specs.Calls.{Lists, places, lay, judgeAnswer, readAnswer, readRecords, roomy, writeAnswer, writeOctets, Lent, fitsLent, misfit, normalAnswer, handed}
+use Rattle.format.specs.Calls.{places, lay, judgeAnswer, readAnswer, readRecords, roomy, writeAnswer, writeOctets, Lent, fitsLent, misfit, normalAnswer, handed}
 use Rattle.format.specs.Same.{sameMeaning, sameAnswer}
 use Rattle.format.proofs.Lays.{lay-none}
 use Rattle.format.specs.Loaded.{loadedOf}

@@ -9,7 +9,7 @@ use lib.Dec.{eqb, leb}
 use lib.ListN.{length}
 use borrow.Author.Tests.{ne-eqb, leb-true}
 use Rattle.octets.specs.declared.counts.Octets.{Octets as OctetCount}
-use Rattle.octets.specs.Counts.{asOctets, sizeOf}
+use Rattle.octets.specs.Counts.{sizeOf}
 use Rattle.octets.specs.Numbers.{Octets as AreOctets}
 use Rattle.octets.proofs.Tests.{and-left, and-right}
 use Rattle.format.specs.declared.Refusal.{Refusal}

@@ -17,7 +17,6 @@ use Rattle.values.specs.Calls.{defaultOctets}
 use Rattle.format.specs.Tree.{Items}
 use Rattle.format.specs.Tree.Items.{end, item}
 use Rattle.format.specs.Judge.{Context, isItems, isTokens, isValue, within, next, read}
-use Rattle.format.specs.Judge.Judged.{accepted}
 use Rattle.format.specs.Meaning.{opens, maybe}
 use Rattle.format.specs.Loaded.{storeIn}
 use Rattle.format.proofs.Induction.{Cases, Unbroken, inAt, accepted-all}
@@ -25,7 +24,7 @@ use Rattle.format.proofs.Rules.{held}
 use Rattle.format.proofs.Means.{items-opens, attribute-shut}
 use Rattle.format.proofs.Defaults.{default-attribute}
 use Rattle.judge.specs.Says.{ctx, depthOf}
-use Rattle.judge.specs.Inside.{beginning, judgeInside}
+use Rattle.judge.specs.Inside.{beginning}
 use Rattle.judge.proofs.AllWays.{tokens-four, no-entries}
 use Rattle.judge.proofs.Inside.{level-same, inside-read}
 use Rattle.reader.specs.Filling.{Accepts}

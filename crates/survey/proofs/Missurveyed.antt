@@ -33,7 +33,7 @@ use Rattle.survey.specs.declared.Needed.{Needed}
 use Rattle.survey.specs.declared.Needed.the-variants.{Refused, Takes}
 use Rattle.survey.specs.declared.look.Sought.the-variants.{Refused as Sought-Refused, Nowhere as Sought-Nowhere, At as Sought-At}
 use Rattle.survey.specs.declared.Standing.the-variants.{Bad, Misfit, Fits}
-use Rattle.survey.specs.Normal.{framedSize, valueOctets, writtenAs, itemOctets, normalSize}
+use Rattle.survey.specs.Normal.{valueOctets, writtenAs, itemOctets, normalSize}
 use Rattle.survey.specs.Sizes.{sizesOf}
 use Rattle.survey.specs.Measure.{measuredIn}
 use Rattle.survey.specs.Survey.{surveyed, neededBy}

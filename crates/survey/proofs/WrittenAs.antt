@@ -1,26 +1,21 @@
 -- Whether an item is written: the ways through the code, and what the answer says of the item.
-use mathlib.Core.Path.{_≡_, refl, sym, ap, _∙_}
+use mathlib.Core.Path.{_≡_, refl, sym, _∙_}
 use mathlib.Core.Bool.{Bool, true, false, or-true, or-comm, _||_}
-use mathlib.Core.Logic.{_⊎_, inl, inr, ⊎-elim}
 use mathlib.Core.Option.{none, some, Option·some-ne-none}
 use mathlib.Core.List.{List, []}
 use Prim.Native.Nat.{ℕ}
 use lib.Dec.{eqb}
-use borrow.Author.Tests.{eqb-true, ne-eqb}
+use borrow.Author.Tests.{ne-eqb}
 use Rattle.octets.specs.Header.{framed}
 use Rattle.octets.proofs.Tests.{never, not-chosen, or-right-false}
 use Rattle.values.specs.declared.Kind.{Kind}
-use Rattle.values.specs.declared.Kind.the-variants.{HoldsTokens}
 use Rattle.values.specs.declared.KnownKind.{KnownKind}
 use Rattle.values.specs.declared.KnownKind.the-variants.{Unknown, Known}
-use Rattle.values.specs.Table.{rows, kindIn, known, attribute}
+use Rattle.values.specs.Table.{known, attribute}
 use Rattle.values.specs.Calls.{asKnown, knownKind, defaultOctets}
-use Rattle.values.proofs.Laws.{unknown-kind, as-known, as-unknown}
-use Rattle.format.specs.Judge.{isItems}
-use Rattle.format.specs.Meaning.{opens, maybe}
-use Rattle.format.proofs.Means.{items-opens, attribute-shut}
+use Rattle.values.proofs.Laws.{as-known, as-unknown}
+use Rattle.format.specs.Meaning.{maybe}
 use Rattle.format.proofs.Force.{attribute-four}
-use Rattle.format.proofs.Defaults.{default-attribute}
 use Rattle.survey.specs.Normal.{valueOctets, writtenAs, itemOctets}
 use Rattle.survey.proofs.Ways.{item-known}
 
@@ -39,10 +34,6 @@ module _ (p tag : ℕ) (body : List ℕ) where
     as-other f q r e = rw (ne-eqb tag 4 f, sym d ∙ q) e
 
 pub ruleset as-ways = (as-table, as-default, as-other)
-
-table-known : (p tag : ℕ) → eqb tag 4 ≡ true → known p tag ≡ some HoldsTokens
-unfolding known rows kindIn attribute
-table-known p tag f = rw (eqb-true tag 4 f)
 
 -- a known attribute that isn't written is a default
 pub unwritten-default : (p tag : ℕ) (body : List ℕ) (k : Kind) → attribute tag ≡ true → known p tag ≡ some k → writtenAs p tag body ≡ none → defaultOctets p tag body ≡ true
@@ -76,26 +67,9 @@ module _ (p tag : ℕ) (body : List ℕ) (r : KnownKind) (e : r ≡ asKnown (wri
   pub written-octets : (k : Kind) → r ≡ Known k → itemOctets p tag body ≡ framed tag (valueOctets k body)
   written-octets k q = let t = written-kind k q in item-known p tag body k (t .table) (t .counts) (t .kind)
 
-  -- one that isn't and is no default is not known, or is the token table
-  pub unwritten-kind : r ≡ Unknown → defaultOctets p tag body ≡ false → (known p tag ≡ none) ⊎ (known p tag ≡ some HoldsTokens)
-  unfolding writtenAs knownKind
-  unwritten-kind q d = go (eqb tag 4) refl
-    where
-      go : (b : Bool) → eqb tag 4 ≡ b → (known p tag ≡ none) ⊎ (known p tag ≡ some HoldsTokens)
-      go true f = inr (table-known p tag f)
-      go false f = inl (unknown-kind p tag r (rw (f, d) at e) q)
-
   pub written-none : r ≡ Unknown → writtenAs p tag body ≡ none
   written-none q = as-unknown (writtenAs p tag body) (sym e ∙ q)
 
   pub unwritten-octets : r ≡ Unknown → itemOctets p tag body ≡ []
   unfolding itemOctets maybe
   unwritten-octets q = rw (written-none q)
-
-  pub unwritten-opens : r ≡ Unknown → opens tag ≡ false
-  unfolding isItems
-  unwritten-opens q = go (defaultOctets p tag body) refl
-    where
-      go : (d : Bool) → defaultOctets p tag body ≡ d → opens tag ≡ false
-      go true d = attribute-shut tag (default-attribute p tag body d)
-      go false d = sym (items-opens p tag) ∙ ⊎-elim (λ n. ap isItems n) (λ t. ap isItems t) (unwritten-kind q d)
