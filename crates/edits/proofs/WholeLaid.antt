@@ -14,7 +14,7 @@ use Rattle.format.specs.Judge.Judged.{accepted}
 use Rattle.format.specs.Meaning.{tableOf, encode, normalOf}
 use Rattle.format.specs.Loaded.{loadedOf}
 use Rattle.format.specs.State.{Memory, bodySizes, layTree}
-use Rattle.format.proofs.Induction.{few}
+use Rattle.format.proofs.Headers.{few}
 use Rattle.format.proofs.Loading.{loaded-means, loaded-ruled, loaded-count}
 use Rattle.format.proofs.Rules.{accepted-size}
 use Rattle.reader.proofs.Reading.{whole}

@@ -1,13 +1,19 @@
--- What the answers' numbers are not: wrong outcomes, refuted by computation.
+-- What the answers' numbers are, and what they are not: wrong outcomes and wrong counts, refuted by computation.
 use mathlib.Core.Path.{_≡_, refl, ap}
 use mathlib.Core.Bool.{false}
+use mathlib.Core.List.{List, [], _∷_}
 use Prim.Native.Nat.{ℕ}
 use native.Mathlib.Omega.{arith}
 use Rattle.octets.specs.Counts.{asOctets}
+use Rattle.octets.specs.Numbers.{value}
+use Rattle.octets.specs.Header.{headerSize, bodySize}
+use Rattle.values.specs.Table.{rows, kindIn, known, attribute}
 use Rattle.format.specs.declared.ReadAnswer.the-variants.{Records, NotRead}
 use Rattle.format.specs.declared.WriteAnswer.the-variants.{Octets, NotWritten}
 use Rattle.format.specs.declared.SameAnswer.the-variants.{FirstRefused, SecondRefused}
 use Rattle.format.specs.Answers.{refusal, wrongValue, readOutcome, writeOutcome, sameOutcome}
+use Rattle.format.specs.Judge.{isItems}
+use Rattle.format.specs.Headers.{headersIn, headersOf}
 
 -- after a refusal the count is 0, and where there is none so are number, place and field
 pub read-outcomes : (readOutcome (NotRead (refusal 13 412)) ≡ record { number = 13; place = 412; field = 0; count = 0 })
@@ -28,3 +34,27 @@ same-outcomes = (
   (λ e. let z : _≡_ {A = ℕ} 2 0 = ap (λ x. x .number) e in omega arith),
   (λ e. let z : _≡_ {A = ℕ} 3 0 = ap (λ x. x .field) e in omega arith),
 )
+
+-- ---- the count of headers
+
+-- a top with a token table and a language that uses it
+abbrev tabled : List ℕ
+tabled = 0x03 ∷ 0x09 ∷ 0x04 ∷ 0x04 ∷ 0x01 ∷ 0x02 ∷ 0x65 ∷ 0x6E ∷ 0x06 ∷ 0x01 ∷ 0x01 ∷ []
+
+-- a top with an unknown element, in which octets lie that could be two items, and CDATA
+abbrev unknownInside : List ℕ
+unknownInside = 0x03 ∷ 0x09 ∷ 0x05 ∷ 0x04 ∷ 0x10 ∷ 0x00 ∷ 0x10 ∷ 0x00 ∷ 0x01 ∷ 0x01 ∷ 0x61 ∷ []
+
+-- the bench cases P9, P10 and P11 of document 01, and that of the unknown element: it counts, and what is in it doesn't
+pub counted-headers : (headersOf (0x03 ∷ 0x00 ∷ []) ≡ 1) × (headersOf (0x03 ∷ 0xFE ∷ 0x00 ∷ 0x04 ∷ 0x06 ∷ 0x02 ∷ 0x65 ∷ 0x6E ∷ []) ≡ 2)
+    × (headersOf tabled ≡ 3) × (headersOf unknownInside ≡ 3)
+unfolding headersIn headerSize bodySize value rows kindIn known attribute isItems
+counted-headers = (refl, refl, refl, refl)
+
+-- the token table is left out, as of the records; its entry counts too
+pub table-counts : (headersOf tabled ≡ 2 → ⊥) × (headersOf tabled ≡ 4 → ⊥)
+table-counts = let n = counted-headers .2 in ((λ h. omega arith), (λ h. omega arith))
+
+-- the unknown element is left out; what is in it counts too
+pub unknown-counts : (headersOf unknownInside ≡ 2 → ⊥) × (headersOf unknownInside ≡ 5 → ⊥)
+unknown-counts = let n = counted-headers .3 in ((λ h. omega arith), (λ h. omega arith))

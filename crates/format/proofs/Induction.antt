@@ -1,11 +1,10 @@
 -- One induction for all that is said of accepted parts: at the end, at an unknown item, at an element that holds items, at any other known item.
 use mathlib.Core.Path.{_≡_, refl, subst}
-use mathlib.Core.Bool.{Bool, true, false, cond}
+use mathlib.Core.Bool.{false}
 use mathlib.Core.Option.{Option, none, some}
 use mathlib.Core.List.{List, [], _∷_}
-use Prim.Native.Nat.{ℕ, zero, suc, _+_, _*_, _≤_}
+use Prim.Native.Nat.{ℕ, zero, suc, _+_, _≤_}
 use native.Mathlib.Omega.{arith}
-use lib.Dec.{eqb}
 use lib.ListN.{length, drop, length-drop}
 use lib.Seq.{length-take-le}
 use Rattle.octets.specs.Header.{headerSize, bodySize}
@@ -13,7 +12,7 @@ use Rattle.octets.specs.Places.{firstBody, afterFirst}
 use Rattle.values.specs.declared.Kind.{Kind}
 use Rattle.values.specs.Table.{known}
 use Rattle.values.specs.declared.Kind.the-variants.{HoldsItems, HoldsText, HoldsPlain, HoldsTokens, HoldsTime, HoldsBearer, HoldsNumber}
-use Rattle.format.specs.Tree.{Items, count}
+use Rattle.format.specs.Tree.{Items}
 use Rattle.format.specs.Tree.Items.{end, item}
 use Rattle.format.specs.Judge.{Judged, isKnown, isItems, Context, items, broken, byKind, joined, followed, late, within, next, judge, outermost}
 use Rattle.format.specs.Judge.Judged.{refused, accepted}
@@ -111,27 +110,3 @@ shorter c at tag rest q =
 -- what holds of every accepted part holds of an accepted object
 pub judged-all : (P : Context → ℕ → List ℕ → Items → Type 0) → Cases P → (o : List ℕ) (t : Items) → judge o ≡ accepted t → P outermost 0 o t
 judged-all P cases o t h = accepted-all P cases (suc (length o)) outermost 0 o t (accepted-read o t h)
-
--- no accepted object has more records than half its octets (document 01, change request 2026-09, counts unknown items too)
-abbrev Few : Context → ℕ → List ℕ → Items → Type 0
-Few c at part t = 2 * count t ≤ length part
-
-count-item : (tag at : ℕ) (body : List ℕ) (s u : Items) → count (item tag at body s u) ≤ 1 + count s + count u
-unfolding count
-count-item tag at body s u = go (eqb tag 4)
-  where
-    go : (b : Bool) → cond b 0 (1 + count s) + count u ≤ 1 + count s + count u
-    go true = omega arith
-    go false = omega arith
-
-few-cases : Cases Few
-unfolding count
-few-cases = record {
-  atEnd = λ c at q. omega arith;
-  atUnknown = λ c at tag rest u q e h. omega (arith, shorter c at tag rest q);
-  atElement = λ c at tag rest s u q e x y. omega (arith, shorter c at tag rest q, count-item tag (inAt at (tag ∷ rest)) (firstBody (tag ∷ rest)) s u);
-  atLeaf = λ c at tag rest u k q e l y. omega (arith, shorter c at tag rest q, count-item tag (inAt at (tag ∷ rest)) (firstBody (tag ∷ rest)) end u);
-}
-
-pub few : (o : List ℕ) (t : Items) → judge o ≡ accepted t → 2 * count t ≤ length o
-few o t h = judged-all Few few-cases o t h

@@ -2,6 +2,7 @@ pub mod Rules
 pub mod Late
 pub mod Fuel
 pub mod Induction
+pub mod Headers
 pub mod Spans
 pub mod Read
 pub mod Place

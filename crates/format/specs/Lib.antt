@@ -1,6 +1,7 @@
 pub mod Answers
 pub mod Tree
 pub mod Judge
+pub mod Headers
 pub mod Meaning
 pub mod WellFormed
 pub mod Writer

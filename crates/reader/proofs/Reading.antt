@@ -18,7 +18,7 @@ use Rattle.format.specs.Judge.{Judged, judge, outermost}
 use Rattle.format.specs.Judge.Judged.{refused, accepted}
 use Rattle.format.specs.Calls.{Lists, places, lay, judgeAnswer, readAnswer, readRecords, ReadClaim, ReadAtMostClaim}
 use Rattle.format.proofs.Rules.{accepted-size, accepted-read}
-use Rattle.format.proofs.Induction.{few}
+use Rattle.format.proofs.Headers.{few}
 use Rattle.reader.specs.declared.filling.Place.{Place}
 use Rattle.reader.specs.Filling.{Accepts, Fillable, Filled, Fills}
 

@@ -27,7 +27,7 @@ use Rattle.format.specs.Loaded.{storeOf}
 use Rattle.format.specs.Calls.{judgeAnswer, readAnswer, roomy, writeAnswer, Lent, storedWithin, fitsLent, misfit, normalAnswer}
 use Rattle.format.specs.Same.{sameMeaning, sameAnswer}
 use Rattle.format.specs.State.{Memory, treeHeld}
-use Rattle.format.proofs.Induction.{few}
+use Rattle.format.proofs.Headers.{few}
 use Rattle.format.proofs.Refusals.{refusal-inside}
 use Rattle.format.proofs.Rules.{accepted-size}
 use Rattle.format.proofs.Loading.{loaded-count}
