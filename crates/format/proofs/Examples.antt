@@ -15,14 +15,14 @@ use Rattle.format.specs.Answers.{refusal, wrongValue, readOutcome, write
 use Rattle.format.specs.Judge.{isItems}
 use Rattle.format.specs.Headers.{headersIn, headersOf}
 
--- after a refusal the count is 0, and where there is none so are number, place and field
-pub read-outcomes : (readOutcome (NotRead (refusal 13 412)) ≡ record { number = 13; place = 412; field = 0; count = 0 })
-    × (readOutcome (NotRead (wrongValue 412 3)) ≡ record { number = 9; place = 412; field = 3; count = 0 })
-    × (readOutcome (Records (record { records = 7 })) ≡ record { number = 0; place = 0; field = 0; count = 7 })
+-- after a refusal both counts are 0, and where there is none so are number, place and field
+pub read-outcomes : (readOutcome (NotRead (refusal 13 412)) ≡ record { number = 13; place = 412; field = 0; count = 0; items = 0 })
+    × (readOutcome (NotRead (wrongValue 412 3)) ≡ record { number = 9; place = 412; field = 3; count = 0; items = 0 })
+    × (readOutcome (Records (record { records = 7; items = 9 })) ≡ record { number = 0; place = 0; field = 0; count = 7; items = 9 })
 read-outcomes = (refl, refl, refl)
 
-pub write-outcomes : (writeOutcome (NotWritten (refusal 15 0)) ≡ record { number = 15; place = 0; field = 0; count = 0 })
-    × (writeOutcome (Octets (asOctets 6)) ≡ record { number = 0; place = 0; field = 0; count = 6 })
+pub write-outcomes : (writeOutcome (NotWritten (refusal 15 0)) ≡ record { number = 15; place = 0; field = 0; count = 0; items = 0 })
+    × (writeOutcome (Octets (asOctets 6)) ≡ record { number = 0; place = 0; field = 0; count = 6; items = 0 })
 write-outcomes = (refl, refl)
 
 -- which object was refused is told, its field too, and a refusal is not told as two meanings

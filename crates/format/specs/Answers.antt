@@ -19,14 +19,15 @@ refusal number place = record { number = number; place = place; field = 0 }
 abbrev pub wrongValue : ℕ → ℕ → Refusal
 wrongValue place field = record { number = 9; place = place; field = field }
 
--- number, place and field of a refusal, all 0 where there is none; the count, of records or of octets, 0 after a refusal
+-- number, place and field of a refusal, all 0 where there is none; the count, of records or of octets, and for reading the number of items judged (change request
+-- 2026-09), both 0 after a refusal
 abbrev pub readOutcome : ReadAnswer → Outcome
-readOutcome (Records counts) = record { number = 0; place = 0; field = 0; count = counts .records }
-readOutcome (NotRead r) = record { number = r .number; place = r .place; field = r .field; count = 0 }
+readOutcome (Records counts) = record { number = 0; place = 0; field = 0; count = counts .records; items = counts .items }
+readOutcome (NotRead r) = record { number = r .number; place = r .place; field = r .field; count = 0; items = 0 }
 
 abbrev pub writeOutcome : WriteAnswer → Outcome
-writeOutcome (Octets n) = record { number = 0; place = 0; field = 0; count = n .0 }
-writeOutcome (NotWritten r) = record { number = r .number; place = r .place; field = r .field; count = 0 }
+writeOutcome (Octets n) = record { number = 0; place = 0; field = 0; count = n .0; items = 0 }
+writeOutcome (NotWritten r) = record { number = r .number; place = r .place; field = r .field; count = 0; items = 0 }
 
 -- the same, with the object that was refused: 1 the first, 2 the second, 0 none
 abbrev pub sameOutcome : SameAnswer → SameOutcome

@@ -11,6 +11,7 @@ use Rattle.octets.specs.declared.counts.Octets.{Octets as OctetCount}
 use Rattle.octets.specs.Counts.{asOctets, sizeOf, octetsWithin}
 use Rattle.format.specs.declared.Record.{Record}
 use Rattle.format.specs.declared.Span.{Span}
+use Rattle.format.specs.declared.Counts.{Counts}
 use Rattle.format.specs.declared.ReadAnswer.{ReadAnswer}
 use Rattle.format.specs.declared.ReadAnswer.the-variants.{Records, NotRead}
 use Rattle.format.specs.declared.WriteAnswer.{WriteAnswer}
@@ -19,6 +20,7 @@ use Rattle.format.specs.Answers.{refusal}
 use Rattle.format.specs.Tree.{Items, count, recordsOf}
 use Rattle.format.specs.Judge.{Judged, judge}
 use Rattle.format.specs.Judge.Judged.{refused, accepted}
+use Rattle.format.specs.Headers.{headersOf}
 use Rattle.format.specs.Meaning.{means, encode, normalOf}
 use Rattle.format.specs.Writer.{rebuilt}
 use Rattle.format.specs.Loaded.{storeOf}
@@ -51,15 +53,19 @@ unfoldable pub lay : ℕ → List Record → Lists → Lists
 lay i [] l = l
 lay i (r ∷ rs) l = lay (suc i) rs (put i r l)
 
--- judging alone, with no list lent: the refusal of the judgement, else how many records there are
-unfoldable pub judgeAnswer : Judged → ReadAnswer
-judgeAnswer (refused r) = NotRead r
-judgeAnswer (accepted t) = Records (record { records = count t })
+-- what is counted where octets with so many headers are accepted: records by the tree, items judged by the framing (change request 2026-09)
+abbrev pub countsOf : (headers : ℕ) → Items → Counts
+countsOf h t = record { records = count t; items = h }
+
+-- judging alone, with no list lent, octets with so many headers: the refusal of the judgement, else what is counted
+unfoldable pub judgeAnswer : (headers : ℕ) → Judged → ReadAnswer
+judgeAnswer h (refused r) = NotRead r
+judgeAnswer h (accepted t) = Records (countsOf h t)
 
 -- read: the refusal of the judgement, else 14 where there are fewer places than records, else the records
-unfoldable pub readAnswer : ℕ → Judged → ReadAnswer
-readAnswer n (refused r) = NotRead r
-readAnswer n (accepted t) = cond (leb (count t) n) (Records (record { records = count t })) (NotRead (refusal 14 0))
+unfoldable pub readAnswer : (places headers : ℕ) → Judged → ReadAnswer
+readAnswer n h (refused r) = NotRead r
+readAnswer n h (accepted t) = cond (leb (count t) n) (Records (countsOf h t)) (NotRead (refusal 14 0))
 
 -- the records that are handed out
 unfoldable pub readRecords : ℕ → Judged → List Record
@@ -67,17 +73,17 @@ readRecords n (refused r) = []
 readRecords n (accepted t) = cond (leb (count t) n) (recordsOf t) []
 
 pub record ReadClaim (object : List ℕ) (before after : Lists) (answer : ReadAnswer) : Type 0 where
-  pub answers : answer ≡ readAnswer (places before) (judge object)
+  pub answers : answer ≡ readAnswer (places before) (headersOf object) (judge object)
   pub leaves : after ≡ lay 0 (readRecords (places before) (judge object)) before
 
 -- read_at_most: the same with no more places than the caller says
 pub record ReadAtMostClaim (object : List ℕ) (most : ℕ) (before after : Lists) (answer : ReadAnswer) : Type 0 where
-  pub answers : answer ≡ readAnswer (min most (places before)) (judge object)
+  pub answers : answer ≡ readAnswer (min most (places before)) (headersOf object) (judge object)
   pub leaves : after ≡ lay 0 (readRecords (min most (places before)) (judge object)) before
 
 -- read_records: the same with a slice of records too, whose length counts among the places; the records stand in it before what lay behind them
 pub record ReadRecordsClaim (object : List ℕ) (before after : Lists) (slice slice′ : List Record) (answer : ReadAnswer) : Type 0 where
-  pub answers : answer ≡ readAnswer (min (length slice) (places before)) (judge object)
+  pub answers : answer ≡ readAnswer (min (length slice) (places before)) (headersOf object) (judge object)
   pub leaves : after ≡ lay 0 (readRecords (min (length slice) (places before)) (judge object)) before
   pub fills : slice′ ≡ readRecords (min (length slice) (places before)) (judge object) ++ drop (length (readRecords (min (length slice) (places before)) (judge object))) slice
 

@@ -89,9 +89,10 @@ pub fn refuse(number: u8, place: usize) -> Refusal
     }
 }
 
-// What reading counts.
+// What reading counts: records, and the items that it judged, known and unknown, those inside unknown ones left out (change request 2026-09).
 pub struct Counts {
     pub records: usize,
+    pub items: usize,
 }
 
 // The answer of reading: what was handed out, or why nothing was.
@@ -120,12 +121,14 @@ pub struct Span {
     pub size: usize,
 }
 
-// Document 01's numbers for an answer: the refusal's number, 0 where there is none, its place and field, and the count, of records or of octets, 0 after a refusal.
+// Document 01's numbers for an answer: the refusal's number, 0 where there is none, its place and field, the count, of records or of octets, and
+// for reading the number of items judged; both are 0 after a refusal.
 pub struct Outcome {
     pub number: u8,
     pub place: usize,
     pub field: u8,
     pub count: usize,
+    pub items: usize,
 }
 
 // The same for a comparison: which object was refused (0 none, 1 the first, 2 the second), and whether they mean the same.
@@ -147,12 +150,14 @@ impl ReadAnswer {
                 place: 0,
                 field: 0,
                 count: counts.records,
+                items: counts.items,
             },
             ReadAnswer::NotRead(refusal) => Outcome {
                 number: refusal.number,
                 place: refusal.place,
                 field: refusal.field,
                 count: 0,
+                items: 0,
             },
         }
     }
@@ -168,12 +173,14 @@ impl WriteAnswer {
                 place: 0,
                 field: 0,
                 count: size.0,
+                items: 0,
             },
             WriteAnswer::NotWritten(refusal) => Outcome {
                 number: refusal.number,
                 place: refusal.place,
                 field: refusal.field,
                 count: 0,
+                items: 0,
             },
         }
     }

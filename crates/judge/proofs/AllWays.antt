@@ -211,7 +211,7 @@ module _ (counts : Counts) (part : List ℕ) (at parent stage base : ℕ) (d : B
 
   ended-good : r ≡ Kept → EndSays counts part at parent stage base (Records counts)
   unfolding EndSays unless counted checked count
-  ended-good f waiting w = rw (ended waiting w ∙ ap checked f, add-zero)
+  ended-good f waiting w = rw (ended waiting w ∙ ap checked f, add-zero (counts .records), add-zero (counts .items))
 
 -- where it is due, and where it isn't
 module _ (counts : Counts) (part : List ℕ) (at parent stage base : ℕ) (d : Bool) (de : d ≡ (isTop parent && eqb stage 0)) where

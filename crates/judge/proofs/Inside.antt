@@ -1,5 +1,5 @@
 -- The ways through `judge_inside` and `judge`. The code counts levels down and has none left below depth 16, where rule 7 refuses an element however deep it is.
-use mathlib.Core.Path.{_≡_, refl, sym, ap, _∙_}
+use mathlib.Core.Path.{_≡_, refl, sym, ap₂, _∙_}
 use mathlib.Core.Bool.{Bool, true, false}
 use mathlib.Core.Option.{Option}
 use mathlib.Core.List.{List, [], _∷_}
@@ -20,6 +20,7 @@ use Rattle.format.specs.Tree.{Items}
 use Rattle.format.specs.Tree.Items.{item}
 use Rattle.format.specs.Judge.{Judged, ofTop, rule, kindRules, itemRules, own, lateBefore, lateAfter, broken, within, next, unless, byKind, items, read, outermost, judge}
 use Rattle.format.specs.Judge.Judged.{refused, accepted}
+use Rattle.format.specs.Headers.{headers, headersOf}
 use Rattle.format.specs.Calls.{judgeAnswer}
 use Rattle.format.proofs.Rules.{unless-accepted}
 use Rattle.judge.specs.Says.{ctx, depthOf, counted}
@@ -73,30 +74,30 @@ inside-read element depth o t h = unless-accepted (rule 1 0 (leb (length o) 32_7
 -- ---- judge_inside
 
 -- counting from nothing
-from-nothing : (a : Judged) → counted (record { records = 0 }) a ≡ judgeAnswer a
+from-nothing : (h : ℕ) (a : Judged) → counted (record { records = 0; items = 0 }) h a ≡ judgeAnswer h a
 unfolding counted judgeAnswer
-from-nothing (refused r) = refl
-from-nothing (accepted t) = ap (λ (x : ℕ). Records (record { records = x })) (omega arith)
+from-nothing h (refused r) = refl
+from-nothing h (accepted t) = ap₂ (λ (x y : ℕ). Records (record { records = x; items = y })) (omega arith) (omega arith)
 
-pub inside-large : (element depth : ℕ) (o : List ℕ) → 32_768 < length o → (x : Refusal) → x ≡ refusal 1 0 → NotRead x ≡ judgeAnswer (judgeInside element depth o)
+pub inside-large : (element depth : ℕ) (o : List ℕ) → 32_768 < length o → (x : Refusal) → x ≡ refusal 1 0 → NotRead x ≡ judgeAnswer (headers element o) (judgeInside element depth o)
 unfolding judgeInside unless rule judgeAnswer
 inside-large element depth o h x m = rw (m, lt-leb (length o) 32_768 h)
 
 pub inside-items : (element depth : ℕ) (o : List ℕ) (left : ℕ) (v : ReadAnswer) → length o ≤ 32_768 → left ≡ 16 - depth
-    → v ≡ counted (record { records = 0 }) (read (ctx element (depthOf left) 0 [] (entries (take (0 - 0) (drop 0 o))) []) 0 o) → v ≡ judgeAnswer (judgeInside element depth o)
+    → v ≡ counted (record { records = 0; items = 0 }) (headers element o) (read (ctx element (depthOf left) 0 [] (entries (take (0 - 0) (drop 0 o))) []) 0 o) → v ≡ judgeAnswer (headers element o) (judgeInside element depth o)
 unfolding judgeInside unless rule
 inside-items element depth o left v h l e =
-    e ∙ rw (no-entries o, l, level-same element depth o, le-leb (length o) 32_768 h) (from-nothing (read (beginning element depth) 0 o))
+    e ∙ rw (no-entries o, l, level-same element depth o, le-leb (length o) 32_768 h) (from-nothing (headers element o) (read (beginning element depth) 0 o))
 
 pub ruleset inside-ways = (inside-large, inside-items)
 
 -- ---- the object
 
-pub judge-empty : (o : List ℕ) → length o ≡ 0 → (x : Refusal) → x ≡ refusal 1 0 → NotRead x ≡ judgeAnswer (judge o)
+pub judge-empty : (o : List ℕ) → length o ≡ 0 → (x : Refusal) → x ≡ refusal 1 0 → NotRead x ≡ judgeAnswer (headersOf o) (judge o)
 unfolding judge unless rule judgeAnswer
 judge-empty o h x m = rw (m, h)
 
-pub judge-whole : (o : List ℕ) (v : ReadAnswer) → (length o ≡ 0 → ⊥) → v ≡ judgeAnswer (judgeInside 0 0 o) → v ≡ judgeAnswer (judge o)
+pub judge-whole : (o : List ℕ) (v : ReadAnswer) → (length o ≡ 0 → ⊥) → v ≡ judgeAnswer (headersOf o) (judgeInside 0 0 o) → v ≡ judgeAnswer (headersOf o) (judge o)
 unfolding judgeInside beginning judge outermost
 judge-whole o v z e = e ∙ sym (rw (le-leb 1 (length o) (omega arith)) refl)
 

@@ -1,5 +1,5 @@
 -- One turn of the loop over the items of an element.
-use mathlib.Core.Path.{_≡_, refl, sym, ap, _∙_}
+use mathlib.Core.Path.{_≡_, refl, sym, ap, ap₂, _∙_}
 use mathlib.Core.Bool.{Bool, true, false, cond, _&&_}
 use mathlib.Core.Option.{Option, none, some}
 use mathlib.Core.List.{List, [], _∷_, _++_, append-assoc, append-nil}
@@ -26,13 +26,15 @@ use Rattle.format.specs.Tree.{count}
 use Rattle.format.specs.Tree.Items.{end, item}
 use Rattle.format.specs.Judge.{Judged, Context, isTop, isItems, isKnown, ofTop, latest, stageAfter, waits, unless, byKind, followed, joined, within, next, read}
 use Rattle.format.specs.Judge.Judged.{refused, accepted}
+use Rattle.format.specs.Headers.{headers}
 use Rattle.format.proofs.Fuel.{read-end, read-item}
 use Rattle.format.proofs.Rules.{Held, held}
+use Rattle.format.proofs.Headers.{headers-end, headers-item}
 use Rattle.format.proofs.Means.{items-known}
 use Rattle.format.proofs.Force.{attribute-latest}
 use Rattle.tags.specs.Rules.{Seen}
 use Rattle.tags.proofs.Masks.{none-marked}
-use Rattle.judge.specs.Says.{ctx, depthOf, sorted, tableSort, Framed, Waits, WaitsWhen, brokenOf, AllIs, Passed, Says, oneMore, counted, EndSays, CountsAtMost}
+use Rattle.judge.specs.Says.{ctx, depthOf, sorted, tableSort, Framed, Waits, WaitsWhen, brokenOf, AllIs, Passed, Says, itemMore, recordMore, counted, EndSays, AtMost, CountsAtMost, CountsAs}
 use Rattle.judge.specs.Says.Waits.{done, more}
 use Rattle.judge.specs.declared.Progress.{Progress}
 use Rattle.judge.specs.declared.Sort.{Sort}
@@ -132,45 +134,57 @@ sorted-as (some HoldsTime) = record { items = refl; isknown = refl }
 sorted-as (some HoldsBearer) = record { items = refl; isknown = refl }
 sorted-as (some (HoldsNumber n)) = record { items = refl; isknown = refl }
 
--- counting
-counted-leaf : (n : Counts) (tag at : ℕ) (body : List ℕ) (a : Judged) → eqb tag 4 ≡ false → counted n (followed (item tag at body end) a) ≡ counted (oneMore n) a
-unfolding counted followed count
-counted-leaf n tag at body (refused r) h = refl
-counted-leaf n tag at body (accepted t) h = rw h (ap (λ (x : ℕ). Records (record { records = x })) (omega arith))
+-- counting: an item that is passed over, one that is listed, the table, and an element, each with its own header before those of what is inside and behind it
+same-counts : (a b c d : ℕ) → a ≡ b → c ≡ d → _≡_ {A = ReadAnswer} (Records (record { records = a; items = c })) (Records (record { records = b; items = d }))
+same-counts a b c d e f = ap₂ (λ (x y : ℕ). Records (record { records = x; items = y })) e f
 
-counted-table : (n : Counts) (tag at : ℕ) (body : List ℕ) (a : Judged) → eqb tag 4 ≡ true → counted n (followed (item tag at body end) a) ≡ counted n a
+counted-skip : (n : Counts) (h : ℕ) (a : Judged) → counted n (suc (0 + h)) a ≡ counted (itemMore n) h a
+unfolding counted
+counted-skip n h (refused r) = refl
+counted-skip n h (accepted t) = same-counts _ _ _ _ refl (omega arith)
+
+counted-leaf : (n : Counts) (h tag at : ℕ) (body : List ℕ) (a : Judged) → eqb tag 4 ≡ false → counted n (suc (0 + h)) (followed (item tag at body end) a) ≡ counted (recordMore (itemMore n)) h a
 unfolding counted followed count
-counted-table n tag at body (refused r) h = refl
-counted-table n tag at body (accepted t) h = rw h (ap (λ (x : ℕ). Records (record { records = x })) (omega arith))
+counted-leaf n h tag at body (refused r) e = refl
+counted-leaf n h tag at body (accepted t) e = rw e (same-counts _ _ _ _ (omega arith) (omega arith))
+
+counted-table : (n : Counts) (h tag at : ℕ) (body : List ℕ) (a : Judged) → eqb tag 4 ≡ true → counted n (suc (0 + h)) (followed (item tag at body end) a) ≡ counted (itemMore n) h a
+unfolding counted followed count
+counted-table n h tag at body (refused r) e = refl
+counted-table n h tag at body (accepted t) e = rw e (same-counts _ _ _ _ (omega arith) (omega arith))
 
 unfoldable onward : ReadAnswer → (Counts → ReadAnswer) → ReadAnswer
 onward (Records m) f = f m
 onward (NotRead r) f = NotRead r
 
-counted-element : (n : Counts) (tag at : ℕ) (body : List ℕ) (i a : Judged) → eqb tag 4 ≡ false → counted n (joined (item tag at body) i a) ≡ onward (counted (oneMore n) i) (λ m. counted m a)
+counted-element : (n : Counts) (k h tag at : ℕ) (body : List ℕ) (i a : Judged) → eqb tag 4 ≡ false
+    → counted n (suc (k + h)) (joined (item tag at body) i a) ≡ onward (counted (recordMore (itemMore n)) k i) (λ m. counted m h a)
 unfolding counted joined followed count onward
-counted-element n tag at body (refused r) a h = refl
-counted-element n tag at body (accepted t) (refused r) h = refl
-counted-element n tag at body (accepted t) (accepted u) h = rw h (ap (λ (x : ℕ). Records (record { records = x })) (omega arith))
+counted-element n k h tag at body (refused r) a e = refl
+counted-element n k h tag at body (accepted t) (refused r) e = refl
+counted-element n k h tag at body (accepted t) (accepted u) e = rw e (same-counts _ _ _ _ (omega arith) (omega arith))
+
+at-most : (m n : ℕ) (k : Counts) → m ≤ n → AtMost m k → AtMost n k
+at-most m n k h b = record { records = omega (arith, b .records); items = omega (arith, b .items) }
 
 -- the items so far: what the whole part gives is what its rest gives from here on, for some tags seen that the mask stands for and for what waits
 pub record Holds (part : List ℕ) (base parent left : ℕ) (before : Counts) (given : List ℕ) (at : ℕ) (progress : Progress) (counts : Counts) (table : List ℕ) : Type 0 where
   pub bound : at ≤ length part
   pub levels : left ≤ 16
-  pub few : counts .records ≤ base + at
+  pub few : AtMost (base + at) counts
   pub seen : List ℕ
   pub waiting : List (ℕ × List ℕ)
   pub sees : Seen parent (progress .mask) seen
   pub waited : WaitsWhen (isTop parent && eqb (progress .stage) 0) parent base part at waiting
-  pub same : counted before (read (ctx parent (depthOf left) 0 [] (entries given) []) base part)
-      ≡ counted counts (read (ctx parent (depthOf left) (progress .stage) seen (entries table) waiting) (base + at) (drop at part))
+  pub same : counted before (headers parent part) (read (ctx parent (depthOf left) 0 [] (entries given) []) base part)
+      ≡ counted counts (headers parent (drop at part)) (read (ctx parent (depthOf left) (progress .stage) seen (entries table) waiting) (base + at) (drop at part))
 
-pub at-start : (part : List ℕ) (base parent left : ℕ) (before : Counts) (given : List ℕ) → before .records ≤ base → left ≤ 16
+pub at-start : (part : List ℕ) (base parent left : ℕ) (before : Counts) (given : List ℕ) → AtMost base before → left ≤ 16
     → Holds part base parent left before given 0 (record { stage = 0; mask = 0 }) before given
 at-start part base parent left before given h l = record {
   bound = omega arith;
   levels = l;
-  few = omega arith;
+  few = rw add-zero h;
   seen = [];
   waiting = [];
   sees = none-marked parent;
@@ -186,7 +200,7 @@ level-down left h l = omega arith
 module _ (part : List ℕ) (base parent left : ℕ) (before : Counts) (given : List ℕ) (at : ℕ) (progress : Progress) (counts : Counts) (table : List ℕ)
     (inv : Holds part base parent left before given at progress counts table) where
   abbrev Whole : ReadAnswer
-  Whole = counted before (read (ctx parent (depthOf left) 0 [] (entries given) []) base part)
+  Whole = counted before (headers parent part) (read (ctx parent (depthOf left) 0 [] (entries given) []) base part)
 
   abbrev c : Context
   c = ctx parent (depthOf left) (progress .stage) (inv .seen) (entries table) (inv .waiting)
@@ -198,14 +212,12 @@ module _ (part : List ℕ) (base parent left : ℕ) (before : Counts) (given : L
   unfolding EndSays
   end-all h r e =
       e (inv .waiting) (inv .waited)
-      ∙ sym (inv .same ∙ ap (λ (s : List ℕ). counted counts (read c (base + at) s)) (drop-of-length-le part h) ∙ ap (counted counts) (read-end c (base + at)))
+      ∙ sym (inv .same ∙ ap (λ (s : List ℕ). counted counts (headers parent s) (read c (base + at) s)) (drop-of-length-le part h)
+      ∙ ap₂ (counted counts) (headers-end parent) (read-end c (base + at)))
 
-  at-most : (m n : ℕ) (r : ReadAnswer) → m ≤ n → CountsAtMost m r → CountsAtMost n r
-  at-most m n (Records k) h b = omega arith
-  at-most m n (NotRead x) h b = tt
-
-  pub end-most : (r : ReadAnswer) → CountsAtMost (counts .records) r → CountsAtMost (base + length part) r
-  end-most r b = at-most (counts .records) (base + length part) r (omega (arith, inv .few, inv .bound)) b
+  pub end-most : (r : ReadAnswer) → CountsAs counts r → CountsAtMost (base + length part) r
+  end-most (Records k) e = rw e (at-most (base + at) (base + length part) counts (omega (arith, inv .bound)) (inv .few))
+  end-most (NotRead x) e = tt
 
   module _ (h : at < length part) (i : Item) (e : Says (AllIs parent left progress table base at part) parent progress (drop at part) i) where
     some-left : 0 < length (drop at part)
@@ -215,10 +227,13 @@ module _ (part : List ℕ) (base parent left : ℕ) (before : Counts) (given : L
     unfolding Says AllIs unless counted
     is-bad r f =
         let q : Says (AllIs parent left progress table base at part) parent progress (drop at part) (Bad r) = rw f at e in
-        sym (inv .same ∙ ap (counted counts) (read-step c (base + at) (drop at part) some-left) ∙ rw (q (inv .seen) (inv .waiting) (inv .sees) (inv .waited)))
+        sym (inv .same ∙ ap (counted counts (headers parent (drop at part))) (read-step c (base + at) (drop at part) some-left) ∙ rw (q (inv .seen) (inv .waiting) (inv .sees) (inv .waited)))
 
-    pub one-fits : base + length part ≤ 32_768 → Fits w64 (counts .records + 1)
-    one-fits b = omega (arith, inv .few)
+    pub record-fits : base + length part ≤ 32_768 → Fits w64 (counts .records + 1)
+    record-fits b = omega (arith, inv .few .records)
+
+    pub item-fits : base + length part ≤ 32_768 → Fits w64 (counts .items + 1)
+    item-fits b = omega (arith, inv .few .items)
 
     module _ (sort : Sort) (start size : ℕ) (nx : Progress) (f : i ≡ Good sort start size nx) where
       abbrev tag : ℕ
@@ -253,8 +268,8 @@ module _ (part : List ℕ) (base parent left : ℕ) (before : Counts) (given : L
       pub item-less : length part - (at + start + size) < length part - at
       item-less = omega (arith, two)
 
-      pub item-few : counts .records < base + (at + start)
-      item-few = omega (arith, two, inv .few)
+      pub item-few : AtMost (base + (at + start)) (recordMore (itemMore counts))
+      item-few = record { records = omega (arith, two, inv .few .records); items = omega (arith, two, inv .few .items) }
 
       kind-is : Sorted (known parent tag) sort
       kind-is = rw (p .sorts) (sorted-as (known parent tag))
@@ -295,32 +310,48 @@ module _ (part : List ℕ) (base parent left : ℕ) (before : Counts) (given : L
       unfolding next ofTop
       after-is = rw (p .stages, four)
 
-      turn : Whole ≡ counted counts (cond (elementSort sort) (joined (item tag (base + at + start) body) Inside Later) (cond (knownSort sort) (followed (item tag (base + at + start) body end) Later) Later))
+      -- the headers from here on: this one, those inside an element, and those behind it
+      abbrev LaterHeaders : ℕ
+      LaterHeaders = headers parent (drop (at + start + size) part)
+
+      heads : headers parent (drop at part) ≡ suc (cond (elementSort sort) (headers tag body) 0 + LaterHeaders)
+      heads = heads-of (drop at part) some-left (p .framed) ∙ rw (kind-is .items) (simp (drop-drop, add-assoc))
+        where
+          heads-of : (s : List ℕ) → 0 < length s → Framed s start size
+              → headers parent s ≡ suc (cond (isItems (known parent (getD s 0 0))) (headers (getD s 0 0) (take size (drop start s))) 0 + headers parent (drop size (drop start s)))
+          heads-of [] z q = absurd (omega arith)
+          heads-of (t ∷ r) z q = headers-item parent t r ∙ rw (q .isStart, q .isSize)
+
+      turn : Whole ≡ counted counts (suc (cond (elementSort sort) (headers tag body) 0 + LaterHeaders)) (cond (elementSort sort) (joined (item tag (base + at + start) body) Inside Later) (cond (knownSort sort) (followed (item tag (base + at + start) body end) Later) Later))
       unfolding byKind
       turn =
           inv .same
-          ∙ ap (counted counts) (read-framed c (base + at) (drop at part) start size some-left (p .framed) clean ∙ rw (after-is, kind-is .items, kind-is .isknown) (simp (drop-drop, add-assoc)))
+          ∙ ap₂ (counted counts) heads (read-framed c (base + at) (drop at part) start size some-left (p .framed) clean ∙ rw (after-is, kind-is .items, kind-is .isknown) (simp (drop-drop, add-assoc)))
 
       -- behind the item, by what is counted then and by the table in force
-      behind : (counts′ : Counts) (table′ : List ℕ) → counts′ .records ≤ base + (at + start + size)
+      behind : (counts′ : Counts) (table′ : List ℕ) → AtMost (base + (at + start + size)) counts′
           → Whole
-          ≡ counted counts′ (read (ctx parent (depthOf left) (nx .stage) (tag ∷ inv .seen) (entries table′) waiting′) (base + (at + start + size)) (drop (at + start + size) part))
+          ≡ counted counts′ LaterHeaders (read (ctx parent (depthOf left) (nx .stage) (tag ∷ inv .seen) (entries table′) waiting′) (base + (at + start + size)) (drop (at + start + size) part))
           → Holds part base parent left before given (at + start + size) nx counts′ table′
       behind counts′ table′ f s = record { bound = item-in; levels = inv .levels; few = f; seen = tag ∷ inv .seen; waiting = waiting′; sees = sees′; waited = waited′; same = s }
 
-      pub past-skip : sort ≡ Skip → Holds part base parent left before given (at + start + size) nx counts table
-      unfolding elementSort knownSort tableSort
-      past-skip q = behind counts table (omega (arith, inv .few)) (turn ∙ rw q)
+      few-behind : AtMost (base + (at + start + size)) (itemMore counts)
+      few-behind = record { records = omega (arith, item-few .records); items = omega (arith, item-few .items) }
 
-      pub past-leaf : sort ≡ Leaf → Holds part base parent left before given (at + start + size) nx (oneMore counts) table
+      pub past-skip : sort ≡ Skip → Holds part base parent left before given (at + start + size) nx (itemMore counts) table
       unfolding elementSort knownSort tableSort
-      past-leaf q = behind (oneMore counts) table (omega (arith, item-few)) (turn ∙ rw q (counted-leaf counts tag (base + at + start) body _ (rw q at four)))
+      past-skip q = behind (itemMore counts) table few-behind (turn ∙ rw q (counted-skip counts LaterHeaders _))
 
-      pub past-table : sort ≡ Table → Holds part base parent left before given (at + start + size) nx counts (take (at + start + size - (at + start)) (drop (at + start) part))
+      pub past-leaf : sort ≡ Leaf → Holds part base parent left before given (at + start + size) nx (recordMore (itemMore counts)) table
+      unfolding elementSort knownSort tableSort
+      past-leaf q =
+          behind (recordMore (itemMore counts)) table (at-most _ _ _ (omega arith) item-few) (turn ∙ rw q (counted-leaf counts LaterHeaders tag (base + at + start) body _ (rw q at four)))
+
+      pub past-table : sort ≡ Table → Holds part base parent left before given (at + start + size) nx (itemMore counts) (take (at + start + size - (at + start)) (drop (at + start) part))
       unfolding elementSort knownSort tableSort
       past-table q =
-          behind counts (take (at + start + size - (at + start)) (drop (at + start) part)) (omega (arith, inv .few))
-          (turn ∙ rw (q, body-at part at start size) (counted-table counts tag (base + at + start) body _ (rw q at four)))
+          behind (itemMore counts) (take (at + start + size - (at + start)) (drop (at + start) part)) few-behind
+          (turn ∙ rw (q, body-at part at start size) (counted-table counts LaterHeaders tag (base + at + start) body _ (rw q at four)))
 
       module _ (q : sort ≡ Element) where
         holds-items : known parent tag ≡ some HoldsItems
@@ -338,14 +369,14 @@ module _ (part : List ℕ) (base parent left : ℕ) (before : Counts) (given : L
         element-levels = omega (arith, leb-true (depthOf left) 16 shallow)
 
         module _ (v : ReadAnswer)
-            (ve : v ≡ counted (oneMore counts) (read (ctx (getD part at 0) (depthOf (left - 1)) 0 [] (entries table) []) (base + (at + start)) (take (at + start + size - (at + start)) (drop (at + start) part)))) where
-          body-read : counted (oneMore counts) Inside ≡ v
+            (ve : v ≡ counted (recordMore (itemMore counts)) (headers (getD part at 0) (take (at + start + size - (at + start)) (drop (at + start) part))) (read (ctx (getD part at 0) (depthOf (left - 1)) 0 [] (entries table) []) (base + (at + start)) (take (at + start + size - (at + start)) (drop (at + start) part)))) where
+          body-read : counted (recordMore (itemMore counts)) (headers tag body) Inside ≡ v
           unfolding within
           body-read = sym (ve ∙ rw (tag-at part at, ← level-down left element-levels (inv .levels), body-at part at start size, ← add-assoc base at start))
 
-          turn-element : Whole ≡ onward v (λ m. counted m (read (ctx parent (depthOf left) (nx .stage) (tag ∷ inv .seen) (entries table) waiting′) (base + (at + start + size)) (drop (at + start + size) part)))
+          turn-element : Whole ≡ onward v (λ m. counted m LaterHeaders (read (ctx parent (depthOf left) (nx .stage) (tag ∷ inv .seen) (entries table) waiting′) (base + (at + start + size)) (drop (at + start + size) part)))
           unfolding elementSort tableSort
-          turn-element = turn ∙ rw q (counted-element counts tag (base + at + start) body Inside _ (is-element .notTable) ∙ rw body-read)
+          turn-element = turn ∙ rw q (counted-element counts (headers tag body) LaterHeaders tag (base + at + start) body Inside _ (is-element .notTable) ∙ rw body-read)
 
           pub element-bad : (r : Refusal) → v ≡ NotRead r → NotRead r ≡ Whole
           unfolding onward
@@ -356,5 +387,5 @@ module _ (part : List ℕ) (base parent left : ℕ) (before : Counts) (given : L
           past-element m g b = behind m table (rw g at b) (turn-element ∙ rw g)
 
 pub part-most : (part : List ℕ) (base from to : ℕ) (v : ReadAnswer) → from ≤ to → to ≤ length part → CountsAtMost (base + from + length (take (to - from) (drop from part))) v → CountsAtMost (base + to) v
-part-most part base from to (Records n) h g b = omega (arith, length-take (to - from) (drop from part), length-drop from part)
+part-most part base from to (Records n) h g b = at-most _ _ n (omega (arith, length-take (to - from) (drop from part), length-drop from part)) b
 part-most part base from to (NotRead r) h g b = tt

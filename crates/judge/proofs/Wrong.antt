@@ -12,11 +12,11 @@ use Rattle.values.specs.Times.{bits, longFlag, offsetFlag, offsetOctet, timeOf,
 use Rattle.values.specs.Values.{width, fits, wrongField}
 use Rattle.format.specs.declared.Refusal.{Refusal}
 use Rattle.format.specs.declared.Counts.{Counts}
-use Rattle.format.specs.declared.ReadAnswer.{ReadAnswer}
 use Rattle.format.specs.declared.ReadAnswer.the-variants.{Records, NotRead}
-use Rattle.format.specs.Answers.{refusal, wrongValue}
+use Rattle.format.specs.Answers.{refusal, wrongValue, readOutcome}
 use Rattle.format.specs.Tree.{count}
 use Rattle.format.specs.Judge.{isKnown, isItems, isTokens, isText, isValue, wrongIn, isTop, allowed, latest, stageAfter, limit, notAbove, shown, ofTop, rule, valueRule, first, kindRules, itemRules, own, late, lateBefore, lateAfter, broken, within, waits, next, unless, followed, joined, byKind, items, outermost, judge}
+use Rattle.format.specs.Headers.{headersIn, headers, headersOf}
 use Rattle.format.specs.Calls.{judgeAnswer}
 use Rattle.judge.specs.Inside.{beginning, judgeInside}
 
@@ -41,51 +41,48 @@ abbrev mistimed : List ℕ
 mistimed = 0x03 ∷ 0x06 ∷ 0x81 ∷ 0x04 ∷ 0x30 ∷ 0xD4 ∷ 0x06 ∷ 0x3C ∷ []
 
 record Answers : Type 0 where
-  ofTop : judgeAnswer (judge top) ≡ Records (record { records = 1 })
-  ofTabled : judgeAnswer (judge tabled) ≡ Records (record { records = 2 })
-  ofPassing : judgeAnswer (judge passing) ≡ NotRead (refusal 3 4)
-  ofWaiting : judgeAnswer (judge waiting) ≡ NotRead (refusal 12 2)
-  ofMistimed : judgeAnswer (judge mistimed) ≡ NotRead (wrongValue 2 3)
+  ofTop : judgeAnswer (headersOf top) (judge top) ≡ Records (record { records = 1; items = 1 })
+  ofTabled : judgeAnswer (headersOf tabled) (judge tabled) ≡ Records (record { records = 2; items = 3 })
+  ofPassing : judgeAnswer (headersOf passing) (judge passing) ≡ NotRead (refusal 3 4)
+  ofWaiting : judgeAnswer (headersOf waiting) (judge waiting) ≡ NotRead (refusal 12 2)
+  ofMistimed : judgeAnswer (headersOf mistimed) (judge mistimed) ≡ NotRead (wrongValue 2 3)
 
 answers : Answers
-unfolding among value headerSize bodySize layout token character single goesOn utf8 text cut entries filled isTable entry orItself stands expanded present covers covered starts shownLength rows kindIn known attribute bits longFlag offsetFlag offsetOctet timeOf inRange isTime wrongPart wrongTime width fits wrongField count isKnown isItems isTokens isText isValue wrongIn isTop allowed latest stageAfter limit notAbove shown ofTop rule valueRule first kindRules itemRules own late lateBefore lateAfter broken within waits next unless followed joined byKind items outermost judge judgeAnswer
+unfolding among value headerSize bodySize layout token character single goesOn utf8 text cut entries filled isTable entry orItself stands expanded present covers covered starts shownLength rows kindIn known attribute bits longFlag offsetFlag offsetOctet timeOf inRange isTime wrongPart wrongTime width fits wrongField count isKnown isItems isTokens isText isValue wrongIn isTop allowed latest stageAfter limit notAbove shown ofTop rule valueRule first kindRules itemRules own late lateBefore lateAfter broken within waits next unless followed joined byKind items outermost judge headersIn judgeAnswer
 answers = record { ofTop = refl; ofTabled = refl; ofPassing = refl; ofWaiting = refl; ofMistimed = refl }
 
 differ : (r : Refusal) (c : Counts) → NotRead r ≡ Records c → ⊥
 differ r c h = let z : _≡_ {A = ℕ} 0 1 = cc in omega arith
 
 -- every object is refused
-pub all-refused : (r : Refusal) → NotRead r ≡ judgeAnswer (judge top) → ⊥
-all-refused r h = differ r (record { records = 1 }) (h ∙ answers .ofTop)
+pub all-refused : (r : Refusal) → NotRead r ≡ judgeAnswer (headersOf top) (judge top) → ⊥
+all-refused r h = differ r (record { records = 1; items = 1 }) (h ∙ answers .ofTop)
 
 -- the token table counts as a record
-pub table-counted : Records (record { records = 3 }) ≡ judgeAnswer (judge tabled) → ⊥
-table-counted h =
-    let e : Records (record { records = 3 }) ≡ Records (record { records = 2 }) = h ∙ answers .ofTabled in
-    let z : _≡_ {A = Counts} (record { records = 3 }) (record { records = 2 }) = cc in
-    counts-differ z
-  where
-    counts-differ : _≡_ {A = Counts} (record { records = 3 }) (record { records = 2 }) → ⊥
-    counts-differ q = let n : _≡_ {A = ℕ} 3 2 = λ i. q i .records in omega arith
+pub table-counted : Records (record { records = 3; items = 3 }) ≡ judgeAnswer (headersOf tabled) (judge tabled) → ⊥
+table-counted h = let z : _≡_ {A = ℕ} 3 2 = ap (λ a. readOutcome a .count) (h ∙ answers .ofTabled) in omega arith
+
+-- it isn't among the items judged, or its entry is
+pub table-not-judged : Records (record { records = 2; items = 2 }) ≡ judgeAnswer (headersOf tabled) (judge tabled) → ⊥
+table-not-judged h = let z : _≡_ {A = ℕ} 2 3 = ap (λ a. readOutcome a .items) (h ∙ answers .ofTabled) in omega arith
+
+pub entry-judged : Records (record { records = 2; items = 4 }) ≡ judgeAnswer (headersOf tabled) (judge tabled) → ⊥
+entry-judged h = let z : _≡_ {A = ℕ} 4 3 = ap (λ a. readOutcome a .items) (h ∙ answers .ofTabled) in omega arith
 
 -- a child's length is held against the object's end
-pub child-passes : (c : Counts) → Records c ≡ judgeAnswer (judge passing) → ⊥
+pub child-passes : (c : Counts) → Records c ≡ judgeAnswer (headersOf passing) (judge passing) → ⊥
 child-passes c h = differ (refusal 3 4) c (sym (h ∙ answers .ofPassing))
 
 -- the late rule is forgotten
-pub late-forgotten : (c : Counts) → Records c ≡ judgeAnswer (judge waiting) → ⊥
+pub late-forgotten : (c : Counts) → Records c ≡ judgeAnswer (headersOf waiting) (judge waiting) → ⊥
 late-forgotten c h = differ (refusal 12 2) c (sym (h ∙ answers .ofWaiting))
 
 -- the field is forgotten, or the last that is wrong is told
-abbrev fieldOf : ReadAnswer → ℕ
-fieldOf (Records c) = 0
-fieldOf (NotRead r) = r .field
+pub field-forgotten : NotRead (refusal 9 2) ≡ judgeAnswer (headersOf mistimed) (judge mistimed) → ⊥
+field-forgotten h = let z : _≡_ {A = ℕ} 0 3 = ap (λ a. readOutcome a .field) (h ∙ answers .ofMistimed) in omega arith
 
-pub field-forgotten : NotRead (refusal 9 2) ≡ judgeAnswer (judge mistimed) → ⊥
-field-forgotten h = let z : _≡_ {A = ℕ} 0 3 = ap fieldOf (h ∙ answers .ofMistimed) in omega arith
-
-pub last-field-told : NotRead (wrongValue 2 4) ≡ judgeAnswer (judge mistimed) → ⊥
-last-field-told h = let z : _≡_ {A = ℕ} 4 3 = ap fieldOf (h ∙ answers .ofMistimed) in omega arith
+pub last-field-told : NotRead (wrongValue 2 4) ≡ judgeAnswer (headersOf mistimed) (judge mistimed) → ⊥
+last-field-told h = let z : _≡_ {A = ℕ} 4 3 = ap (λ a. readOutcome a .field) (h ∙ answers .ofMistimed) in omega arith
 
 -- ---- judge_inside
 
@@ -97,25 +94,25 @@ abbrev element : List ℕ
 element = 0x29 ∷ 0x00 ∷ []
 
 record InsideAnswers : Type 0 where
-  ofToken : judgeAnswer (judgeInside 0x10 2 tokenInName) ≡ NotRead (refusal 12 0)
-  ofDeep : judgeAnswer (judgeInside 0x28 16 element) ≡ NotRead (refusal 7 0)
-  ofNone : judgeAnswer (judgeInside 0x28 2 []) ≡ Records (record { records = 0 })
+  ofToken : judgeAnswer (headers 0x10 tokenInName) (judgeInside 0x10 2 tokenInName) ≡ NotRead (refusal 12 0)
+  ofDeep : judgeAnswer (headers 0x28 element) (judgeInside 0x28 16 element) ≡ NotRead (refusal 7 0)
+  ofNone : judgeAnswer (headers 0x28 []) (judgeInside 0x28 2 []) ≡ Records (record { records = 0; items = 0 })
 
 inside-answers : InsideAnswers
-unfolding among value headerSize bodySize layout token character single goesOn utf8 text cut entries filled isTable entry orItself stands expanded present covers covered starts shownLength rows kindIn known attribute fits count isKnown isItems isTokens isText isValue wrongIn isTop allowed latest stageAfter limit notAbove shown ofTop rule valueRule first kindRules itemRules own late lateBefore lateAfter broken within waits next unless followed joined byKind items beginning judgeInside judgeAnswer
+unfolding among value headerSize bodySize layout token character single goesOn utf8 text cut entries filled isTable entry orItself stands expanded present covers covered starts shownLength rows kindIn known attribute fits count isKnown isItems isTokens isText isValue wrongIn isTop allowed latest stageAfter limit notAbove shown ofTop rule valueRule first kindRules itemRules own late lateBefore lateAfter broken within waits next unless followed joined byKind items beginning judgeInside headersIn judgeAnswer
 inside-answers = record { ofToken = refl; ofDeep = refl; ofNone = refl }
 
 -- a token without a table
-pub token-accepted : (c : Counts) → Records c ≡ judgeAnswer (judgeInside 0x10 2 tokenInName) → ⊥
+pub token-accepted : (c : Counts) → Records c ≡ judgeAnswer (headers 0x10 tokenInName) (judgeInside 0x10 2 tokenInName) → ⊥
 token-accepted c h = differ (refusal 12 0) c (sym (h ∙ inside-answers .ofToken))
 
 -- the depth is forgotten
-pub depth-forgotten : (c : Counts) → Records c ≡ judgeAnswer (judgeInside 0x28 16 element) → ⊥
+pub depth-forgotten : (c : Counts) → Records c ≡ judgeAnswer (headers 0x28 element) (judgeInside 0x28 16 element) → ⊥
 depth-forgotten c h = differ (refusal 7 0) c (sym (h ∙ inside-answers .ofDeep))
 
 -- no items are refused, as an object of no octets is
-pub none-refused : (r : Refusal) → NotRead r ≡ judgeAnswer (judgeInside 0x28 2 []) → ⊥
-none-refused r h = differ r (record { records = 0 }) (h ∙ inside-answers .ofNone)
+pub none-refused : (r : Refusal) → NotRead r ≡ judgeAnswer (headers 0x28 []) (judgeInside 0x28 2 []) → ⊥
+none-refused r h = differ r (record { records = 0; items = 0 }) (h ∙ inside-answers .ofNone)
 
 -- ---- levels_in
 

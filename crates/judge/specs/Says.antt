@@ -149,21 +149,33 @@ tableSort Leaf = false
 tableSort Table = true
 tableSort Element = false
 
--- a record more
-abbrev pub oneMore : Counts → Counts
-oneMore n = record { records = n .records + 1 }
+-- an item more is judged, and a record more is counted
+abbrev pub itemMore : Counts → Counts
+itemMore n = record { records = n .records; items = n .items + 1 }
 
--- what judging items answers where so much was counted before them
-unfoldable pub counted : Counts → Judged → ReadAnswer
-counted before (refused r) = NotRead r
-counted before (accepted t) = Records (record { records = before .records + count t })
+abbrev pub recordMore : Counts → Counts
+recordMore n = record { records = n .records + 1; items = n .items }
+
+-- what judging items with so many headers answers where so much was counted before them
+unfoldable pub counted : Counts → (headers : ℕ) → Judged → ReadAnswer
+counted before h (refused r) = NotRead r
+counted before h (accepted t) = Records (record { records = before .records + count t; items = before .items + h })
 
 -- the end of an element's items, at a place: what still waits is judged without a table
 unfoldable pub EndSays : (counts : Counts) (part : List ℕ) (at parent stage base : ℕ) → ReadAnswer → Type 0
 EndSays counts part at parent stage base r =
-    (waiting : List (ℕ × List ℕ)) → WaitsWhen (isTop parent && eqb stage 0) parent base part at waiting → r ≡ counted counts (unless (late [] waiting) (accepted end))
+    (waiting : List (ℕ × List ℕ)) → WaitsWhen (isTop parent && eqb stage 0) parent base part at waiting → r ≡ counted counts 0 (unless (late [] waiting) (accepted end))
 
--- an answer counts at most so many records
+-- none of the counts is above a number: each item takes octets, so that no sum passes 64 bits
+pub record AtMost (m : ℕ) (counts : Counts) : Type 0 where
+  pub records : counts .records ≤ m
+  pub items : counts .items ≤ m
+
 abbrev pub CountsAtMost : ℕ → ReadAnswer → Type 0
-CountsAtMost m (Records counts) = counts .records ≤ m
+CountsAtMost m (Records counts) = AtMost m counts
 CountsAtMost m (NotRead r) = Unit {0}
+
+-- an answer counts what was counted before, and no more
+abbrev pub CountsAs : Counts → ReadAnswer → Type 0
+CountsAs before (Records counts) = counts ≡ before
+CountsAs before (NotRead r) = Unit {0}

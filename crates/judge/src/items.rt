@@ -7,7 +7,8 @@ ghost use lib.Dec.{eqb};
 ghost use lib.ListN.{length, take, drop};
 ghost use Rattle.text.specs.Tokens.{entries};
 ghost use Rattle.format.specs.Judge.{isTop, read};
-ghost use Rattle.judge.specs.Says.{ctx, InForce, depthOf, tableSort, BehindIs, AllIs, Says, oneMore, counted, EndSays, CountsAtMost};
+ghost use Rattle.format.specs.Headers.{headers};
+ghost use Rattle.judge.specs.Says.{ctx, InForce, depthOf, tableSort, BehindIs, AllIs, Says, recordMore, counted, EndSays, AtMost, CountsAtMost, CountsAs};
 use crate::Check;
 use crate::Item;
 use crate::Progress;
@@ -117,7 +118,7 @@ fn end_items(
 ) -> ReadAnswer
     requires { ⌜ (base + length (now part) ≤ 32_768) × (at ≤ length (now part)) ⌝ }
     ensures { λ r. ⌜ EndSays counts (now (part .entry)) at parent stage base r ⌝ }
-    ensures { λ r. ⌜ CountsAtMost (counts .records) r ⌝ }
+    ensures { λ r. ⌜ CountsAs counts r ⌝ }
 {
     if is_waiting(parent, stage) {
         match hold_attributes(part, at, parent, base, &part[0..0]) {
@@ -145,9 +146,9 @@ pub fn read_items<'a>(
     marks: u32,
     shows: &[u8; 32],
 ) -> ReadAnswer
-    requires { ⌜ (base + length (now part) ≤ 32_768) × (counts .records ≤ base) × (left ≤ 16) ⌝ }
+    requires { ⌜ (base + length (now part) ≤ 32_768) × AtMost base counts × (left ≤ 16) ⌝ }
     requires { ⌜ InForce (now table) marks (now shows) ⌝ }
-    ensures { λ r. ⌜ r ≡ counted counts (read (ctx parent (depthOf left) 0 [] (entries (now (table .entry))) []) base (now (part .entry))) ⌝ }
+    ensures { λ r. ⌜ r ≡ counted counts (headers parent (now (part .entry))) (read (ctx parent (depthOf left) 0 [] (entries (now (table .entry))) []) base (now (part .entry))) ⌝ }
     ensures { λ r. ⌜ CountsAtMost (base + length (now (part .entry))) r ⌝ }
 {
     let mut at: usize = 0;
@@ -171,6 +172,7 @@ pub fn read_items<'a>(
                 let from = at + start;
                 at = from + size;
                 progress = next;
+                counts.items = counts.items + 1;
                 match sort {
                     Sort::Skip => {}
                     Sort::Leaf => {
@@ -223,9 +225,9 @@ fn read_element<'a>(
     marks: u32,
     shows: &[u8; 32],
 ) -> ReadAnswer
-    requires { ⌜ (from ≤ to) × (to ≤ length (now part)) × (base + length (now part) ≤ 32_768) × (counts .records < base + from) × (0 < left) × (left ≤ 16) ⌝ }
+    requires { ⌜ (from ≤ to) × (to ≤ length (now part)) × (base + length (now part) ≤ 32_768) × AtMost (base + from) (recordMore counts) × (0 < left) × (left ≤ 16) ⌝ }
     requires { ⌜ InForce (now table) marks (now shows) ⌝ }
-    ensures { λ r. ⌜ r ≡ counted (oneMore counts) (read (ctx tag (depthOf (left - 1)) 0 [] (entries (now (table .entry))) []) (base + from) (take (to - from) (drop from (now (part .entry))))) ⌝ }
+    ensures { λ r. ⌜ r ≡ counted (recordMore counts) (headers tag (take (to - from) (drop from (now (part .entry))))) (read (ctx tag (depthOf (left - 1)) 0 [] (entries (now (table .entry))) []) (base + from) (take (to - from) (drop from (now (part .entry))))) ⌝ }
     ensures { λ r. ⌜ CountsAtMost (base + to) r ⌝ }
 {
     let mut counts = counts;

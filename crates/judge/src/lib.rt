@@ -2,6 +2,7 @@
 ghost use mathlib.Core.Path.{_≡_};
 ghost use Prim.Native.Nat.{_-_};
 ghost use Rattle.format.specs.Judge.{judge};
+ghost use Rattle.format.specs.Headers.{headers, headersOf};
 ghost use Rattle.format.specs.Calls.{judgeAnswer};
 ghost use Rattle.judge.specs.Inside.{judgeInside};
 
@@ -60,9 +61,9 @@ pub fn levels_in(depth: u8) -> u8
 }
 
 // Items of an element of a tag and a depth, judged by themselves, where no token table is in force: the refusal of document 01's table, with its place and field,
-// or how many records they have. Nothing is written.
+// or how many records they have and how many items were judged. Nothing is written.
 pub fn judge_inside(element: u8, depth: u8, octets: &[u8]) -> ReadAnswer
-    ensures { λ r. ⌜ r ≡ judgeAnswer (judgeInside element depth (now (octets .entry))) ⌝ }
+    ensures { λ r. ⌜ r ≡ judgeAnswer (headers element (now (octets .entry))) (judgeInside element depth (now (octets .entry))) ⌝ }
 {
     if octets.len() > 32_768 {
         return ReadAnswer::NotRead(refuse(1, 0));
@@ -76,7 +77,10 @@ pub fn judge_inside(element: u8, depth: u8, octets: &[u8]) -> ReadAnswer
         0,
         element,
         left,
-        Counts { records: 0 },
+        Counts {
+            records: 0,
+            items: 0,
+        },
         none,
         marks,
         &shows,
@@ -85,7 +89,7 @@ pub fn judge_inside(element: u8, depth: u8, octets: &[u8]) -> ReadAnswer
 
 // The whole judgement of an object, which counts as an element with the tag 0 and the depth 0, whose one item is the top.
 pub fn judge(object: &[u8]) -> ReadAnswer
-    ensures { λ r. ⌜ r ≡ judgeAnswer (judge (now (object .entry))) ⌝ }
+    ensures { λ r. ⌜ r ≡ judgeAnswer (headersOf (now (object .entry))) (judge (now (object .entry))) ⌝ }
 {
     if object.len() == 0 {
         return ReadAnswer::NotRead(refuse(1, 0));

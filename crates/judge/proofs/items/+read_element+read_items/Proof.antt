@@ -2,7 +2,7 @@
 use native.Mathlib.Omega.{arith}
 use lib.ListN.{length, length-take, length-drop}
 use borrow.Author.Needs.{needs}
-use Rattle.judge.proofs.Turn.{Holds, at-start, end-in, end-all, end-most, is-bad, one-fits, item-in, item-from, item-to, item-less, item-few, past-skip, past-leaf, past-table, element-levels, element-bad, past-element, part-most}
+use Rattle.judge.proofs.Turn.{Holds, at-start, end-in, end-all, end-most, is-bad, item-fits, record-fits, item-in, item-from, item-to, item-less, item-few, past-skip, past-leaf, past-table, element-levels, element-bad, past-element, part-most}
 use Rattle.judge.specs.Says.{InForce}
 use Prim.Native.Nat.{ℕ, _+_, _-_, _<_}
 use borrow.Fn.Kinds.{In}
@@ -51,7 +51,7 @@ read-element-add-counts : (t : ℕ) → read-element-lts.Need-add-counts (
   read-items.Post,
 ) (read-element-at t) read-element.Post
 read-element-add-counts t c =
-    omega (arith, (c .before .before .before .pre) .1 .0)
+    omega (arith, (c .before .before .before .pre) .1 .0, (c .before .before .before .pre) .1 .0 .3 .records)
 
 read-element-sub-read-items : (t : ℕ) → read-element-lts.Need-sub-read-items (
   read-items-below t,
@@ -88,7 +88,7 @@ read-element-read-items-requires : (t : ℕ) → read-element-lts.Need-read-item
   read-items.Post,
 ) (read-element-at t) read-element.Post
 read-element-read-items-requires t c κs =
-    (omega (arith, (c .before .before .before .before .pre) .0, (c .before .before .before .before .pre) .1 .0), ((simp (length-take, length-drop) (omega (arith, (c .before .before .before .before .pre) .1 .0)), omega (arith, (c .before .before .before .before .pre) .1 .0), omega (arith, (c .before .before .before .before .pre) .1 .0)), c .before .before .before .before .pre .1 .1))
+    (omega (arith, (c .before .before .before .before .pre) .0, (c .before .before .before .before .pre) .1 .0), ((simp (length-take, length-drop) (omega (arith, (c .before .before .before .before .pre) .1 .0)), (c .before .before .before .before .pre) .1 .0 .3, omega (arith, (c .before .before .before .before .pre) .1 .0)), c .before .before .before .before .pre .1 .1))
 
 read-element-returns : (t : ℕ) → read-element-lts.Need-returns (
   read-items-below t,
@@ -221,6 +221,21 @@ read-items-add-at : (t : ℕ) → read-items-lts.Need-add-at (
 read-items-add-at t c =
     item-to _ _ _ _ _ _ _ _ _ _ ((c .before .before .before .before .before .before .before .loop) .inv .0) ((c .before .before .before .before .before .before .loop-test) .taken) _ ((c .before .before .before .before .read-item) .ensures) _ _ _ _ ((c .before .before .sort) .given .1) ((c .before .before .before .before .before .before .before .before .before .before .before .pre) .1 .0 .0)
 
+read-items-add-counts : (t : ℕ) → read-items-lts.Need-add-counts (
+  read-item-reads.Asked,
+  read-item-reads.Learnt,
+  tokens-of-reads.Asked,
+  tokens-of-reads.Learnt,
+  characters-of-reads.Asked,
+  characters-of-reads.Learnt,
+  read-element-below t,
+  read-element.Post,
+  end-items-reads.Asked,
+  end-items-reads.Learnt,
+) (read-items-at t) read-items.Post read-items-Inv-loop read-items-μ-loop
+read-items-add-counts t c =
+    item-fits _ _ _ _ _ _ _ _ _ _ ((c .before .before .before .before .before .before .before .before .loop) .inv .0) ((c .before .before .before .before .before .before .before .loop-test) .taken) _ ((c .before .before .before .before .before .read-item) .ensures) ((c .before .before .before .before .before .before .before .before .before .before .before .before .pre) .1 .0 .0)
+
 read-items-enum-told : (t : ℕ) → read-items-lts.Need-enum-told (
   read-item-reads.Asked,
   read-item-reads.Learnt,
@@ -248,7 +263,7 @@ read-items-loop-less : (t : ℕ) → read-items-lts.Need-loop-less (
   end-items-reads.Learnt,
 ) (read-items-at t) read-items.Post read-items-Inv-loop read-items-μ-loop
 read-items-loop-less t c =
-    item-less _ _ _ _ _ _ _ _ _ _ ((c .before .before .before .before .before .before .before .before .before .loop) .inv .0) ((c .before .before .before .before .before .before .before .before .loop-test) .taken) _ ((c .before .before .before .before .before .before .read-item) .ensures) _ _ _ _ ((c .before .before .before .before .sort) .given .1)
+    item-less _ _ _ _ _ _ _ _ _ _ ((c .before .before .before .before .before .before .before .before .before .before .loop) .inv .0) ((c .before .before .before .before .before .before .before .before .before .loop-test) .taken) _ ((c .before .before .before .before .before .before .before .read-item) .ensures) _ _ _ _ ((c .before .before .before .before .before .sort) .given .1)
 
 read-items-loop-again : (t : ℕ) → read-items-lts.Need-loop-again (
   read-item-reads.Asked,
@@ -263,7 +278,7 @@ read-items-loop-again : (t : ℕ) → read-items-lts.Need-loop-again (
   end-items-reads.Learnt,
 ) (read-items-at t) read-items.Post read-items-Inv-loop read-items-μ-loop
 read-items-loop-again t c =
-    (past-skip _ _ _ _ _ _ _ _ _ _ ((c .before .before .before .before .before .before .before .before .before .loop) .inv .0) ((c .before .before .before .before .before .before .before .before .loop-test) .taken) _ ((c .before .before .before .before .before .before .read-item) .ensures) _ _ _ _ ((c .before .before .before .before .sort) .given .1) ((c .enum-told) .given .1), c .before .before .before .before .before .before .before .before .before .loop .inv .1)
+    (past-skip _ _ _ _ _ _ _ _ _ _ ((c .before .before .before .before .before .before .before .before .before .before .loop) .inv .0) ((c .before .before .before .before .before .before .before .before .before .loop-test) .taken) _ ((c .before .before .before .before .before .before .before .read-item) .ensures) _ _ _ _ ((c .before .before .before .before .before .sort) .given .1) ((c .enum-told) .given .1), c .before .before .before .before .before .before .before .before .before .before .loop .inv .1)
 
 read-items-enum-told-2 : (t : ℕ) → read-items-lts.Need-enum-told-2 (
   read-item-reads.Asked,
@@ -279,7 +294,7 @@ read-items-enum-told-2 : (t : ℕ) → read-items-lts.Need-enum-told-2 (
 ) (read-items-at t) read-items.Post read-items-Inv-loop read-items-μ-loop
 read-items-enum-told-2 t c = search needs
 
-read-items-add-counts : (t : ℕ) → read-items-lts.Need-add-counts (
+read-items-add-counts-2 : (t : ℕ) → read-items-lts.Need-add-counts-2 (
   read-item-reads.Asked,
   read-item-reads.Learnt,
   tokens-of-reads.Asked,
@@ -291,8 +306,8 @@ read-items-add-counts : (t : ℕ) → read-items-lts.Need-add-counts (
   end-items-reads.Asked,
   end-items-reads.Learnt,
 ) (read-items-at t) read-items.Post read-items-Inv-loop read-items-μ-loop
-read-items-add-counts t c =
-    one-fits _ _ _ _ _ _ _ _ _ _ ((c .before .before .before .before .before .before .before .before .before .before .loop) .inv .0) ((c .before .before .before .before .before .before .before .before .before .loop-test) .taken) _ ((c .before .before .before .before .before .before .before .read-item) .ensures) ((c .before .before .before .before .before .before .before .before .before .before .before .before .before .before .pre) .1 .0 .0)
+read-items-add-counts-2 t c =
+    record-fits _ _ _ _ _ _ _ _ _ _ ((c .before .before .before .before .before .before .before .before .before .before .before .loop) .inv .0) ((c .before .before .before .before .before .before .before .before .before .before .loop-test) .taken) _ ((c .before .before .before .before .before .before .before .before .read-item) .ensures) ((c .before .before .before .before .before .before .before .before .before .before .before .before .before .before .before .pre) .1 .0 .0)
 
 read-items-loop-less-2 : (t : ℕ) → read-items-lts.Need-loop-less-2 (
   read-item-reads.Asked,
@@ -307,7 +322,7 @@ read-items-loop-less-2 : (t : ℕ) → read-items-lts.Need-loop-less-2 (
   end-items-reads.Learnt,
 ) (read-items-at t) read-items.Post read-items-Inv-loop read-items-μ-loop
 read-items-loop-less-2 t c =
-    item-less _ _ _ _ _ _ _ _ _ _ ((c .before .before .before .before .before .before .before .before .before .before .loop) .inv .0) ((c .before .before .before .before .before .before .before .before .before .loop-test) .taken) _ ((c .before .before .before .before .before .before .before .read-item) .ensures) _ _ _ _ ((c .before .before .before .before .before .sort) .given .1)
+    item-less _ _ _ _ _ _ _ _ _ _ ((c .before .before .before .before .before .before .before .before .before .before .before .loop) .inv .0) ((c .before .before .before .before .before .before .before .before .before .before .loop-test) .taken) _ ((c .before .before .before .before .before .before .before .before .read-item) .ensures) _ _ _ _ ((c .before .before .before .before .before .before .sort) .given .1)
 
 read-items-loop-again-2 : (t : ℕ) → read-items-lts.Need-loop-again-2 (
   read-item-reads.Asked,
@@ -322,7 +337,7 @@ read-items-loop-again-2 : (t : ℕ) → read-items-lts.Need-loop-again-2 (
   end-items-reads.Learnt,
 ) (read-items-at t) read-items.Post read-items-Inv-loop read-items-μ-loop
 read-items-loop-again-2 t c =
-    (past-leaf _ _ _ _ _ _ _ _ _ _ ((c .before .before .before .before .before .before .before .before .before .before .loop) .inv .0) ((c .before .before .before .before .before .before .before .before .before .loop-test) .taken) _ ((c .before .before .before .before .before .before .before .read-item) .ensures) _ _ _ _ ((c .before .before .before .before .before .sort) .given .1) ((c .before .enum-told2) .given .1), c .before .before .before .before .before .before .before .before .before .before .loop .inv .1)
+    (past-leaf _ _ _ _ _ _ _ _ _ _ ((c .before .before .before .before .before .before .before .before .before .before .before .loop) .inv .0) ((c .before .before .before .before .before .before .before .before .before .before .loop-test) .taken) _ ((c .before .before .before .before .before .before .before .before .read-item) .ensures) _ _ _ _ ((c .before .before .before .before .before .before .sort) .given .1) ((c .before .enum-told2) .given .1), c .before .before .before .before .before .before .before .before .before .before .before .loop .inv .1)
 
 read-items-enum-told-3 : (t : ℕ) → read-items-lts.Need-enum-told-3 (
   read-item-reads.Asked,
@@ -379,7 +394,7 @@ read-items-part-table-end : (t : ℕ) → read-items-lts.Need-part-table-end (
   end-items-reads.Learnt,
 ) (read-items-at t) read-items.Post read-items-Inv-loop read-items-μ-loop
 read-items-part-table-end t c =
-    item-in _ _ _ _ _ _ _ _ _ _ ((c .before .before .before .before .before .before .before .before .before .loop) .inv .0) ((c .before .before .before .before .before .before .before .before .loop-test) .taken) _ ((c .before .before .before .before .before .before .read-item) .ensures) _ _ _ _ ((c .before .before .before .before .sort) .given .1)
+    item-in _ _ _ _ _ _ _ _ _ _ ((c .before .before .before .before .before .before .before .before .before .before .loop) .inv .0) ((c .before .before .before .before .before .before .before .before .before .loop-test) .taken) _ ((c .before .before .before .before .before .before .before .read-item) .ensures) _ _ _ _ ((c .before .before .before .before .before .sort) .given .1)
 
 read-items-tokens-of-requires : (t : ℕ) → read-items-lts.Need-tokens-of-requires (
   read-item-reads.Asked,
@@ -422,7 +437,7 @@ read-items-loop-less-3 : (t : ℕ) → read-items-lts.Need-loop-less-3 (
   end-items-reads.Learnt,
 ) (read-items-at t) read-items.Post read-items-Inv-loop read-items-μ-loop
 read-items-loop-less-3 t c =
-    item-less _ _ _ _ _ _ _ _ _ _ ((c .before .before .before .before .before .before .before .before .before .before .before .before .loop) .inv .0) ((c .before .before .before .before .before .before .before .before .before .before .before .loop-test) .taken) _ ((c .before .before .before .before .before .before .before .before .before .read-item) .ensures) _ _ _ _ ((c .before .before .before .before .before .before .before .sort) .given .1)
+    item-less _ _ _ _ _ _ _ _ _ _ ((c .before .before .before .before .before .before .before .before .before .before .before .before .before .loop) .inv .0) ((c .before .before .before .before .before .before .before .before .before .before .before .before .loop-test) .taken) _ ((c .before .before .before .before .before .before .before .before .before .before .read-item) .ensures) _ _ _ _ ((c .before .before .before .before .before .before .before .before .sort) .given .1)
 
 read-items-loop-again-3 : (t : ℕ) → read-items-lts.Need-loop-again-3 (
   read-item-reads.Asked,
@@ -437,7 +452,7 @@ read-items-loop-again-3 : (t : ℕ) → read-items-lts.Need-loop-again-3 (
   end-items-reads.Learnt,
 ) (read-items-at t) read-items.Post read-items-Inv-loop read-items-μ-loop
 read-items-loop-again-3 t c =
-    (past-table _ _ _ _ _ _ _ _ _ _ ((c .before .before .before .before .before .before .before .before .before .before .before .before .loop) .inv .0) ((c .before .before .before .before .before .before .before .before .before .before .before .loop-test) .taken) _ ((c .before .before .before .before .before .before .before .before .before .read-item) .ensures) _ _ _ _ ((c .before .before .before .before .before .before .before .sort) .given .1) ((c .before .before .before .enum-told3) .given .1), record { marking = c .before .tokens-of .ensures; showing = c .characters-of .ensures })
+    (past-table _ _ _ _ _ _ _ _ _ _ ((c .before .before .before .before .before .before .before .before .before .before .before .before .before .loop) .inv .0) ((c .before .before .before .before .before .before .before .before .before .before .before .before .loop-test) .taken) _ ((c .before .before .before .before .before .before .before .before .before .before .read-item) .ensures) _ _ _ _ ((c .before .before .before .before .before .before .before .before .sort) .given .1) ((c .before .before .before .enum-told3) .given .1), record { marking = c .before .tokens-of .ensures; showing = c .characters-of .ensures })
 
 read-items-enum-told-4 : (t : ℕ) → read-items-lts.Need-enum-told-4 (
   read-item-reads.Asked,
@@ -466,7 +481,7 @@ read-items-read-element-requires : (t : ℕ) → read-items-lts.Need-read-elemen
   end-items-reads.Learnt,
 ) (read-items-at t) read-items.Post read-items-Inv-loop read-items-μ-loop
 read-items-read-element-requires t c κs =
-    (omega (arith, (c .before .before .before .before .before .before .before .before .before .before .before .before .before .before .pre) .0), ((omega arith, item-in _ _ _ _ _ _ _ _ _ _ ((c .before .before .before .before .before .before .before .before .before .before .loop) .inv .0) ((c .before .before .before .before .before .before .before .before .before .loop-test) .taken) _ ((c .before .before .before .before .before .before .before .read-item) .ensures) _ _ _ _ ((c .before .before .before .before .before .sort) .given .1), ((c .before .before .before .before .before .before .before .before .before .before .before .before .before .before .pre) .1 .0 .0), item-few _ _ _ _ _ _ _ _ _ _ ((c .before .before .before .before .before .before .before .before .before .before .loop) .inv .0) ((c .before .before .before .before .before .before .before .before .before .loop-test) .taken) _ ((c .before .before .before .before .before .before .before .read-item) .ensures) _ _ _ _ ((c .before .before .before .before .before .sort) .given .1), element-levels _ _ _ _ _ _ _ _ _ _ ((c .before .before .before .before .before .before .before .before .before .before .loop) .inv .0) ((c .before .before .before .before .before .before .before .before .before .loop-test) .taken) _ ((c .before .before .before .before .before .before .before .read-item) .ensures) _ _ _ _ ((c .before .before .before .before .before .sort) .given .1) ((c .before .enum-told4) .given .1), ((c .before .before .before .before .before .before .before .before .before .before .loop) .inv .0 .levels)), c .before .before .before .before .before .before .before .before .before .before .loop .inv .1))
+    (omega (arith, (c .before .before .before .before .before .before .before .before .before .before .before .before .before .before .before .pre) .0), ((omega arith, item-in _ _ _ _ _ _ _ _ _ _ ((c .before .before .before .before .before .before .before .before .before .before .before .loop) .inv .0) ((c .before .before .before .before .before .before .before .before .before .before .loop-test) .taken) _ ((c .before .before .before .before .before .before .before .before .read-item) .ensures) _ _ _ _ ((c .before .before .before .before .before .before .sort) .given .1), ((c .before .before .before .before .before .before .before .before .before .before .before .before .before .before .before .pre) .1 .0 .0), item-few _ _ _ _ _ _ _ _ _ _ ((c .before .before .before .before .before .before .before .before .before .before .before .loop) .inv .0) ((c .before .before .before .before .before .before .before .before .before .before .loop-test) .taken) _ ((c .before .before .before .before .before .before .before .before .read-item) .ensures) _ _ _ _ ((c .before .before .before .before .before .before .sort) .given .1), element-levels _ _ _ _ _ _ _ _ _ _ ((c .before .before .before .before .before .before .before .before .before .before .before .loop) .inv .0) ((c .before .before .before .before .before .before .before .before .before .before .loop-test) .taken) _ ((c .before .before .before .before .before .before .before .before .read-item) .ensures) _ _ _ _ ((c .before .before .before .before .before .before .sort) .given .1) ((c .before .enum-told4) .given .1), ((c .before .before .before .before .before .before .before .before .before .before .before .loop) .inv .0 .levels)), c .before .before .before .before .before .before .before .before .before .before .before .loop .inv .1))
 
 read-items-enum-known-refusal-2 : (t : ℕ) → read-items-lts.Need-enum-known-refusal-2 (
   read-item-reads.Asked,
@@ -495,7 +510,7 @@ read-items-returns-2 : (t : ℕ) → read-items-lts.Need-returns-2 (
   end-items-reads.Learnt,
 ) (read-items-at t) read-items.Post read-items-Inv-loop read-items-μ-loop
 read-items-returns-2 t c =
-    (element-bad _ _ _ _ _ _ _ _ _ _ ((c .before .before .before .before .before .before .before .before .before .before .before .before .before .before .loop) .inv .0) ((c .before .before .before .before .before .before .before .before .before .before .before .before .before .loop-test) .taken) _ ((c .before .before .before .before .before .before .before .before .before .before .before .read-item) .ensures) _ _ _ _ ((c .before .before .before .before .before .before .before .before .before .sort) .given .1) ((c .before .before .before .before .before .enum-told4) .given .1) _ ((c .before .before .before .read-element) .ensures .0) _ ((c .before .refusal2) .given .1), tt)
+    (element-bad _ _ _ _ _ _ _ _ _ _ ((c .before .before .before .before .before .before .before .before .before .before .before .before .before .before .before .loop) .inv .0) ((c .before .before .before .before .before .before .before .before .before .before .before .before .before .before .loop-test) .taken) _ ((c .before .before .before .before .before .before .before .before .before .before .before .before .read-item) .ensures) _ _ _ _ ((c .before .before .before .before .before .before .before .before .before .before .sort) .given .1) ((c .before .before .before .before .before .enum-told4) .given .1) _ ((c .before .before .before .read-element) .ensures .0) _ ((c .before .refusal2) .given .1), tt)
 
 read-items-enum-known-within : (t : ℕ) → read-items-lts.Need-enum-known-within (
   read-item-reads.Asked,
@@ -524,7 +539,7 @@ read-items-loop-less-4 : (t : ℕ) → read-items-lts.Need-loop-less-4 (
   end-items-reads.Learnt,
 ) (read-items-at t) read-items.Post read-items-Inv-loop read-items-μ-loop
 read-items-loop-less-4 t c =
-    item-less _ _ _ _ _ _ _ _ _ _ ((c .before .before .before .before .before .before .before .before .before .before .before .before .before .before .loop) .inv .0) ((c .before .before .before .before .before .before .before .before .before .before .before .before .before .loop-test) .taken) _ ((c .before .before .before .before .before .before .before .before .before .before .before .read-item) .ensures) _ _ _ _ ((c .before .before .before .before .before .before .before .before .before .sort) .given .1)
+    item-less _ _ _ _ _ _ _ _ _ _ ((c .before .before .before .before .before .before .before .before .before .before .before .before .before .before .before .loop) .inv .0) ((c .before .before .before .before .before .before .before .before .before .before .before .before .before .before .loop-test) .taken) _ ((c .before .before .before .before .before .before .before .before .before .before .before .before .read-item) .ensures) _ _ _ _ ((c .before .before .before .before .before .before .before .before .before .before .sort) .given .1)
 
 read-items-loop-again-4 : (t : ℕ) → read-items-lts.Need-loop-again-4 (
   read-item-reads.Asked,
@@ -539,7 +554,7 @@ read-items-loop-again-4 : (t : ℕ) → read-items-lts.Need-loop-again-4 (
   end-items-reads.Learnt,
 ) (read-items-at t) read-items.Post read-items-Inv-loop read-items-μ-loop
 read-items-loop-again-4 t c =
-    (past-element _ _ _ _ _ _ _ _ _ _ ((c .before .before .before .before .before .before .before .before .before .before .before .before .before .before .loop) .inv .0) ((c .before .before .before .before .before .before .before .before .before .before .before .before .before .loop-test) .taken) _ ((c .before .before .before .before .before .before .before .before .before .before .before .read-item) .ensures) _ _ _ _ ((c .before .before .before .before .before .before .before .before .before .sort) .given .1) ((c .before .before .before .before .before .enum-told4) .given .1) _ ((c .before .before .before .read-element) .ensures .0) _ ((c .before .within) .given .1) ((c .before .before .before .read-element) .ensures .1), c .before .before .before .before .before .before .before .before .before .before .before .before .before .before .loop .inv .1)
+    (past-element _ _ _ _ _ _ _ _ _ _ ((c .before .before .before .before .before .before .before .before .before .before .before .before .before .before .before .loop) .inv .0) ((c .before .before .before .before .before .before .before .before .before .before .before .before .before .before .loop-test) .taken) _ ((c .before .before .before .before .before .before .before .before .before .before .before .before .read-item) .ensures) _ _ _ _ ((c .before .before .before .before .before .before .before .before .before .before .sort) .given .1) ((c .before .before .before .before .before .enum-told4) .given .1) _ ((c .before .before .before .read-element) .ensures .0) _ ((c .before .within) .given .1) ((c .before .before .before .read-element) .ensures .1), c .before .before .before .before .before .before .before .before .before .before .before .before .before .before .before .loop .inv .1)
 
 read-items-end-items-requires : (t : ℕ) → read-items-lts.Need-end-items-requires (
   read-item-reads.Asked,
@@ -610,11 +625,12 @@ pub +read-element+read-items-spec : {M : Type 1} → statement M
     (read-items-shared-slice-read-tag t)
     (read-items-add-from t)
     (read-items-add-at t)
+    (read-items-add-counts t)
     (read-items-enum-told t)
     (read-items-loop-less t)
     (read-items-loop-again t)
     (read-items-enum-told-2 t)
-    (read-items-add-counts t)
+    (read-items-add-counts-2 t)
     (read-items-loop-less-2 t)
     (read-items-loop-again-2 t)
     (read-items-enum-told-3 t)
