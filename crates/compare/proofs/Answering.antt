@@ -25,6 +25,7 @@ use Rattle.format.specs.Judge.{isText, judge}
 use Rattle.format.specs.Judge.Judged.{accepted}
 use Rattle.format.specs.Meaning.{opens, isChild, valueIn, counted, attributesIn, cdataIn, leafOctets, means, meaningOf, normalOf}
 use Rattle.format.specs.Meaning.Meaning.{element, leaf}
+use Rattle.format.specs.Headers.{headersOf}
 use Rattle.format.specs.Calls.{judgeAnswer}
 use Rattle.format.specs.Same.{sameOctets, sameMeaning, sameAnswer, hasNormal, isNormal}
 use Rattle.reader.proofs.Reading.{was-refused, was-accepted, whole}
@@ -107,42 +108,42 @@ pub ruleset compared-ways = (compared-same, compared-different)
 
 -- ---- same
 
-module _ (a b : List ℕ) (ra : ReadAnswer) (ae : ra ≡ judgeAnswer (judge a)) where
+module _ (a b : List ℕ) (ra : ReadAnswer) (ae : ra ≡ judgeAnswer (headersOf a) (judge a)) where
   pub same-first : (n : Refusal) → ra ≡ NotRead n → FirstRefused n ≡ sameAnswer (judge a) (judge b)
   unfolding sameAnswer
-  same-first n q = sym (ap (λ j. sameAnswer j (judge b)) (was-refused (judge a) n (sym q ∙ ae)))
+  same-first n q = sym (ap (λ j. sameAnswer j (judge b)) (was-refused (headersOf a) (judge a) n (sym q ∙ ae)))
 
   pub same-twin : Octets a → (m : Counts) → ra ≡ Records m → (r : Bool) → r ≡ sameOctets a b → r ≡ true → Same ≡ sameAnswer (judge a) (judge b)
   same-twin oa m q r e h =
-      let x = was-accepted (judge a) m (sym q ∙ ae) in
+      let x = was-accepted (headersOf a) (judge a) m (sym q ∙ ae) in
       let twin : a ≡ b = same-octets a b (sym e ∙ h) in
       sym (ap (λ o. sameAnswer (judge a) (judge o)) (sym twin) ∙ same-exactly a a (x .tree) (x .tree) oa oa (x .is) (x .is) .1 refl)
 
-  module _ (m : Counts) (q : ra ≡ Records m) (rb : ReadAnswer) (be : rb ≡ judgeAnswer (judge b)) where
+  module _ (m : Counts) (q : ra ≡ Records m) (rb : ReadAnswer) (be : rb ≡ judgeAnswer (headersOf b) (judge b)) where
     pub same-second : (n : Refusal) → rb ≡ NotRead n → SecondRefused n ≡ sameAnswer (judge a) (judge b)
     unfolding sameAnswer
-    same-second n p = sym (ap₂ sameAnswer (was-accepted (judge a) m (sym q ∙ ae) .is) (was-refused (judge b) n (sym p ∙ be)))
+    same-second n p = sym (ap₂ sameAnswer (was-accepted (headersOf a) (judge a) m (sym q ∙ ae) .is) (was-refused (headersOf b) (judge b) n (sym p ∙ be)))
 
     pub same-both : (n : Counts) → rb ≡ Records n → (r : SameAnswer) → Compared a b r → r ≡ sameAnswer (judge a) (judge b)
     unfolding sameAnswer Compared
     same-both n p r c =
-        let x = was-accepted (judge a) m (sym q ∙ ae) in
-        let y = was-accepted (judge b) n (sym p ∙ be) in
+        let x = was-accepted (headersOf a) (judge a) m (sym q ∙ ae) in
+        let y = was-accepted (headersOf b) (judge b) n (sym p ∙ be) in
         c (x .tree) (y .tree) (x .is) (y .is) ∙ sym (ap₂ sameAnswer (x .is) (y .is))
 
 pub ruleset same-ways = (same-first, same-twin, same-second, same-both)
 
 -- ---- is_normal
 
-module _ (o : List ℕ) (r : ReadAnswer) (e : r ≡ judgeAnswer (judge o)) where
+module _ (o : List ℕ) (r : ReadAnswer) (e : r ≡ judgeAnswer (headersOf o) (judge o)) where
   pub normal-refused : (n : Refusal) → r ≡ NotRead n → false ≡ isNormal o
   unfolding isNormal hasNormal
-  normal-refused n q = sym (ap (hasNormal o) (was-refused (judge o) n (sym q ∙ e)))
+  normal-refused n q = sym (ap (hasNormal o) (was-refused (headersOf o) (judge o) n (sym q ∙ e)))
 
   pub normal-told : Octets o → (n : Counts) → r ≡ Records n → (a : Bool) → a ≡ shaped 0 0x7F o → a ≡ isNormal o
   unfolding isNormal hasNormal
   normal-told os n q a f =
-      let x = was-accepted (judge o) n (sym q ∙ e) in
+      let x = was-accepted (headersOf o) (judge o) n (sym q ∙ e) in
       f ∙ tests-agree {A = normalOf (x .tree) ≡ o} (shaped 0 0x7F o) (sameOctets (normalOf (x .tree)) o) (shaped-exactly o (x .tree) os (x .is)) (octets-exactly (normalOf (x .tree)) o) ∙ sym (ap (hasNormal o) (x .is))
 
 pub ruleset normal-ways = (normal-refused, normal-told)

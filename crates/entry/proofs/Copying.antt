@@ -19,7 +19,8 @@ use Rattle.format.specs.Tree.{count, recordsOf}
 use Rattle.format.specs.Judge.{Judged, judge}
 use Rattle.format.specs.Judge.Judged.{refused, accepted}
 use Rattle.format.specs.Writer.{tabled}
-use Rattle.format.specs.Calls.{Lists, places, row, readAnswer, readRecords, ReadAtMostClaim, ReadRecordsClaim}
+use Rattle.format.specs.Headers.{headersOf}
+use Rattle.format.specs.Calls.{Lists, places, row, countsOf, readAnswer, readRecords, ReadAtMostClaim, ReadRecordsClaim}
 use Rattle.format.proofs.Lays.{tabled-more, tabled-laid, places-lay}
 use Rattle.format.proofs.Tabled.{tabled-length}
 use Rattle.format.proofs.Spans.{records-count}
@@ -39,12 +40,12 @@ pub copied-length : (l : Lists) (i : ℕ) (slice : List Record) → length (copi
 copied-length l i slice = length-sets slice 0 (tabled (row l) i 0)
 
 -- as many records as the answer counts, and no more than the places
-many-handed : (n : ℕ) (j : Judged) → readOutcome (readAnswer n j) .count ≡ length (readRecords n j)
+many-handed : (n h : ℕ) (j : Judged) → readOutcome (readAnswer n h j) .count ≡ length (readRecords n j)
 unfolding readAnswer readRecords
-many-handed n (refused r) = refl
-many-handed n (accepted t) = go (leb (count t) n)
+many-handed n h (refused r) = refl
+many-handed n h (accepted t) = go (leb (count t) n)
   where
-    go : (b : Bool) → readOutcome (cond b (Records (record { records = count t })) (NotRead (refusal 14 0))) .count ≡ length (cond b (recordsOf t) [])
+    go : (b : Bool) → readOutcome (cond b (Records (countsOf h t)) (NotRead (refusal 14 0))) .count ≡ length (cond b (recordsOf t) [])
     go true = sym (records-count t 1 0 0)
     go false = refl
 
@@ -66,7 +67,7 @@ module _ (o : List ℕ) (slice : List Record) (l l′ : Lists) (a : ReadAnswer) 
   rs = readRecords n (judge o)
 
   many-is : many ≡ length rs
-  many-is = e ∙ ap (λ r. readOutcome r .count) (c .answers) ∙ many-handed n (judge o)
+  many-is = e ∙ ap (λ r. readOutcome r .count) (c .answers) ∙ many-handed n (headersOf o) (judge o)
 
   pub can-copy : Copyable many l′ slice
   can-copy =

@@ -38,9 +38,9 @@ module _ (after : Lists) (slice′ : List Record) (r : ReadAnswer) where
   with-long c = rw judged at (c .fills)
 
 -- the lists have places, and the slice has not
-pub slice-not-counted : (after : Lists) (slice′ : List Record) → ReadRecordsClaim object two after short slice′ (Records (record { records = 2 })) → ⊥
+pub slice-not-counted : (after : Lists) (slice′ : List Record) → ReadRecordsClaim object two after short slice′ (Records (record { records = 2; items = 2 })) → ⊥
 slice-not-counted after slice′ c =
-    let h = with-short after slice′ (Records (record { records = 2 })) c .0 in
+    let h = with-short after slice′ (Records (record { records = 2; items = 2 })) c .0 in
     never (cc h)
 
 -- one record stored and then refused: the slice is too short, or a list

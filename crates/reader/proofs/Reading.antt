@@ -16,27 +16,29 @@ use Rattle.format.specs.Answers.{refusal}
 use Rattle.format.specs.Tree.{Items, count, records}
 use Rattle.format.specs.Judge.{Judged, judge, outermost}
 use Rattle.format.specs.Judge.Judged.{refused, accepted}
-use Rattle.format.specs.Calls.{Lists, places, lay, judgeAnswer, readAnswer, readRecords, ReadClaim, ReadAtMostClaim}
+use Rattle.format.specs.Headers.{headersOf}
+use Rattle.format.specs.Calls.{Lists, places, lay, countsOf, judgeAnswer, readAnswer, readRecords, ReadClaim, ReadAtMostClaim}
 use Rattle.format.proofs.Rules.{accepted-size, accepted-read}
 use Rattle.format.proofs.Headers.{few}
 use Rattle.reader.specs.declared.filling.Place.{Place}
 use Rattle.reader.specs.Filling.{Accepts, Fillable, Filled, Fills}
 
 -- what the judge's answer says of the judgement
-pub was-refused : (j : Judged) (r : Refusal) → NotRead r ≡ judgeAnswer j → j ≡ refused r
+pub was-refused : (h : ℕ) (j : Judged) (r : Refusal) → NotRead r ≡ judgeAnswer h j → j ≡ refused r
 unfolding judgeAnswer
-was-refused (refused q) r h = cc
-was-refused (accepted t) r h = never (cc)
+was-refused h (refused q) r e = cc
+was-refused h (accepted t) r e = never (cc)
 
-pub record Taken (j : Judged) (c : Counts) : Type 0 where
+pub record Taken (h : ℕ) (j : Judged) (c : Counts) : Type 0 where
   pub tree : Items
   pub is : j ≡ accepted tree
+  pub counts : c ≡ countsOf h tree
   pub many : c .records ≡ count tree
 
-pub was-accepted : (j : Judged) (c : Counts) → Records c ≡ judgeAnswer j → Taken j c
+pub was-accepted : (h : ℕ) (j : Judged) (c : Counts) → Records c ≡ judgeAnswer h j → Taken h j c
 unfolding judgeAnswer
-was-accepted (refused q) c h = never (cc)
-was-accepted (accepted t) c h = let e : c ≡ record { records = count t } = cc in record { tree = t; is = refl; many = ap (λ x. x .records) e }
+was-accepted h (refused q) c e = never (cc)
+was-accepted h (accepted t) c e = let f : c ≡ countsOf h t = cc in record { tree = t; is = refl; counts = f; many = ap (λ x. x .records) f }
 
 -- an accepted object is accepted as the items of the object
 pub whole : (o : List ℕ) (t : Items) → judge o ≡ accepted t → Accepts 0 1 0 o t
@@ -47,14 +49,14 @@ whole o t h = record { context = outermost; isElement = refl; isDepth = refl; re
 abbrev top : Place
 top = record { element = 0; number = 0; depth = 1; offset = 0; next = 0 }
 
-module _ (o : List ℕ) (most : ℕ) (l : Lists) (v : ReadAnswer) (e : v ≡ judgeAnswer (judge o)) where
+module _ (o : List ℕ) (most : ℕ) (l : Lists) (v : ReadAnswer) (e : v ≡ judgeAnswer (headersOf o) (judge o)) where
   pub read-refused : (r : Refusal) → v ≡ NotRead r → ReadAtMostClaim o most l l (NotRead r)
   unfolding readAnswer readRecords lay
-  read-refused r f = let j : judge o ≡ refused r = was-refused (judge o) r (sym f ∙ e) in record { answers = rw j; leaves = rw j }
+  read-refused r f = let j : judge o ≡ refused r = was-refused (headersOf o) (judge o) r (sym f ∙ e) in record { answers = rw j; leaves = rw j }
 
   module _ (c : Counts) (f : v ≡ Records c) where
-    taken : Taken (judge o) c
-    taken = was-accepted (judge o) c (sym f ∙ e)
+    taken : Taken (headersOf o) (judge o) c
+    taken = was-accepted (headersOf o) (judge o) c (sym f ∙ e)
 
     module _ (there n : ℕ) (et : there ≡ places l) (en : n ≡ min most there) where
       pub read-full : n < c .records → (x : Refusal) → x ≡ refusal 14 0 → ReadAtMostClaim o most l l (NotRead x)
@@ -81,8 +83,7 @@ module _ (o : List ℕ) (most : ℕ) (l : Lists) (v : ReadAnswer) (e : v ≡ jud
         read-filled l′ m g =
             let k : leb (count (taken .tree)) (min most (places l)) ≡ true = le-leb (count (taken .tree)) (min most (places l)) (omega (arith, taken .many)) in
             let d : Filled top (taken .tree) l l′ m = g (taken .tree) (whole o (taken .tree) (taken .is)) in
-            let same : c ≡ record { records = count (taken .tree) } = λ i. record { records = taken .many i } in
-            record { answers = rw (taken .is, k) (ap Records same); leaves = rw (taken .is, k) (d .laid) }
+            record { answers = rw (taken .is, k) (ap Records (taken .counts)); leaves = rw (taken .is, k) (d .laid) }
 
 -- the places of the tags' list are no limit
 pub read-whole : (o : List ℕ) (l l′ : Lists) (r : ReadAnswer) → ReadAtMostClaim o (length (l .tags)) l l′ r → ReadClaim o l l′ r

@@ -20,6 +20,7 @@ use Rattle.format.specs.Tree.{Items, kindOf, count, records}
 use Rattle.format.specs.Tree.Items.{end, item}
 use Rattle.format.specs.Judge.{isKnown, isItems, isTokens, isText, isValue, wrongIn, isTop, allowed, latest, stageAfter, limit, notAbove, shown, ofTop, rule, valueRule, first, kindRules, itemRules, own, late, lateBefore, lateAfter, broken, within, waits, next, unless, followed, joined, byKind, items, outermost, judge}
 use Rattle.format.specs.Judge.Judged.{refused, accepted}
+use Rattle.format.specs.Headers.{headersIn, headersOf}
 use Rattle.format.specs.Calls.{Lists, places, put, lay, readAnswer, readRecords, ReadClaim, ReadAtMostClaim, spanOf, bodyAt}
 use Rattle.format.specs.Lent.{six}
 
@@ -33,6 +34,10 @@ tree = item 0x03 2 (0x06 ∷ 0x02 ∷ 0x65 ∷ 0x6E ∷ []) (item 0x06 4 (0x65 �
 pub judged : judge object ≡ accepted tree
 unfolding among value headerSize bodySize layout token character single goesOn utf8 text entry orItself stands expanded present covers covered shownLength rows kindIn known attribute fits isKnown isItems isTokens isText isValue wrongIn isTop allowed latest stageAfter limit notAbove shown ofTop rule valueRule first kindRules itemRules own late lateBefore lateAfter broken within waits next unless followed joined byKind items outermost judge
 judged = refl
+
+headed : headersOf object ≡ 2
+unfolding headersIn value headerSize bodySize rows kindIn known attribute isItems
+headed = refl
 
 -- a creation time with wrong hours and minutes
 abbrev mistimed : List ℕ
@@ -80,9 +85,9 @@ module _ (after : Lists) (r : ReadAnswer) where
   unfolding readAnswer places count
   with-uneven c = rw judged at (c .answers)
 
-  with-two : ReadClaim object two after r → (r ≡ Records (record { records = 2 })) × (after ≡ put 1 inner (put 0 top two))
+  with-two : ReadClaim object two after r → (r ≡ Records (record { records = 2; items = 2 })) × (after ≡ put 1 inner (put 0 top two))
   unfolding readAnswer readRecords places lay count records kindOf attribute
-  with-two c = (rw judged at (c .answers), rw judged at (c .leaves))
+  with-two c = (rw (judged, headed) at (c .answers), rw judged at (c .leaves))
 
   with-three : ReadClaim object three after r → after ≡ put 1 inner (put 0 top three)
   unfolding readRecords places lay count records kindOf attribute
@@ -90,11 +95,11 @@ module _ (after : Lists) (r : ReadAnswer) where
 
 -- ---- read: records where there are too few places for them; the longest list for the places; the refusal at the object's end; one record written and then
 -- refused
-pub read-without-place : (after : Lists) → ReadClaim object one after (Records (record { records = 2 })) → ⊥
-read-without-place after c = let h = with-one after (Records (record { records = 2 })) c .0 in never (cc h)
+pub read-without-place : (after : Lists) → ReadClaim object one after (Records (record { records = 2; items = 2 })) → ⊥
+read-without-place after c = let h = with-one after (Records (record { records = 2; items = 2 })) c .0 in never (cc h)
 
-pub read-longest : (after : Lists) → ReadClaim object uneven after (Records (record { records = 2 })) → ⊥
-read-longest after c = let h = with-uneven after (Records (record { records = 2 })) c in never (cc h)
+pub read-longest : (after : Lists) → ReadClaim object uneven after (Records (record { records = 2; items = 2 })) → ⊥
+read-longest after c = let h = with-uneven after (Records (record { records = 2; items = 2 })) c in never (cc h)
 
 pub read-refused-at-end : (after : Lists) → ReadClaim object one after (NotRead (refusal 14 6)) → ⊥
 read-refused-at-end after c = let z : _≡_ {A = ℕ} 6 0 = ap (λ a. readOutcome a .place) (with-one after (NotRead (refusal 14 6)) c .0) in omega arith
@@ -112,8 +117,8 @@ read-without-field after c =
 
 -- the top alone, in the count or in the lists; the place of the tag for the start; the number of the record itself for its parent; a place behind the records
 -- that is cleared
-pub read-top-counted : (after : Lists) → ReadClaim object two after (Records (record { records = 1 })) → ⊥
-read-top-counted after c = let z : _≡_ {A = ℕ} 1 2 = ap (λ a. readOutcome a .count) (with-two after (Records (record { records = 1 })) c .0) in omega arith
+pub read-top-counted : (after : Lists) → ReadClaim object two after (Records (record { records = 1; items = 2 })) → ⊥
+read-top-counted after c = let z : _≡_ {A = ℕ} 1 2 = ap (λ a. readOutcome a .count) (with-two after (Records (record { records = 1; items = 2 })) c .0) in omega arith
 
 pub read-top-alone : (r : ReadAnswer) → ReadClaim object two (put 0 top two) r → ⊥
 read-top-alone r c = let z : _≡_ {A = ℕ} 9 6 = ap (λ l. getD (l .tags) 1 0) (with-two (put 0 top two) r c .1) in omega arith
@@ -127,6 +132,13 @@ read-own-parent after r e c = let z : _≡_ {A = ℕ} 0 1 = sym (ap (λ l. getD 
 pub read-cleared : (after : Lists) (r : ReadAnswer) → getD (after .kinds) 2 0 ≡ 0 → ReadClaim object three after r → ⊥
 read-cleared after r e c = let z : _≡_ {A = ℕ} 9 0 = sym (ap (λ l. getD (l .kinds) 2 0) (with-three after r c)) ∙ e in omega arith
 
+-- the items judged are left out, or only the outermost one is told
+pub read-items-untold : (after : Lists) → ReadClaim object two after (Records (record { records = 2; items = 0 })) → ⊥
+read-items-untold after c = let z : _≡_ {A = ℕ} 0 2 = ap (λ a. readOutcome a .items) (with-two after (Records (record { records = 2; items = 0 })) c .0) in omega arith
+
+pub read-inner-untold : (after : Lists) → ReadClaim object two after (Records (record { records = 2; items = 1 })) → ⊥
+read-inner-untold after c = let z : _≡_ {A = ℕ} 1 2 = ap (λ a. readOutcome a .items) (with-two after (Records (record { records = 2; items = 1 })) c .0) in omega arith
+
 -- ---- read_at_most: more records than the caller allows; a limit that the lists don't have the places for; the records left in spite of the refusal
 module _ (after : Lists) (r : ReadAnswer) where
   with-limit : ReadAtMostClaim object 1 two after r → (r ≡ NotRead (refusal 14 0)) × (after ≡ two)
@@ -137,11 +149,11 @@ module _ (after : Lists) (r : ReadAnswer) where
   unfolding readAnswer places count
   with-wide-limit c = rw judged at (c .answers)
 
-pub limit-unheeded : (after : Lists) → ReadAtMostClaim object 1 two after (Records (record { records = 2 })) → ⊥
-limit-unheeded after c = let h = with-limit after (Records (record { records = 2 })) c .0 in never (cc h)
+pub limit-unheeded : (after : Lists) → ReadAtMostClaim object 1 two after (Records (record { records = 2; items = 2 })) → ⊥
+limit-unheeded after c = let h = with-limit after (Records (record { records = 2; items = 2 })) c .0 in never (cc h)
 
-pub limit-for-places : (after : Lists) → ReadAtMostClaim object 2 one after (Records (record { records = 2 })) → ⊥
-limit-for-places after c = let h = with-wide-limit after (Records (record { records = 2 })) c in never (cc h)
+pub limit-for-places : (after : Lists) → ReadAtMostClaim object 2 one after (Records (record { records = 2; items = 2 })) → ⊥
+limit-for-places after c = let h = with-wide-limit after (Records (record { records = 2; items = 2 })) c in never (cc h)
 
 pub limit-overrun : (r : ReadAnswer) → ReadAtMostClaim object 1 two (put 1 inner (put 0 top two)) r → ⊥
 limit-overrun r c = let z : _≡_ {A = ℕ} 3 9 = ap (λ l. getD (l .tags) 0 0) (with-limit (put 1 inner (put 0 top two)) r c .1) in omega arith

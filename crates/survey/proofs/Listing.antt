@@ -27,6 +27,7 @@ use Rattle.format.specs.declared.ReadAnswer.the-variants.{Records, NotRead}
 use Rattle.format.specs.Tree.{Items}
 use Rattle.format.specs.Judge.{Judged, isKnown, isItems, judge}
 use Rattle.format.specs.Judge.Judged.{refused, accepted}
+use Rattle.format.specs.Headers.{headersOf}
 use Rattle.format.specs.Calls.{judgeAnswer}
 use Rattle.tags.proofs.Arms.{never}
 use Rattle.reader.proofs.Reading.{was-refused, was-accepted, whole}
@@ -132,23 +133,23 @@ pub ruleset step-ways = (step-unknown, step-picked, step-into, step-past)
 
 -- ---- find_first
 
-module _ (P : ℕ → ℕ → Bool) (o : List ℕ) (v : ReadAnswer) (e : v ≡ judgeAnswer (judge o)) where
+module _ (P : ℕ → ℕ → Bool) (o : List ℕ) (v : ReadAnswer) (e : v ≡ judgeAnswer (headersOf o) (judge o)) where
   pub first-refused : (r : Refusal) → v ≡ NotRead r → Refused r ≡ soughtIn P o
   unfolding soughtIn soughtAs
-  first-refused r q = rw (was-refused (judge o) r (sym q ∙ e))
+  first-refused r q = rw (was-refused (headersOf o) (judge o) r (sym q ∙ e))
 
   module _ (c : Counts) (q : v ≡ Records c) (s : Place) (w : ItemsLooked P 0 16 o 0 s) where
     place-told : s ≡ placeOf (placeAt P o)
     unfolding ItemsLooked placeAt
-    place-told = let t = was-accepted (judge o) c (sym q ∙ e) in w 1 (t .tree) (suc (length o)) refl (omega arith) (whole o (t .tree) (t .is))
+    place-told = let t = was-accepted (headersOf o) (judge o) c (sym q ∙ e) in w 1 (t .tree) (suc (length o)) refl (omega arith) (whole o (t .tree) (t .is))
 
     pub first-nowhere : s ≡ No-place → Nowhere ≡ soughtIn P o
     unfolding soughtIn soughtAs
-    first-nowhere z = rw (was-accepted (judge o) c (sym q ∙ e) .is, place-none (placeAt P o) (sym z ∙ place-told))
+    first-nowhere z = rw (was-accepted (headersOf o) (judge o) c (sym q ∙ e) .is, place-none (placeAt P o) (sym z ∙ place-told))
 
     pub first-at : (place : ℕ) → s ≡ Place-at place → At place ≡ soughtIn P o
     unfolding soughtIn soughtAs
-    first-at place z = rw (was-accepted (judge o) c (sym q ∙ e) .is, place-some (placeAt P o) place (sym z ∙ place-told))
+    first-at place z = rw (was-accepted (headersOf o) (judge o) c (sym q ∙ e) .is, place-some (placeAt P o) place (sym z ∙ place-told))
 
 pub ruleset first-ways = (first-refused, first-nowhere, first-at)
 

@@ -9,20 +9,20 @@ use lib.ListN.{length}
 use borrow.Author.Tests.{leb-true, leb-false, le-leb, lt-leb}
 use Rattle.octets.specs.declared.counts.Octets.{Octets as OctetCount}
 use Rattle.octets.specs.Counts.{sizeOf}
-use Rattle.octets.proofs.Tests.{never}
 use Rattle.format.specs.declared.Refusal.{Refusal}
 use Rattle.format.specs.declared.Counts.{Counts}
 use Rattle.format.specs.declared.ReadAnswer.{ReadAnswer}
 use Rattle.format.specs.declared.ReadAnswer.the-variants.{Records, NotRead}
 use Rattle.format.specs.Answers.{refusal}
 use Rattle.format.specs.Tree.{Items, count}
-use Rattle.format.specs.Judge.{Judged, judge}
-use Rattle.format.specs.Judge.Judged.{refused, accepted}
+use Rattle.format.specs.Judge.{judge}
+use Rattle.format.specs.Judge.Judged.{accepted}
 use Rattle.format.specs.Meaning.{normalOf}
 use Rattle.format.specs.Loaded.{storeOf}
+use Rattle.format.specs.Headers.{headers, headersOf}
 use Rattle.format.specs.Calls.{judgeAnswer, Lent, roomy, storedWithin}
 use Rattle.judge.specs.Inside.{judgeInside}
-use Rattle.reader.proofs.Reading.{was-refused, was-accepted}
+use Rattle.reader.proofs.Reading.{Taken, was-refused, was-accepted}
 use Rattle.survey.specs.declared.measure.Measured.{Measured}
 use Rattle.survey.specs.declared.measure.Measured.the-variants.{Over, Sizes}
 use Rattle.survey.specs.declared.Needed.the-variants.{Refused, Takes}
@@ -58,56 +58,39 @@ module _ (o : List ℕ) (m : Measured) (e : Measures o m) (b : Bool) (lent : Len
 
 -- ---- survey
 
-module _ (o : List ℕ) (v : ReadAnswer) (e : v ≡ judgeAnswer (judge o)) (lent : Lent) where
+module _ (o : List ℕ) (v : ReadAnswer) (e : v ≡ judgeAnswer (headersOf o) (judge o)) (lent : Lent) where
   pub survey-bad : (r : Refusal) → v ≡ NotRead r → Bad r ≡ surveyed lent (judge o)
-  unfolding judgeAnswer surveyed
-  survey-bad r f = go (judge o) refl
-    where
-      go : (j : Judged) → judge o ≡ j → Bad r ≡ surveyed lent (judge o)
-      go (refused x) j = let w : NotRead r ≡ NotRead x = sym f ∙ e ∙ rw j in rw j cc
-      go (accepted t) j = let w : NotRead r ≡ Records (record { records = count t }) = sym f ∙ e ∙ rw j in never (cc)
+  unfolding surveyed
+  survey-bad r f = rw (was-refused (headersOf o) (judge o) r (sym f ∙ e))
 
   module _ (c : Counts) (f : v ≡ Records c) where
-    record Judged-so : Type 0 where
-      tree : Items
-      judged : judge o ≡ accepted tree
-      many : c .records ≡ count tree
-
-    so : Judged-so
-    unfolding judgeAnswer
-    so = go (judge o) refl
-      where
-        go : (j : Judged) → judge o ≡ j → Judged-so
-        go (refused x) j = let w : Records c ≡ NotRead x = sym f ∙ e ∙ rw j in never (cc)
-        go (accepted t) j =
-            let w : Records c ≡ Records (record { records = count t }) = sym f ∙ e ∙ rw j in
-            let d : c ≡ record { records = count t } = cc in
-            record { tree = t; judged = j; many = ap (λ x. x .records) d }
+    so : Taken (headersOf o) (judge o) c
+    so = was-accepted (headersOf o) (judge o) c (sym f ∙ e)
 
     pub survey-full : lent .records < c .records → (x : Refusal) → x ≡ refusal 14 0 → Misfit x ≡ surveyed lent (judge o)
     unfolding surveyed
-    survey-full h x m = rw (m, so .judged, lt-leb (count (so .tree)) (lent .records) (omega (arith, so .many)))
+    survey-full h x m = rw (m, so .is, lt-leb (count (so .tree)) (lent .records) (omega (arith, so .many)))
 
     module _ (h : c .records ≤ lent .records) (m : Measured) (g : Measures o m) (b : Bool) (d : b ≡ sufficient m (lent .store) (lent .room)) where
       pub survey-fits : b ≡ true → Fits ≡ surveyed lent (judge o)
       unfolding surveyed
-      survey-fits q = rw (so .judged, le-leb (count (so .tree)) (lent .records) (omega (arith, so .many)), sym (measured o m g b lent d (so .tree) (so .judged)), q)
+      survey-fits q = rw (so .is, le-leb (count (so .tree)) (lent .records) (omega (arith, so .many)), sym (measured o m g b lent d (so .tree) (so .is)), q)
 
       pub survey-small : b ≡ false → (x : Refusal) → x ≡ refusal 15 0 → Misfit x ≡ surveyed lent (judge o)
       unfolding surveyed
-      survey-small q x y = rw (y, so .judged, le-leb (count (so .tree)) (lent .records) (omega (arith, so .many)), sym (measured o m g b lent d (so .tree) (so .judged)), q)
+      survey-small q x y = rw (y, so .is, le-leb (count (so .tree)) (lent .records) (omega (arith, so .many)), sym (measured o m g b lent d (so .tree) (so .is)), q)
 
 -- ---- survey_inside
 
-module _ (element depth : ℕ) (o : List ℕ) (v : ReadAnswer) (e : v ≡ judgeAnswer (judgeInside element depth o)) where
+module _ (element depth : ℕ) (o : List ℕ) (v : ReadAnswer) (e : v ≡ judgeAnswer (headers element o) (judgeInside element depth o)) where
   pub needed-refused : (r : Refusal) → v ≡ NotRead r → Refused r ≡ neededBy element (judgeInside element depth o)
   unfolding neededBy
-  needed-refused r f = rw (was-refused (judgeInside element depth o) r (sym f ∙ e))
+  needed-refused r f = rw (was-refused (headers element o) (judgeInside element depth o) r (sym f ∙ e))
 
   pub needed-items : (c : Counts) → v ≡ Records c → (m : Measured) → MeasuresInside element depth o m → Takes (c .records) m ≡ neededBy element (judgeInside element depth o)
   unfolding neededBy MeasuresInside
   needed-items c f m g =
-      let w = was-accepted (judgeInside element depth o) c (sym f ∙ e) in
+      let w = was-accepted (headers element o) (judgeInside element depth o) c (sym f ∙ e) in
       ap₂ (λ n x. Takes n x) (w .many) (g (w .tree) (w .is)) ∙ sym (ap (neededBy element) (w .is))
 
 pub ruleset needed-ways = (needed-refused, needed-items)
