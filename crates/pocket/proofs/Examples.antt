@@ -89,9 +89,9 @@ numbers-swapped e = let w : Programme ≡ Group = e in never (cc)
 -- ---- GateAnswer::outcome
 
 -- a refusal without its number, which is yes
-pub refusal-unnumbered : gateOutcome (No (refusal 19 4)) ≡ record { number = 0; place = 4; field = 0; count = 0 } → ⊥
+pub refusal-unnumbered : gateOutcome (No (refusal 19 4)) ≡ record { number = 0; place = 4; field = 0; count = 0; items = 0 } → ⊥
 refusal-unnumbered e = let z : _≡_ {A = ℕ} 19 0 = ap (λ o. o .number) e in omega arith
 
 -- the field of a time left out
-pub field-left-out : gateOutcome (No (wrongValue 4 2)) ≡ record { number = 9; place = 4; field = 0; count = 0 } → ⊥
+pub field-left-out : gateOutcome (No (wrongValue 4 2)) ≡ record { number = 9; place = 4; field = 0; count = 0; items = 0 } → ⊥
 field-left-out e = let z : _≡_ {A = ℕ} 2 0 = ap (λ o. o .field) e in omega arith

@@ -30,10 +30,10 @@ gateAnswer (Refused r) = No r
 gateAnswer Nowhere = Yes
 gateAnswer (At place) = No (refusal 19 place)
 
--- in document 01's numbers; yes counts nothing
+-- in document 01's numbers; nothing is counted
 abbrev pub gateOutcome : GateAnswer → Outcome
-gateOutcome Yes = record { number = 0; place = 0; field = 0; count = 0 }
-gateOutcome (No r) = record { number = r .number; place = r .place; field = r .field; count = 0 }
+gateOutcome Yes = record { number = 0; place = 0; field = 0; count = 0; items = 0 }
+gateOutcome (No r) = record { number = r .number; place = r .place; field = r .field; count = 0; items = 0 }
 
 unfoldable pub gateOf : DataType → List ℕ → GateAnswer
 gateOf d object = gateAnswer (soughtIn (offends d) object)

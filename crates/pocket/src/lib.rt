@@ -36,12 +36,14 @@ impl GateAnswer {
                 place: 0,
                 field: 0,
                 count: 0,
+                items: 0,
             },
             GateAnswer::No(refusal) => Outcome {
                 number: refusal.number,
                 place: refusal.place,
                 field: refusal.field,
                 count: 0,
+                items: 0,
             },
         }
     }
