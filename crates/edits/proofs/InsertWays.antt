@@ -14,13 +14,13 @@ use Rattle.octets.specs.Numbers.{Octets}
 use Rattle.octets.specs.Places.{between}
 use Rattle.text.specs.Tokens.{entries}
 use Rattle.judge.proofs.AllWays.{no-entries}
-use Rattle.format.specs.declared.ReadAnswer.{ReadAnswer}
-use Rattle.format.specs.declared.ReadAnswer.the-variants.{Records, NotRead}
+use Rattle.format.specs.declared.EditAnswer.{EditAnswer}
+use Rattle.format.specs.declared.EditAnswer.the-variants.{HasRecords, NotChanged}
 use Rattle.format.specs.Answers.{refusal}
 use Rattle.format.specs.Tree.{Items}
 use Rattle.format.specs.Judge.{rule, unless}
 use Rattle.format.specs.Judge.Judged.{refused, accepted}
-use Rattle.format.specs.Calls.{places, judgeAnswer}
+use Rattle.format.specs.Calls.{places, editAnswer}
 use Rattle.format.specs.State.{Memory, placesIn, packedStore, treeHeld}
 use Rattle.survey.specs.declared.measure.Measured.{Measured}
 use Rattle.survey.specs.declared.measure.Measured.the-variants.{Over, Sizes}
@@ -262,15 +262,15 @@ module _ (g : Gap) (i : ℕ) (o : List ℕ) (m : Memory) where
 
 -- ---- insert
 module _ (n i k : ℕ) (o : List ℕ) (m : Memory) (os : Octets (m .store)) (bo : Octets o) (r : Insertion) (e : r ≡ insertionOf n i k o m) where
-  pub refused-leaves : (z : ℕ) → r ≡ Refused z → (answer : ReadAnswer) → answer ≡ NotRead (refusal z 0) → EditClaim (insert i k o) n m m answer
-  unfolding left judgeAnswer
+  pub refused-leaves : (z : ℕ) → r ≡ Refused z → (answer : EditAnswer) → answer ≡ NotChanged (refusal z 0) → EditClaim (insert i k o) n m m answer
+  unfolding left editAnswer
   refused-leaves z q answer f = by (insertionOf n i k o m) (insertion-ends n i k o m os bo) (sym e ∙ q)
     where
       by : (y : Insertion) → Ends n i k o m os bo y → y ≡ Refused z → EditClaim (insert i k o) n m m answer
       by y (going g w) d = never (cc)
       by y (refused-so u w) d =
           let v : u ≡ z = cc in
-          record { answers = f ∙ (ap (λ j. NotRead (refusal j 0)) (sym v) ∙ sym (ap judgeAnswer w)); leaves = sym (ap (λ j. left j m) w) }
+          record { answers = f ∙ (ap (λ j. NotChanged (refusal j 0)) (sym v) ∙ sym (ap editAnswer w)); leaves = sym (ap (λ j. left j m) w) }
 
   module _ (g : Gap) (q : r ≡ Opens g) where
     goes : Going n i k o m os bo g
@@ -296,8 +296,8 @@ module _ (n i k : ℕ) (o : List ℕ) (m : Memory) (os : Octets (m .store)) (bo 
         put-asks n i k m (w .tree) (w .holds) os o bo (w .next) (w .found) (w .records) (w .sizes) (w .ready) (w .stored) (w .octets) (w .room) in
         subst (λ z. PutsIn z i o m) (sym (w .is)) asked
 
-    pub opens-leaves : (m′ : Memory) → PutIn g i o m m′ → EditClaim (insert i k o) n m m′ (Records (record { records = n + (g .records .to - g .records .from) }))
-    unfolding gapFor left judgeAnswer
+    pub opens-leaves : (m′ : Memory) → PutIn g i o m m′ → EditClaim (insert i k o) n m m′ (HasRecords (n + (g .records .to - g .records .from)))
+    unfolding gapFor left editAnswer
     opens-leaves m′ p =
         let w = goes in
         let put = subst (λ z. PutIn z i o m m′) (w .is) p in
@@ -306,4 +306,4 @@ module _ (n i k : ℕ) (o : List ℕ) (m : Memory) (os : Octets (m .store)) (bo 
         let c : g .records .to - g .records .from ≡ w .records = ap (λ z. z .records .to - z .records .from) (w .is) ∙ omega arith in
         let many = count-then n i k m (w .tree) (w .holds) os o bo (w .next) (w .found) (w .records) (w .sizes) (w .ready) in
         let all : n + (g .records .to - g .records .from) ≡ _ = ap (λ z. n + z) c ∙ sym many in
-        record { answers = ap (λ z. Records (record { records = z })) all ∙ sym (ap judgeAnswer ends); leaves = tree ∙ sym (ap (λ z. left z m) ends) }
+        record { answers = ap HasRecords all ∙ sym (ap editAnswer ends); leaves = tree ∙ sym (ap (λ z. left z m) ends) }

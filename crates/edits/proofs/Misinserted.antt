@@ -10,8 +10,8 @@ use Rattle.octets.specs.Header.{headerSize, bodySize, lengthField, framed}
 use Rattle.values.specs.Table.{rows, kindIn, known, attribute, defaults, defaultIn}
 use Rattle.values.specs.Values.{width, fits, meant, octetsOf, isDefault}
 use Rattle.values.specs.Calls.{defaultOctets}
-use Rattle.format.specs.declared.ReadAnswer.{ReadAnswer}
-use Rattle.format.specs.declared.ReadAnswer.the-variants.{Records, NotRead}
+use Rattle.format.specs.declared.EditAnswer.{EditAnswer}
+use Rattle.format.specs.declared.EditAnswer.the-variants.{HasRecords, NotChanged}
 use Rattle.format.specs.Answers.{refusal}
 use Rattle.format.specs.Tree.{Items, count, find, kindOf, records}
 use Rattle.format.specs.Tree.Items.{end, item}
@@ -21,7 +21,7 @@ use Rattle.format.specs.Meaning.{opens, isChild, valueIn, counted, attributesIn
 use Rattle.format.specs.Writer.{below, past, atTop, placed, bodyKeeps, keeps, isEnd, ruled, bodyIn, good, here, onward, walk, tree, toEnd, rebuilt}
 use Rattle.format.specs.Loaded.{stored, storeIn, loadedIn}
 use Rattle.format.specs.Same.{sameOctets}
-use Rattle.format.specs.Calls.{places, lay, roomy, judgeAnswer, treeGiven}
+use Rattle.format.specs.Calls.{places, lay, roomy, editAnswer, treeGiven}
 use Rattle.format.specs.State.{Memory, placesIn, normalBody, bodySizes, layTree, sameItems, kept, inOrder, treeHeld}
 use Rattle.state.specs.Taking.{overflow, settled, left}
 use Rattle.edits.specs.Tree.{from, changeAt, firstTag, firstInside, holding, before, putChild, children, isThere, isOneItem, insideOf, firstElement, elementOf, changed}
@@ -59,17 +59,17 @@ computed : Computed
 unfolding among value digits headerSize bodySize lengthField framed rows kindIn known attribute defaults defaultIn width fits meant octetsOf isDefault defaultOctets count find kindOf records isKnown isItems isTokens isText isValue isTop allowed latest stageAfter ofTop rule valueRule first kindRules itemRules own late lateBefore lateAfter broken within waits next unless followed joined byKind items opens isChild valueIn counted attributesIn cdataIn leafOctets means maybe rising encode below past atTop placed bodyKeeps keeps isEnd ruled bodyIn good here onward walk tree toEnd rebuilt stored storeIn loadedIn sameOctets places lay roomy treeGiven placesIn normalBody bodySizes layTree sameItems kept inOrder treeHeld overflow settled from changeAt firstTag firstInside holding before putChild children isThere isOneItem insideOf firstElement elementOf changed edited editedIn
 computed = record { put = refl; laid = refl; nowhere = refl; crowded = refl }
 
-abbrev numberOf : ReadAnswer → ℕ
-numberOf (Records n) = 0
-numberOf (NotRead r) = r .number
+abbrev numberOf : EditAnswer → ℕ
+numberOf (HasRecords n) = 0
+numberOf (NotChanged r) = r .number
 
 -- a place behind the last child element but one that there isn't
-pub place-invented : (m′ : Memory) → EditClaim (insert 0 1 service) 1 (topped (0 ∷ 9 ∷ [])) m′ (Records (record { records = 2 })) → ⊥
-unfolding judgeAnswer
-place-invented m′ c = let z : _≡_ {A = ℕ} 0 18 = ap numberOf (c .answers ∙ ap judgeAnswer (computed .nowhere)) in omega arith
+pub place-invented : (m′ : Memory) → EditClaim (insert 0 1 service) 1 (topped (0 ∷ 9 ∷ [])) m′ (HasRecords 2) → ⊥
+unfolding editAnswer
+place-invented m′ c = let z : _≡_ {A = ℕ} 0 18 = ap numberOf (c .answers ∙ ap editAnswer (computed .nowhere)) in omega arith
 
 -- the size of the element around it as it was
-pub size-left : (a : ReadAnswer) → EditClaim (insert 0 0 service) 1 (topped (0 ∷ 9 ∷ [])) (filled (0 ∷ 0 ∷ [])) a → ⊥
+pub size-left : (a : EditAnswer) → EditClaim (insert 0 0 service) 1 (topped (0 ∷ 9 ∷ [])) (filled (0 ∷ 0 ∷ [])) a → ⊥
 unfolding left
 size-left a c =
     let e = c .leaves ∙ (ap (λ j. left j (topped (0 ∷ 9 ∷ []))) (computed .put) ∙ computed .laid) in
@@ -77,12 +77,12 @@ size-left a c =
     omega arith
 
 -- the list of the sizes of bodies not counted among the places
-pub sizes-uncounted : (m′ : Memory) → EditClaim (insert 0 0 service) 1 (topped (0 ∷ [])) m′ (Records (record { records = 2 })) → ⊥
-unfolding judgeAnswer
-sizes-uncounted m′ c = let z : _≡_ {A = ℕ} 0 14 = ap numberOf (c .answers ∙ ap judgeAnswer (computed .crowded)) in omega arith
+pub sizes-uncounted : (m′ : Memory) → EditClaim (insert 0 0 service) 1 (topped (0 ∷ [])) m′ (HasRecords 2) → ⊥
+unfolding editAnswer
+sizes-uncounted m′ c = let z : _≡_ {A = ℕ} 0 14 = ap numberOf (c .answers ∙ ap editAnswer (computed .crowded)) in omega arith
 
 -- lists that are changed before 14
-pub changed-before-14 : (a : ReadAnswer) → EditClaim (insert 0 0 service) 1 (topped (0 ∷ [])) (filled (2 ∷ [])) a → ⊥
+pub changed-before-14 : (a : EditAnswer) → EditClaim (insert 0 0 service) 1 (topped (0 ∷ [])) (filled (2 ∷ [])) a → ⊥
 unfolding left
 changed-before-14 a c =
     let e = c .leaves ∙ ap (λ j. left j (topped (0 ∷ []))) (computed .crowded) in

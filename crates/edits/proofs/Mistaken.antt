@@ -11,8 +11,8 @@ use Rattle.octets.specs.Header.{headerSize, bodySize, lengthField, framed}
 use Rattle.values.specs.Table.{rows, kindIn, known, attribute, defaults, defaultIn}
 use Rattle.values.specs.Values.{width, fits, meant, octetsOf, isDefault}
 use Rattle.values.specs.Calls.{defaultOctets}
-use Rattle.format.specs.declared.ReadAnswer.{ReadAnswer}
-use Rattle.format.specs.declared.ReadAnswer.the-variants.{Records, NotRead}
+use Rattle.format.specs.declared.EditAnswer.{EditAnswer}
+use Rattle.format.specs.declared.EditAnswer.the-variants.{HasRecords, NotChanged}
 use Rattle.format.specs.Answers.{refusal}
 use Rattle.format.specs.Tree.{Items, count, find, kindOf, records}
 use Rattle.format.specs.Tree.Items.{end, item}
@@ -20,7 +20,7 @@ use Rattle.format.specs.Judge.{isKnown, isItems, isTokens, isText, isValue, isT
 use Rattle.format.specs.Judge.Judged.{refused, accepted}
 use Rattle.format.specs.Meaning.{tableIn, opens, isChild, valueIn, counted, attributesIn, cdataIn, leafOctets, means, maybe, rising, encode}
 use Rattle.format.specs.Loaded.{stored, storeIn, loadedIn}
-use Rattle.format.specs.Calls.{places, lay, roomy, judgeAnswer}
+use Rattle.format.specs.Calls.{places, lay, roomy, editAnswer}
 use Rattle.format.specs.State.{Memory, placesIn, normalBody, bodySizes, layTree}
 use Rattle.state.specs.Taking.{overflow, settled, takenIn, left, TakeInClaim}
 
@@ -65,29 +65,29 @@ unfolding among value digits headerSize bodySize lengthField framed rows kindIn 
 computed = record { taken = refl; laid = refl; over = refl; crowded = refl }
 
 -- what memory is left with
-leaves : (m′ : Memory) (a : ReadAnswer) → TakeInClaim object (asOctets 6) (blank nines) m′ a → m′ ≡ filled (4 ∷ 2 ∷ 0 ∷ 1 ∷ []) (1 ∷ 9 ∷ [])
+leaves : (m′ : Memory) (a : EditAnswer) → TakeInClaim object (asOctets 6) (blank nines) m′ a → m′ ≡ filled (4 ∷ 2 ∷ 0 ∷ 1 ∷ []) (1 ∷ 9 ∷ [])
 unfolding left
 leaves m′ a c = c .leaves ∙ (ap (λ j. left j (blank nines)) (computed .taken) ∙ computed .laid)
 
 -- a default counted in the sizes of the elements around it
-pub default-summed : (a : ReadAnswer) → TakeInClaim object (asOctets 6) (blank nines) (filled (7 ∷ 5 ∷ 3 ∷ 1 ∷ []) (1 ∷ 9 ∷ [])) a → ⊥
+pub default-summed : (a : EditAnswer) → TakeInClaim object (asOctets 6) (blank nines) (filled (7 ∷ 5 ∷ 3 ∷ 1 ∷ []) (1 ∷ 9 ∷ [])) a → ⊥
 default-summed a c = let z : _≡_ {A = ℕ} 7 4 = ap (λ m. getD (m .bodies) 0 0) (leaves _ a c) in omega arith
 
 -- the sizes of bodies as they were
-pub sizes-left : (a : ReadAnswer) → TakeInClaim object (asOctets 6) (blank nines) (filled nines (1 ∷ 9 ∷ [])) a → ⊥
+pub sizes-left : (a : EditAnswer) → TakeInClaim object (asOctets 6) (blank nines) (filled nines (1 ∷ 9 ∷ [])) a → ⊥
 sizes-left a c = let z : _≡_ {A = ℕ} 9 4 = ap (λ m. getD (m .bodies) 0 0) (leaves _ a c) in omega arith
 
-abbrev numberOf : ReadAnswer → ℕ
-numberOf (Records n) = 0
-numberOf (NotRead r) = r .number
+abbrev numberOf : EditAnswer → ℕ
+numberOf (HasRecords n) = 0
+numberOf (NotChanged r) = r .number
 
 -- a normal form for which the caller has no room
-pub room-passed : (m′ : Memory) → TakeInClaim object (asOctets 5) (blank nines) m′ (Records (record { records = 4 })) → ⊥
-unfolding judgeAnswer
-room-passed m′ c = let z : _≡_ {A = ℕ} 0 15 = ap numberOf (c .answers ∙ ap judgeAnswer (computed .over)) in omega arith
+pub room-passed : (m′ : Memory) → TakeInClaim object (asOctets 5) (blank nines) m′ (HasRecords 4) → ⊥
+unfolding editAnswer
+room-passed m′ c = let z : _≡_ {A = ℕ} 0 15 = ap numberOf (c .answers ∙ ap editAnswer (computed .over)) in omega arith
 
 -- memory that is laid over before 15
-pub laid-before-15 : (a : ReadAnswer) → TakeInClaim object (asOctets 5) (blank nines) (filled (4 ∷ 2 ∷ 0 ∷ 1 ∷ []) (1 ∷ 9 ∷ [])) a → ⊥
+pub laid-before-15 : (a : EditAnswer) → TakeInClaim object (asOctets 5) (blank nines) (filled (4 ∷ 2 ∷ 0 ∷ 1 ∷ []) (1 ∷ 9 ∷ [])) a → ⊥
 unfolding left
 laid-before-15 a c =
     let e = c .leaves ∙ ap (λ j. left j (blank nines)) (computed .over) in
@@ -95,6 +95,6 @@ laid-before-15 a c =
     omega arith
 
 -- the list of the sizes of bodies not counted among the places
-pub sizes-uncounted : (m′ : Memory) → TakeInClaim object (asOctets 6) (blank (9 ∷ 9 ∷ 9 ∷ [])) m′ (Records (record { records = 4 })) → ⊥
-unfolding judgeAnswer
-sizes-uncounted m′ c = let z : _≡_ {A = ℕ} 0 14 = ap numberOf (c .answers ∙ ap judgeAnswer (computed .crowded)) in omega arith
+pub sizes-uncounted : (m′ : Memory) → TakeInClaim object (asOctets 6) (blank (9 ∷ 9 ∷ 9 ∷ [])) m′ (HasRecords 4) → ⊥
+unfolding editAnswer
+sizes-uncounted m′ c = let z : _≡_ {A = ℕ} 0 14 = ap numberOf (c .answers ∙ ap editAnswer (computed .crowded)) in omega arith

@@ -14,15 +14,15 @@ use Rattle.octets.specs.Counts.{asOctets}
 use Rattle.octets.specs.Numbers.{Octets}
 use Rattle.octets.specs.Places.{between}
 use Rattle.octets.proofs.Tests.{and-left, and-right, and-true}
-use Rattle.format.specs.declared.ReadAnswer.{ReadAnswer}
-use Rattle.format.specs.declared.ReadAnswer.the-variants.{Records, NotRead}
+use Rattle.format.specs.declared.EditAnswer.{EditAnswer}
+use Rattle.format.specs.declared.EditAnswer.the-variants.{HasRecords, NotChanged}
 use Rattle.format.specs.Answers.{refusal}
 use Rattle.format.specs.Tree.{Items, count}
 use Rattle.format.specs.Judge.{rule, unless}
 use Rattle.format.specs.Judge.Judged.{accepted}
 use Rattle.format.specs.Meaning.{means, encode}
 use Rattle.format.specs.Writer.{below, atTop, ruled}
-use Rattle.format.specs.Calls.{judgeAnswer}
+use Rattle.format.specs.Calls.{editAnswer}
 use Rattle.format.specs.State.{Memory, placesIn, packed, packedStore, layTree, treeHeld}
 use Rattle.format.proofs.Kept.{ruled-parts}
 use Rattle.format.proofs.Written.{Bytes, located-bytes}
@@ -247,13 +247,13 @@ module _ (n i : ℕ) (m : Memory) (t : Items) (holds : treeHeld n m ≡ some t) 
         let u = count-item (after .tag) (after .at) (after .body) (after .x) (after .y) (p .0) in
         omega (arith, packed-count less less-bytes rules, counted, many, after .number, site-fits n m t k (after .swapped) site-above)
 
-    pub gap-leaves : (m′ : Memory) → Resited g m m′ → EditClaim (remove i) n m m′ (Records (record { records = n - (g .records .from - i) }))
-    unfolding left judgeAnswer
+    pub gap-leaves : (m′ : Memory) → Resited g m m′ → EditClaim (remove i) n m m′ (HasRecords (n - (g .records .from - i)))
+    unfolding left editAnswer
     gap-leaves m′ r =
         let j : editedIn m (remove i) (treeHeld n m) ≡ accepted (packed less) = ap (editedIn m (remove i)) holds ∙ remove-leaves n m t holds os i there in
         let c = closed n used (length (encode (means [] less))) m (layTree (packed less) m) m′ h gone (after .holds) sizes-many (subst (λ z. Resited z m m′) (e ∙ gap-site) r) in
         record {
-          answers = (λ x. Records (record { records = sym left-records x })) ∙ sym (ap judgeAnswer j);
+          answers = ap HasRecords (sym left-records) ∙ sym (ap editAnswer j);
           leaves = c ∙ sym (ap (λ x. left x m) j);
         }
 
@@ -289,8 +289,8 @@ module _ (n i : ℕ) (m : Memory) (x : Filled) (e : x ≡ heldAs (treeHeld n m))
 
 -- ---- remove
 module _ (n i : ℕ) (m : Memory) (r : Removal) (e : r ≡ removalOf n i m) where
-  pub refused-leaves : (z : ℕ) → r ≡ Refused z → (answer : ReadAnswer) → answer ≡ NotRead (refusal z 0) → EditClaim (remove i) n m m answer
-  unfolding heldAs removalIn editedIn isThere unless rule left judgeAnswer
+  pub refused-leaves : (z : ℕ) → r ≡ Refused z → (answer : EditAnswer) → answer ≡ NotChanged (refusal z 0) → EditClaim (remove i) n m m answer
+  unfolding heldAs removalIn editedIn isThere unless rule left editAnswer
   refused-leaves z q answer f = go (treeHeld n m) refl (sym q ∙ e)
     where
       outside : (t : Items) → treeHeld n m ≡ some t → (g : Gap) (b : Bool) → ltb 0 i && ltb i n ≡ b → Refused z ≡ cond b (Closes g) (Refused 18)
@@ -299,10 +299,10 @@ module _ (n i : ℕ) (m : Memory) (r : Removal) (e : r ≡ removalOf n i m) wher
       outside t h g false c d =
           let n-is : count t ≡ n = held-count n m t h in
           let w : z ≡ 18 = cc in
-          rw (n-is, c) (record { answers = f ∙ ap (λ j. NotRead (refusal j 0)) w; leaves = refl })
+          rw (n-is, c) (record { answers = f ∙ ap (λ j. NotChanged (refusal j 0)) w; leaves = refl })
 
       go : (o : Option Items) → treeHeld n m ≡ o → Refused z ≡ removalIn n i m (heldAs o) → Leaves (editedIn m (remove i) o) m m answer
-      go none h d = let w : z ≡ 16 = cc in record { answers = f ∙ ap (λ j. NotRead (refusal j 0)) w; leaves = refl }
+      go none h d = let w : z ≡ 16 = cc in record { answers = f ∙ ap (λ j. NotChanged (refusal j 0)) w; leaves = refl }
       go (some t) h d = outside t h _ (ltb 0 i && ltb i n) refl d
 
   -- a gap is closed in a tree that memory holds, below its top
@@ -340,5 +340,5 @@ module _ (n i : ℕ) (m : Memory) (r : Removal) (e : r ≡ removalOf n i m) wher
     pub closes-order : (i ≤ g .records .from) × (g .records .from - i ≤ n)
     closes-order = let c = closing g q in gap-order n i m (c .tree) (c .holds) os (c .above) (c .number) g (c .is)
 
-    pub closes-leaves : (m′ : Memory) → Resited g m m′ → EditClaim (remove i) n m m′ (Records (record { records = n - (g .records .from - i) }))
+    pub closes-leaves : (m′ : Memory) → Resited g m m′ → EditClaim (remove i) n m m′ (HasRecords (n - (g .records .from - i)))
     closes-leaves m′ w = let c = closing g q in gap-leaves n i m (c .tree) (c .holds) os (c .above) (c .number) g (c .is) m′ w

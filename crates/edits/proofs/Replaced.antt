@@ -13,15 +13,15 @@ use Rattle.octets.specs.Numbers.{Octets}
 use Rattle.octets.proofs.Tests.{and-left, and-right}
 use Rattle.text.specs.Text.{text}
 use Rattle.text.specs.Tokens.{shownLength}
-use Rattle.format.specs.declared.ReadAnswer.{ReadAnswer}
-use Rattle.format.specs.declared.ReadAnswer.the-variants.{Records, NotRead}
+use Rattle.format.specs.declared.EditAnswer.{EditAnswer}
+use Rattle.format.specs.declared.EditAnswer.the-variants.{HasRecords, NotChanged}
 use Rattle.format.specs.Answers.{refusal}
 use Rattle.format.specs.Tree.{Items}
 use Rattle.format.specs.Judge.{Judged, rule, unless, shown}
 use Rattle.format.specs.Judge.Judged.{refused, accepted}
 use Rattle.format.specs.Writer.{atTop, ruled}
 use Rattle.format.specs.Loaded.{loadedIn}
-use Rattle.format.specs.Calls.{judgeAnswer}
+use Rattle.format.specs.Calls.{editAnswer}
 use Rattle.format.specs.State.{Memory, packed, packedStore, kept, treeHeld}
 use Rattle.state.specs.declared.Filled.{Filled}
 use Rattle.state.specs.declared.Filled.the-variants.{Apart, Upto}
@@ -45,23 +45,23 @@ use Rattle.edits.proofs.Only.Ends.{nowhere, unruled, ruled as ends-rule
 use Rattle.edits.proofs.NewTexts.{there-is, text-above, text-below, text-sized, text-judged, text-settable, text-set, text-count}
 
 -- ---- how an edit of a text ends, by what was planned
-untreed : (i : ℕ) (o : List ℕ) (m : Memory) (z : ℕ) (answer : ReadAnswer) → answer ≡ NotRead (refusal z 0) → Refused z ≡ replacementIn none (editedIn m (replace i o) none)
+untreed : (i : ℕ) (o : List ℕ) (m : Memory) (z : ℕ) (answer : EditAnswer) → answer ≡ NotChanged (refusal z 0) → Refused z ≡ replacementIn none (editedIn m (replace i o) none)
     → Leaves (editedIn m (replace i o) none) m m answer
-unfolding replacementIn editedIn left judgeAnswer
-untreed i o m z answer f h = let w : z ≡ 16 = cc in record { answers = f ∙ ap (λ k. NotRead (refusal k 0)) w; leaves = refl }
+unfolding replacementIn editedIn left editAnswer
+untreed i o m z answer f h = let w : z ≡ 16 = cc in record { answers = f ∙ ap (λ k. NotChanged (refusal k 0)) w; leaves = refl }
 
-refused-as : (m : Memory) (z k : ℕ) (answer : ReadAnswer) → answer ≡ NotRead (refusal z 0) → z ≡ k → Leaves (refused (refusal k 0)) m m answer
-unfolding left judgeAnswer
-refused-as m z k answer f w = record { answers = f ∙ ap (λ j. NotRead (refusal j 0)) w; leaves = refl }
+refused-as : (m : Memory) (z k : ℕ) (answer : EditAnswer) → answer ≡ NotChanged (refusal z 0) → z ≡ k → Leaves (refused (refusal k 0)) m m answer
+unfolding left editAnswer
+refused-as m z k answer f w = record { answers = f ∙ ap (λ j. NotChanged (refusal j 0)) w; leaves = refl }
 
-fitting-leaves : (m : Memory) (t u : Items) (z : ℕ) (answer : ReadAnswer) → answer ≡ NotRead (refusal z 0) → {j : Judged} → Fitting (asOctets 32_768) m u j
+fitting-leaves : (m : Memory) (t u : Items) (z : ℕ) (answer : EditAnswer) → answer ≡ NotChanged (refusal z 0) → {j : Judged} → Fitting (asOctets 32_768) m u j
     → Refused z ≡ replacementIn (some t) j → Leaves j m m answer
 unfolding replacementIn
 fitting-leaves m t u z answer f (crowded a) h = refused-as m z 14 answer f (cc)
 fitting-leaves m t u z answer f (overfull a b) h = refused-as m z 15 answer f (cc)
 fitting-leaves m t u z answer f (fits a b) h = let w : _≡_ {A = ℕ} 0 1 = cc in absurd (omega arith)
 
-ends-leaves : (i : ℕ) (o : List ℕ) (m : Memory) (t : Items) (z : ℕ) (answer : ReadAnswer) → answer ≡ NotRead (refusal z 0) → {j : Judged} → Ends m (replace i o) t j
+ends-leaves : (i : ℕ) (o : List ℕ) (m : Memory) (t : Items) (z : ℕ) (answer : EditAnswer) → answer ≡ NotChanged (refusal z 0) → {j : Judged} → Ends m (replace i o) t j
     → Refused z ≡ replacementIn (some t) j → Leaves j m m answer
 unfolding replacementIn
 ends-leaves i o m t z answer f (nowhere a) h = refused-as m z 18 answer f (cc)
@@ -202,7 +202,7 @@ module _ (n i : ℕ) (o : List ℕ) (m : Memory) (x : Filled) (e : x ≡ heldAs 
 
 -- ---- replace_text
 module _ (n i : ℕ) (o : List ℕ) (m : Memory) (r : Replacement) (e : r ≡ replacementIn (treeHeld n m) (editedIn m (replace i o) (treeHeld n m))) where
-  pub refused-leaves : (z : ℕ) → r ≡ Refused z → (answer : ReadAnswer) → answer ≡ NotRead (refusal z 0) → EditClaim (replace i o) n m m answer
+  pub refused-leaves : (z : ℕ) → r ≡ Refused z → (answer : EditAnswer) → answer ≡ NotChanged (refusal z 0) → EditClaim (replace i o) n m m answer
   refused-leaves z q answer f = go (treeHeld n m) (sym q ∙ e)
     where
       go : (a : Option Items) → Refused z ≡ replacementIn a (editedIn m (replace i o) a) → Leaves (editedIn m (replace i o) a) m m answer
@@ -232,8 +232,8 @@ module _ (n i : ℕ) (o : List ℕ) (m : Memory) (r : Replacement) (e : r ≡ re
           };
           bodies = bodies′;
           store = store′;
-        }) (Records (record { records = n }))
-    unfolding left judgeAnswer
+        }) (HasRecords n)
+    unfolding left editAnswer
     fits-leaves starts′ sizes′ bodies′ store′ s =
         let f = fine in
         let j : editedIn m (replace i o) (treeHeld n m) ≡ accepted (packed (changeAt (withBody o) i (f .tree))) =
@@ -241,6 +241,6 @@ module _ (n i : ℕ) (o : List ℕ) (m : Memory) (r : Replacement) (e : r ≡ re
         let c = text-count n i o m (f .tree) (f .holds) os ot (f .there) (f .rules) (f .fits) in
         let set-here = subst (λ z. TextSet n i z o (m .lists .tags) (m .lists .parents) (m .lists .starts) (m .lists .sizes) (m .bodies) (m .store) starts′ sizes′ bodies′ store′) (sym (f .taken)) s in
         record {
-          answers = (λ k. Records (record { records = sym c k })) ∙ sym (ap judgeAnswer j);
+          answers = ap HasRecords (sym c) ∙ sym (ap editAnswer j);
           leaves = text-set n i o m (f .tree) (f .holds) os ot (f .there) (f .rules) (f .fits) starts′ sizes′ bodies′ store′ set-here ∙ sym (ap (λ k. left k m) j);
         }

@@ -10,7 +10,7 @@ use lib.Seq.{sets}
 use Rattle.octets.specs.Counts.{sizeOf}
 use Rattle.octets.specs.declared.counts.Octets.{Octets as OctetCount}
 use Rattle.octets.specs.Numbers.{Octets}
-use Rattle.format.specs.declared.ReadAnswer.the-variants.{Records}
+use Rattle.format.specs.declared.EditAnswer.the-variants.{HasRecords}
 use Rattle.format.specs.declared.WriteAnswer.{WriteAnswer}
 use Rattle.format.specs.Answers.{readOutcome}
 use Rattle.format.specs.Tree.{Items, count}
@@ -18,7 +18,7 @@ use Rattle.format.specs.Judge.{Judged, judge}
 use Rattle.format.specs.Judge.Judged.{refused, accepted}
 use Rattle.format.specs.Meaning.{means, encode, meaning, meaningOf}
 use Rattle.format.specs.Loaded.{loadedOf}
-use Rattle.format.specs.Calls.{row, judgeAnswer, writeAnswer, writeOctets}
+use Rattle.format.specs.Calls.{row, editAnswer, writeAnswer, writeOctets}
 use Rattle.format.specs.State.{Memory, bodySizes, layTree, treeHeld}
 use Rattle.format.proofs.Loading.{loaded-means}
 use Rattle.format.proofs.Written.{located-bytes}
@@ -39,14 +39,14 @@ laid-stands : (m : Memory) (t : Items) → Standing t → Fits m t → treeHeld 
 laid-stands m t s f = laid-held m t (s .packs) (s .rules) (s .one) f
 
 -- ---- an answer with records is no refusal
-no-records : (j : Judged) (n : ℕ) → Records (record { records = n }) ≡ judgeAnswer j → (t : Items) × (j ≡ accepted t) × (n ≡ count t)
-unfolding judgeAnswer
+no-records : (j : Judged) (n : ℕ) → HasRecords n ≡ editAnswer j → (t : Items) × (j ≡ accepted t) × (n ≡ count t)
+unfolding editAnswer
 no-records (refused r) n h = let z : _≡_ {A = ℕ} 0 1 = cc in absurd (omega arith)
 no-records (accepted t) n h = (t, refl, ap (λ a. readOutcome a .count) h)
 
 -- ---- a tree that is taken in
 module _ (object : List ℕ) (os : Octets object) (t : Items) (h : judge object ≡ accepted t) (m m′ : Memory) (n : ℕ)
-    (most : OctetCount) (c : TakeInClaim object most m m′ (Records (record { records = n }))) where
+    (most : OctetCount) (c : TakeInClaim object most m m′ (HasRecords n)) where
   pub taken-held : treeHeld n m′ ≡ some (loadedOf t)
   unfolding left
   taken-held =
@@ -58,7 +58,7 @@ module _ (object : List ℕ) (os : Octets object) (t : Items) (h : judge object 
 
 -- ---- an edit
 module _ (e : Edit) (n n′ : ℕ) (m m′ : Memory) (t : Items) (os : Octets (m .store)) (brings : BringsOctets e) (h : treeHeld n m ≡ some t)
-    (c : EditClaim e n m m′ (Records (record { records = n′ }))) where
+    (c : EditClaim e n m m′ (HasRecords n′)) where
   pub record EditLeaves : Type 0 where
     pub tree : Items
     pub is : edited e t ≡ some tree

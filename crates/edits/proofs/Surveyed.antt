@@ -12,14 +12,14 @@ use Rattle.octets.specs.Counts.{sizeOf}
 use Rattle.octets.specs.Numbers.{Octets}
 use Rattle.octets.proofs.Tests.{and-left, and-right, never}
 use Rattle.format.specs.declared.Refusal.{Refusal}
-use Rattle.format.specs.declared.ReadAnswer.the-variants.{Records, NotRead}
+use Rattle.format.specs.declared.EditAnswer.the-variants.{HasRecords, NotChanged}
 use Rattle.format.specs.Answers.{refusal}
 use Rattle.format.specs.Tree.{Items, count}
 use Rattle.format.specs.Judge.{Judged, first, rule, unless, judge}
 use Rattle.format.specs.Judge.Judged.{refused, accepted}
 use Rattle.format.specs.Meaning.{normalOf}
 use Rattle.format.specs.Loaded.{storeOf, loadedOf}
-use Rattle.format.specs.Calls.{places, Lent, roomy, storedWithin, judgeAnswer}
+use Rattle.format.specs.Calls.{places, Lent, roomy, storedWithin, editAnswer}
 use Rattle.format.specs.State.{Memory, placesIn}
 use Rattle.format.proofs.Loading.{loaded-means, loaded-count}
 use Rattle.survey.specs.declared.Standing.{Standing}
@@ -101,14 +101,14 @@ module _ (o : List ℕ) (os : Octets o) (most : OctetCount) (m : Memory) where
     ends-so = subst (λ z. Ends o most m z (takenIn most m (judge o))) (sym e) ends
 
     -- nothing is touched on a refusal
-    untouched : (r : Refusal) → takenIn most m (judge o) ≡ refused r → TakeInClaim o most m m (NotRead r)
-    unfolding judgeAnswer left
+    untouched : (r : Refusal) → takenIn most m (judge o) ≡ refused r → TakeInClaim o most m m (NotChanged r)
+    unfolding editAnswer left
     untouched r q = record { answers = rw q; leaves = rw q }
 
-    pub take-bad : (r : Refusal) → v ≡ Bad r → TakeInClaim o most m m (NotRead r)
+    pub take-bad : (r : Refusal) → v ≡ Bad r → TakeInClaim o most m m (NotChanged r)
     take-bad r q = untouched r (is-bad ends-so r q)
 
-    pub take-misfit : (r : Refusal) → v ≡ Misfit r → TakeInClaim o most m m (NotRead r)
+    pub take-misfit : (r : Refusal) → v ≡ Misfit r → TakeInClaim o most m m (NotChanged r)
     take-misfit r q = untouched r (is-misfit ends-so r q)
 
     module _ (q : v ≡ Fits) where
@@ -128,9 +128,9 @@ module _ (o : List ℕ) (os : Octets o) (most : OctetCount) (m : Memory) where
             small = omega (arith, leb-true (length (normalOf t)) (min (most .0) 32_768) (and-right a b w));
           }
 
-      pub take-laid : (m′ : Memory) (n : ℕ) → LaysTree o m m′ n → TakeInClaim o most m m′ (Records (record { records = n }))
-      unfolding judgeAnswer left LaysTree
+      pub take-laid : (m′ : Memory) (n : ℕ) → LaysTree o m m′ n → TakeInClaim o most m m′ (HasRecords n)
+      unfolding editAnswer left LaysTree
       take-laid m′ n l =
           let f = does-fit ends-so q in
           let k = l (f .tree) (f .suits .judged) in
-          record { answers = rw (f .taken) (ap (λ i. Records (record { records = i })) (k .many)); leaves = rw (f .taken) (k .leaves) }
+          record { answers = rw (f .taken) (ap HasRecords (k .many)); leaves = rw (f .taken) (k .leaves) }

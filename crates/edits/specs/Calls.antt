@@ -3,7 +3,7 @@ use mathlib.Core.Option.{Option, none, some, Option·map}
 use mathlib.Core.List.{[]}
 use Prim.Native.Nat.{ℕ}
 use Rattle.octets.specs.Counts.{asOctets}
-use Rattle.format.specs.declared.ReadAnswer.{ReadAnswer}
+use Rattle.format.specs.declared.EditAnswer.{EditAnswer}
 use Rattle.format.specs.Answers.{refusal}
 use Rattle.format.specs.Tree.{Items}
 use Rattle.format.specs.Judge.{Judged, rule, unless}
@@ -24,5 +24,5 @@ editedIn m e none = refused (refusal 16 0)
 editedIn m e (some t) = unless (rule 18 0 (isThere e t)) (settled (asOctets 32_768) m (edited e t))
 
 -- of the first n records of any memory: no call asks that it holds a tree
-abbrev pub EditClaim : (e : Edit) (n : ℕ) (m m′ : Memory) (answer : ReadAnswer) → Type 0
+abbrev pub EditClaim : (e : Edit) (n : ℕ) (m m′ : Memory) (answer : EditAnswer) → Type 0
 EditClaim e n m m′ answer = Leaves (editedIn m e (treeHeld n m)) m m′ answer

@@ -19,8 +19,7 @@ use crate::refused;
 use crate::resite::Gap;
 use crate::resite::resite;
 use crate::taking::places_in;
-use format::Counts;
-use format::ReadAnswer;
+use format::EditAnswer;
 use format::octet_at;
 use octets::Lies;
 use octets::Octets;
@@ -441,7 +440,7 @@ pub fn insert(
     sizes: &mut [u16],
     bodies: &mut [u16],
     store: &mut [u8],
-) -> ReadAnswer
+) -> EditAnswer
     ensures { λ r. ⌜ EditClaim (insertion number place (now (element .entry))) n (memory (tags .entry) (kinds .entry) (depths .entry) (parents .entry) (starts .entry) (sizes .entry) (bodies .entry) (store .entry)) (memory (tags .exit) (kinds .exit) (depths .exit) (parents .exit) (starts .exit) (sizes .exit) (bodies .exit) (store .exit)) r ⌝ }
 {
     match plan_insertion(
@@ -474,7 +473,7 @@ pub fn insert(
                 store,
             );
             let more = gap.records.to - gap.records.from;
-            ReadAnswer::Records(Counts { records: n + more })
+            EditAnswer::HasRecords(n + more)
         }
     }
 }

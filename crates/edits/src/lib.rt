@@ -2,9 +2,9 @@
 // stands in specs/, that after any run of edits memory holds what a tree built afresh would take in proofs/. Each call judges with nothing written, an edit holds
 // memory first, and only then is changed what was lent. None asks anything of its arguments.
 ghost use mathlib.Core.Path.{_≡_};
-ghost use Rattle.format.specs.declared.ReadAnswer.the-variants.{NotRead};
+ghost use Rattle.format.specs.declared.EditAnswer.the-variants.{NotChanged};
 ghost use Rattle.format.specs.Answers.{refusal};
-use format::ReadAnswer;
+use format::EditAnswer;
 use format::refuse;
 
 mod extent;
@@ -24,8 +24,8 @@ pub use removing::remove;
 pub use replacing::replace_text;
 pub use taking::take_in;
 
-fn refused(number: u8) -> ReadAnswer
-    ensures { λ r. ⌜ r ≡ NotRead (refusal number 0) ⌝ }
+fn refused(number: u8) -> EditAnswer
+    ensures { λ r. ⌜ r ≡ NotChanged (refusal number 0) ⌝ }
 {
-    ReadAnswer::NotRead(refuse(number, 0))
+    EditAnswer::NotChanged(refuse(number, 0))
 }

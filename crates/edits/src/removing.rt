@@ -10,8 +10,7 @@ use crate::moving::Move;
 use crate::refused;
 use crate::resite::Gap;
 use crate::resite::resite;
-use format::Counts;
-use format::ReadAnswer;
+use format::EditAnswer;
 use format::octet_at;
 use octets::Octets;
 use state::Filled;
@@ -132,7 +131,7 @@ pub fn remove(
     sizes: &mut [u16],
     bodies: &mut [u16],
     store: &mut [u8],
-) -> ReadAnswer
+) -> EditAnswer
     ensures { λ r. ⌜ EditClaim (removal number) n (memory (tags .entry) (kinds .entry) (depths .entry) (parents .entry) (starts .entry) (sizes .entry) (bodies .entry) (store .entry)) (memory (tags .exit) (kinds .exit) (depths .exit) (parents .exit) (starts .exit) (sizes .exit) (bodies .exit) (store .exit)) r ⌝ }
 {
     match plan_removal(
@@ -161,7 +160,7 @@ pub fn remove(
                 store,
             );
             let gone = gap.records.from - number;
-            ReadAnswer::Records(Counts { records: n - gone })
+            EditAnswer::HasRecords(n - gone)
         }
     }
 }

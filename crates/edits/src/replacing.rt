@@ -14,8 +14,7 @@ use crate::raising::raise;
 use crate::raising::top_size;
 use crate::refused;
 use crate::shifting::shift_starts;
-use format::Counts;
-use format::ReadAnswer;
+use format::EditAnswer;
 use format::octet_at;
 use octets::Octets;
 use state::Filled;
@@ -188,7 +187,7 @@ pub fn replace_text(
     sizes: &mut [u16],
     bodies: &mut [u16],
     store: &mut [u8],
-) -> ReadAnswer
+) -> EditAnswer
     ensures { λ r. ⌜ EditClaim (replace number (now (text .entry))) n (memory (tags .entry) (kinds .entry) (depths .entry) (parents .entry) (starts .entry) (sizes .entry) (bodies .entry) (store .entry)) (memory (tags .entry) (kinds .entry) (depths .entry) (parents .entry) (starts .exit) (sizes .exit) (bodies .exit) (store .exit)) r ⌝ }
 {
     match plan_text(
@@ -218,7 +217,7 @@ pub fn replace_text(
                 bodies,
                 store,
             );
-            ReadAnswer::Records(Counts { records: n })
+            EditAnswer::HasRecords(n)
         }
     }
 }

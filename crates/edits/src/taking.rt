@@ -6,8 +6,7 @@ ghost use Rattle.format.specs.Calls.{places as placesOf};
 ghost use Rattle.format.specs.Lent.{lent};
 ghost use Rattle.state.specs.Taking.{memory, TakeInClaim};
 use crate::lay::lay;
-use format::Counts;
-use format::ReadAnswer;
+use format::EditAnswer;
 use octets::Octets;
 use reader::places;
 use survey::Standing;
@@ -45,13 +44,13 @@ pub fn take_in(
     bodies: &mut [u16],
     store: &mut [u8],
     most: Octets,
-) -> ReadAnswer
+) -> EditAnswer
     ensures { λ r. ⌜ TakeInClaim (now (object .entry)) most (memory (tags .entry) (kinds .entry) (depths .entry) (parents .entry) (starts .entry) (sizes .entry) (bodies .entry) (store .entry)) (memory (tags .exit) (kinds .exit) (depths .exit) (parents .exit) (starts .exit) (sizes .exit) (bodies .exit) (store .exit)) r ⌝ }
 {
     let there = places_in(tags, kinds, depths, parents, starts, sizes, bodies);
     match survey(object, there, Octets(store.len()), most) {
-        Standing::Bad(refusal) => ReadAnswer::NotRead(refusal),
-        Standing::Misfit(refusal) => ReadAnswer::NotRead(refusal),
+        Standing::Bad(refusal) => EditAnswer::NotChanged(refusal),
+        Standing::Misfit(refusal) => EditAnswer::NotChanged(refusal),
         Standing::Fits => {
             let records = lay(
                 object,
@@ -64,7 +63,7 @@ pub fn take_in(
                 bodies,
                 store,
             );
-            ReadAnswer::Records(Counts { records })
+            EditAnswer::HasRecords(records)
         }
     }
 }

@@ -9,9 +9,10 @@ use Rattle.octets.specs.Numbers.{value}
 use Rattle.octets.specs.Header.{headerSize, bodySize}
 use Rattle.values.specs.Table.{rows, kindIn, known, attribute}
 use Rattle.format.specs.declared.ReadAnswer.the-variants.{Records, NotRead}
+use Rattle.format.specs.declared.EditAnswer.the-variants.{HasRecords, NotChanged}
 use Rattle.format.specs.declared.WriteAnswer.the-variants.{Octets, NotWritten}
 use Rattle.format.specs.declared.SameAnswer.the-variants.{FirstRefused, SecondRefused}
-use Rattle.format.specs.Answers.{refusal, wrongValue, readOutcome, writeOutcome, sameOutcome}
+use Rattle.format.specs.Answers.{refusal, wrongValue, readOutcome, editOutcome, writeOutcome, sameOutcome}
 use Rattle.format.specs.Judge.{isItems}
 use Rattle.format.specs.Headers.{headersIn, headersOf}
 
@@ -20,6 +21,10 @@ pub read-outcomes : (readOutcome (NotRead (refusal 13 412)) ≡ record { number 
     × (readOutcome (NotRead (wrongValue 412 3)) ≡ record { number = 9; place = 412; field = 3; count = 0; items = 0 })
     × (readOutcome (Records (record { records = 7; items = 9 })) ≡ record { number = 0; place = 0; field = 0; count = 7; items = 9 })
 read-outcomes = (refl, refl, refl)
+
+pub edit-outcomes : (editOutcome (NotChanged (refusal 18 0)) ≡ record { number = 18; place = 0; field = 0; count = 0; items = 0 })
+    × (editOutcome (HasRecords 7) ≡ record { number = 0; place = 0; field = 0; count = 7; items = 0 })
+edit-outcomes = (refl, refl)
 
 pub write-outcomes : (writeOutcome (NotWritten (refusal 15 0)) ≡ record { number = 15; place = 0; field = 0; count = 0; items = 0 })
     × (writeOutcome (Octets (asOctets 6)) ≡ record { number = 0; place = 0; field = 0; count = 6; items = 0 })

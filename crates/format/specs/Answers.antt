@@ -4,6 +4,8 @@ use Prim.Native.Nat.{ℕ}
 use Rattle.format.specs.declared.Refusal.{Refusal}
 use Rattle.format.specs.declared.ReadAnswer.{ReadAnswer}
 use Rattle.format.specs.declared.ReadAnswer.the-variants.{Records, NotRead}
+use Rattle.format.specs.declared.EditAnswer.{EditAnswer}
+use Rattle.format.specs.declared.EditAnswer.the-variants.{HasRecords, NotChanged}
 use Rattle.format.specs.declared.WriteAnswer.{WriteAnswer}
 use Rattle.format.specs.declared.WriteAnswer.the-variants.{Octets, NotWritten}
 use Rattle.format.specs.declared.SameAnswer.{SameAnswer}
@@ -24,6 +26,10 @@ wrongValue place field = record { number = 9; place = place; field = field }
 abbrev pub readOutcome : ReadAnswer → Outcome
 readOutcome (Records counts) = record { number = 0; place = 0; field = 0; count = counts .records; items = counts .items }
 readOutcome (NotRead r) = record { number = r .number; place = r .place; field = r .field; count = 0; items = 0 }
+
+abbrev pub editOutcome : EditAnswer → Outcome
+editOutcome (HasRecords n) = record { number = 0; place = 0; field = 0; count = n; items = 0 }
+editOutcome (NotChanged r) = record { number = r .number; place = r .place; field = r .field; count = 0; items = 0 }
 
 abbrev pub writeOutcome : WriteAnswer → Outcome
 writeOutcome (Octets n) = record { number = 0; place = 0; field = 0; count = n .0; items = 0 }

@@ -14,6 +14,8 @@ use Rattle.format.specs.declared.Span.{Span}
 use Rattle.format.specs.declared.Counts.{Counts}
 use Rattle.format.specs.declared.ReadAnswer.{ReadAnswer}
 use Rattle.format.specs.declared.ReadAnswer.the-variants.{Records, NotRead}
+use Rattle.format.specs.declared.EditAnswer.{EditAnswer}
+use Rattle.format.specs.declared.EditAnswer.the-variants.{HasRecords, NotChanged}
 use Rattle.format.specs.declared.WriteAnswer.{WriteAnswer}
 use Rattle.format.specs.declared.WriteAnswer.the-variants.{Octets, NotWritten}
 use Rattle.format.specs.Answers.{refusal}
@@ -61,6 +63,11 @@ countsOf h t = record { records = count t; items = h }
 unfoldable pub judgeAnswer : (headers : ℕ) → Judged → ReadAnswer
 judgeAnswer h (refused r) = NotRead r
 judgeAnswer h (accepted t) = Records (countsOf h t)
+
+-- taking in and editing, by what they come to: the refusal, else how many records the tree has that memory then holds
+unfoldable pub editAnswer : Judged → EditAnswer
+editAnswer (refused r) = NotChanged r
+editAnswer (accepted t) = HasRecords (count t)
 
 -- read: the refusal of the judgement, else 14 where there are fewer places than records, else the records
 unfoldable pub readAnswer : (places headers : ℕ) → Judged → ReadAnswer

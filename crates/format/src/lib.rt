@@ -2,7 +2,7 @@
 ghost use mathlib.Core.Path.{_≡_};
 ghost use lib.ListN.{getD};
 ghost use Rattle.format.specs.Tree.{kindOf};
-ghost use Rattle.format.specs.Answers.{refusal, readOutcome, writeOutcome, sameOutcome};
+ghost use Rattle.format.specs.Answers.{refusal, readOutcome, editOutcome, writeOutcome, sameOutcome};
 ghost use Rattle.format.specs.Calls.{row};
 ghost use Rattle.format.specs.Lent.{lent};
 use octets::Octets;
@@ -101,6 +101,13 @@ pub enum ReadAnswer {
     NotRead(Refusal),
 }
 
+// The answer of taking in and of editing: how many records memory has then, or why nothing was changed. In memory every item has a record, so that items are no
+// count of their own (docs/DECISIONS.md).
+pub enum EditAnswer {
+    HasRecords(usize),
+    NotChanged(Refusal),
+}
+
 // The answer of writing and of normalising: how many octets were handed out, or why none were.
 pub enum WriteAnswer {
     Octets(Octets),
@@ -153,6 +160,29 @@ impl ReadAnswer {
                 items: counts.items,
             },
             ReadAnswer::NotRead(refusal) => Outcome {
+                number: refusal.number,
+                place: refusal.place,
+                field: refusal.field,
+                count: 0,
+                items: 0,
+            },
+        }
+    }
+}
+
+impl EditAnswer {
+    pub fn outcome(self) -> Outcome
+        ensures { λ r. ⌜ r ≡ editOutcome self ⌝ }
+    {
+        match self {
+            EditAnswer::HasRecords(count) => Outcome {
+                number: 0,
+                place: 0,
+                field: 0,
+                count,
+                items: 0,
+            },
+            EditAnswer::NotChanged(refusal) => Outcome {
                 number: refusal.number,
                 place: refusal.place,
                 field: refusal.field,

@@ -11,27 +11,27 @@ use borrow.Author.Tests.{leb-true, leb-false, le-leb}
 use Rattle.octets.specs.declared.counts.Octets.{Octets as OctetCount}
 use Rattle.octets.proofs.Tests.{and-left, and-right, and-true}
 use Rattle.format.specs.declared.Refusal.{Refusal}
-use Rattle.format.specs.declared.ReadAnswer.{ReadAnswer}
-use Rattle.format.specs.declared.ReadAnswer.the-variants.{Records, NotRead}
+use Rattle.format.specs.declared.EditAnswer.{EditAnswer}
+use Rattle.format.specs.declared.EditAnswer.the-variants.{HasRecords, NotChanged}
 use Rattle.format.specs.Answers.{refusal}
 use Rattle.format.specs.Tree.{Items, count}
 use Rattle.format.specs.Judge.{Judged, first, rule, unless}
 use Rattle.format.specs.Judge.Judged.{refused, accepted}
 use Rattle.format.specs.Meaning.{means, encode}
 use Rattle.format.specs.Loaded.{loadedOf}
-use Rattle.format.specs.Calls.{roomy, judgeAnswer}
+use Rattle.format.specs.Calls.{roomy, editAnswer}
 use Rattle.format.specs.State.{Memory, placesIn, packedStore}
 use Rattle.state.specs.Taking.{overflow, settled, takenIn, left, Leaves}
 use Rattle.state.proofs.HeldTree.{Fits}
 
-pub leaves-only : (outcome : Judged) (m m₁ m₂ : Memory) (a b : ReadAnswer) → Leaves outcome m m₁ a → Leaves outcome m m₂ b → (a ≡ b) × (m₁ ≡ m₂)
+pub leaves-only : (outcome : Judged) (m m₁ m₂ : Memory) (a b : EditAnswer) → Leaves outcome m m₁ a → Leaves outcome m m₂ b → (a ≡ b) × (m₁ ≡ m₂)
 leaves-only outcome m m₁ m₂ a b p q = (p .answers ∙ sym (q .answers), p .leaves ∙ sym (q .leaves))
 
-pub refused-kept : (outcome : Judged) (m m′ : Memory) (r : Refusal) → Leaves outcome m m′ (NotRead r) → m′ ≡ m
-unfolding judgeAnswer left
+pub refused-kept : (outcome : Judged) (m m′ : Memory) (r : Refusal) → Leaves outcome m m′ (NotChanged r) → m′ ≡ m
+unfolding editAnswer left
 refused-kept (refused q) m m′ r p = p .leaves
 refused-kept (accepted t) m m′ r p =
-    let e : NotRead r ≡ Records (record { records = _ }) = p .answers in
+    let e : NotChanged r ≡ HasRecords _ = p .answers in
     let z : _≡_ {A = ℕ} 0 1 = cc in
     absurd (omega arith)
 

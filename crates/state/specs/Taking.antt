@@ -10,7 +10,7 @@ use denote.Ref.{RefT}
 use Rattle.octets.specs.declared.counts.Octets.{Octets as OctetCount}
 use Rattle.octets.specs.Counts.{sizeOf, octetsWithin}
 use Rattle.format.specs.declared.Refusal.{Refusal}
-use Rattle.format.specs.declared.ReadAnswer.{ReadAnswer}
+use Rattle.format.specs.declared.EditAnswer.{EditAnswer}
 use Rattle.format.specs.declared.WriteAnswer.{WriteAnswer}
 use Rattle.format.specs.Answers.{refusal}
 use Rattle.format.specs.Tree.{Items, count}
@@ -18,7 +18,7 @@ use Rattle.format.specs.Judge.{Judged, first, rule, unless, judge}
 use Rattle.format.specs.Judge.Judged.{refused, accepted}
 use Rattle.format.specs.Meaning.{means, encode, normalOf}
 use Rattle.format.specs.Loaded.{loadedOf}
-use Rattle.format.specs.Calls.{Lent, roomy, fitsLent, judgeAnswer, writeAnswer, writeOctets, normalAnswer, handed}
+use Rattle.format.specs.Calls.{Lent, roomy, fitsLent, editAnswer, writeAnswer, writeOctets, normalAnswer, handed}
 use Rattle.format.specs.Lent.{lent}
 use Rattle.format.specs.State.{Memory, placesIn, bodySizes, packedStore, layTree, treeIn, treeHeld}
 
@@ -50,11 +50,11 @@ left (refused r) m = m
 left (accepted t) m = layTree t m
 
 -- the answer is how many records there are then, or the refusal
-pub record Leaves (outcome : Judged) (m m′ : Memory) (answer : ReadAnswer) : Type 0 where
-  pub answers : answer ≡ judgeAnswer outcome
+pub record Leaves (outcome : Judged) (m m′ : Memory) (answer : EditAnswer) : Type 0 where
+  pub answers : answer ≡ editAnswer outcome
   pub leaves : m′ ≡ left outcome m
 
-abbrev pub TakeInClaim : (object : List ℕ) (most : OctetCount) (m m′ : Memory) (answer : ReadAnswer) → Type 0
+abbrev pub TakeInClaim : (object : List ℕ) (most : OctetCount) (m m′ : Memory) (answer : EditAnswer) → Type 0
 TakeInClaim object most m m′ answer = Leaves (takenIn most m (judge object)) m m′ answer
 
 -- what is lent to normalise

@@ -16,8 +16,8 @@ use Rattle.octets.specs.Counts.{sizeOf}
 use Rattle.octets.proofs.Lists.{sets-none}
 use Rattle.octets.proofs.Tests.{and-right, never}
 use Rattle.format.specs.declared.Refusal.{Refusal}
-use Rattle.format.specs.declared.ReadAnswer.{ReadAnswer}
-use Rattle.format.specs.declared.ReadAnswer.the-variants.{Records, NotRead}
+use Rattle.format.specs.declared.EditAnswer.{EditAnswer}
+use Rattle.format.specs.declared.EditAnswer.the-variants.{HasRecords, NotChanged}
 use Rattle.format.specs.declared.WriteAnswer.{WriteAnswer}
 use Rattle.format.specs.declared.WriteAnswer.the-variants.{NotWritten, Octets as Handed}
 use Rattle.format.specs.Answers.{refusal, readOutcome}
@@ -26,7 +26,7 @@ use Rattle.format.specs.Judge.{Judged, first, rule, unless, judge}
 use Rattle.format.specs.Judge.Judged.{refused, accepted}
 use Rattle.format.specs.Meaning.{means, encode, normalOf}
 use Rattle.format.specs.Loaded.{storeOf, loadedOf}
-use Rattle.format.specs.Calls.{Lent, roomy, storedWithin, fitsLent, misfit, judgeAnswer, normalAnswer, handed, writeAnswer, writeOctets}
+use Rattle.format.specs.Calls.{Lent, roomy, storedWithin, fitsLent, misfit, editAnswer, normalAnswer, handed, writeAnswer, writeOctets}
 use Rattle.format.specs.State.{Memory, placesIn, packedStore, layTree, treeHeld}
 use Rattle.format.proofs.Loading.{loaded-means, loaded-count}
 use Rattle.survey.specs.Normal.{framedSize}
@@ -74,8 +74,8 @@ module _ (o : List ℕ) (os : Octets o) (m : Memory) (room : List ℕ) where
   is-taken (well t j) = refl
 
   -- read back by the answer of taking in
-  ill-told : {j : Judged} {a : WriteAnswer} {octets : List ℕ} {after : Memory} → Comes o m room j a octets after → (r : Refusal) → NotRead r ≡ judgeAnswer j → (NotWritten r ≡ a) × (octets ≡ [])
-  unfolding judgeAnswer
+  ill-told : {j : Judged} {a : WriteAnswer} {octets : List ℕ} {after : Memory} → Comes o m room j a octets after → (r : Refusal) → NotChanged r ≡ editAnswer j → (NotWritten r ≡ a) × (octets ≡ [])
+  unfolding editAnswer
   ill-told (ill x) r q = let e : r ≡ x = cc in (ap NotWritten e, refl)
   ill-told (well t j) r q = never cc
 
@@ -87,18 +87,18 @@ module _ (o : List ℕ) (os : Octets o) (m : Memory) (room : List ℕ) where
     pub answered : a ≡ Handed (sizeOf (normalOf item))
     pub given : octets ≡ normalOf item
 
-  well-told : {j : Judged} {a : WriteAnswer} {octets : List ℕ} {after : Memory} → Comes o m room j a octets after → (n : ℕ) → Records (record { records = n }) ≡ judgeAnswer j → Told n j a octets
-  unfolding judgeAnswer
+  well-told : {j : Judged} {a : WriteAnswer} {octets : List ℕ} {after : Memory} → Comes o m room j a octets after → (n : ℕ) → HasRecords n ≡ editAnswer j → Told n j a octets
+  unfolding editAnswer
   well-told (ill x) n q = never cc
   well-told (well t j) n q = record { item = t; judged = j; taken = refl; many = ap (λ a. readOutcome a .count) q; answered = refl; given = refl }
 
-  module _ (m′ : Memory) (answer : ReadAnswer) (c : TakeInClaim o (sizeOf room) m m′ answer) where
-    pub normal-refused : (r : Refusal) → answer ≡ NotRead r → NormaliseClaim o m m′ room room (NotWritten r)
+  module _ (m′ : Memory) (answer : EditAnswer) (c : TakeInClaim o (sizeOf room) m m′ answer) where
+    pub normal-refused : (r : Refusal) → answer ≡ NotChanged r → NormaliseClaim o m m′ room room (NotWritten r)
     normal-refused r q =
         let t = ill-told comes r (sym q ∙ c .answers) in
         record { answers = t .0; leaves = c .leaves ∙ is-taken comes; writes = sym (ap (sets room 0) (t .1) ∙ sets-none room 0) }
 
-    module _ (n : ℕ) (q : answer ≡ Records (record { records = n })) where
+    module _ (n : ℕ) (q : answer ≡ HasRecords n) where
       pub told : Told n (takenIn (sizeOf room) m (judge o)) (normalAnswer lent (judge o)) (handed lent normalOf (judge o))
       told = well-told comes n (sym q ∙ c .answers)
 

@@ -15,7 +15,7 @@ use crate::emit::emit_items;
 use crate::size::Sized;
 use crate::size::size_items;
 use edits::take_in;
-use format::ReadAnswer;
+use format::EditAnswer;
 use format::WriteAnswer;
 use format::refuse;
 use octets::Octets;
@@ -173,10 +173,10 @@ pub fn normalise(
         store,
         most,
     ) {
-        ReadAnswer::NotRead(refusal) => WriteAnswer::NotWritten(refusal),
-        ReadAnswer::Records(counts) => {
+        EditAnswer::NotChanged(refusal) => WriteAnswer::NotWritten(refusal),
+        EditAnswer::HasRecords(count) => {
             let reached = emit_items(
-                counts.records,
+                count,
                 tags,
                 depths,
                 starts,
