@@ -11,7 +11,7 @@ use Rattle.text.specs.Tokens.{entry, orItself, stands, expanded, starts, shownL
 use Rattle.values.specs.Table.{rows, kindIn, known, attribute, defaults, defaultIn}
 use Rattle.values.specs.Values.{width, fits, meant, octetsOf, isDefault}
 use Rattle.format.specs.declared.EditAnswer.the-variants.{HasRecords, NotChanged}
-use Rattle.format.specs.Answers.{refusal, readOutcome}
+use Rattle.format.specs.Answers.{refusal, editOutcome}
 use Rattle.format.specs.Tree.{find, kindOf, count, records}
 use Rattle.format.specs.Judge.{isKnown, isItems, isTokens, isText, isValue, isTop, allowed, latest, stageAfter, limit, notAbove, shown, first, rule, unless}
 use Rattle.format.specs.Meaning.{opens, isChild, valueIn, counted, attributesIn, cdataIn, leafOctets, means, maybe, rising, encode}
@@ -86,5 +86,5 @@ octets-left m′ c h =
 -- an element gone, and what is below it left
 pub inside-left : (m′ : Memory) → EditClaim (remove 5) 7 day m′ (HasRecords 6) → ⊥
 inside-left m′ c =
-    let e : _≡_ {A = ℕ} 6 5 = ap (λ a. readOutcome a .count) (c .answers ∙ computed .unnamed) in
+    let e : _≡_ {A = ℕ} 6 5 = ap (λ a. editOutcome a .count) (c .answers ∙ computed .unnamed) in
     omega arith

@@ -12,7 +12,7 @@ use Rattle.octets.specs.declared.counts.Octets.{Octets as OctetCount}
 use Rattle.octets.specs.Numbers.{Octets}
 use Rattle.format.specs.declared.EditAnswer.the-variants.{HasRecords}
 use Rattle.format.specs.declared.WriteAnswer.{WriteAnswer}
-use Rattle.format.specs.Answers.{readOutcome}
+use Rattle.format.specs.Answers.{editOutcome}
 use Rattle.format.specs.Tree.{Items, count}
 use Rattle.format.specs.Judge.{Judged, judge}
 use Rattle.format.specs.Judge.Judged.{refused, accepted}
@@ -42,7 +42,7 @@ laid-stands m t s f = laid-held m t (s .packs) (s .rules) (s .one) f
 no-records : (j : Judged) (n : ℕ) → HasRecords n ≡ editAnswer j → (t : Items) × (j ≡ accepted t) × (n ≡ count t)
 unfolding editAnswer
 no-records (refused r) n h = let z : _≡_ {A = ℕ} 0 1 = cc in absurd (omega arith)
-no-records (accepted t) n h = (t, refl, ap (λ a. readOutcome a .count) h)
+no-records (accepted t) n h = (t, refl, ap (λ a. editOutcome a .count) h)
 
 -- ---- a tree that is taken in
 module _ (object : List ℕ) (os : Octets object) (t : Items) (h : judge object ≡ accepted t) (m m′ : Memory) (n : ℕ)
