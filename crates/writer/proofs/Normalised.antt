@@ -20,7 +20,7 @@ use Rattle.format.specs.declared.EditAnswer.{EditAnswer}
 use Rattle.format.specs.declared.EditAnswer.the-variants.{HasRecords, NotChanged}
 use Rattle.format.specs.declared.WriteAnswer.{WriteAnswer}
 use Rattle.format.specs.declared.WriteAnswer.the-variants.{NotWritten, Octets as Handed}
-use Rattle.format.specs.Answers.{refusal, readOutcome}
+use Rattle.format.specs.Answers.{refusal, editOutcome}
 use Rattle.format.specs.Tree.{Items, count}
 use Rattle.format.specs.Judge.{Judged, first, rule, unless, judge}
 use Rattle.format.specs.Judge.Judged.{refused, accepted}
@@ -90,7 +90,7 @@ module _ (o : List ℕ) (os : Octets o) (m : Memory) (room : List ℕ) where
   well-told : {j : Judged} {a : WriteAnswer} {octets : List ℕ} {after : Memory} → Comes o m room j a octets after → (n : ℕ) → HasRecords n ≡ editAnswer j → Told n j a octets
   unfolding editAnswer
   well-told (ill x) n q = never cc
-  well-told (well t j) n q = record { item = t; judged = j; taken = refl; many = ap (λ a. readOutcome a .count) q; answered = refl; given = refl }
+  well-told (well t j) n q = record { item = t; judged = j; taken = refl; many = ap (λ a. editOutcome a .count) q; answered = refl; given = refl }
 
   module _ (m′ : Memory) (answer : EditAnswer) (c : TakeInClaim o (sizeOf room) m m′ answer) where
     pub normal-refused : (r : Refusal) → answer ≡ NotChanged r → NormaliseClaim o m m′ room room (NotWritten r)
