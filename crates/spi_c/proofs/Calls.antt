@@ -13,10 +13,11 @@ use Rattle.format.specs.declared.Outcome.{Outcome}
 use Rattle.format.specs.declared.SameOutcome.{SameOutcome}
 use Rattle.format.specs.declared.Span.{Span}
 use Rattle.format.specs.declared.ReadAnswer.{ReadAnswer}
+use Rattle.format.specs.declared.EditAnswer.{EditAnswer}
 use Rattle.format.specs.declared.WriteAnswer.{WriteAnswer}
 use Rattle.format.specs.declared.SameAnswer.{SameAnswer}
-use Rattle.format.specs.Answers.{readOutcome, writeOutcome, sameOutcome}
-use Rattle.format.specs.Calls.{Lists, places, ReadClaim, spanOf, judgeAnswer}
+use Rattle.format.specs.Answers.{readOutcome, editOutcome, writeOutcome, sameOutcome}
+use Rattle.format.specs.Calls.{Lists, places, ReadClaim, spanOf, editAnswer}
 use Rattle.format.specs.Judge.{judge, Judged}
 use Rattle.format.specs.Same.{sameAnswer}
 use Rattle.format.specs.State.{Memory, treeIn, treeHeld}
@@ -71,13 +72,13 @@ module _ (object : List ℕ) (m m′ : Memory) (room room′ : List ℕ) (answer
       }
 
 -- taking in and editing, whose outcomes are told by the laws of Told
-module _ (outcome : Judged) (m m′ : Memory) (answer : ReadAnswer) (claim : Leaves outcome m m′ answer) (tells : Told (readOutcome (judgeAnswer outcome))) (o : Outcome)
-    (told : o ≡ readOutcome answer) where
+module _ (outcome : Judged) (m m′ : Memory) (answer : EditAnswer) (claim : Leaves outcome m m′ answer) (tells : Told (editOutcome (editAnswer outcome))) (o : Outcome)
+    (told : o ≡ editOutcome answer) where
   pub leaves-small : Small o
-  leaves-small = outcome-is readOutcome _ _ (claim .answers) o told Small (told-small tells)
+  leaves-small = outcome-is editOutcome _ _ (claim .answers) o told Small (told-small tells)
 
   pub leaves-says : (a : ℕ) → a ≡ packedOutcome o → LeavesC outcome m m′ a
-  leaves-says a h = record { answers = outcome-packed readOutcome _ _ (claim .answers) o told packedOutcome a h; leaves = record { answers = refl; leaves = claim .leaves } }
+  leaves-says a h = record { answers = outcome-packed editOutcome _ _ (claim .answers) o told packedOutcome a h; leaves = record { answers = refl; leaves = claim .leaves } }
 
 module _ (n : ℕ) (m : Memory) (before after : List ℕ) (answer : WriteAnswer) (claim : WriteStateClaim n m before after answer) (o : Outcome) (told : o ≡ writeOutcome answer) where
   pub write-state-small : Small o

@@ -3,8 +3,9 @@ use mathlib.Core.Path.{_≡_, refl, subst}
 use mathlib.Core.Bool.{Bool, true, false, cond, _&&_}
 use mathlib.Core.Option.{Option, none, some}
 use mathlib.Core.List.{List, []}
-use Prim.Native.Nat.{ℕ, _≤_, _<_, min}
+use Prim.Native.Nat.{ℕ, _+_, _*_, _/_, _%_, _≤_, _<_, min}
 use native.Mathlib.Omega.{arith}
+use native.Mathlib.Nat.{div-add-mod', mod-lt, div-lt-iff-lt-mul}
 use lib.Dec.{eqb, leb}
 use lib.ListN.{length}
 use borrow.Author.Tests.{ne-eqb, leb-true}
@@ -18,16 +19,17 @@ use Rattle.format.specs.declared.SameOutcome.{SameOutcome}
 use Rattle.format.specs.declared.ReadAnswer.the-variants.{Records, NotRead}
 use Rattle.format.specs.declared.WriteAnswer.the-variants.{Octets, NotWritten}
 use Rattle.format.specs.declared.SameAnswer.the-variants.{Same, Different}
-use Rattle.format.specs.Answers.{refusal, readOutcome, writeOutcome, sameOutcome}
+use Rattle.format.specs.Answers.{refusal, readOutcome, editOutcome, writeOutcome, sameOutcome}
 use Rattle.format.specs.Tree.{Items, count}
+use Rattle.format.specs.Headers.{headersOf}
 use Rattle.format.specs.Judge.{Judged, rule, unless, outermost, read, judge}
 use Rattle.format.specs.Judge.Judged.{refused, accepted}
 use Rattle.format.specs.Meaning.{means, meaningOf, encode, normalOf}
 use Rattle.format.specs.Loaded.{storeOf}
-use Rattle.format.specs.Calls.{judgeAnswer, readAnswer, roomy, writeAnswer, Lent, storedWithin, fitsLent, misfit, normalAnswer}
+use Rattle.format.specs.Calls.{countsOf, readAnswer, editAnswer, roomy, writeAnswer, Lent, storedWithin, fitsLent, misfit, normalAnswer}
 use Rattle.format.specs.Same.{sameMeaning, sameAnswer}
 use Rattle.format.specs.State.{Memory, treeHeld}
-use Rattle.format.proofs.Headers.{few}
+use Rattle.format.proofs.Headers.{few-headers, few}
 use Rattle.format.proofs.Refusals.{refusal-inside}
 use Rattle.format.proofs.Rules.{accepted-size}
 use Rattle.format.proofs.Loading.{loaded-count}
@@ -64,18 +66,21 @@ pub record Kept (r : Refusal) : Type 0 where
 
 -- the outcomes that calls have: a count and no refusal, or a refusal and no count
 pub data Told : Outcome → Type 0 where
-  counts : (n : ℕ) → n < 0x100_0000_0000 → Told (record { number = 0; place = 0; field = 0; count = n })
-  refuses : (r : Refusal) → Kept r → Told (record { number = r .number; place = r .place; field = r .field; count = 0 })
+  counts : (n i : ℕ) → n < 0x100_0000_0000 → i < 0x1_0000 → Told (record { number = 0; place = 0; field = 0; count = n; items = i })
+  refuses : (r : Refusal) → Kept r → Told (record { number = r .number; place = r .place; field = r .field; count = 0; items = 0 })
 
 pub told-small : {o : Outcome} → Told o → Small o
-told-small (counts n l) = record { place = omega arith; count = omega arith }
-told-small (refuses r k) = record { place = omega arith; count = omega arith }
+told-small (counts n i l m) = record { place = omega arith; count = omega arith; items = m }
+told-small (refuses r k) = record { place = omega arith; count = omega arith; items = omega arith }
 
--- number, place, field and count are read back
+-- number, place, field, count and items are read back
 pub told-back : {o : Outcome} → Told o → outcomeIn (packedOutcome o) ≡ o
 unfolding packedOutcome outcomeIn
-told-back (counts n l) =
-    rw (packed-number 0 0 0 n (omega arith) (omega arith) (omega arith), packed-field 0 0 0 n (omega arith) (omega arith) (omega arith), packed-value 0 0 0 n (omega arith) (omega arith) (omega arith))
+told-back (counts n i l m) =
+    let upper : i / 0x100 < 0x100 = div-lt-iff-lt-mul {k = 0x100} {x = i} {y = 0x100} (omega arith) .1 (omega arith) in
+    let lower : i % 0x100 < 0x100 = mod-lt i (omega arith) in
+    let both : i / 0x100 * 0x100 + i % 0x100 ≡ i = div-add-mod' i 0x100 in
+    rw (packed-number 0 (i / 0x100) (i % 0x100) n upper lower l, packed-object 0 (i / 0x100) (i % 0x100) n upper lower l, packed-field 0 (i / 0x100) (i % 0x100) n upper lower l, packed-value 0 (i / 0x100) (i % 0x100) n upper lower l, both)
 told-back (refuses r k) =
     let e = ne-eqb (r .number) 0 (λ z. omega arith) in
     let low : r .field < 0x100 = omega (arith, k .field) in
@@ -137,16 +142,16 @@ late-refusal : (n : ℕ) → 1 ≤ n → n ≤ 18 → Kept (refusal n 0)
 late-refusal n l m = record { least = l; most = omega arith; place = omega arith; field = omega arith }
 
 -- ---- read
-read-cases : (n : ℕ) (o : List ℕ) (j : Judged) → judge o ≡ j → Told (readOutcome (readAnswer n j))
+read-cases : (n : ℕ) (o : List ℕ) (j : Judged) → judge o ≡ j → Told (readOutcome (readAnswer n (headersOf o) j))
 unfolding readAnswer
 read-cases n o (refused r) h = refuses r (judged-kept o r h)
 read-cases n o (accepted t) h = go (leb (count t) n)
   where
-    go : (b : Bool) → Told (readOutcome (cond b (Records (record { records = count t })) (NotRead (refusal 14 0))))
-    go true = counts (count t) (omega (arith, accepted-few o t h))
+    go : (b : Bool) → Told (readOutcome (cond b (Records (countsOf (headersOf o) t)) (NotRead (refusal 14 0))))
+    go true = counts (count t) (headersOf o) (omega (arith, accepted-few o t h)) (omega (arith, few-headers o t h .half, accepted-size o t h .1))
     go false = refuses (refusal 14 0) (late-refusal 14 (omega arith) (omega arith))
 
-pub read-told : (n : ℕ) (o : List ℕ) → Told (readOutcome (readAnswer n (judge o)))
+pub read-told : (n : ℕ) (o : List ℕ) → Told (readOutcome (readAnswer n (headersOf o) (judge o)))
 read-told n o = read-cases n o (judge o) refl
 
 -- ---- write
@@ -160,7 +165,7 @@ write-told room none = refuses (refusal 16 0) (late-refusal 16 (omega arith) (om
 write-told room (some t) = go (roomy room (encode (means [] t))) refl
   where
     go : (b : Bool) → roomy room (encode (means [] t)) ≡ b → Told (writeOutcome (cond b (Octets (sizeOf (encode (means [] t)))) (NotWritten (refusal 15 0))))
-    go true e = counts (length (encode (means [] t))) (omega (arith, roomy-small room (encode (means [] t)) e))
+    go true e = counts (length (encode (means [] t))) 0 (omega (arith, roomy-small room (encode (means [] t)) e)) (omega arith)
     go false e = refuses (refusal 15 0) (late-refusal 15 (omega arith) (omega arith))
 
 -- ---- normalise
@@ -185,30 +190,30 @@ normal-cases lent o (refused r) h = refuses r (judged-kept o r h)
 normal-cases lent o (accepted t) h = go (fitsLent lent t) refl
   where
     go : (b : Bool) → fitsLent lent t ≡ b → Told (writeOutcome (cond b (Octets (sizeOf (normalOf t))) (misfit lent t)))
-    go true e = counts (length (normalOf t)) (omega (arith, fits-small lent t e))
+    go true e = counts (length (normalOf t)) 0 (omega (arith, fits-small lent t e)) (omega arith)
     go false e = misfit-told lent t
 
 pub normal-told : (lent : Lent) (o : List ℕ) → Told (writeOutcome (normalAnswer lent (judge o)))
 normal-told lent o = normal-cases lent o (judge o) refl
 
 -- ---- taking in and editing: a tree that is laid has as many records as an object may have, or at most two for each octet of its normal form
-fitting-told : {most : OctetCount} {m : Memory} {u : Items} {j : Judged} → Fitting most m u j → count u < 0x100_0000_0000 → Told (readOutcome (judgeAnswer j))
-unfolding judgeAnswer
+fitting-told : {most : OctetCount} {m : Memory} {u : Items} {j : Judged} → Fitting most m u j → count u < 0x100_0000_0000 → Told (editOutcome (editAnswer j))
+unfolding editAnswer
 fitting-told (crowded a) l = refuses (refusal 14 0) (late-refusal 14 (omega arith) (omega arith))
 fitting-told (overfull a b) l = refuses (refusal 15 0) (late-refusal 15 (omega arith) (omega arith))
-fitting-told {u = u} (fits f g) l = counts (count u) l
+fitting-told {u = u} (fits f g) l = counts (count u) 0 l (omega arith)
 
-taken-cases : (most : OctetCount) (m : Memory) (o : List ℕ) → AreOctets o → (j : Judged) → judge o ≡ j → Told (readOutcome (judgeAnswer (takenIn most m j)))
-unfolding takenIn judgeAnswer
+taken-cases : (most : OctetCount) (m : Memory) (o : List ℕ) → AreOctets o → (j : Judged) → judge o ≡ j → Told (editOutcome (editAnswer (takenIn most m j)))
+unfolding takenIn editAnswer
 taken-cases most m o os (refused r) h = refuses r (judged-kept o r h)
 taken-cases most m o os (accepted t) h = fitting-told (taken-ends most m t) (omega (arith, accepted-few o t h, loaded-count o t os h))
 
-pub taken-told : (most : OctetCount) (m : Memory) (o : List ℕ) → AreOctets o → Told (readOutcome (judgeAnswer (takenIn most m (judge o))))
+pub taken-told : (most : OctetCount) (m : Memory) (o : List ℕ) → AreOctets o → Told (editOutcome (editAnswer (takenIn most m (judge o))))
 taken-told most m o os = taken-cases most m o os (judge o) refl
 
 edit-cases : (e : Edit) (n : ℕ) (m : Memory) → AreOctets (m .store) → BringsOctets e → (t : Items) → treeHeld n m ≡ some t → {j : Judged} → Ends m e t j
-    → Told (readOutcome (judgeAnswer j))
-unfolding judgeAnswer
+    → Told (editOutcome (editAnswer j))
+unfolding editAnswer
 edit-cases e n m os b t h (nowhere p) = refuses (refusal 18 0) (late-refusal 18 (omega arith) (omega arith))
 edit-cases e n m os b t h (unruled p q) = refuses (refusal 16 0) (late-refusal 16 (omega arith) (omega arith))
 edit-cases e n m os b t h (ruled u j p q (crowded a)) = refuses (refusal 14 0) (late-refusal 14 (omega arith) (omega arith))
@@ -216,13 +221,13 @@ edit-cases e n m os b t h (ruled u j p q (overfull a c)) = refuses (refusal 15 0
 edit-cases e n m os b t h (ruled u j p q (fits f g)) =
     let held = held n m t h in
     let o = edit-outcome e t u (located-bytes (m .store) os t (held .whole .located)) b (held-stands n m t held) p q in
-    counts (count u) (omega (arith, tree-few u (o .stands .rules), f .small))
+    counts (count u) 0 (omega (arith, tree-few u (o .stands .rules), f .small)) (omega arith)
 
-pub edit-told : (e : Edit) (n : ℕ) (m : Memory) → AreOctets (m .store) → BringsOctets e → Told (readOutcome (judgeAnswer (editedIn m e (treeHeld n m))))
-unfolding editedIn judgeAnswer
+pub edit-told : (e : Edit) (n : ℕ) (m : Memory) → AreOctets (m .store) → BringsOctets e → Told (editOutcome (editAnswer (editedIn m e (treeHeld n m))))
+unfolding editedIn editAnswer
 edit-told e n m os b = go (treeHeld n m) refl
   where
-    go : (o : Option Items) → treeHeld n m ≡ o → Told (readOutcome (judgeAnswer (editedIn m e o)))
+    go : (o : Option Items) → treeHeld n m ≡ o → Told (editOutcome (editAnswer (editedIn m e o)))
     go none h = refuses (refusal 16 0) (late-refusal 16 (omega arith) (omega arith))
     go (some t) h = edit-cases e n m os b t h (edit-ends m e t)
 
@@ -247,7 +252,7 @@ gate-told d o = go (judge o) refl (placeAt (offends d) o) refl
   where
     go : (j : Judged) → judge o ≡ j → (p : Option ℕ) → placeAt (offends d) o ≡ p → Told (gateOutcome (gateAnswer (soughtAs j p)))
     go (refused r) h p e = refuses r (judged-kept o r h)
-    go (accepted t) h none e = counts 0 (omega arith)
+    go (accepted t) h none e = counts 0 0 (omega arith) (omega arith)
     go (accepted t) h (some place) e =
         refuses (refusal 19 place) (record { least = omega arith; most = omega arith; place = omega (arith, place-inside (offends d) o place e, accepted-size o t h .1); field = omega arith })
 
@@ -258,7 +263,7 @@ export-cases o room l (refused r) h = refuses r (judged-kept o r h)
 export-cases o room l (accepted t) h = plain (plainAt o) refl
   where
     fits : (x : List ℕ) (b : Bool) → leb (length x) (room .0) ≡ b → Told (writeOutcome (cond b (Octets (sizeOf x)) (NotWritten (refusal 15 0))))
-    fits x true e = counts (length x) (omega (arith, leb-true (length x) (room .0) e))
+    fits x true e = counts (length x) 0 (omega (arith, leb-true (length x) (room .0) e)) (omega arith)
     fits x false e = refuses (refusal 15 0) (late-refusal 15 (omega arith) (omega arith))
 
     plain : (p : Option ℕ) → plainAt o ≡ p → Told (writeOutcome (exportAnswer room (unlessPlain p (xml (meaningOf t)))))

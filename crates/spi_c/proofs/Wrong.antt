@@ -9,9 +9,10 @@ use Rattle.octets.specs.Counts.{asOctets, sizeOf}
 use Rattle.octets.specs.Numbers.{Octets}
 use Rattle.format.specs.declared.ReadAnswer.the-variants.{Records, NotRead}
 use Rattle.format.specs.declared.SameAnswer.the-variants.{Same, Different, FirstRefused, SecondRefused}
-use Rattle.format.specs.Answers.{refusal, wrongValue, readOutcome, writeOutcome, sameOutcome}
+use Rattle.format.specs.Answers.{refusal, wrongValue, readOutcome, editOutcome, writeOutcome, sameOutcome}
+use Rattle.format.specs.Headers.{headersOf}
 use Rattle.format.specs.Judge.{judge}
-use Rattle.format.specs.Calls.{Lists, places, readAnswer, spanOf, writeAnswer, normalAnswer, judgeAnswer}
+use Rattle.format.specs.Calls.{Lists, places, readAnswer, spanOf, writeAnswer, normalAnswer, editAnswer}
 use Rattle.format.specs.Same.{sameAnswer}
 use Rattle.format.specs.State.{Memory, treeIn, treeHeld}
 use Rattle.state.specs.Taking.{lentBy, takenIn}
@@ -28,7 +29,7 @@ use Rattle.spi_c.proofs.Told.{told-back, told-same-back, read-told, wri
 use Rattle.spi_c.proofs.Calls.{span-small}
 
 -- ---- each call's number, read back
-pub read-back : (object : List ℕ) (before after : Lists) (a : ℕ) → ReadsC object before after a → outcomeIn a ≡ readOutcome (readAnswer (places before) (judge object))
+pub read-back : (object : List ℕ) (before after : Lists) (a : ℕ) → ReadsC object before after a → outcomeIn a ≡ readOutcome (readAnswer (places before) (headersOf object) (judge object))
 read-back object before after a c = ap outcomeIn (c .answers) ∙ told-back (read-told (places before) object)
 
 pub span-back-of : (object starts sizes : List ℕ) (i a : ℕ) → getD starts i 0 < 0x1_0000 → getD sizes i 0 < 0x1_0000 → SpansC object starts sizes i a → spanIn a ≡ spanOf object starts sizes i
@@ -43,11 +44,11 @@ pub normalise-back : (object : List ℕ) (m m′ : Memory) (room room′ : List 
 normalise-back object m m′ room room′ a c = ap outcomeIn (c .answers) ∙ told-back (normal-told (lentBy m room) object)
 
 pub take-in-back : (object : List ℕ) → Octets object → (m m′ : Memory) (a : ℕ) → TakesInC object m m′ a
-    → outcomeIn a ≡ readOutcome (judgeAnswer (takenIn (asOctets 32_768) m (judge object)))
+    → outcomeIn a ≡ editOutcome (editAnswer (takenIn (asOctets 32_768) m (judge object)))
 take-in-back object os m m′ a c = ap outcomeIn (c .answers) ∙ told-back (taken-told (asOctets 32_768) m object os)
 
 pub edit-back : (e : Edit) (n : ℕ) (m m′ : Memory) → Octets (m .store) → BringsOctets e → (a : ℕ) → EditsC e n m m′ a
-    → outcomeIn a ≡ readOutcome (judgeAnswer (editedIn m e (treeHeld n m)))
+    → outcomeIn a ≡ editOutcome (editAnswer (editedIn m e (treeHeld n m)))
 edit-back e n m m′ os b a c = ap outcomeIn (c .answers) ∙ told-back (edit-told e n m os b)
 
 pub write-state-back : (n : ℕ) (m : Memory) (before after : List ℕ) (a : ℕ) → WritesStateC n m before after a → outcomeIn a ≡ writeOutcome (writeAnswer (sizeOf before) (treeHeld n m))
@@ -67,9 +68,18 @@ pub refusal-unnumbered : packedOutcome (readOutcome (NotRead (refusal 13 412))) 
 unfolding packedOutcome packed
 refusal-unnumbered e = omega arith
 
-pub count-refused : packedOutcome (readOutcome (Records (record { records = 7 }))) ≡ packed 7 0 0 0 → ⊥
+pub count-refused : packedOutcome (readOutcome (Records (record { records = 7; items = 9 }))) ≡ packed 7 0 0 0 → ⊥
 unfolding packedOutcome packed
 count-refused e = omega arith
+
+-- ---- the items left out; told beside the records in one count
+pub items-left-out : packedOutcome (readOutcome (Records (record { records = 7; items = 9 }))) ≡ 7 → ⊥
+unfolding packedOutcome packed
+items-left-out e = omega arith
+
+pub items-added : packedOutcome (readOutcome (Records (record { records = 7; items = 9 }))) ≡ packedOutcome (readOutcome (Records (record { records = 16; items = 0 }))) → ⊥
+unfolding packedOutcome packed
+items-added e = omega arith
 
 -- ---- the first object named for the second; a refusal told as two meanings; different told as same
 pub first-named : packedSame (sameOutcome (SecondRefused (refusal 2 0))) ≡ packedSame (sameOutcome (FirstRefused (refusal 2 0))) → ⊥

@@ -6,9 +6,10 @@ use lib.ListN.{length}
 use lib.Seq.{sets}
 use Rattle.octets.specs.declared.counts.Octets.{Octets as OctetCount}
 use Rattle.octets.specs.Counts.{asOctets, sizeOf}
-use Rattle.format.specs.Answers.{readOutcome, writeOutcome, sameOutcome}
+use Rattle.format.specs.Answers.{readOutcome, editOutcome, writeOutcome, sameOutcome}
 use Rattle.format.specs.Judge.{judge, Judged}
-use Rattle.format.specs.Calls.{Lists, places, readAnswer, ReadClaim, spanOf, writeAnswer, normalAnswer, judgeAnswer}
+use Rattle.format.specs.Headers.{headersOf}
+use Rattle.format.specs.Calls.{Lists, places, readAnswer, ReadClaim, spanOf, writeAnswer, normalAnswer, editAnswer}
 use Rattle.format.specs.Same.{sameAnswer}
 use Rattle.format.specs.State.{Memory, treeIn, treeHeld}
 use Rattle.state.specs.Taking.{lentBy, NormaliseClaim, takenIn, Leaves, WriteClaim, WriteStateClaim}
@@ -20,8 +21,8 @@ use Rattle.xml.specs.Export.{exportOf, exportAnswer, exportOctets}
 use Rattle.spi_c.specs.Packed.{packedOutcome, packedSame, packedSpan}
 
 pub record ReadsC (object : List ℕ) (before after : Lists) (a : ℕ) : Type 0 where
-  pub answers : a ≡ packedOutcome (readOutcome (readAnswer (places before) (judge object)))
-  pub leaves : ReadClaim object before after (readAnswer (places before) (judge object))
+  pub answers : a ≡ packedOutcome (readOutcome (readAnswer (places before) (headersOf object) (judge object)))
+  pub leaves : ReadClaim object before after (readAnswer (places before) (headersOf object) (judge object))
 
 pub record SpansC (object starts sizes : List ℕ) (number a : ℕ) : Type 0 where
   pub answers : a ≡ packedSpan (spanOf object starts sizes number)
@@ -39,8 +40,8 @@ pub record SameC (a b : List ℕ) (answer : ℕ) : Type 0 where
 
 -- a tree that is to lie in lent memory: the number of its records, or the refusal, and what memory then holds
 pub record LeavesC (outcome : Judged) (m m′ : Memory) (a : ℕ) : Type 0 where
-  pub answers : a ≡ packedOutcome (readOutcome (judgeAnswer outcome))
-  pub leaves : Leaves outcome m m′ (judgeAnswer outcome)
+  pub answers : a ≡ packedOutcome (editOutcome (editAnswer outcome))
+  pub leaves : Leaves outcome m m′ (editAnswer outcome)
 
 -- an object is taken in to be edited, so its normal form has no more octets than an object may have
 abbrev pub TakesInC : (object : List ℕ) (m m′ : Memory) (a : ℕ) → Type 0

@@ -7,7 +7,7 @@ use Rattle.format.specs.declared.SameOutcome.{SameOutcome}
 use Rattle.format.specs.declared.Span.{Span}
 
 -- bits 63 to 56: the number of a refusal, 0 for none; 55 to 48: the object that is refused, told by `same` alone; 47 to 40: the field of a time that is wrong, told by 9
--- alone (change request 2026-04); 39 to 0: a place or a count
+-- alone (change request 2026-04); 39 to 0: a place or a count. Where nothing is refused, bits 55 to 40 have the number of items that reading judged (2026-09)
 unfoldable pub packed : (number object field value : ℕ) → ℕ
 packed number object field value = number * 0x100_0000_0000_0000 + object * 0x1_0000_0000_0000 + field * 0x100_0000_0000 + value
 
@@ -23,13 +23,18 @@ fieldIn a = a / 0x100_0000_0000 % 0x100
 abbrev pub valueIn : ℕ → ℕ
 valueIn a = a % 0x100_0000_0000
 
--- the place of a refusal, or the count where there is none
+abbrev pub itemsIn : ℕ → ℕ
+itemsIn a = objectIn a * 0x100 + fieldIn a
+
+-- the place and the field of a refusal, or the count and the items where there is none
 unfoldable pub packedOutcome : Outcome → ℕ
-packedOutcome o = packed (o .number) 0 (o .field) (cond (eqb (o .number) 0) (o .count) (o .place))
+packedOutcome o = cond (eqb (o .number) 0) (packed 0 (o .items / 0x100) (o .items % 0x100) (o .count)) (packed (o .number) 0 (o .field) (o .place))
 
 unfoldable pub outcomeIn : ℕ → Outcome
 outcomeIn a =
-    record { number = numberIn a; place = cond (eqb (numberIn a) 0) 0 (valueIn a); field = fieldIn a; count = cond (eqb (numberIn a) 0) (valueIn a) 0 }
+    let counts : Outcome = record { number = 0; place = 0; field = 0; count = valueIn a; items = itemsIn a } in
+    let refuses : Outcome = record { number = numberIn a; place = valueIn a; field = fieldIn a; count = 0; items = 0 } in
+    cond (eqb (numberIn a) 0) counts refuses
 
 -- the place of a refusal, or 1 where the objects mean the same
 unfoldable pub packedSame : SameOutcome → ℕ
@@ -49,6 +54,7 @@ spanIn a = record { start = a / 0x1_0000_0000; size = a % 0x1_0000_0000 }
 pub record Small (o : Outcome) : Type 0 where
   pub place : o .place < 0x100_0000_0000
   pub count : o .count < 0x100_0000_0000
+  pub items : o .items < 0x1_0000
 
 pub record SmallSame (o : SameOutcome) : Type 0 where
   pub place : o .place < 0x100_0000_0000

@@ -3,7 +3,6 @@ ghost use mathlib.Core.Path.{_≡_};
 ghost use Prim.Native.Nat.{_<_, min};
 ghost use Rattle.text.specs.Text.{text};
 ghost use Rattle.format.specs.Lent.{lent};
-ghost use Rattle.state.specs.Taking.{memory};
 ghost use Rattle.spi_c.specs.Packed.{packed, packedOutcome, packedSame, packedSpan, Small, SmallSame, SmallSpan};
 ghost use Rattle.state.specs.Taking.{memory};
 ghost use Rattle.edits.specs.Tree.Edit.{replace, remove, insert};
@@ -28,7 +27,9 @@ fn packed_outcome(o: Outcome) -> u64
     ensures { λ r. ⌜ r ≡ packedOutcome o ⌝ }
 {
     if o.number == 0 {
-        return packed(o.number, 0, o.field, o.count);
+        let upper = (o.items / 0x100) as u8;
+        let lower = (o.items % 0x100) as u8;
+        return packed(0, upper, lower, o.count);
     }
     packed(o.number, 0, o.field, o.place)
 }
