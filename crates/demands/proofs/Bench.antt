@@ -11,6 +11,7 @@ use Rattle.format.specs.declared.Refusal.{Refusal}
 use Rattle.format.specs.Tree.{Items, count, recordsOf}
 use Rattle.format.specs.Judge.{Judged, judge}
 use Rattle.format.specs.Judge.Judged.{refused, accepted}
+use Rattle.format.specs.Headers.{headersOf}
 use Rattle.format.specs.Meaning.{normalOf}
 use Rattle.format.specs.Calls.{places, lay, readRecords}
 use Rattle.format.specs.Bench.{reported, outcome, listed}
@@ -21,6 +22,7 @@ use Rattle.format.proofs.Lays.{tabled-laid}
 use Rattle.demands.specs.Bench.{BenchTable, Slips, listedObject, listing, Listing, BenchRead, BenchNormalise, ListingRead}
 use Rattle.demands.proofs.Laws.{of-object}
 use Rattle.demands.proofs.One.{read-in-order}
+use Rattle.demands.proofs.Headers.{headers-named}
 use Rattle.demands.proofs.Two.{records-read}
 use Rattle.demands.proofs.Three.{normalised}
 
@@ -55,7 +57,7 @@ bench-read object before after answer c =
     let order = read-in-order object before after answer c in
     record {
       refusing = λ r e. let h = table-refused object r e in order .ofObject r (of-object object r h .most) .1 h;
-      counting = λ n o e l. let f = table-accepted object n o e in order .records n .1 (f .0, f .1, f .2, l);
+      counting = λ n o e l. let f = table-accepted object n o e in order .records n (headersOf object) .1 (f .0, f .1, f .2, refl, l);
     }
 
 pub bench-normalise : BenchNormalise
@@ -79,6 +81,6 @@ listing-read before after answer c l =
     let f = listed-tree listedObject _ _ listed-is in
     let t = f .0 in
     let many : 2 ≡ count t = sym (ap length (f .2)) ∙ records-count t 1 0 0 in
-    let e = read-in-order listedObject before after answer c .records 2 .1 (t, f .1, many, l) in
+    let e = read-in-order listedObject before after answer c .records 2 2 .1 (t, f .1, many, sym (headers-named .0), l) in
     let laid = c .leaves ∙ ap (λ rs. lay 0 rs before) (ap (readRecords (places before)) (f .1) ∙ records-read (places before) t (omega arith) ∙ f .2) in
     (e, tabled-laid listing before after 2 laid refl l)

@@ -15,15 +15,15 @@ use Rattle.octets.specs.Counts.{asOctets, sizeOf}
 use Rattle.octets.specs.Numbers.{among}
 use Rattle.octets.proofs.Tests.{never}
 use Rattle.format.specs.declared.Refusal.{Refusal}
-use Rattle.format.specs.declared.ReadAnswer.{ReadAnswer}
-use Rattle.format.specs.declared.ReadAnswer.the-variants.{Records, NotRead}
+use Rattle.format.specs.declared.EditAnswer.{EditAnswer}
+use Rattle.format.specs.declared.EditAnswer.the-variants.{HasRecords, NotChanged}
 use Rattle.format.specs.declared.WriteAnswer.{WriteAnswer}
 use Rattle.format.specs.declared.WriteAnswer.the-variants.{Octets as Written, NotWritten}
-use Rattle.format.specs.Answers.{refusal, readOutcome}
+use Rattle.format.specs.Answers.{refusal, editOutcome}
 use Rattle.format.specs.Tree.{Items, count}
 use Rattle.format.specs.Judge.{Judged, judge}
 use Rattle.format.specs.Judge.Judged.{refused, accepted}
-use Rattle.format.specs.Calls.{judgeAnswer, roomy, writeAnswer, writeOctets}
+use Rattle.format.specs.Calls.{editAnswer, roomy, writeAnswer, writeOctets}
 use Rattle.format.specs.Meaning.{means, encode}
 use Rattle.format.specs.Loaded.{loadedOf}
 use Rattle.format.specs.State.{Memory, treeHeld}
@@ -48,38 +48,38 @@ use Rattle.demands.proofs.Laws.{of-object}
 use Rattle.demands.proofs.One.{written-ends, none-set}
 
 -- ---- an outcome of a call that leaves a tree in memory
-leaves-ends : (Reason : ℕ → ℕ → ℕ → Type 0) (j : Judged) (m m′ : Memory) (answer : ReadAnswer) → Leaves j m m′ answer
-    → ((r : Refusal) → j ≡ refused r → Reason (r .number) (r .place) (r .field)) → Ends Reason (m′ ≡ m) (readOutcome answer)
-unfolding judgeAnswer left
+leaves-ends : (Reason : ℕ → ℕ → ℕ → Type 0) (j : Judged) (m m′ : Memory) (answer : EditAnswer) → Leaves j m m′ answer
+    → ((r : Refusal) → j ≡ refused r → Reason (r .number) (r .place) (r .field)) → Ends Reason (m′ ≡ m) (editOutcome answer)
+unfolding editAnswer left
 leaves-ends Reason (refused r) m m′ answer c why =
-    subst (λ x. Ends Reason (m′ ≡ m) (readOutcome x)) (sym (c .answers)) (refusedAt (r .number) (r .place) (r .field) (why r refl) (c .leaves))
-leaves-ends Reason (accepted t) m m′ answer c why = subst (λ x. Ends Reason (m′ ≡ m) (readOutcome x)) (sym (c .answers)) (answered (count t))
+    subst (λ x. Ends Reason (m′ ≡ m) (editOutcome x)) (sym (c .answers)) (refusedAt (r .number) (r .place) (r .field) (why r refl) (c .leaves))
+leaves-ends Reason (accepted t) m m′ answer c why = subst (λ x. Ends Reason (m′ ≡ m) (editOutcome x)) (sym (c .answers)) (answered (count t) 0)
 
 -- an answer is a refusal exactly where the outcome is, and else tells how many records there are
-module _ (j : Judged) (m m′ : Memory) (answer : ReadAnswer) (c : Leaves j m m′ answer) where
-  refused-so : (r : Refusal) → answer ≡ NotRead r → j ≡ refused r
-  unfolding judgeAnswer
+module _ (j : Judged) (m m′ : Memory) (answer : EditAnswer) (c : Leaves j m m′ answer) where
+  refused-so : (r : Refusal) → answer ≡ NotChanged r → j ≡ refused r
+  unfolding editAnswer
   refused-so r q = go j (sym (c .answers) ∙ q)
     where
-      go : (i : Judged) → judgeAnswer i ≡ NotRead r → i ≡ refused r
+      go : (i : Judged) → editAnswer i ≡ NotChanged r → i ≡ refused r
       go (refused s) e = let p : s ≡ r = cc in ap refused p
       go (accepted t) e = never (cc)
 
-  so-refused : (r : Refusal) → j ≡ refused r → answer ≡ NotRead r
-  unfolding judgeAnswer
-  so-refused r h = c .answers ∙ ap judgeAnswer h
+  so-refused : (r : Refusal) → j ≡ refused r → answer ≡ NotChanged r
+  unfolding editAnswer
+  so-refused r h = c .answers ∙ ap editAnswer h
 
-  counted-so : (k : ℕ) → answer ≡ Records (record { records = k }) → (t : Items) × (j ≡ accepted t) × (k ≡ count t)
-  unfolding judgeAnswer
+  counted-so : (k : ℕ) → answer ≡ HasRecords k → (t : Items) × (j ≡ accepted t) × (k ≡ count t)
+  unfolding editAnswer
   counted-so k q = go j (sym (c .answers) ∙ q)
     where
-      go : (i : Judged) → judgeAnswer i ≡ Records (record { records = k }) → (t : Items) × (i ≡ accepted t) × (k ≡ count t)
+      go : (i : Judged) → editAnswer i ≡ HasRecords k → (t : Items) × (i ≡ accepted t) × (k ≡ count t)
       go (refused s) e = never (cc)
-      go (accepted t) e = (t, refl, sym (ap (λ a. readOutcome a .count) e))
+      go (accepted t) e = (t, refl, sym (ap (λ a. editOutcome a .count) e))
 
-  so-counted : (t : Items) → j ≡ accepted t → answer ≡ Records (record { records = count t })
-  unfolding judgeAnswer
-  so-counted t h = c .answers ∙ ap judgeAnswer h
+  so-counted : (t : Items) → j ≡ accepted t → answer ≡ HasRecords (count t)
+  unfolding editAnswer
+  so-counted t h = c .answers ∙ ap editAnswer h
 
 -- ---- a tree that memory is to hold
 module _ (most : OctetCount) (m : Memory) (u : Items) where
@@ -140,7 +140,7 @@ pub take-in-ends : TakeInEnds
 take-in-ends object most m m′ answer c =
     leaves-ends (Refuses object (14 ∷ 15 ∷ [])) (takenIn most m (judge object)) m m′ answer c (taken-why object most m (judge object) refl)
 
-module _ (object : List ℕ) (most : OctetCount) (m : Memory) (answer : ReadAnswer) where
+module _ (object : List ℕ) (most : OctetCount) (m : Memory) (answer : EditAnswer) where
   take-in-order : (i : Judged) → judge object ≡ i → (m′ : Memory) → Leaves (takenIn most m i) m m′ answer → TakeInOrder i most m answer
   unfolding takenIn
   take-in-order (refused s) h m′ c =
@@ -156,7 +156,7 @@ module _ (object : List ℕ) (most : OctetCount) (m : Memory) (answer : ReadAnsw
   take-in-order (accepted t) h m′ c =
       let u = loadedOf t in
       let ends = taken-ends most m t in
-      let over : (r : Refusal) → answer ≡ NotRead r → Overflows most m u r = λ r q. refused-overflows most m u ends r (refused-so (takenIn most m (accepted t)) m m′ answer c r q) in
+      let over : (r : Refusal) → answer ≡ NotChanged r → Overflows most m u r = λ r q. refused-overflows most m u ends r (refused-so (takenIn most m (accepted t)) m m′ answer c r q) in
       record {
         ofObject = λ r l. ((λ q. absurd (omega (arith, l, overflow-between most m u r (over r q) .0))), (λ q. never (cc)));
         lacking = λ r l. (
@@ -173,7 +173,7 @@ module _ (object : List ℕ) (most : OctetCount) (m : Memory) (answer : ReadAnsw
           (λ q.
               let p : q .0 ≡ t = (let z = q .1 in cc) in
               let b = so-counted (takenIn most m (accepted t)) m m′ answer c u (holds-accepted most m u ends (subst (λ x. Holds most m (loadedOf x)) p (q .3))) in
-              b ∙ ap (λ n. Records (record { records = n })) (ap (λ x. count (loadedOf x)) (sym p) ∙ sym (q .2))),
+              b ∙ ap HasRecords (ap (λ x. count (loadedOf x)) (sym p) ∙ sym (q .2))),
         );
       }
 
@@ -219,14 +219,14 @@ remove-ends i n m m′ answer os c = leaves-ends (OfCall (16 ∷ 18 ∷ [])) (ed
     go none h r q = so (refusal 16 0) r (cc) (ofCall 16 refl)
     go (some t) h r q = one t h (only.edit-ends m (remove i) t) refl r q
 
-module _ (answer : ReadAnswer) where
-  apart : (i k : ℕ) → (i ≡ k → ⊥) → answer ≡ NotRead (refusal i 0) → answer ≡ NotRead (refusal k 0) → ⊥
+module _ (answer : EditAnswer) where
+  apart : (i k : ℕ) → (i ≡ k → ⊥) → answer ≡ NotChanged (refusal i 0) → answer ≡ NotChanged (refusal k 0) → ⊥
   apart i k f x y = let z : refusal i 0 ≡ refusal k 0 = cc in f (ap (λ w. w .number) z)
 
-  apart-low : (i : ℕ) (r : Refusal) → answer ≡ NotRead (refusal i 0) → answer ≡ NotRead r → r .number ≤ 15 → 15 < i → ⊥
+  apart-low : (i : ℕ) (r : Refusal) → answer ≡ NotChanged (refusal i 0) → answer ≡ NotChanged r → r .number ≤ 15 → 15 < i → ⊥
   apart-low i r x y l k = let z : refusal i 0 ≡ r = cc in omega (arith, ap (λ w. w .number) z)
 
-module _ (e : Edit) (t : Items) (m m′ : Memory) (answer : ReadAnswer) (c : Leaves (editedIn m e (some t)) m m′ answer) where
+module _ (e : Edit) (t : Items) (m m′ : Memory) (answer : EditAnswer) (c : Leaves (editedIn m e (some t)) m m′ answer) where
   abbrev whole : Judged
   whole = editedIn m e (some t)
 
@@ -255,7 +255,7 @@ module _ (e : Edit) (t : Items) (m m′ : Memory) (answer : ReadAnswer) (c : Lea
 
   edit-ruled : (u : Items) → isThere e t ≡ true → edited e t ≡ some u → Fitting most m u whole → EditOrder e t m answer
   edit-ruled u p o k =
-      let over : (r : Refusal) → answer ≡ NotRead r → Overflows most m u r = λ r q. refused-overflows most m u k r (refused-so whole m m′ answer c r q) in
+      let over : (r : Refusal) → answer ≡ NotChanged r → Overflows most m u r = λ r q. refused-overflows most m u k r (refused-so whole m m′ answer c r q) in
       let same : (w : Items) → edited e t ≡ some w → w ≡ u = λ w q. Option·some-injective w u (sym q ∙ o) in
       record {
         eighteen = (
@@ -277,7 +277,7 @@ module _ (e : Edit) (t : Items) (m m′ : Memory) (answer : ReadAnswer) (c : Lea
               (u, p, o, a .2 ∙ ap count (sym (b .0)), b .1)),
           (λ q.
               let b = so-counted whole m m′ answer c u (holds-accepted most m u k (subst (Holds most m) (same (q .0) (q .2)) (q .4))) in
-              b ∙ ap (λ i. Records (record { records = i })) (ap count (sym (same (q .0) (q .2))) ∙ sym (q .3))),
+              b ∙ ap HasRecords (ap count (sym (same (q .0) (q .2))) ∙ sym (q .3))),
         );
       }
 

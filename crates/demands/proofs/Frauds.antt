@@ -50,10 +50,10 @@ writes-nothing n memory bodies′ before after os c =
     never (let p = m .1 in let q = empty-refused in cc)
 
 pub invents-record : InventsRecord
-invents-record object os before after n c t a i d l f =
-    let h = tree-handed-out object os before after n c t a in
+invents-record object os before after n items c t a i d l f =
+    let h = tree-handed-out object os before after n items c t a in
     let z : 0 + i ≡ i = omega arith in
     f (ap (row after) (sym z) ∙ sym (getD-tabled (row after) n 0 i d l) ∙ ap (λ rs. getD rs i d) (h .stand))
 
 pub invents-count : InventsCount
-invents-count object os before after n c t a f = f (tree-handed-out object os before after n c t a .many)
+invents-count object os before after n items c t a f = f (tree-handed-out object os before after n items c t a .many)

@@ -21,7 +21,7 @@ gate-ends d object answer e = subst (λ a. Ends (GateRefuses object) (Unit {0}) 
   where
     go : (j : Judged) → judge object ≡ j → (p : Option ℕ) → placeAt (offends d) object ≡ p → Ends (GateRefuses object) (Unit {0}) (gateOutcome (gateAnswer (soughtAs j p)))
     go (refused r) h p q = refusedAt (r .number) (r .place) (r .field) (forObject (r .number) (r .place) (r .field) (of-object object r h)) tt
-    go (accepted t) h none q = answered 0
+    go (accepted t) h none q = answered 0 0
     go (accepted t) h (some place) q = refusedAt 19 place 0 (forOffender place (place-inside (offends d) object place q)) tt
 
 pub gates-in-order : GateInOrder

@@ -6,6 +6,7 @@ pub mod Three
 pub mod Xml
 pub mod Gate
 pub mod Only
+pub mod Headers
 pub mod Bench
 pub mod Frauds
 pub mod Edits

@@ -1,5 +1,5 @@
 -- Demand 1: from each call's claim alone.
-use mathlib.Core.Path.{_≡_, refl, sym, ap, _∙_, subst}
+use mathlib.Core.Path.{_≡_, refl, sym, ap, ap₂, _∙_, subst}
 use mathlib.Core.Bool.{Bool, true, false, cond, false≢true, and-false}
 use mathlib.Core.Logic.{_⊎_, inl, inr}
 use mathlib.Core.Option.{Option, none, some, Option·some-injective, Option·none-ne-some}
@@ -29,8 +29,9 @@ use Rattle.format.specs.Answers.{refusal, readOutcome, writeOutcome, sameOutcom
 use Rattle.format.specs.Tree.{Items, count, recordsOf}
 use Rattle.format.specs.Judge.{Judged, rule, unless, judge}
 use Rattle.format.specs.Judge.Judged.{refused, accepted}
+use Rattle.format.specs.Headers.{headersOf}
 use Rattle.format.specs.Meaning.{means, meaningOf, encode, normalOf}
-use Rattle.format.specs.Calls.{places, lay, judgeAnswer, readAnswer, readRecords, roomy, writeAnswer, writeOctets, Lent, fitsLent, misfit, normalAnswer, handed}
+use Rattle.format.specs.Calls.{places, lay, countsOf, judgeAnswer, readAnswer, readRecords, roomy, writeAnswer, writeOctets, Lent, fitsLent, misfit, normalAnswer, handed}
 use Rattle.format.specs.Same.{sameMeaning, sameAnswer}
 use Rattle.format.proofs.Lays.{lay-none}
 use Rattle.format.specs.Loaded.{loadedOf}
@@ -51,36 +52,36 @@ pub judge-ends : JudgeEnds
 unfolding judgeAnswer
 judge-ends object answer e = subst (λ x. Ends (OfObject object) (Unit {0}) (readOutcome x)) (sym e) (go (judge object) refl)
   where
-    go : (j : Judged) → judge object ≡ j → Ends (OfObject object) (Unit {0}) (readOutcome (judgeAnswer j))
+    go : (j : Judged) → judge object ≡ j → Ends (OfObject object) (Unit {0}) (readOutcome (judgeAnswer (headersOf object) j))
     go (refused r) h = refusedAt (r .number) (r .place) (r .field) (of-object object r h) tt
-    go (accepted t) h = answered (count t)
+    go (accepted t) h = answered (count t) (headersOf object)
 
-read-ended : (object : List ℕ) (n : ℕ) (Kept : Type 0) (j : Judged) → judge object ≡ j → (readRecords n j ≡ [] → Kept)
-    → Ends (Refuses object (14 ∷ [])) Kept (readOutcome (readAnswer n j))
+read-ended : (object : List ℕ) (n headers : ℕ) (Kept : Type 0) (j : Judged) → judge object ≡ j → (readRecords n j ≡ [] → Kept)
+    → Ends (Refuses object (14 ∷ [])) Kept (readOutcome (readAnswer n headers j))
 unfolding readAnswer readRecords among
-read-ended object n Kept (refused r) h kept = refusedAt (r .number) (r .place) (r .field) (forObject (r .number) (r .place) (r .field) (of-object object r h)) (kept refl)
-read-ended object n Kept (accepted t) h kept = go (leb (count t) n) kept
+read-ended object n headers Kept (refused r) h kept = refusedAt (r .number) (r .place) (r .field) (forObject (r .number) (r .place) (r .field) (of-object object r h)) (kept refl)
+read-ended object n headers Kept (accepted t) h kept = go (leb (count t) n) kept
   where
     go : (b : Bool) → (cond b (recordsOf t) [] ≡ [] → Kept)
-        → Ends (Refuses object (14 ∷ [])) Kept (readOutcome (cond b (Records (record { records = count t })) (NotRead (refusal 14 0))))
-    go true k = answered (count t)
+        → Ends (Refuses object (14 ∷ [])) Kept (readOutcome (cond b (Records (countsOf headers t)) (NotRead (refusal 14 0))))
+    go true k = answered (count t) headers
     go false k = refusedAt 14 0 0 (forCall 14 0 0 (ofCall 14 refl)) (k refl)
 
 pub read-ends : ReadEnds
 read-ends object before after answer c =
     subst (λ x. Ends (Refuses object (14 ∷ [])) (after ≡ before) (readOutcome x)) (sym (c .answers))
-    (read-ended object (places before) (after ≡ before) (judge object) refl (λ e. c .leaves ∙ ap (λ rs. lay 0 rs before) e ∙ lay-none 0 before))
+    (read-ended object (places before) (headersOf object) (after ≡ before) (judge object) refl (λ e. c .leaves ∙ ap (λ rs. lay 0 rs before) e ∙ lay-none 0 before))
 
 pub read-at-most-ends : ReadAtMostEnds
 read-at-most-ends object most before after answer c =
     subst (λ x. Ends (Refuses object (14 ∷ [])) (after ≡ before) (readOutcome x)) (sym (c .answers))
-    (read-ended object (min most (places before)) (after ≡ before) (judge object) refl (λ e. c .leaves ∙ ap (λ rs. lay 0 rs before) e ∙ lay-none 0 before))
+    (read-ended object (min most (places before)) (headersOf object) (after ≡ before) (judge object) refl (λ e. c .leaves ∙ ap (λ rs. lay 0 rs before) e ∙ lay-none 0 before))
 
 pub read-records-ends : ReadRecordsEnds
 read-records-ends object before after slice slice′ answer c =
     let n = min (length slice) (places before) in
     subst (λ x. Ends (Refuses object (14 ∷ [])) ((after ≡ before) × (slice′ ≡ slice)) (readOutcome x)) (sym (c .answers))
-    (read-ended object n ((after ≡ before) × (slice′ ≡ slice)) (judge object) refl
+    (read-ended object n (headersOf object) ((after ≡ before) × (slice′ ≡ slice)) (judge object) refl
     (λ e. (c .leaves ∙ ap (λ rs. lay 0 rs before) e ∙ lay-none 0 before, c .fills ∙ ap (λ rs. rs ++ drop (length rs) slice) e)))
 
 -- a tree, if there is one, that is written to a room: a refusal writes no octets and stores no sizes
@@ -91,7 +92,7 @@ written-ends Kept room o answer told keeps = subst (λ x. Ends (OfCall (15 ∷ 1
   where
     one : (t : Items) (b : Bool) → (cond b (encode (means [] t)) [] ≡ [] → cond b (bodySizes 0 t) [] ≡ [] → Kept)
         → Ends (OfCall (15 ∷ 16 ∷ [])) Kept (writeOutcome (cond b (Octets (sizeOf (encode (means [] t)))) (NotWritten (refusal 15 0))))
-    one t true f = answered (length (encode (means [] t)))
+    one t true f = answered (length (encode (means [] t))) 0
     one t false f = refusedAt 15 0 0 (ofCall 15 refl) (f refl refl)
 
     go : (o : Option Items) → (writeOctets room o ≡ [] → writeSizes room o ≡ [] → Kept) → Ends (OfCall (15 ∷ 16 ∷ [])) Kept (writeOutcome (writeAnswer room o))
@@ -172,7 +173,7 @@ normalise-ends object memory memory′ room room′ answer c =
     go : (j : Judged) → judge object ≡ j → Normal lent j → Ends (Refuses object (14 ∷ 15 ∷ [])) ((memory′ ≡ memory) × (room′ ≡ room)) (writeOutcome (normalAnswer lent (judge object)))
     go (refused r) h (bad e) = rw (h, e) (refusedAt (r .number) (r .place) (r .field) (forObject (r .number) (r .place) (r .field) (of-object object r h)) (kept r (rw h e)))
     go (accepted t) h (lacking r e l) = rw (h, e) (refusedAt (r .number) (r .place) (r .field) (lack-told object lent t r l) (kept r (rw h e)))
-    go (accepted t) h (good e s) = rw (h, e) (answered (length (normalOf t)))
+    go (accepted t) h (good e s) = rw (h, e) (answered (length (normalOf t)) 0)
 
 pub same-ends : SameCallEnds
 unfolding sameAnswer
@@ -196,51 +197,58 @@ one-exactly object place = ((λ h. one-only object (refusal 1 place) h refl), (�
     broken (inl e) = rw (lt-leb 1 (length object) (omega arith))
     broken (inr l) = rw (lt-leb (length object) 32_768 l, and-false (leb 1 (length object)))
 
-module _ (j : Judged) (n : ℕ) (answer : ReadAnswer) where
-  read-order : ((r : Refusal) → j ≡ refused r → r .number ≤ 13) → answer ≡ readAnswer n j → ReadOrder j n answer
+module _ (j : Judged) (n headers : ℕ) (answer : ReadAnswer) where
+  read-order : ((r : Refusal) → j ≡ refused r → r .number ≤ 13) → answer ≡ readAnswer n headers j → ReadOrder j n headers answer
   unfolding readAnswer
   read-order low e = go j refl e
     where
-      bad : (s : Refusal) → j ≡ refused s → answer ≡ NotRead s → ReadOrder j n answer
+      bad : (s : Refusal) → j ≡ refused s → answer ≡ NotRead s → ReadOrder j n headers answer
       bad s h e = record {
         ofObject = λ r l. ((λ q. cc), (λ q. cc));
         fourteen = ((λ q. let p : s ≡ refusal 14 0 = cc in absurd (omega (arith, low s h, ap (λ x. x .number) p))), (λ q. never (let p = q .1 in cc)));
-        records = λ m. ((λ q. never (cc)), (λ q. never (let p = q .1 in cc)));
+        records = λ m items. ((λ q. never (cc)), (λ q. never (let p = q .1 in cc)));
       }
 
-      few : (t : Items) → j ≡ accepted t → n < count t → answer ≡ NotRead (refusal 14 0) → ReadOrder j n answer
+      few : (t : Items) → j ≡ accepted t → n < count t → answer ≡ NotRead (refusal 14 0) → ReadOrder j n headers answer
       few t h l e = record {
         ofObject = λ r m. ((λ q. let p : r ≡ refusal 14 0 = cc in absurd (omega (arith, ap (λ x. x .number) p))), (λ q. never (cc)));
         fourteen = ((λ q. (t, h, l)), (λ q. e));
-        records = λ m. ((λ q. never (cc)), (λ q. let p : q .0 ≡ t = (let z = q .1 in cc) in absurd (omega (arith, l, q .2, q .3, ap count p))));
+        records = λ m items. ((λ q. never (cc)), (λ q. let p : q .0 ≡ t = (let z = q .1 in cc) in absurd (omega (arith, l, q .2, q .4, ap count p))));
       }
 
-      handed-out : (t : Items) → j ≡ accepted t → count t ≤ n → answer ≡ Records (record { records = count t }) → ReadOrder j n answer
+      handed-out : (t : Items) → j ≡ accepted t → count t ≤ n → answer ≡ Records (countsOf headers t) → ReadOrder j n headers answer
       handed-out t h l e = record {
         ofObject = λ r m. ((λ q. never (cc)), (λ q. never (cc)));
         fourteen = ((λ q. never (cc)), (λ q. let p : q .0 ≡ t = (let z = q .1 in cc) in absurd (omega (arith, l, q .2, ap count p))));
-        records = λ m. (
-          (λ q. let w : _≡_ {A = Counts} (record { records = m }) (record { records = count t }) = cc in let p : m ≡ count t = ap (λ x. x .records) w in (t, h, p, omega arith)),
-          (λ q. let p : q .0 ≡ t = (let z = q .1 in cc) in e ∙ ap (λ k. Records (record { records = k })) (ap count (sym p) ∙ sym (q .2))),
+        records = λ m items. (
+          (λ q.
+              let w : _≡_ {A = Counts} (record { records = m; items = items }) (countsOf headers t) = cc in
+              let p : m ≡ count t = ap (λ x. x .records) w in
+              (t, h, p, ap (λ x. x .items) w, omega arith)),
+          (λ q.
+              let p : q .0 ≡ t = (let z = q .1 in cc) in
+              e ∙ ap₂ (λ k i. Records (record { records = k; items = i })) (ap count (sym p) ∙ sym (q .2)) (sym (q .3))),
         );
       }
 
-      go : (i : Judged) → j ≡ i → answer ≡ readAnswer n i → ReadOrder j n answer
+      go : (i : Judged) → j ≡ i → answer ≡ readAnswer n headers i → ReadOrder j n headers answer
       go (refused s) h e = bad s h e
       go (accepted t) h e = one (leb (count t) n) refl e
         where
-          one : (b : Bool) → leb (count t) n ≡ b → answer ≡ cond b (Records (record { records = count t })) (NotRead (refusal 14 0)) → ReadOrder j n answer
+          one : (b : Bool) → leb (count t) n ≡ b → answer ≡ cond b (Records (countsOf headers t)) (NotRead (refusal 14 0)) → ReadOrder j n headers answer
           one true q e = handed-out t h (leb-true (count t) n q) e
           one false q e = few t h (leb-false (count t) n q) e
 
 pub read-in-order : ReadInOrder
-read-in-order object before after answer c = read-order (judge object) (places before) answer (λ r h. of-object object r h .most) (c .answers)
+read-in-order object before after answer c = read-order (judge object) (places before) (headersOf object) answer (λ r h. of-object object r h .most) (c .answers)
 
 pub read-at-most-in-order : ReadAtMostInOrder
-read-at-most-in-order object most before after answer c = read-order (judge object) (min most (places before)) answer (λ r h. of-object object r h .most) (c .answers)
+read-at-most-in-order object most before after answer c =
+    read-order (judge object) (min most (places before)) (headersOf object) answer (λ r h. of-object object r h .most) (c .answers)
 
 pub read-records-in-order : ReadRecordsInOrder
-read-records-in-order object before after slice slice′ answer c = read-order (judge object) (min (length slice) (places before)) answer (λ r h. of-object object r h .most) (c .answers)
+read-records-in-order object before after slice slice′ answer c =
+    read-order (judge object) (min (length slice) (places before)) (headersOf object) answer (λ r h. of-object object r h .most) (c .answers)
 
 module _ (n : ℕ) (memory : Memory) (room : OctetCount) (answer : WriteAnswer) where
   -- two trees of the same records are one

@@ -13,6 +13,8 @@ use Rattle.octets.specs.Numbers.{Octets}
 use Rattle.octets.proofs.Tests.{and-left, and-right}
 use Rattle.octets.specs.Counts.{sizeOf}
 use Rattle.octets.proofs.Numbers.{octets-none, octets-cons}
+use Rattle.format.specs.declared.ReadAnswer.{ReadAnswer}
+use Rattle.format.specs.declared.ReadAnswer.the-variants.{Records}
 use Rattle.format.specs.declared.WriteAnswer.{WriteAnswer}
 use Rattle.format.specs.declared.WriteAnswer.the-variants.{NotWritten}
 use Rattle.format.specs.declared.SameAnswer.{SameAnswer}
@@ -38,6 +40,7 @@ use Rattle.demands.specs.Three.{BothAccepted}
 use Rattle.demands.proofs.Laws.{tree-given, given-tree, accepted-means}
 use Rattle.demands.proofs.One.{write-in-order, normalise-in-order, same-in-order}
 use Rattle.demands.proofs.Three.{same-exactly}
+use Rattle.demands.proofs.Headers.{headers-named}
 use Rattle.demands.proofs.Bench.{table-refused, table-accepted, bench-read, bench-normalise}
 
 -- two rows of the table
@@ -76,9 +79,13 @@ none-in n memory h = go (leb n (length (memory .bodies)))
     go true = h
     go false = refl
 
+-- so many records beside so many items
+abbrev counting : (n items : ℕ) → ReadAnswer
+counting n items = Records (record { records = n; items = items })
+
 pub eight-pass : EightPass
 eight-pass = record {
-  read = λ before after answer c l. bench-read (named 8) before after answer c .counting 3 (named 8) eight-is l;
+  read = λ before after answer c l. bench-read (named 8) before after answer c .counting 3 (named 8) eight-is l ∙ ap (counting 3) (headers-named .1);
   normalised = λ memory memory′ room room′ n c. bench-normalise (named 8) memory memory′ room room′ n c 3 (named 8) eight-is;
   written = λ bodies bodies′ before after h c. given-passes 3 (namedMemory 8 bodies) bodies′ before after (ap isGiven (in-all 3 (namedMemory 8 bodies) h) ∙ ill-formed .8) c;
 }
@@ -166,7 +173,7 @@ none-is = ap (row 16) slipped
 pub recommendation-no : RecommendationNo
 unfolding areOctets
 recommendation-no = record {
-  read = λ before after answer c l. bench-read (recommended 1) before after answer c .counting 4 unrecommended no-is l;
+  read = λ before after answer c l. bench-read (recommended 1) before after answer c .counting 4 unrecommended no-is l ∙ ap (counting 4) (headers-named .2);
   normalised = λ memory memory′ room room′ n c. bench-normalise (recommended 1) memory memory′ room room′ n c 4 unrecommended no-is;
   compared = table-same (recommended 1) unrecommended 4 3 unrecommended unrecommended (are-octets (recommended 1) refl) (are-octets unrecommended refl) no-is none-is (omega arith) refl;
   yes-differs = table-different (recommended 2) unrecommended 4 3 (recommended 2) unrecommended (are-octets (recommended 2) refl) (are-octets unrecommended refl) yes-is none-is (omega arith) (λ e. let z : _≡_ {A = ℕ} 9 6 = ap length e in omega arith);

@@ -1,5 +1,5 @@
 -- Demand 2: from the claims, with the grammar's agreement with the judgement.
-use mathlib.Core.Path.{_≡_, refl, sym, ap, _∙_, subst}
+use mathlib.Core.Path.{_≡_, refl, sym, ap, ap₂, _∙_, subst}
 use mathlib.Core.List.{List, [], _++_}
 use Prim.Native.Nat.{ℕ, _+_, _≤_, _<_, min}
 use native.Mathlib.Nat.{zero-add, min-le-right, le-min}
@@ -17,9 +17,10 @@ use Rattle.format.specs.declared.WriteAnswer.the-variants.{Octets as Written}
 use Rattle.format.specs.Tree.{Items, count, recordsOf, bodiesOf}
 use Rattle.format.specs.Judge.{Judged, judge}
 use Rattle.format.specs.Judge.Judged.{refused, accepted}
+use Rattle.format.specs.Headers.{headersOf}
 use Rattle.format.specs.Meaning.{means, tableOf, encode}
 use Rattle.format.specs.Writer.{tabled}
-use Rattle.format.specs.Calls.{Lists, row, places, lay, judgeAnswer, readRecords, spanOf, bodyAt}
+use Rattle.format.specs.Calls.{Lists, row, places, lay, countsOf, judgeAnswer, readRecords, spanOf, bodyAt}
 use Rattle.format.specs.State.{bodySizes}
 use Rattle.state.specs.Taking.{WriteClaim}
 use Rattle.format.proofs.Lays.{places-lay, within-places, row-lay-behind, tabled-laid, getD-tabled}
@@ -41,7 +42,7 @@ accepted-exactly object os before after answer c = (
   (λ a r l e. never (let h : judge object ≡ refused r = order .ofObject r l .0 e in let g = sound object (a .0) (a .1) in cc)),
 )
   where
-    order : ReadOrder (judge object) (places before) answer
+    order : ReadOrder (judge object) (places before) (headersOf object) answer
     order = read-in-order object before after answer c
 
     go : ((r : Refusal) → r .number ≤ 13 → answer ≡ NotRead r → ⊥) → (j : Judged) → judge object ≡ j → (t : Items) × Accepts object t
@@ -49,21 +50,25 @@ accepted-exactly object os before after answer c = (
     go calm (accepted t) h = (t, complete object t os h)
 
 pub read-exactly : ReadExactly
-read-exactly object os before after answer c n =
+read-exactly object os before after answer c n items =
     let order = read-in-order object before after answer c in (
-      (λ e. let f = order .records n .0 e in (f .0, complete object (f .0) os (f .1), f .2, f .3)),
-      (λ a. order .records n .1 (a .0, sound object (a .0) (a .1), a .2, a .3)),
+      (λ e. let f = order .records n items .0 e in (f .0, complete object (f .0) os (f .1), f .2, f .3, f .4)),
+      (λ a. order .records n items .1 (a .0, sound object (a .0) (a .1), a .2, a .3, a .4)),
     )
 
 pub judged-exactly : JudgedExactly
 unfolding judgeAnswer
-judged-exactly object os answer e n = ((λ q. go (judge object) refl (sym q ∙ e)), (λ a. e ∙ ap judgeAnswer (sound object (a .0) (a .1)) ∙ ap (λ k. Records (record { records = k })) (sym (a .2))))
+judged-exactly object os answer e n items = (
+  (λ q. go (judge object) refl (sym q ∙ e)),
+  (λ a. e ∙ ap (judgeAnswer (headersOf object)) (sound object (a .0) (a .1)) ∙ ap₂ (λ k i. Records (record { records = k; items = i })) (sym (a .2)) (sym (a .3))),
+)
   where
-    go : (j : Judged) → judge object ≡ j → Records (record { records = n }) ≡ judgeAnswer j → (t : Items) × Accepts object t × (n ≡ count t)
+    go : (j : Judged) → judge object ≡ j → Records (record { records = n; items = items }) ≡ judgeAnswer (headersOf object) j
+        → (t : Items) × Accepts object t × (n ≡ count t) × (items ≡ headersOf object)
     go (refused r) h q = never (cc)
     go (accepted t) h q =
-        let w : _≡_ {A = Counts} (record { records = n }) (record { records = count t }) = cc in
-        (t, complete object t os h, ap (λ x. x .records) w)
+        let w : _≡_ {A = Counts} (record { records = n; items = items }) (countsOf (headersOf object) t) = cc in
+        (t, complete object t os h, ap (λ x. x .records) w, ap (λ x. x .items) w)
 
 pub one-tree : OneTree
 one-tree = agree-one-tree
@@ -118,22 +123,22 @@ handed-out object t h before after n many room laid =
     }
 
 pub tree-handed-out : TreeHandedOut
-tree-handed-out object os before after n c t a =
+tree-handed-out object os before after n items c t a =
     let h = sound object t a in
-    let f = read-in-order object before after (Records (record { records = n })) c .records n .0 refl in
+    let f = read-in-order object before after (Records (record { records = n; items = items })) c .records n items .0 refl in
     let same : f .0 ≡ t = (let z = f .1 in cc) in
     let many : n ≡ count t = f .2 ∙ ap count same in
-    handed-out object t h before after n many (f .3) (c .leaves ∙ ap (λ rs. lay 0 rs before) (ap (readRecords (places before)) h ∙ records-read (places before) t (omega (arith, f .3))))
+    handed-out object t h before after n many (f .4) (c .leaves ∙ ap (λ rs. lay 0 rs before) (ap (readRecords (places before)) h ∙ records-read (places before) t (omega (arith, f .4))))
 
 pub slice-handed-out : SliceHandedOut
-slice-handed-out object os before after slice slice′ n c t a =
+slice-handed-out object os before after slice slice′ n items c t a =
     let m = min (length slice) (places before) in
     let h = sound object t a in
-    let f = read-records-in-order object before after slice slice′ (Records (record { records = n })) c .records n .0 refl in
+    let f = read-records-in-order object before after slice slice′ (Records (record { records = n; items = items })) c .records n items .0 refl in
     let same : f .0 ≡ t = (let z = f .1 in cc) in
     let many : n ≡ count t = f .2 ∙ ap count same in
-    let handed : readRecords m (judge object) ≡ recordsOf t = ap (readRecords m) h ∙ records-read m t (omega (arith, f .3)) in (
-      handed-out object t h before after n many (omega (arith, f .3, min-le-right (length slice) (places before))) (c .leaves ∙ ap (λ rs. lay 0 rs before) handed),
+    let handed : readRecords m (judge object) ≡ recordsOf t = ap (readRecords m) h ∙ records-read m t (omega (arith, f .4)) in (
+      handed-out object t h before after n many (omega (arith, f .4, min-le-right (length slice) (places before))) (c .leaves ∙ ap (λ rs. lay 0 rs before) handed),
       c .fills ∙ ap (λ rs. rs ++ drop (length rs) slice) handed ∙ ap (λ k. recordsOf t ++ drop k slice) (records-count t 1 0 0 ∙ sym many),
     )
 

@@ -79,7 +79,7 @@ export-ends object before after answer c =
     go (refused r) h a o bad l = refusedAt (r .number) (r .place) (r .field) (asOthers (r .number) (r .place) (r .field) (forObject (r .number) (r .place) (r .field) (of-object object r h))) (kept [] refl l)
     go (accepted t) h a o (plain place p) l = refusedAt 17 place 0 (forPlain place (plain-inside object place p)) (kept [] refl l)
     go (accepted t) h a o (large p q) l = refusedAt 15 0 0 (asOthers 15 0 0 (forCall 15 0 0 (ofCall 15 refl))) (kept [] refl l)
-    go (accepted t) h a o (good p q) l = answered (length (xml (meaningOf t)))
+    go (accepted t) h a o (good p q) l = answered (length (xml (meaningOf t))) 0
 
 -- ---- in which order it refuses
 

@@ -11,6 +11,7 @@ use Rattle.format.specs.declared.ReadAnswer.{ReadAnswer}
 use Rattle.format.specs.declared.ReadAnswer.the-variants.{Records, NotRead}
 use Rattle.format.specs.declared.WriteAnswer.the-variants.{Octets as Written}
 use Rattle.format.specs.Judge.{judge}
+use Rattle.format.specs.Headers.{headersOf}
 use Rattle.format.specs.Writer.{tabled}
 use Rattle.format.specs.Calls.{Lists, row, places, ReadClaim}
 use Rattle.format.specs.Bench.{outcome, cases, listed, slips}
@@ -39,10 +40,10 @@ listing =
 abbrev pub Listing : Type 0
 Listing = listed (judge listedObject) ≡ listing
 
--- read answers what the table says of an object: its refusal, or its count of records where there are places for them
+-- read answers what the table says of an object: its refusal, or its count of records, beside that of its headers, where there are places for them
 pub record TableRead (object : List ℕ) (places : ℕ) (answer : ReadAnswer) : Type 0 where
   pub refusing : (r : Refusal) → outcome true object ≡ refuses r → answer ≡ NotRead r
-  pub counting : (n : ℕ) (o : List ℕ) → outcome true object ≡ normally n o → n ≤ places → answer ≡ Records (record { records = n })
+  pub counting : (n : ℕ) (o : List ℕ) → outcome true object ≡ normally n o → n ≤ places → answer ≡ Records (record { records = n; items = headersOf object })
 
 abbrev pub BenchRead : Type 0
 BenchRead = (object : List ℕ) (before after : Lists) (answer : ReadAnswer) → ReadClaim object before after answer → TableRead object (places before) answer
@@ -57,4 +58,4 @@ BenchNormalise =
 abbrev pub ListingRead : Type 0
 ListingRead =
     (before after : Lists) (answer : ReadAnswer) → ReadClaim listedObject before after answer → 2 ≤ places before
-    → (answer ≡ Records (record { records = 2 })) × (tabled (row after) 2 0 ≡ listing)
+    → (answer ≡ Records (record { records = 2; items = 2 })) × (tabled (row after) 2 0 ≡ listing)

@@ -11,11 +11,11 @@ use Rattle.octets.specs.declared.counts.Octets.{Octets as OctetCount}
 use Rattle.octets.specs.Counts.{asOctets, sizeOf}
 use Rattle.octets.specs.Numbers.{Octets}
 use Rattle.format.specs.declared.Refusal.{Refusal}
-use Rattle.format.specs.declared.ReadAnswer.{ReadAnswer}
-use Rattle.format.specs.declared.ReadAnswer.the-variants.{Records, NotRead}
+use Rattle.format.specs.declared.EditAnswer.{EditAnswer}
+use Rattle.format.specs.declared.EditAnswer.the-variants.{HasRecords, NotChanged}
 use Rattle.format.specs.declared.WriteAnswer.{WriteAnswer}
 use Rattle.format.specs.declared.WriteAnswer.the-variants.{Octets as Written, NotWritten}
-use Rattle.format.specs.Answers.{refusal, readOutcome, writeOutcome}
+use Rattle.format.specs.Answers.{refusal, editOutcome, writeOutcome}
 use Rattle.format.specs.Tree.{Items, count}
 use Rattle.format.specs.Judge.{Judged, judge}
 use Rattle.format.specs.Judge.Judged.{refused, accepted}
@@ -34,20 +34,20 @@ use Rattle.demands.specs.One.{OfCall, Refuses, Ends}
 -- take_in gives 1 to 13, 14 and 15
 abbrev pub TakeInEnds : Type 0
 TakeInEnds =
-    (object : List ℕ) (most : OctetCount) (m m′ : Memory) (answer : ReadAnswer) → TakeInClaim object most m m′ answer
-    → Ends (Refuses object (14 ∷ 15 ∷ [])) (m′ ≡ m) (readOutcome answer)
+    (object : List ℕ) (most : OctetCount) (m m′ : Memory) (answer : EditAnswer) → TakeInClaim object most m m′ answer
+    → Ends (Refuses object (14 ∷ 15 ∷ [])) (m′ ≡ m) (editOutcome answer)
 
 -- an edit gives 14 to 16 and 18, whatever memory holds; "The place is zero"
 abbrev pub EditEnds : Type 0
 EditEnds =
-    (e : Edit) (n : ℕ) (m m′ : Memory) (answer : ReadAnswer) → EditClaim e n m m′ answer
-    → Ends (OfCall (14 ∷ 15 ∷ 16 ∷ 18 ∷ [])) (m′ ≡ m) (readOutcome answer)
+    (e : Edit) (n : ℕ) (m m′ : Memory) (answer : EditAnswer) → EditClaim e n m m′ answer
+    → Ends (OfCall (14 ∷ 15 ∷ 16 ∷ 18 ∷ [])) (m′ ≡ m) (editOutcome answer)
 
 -- removing needs no more of what is lent, and breaks no rule: 18, and 16 only where memory holds no tree
 abbrev pub RemoveEnds : Type 0
 RemoveEnds =
-    (i n : ℕ) (m m′ : Memory) (answer : ReadAnswer) → Octets (m .store) → EditClaim (remove i) n m m′ answer
-    → Ends (OfCall (16 ∷ 18 ∷ [])) (m′ ≡ m) (readOutcome answer)
+    (i n : ℕ) (m m′ : Memory) (answer : EditAnswer) → Octets (m .store) → EditClaim (remove i) n m m′ answer
+    → Ends (OfCall (16 ∷ 18 ∷ [])) (m′ ≡ m) (editOutcome answer)
 
 -- write_state gives 16 and 15
 abbrev pub WriteStateEnds : Type 0
@@ -70,31 +70,31 @@ pub data Overflows (most : OctetCount) (m : Memory) (u : Items) : Refusal → Ty
   fifteen : count u ≤ placesIn m → (Holds most m u → ⊥) → Overflows most m u (refusal 15 0)
 
 -- take_in: 1 to 13 exactly when the object is refused so; 14 and 15 exactly when it is accepted and its loaded tree doesn't fit; else the number of its records
-pub record TakeInOrder (judged : Judged) (most : OctetCount) (m : Memory) (answer : ReadAnswer) : Type 0 where
-  pub ofObject : (r : Refusal) → r .number ≤ 13 → (answer ≡ NotRead r) ↔ (judged ≡ refused r)
-  pub lacking : (r : Refusal) → 14 ≤ r .number → (answer ≡ NotRead r) ↔ ((t : Items) × (judged ≡ accepted t) × Overflows most m (loadedOf t) r)
-  pub records : (k : ℕ) → (answer ≡ Records (record { records = k })) ↔ ((t : Items) × (judged ≡ accepted t) × (k ≡ count (loadedOf t)) × Holds most m (loadedOf t))
+pub record TakeInOrder (judged : Judged) (most : OctetCount) (m : Memory) (answer : EditAnswer) : Type 0 where
+  pub ofObject : (r : Refusal) → r .number ≤ 13 → (answer ≡ NotChanged r) ↔ (judged ≡ refused r)
+  pub lacking : (r : Refusal) → 14 ≤ r .number → (answer ≡ NotChanged r) ↔ ((t : Items) × (judged ≡ accepted t) × Overflows most m (loadedOf t) r)
+  pub records : (k : ℕ) → (answer ≡ HasRecords k) ↔ ((t : Items) × (judged ≡ accepted t) × (k ≡ count (loadedOf t)) × Holds most m (loadedOf t))
 
 abbrev pub TakeInInOrder : Type 0
 TakeInInOrder =
-    (object : List ℕ) (most : OctetCount) (m m′ : Memory) (answer : ReadAnswer) → TakeInClaim object most m m′ answer → TakeInOrder (judge object) most m answer
+    (object : List ℕ) (most : OctetCount) (m m′ : Memory) (answer : EditAnswer) → TakeInClaim object most m m′ answer → TakeInOrder (judge object) most m answer
 
 -- an edit of a tree: 18 exactly when record or place isn't there; 16 exactly when it is and the result would break a rule; 14 and 15 exactly when neither holds and the
 -- result doesn't fit; else how many records there are then
-pub record EditOrder (e : Edit) (t : Items) (m : Memory) (answer : ReadAnswer) : Type 0 where
-  pub eighteen : (answer ≡ NotRead (refusal 18 0)) ↔ (isThere e t ≡ false)
-  pub sixteen : (answer ≡ NotRead (refusal 16 0)) ↔ ((isThere e t ≡ true) × (edited e t ≡ none))
+pub record EditOrder (e : Edit) (t : Items) (m : Memory) (answer : EditAnswer) : Type 0 where
+  pub eighteen : (answer ≡ NotChanged (refusal 18 0)) ↔ (isThere e t ≡ false)
+  pub sixteen : (answer ≡ NotChanged (refusal 16 0)) ↔ ((isThere e t ≡ true) × (edited e t ≡ none))
   pub lacking :
       (r : Refusal) → r .number ≤ 15
-      → (answer ≡ NotRead r) ↔ ((u : Items) × (isThere e t ≡ true) × (edited e t ≡ some u) × Overflows (asOctets 32_768) m u r)
+      → (answer ≡ NotChanged r) ↔ ((u : Items) × (isThere e t ≡ true) × (edited e t ≡ some u) × Overflows (asOctets 32_768) m u r)
   pub records :
       (k : ℕ)
-      → (answer ≡ Records (record { records = k })) ↔ ((u : Items) × (isThere e t ≡ true) × (edited e t ≡ some u) × (k ≡ count u) × Holds (asOctets 32_768) m u)
+      → (answer ≡ HasRecords k) ↔ ((u : Items) × (isThere e t ≡ true) × (edited e t ≡ some u) × (k ≡ count u) × Holds (asOctets 32_768) m u)
 
 -- where memory holds no tree there is nothing to edit, and 16 is given
 pub record EditInOrder : Type 0 where
-  pub noTree : (e : Edit) (n : ℕ) (m m′ : Memory) (answer : ReadAnswer) → EditClaim e n m m′ answer → treeHeld n m ≡ none → answer ≡ NotRead (refusal 16 0)
-  pub tree : (e : Edit) (n : ℕ) (m m′ : Memory) (answer : ReadAnswer) → EditClaim e n m m′ answer → (t : Items) → treeHeld n m ≡ some t → EditOrder e t m answer
+  pub noTree : (e : Edit) (n : ℕ) (m m′ : Memory) (answer : EditAnswer) → EditClaim e n m m′ answer → treeHeld n m ≡ none → answer ≡ NotChanged (refusal 16 0)
+  pub tree : (e : Edit) (n : ℕ) (m m′ : Memory) (answer : EditAnswer) → EditClaim e n m m′ answer → (t : Items) → treeHeld n m ≡ some t → EditOrder e t m answer
 
 -- write_state: 16 exactly when memory holds no tree; 15 exactly when it does and the normal form of that is above the room; else its octets
 pub record WriteStateOrder (n : ℕ) (m : Memory) (room : OctetCount) (answer : WriteAnswer) : Type 0 where

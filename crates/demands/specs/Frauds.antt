@@ -47,11 +47,11 @@ WritesNothing = (n : ℕ) (memory : Memory) (bodies′ before after : List ℕ) 
 -- a reader that reads the first child and invents the rest: a record that isn't the one of its number in the object's tree
 abbrev pub InventsRecord : Type 0
 InventsRecord =
-    (object : List ℕ) → Octets object → (before after : Lists) (n : ℕ) → ReadClaim object before after (Records (record { records = n })) → (t : Items) → Accepts object t
-    → (i : ℕ) (d : Record) → i < n → (row after i ≡ getD (recordsOf t) i d → ⊥) → ⊥
+    (object : List ℕ) → Octets object → (before after : Lists) (n items : ℕ) → ReadClaim object before after (Records (record { records = n; items = items }))
+    → (t : Items) → Accepts object t → (i : ℕ) (d : Record) → i < n → (row after i ≡ getD (recordsOf t) i d → ⊥) → ⊥
 
 -- an invented record count: one that isn't the number of known items but the token table
 abbrev pub InventsCount : Type 0
 InventsCount =
-    (object : List ℕ) → Octets object → (before after : Lists) (n : ℕ) → ReadClaim object before after (Records (record { records = n })) → (t : Items) → Accepts object t
-    → (n ≡ count t → ⊥) → ⊥
+    (object : List ℕ) → Octets object → (before after : Lists) (n items : ℕ) → ReadClaim object before after (Records (record { records = n; items = items }))
+    → (t : Items) → Accepts object t → (n ≡ count t → ⊥) → ⊥

@@ -8,4 +8,5 @@ pub mod Bench
 pub mod Frauds
 pub mod Edits
 pub mod Requests
+pub mod Headers
 pub mod Lengths

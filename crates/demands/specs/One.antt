@@ -29,6 +29,7 @@ use Rattle.format.specs.Tree.{Items, count, recordsOf}
 use Rattle.format.specs.Tree.Items.{end, item}
 use Rattle.format.specs.Judge.{Judged, judge}
 use Rattle.format.specs.Judge.Judged.{refused, accepted}
+use Rattle.format.specs.Headers.{headersOf}
 use Rattle.format.specs.Meaning.{means, encode, normalOf}
 use Rattle.format.specs.Writer.{atTop, ruled, tabled}
 use Rattle.format.specs.Loaded.{storeOf}
@@ -58,11 +59,13 @@ pub data Refuses (object numbers : List ℕ) : ℕ → ℕ → ℕ → Type 0 wh
   forObject : (number place field : ℕ) → OfObject object number place field → Refuses object numbers number place field
   forCall : (number place field : ℕ) → OfCall numbers number place field → Refuses object numbers number place field
 
--- how a call ends, in document 01's numbers: with an answer, which has no refusal's number, no place, no field, and a count; or with a number, a place and a field
--- for which there is a reason, the count 0, and all that was lent kept
+-- how a call ends, in document 01's numbers: with an answer, which has no refusal's number, no place, no field, and counts; or with a number, a place and a field
+-- for which there is a reason, both counts 0, and all that was lent kept
 pub data Ends (Reason : ℕ → ℕ → ℕ → Type 0) (Kept : Type 0) : Outcome → Type 0 where
-  answered : (n : ℕ) → Ends Reason Kept (record { number = 0; place = 0; field = 0; count = n })
-  refusedAt : (number place field : ℕ) → Reason number place field → Kept → Ends Reason Kept (record { number = number; place = place; field = field; count = 0 })
+  answered : (n items : ℕ) → Ends Reason Kept (record { number = 0; place = 0; field = 0; count = n; items = items })
+  refusedAt :
+      (number place field : ℕ) → Reason number place field → Kept
+      → Ends Reason Kept (record { number = number; place = place; field = field; count = 0; items = 0 })
 
 -- the same of two objects with nothing lent: which of them is refused is told too
 pub data SameEnds (a b : List ℕ) : SameOutcome → Type 0 where
@@ -72,7 +75,8 @@ pub data SameEnds (a b : List ℕ) : SameOutcome → Type 0 where
 
 -- judge gives 1 to 13; nothing is lent to it
 abbrev pub JudgeEnds : Type 0
-JudgeEnds = (object : List ℕ) (answer : ReadAnswer) → answer ≡ judgeAnswer (judge object) → Ends (OfObject object) (Unit {0}) (readOutcome answer)
+JudgeEnds =
+    (object : List ℕ) (answer : ReadAnswer) → answer ≡ judgeAnswer (headersOf object) (judge object) → Ends (OfObject object) (Unit {0}) (readOutcome answer)
 
 -- read gives 1 to 13, and 14
 abbrev pub ReadEnds : Type 0
@@ -115,26 +119,31 @@ SameCallEnds = (a b : List ℕ) (answer : SameAnswer) → answer ≡ sameAnswer 
 abbrev pub OneExactly : Type 0
 OneExactly = (object : List ℕ) (place : ℕ) → (judge object ≡ refused (refusal 1 place)) ↔ ((place ≡ 0) × ((length object ≡ 0) ⊎ (32_768 < length object)))
 
--- read: 1 to 13 exactly when the object is refused so; 14 exactly when it is accepted and has more records than there are places; else its records
-pub record ReadOrder (judged : Judged) (places : ℕ) (answer : ReadAnswer) : Type 0 where
+-- read of octets with so many headers: 1 to 13 exactly when the object is refused so; 14 exactly when it is accepted and has more records than there are places; else
+-- its records, and as the items judged those headers (change request 2026-09)
+pub record ReadOrder (judged : Judged) (places headers : ℕ) (answer : ReadAnswer) : Type 0 where
   pub ofObject : (r : Refusal) → r .number ≤ 13 → (answer ≡ NotRead r) ↔ (judged ≡ refused r)
   pub fourteen : (answer ≡ NotRead (refusal 14 0)) ↔ ((t : Items) × (judged ≡ accepted t) × (places < count t))
-  pub records : (n : ℕ) → (answer ≡ Records (record { records = n })) ↔ ((t : Items) × (judged ≡ accepted t) × (n ≡ count t) × (n ≤ places))
+  pub records :
+      (n items : ℕ)
+      → (answer ≡ Records (record { records = n; items = items })) ↔ ((t : Items) × (judged ≡ accepted t) × (n ≡ count t) × (items ≡ headers) × (n ≤ places))
 
 abbrev pub ReadInOrder : Type 0
-ReadInOrder = (object : List ℕ) (before after : Lists) (answer : ReadAnswer) → ReadClaim object before after answer → ReadOrder (judge object) (places before) answer
+ReadInOrder =
+    (object : List ℕ) (before after : Lists) (answer : ReadAnswer) → ReadClaim object before after answer
+    → ReadOrder (judge object) (places before) (headersOf object) answer
 
 -- read_at_most: no more places than its caller says
 abbrev pub ReadAtMostInOrder : Type 0
 ReadAtMostInOrder =
     (object : List ℕ) (most : ℕ) (before after : Lists) (answer : ReadAnswer) → ReadAtMostClaim object most before after answer
-    → ReadOrder (judge object) (min most (places before)) answer
+    → ReadOrder (judge object) (min most (places before)) (headersOf object) answer
 
 -- read_records: the slice's places count too
 abbrev pub ReadRecordsInOrder : Type 0
 ReadRecordsInOrder =
     (object : List ℕ) (before after : Lists) (slice slice′ : List Record) (answer : ReadAnswer) → ReadRecordsClaim object before after slice slice′ answer
-    → ReadOrder (judge object) (min (length slice) (places before)) answer
+    → ReadOrder (judge object) (min (length slice) (places before)) (headersOf object) answer
 
 -- each item's body is the part of the octets that begins at the item's offset
 abbrev pub LiesIn : List ℕ → Items → Type 0

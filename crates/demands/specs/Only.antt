@@ -12,6 +12,7 @@ use Rattle.text.specs.Index.{Indexes}
 use Rattle.text.specs.Weighing.{Marks, Widths, Shows}
 use Rattle.format.specs.declared.Record.{Record}
 use Rattle.format.specs.declared.ReadAnswer.{ReadAnswer}
+use Rattle.format.specs.declared.EditAnswer.{EditAnswer}
 use Rattle.format.specs.declared.WriteAnswer.{WriteAnswer}
 use Rattle.format.specs.Calls.{Lists, ReadClaim, ReadAtMostClaim, ReadRecordsClaim}
 use Rattle.format.specs.State.{Memory}
@@ -24,7 +25,7 @@ use Rattle.spi_c.specs.Claims.{ReadsC, SpansC, WritesC, NormalisesC, TakesInC, 
 -- every call whose claim is one equation for its answer; none of them is lent anything to write.
 -- octets: read_header, item_at, header_size, read_number. text: check, is_token, is_table, is_covered, weigh, expanded_size. values: is_attribute, known_kind,
 -- is_default, Time::take, valid, canonical, local, size, Bearer::take, valid, size, fits_kind, wrong_field, normal_size. format: kind_of, refuse, and outcome
--- of ReadAnswer, WriteAnswer, SameAnswer. tags: is_top, is_allowed, latest_of, stage_after, is_within_depth, is_short, has_bit, with_bit, listed_as,
+-- of ReadAnswer, EditAnswer, WriteAnswer, SameAnswer. tags: is_top, is_allowed, latest_of, stage_after, is_within_depth, is_short, has_bit, with_bit, listed_as,
 -- holds_items, holds_text. judge: judge. reader: places, span, body. records: is_well_formed. survey: survey, find_item, find_first, table_of, written_as.
 -- pocket: gate, data_type, outcome of GateAnswer. compare: same, is_normal, same_texts, same_bodies, same_octets, same_attribute, same_attributes, same_cdata, same_child, same_children. spi_c: spi_check_text.
 -- For body and table_of, which hand back a part of the caller's octets, the equation is for what the part holds
@@ -69,14 +70,14 @@ OneNormalise =
 -- take_in
 abbrev pub OneTakeIn : Type 0
 OneTakeIn =
-    (object : List ℕ) (most : OctetCount) (before one other : Memory) (answer answer′ : ReadAnswer)
+    (object : List ℕ) (most : OctetCount) (before one other : Memory) (answer answer′ : EditAnswer)
     → TakeInClaim object most before one answer → TakeInClaim object most before other answer′
     → (answer ≡ answer′) × (one ≡ other)
 
 -- replace_text, remove, insert
 abbrev pub OneEdit : Type 0
 OneEdit =
-    (e : Edit) (n : ℕ) (before one other : Memory) (answer answer′ : ReadAnswer)
+    (e : Edit) (n : ℕ) (before one other : Memory) (answer answer′ : EditAnswer)
     → EditClaim e n before one answer → EditClaim e n before other answer′
     → (answer ≡ answer′) × (one ≡ other)
 

@@ -43,7 +43,9 @@ namedMemory n bodies = record { lists = namedRecords n; bodies = bodies; store =
 
 -- eight pass: read gives the three records where there are places, normalise gives these octets again, and write doesn't find the records ill-formed
 pub record EightPass : Type 0 where
-  pub read : (before after : Lists) (answer : ReadAnswer) → ReadClaim (named 8) before after answer → 3 ≤ places before → answer ≡ Records (record { records = 3 })
+  pub read :
+      (before after : Lists) (answer : ReadAnswer) → ReadClaim (named 8) before after answer → 3 ≤ places before
+      → answer ≡ Records (record { records = 3; items = 3 })
   pub normalised :
       (memory memory′ : Memory) (room room′ : List ℕ) (n : OctetCount) → NormaliseClaim (named 8) memory memory′ room room′ (Written n) → take (n .0) room′ ≡ named 8
   pub written : (bodies bodies′ before after : List ℕ) → 3 ≤ length bodies → WriteClaim 3 (namedMemory 8 bodies) bodies′ before after (NotWritten (refusal 16 0)) → ⊥
@@ -91,7 +93,9 @@ unrecommended = 0x02 ∷ 0x04 ∷ 0x21 ∷ 0x02 ∷ 0x1C ∷ 0x00 ∷ []
 
 -- "no", which is the default, is read as a record, isn't in the normal form, and is the same as none; "yes" isn't
 pub record RecommendationNo : Type 0 where
-  pub read : (before after : Lists) (answer : ReadAnswer) → ReadClaim (recommended 1) before after answer → 4 ≤ places before → answer ≡ Records (record { records = 4 })
+  pub read :
+      (before after : Lists) (answer : ReadAnswer) → ReadClaim (recommended 1) before after answer → 4 ≤ places before
+      → answer ≡ Records (record { records = 4; items = 4 })
   pub normalised :
       (memory memory′ : Memory) (room room′ : List ℕ) (n : OctetCount) → NormaliseClaim (recommended 1) memory memory′ room room′ (Written n)
       → take (n .0) room′ ≡ unrecommended

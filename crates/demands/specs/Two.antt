@@ -19,6 +19,7 @@ use Rattle.format.specs.declared.WriteAnswer.{WriteAnswer}
 use Rattle.format.specs.declared.WriteAnswer.the-variants.{Octets as Written}
 use Rattle.format.specs.Tree.{Items, count, recordsOf, bodiesOf}
 use Rattle.format.specs.Judge.{judge}
+use Rattle.format.specs.Headers.{headersOf}
 use Rattle.format.specs.Meaning.{means, tableOf, meaningOf, encode}
 use Rattle.format.specs.Writer.{tree, tabled}
 use Rattle.format.specs.Calls.{Lists, row, places, judgeAnswer, spanOf, bodyAt, ReadClaim, ReadRecordsClaim}
@@ -35,17 +36,18 @@ AcceptedExactly =
     (object : List ℕ) → Octets object → (before after : Lists) (answer : ReadAnswer) → ReadClaim object before after answer
     → ((r : Refusal) → r .number ≤ 13 → answer ≡ NotRead r → ⊥) ↔ ((t : Items) × Accepts object t)
 
--- read hands out n records exactly when the octets are an object of the grammar, its tree has n known items but the token table, and there are places for them
+-- read hands out n records exactly when the octets are an object of the grammar, its tree has n known items but the token table, and there are places for them; the
+-- items that it counts are the headers of the object
 abbrev pub ReadExactly : Type 0
 ReadExactly =
-    (object : List ℕ) → Octets object → (before after : Lists) (answer : ReadAnswer) → ReadClaim object before after answer → (n : ℕ)
-    → (answer ≡ Records (record { records = n })) ↔ ((t : Items) × Accepts object t × (n ≡ count t) × (n ≤ places before))
+    (object : List ℕ) → Octets object → (before after : Lists) (answer : ReadAnswer) → ReadClaim object before after answer → (n items : ℕ)
+    → (answer ≡ Records (record { records = n; items = items })) ↔ ((t : Items) × Accepts object t × (n ≡ count t) × (items ≡ headersOf object) × (n ≤ places before))
 
--- judge counts n records exactly when the octets are an object of the grammar whose tree has n known items but the token table
+-- judge counts n records exactly when the octets are an object of the grammar whose tree has n known items but the token table; items likewise
 abbrev pub JudgedExactly : Type 0
 JudgedExactly =
-    (object : List ℕ) → Octets object → (answer : ReadAnswer) → answer ≡ judgeAnswer (judge object) → (n : ℕ)
-    → (answer ≡ Records (record { records = n })) ↔ ((t : Items) × Accepts object t × (n ≡ count t))
+    (object : List ℕ) → Octets object → (answer : ReadAnswer) → answer ≡ judgeAnswer (headersOf object) (judge object) → (n items : ℕ)
+    → (answer ≡ Records (record { records = n; items = items })) ↔ ((t : Items) × Accepts object t × (n ≡ count t) × (items ≡ headersOf object))
 
 -- ---- the tree handed out is the one those rules give
 
@@ -73,14 +75,14 @@ pub record HandedOut (object : List ℕ) (t : Items) (before after : Lists) (n :
 
 abbrev pub TreeHandedOut : Type 0
 TreeHandedOut =
-    (object : List ℕ) → Octets object → (before after : Lists) (n : ℕ) → ReadClaim object before after (Records (record { records = n }))
+    (object : List ℕ) → Octets object → (before after : Lists) (n items : ℕ) → ReadClaim object before after (Records (record { records = n; items = items }))
     → (t : Items) → Accepts object t → HandedOut object t before after n
 
 -- read_records: the slice too has the records, and then what it had
 abbrev pub SliceHandedOut : Type 0
 SliceHandedOut =
-    (object : List ℕ) → Octets object → (before after : Lists) (slice slice′ : List Record) (n : ℕ)
-    → ReadRecordsClaim object before after slice slice′ (Records (record { records = n }))
+    (object : List ℕ) → Octets object → (before after : Lists) (slice slice′ : List Record) (n items : ℕ)
+    → ReadRecordsClaim object before after slice slice′ (Records (record { records = n; items = items }))
     → (t : Items) → Accepts object t → HandedOut object t before after n × (slice′ ≡ recordsOf t ++ drop n slice)
 
 -- ---- a well-formed tree that fits is written so that it reads back with the same meaning
