@@ -3,8 +3,8 @@
  *
  * Reads a stream of cases on standard input and prints one answer for each: the listing of a
  * binary SPI object (L), its normal form (N), the octets that records stand for (W), whether two
- * objects mean the same (S), the XML of an object (X), what a run of edits makes of an object (E), and
- * whether the small receiver's gate lets an object pass (G).
+ * objects mean the same (S), the XML of an object (X), what a run of edits makes of an object (E),
+ * whether the small receiver's gate lets an object pass (G), and how many records and items it has (C).
  * Written from documents 01 (the rules) and 02 (the requests that amend them), from 002, TS 102 371 V3.2.1
  * (the layouts, and annex A for the gate), and for the XML and the defaults from document 003, TS 102 818,
  * alone, so that it can be held against the proved program.
@@ -555,6 +555,7 @@ struct tree {
     size_t waiting_count;
     struct waiting waiting[ATTRIBUTE_TAGS];
     uint32_t first_plain; /* the place of the first item of plain octets; 0, the top's own, for none */
+    size_t headers;       /* items that were judged, unknown ones and the token table too (02, 2026-09) */
     size_t count;
     struct node nodes[LIST_LIMIT];
 };
@@ -565,6 +566,7 @@ static void clear_tree(struct tree *tree, const uint8_t *octets)
     tree->table = no_tokens;
     tree->waiting_count = 0;
     tree->first_plain = 0;
+    tree->headers = 0;
     tree->count = 0;
 }
 
@@ -805,7 +807,8 @@ static struct verdict read_known(struct tree *tree, const struct open_element *p
 }
 
 /* Judges the items of one element in reading order: the rules of each, then its children's.  An item
- * that is neither attribute nor table ends the top's attributes, so what waits is settled before it. */
+ * that is neither attribute nor table ends the top's attributes, so what waits is settled before it.
+ * Every item of the list is counted, and none that lies in an unknown one, since no list is read there. */
 static struct verdict read_list(struct tree *tree, size_t node, uint32_t start, uint32_t end)
 {
     struct open_element here = open_list(tree, node);
@@ -826,6 +829,7 @@ static struct verdict read_list(struct tree *tree, size_t node, uint32_t start, 
         if (number != ACCEPTED)
             return refused(number, at);
 
+        tree->headers++;
         if (body != UNKNOWN)
             verdict = read_known(tree, &here, &item, body);
         if (verdict.number != ACCEPTED)
@@ -852,6 +856,7 @@ static struct verdict read_object(struct tree *tree, const uint8_t *octets, uint
 
     const struct open_element outside = {.node = 0, .depth = 0};
     add_node(tree, &outside, &top, ITEMS);
+    tree->headers = 1;
     return read_list(tree, 0, top.start, top.end);
 }
 
@@ -2167,13 +2172,25 @@ static void put_record(const struct node *node)
     put_char('\n');
 }
 
+static void put_record_count(const struct tree *tree)
+{
+    put_string("records ");
+    put_number(tree->count);
+}
+
 static void put_listing(const struct tree *tree)
 {
     put_string("depth tag kind offset length\n");
     for (size_t i = 0; i < tree->count; i++)
         put_record(&tree->nodes[i]);
-    put_string("records ");
-    put_number(tree->count);
+    put_record_count(tree);
+}
+
+static void put_counts(const struct tree *tree)
+{
+    put_record_count(tree);
+    put_string(" headers ");
+    put_number(tree->headers);
 }
 
 static void put_octets(const char *word, const uint8_t *octets, size_t size)
@@ -2210,19 +2227,43 @@ static int normalise(struct tree *tree, uint32_t places, uint32_t store, uint32_
 /* Each function below takes one case and prints its answer but for the newline; false, with nothing
  * printed, where the stream is bad. */
 
-static bool answer_listing(void)
+/* Takes how many places are lent, and an object, and reads that into them. */
+static bool take_reading(struct verdict *verdict)
 {
     uint32_t places;
 
     if (!take_short(&places) || !take_object(&first_object))
         return false;
-    struct verdict verdict = read_object(&first_tree, first_object.octets, first_object.size);
-    if (verdict.number == ACCEPTED && first_tree.count > places)
-        verdict = refused(TOO_FEW_PLACES, 0);
+    *verdict = read_object(&first_tree, first_object.octets, first_object.size);
+    if (verdict->number == ACCEPTED && first_tree.count > places)
+        *verdict = refused(TOO_FEW_PLACES, 0);
+    return true;
+}
+
+static bool answer_listing(void)
+{
+    struct verdict verdict;
+
+    if (!take_reading(&verdict))
+        return false;
     if (verdict.number != ACCEPTED)
         put_refusal(verdict);
     else
         put_listing(&first_tree);
+    return true;
+}
+
+/* Both counts are 0 after a refusal, so nothing is told of them then. */
+static bool answer_counts(void)
+{
+    struct verdict verdict;
+
+    if (!take_reading(&verdict))
+        return false;
+    if (verdict.number != ACCEPTED)
+        put_refusal(verdict);
+    else
+        put_counts(&first_tree);
     return true;
 }
 
@@ -2415,6 +2456,8 @@ static bool answer_case(uint8_t letter)
         return answer_edits();
     case 'G':
         return answer_gate();
+    case 'C':
+        return answer_counts();
     default:
         return false;
     }
