@@ -1,8 +1,8 @@
 #!/usr/bin/env python3
 """Makes streams of test cases for the two programs (docs/STREAM.md).
 
-    make_cases.py SEED COUNT [--letters LNWSXEG]   COUNT random cases, the same for the same seed
-    make_cases.py --edges [--letters LNWSXEG]      the fixed edge cases of edges.py
+    make_cases.py SEED COUNT [--letters LNWSXEGC]   COUNT random cases, the same for the same seed
+    make_cases.py --edges [--letters LNWSXEGC]      the fixed edge cases of edges.py
 
 A random case begins as a tree of known items with its meaning.  From the tree come its octets (in
 any of the many forms that mean the same), its normal form, its records and what has to be lent;
@@ -126,6 +126,10 @@ def case_e(places, store, octets, edits):
 
 def case_g(data_type, places, octets):
     return b"G" + number(data_type, 1) + number(places, 2) + sized(octets)
+
+
+def case_c(places, octets):
+    return b"C" + number(places, 2) + sized(octets)
 
 
 # ---- Items as they stand in octets -------------------------------------------------------------
@@ -831,8 +835,14 @@ def random_g(rng):
     return random_gate(rng)
 
 
-RANDOM = {"L": random_l, "N": random_n, "W": random_w, "S": random_s, "X": random_x, "E": random_e, "G": random_g}
-# The letters that are made and tried where none are named.
+def random_c(rng):
+    """An object, most often with unknown items that hold what looks like known ones; now and then damaged, or with a place too few."""
+    from headers import random_counted  # which stands on the trees of this file
+    return random_counted(rng)
+
+
+RANDOM = {"L": random_l, "N": random_n, "W": random_w, "S": random_s, "X": random_x, "E": random_e, "G": random_g, "C": random_c}
+# The letters that are made and tried where none are named; C is added here when the library answers it.
 CASE_LETTERS = "LNWSXEG"
 
 

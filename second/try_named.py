@@ -1,5 +1,5 @@
 #!/usr/bin/env python3
-"""Runs a program on the named cases of expected.txt:  try_named.py PROGRAM [--letters LNWSXEG]
+"""Runs a program on the named cases of expected.txt:  try_named.py PROGRAM [--letters LNWSXEGC]
 
 Those of edits stand in expected_edits.txt, and are tried where E is among the letters; those of the gate in expected_gate.txt, where G is.
 
