@@ -1,7 +1,8 @@
 #!/usr/bin/env python3
 """Runs a program on the named cases of expected.txt:  try_named.py PROGRAM [--letters LNWSXEGC]
 
-Those of edits stand in expected_edits.txt, and are tried where E is among the letters; those of the gate in expected_gate.txt, where G is.
+Those of edits stand in expected_edits.txt, and are tried where E is among the letters; those of the gate in expected_gate.txt, where G is.  Of each file,
+cases and streams that begin with a letter that isn't among them are left out.
 
 Prints each mismatch with its name and a last line `named cases: N held, M not`; the exit status is 0
 only where there are cases and all of them hold.
@@ -11,7 +12,7 @@ import os
 import re
 import sys
 
-from make_cases import CASE_LETTERS, case_e, case_g, case_l, case_n, case_s, case_w, case_x, edit_d, edit_i, edit_t
+from make_cases import CASE_LETTERS, RANDOM, case_c, case_e, case_g, case_l, case_n, case_s, case_w, case_x, edit_d, edit_i, edit_t
 from streams import ask, run
 
 HEX_PART = re.compile(r'''\s*(?:(["'])((?:(?!\1).)*)\1|([0-9A-Fa-f]{2})|\(([^()]*)\)|(-))(?:\*(\d+))?(?=\s|$)''')
@@ -83,6 +84,8 @@ class Named:
             return case_e(*numbers, *self.octets, self.edits)
         if letter == "G":
             return case_g(*numbers, *self.octets)
+        if letter == "C":
+            return case_c(*numbers, *self.octets)
         if letter == "stream":
             return b"".join(self.octets)
         raise ValueError(f"in case {self.name}: letter {letter}")
@@ -135,7 +138,8 @@ def main():
     options = parser.parse_args()
     files = ["expected.txt"] + ["expected_edits.txt"] * ("E" in options.letters) + ["expected_gate.txt"] * ("G" in options.letters)
     here = os.path.dirname(os.path.abspath(__file__))
-    cases = [named for file in files for named in read_named(os.path.join(here, file))]
+    left_out = [letter.encode() for letter in RANDOM if letter not in options.letters]
+    cases = [named for file in files for named in read_named(os.path.join(here, file)) if named.stream()[:1] not in left_out]
     if len({named.name for named in cases}) != len(cases):
         sys.exit(f"{' and '.join(files)}: two cases have one name")
     got = answers_of(options.program, cases)
