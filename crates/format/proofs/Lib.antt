@@ -36,3 +36,4 @@ pub mod Calls
 pub mod Lays
 pub mod Shown
 pub mod Bodies
+pub mod Shortest

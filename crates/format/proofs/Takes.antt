@@ -4,19 +4,21 @@
 use mathlib.Core.Path.{_≡_, refl, sym, ap, _∙_, subst}
 use mathlib.Core.Bool.{Bool, true, false, cond, _||_, false≢true}
 use mathlib.Core.Option.{Option, none, some}
-use mathlib.Core.List.{List, []}
-use Prim.Native.Nat.{ℕ, suc, _+_}
+use mathlib.Core.List.{List, [], _++_}
+use Prim.Native.Nat.{ℕ, zero, suc, _+_}
 use native.Mathlib.Omega.{arith}
 use lib.Dec.{eqb}
 use lib.ListN.{length, length-append}
 use borrow.Author.Tests.{eq-eqb, ne-eqb, eqb-true, ltb-true}
 use Rattle.octets.specs.Numbers.{among, Octets}
+use Rattle.octets.specs.Header.{lengthField, framed}
 use Rattle.text.specs.Tokens.{Entries}
 use Rattle.values.specs.declared.Kind.{Kind}
 use Rattle.values.specs.declared.Kind.the-variants.{HoldsItems, HoldsText, HoldsPlain}
 use Rattle.values.specs.Table.{known, attribute}
 use Rattle.values.specs.Values.{Value, fits, meant, octetsOf}
 use Rattle.values.specs.Calls.{defaultOctets}
+use Rattle.octets.proofs.Answers.{framed-length}
 use Rattle.octets.proofs.Tests.{cond-same}
 use Rattle.values.proofs.DefaultValues.{element-keeps, default-length-one}
 use Rattle.values.proofs.Known.{ElementTag, items-tag, plain-tag, language-tag, known-anywhere, known-cdata, known-one, known-six, Stands, stands}
@@ -25,7 +27,7 @@ use Rattle.format.specs.Tree.{Items, find, count}
 use Rattle.format.specs.Tree.Items.{end, item}
 use Rattle.format.specs.Judge.{isItems, isValue, outermost, judge}
 use Rattle.format.specs.Judge.Judged.{accepted}
-use Rattle.format.specs.Meaning.{Meaning, opens, valueIn, counted, attributesIn, cdataIn, leafOctets, means, tableOf, meaningOf}
+use Rattle.format.specs.Meaning.{Meaning, opens, valueIn, counted, attributesIn, cdataIn, leafOctets, means, tableOf, meaningOf, maybe, rising, encode, normalOf}
 use Rattle.format.specs.Meaning.Meaning.{nothing, element, leaf}
 use Rattle.format.specs.Writer.{Spot, below, past, atTop, isEnd}
 use Rattle.format.specs.Loaded.{stored, storeIn, storeOf}
@@ -186,6 +188,31 @@ inRecords = record { holder = suc; single = λ o. 1 }
 abbrev pub inStore : Measure
 inStore = record { holder = λ n. n; single = length }
 
+-- how long a normal form: each item has its header besides
+abbrev pub inForm : Measure
+inForm = record { holder = λ n. suc (length (lengthField n)) + n; single = λ o. suc (length (lengthField (length o))) + length o }
+
+maybe-length : {A : Type 0} (tag : ℕ) (f : A → List ℕ) (o : Option A) → length (maybe (λ a. framed tag (f a)) o) ≡ ifAny (λ a. inForm .single (f a)) o
+unfolding maybe ifAny
+maybe-length tag f none = refl
+maybe-length tag f (some a) = framed-length tag (f a)
+
+-- attributes by rising tag: a sum over the tags
+pub rising-length : (n start : ℕ) (f : ℕ → Option Value) → length (rising n start f) ≡ sum n start (λ tag. ifAny (λ v. inForm .single (octetsOf v)) (f tag))
+unfolding rising sum
+rising-length zero start f = refl
+rising-length (suc n) start f = rw (length-append, maybe-length start octetsOf (f start), rising-length n (suc start) f)
+
+encode-length : (m : Meaning) → length (encode m) ≡ ofMeaning inForm m
+unfolding encode ofMeaning ofSet
+encode-length nothing = refl
+encode-length (element tag f kids cdata after) =
+    let body = rising 128 0x80 f ++ (encode kids ++ maybe (framed 1) cdata) in
+    let long : length body ≡ ofSet inForm f + (ofMeaning inForm kids + ifAny (inForm .single) cdata) =
+    rw (length-append, length-append, rising-length 128 0x80 f, encode-length kids, maybe-length 1 (λ o. o) cdata) in
+    rw (length-append, framed-length, long, encode-length after)
+encode-length (leaf tag o after) = rw (length-append, framed-length, encode-length after)
+
 records-listed : (T : Entries) (t : Items) (s : Spot) → Told T s t → count t ≡ listed inRecords T (s .parent) t
 unfolding count listed below past isEnd
 records-listed T end s h = refl
@@ -267,3 +294,6 @@ module _ (o : List ℕ) (t : Items) (os : Octets o) (h : judge o ≡ accepted t)
   unfolding atTop
   store-means =
       store-listed (tableOf t) 0 t ∙ listed-more inStore (tableOf t) (λ n m. refl) (λ o e. e) t atTop (accepted-told o t os h) ∙ ap (λ n. n + defaultsIn 0 t) (takes-means inStore)
+
+  pub normal-takes : length (normalOf t) ≡ takes inForm (tableOf t) 0 t
+  normal-takes = encode-length (meaningOf t) ∙ sym (takes-means inForm)

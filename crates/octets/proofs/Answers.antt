@@ -4,9 +4,9 @@ use mathlib.Core.Bool.{Bool, true, false, cond}
 use mathlib.Core.List.{List, [], _∷_, _++_}
 use Prim.Native.Nat.{ℕ, suc, _+_, _≤_, _<_, _^_}
 use native.Mathlib.Omega.{arith}
-use lib.Dec.{leb}
-use lib.ListN.{length, length-append}
-use borrow.Author.Tests.{leb-true, leb-false}
+use lib.Dec.{eqb, leb}
+use lib.ListN.{length, getD, length-append}
+use borrow.Author.Tests.{leb-true, leb-false, le-leb, eqb-false}
 use Rattle.octets.specs.Numbers.{digits, Octets}
 use Rattle.octets.specs.Header.{headerSize, bodySize, lengthField, framed}
 use Rattle.octets.specs.Calls.{headerOf}
@@ -47,6 +47,22 @@ size-two n = go (leb n 0xFD)
     go : (a : Bool) → 2 ≤ suc (length (cond a (n ∷ []) (0xFE ∷ digits 2 n)))
     go true = omega arith
     go false = omega arith
+
+size-short : (n : ℕ) → n ≤ 0xFD → suc (length (lengthField n)) ≤ 2
+unfolding lengthField
+size-short n h = rw (le-leb n 0xFD h) (omega arith)
+
+-- a header that is read is no shorter than the one that is written for a body no longer than the one it tells
+pub header-least : (part : List ℕ) → Octets part → (n : ℕ) → n ≤ bodySize part → suc (length (lengthField n)) ≤ headerSize part
+unfolding headerSize bodySize
+header-least part os n h = go (eqb (getD part 1 0) 0xFE) refl (eqb (getD part 1 0) 0xFF) refl
+  where
+    go : (x : Bool) → eqb (getD part 1 0) 0xFE ≡ x → (y : Bool) → eqb (getD part 1 0) 0xFF ≡ y → suc (length (lengthField n)) ≤ headerSize part
+    go true e y f = rw e (size-four n)
+    go false e true f = rw (e, f) (omega (arith, size-four n))
+    go false e false f =
+        let told : n ≤ getD part 1 0 = rw (e, f) at h in
+        rw (e, f) (size-short n (omega (arith, os 1, eqb-false (getD part 1 0) 0xFE e, eqb-false (getD part 1 0) 0xFF f)))
 
 -- ---- an item: its header, and then its body behind it
 pub framed-length : (tag : ℕ) (body : List ℕ) → length (framed tag body) ≡ suc (length (lengthField (length body))) + length body

@@ -6,9 +6,10 @@ use mathlib.Core.List.{List, [], _++_, append-assoc, append-nil}
 use Prim.Native.Nat.{ℕ, zero, suc, _+_, _-_, _≤_, _<_}
 use native.Mathlib.Omega.{arith}
 use lib.Dec.{leb}
-use lib.ListN.{length, length-append}
+use lib.ListN.{length}
 use borrow.Author.Tests.{leb-true}
 use Rattle.octets.specs.Header.{framed}
+use Rattle.octets.proofs.Answers.{framed-length}
 use Rattle.text.specs.Tokens.{Entries}
 use Rattle.values.specs.declared.Kind.{Kind}
 use Rattle.values.specs.Table.{rows, known, attribute}
@@ -16,7 +17,8 @@ use Rattle.values.specs.Values.{Value, octetsOf}
 use Rattle.values.proofs.Known.{row-holds}
 use Rattle.format.specs.Tree.{Items}
 use Rattle.format.specs.Meaning.{attributesIn, maybe, rising}
-use Rattle.format.proofs.Sums.{sum, sum-more}
+use Rattle.format.proofs.Sums.{sum-more}
+use Rattle.format.proofs.Takes.{ifAny, inForm, rising-length}
 use Rattle.format.proofs.Means.{unknown-attribute}
 use Rattle.survey.specs.Normal.{attributeOctets}
 
@@ -36,19 +38,14 @@ unfolding rising maybe
 rising-none zero start f h = refl
 rising-none (suc n) start f h = rw (h start (omega arith) (omega arith)) (rising-none n (suc start) f (λ t q l. h t (omega arith) (omega arith)))
 
--- how long they are: a sum over the tags
-pub rising-length : (n start : ℕ) (f : ℕ → Option Value) → length (rising n start f) ≡ sum n start (λ t. length (oneAttribute t (f t)))
-unfolding rising sum
-rising-length zero start f = refl
-rising-length (suc n) start f = length-append (oneAttribute start (f start)) (rising n (suc start) f) ∙ ap (λ x. length (oneAttribute start (f start)) + x) (rising-length n (suc start) f)
-
 -- one attribute more
 pub rising-more : (n start tag : ℕ) (f g : ℕ → Option Value) (v : Value) → f tag ≡ some v → g tag ≡ none → ((t : ℕ) → (t ≡ tag → ⊥) → f t ≡ g t) → start ≤ tag → tag < start + n
     → length (rising n start f) ≡ length (framed tag (octetsOf v)) + length (rising n start g)
-unfolding maybe
+unfolding ifAny
 rising-more n start tag f g v p q h a b =
+    let size : Option Value → ℕ = ifAny (λ w. inForm .single (octetsOf w)) in
     rising-length n start f
-    ∙ sum-more n start tag (length (framed tag (octetsOf v))) (λ t. length (oneAttribute t (f t))) (λ t. length (oneAttribute t (g t))) (rw (p, q) (omega arith)) (λ t d. ap (λ x. length (oneAttribute t x)) (h t d)) a b
+    ∙ sum-more n start tag (length (framed tag (octetsOf v))) (λ t. size (f t)) (λ t. size (g t)) (rw (p, q) (omega (arith, framed-length tag (octetsOf v)))) (λ t d. ap size (h t d)) a b
     ∙ ap (λ x. length (framed tag (octetsOf v)) + x) (sym (rising-length n start g))
 
 rising-append : (m n start : ℕ) (f : ℕ → Option Value) → rising (m + n) start f ≡ rising m start f ++ rising n (start + m) f

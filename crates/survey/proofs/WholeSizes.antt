@@ -1,41 +1,35 @@
 -- The sizes of the items of an accepted object are those of its normal form and of its store.
-use mathlib.Core.Path.{_≡_, refl, sym, ap, ap₂, _∙_, fun-ext}
+use mathlib.Core.Path.{_≡_, refl, sym, ap, ap₂, _∙_}
 use mathlib.Core.Bool.{Bool, true, false, cond, _||_, false≢true}
 use mathlib.Core.Option.{Option, none, some}
-use mathlib.Core.List.{List, [], _++_}
+use mathlib.Core.List.{List, []}
 use Prim.Native.Nat.{ℕ, _+_, _≤_}
 use native.Mathlib.Omega.{arith}
 use lib.Dec.{eqb}
 use lib.ListN.{length, length-append}
 use Rattle.reader.proofs.Reading.{whole}
 use Rattle.octets.specs.Numbers.{Octets}
-use Rattle.octets.specs.Header.{framed}
 use Rattle.text.specs.Tokens.{Entries, entries}
 use Rattle.values.specs.declared.Kind.{Kind}
 use Rattle.values.specs.Table.{known}
 use Rattle.values.specs.Calls.{defaultOctets}
 use Rattle.octets.proofs.Answers.{size-two}
-use Rattle.values.specs.Values.{Value, octetsOf}
 use Rattle.format.specs.Tree.{Items}
 use Rattle.format.specs.Tree.Items.{end, item}
 use Rattle.format.specs.Judge.{isValue, judge}
 use Rattle.format.specs.Judge.Judged.{accepted}
-use Rattle.format.specs.Meaning.{Meaning, opens, tableOf, meaningOf, normalOf, maybe, rising, encode}
-use Rattle.format.specs.Meaning.Meaning.{nothing, element, leaf}
+use Rattle.format.specs.Meaning.{opens, tableOf, normalOf}
 use Rattle.format.specs.Writer.{Spot, below, past, atTop}
 use Rattle.format.specs.Loaded.{stored, storeIn, storeOf}
 use Rattle.format.proofs.Told.{Told, accepted-told}
-use Rattle.format.proofs.Sums.{sum}
 use Rattle.format.proofs.Defaults.{default-attribute, ownDefaults, own-none, own-few}
-use Rattle.format.proofs.Takes.{Measure, ifAny, ofSet, ofMeaning, takes, takes-means}
+use Rattle.format.proofs.Takes.{takes, inForm, normal-takes}
 use Rattle.format.proofs.Means.{attribute-shut}
 use Rattle.survey.specs.Normal.{framedSize}
 use Rattle.survey.specs.declared.measure.Measured.{Measured}
 use Rattle.survey.specs.Places.{tableBody}
 use Rattle.survey.specs.Measure.{measuredOf, Measures}
 use Rattle.survey.specs.Sizes.{taken, roomIn, sizeIn, sizesOf, sizesIn, ItemsMeasured}
-use Rattle.survey.proofs.Rising.{rising-length}
-use Rattle.survey.proofs.Ways.{framed-length}
 use Rattle.survey.proofs.Adding.{taken-one}
 use Rattle.survey.proofs.Tables.{table-told}
 
@@ -66,32 +60,9 @@ room-told T (item tag at body x u) s h = room-item T (s .parent) tag at body x u
 
 -- ---- the normal form
 
--- a normal form is as long as its items, each with its header
-abbrev inForm : Measure
-inForm = record { holder = framedSize; single = λ o. framedSize (length o) }
-
-maybe-length : {A : Type 0} (tag : ℕ) (f : A → List ℕ) (o : Option A) → length (maybe (λ a. framed tag (f a)) o) ≡ ifAny (λ a. framedSize (length (f a))) o
-unfolding maybe ifAny
-maybe-length tag f none = refl
-maybe-length tag f (some a) = framed-length tag (f a)
-
-rising-sum : (f : ℕ → Option Value) → length (rising 128 0x80 f) ≡ ofSet inForm f
-unfolding ofSet
-rising-sum f = rising-length 128 0x80 f ∙ ap (sum 128 0x80) (fun-ext (λ tag. maybe-length tag octetsOf (f tag)))
-
-encode-length : (m : Meaning) → length (encode m) ≡ ofMeaning inForm m
-unfolding encode ofMeaning
-encode-length nothing = refl
-encode-length (element tag f kids cdata after) =
-    let body = rising 128 0x80 f ++ (encode kids ++ maybe (framed 1) cdata) in
-    let long : length body ≡ ofSet inForm f + (ofMeaning inForm kids + ifAny (inForm .single) cdata) =
-    rw (length-append, length-append, rising-sum f, encode-length kids, maybe-length 1 (λ o. o) cdata) in
-    rw (length-append, framed-length, long, encode-length after)
-encode-length (leaf tag o after) = rw (length-append, framed-length, encode-length after)
-
 size-item : (T : Entries) (p tag at : ℕ) (body : List ℕ) (x u : Items) → isValue (known p tag) body ≡ true → sizeIn T tag x ≡ takes inForm T tag x → sizeIn T p u ≡ takes inForm T p u
     → sizeIn T p (item tag at body x u) ≡ takes inForm T p (item tag at body x u)
-unfolding sizeIn takes
+unfolding sizeIn takes framedSize
 size-item T p tag at body x u v inside later = rw (inside, later, all-taken T (known p tag) body v) (go (eqb tag 4 || defaultOctets p tag body) (opens tag))
   where
     go : (b c : Bool)
@@ -144,7 +115,7 @@ module _ (o : List ℕ) (t : Items) (os : Octets o) (h : judge o ≡ accepted t)
 
   pub size-normal : sizeIn (tableOf t) 0 t ≡ length (normalOf t)
   unfolding atTop
-  size-normal = size-told (tableOf t) t atTop (accepted-told o t os h) ∙ takes-means o t os h inForm ∙ sym (encode-length (meaningOf t))
+  size-normal = size-told (tableOf t) t atTop (accepted-told o t os h) ∙ sym (normal-takes o t os h)
 
   pub store-less : length (storeOf t) ≤ length (normalOf t)
   unfolding atTop
