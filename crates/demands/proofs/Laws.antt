@@ -1,7 +1,7 @@
 -- What the proofs of the demands share: refusals of an object, memory that suffices, records that are a tree, in the words of the statements.
 use mathlib.Core.Path.{_≡_, refl, sym, ap, _∙_}
 use mathlib.Core.Bool.{Bool, true, false, _&&_, false≢true}
-use mathlib.Core.Option.{some, Option·some-injective, Option·none-ne-some}
+use mathlib.Core.Option.{some}
 use mathlib.Core.List.{List, [], _∷_, _++_}
 use Prim.Native.Nat.{ℕ, _+_, _≤_, _<_, min}
 use native.Mathlib.Omega.{arith}
@@ -16,12 +16,13 @@ use Rattle.format.specs.declared.Refusal.{Refusal}
 use Rattle.format.specs.Answers.{refusal}
 use Rattle.format.specs.Tree.{Items, count}
 use Rattle.format.specs.Tree.Items.{end, item}
-use Rattle.format.specs.Judge.{Judged, rule, unless, judge}
+use Rattle.format.specs.Judge.{rule, unless, judge}
 use Rattle.format.specs.Judge.Judged.{refused, accepted}
 use Rattle.format.specs.Meaning.{Meaning, meaningOf, ifAccepted, meaning, normalOf}
 use Rattle.format.specs.Loaded.{storeOf}
 use Rattle.format.specs.Calls.{Lists, row, places, Lent, roomy, storedWithin, fitsLent, treeGiven}
 use Rattle.format.specs.State.{Memory, placesIn, treeIn}
+use Rattle.format.proofs.Normal.{accepted-is}
 use Rattle.format.proofs.Refusals.{refusal-inside}
 use Rattle.format.proofs.Spans.{Part, part-span, Located}
 use Rattle.format.proofs.Rebuilt.{rebuilt-whole, whole-rebuilt}
@@ -143,12 +144,8 @@ module _ (n : ℕ) (memory : Memory) (t : Items) where
 
 -- an object that means something is accepted, with a tree that means it
 pub has-meaning : (o : List ℕ) (m : Meaning) → meaning o ≡ some m → (t : Items) × (judge o ≡ accepted t) × (meaningOf t ≡ m)
-unfolding meaning ifAccepted
-has-meaning o m e = go (judge o) refl e
-  where
-    go : (j : Judged) → judge o ≡ j → ifAccepted meaningOf j ≡ some m → (t : Items) × (judge o ≡ accepted t) × (meaningOf t ≡ m)
-    go (refused r) h e = absurd (Option·none-ne-some m e)
-    go (accepted t) h e = (t, h, Option·some-injective (meaningOf t) m e)
+unfolding meaning
+has-meaning o m e = accepted-is meaningOf (judge o) m e
 
 -- and an accepted object means what its tree means
 pub accepted-means : (o : List ℕ) (t : Items) → judge o ≡ accepted t → meaning o ≡ some (meaningOf t)

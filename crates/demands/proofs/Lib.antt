@@ -12,3 +12,4 @@ pub mod Frauds
 pub mod Edits
 pub mod Requests
 pub mod Lengths
+pub mod Shortest

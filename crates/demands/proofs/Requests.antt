@@ -109,7 +109,8 @@ tells object place field e = record {
   exported = λ before after answer c. c .answers ∙ ap (λ j. exportAnswer (sizeOf before) (exportOf object j)) (table-refused object (wrongValue place field) e);
 }
 
-row : ℕ → List Outcome → Outcome
+-- what the table's row of that number says
+unfoldable pub row : ℕ → List Outcome → Outcome
 row n l = getD l n (refuses (refusal 0 0))
 
 pub fields-told : FieldsTold
@@ -149,11 +150,11 @@ module _ (a b : List ℕ) (n m : ℕ) (x y : List ℕ) (oa : Octets a) (ob : Oct
   table-different q answer e = let w = exactly answer e in same-exactly a b oa ob answer e .different .1 (w .0, λ z. q (w .1 .1 z))
 
 -- numbers that are octets
-unfoldable areOctets : List ℕ → Bool
+unfoldable pub areOctets : List ℕ → Bool
 areOctets [] = true
 areOctets (b ∷ o) = ltb b 256 && areOctets o
 
-are-octets : (o : List ℕ) → areOctets o ≡ true → Octets o
+pub are-octets : (o : List ℕ) → areOctets o ≡ true → Octets o
 unfolding areOctets
 are-octets [] h = octets-none
 are-octets (b ∷ o) h = octets-cons b o (ltb-true b 256 (and-left (ltb b 256) (areOctets o) h)) (are-octets o (and-right (ltb b 256) (areOctets o) h))
@@ -162,7 +163,7 @@ no-is : outcome true (recommended 1) ≡ normally 4 unrecommended
 unfolding slips accented row
 no-is = ap (row 14) slipped
 
-yes-is : outcome true (recommended 2) ≡ normally 4 (recommended 2)
+pub yes-is : outcome true (recommended 2) ≡ normally 4 (recommended 2)
 unfolding slips accented row
 yes-is = ap (row 15) slipped
 

@@ -10,3 +10,4 @@ pub mod Edits
 pub mod Requests
 pub mod Headers
 pub mod Lengths
+pub mod Shortest

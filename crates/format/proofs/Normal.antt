@@ -25,7 +25,7 @@ accepted-ok o t os h =
     told-ok (tableOf t) (accepted-sound o t os h) t (λ e. never (cc (w .is))) (accepted-told o t os h)
 
 -- an accepted object has a tree, and it alone
-accepted-is : {A : Type 0} (f : Items → A) (a : Judged) (x : A) → ifAccepted f a ≡ some x → (t : Items) × (a ≡ accepted t) × (f t ≡ x)
+pub accepted-is : {A : Type 0} (f : Items → A) (a : Judged) (x : A) → ifAccepted f a ≡ some x → (t : Items) × (a ≡ accepted t) × (f t ≡ x)
 unfolding ifAccepted
 accepted-is f (refused r) x h = absurd (Option·none-ne-some x h)
 accepted-is f (accepted t) x h = (t, refl, Option·some-injective (f t) x h)
