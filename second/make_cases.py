@@ -842,8 +842,8 @@ def random_c(rng):
 
 
 RANDOM = {"L": random_l, "N": random_n, "W": random_w, "S": random_s, "X": random_x, "E": random_e, "G": random_g, "C": random_c}
-# The letters that are made and tried where none are named; C is added here when the library answers it.
-CASE_LETTERS = "LNWSXEG"
+# The letters that are made and tried where none are named.
+CASE_LETTERS = "LNWSXEGC"
 
 
 def random_cases(seed, count, letters=CASE_LETTERS):

@@ -382,8 +382,10 @@ static void print_record(size_t i)
         printf("no text\n");
 }
 
-static void print_listing(size_t records)
+static void print_listing(uint64_t answer)
 {
+    size_t records = spi_value(answer);
+
     hand_out_lists(records);
     printf("depth tag kind offset length\n");
     for (size_t i = 0; i < lent[TAGS].handed; i++)
@@ -407,33 +409,48 @@ static void print_room(const char *word, size_t octets)
 }
 
 /* The answer tells the octets alone; the lists have as many records as `spi_read` counts. */
-static void print_normal(size_t octets)
+static void print_normal(uint64_t answer)
 {
+    size_t octets = spi_value(answer);
+
     hand_out_lists(spi_value(spi_read(OCTETS(FIRST), OWN_LISTS)));
     hand_out(BODIES, lent[TAGS].handed);
     hand_out_store();
     print_room("normal", octets);
 }
 
-static void print_written(size_t octets)
+static void print_written(uint64_t answer)
 {
+    size_t octets = spi_value(answer);
+
     hand_out(BODIES, records_given);
     print_room("written", octets);
 }
 
-static void print_xml(size_t octets)
+static void print_xml(uint64_t answer)
 {
+    size_t octets = spi_value(answer);
+
     print_room("xml", octets);
 }
 
-static void print_yes(size_t nothing)
+/* By `read`, which has filled the lists. */
+static void print_counts(uint64_t answer)
 {
-    (void)nothing;
+    hand_out_lists(spi_value(answer));
+    printf("records %zu headers %u\n", spi_value(answer), spi_items(answer));
+}
+
+static void print_yes(uint64_t answer)
+{
+    (void)answer;
     printf("yes\n");
 }
 
-static void print_same(size_t same)
+static void print_same(uint64_t answer)
 {
+    size_t same = spi_value(answer);
+
     printf(same == 1 ? "same\n" : "different\n");
 }
 
@@ -449,8 +466,10 @@ static void print_refusal(uint64_t answer)
     printf("%s\n", object <= 2 ? which[object] : " in neither");
 }
 
-static void print_edited(size_t octets)
+static void print_edited(uint64_t answer)
 {
+    size_t octets = spi_value(answer);
+
     for (size_t i = 0; i < edit_count; i++)
         if (spi_refused(edits[i].answer) == SPI_OK)
             printf("edited\n");
@@ -469,11 +488,12 @@ struct letter {
     char letter;
     bool (*fields[FIELDS])(void); /* in the order of the stream */
     uint64_t (*call)(void);
-    void (*print)(size_t value);
+    void (*print)(uint64_t answer);
 };
 
 static const struct letter letters[] = {
     {'L', {take_places, take_object}, call_read, print_listing},
+    {'C', {take_places, take_object}, call_read, print_counts},
     {'N', {take_places, take_store, take_room, take_object}, call_normalise, print_normal},
     {'W', {take_count, take_records, take_room, take_object}, call_write, print_written},
     {'S', {take_object, take_second_object}, call_same, print_same},
@@ -502,7 +522,7 @@ static bool answer_case(const struct letter *letter)
     keep_before();
     uint64_t answer = letter->call();
     if (spi_refused(answer) == SPI_OK)
-        letter->print(spi_value(answer));
+        letter->print(answer);
     else
         print_refusal(answer);
     if (!is_kept())

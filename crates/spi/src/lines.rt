@@ -83,12 +83,16 @@ pub fn say_refusal(number: u8, place: usize, field: u8) {
     say(b"\n");
 }
 
-pub fn say_accepted(path: &[u8], records: usize, size: Octets) {
+pub fn say_accepted(path: &[u8], records: usize, items: usize, size: Octets, made: Made) {
     say(path);
     say(b": ok, ");
     say_number(records);
     say(b" records, ");
+    say_number(items);
+    say(b" items, ");
     say_octets(size);
+    say(b", normal form ");
+    say_normal(made);
     say(b"\n");
 }
 

@@ -86,7 +86,9 @@ fn help_edit() {
 }
 
 fn help() -> u8 {
-    say(b"spi check FILE..        for each file: ok, or why it is refused and where\n");
+    say(
+        b"spi check FILE..        for each file: ok, its records, items, octets and those of its normal form, or why it is refused and where\n",
+    );
     say(
         b"spi gate TYPE FILE..    for each file, as one of the data type SI, PI or GI: yes, or why the small receiver isn't sent it and where\n",
     );

@@ -31,7 +31,9 @@ pub fn check(path: &[u8], object: &[u8]) -> u8 {
     if judged.number > 0 {
         return say_refused(path, judged.number, judged.place, judged.field);
     }
-    say_accepted(path, judged.count, Octets(object.len()));
+    let mut normal = room();
+    let made = normal_form(object, &mut normal);
+    say_accepted(path, judged.count, judged.items, Octets(object.len()), made);
     GOOD
 }
 
