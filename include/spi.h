@@ -34,8 +34,9 @@ extern "C" {
  * bits 63 to 56   the refusal, 0 where there is none
  * bits 55 to 48   spi_same alone: the object that is refused, 1 or 2
  * bits 47 to 40   SPI_BAD_VALUE alone: the field of a time that is wrong, 0 for a value of another kind
- * bits 55 to 40   where there is no refusal, of spi_read alone: how many items it judged
  * bits 39 to 0    the place of the refusal in its object; where there is none, the call's count
+ *
+ * Where there is no refusal, bits 55 to 40 are, of spi_read alone, the number of items that it judged.
  */
 enum spi_refusal {
     SPI_OK = 0,
@@ -77,12 +78,12 @@ static inline enum spi_refusal spi_refused(uint64_t answer)
 
 static inline int spi_refused_object(uint64_t answer)
 {
-    return (int)(answer >> 48 & 0xFF);
+    return answer >> 56 ? (int)(answer >> 48 & 0xFF) : 0;
 }
 
 static inline enum spi_field spi_refused_field(uint64_t answer)
 {
-    return (enum spi_field)(answer >> 40 & 0xFF);
+    return answer >> 56 ? (enum spi_field)(answer >> 40 & 0xFF) : SPI_NO_FIELD;
 }
 
 /* The place of a refusal, else the count. */
@@ -93,9 +94,9 @@ static inline size_t spi_value(uint64_t answer)
 
 /* How many items `spi_read` judged, known and unknown, those inside unknown ones left out: at most half the object's
  * octets.  0 after a refusal; the other calls count none. */
-static inline unsigned spi_items(uint64_t answer)
+static inline size_t spi_items(uint64_t answer)
 {
-    return spi_refused(answer) == SPI_OK ? (unsigned)(answer >> 40 & 0xFFFF) : 0;
+    return answer >> 56 ? 0 : (size_t)(answer >> 40 & 0xFFFF);
 }
 
 /* ---- Records ----------------------------------------------------------------------------------

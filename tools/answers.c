@@ -438,7 +438,7 @@ static void print_xml(uint64_t answer)
 static void print_counts(uint64_t answer)
 {
     hand_out_lists(spi_value(answer));
-    printf("records %zu headers %u\n", spi_value(answer), spi_items(answer));
+    printf("records %zu headers %zu\n", spi_value(answer), spi_items(answer));
 }
 
 static void print_yes(uint64_t answer)
