@@ -78,7 +78,7 @@ static void stop(const char *why)
 static uint64_t read_by_library(const struct file *object, const struct file *other)
 {
     (void)other;
-    return spi_read(object->octets, object->size, SIX_LISTS);
+    return spi_value(spi_read(object->octets, object->size, SIX_LISTS));
 }
 
 static uint64_t read_by_second(const struct file *object, const struct file *other)

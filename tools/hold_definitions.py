@@ -20,13 +20,13 @@ from edges import edge_cases  # noqa: E402
 from make_cases import random_cases  # noqa: E402
 from streams import LISTING, ask  # noqa: E402
 
-LETTERS = "LNWSE"  # of the cases that are taken
+LETTERS = "LNWSEC"  # of the cases that are taken
 MOST_LENT = 400  # places and octets of a store that are lent to edits: more than a case of so few octets can use
 LONGEST = 160  # octets in a case: the prover computes some milliseconds for each element
 CHUNK = 20     # cases under one claim
 KINDS = {"element": 0, "attribute": 1, "cdata": 2}
-DEFINITIONS = {"octets": "Numbers Header", "text": "Text Tokens", "values": "Table Times Bearers Values",
-               "format": "Tree Judge Meaning Writer Loaded Calls Same State", "state": "Taking", "edits": "Tree Calls"}
+DEFINITIONS = {"octets": "Numbers Header Places", "text": "Text Tokens", "values": "Table Times Bearers Values",
+               "format": "Tree Judge Headers Meaning Writer Loaded Calls Same State", "state": "Taking", "edits": "Tree Calls"}
 
 ANSWERS = """-- What the definitions answer to a case of the stream.
 use mathlib.Core.Bool.{Bool, true, false, cond}
@@ -45,6 +45,7 @@ use Rattle.format.specs.declared.SameAnswer.the-variants.{Same, Different, Firs
 use Rattle.format.specs.Tree.{Items}
 use Rattle.format.specs.Judge.{Judged, judge}
 use Rattle.format.specs.Judge.Judged.{refused as isRefused, accepted as isAccepted}
+use Rattle.format.specs.Headers.{headersOf}
 use Rattle.format.specs.Meaning.{means, encode, normalOf}
 use Rattle.format.specs.Calls.{Lists, readAnswer, readRecords, writeAnswer, writeOctets, Lent, normalAnswer, handed}
 use Rattle.format.specs.Same.{sameAnswer}
@@ -54,7 +55,7 @@ use Rattle.edits.specs.Tree.{Edit}
 use Rattle.edits.specs.Calls.{editedIn}
 
 pub data Case : Type 0 where
-  list : ℕ → List ℕ → Case
+  list tally : ℕ → List ℕ → Case
   normalise : (places store room : ℕ) → List ℕ → Case
   write : ℕ → Lists → ℕ → List ℕ → Case
   compare : List ℕ → List ℕ → Case
@@ -63,6 +64,7 @@ pub data Case : Type 0 where
 pub data Answer : Type 0 where
   refused : ℕ → ℕ → ℕ → Answer
   listed : List (List ℕ) → Answer
+  tallied : (records items : ℕ) → Answer
   handedOut : List ℕ → Answer
   same different : Answer
   refusedFirst refusedSecond : ℕ → ℕ → ℕ → Answer
@@ -74,6 +76,10 @@ line r = r .depth ∷ r .tag ∷ r .kind ∷ r .start ∷ r .size ∷ []
 abbrev pub afterRead : ReadAnswer → List Record → Answer
 afterRead (Records n) rs = listed (map line rs)
 afterRead (NotRead r) rs = refused (r .number) (r .place) (r .field)
+
+abbrev pub afterCount : ReadAnswer → Answer
+afterCount (Records n) = tallied (n .records) (n .items)
+afterCount (NotRead r) = refused (r .number) (r .place) (r .field)
 
 abbrev pub afterWrite : WriteAnswer → List ℕ → Answer
 afterWrite (Octets n) o = handedOut o
@@ -114,7 +120,8 @@ begin m es (isRefused r) = refused (r .number) (r .place) (r .field)
 begin m es (isAccepted t) = runFrom m es [] t
 
 abbrev pub answer : Case → Answer
-answer (list places o) = afterRead (readAnswer places (judge o)) (readRecords places (judge o))
+answer (list places o) = afterRead (readAnswer places (headersOf o) (judge o)) (readRecords places (judge o))
+answer (tally places o) = afterCount (readAnswer places (headersOf o) (judge o))
 answer (normalise p s r o) = afterWrite (normalAnswer (lentOf p s r) (judge o)) (handed (lentOf p s r) normalOf (judge o))
 answer (write n lists room o) =
     let t = treeIn n (record { lists = lists; bodies = lists .sizes; store = o }) in
@@ -153,7 +160,7 @@ def edit_term(fields):
 def parsed(octets):
     fields = Fields(octets)
     case = {"letter": fields.take(1).decode()}
-    if case["letter"] == "L":
+    if case["letter"] in "LC":
         case["places"] = fields.number(2)
     elif case["letter"] == "N":
         case["places"], case["store"], case["room"] = fields.number(2), fields.number(3), fields.number(3)
@@ -176,8 +183,8 @@ def numbers(values):
 
 def case_term(case):
     letter = case["letter"]
-    if letter == "L":
-        return f"list {case['places']} ({numbers(case['parts'][0])})"
+    if letter in "LC":
+        return f"{'list' if letter == 'L' else 'tally'} {case['places']} ({numbers(case['parts'][0])})"
     if letter == "N":
         return f"normalise {case['places']} {case['store']} {case['room']} ({numbers(case['parts'][0])})"
     if letter == "S":
@@ -207,6 +214,8 @@ def answer_term(answer):
             depth, tag, kind, offset, length = row.split()
             rows.append("(" + numbers([int(depth), int(tag, 16), KINDS[kind], int(offset), int(length)]) + ")")
         return "listed (" + "".join(f"{row} ∷ " for row in rows) + "[])"
+    if words[0] == "records":
+        return f"tallied {words[1]} {words[3]}"
     if words[0] in ("normal", "written"):
         return f"handedOut ({numbers(bytes.fromhex(words[1]) if len(words) > 1 else b'')})"
     if words[0] in ("same", "different"):
@@ -233,8 +242,8 @@ def proof_text(crates, cases, answers):
     lines, names = opened_names(crates)
     out = ["-- Made by tools/hold_definitions.py.", "use mathlib.Core.Path.{_≡_, refl}", "use mathlib.Core.List.{List, [], _∷_, map}"]
     out += ["use Rattle.vectors.specs.Answers.{Case, Answer, answer}"]
-    out += ["use Rattle.vectors.specs.Answers.Case.{list, normalise, write, compare, edit}"]
-    out += ["use Rattle.vectors.specs.Answers.Answer.{refused, listed, handedOut, same, different, refusedFirst, refusedSecond, ran}"]
+    out += ["use Rattle.vectors.specs.Answers.Case.{list, tally, normalise, write, compare, edit}"]
+    out += ["use Rattle.vectors.specs.Answers.Answer.{refused, listed, tallied, handedOut, same, different, refusedFirst, refusedSecond, ran}"]
     out += ["use Rattle.edits.specs.Tree.Edit.{replace, remove, insert}"]
     out += lines
     for start in range(0, len(cases), CHUNK):
