@@ -2227,43 +2227,21 @@ static int normalise(struct tree *tree, uint32_t places, uint32_t store, uint32_
 /* Each function below takes one case and prints its answer but for the newline; false, with nothing
  * printed, where the stream is bad. */
 
-/* Takes how many places are lent, and an object, and reads that into them. */
-static bool take_reading(struct verdict *verdict)
+/* An object read into so many places: its listing, or its counts, of which nothing is told after a refusal, since both
+ * are 0 then. */
+static bool answer_reading(void (*put)(const struct tree *tree))
 {
     uint32_t places;
 
     if (!take_short(&places) || !take_object(&first_object))
         return false;
-    *verdict = read_object(&first_tree, first_object.octets, first_object.size);
-    if (verdict->number == ACCEPTED && first_tree.count > places)
-        *verdict = refused(TOO_FEW_PLACES, 0);
-    return true;
-}
-
-static bool answer_listing(void)
-{
-    struct verdict verdict;
-
-    if (!take_reading(&verdict))
-        return false;
+    struct verdict verdict = read_object(&first_tree, first_object.octets, first_object.size);
+    if (verdict.number == ACCEPTED && first_tree.count > places)
+        verdict = refused(TOO_FEW_PLACES, 0);
     if (verdict.number != ACCEPTED)
         put_refusal(verdict);
     else
-        put_listing(&first_tree);
-    return true;
-}
-
-/* Both counts are 0 after a refusal, so nothing is told of them then. */
-static bool answer_counts(void)
-{
-    struct verdict verdict;
-
-    if (!take_reading(&verdict))
-        return false;
-    if (verdict.number != ACCEPTED)
-        put_refusal(verdict);
-    else
-        put_counts(&first_tree);
+        put(&first_tree);
     return true;
 }
 
@@ -2443,7 +2421,7 @@ static bool answer_case(uint8_t letter)
 {
     switch (letter) {
     case 'L':
-        return answer_listing();
+        return answer_reading(put_listing);
     case 'N':
         return answer_normal();
     case 'W':
@@ -2457,7 +2435,7 @@ static bool answer_case(uint8_t letter)
     case 'G':
         return answer_gate();
     case 'C':
-        return answer_counts();
+        return answer_reading(put_counts);
     default:
         return false;
     }
