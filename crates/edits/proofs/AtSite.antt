@@ -23,9 +23,9 @@ use Rattle.format.specs.Loaded.{stored, storeIn}
 use Rattle.format.specs.Calls.{row}
 use Rattle.format.specs.State.{Memory, packedStore}
 use Rattle.survey.specs.Normal.{framedSize}
-use Rattle.state.specs.Order.{addedBy}
+use Rattle.state.specs.Order.{itemAdds, addedBy}
 use Rattle.state.proofs.HeldTree.{Held}
-use Rattle.state.proofs.BodySizes.{bodySize, adds}
+use Rattle.state.proofs.BodySizes.{bodySize}
 use Rattle.state.proofs.SizesHeld.{Own, own-packed}
 use Rattle.edits.specs.Tree.{firstTag}
 use Rattle.edits.specs.Sites.{Site, topSite, inner, share, beyond, recordsAt, Swapped}
@@ -216,14 +216,18 @@ module _ (n : ℕ) (m : Memory) (t : Items) (held : Held n m t) {t′ : Items} {
   abbrev added : ℕ → ℕ → ℕ
   added start long = addedBy p tag start long (m .store) (bodySize p tag body x)
 
-  added-open : opens tag ≡ true → added (own .start) (own .size) ≡ adds p tag body (bodySize p tag body x)
+  added-open : opens tag ≡ true → added (own .start) (own .size) ≡ itemAdds p tag body (bodySize p tag body x)
   unfolding addedBy defaultOctets
   added-open o =
       let size = bodySize p tag body x in
       ap (λ r. added (r .start) (r .size)) (here-open h tag body o)
-      ∙ (ap (λ b. cond b 0 (framedSize size)) (and-false (leb (0 + 0) (length (m .store)))) ∙ sym (open-adds p tag body size o))
+      ∙ (both (leb (0 + 0) (length (m .store))) ∙ sym (open-adds p tag body size o))
+    where
+      both : (b : Bool) → cond b (framedSize (bodySize p tag body x)) (framedSize (bodySize p tag body x)) ≡ framedSize (bodySize p tag body x)
+      both true = refl
+      both false = refl
 
-  added-shut : opens tag ≡ false → added (own .start) (own .size) ≡ adds p tag body (bodySize p tag body x)
+  added-shut : opens tag ≡ false → added (own .start) (own .size) ≡ itemAdds p tag body (bodySize p tag body x)
   unfolding addedBy atTop
   added-shut o =
       let same : stored [] (known p tag) body ≡ body = own-down v (own-packed t atTop 0 (held .whole .rules) (held .packs)) .0 o in
@@ -238,12 +242,12 @@ module _ (n : ℕ) (m : Memory) (t : Items) (held : Held n m t) {t′ : Items} {
   -- in the words of the check that held memory
   pub site-adds : addedBy (getD (m .lists .tags) (getD (m .lists .parents) (h .number) 0) 0) (getD (m .lists .tags) (h .number) 0) (getD (m .lists .starts) (h .number) 0)
       (getD (m .lists .sizes) (h .number) 0) (m .store) (getD (m .bodies) (h .number) 0)
-      ≡ adds (h .spot .parent) tag body (bodySize (h .spot .parent) tag body x)
+      ≡ itemAdds (h .spot .parent) tag body (bodySize (h .spot .parent) tag body x)
   site-adds =
       let s = field-here (λ r. r .start) (m .lists .starts) (λ j. refl) (enough n m t held .starts) in
       let z = field-here (λ r. r .size) (m .lists .sizes) (λ j. refl) (enough n m t held .sizes) in
       (λ i. addedBy (site-element i) (site-tag i) (s i) (z i) (m .store) (site-body i)) ∙ go (opens tag) refl
     where
-      go : (o : Bool) → opens tag ≡ o → added (own .start) (own .size) ≡ adds p tag body (bodySize p tag body x)
+      go : (o : Bool) → opens tag ≡ o → added (own .start) (own .size) ≡ itemAdds p tag body (bodySize p tag body x)
       go true o = added-open o
       go false o = added-shut o

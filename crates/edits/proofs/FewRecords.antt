@@ -24,7 +24,8 @@ use Rattle.format.proofs.Defaults.{default-attribute}
 use Rattle.format.proofs.Tabled.{count-item}
 use Rattle.survey.specs.Normal.{framedSize, normalSize}
 use Rattle.survey.proofs.Sizes.{size-whole}
-use Rattle.state.proofs.BodySizes.{bodySize, adds, size-open, size-item, open-counts}
+use Rattle.state.specs.Order.{itemAdds}
+use Rattle.state.proofs.BodySizes.{bodySize, size-open, size-item, open-counts}
 
 -- whether the default of an attribute can still come, and how many can
 unfoldable free : (p tag : ℕ) → List ℕ → ℕ
@@ -120,7 +121,7 @@ module _ (s : Spot) (tag at : ℕ) (body : List ℕ) (x y : Items) (u : Ruled s 
       and-rest true b e h = h
       and-rest false b e h = absurd (false≢true e)
 
-  few-item : count x ≤ 2 * normalSize tag x + left tag [] → suc (count x) + left p (tag ∷ s .seen) ≤ 2 * adds p tag body (bodySize p tag body x) + left p (s .seen)
+  few-item : count x ≤ 2 * normalSize tag x + left tag [] → suc (count x) + left p (tag ∷ s .seen) ≤ 2 * itemAdds p tag body (bodySize p tag body x) + left p (s .seen)
   unfolding framedSize count
   few-item inside = go (opens tag) refl (defaultOctets p tag body) refl
     where

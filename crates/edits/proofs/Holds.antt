@@ -30,7 +30,8 @@ use Rattle.format.proofs.Order.{ruled-order, three-end}
 use Rattle.format.proofs.Written.{Bytes, located-bytes}
 use Rattle.format.proofs.Calls.{lay-fields}
 use Rattle.survey.specs.Normal.{framedSize}
-use Rattle.state.proofs.BodySizes.{bodySize, adds, size-item}
+use Rattle.state.specs.Order.{itemAdds}
+use Rattle.state.proofs.BodySizes.{bodySize, size-item}
 use Rattle.state.proofs.HeldTree.{Held, held}
 use Rattle.edits.specs.Tree.{Edit, recordAt, changeAt, withBody, without, holding, before, putChild, isThere, insideOf, elementOf, changed}
 use Rattle.edits.specs.Tree.Edit.{replace, remove, insert}
@@ -67,7 +68,7 @@ pieceOf h tag body x = record {
   records = recordHere h tag body ∷ recordsAt (inner h tag) x;
   octets = share (h .spot .parent) tag body x;
   sizes = bodySize (h .spot .parent) tag body x ∷ bodySizes tag x;
-  adds-to = adds (h .spot .parent) tag body (bodySize (h .spot .parent) tag body x);
+  adds-to = itemAdds (h .spot .parent) tag body (bodySize (h .spot .parent) tag body x);
 }
 
 -- where its records end, and where its octets do
@@ -172,7 +173,7 @@ textOf h tag o = record {
   records = recordHere h tag o ∷ [];
   octets = stored [] (known (h .spot .parent) tag) o;
   sizes = bodySize (h .spot .parent) tag o end ∷ [];
-  adds-to = adds (h .spot .parent) tag o (bodySize (h .spot .parent) tag o end);
+  adds-to = itemAdds (h .spot .parent) tag o (bodySize (h .spot .parent) tag o end);
 }
 
 module _ (n : ℕ) (m : Memory) (t t′ : Items) where

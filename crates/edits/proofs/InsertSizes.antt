@@ -20,7 +20,8 @@ use Rattle.format.proofs.Written.{Bytes, ruled-told}
 use Rattle.format.proofs.Defaults.{ownDefaults, own-none, own-few}
 use Rattle.survey.specs.Normal.{framedSize, normalSize}
 use Rattle.survey.proofs.Sizes.{size-whole}
-use Rattle.state.proofs.BodySizes.{bodySize, adds, size-open, size-item, open-counts}
+use Rattle.state.specs.Order.{itemAdds}
+use Rattle.state.proofs.BodySizes.{bodySize, size-open, size-item, open-counts}
 use Rattle.edits.specs.Sites.{Site, inner, beyond, recordsAt, Swapped}
 use Rattle.edits.specs.Sites.Swapped.{here, inside, after}
 use Rattle.edits.proofs.Swaps.{Plain}
@@ -40,7 +41,7 @@ few-items (item tag at body x y) s r h =
   where
     one : (o : Bool) → opens tag ≡ o → (d : Bool) → defaultOctets (s .parent) tag body ≡ d → Ruled s tag body x y
         → 2 * count x ≤ 3 * normalSize tag x + 2 * ownDefaults tag x
-        → 2 + 2 * count x ≤ 3 * adds (s .parent) tag body (bodySize (s .parent) tag body x) + 2 * cond (defaultOctets (s .parent) tag body) 1 0
+        → 2 + 2 * count x ≤ 3 * itemAdds (s .parent) tag body (bodySize (s .parent) tag body x) + 2 * cond (defaultOctets (s .parent) tag body) 1 0
     one true o true d u below-it = absurd (false≢true (sym (open-counts (s .parent) tag body o) ∙ d))
     one true o false d u below-it =
         rw d (omega (arith, size-open s (s .parent) tag body x o (u .within), size-two (bodySize (s .parent) tag body x), own-few [] x (below s tag) (h .1)))

@@ -42,7 +42,7 @@ use Rattle.tags.specs.Listed.{listedAs}
 use Rattle.survey.specs.Normal.{framedSize}
 use Rattle.edits.specs.declared.lay.Level.{Level}
 use Rattle.edits.specs.declared.lay.Laid.{Laid}
-use Rattle.state.specs.Order.{addedBy}
+use Rattle.state.specs.Order.{itemAdds, addedBy}
 use Rattle.edits.specs.Store.{BodyStorable, BodyStored}
 use Rattle.edits.specs.Lay.{addedIn, ownSizes, recordAt, Placeable, ValueCountable, ValueCounts, InsideCountable, InsideCounts, ValueLayable, ValueLays, loadedAt, shareAt, ItemLayable, InsideLayable, ItemLays, ItemsLayable, ItemsLay}
 use Rattle.state.proofs.BodySizes.{framed-few}
@@ -61,11 +61,12 @@ in-bodies n m h = omega arith
 
 few-added : (element tag start size : ℕ) (store : List ℕ) (body : ℕ) → addedBy element tag start size store body ≤ body + 4
 unfolding addedBy
-few-added element tag start size store body = go (leb (start + size) (length store) && defaultOctets element tag (take size (drop start store)))
+few-added element tag start size store body = go (leb (start + size) (length store)) (defaultOctets element tag (take size (drop start store)))
   where
-    go : (b : Bool) → cond b 0 (framedSize body) ≤ body + 4
-    go true = omega arith
-    go false = framed-few body
+    go : (b d : Bool) → cond b (cond d 0 (framedSize body)) (framedSize body) ≤ body + 4
+    go true true = omega arith
+    go true false = framed-few body
+    go false d = framed-few body
 
 pub value-sum : (element tag : ℕ) (done : Laid) (to : ℕ) (store bodies : List ℕ) → ValueCountable done to bodies
     → (a : OctetCount) → a .0 ≡ addedBy element tag (done .end) (to - done .end) store (to - done .end) → Fits w64 (done .body .0 + a .0)
@@ -115,7 +116,7 @@ module _ (table : List ℕ) (kind : Kind) (level : Level) (done : Laid) (body : 
         }
 
     -- what was stored tells whether it is a default
-    added-is : (element tag : ℕ) → addedBy element tag (done .end) (to - done .end) store′ (to - done .end) ≡ cond (defaultOctets element tag octets) 0 (framedSize (length octets))
+    added-is : (element tag : ℕ) → addedBy element tag (done .end) (to - done .end) store′ (to - done .end) ≡ itemAdds element tag octets (length octets)
     unfolding addedBy
     added-is element tag =
         let within : done .end + length octets ≤ length store′ = omega (arith, can .space .room, ap length (s .holds), length-sets (m .store) (done .end) octets) in

@@ -38,8 +38,9 @@ use Rattle.format.proofs.Means.{text-known}
 use Rattle.format.proofs.Written.{Bytes, located-bytes}
 use Rattle.survey.specs.Normal.{framedSize}
 use Rattle.state.specs.Taking.{overflow, settled}
+use Rattle.state.specs.Order.{itemAdds}
 use Rattle.state.proofs.HeldTree.{Held, held}
-use Rattle.state.proofs.BodySizes.{bodySize, adds, size-shut}
+use Rattle.state.proofs.BodySizes.{bodySize, size-shut}
 use Rattle.edits.specs.Tree.{from, changeAt, withBody, firstTag, isThere, changed}
 use Rattle.edits.specs.Tree.Edit.{replace}
 use Rattle.edits.specs.Calls.{edited, editedIn}
@@ -86,7 +87,7 @@ unfolding stored meant octetsOf
 text-stored p tag o h = ap (λ k. stored [] k o) (text-known (known p tag) h) ∙ expanded-empty o
 
 -- a text is no default
-text-counts : (p tag : ℕ) (o : List ℕ) (size : ℕ) → isText (known p tag) ≡ true → adds p tag o size ≡ framedSize size
+text-counts : (p tag : ℕ) (o : List ℕ) (size : ℕ) → isText (known p tag) ≡ true → itemAdds p tag o size ≡ framedSize size
 unfolding isText
 text-counts p tag o size h = ap (λ b. cond b 0 (framedSize size)) (go (defaultOctets p tag o) refl)
   where
@@ -237,10 +238,10 @@ module _ (n i : ℕ) (o : List ℕ) (m : Memory) (t : Items) (holds : treeHeld n
           )
 
       -- what the elements around have
-      was-adds : adds p tag (after .body) (bodySize p tag (after .body) end) ≡ framedSize (getD (l .sizes) (h .number) 0)
+      was-adds : itemAdds p tag (after .body) (bodySize p tag (after .body) end) ≡ framedSize (getD (l .sizes) (h .number) 0)
       was-adds = text-counts p tag (after .body) (bodySize p tag (after .body) end) words ∙ ap framedSize (size-shut p tag (after .body) end shut ∙ sym size-at)
 
-      is-adds : adds p tag o (bodySize p tag o end) ≡ framedSize (length o)
+      is-adds : itemAdds p tag o (bodySize p tag o end) ≡ framedSize (length o)
       is-adds = text-counts p tag o (bodySize p tag o end) words ∙ ap framedSize (size-shut p tag o end shut ∙ ap length new-is)
 
       abbrev up : ℕ
@@ -252,9 +253,9 @@ module _ (n i : ℕ) (o : List ℕ) (m : Memory) (t : Items) (holds : treeHeld n
       abbrev sizes-around : List ℕ
       sizes-around = around (h .number) (length o) (l .parents) (l .sizes) (m .bodies)
 
-      around-at : raised (upFrom (l .parents) (h .up)) (adds p tag (after .body) (bodySize p tag (after .body) end)) (adds p tag o (bodySize p tag o end)) (m .bodies) ≡ sizes-around
+      around-at : raised (upFrom (l .parents) (h .up)) (itemAdds p tag (after .body) (bodySize p tag (after .body) end)) (itemAdds p tag o (bodySize p tag o end)) (m .bodies) ≡ sizes-around
       around-at =
-          ap (λ g. raised (upFrom (l .parents) g) (adds p tag (after .body) (bodySize p tag (after .body) end)) (adds p tag o (bodySize p tag o end)) (m .bodies)) (sym parent-at)
+          ap (λ g. raised (upFrom (l .parents) g) (itemAdds p tag (after .body) (bodySize p tag (after .body) end)) (itemAdds p tag o (bodySize p tag o end)) (m .bodies)) (sym parent-at)
           ∙ ap₂ (λ x y. raised (upFrom (l .parents) up) x y (m .bodies)) was-adds is-adds
 
       whole : framedSize (getD sizes-around 0 0) ≡ normal

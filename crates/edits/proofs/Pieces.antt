@@ -13,7 +13,6 @@ use Rattle.octets.proofs.Lists.{sets-append}
 use Rattle.text.specs.Tokens.{Entries}
 use Rattle.values.specs.declared.Kind.{Kind}
 use Rattle.values.specs.Table.{known}
-use Rattle.values.specs.Calls.{defaultOctets}
 use Rattle.format.specs.declared.Record.{Record}
 use Rattle.format.specs.Tree.{Items, count, records}
 use Rattle.format.specs.Tree.Items.{end, item}
@@ -32,6 +31,7 @@ use Rattle.tags.specs.Listed.{listedAs}
 use Rattle.tags.proofs.Listing.{is-nothing, is-inside, is-value}
 use Rattle.survey.specs.Normal.{framedSize}
 use Rattle.edits.specs.Lay.{addedIn, ownSizes}
+use Rattle.state.specs.Order.{itemAdds}
 use Rattle.state.proofs.BodySizes.{open-counts}
 
 -- ---- sizes of bodies: an item, and then what comes after it
@@ -62,9 +62,9 @@ pub record Sized (p : ℕ) (t : Items) (size added : ℕ) (inside : List ℕ) : 
   pub adds : addedIn p t ≡ added
 
 pub sized-value : (p tag at : ℕ) (body : List ℕ) → eqb tag 4 ≡ false → opens tag ≡ false
-    → Sized p (item tag at body end end) (length body) (cond (defaultOctets p tag body) 0 (framedSize (length body))) []
+    → Sized p (item tag at body end end) (length body) (itemAdds p tag body (length body)) []
 unfolding ownSizes addedIn
-sized-value p tag at body f o = record { sizes = rw (f, o); adds = rw o (add-zero (cond (defaultOctets p tag body) 0 (framedSize (length body)))) }
+sized-value p tag at body f o = record { sizes = rw (f, o); adds = rw o (add-zero (itemAdds p tag body (length body))) }
 
 pub sized-items : (p tag at : ℕ) (body : List ℕ) (x : Items) → eqb tag 4 ≡ false → opens tag ≡ true
     → Sized p (item tag at body x end) (addedIn tag x) (framedSize (addedIn tag x)) (ownSizes tag x)

@@ -18,7 +18,8 @@ use Rattle.format.proofs.Means.{opens-items}
 use Rattle.format.proofs.Order.{ruled-order, three-end}
 use Rattle.survey.specs.Normal.{framedSize, normalSize}
 use Rattle.survey.proofs.Sizes.{size-whole}
-use Rattle.state.proofs.BodySizes.{bodySize, adds, size-open, size-item, open-counts}
+use Rattle.state.specs.Order.{itemAdds}
+use Rattle.state.proofs.BodySizes.{bodySize, size-open, size-item, open-counts}
 use Rattle.state.proofs.HeldTree.{sizes-count}
 use Rattle.edits.specs.Sites.{Site, inner, beyond, Swapped}
 use Rattle.edits.specs.Sites.Swapped.{here, inside, after}
@@ -87,7 +88,7 @@ regroup-back : (f : List ℕ) (b : ℕ) (x a c k : List ℕ) → (f ++ (b ∷ x)
 regroup-back f b x a c k = simp append-assoc
 
 -- an element that holds items adds its body with a header
-pub open-adds : (p tag : ℕ) (body : List ℕ) (size : ℕ) → opens tag ≡ true → adds p tag body size ≡ framedSize size
+pub open-adds : (p tag : ℕ) (body : List ℕ) (size : ℕ) → opens tag ≡ true → itemAdds p tag body size ≡ framedSize size
 open-adds p tag body size o = rw (open-counts p tag body o)
 
 module _ (was is : ℕ) where
@@ -159,7 +160,7 @@ module _ (was is : ℕ) where
         pre = b ∷ (xs ++ g .pre);
         pre′ = b ∷ (xs ++ g .pre′);
         post = g .post;
-        other = adds p tag body b + g .other;
+        other = itemAdds p tag body b + g .other;
         old = ap {B = List ℕ} (λ v. b ∷ (xs ++ v)) (g .old) ∙ ap {B = List ℕ} (λ v. b ∷ v) (sym (append-assoc xs (g .pre) (us ++ g .post)));
         new = ap {B = List ℕ} (λ v. b ∷ (xs ++ v)) (g .new) ∙ ap {B = List ℕ} (λ v. b ∷ v) (sym (append-assoc xs (g .pre′) (sizesAt h w ++ g .post)));
         long = omega (arith, g .long, length-append xs (g .pre));

@@ -26,7 +26,8 @@ use Rattle.format.proofs.Written.{Bytes, ruled-told}
 use Rattle.format.proofs.Loading.{loaded-held, loaded-single, loaded-keeps}
 use Rattle.survey.specs.Normal.{framedSize, normalSize}
 use Rattle.survey.proofs.Ways.{told-value}
-use Rattle.state.proofs.BodySizes.{bodySize, adds, size-open, size-shut, size-item}
+use Rattle.state.specs.Order.{itemAdds}
+use Rattle.state.proofs.BodySizes.{bodySize, size-open, size-shut, size-item}
 use Rattle.edits.proofs.Sizes.{open-adds}
 
 record Same (s : Spot) (t : Items) : Type 0 where
@@ -66,7 +67,7 @@ module _ (s : Spot) (tag from : ℕ) (body : List ℕ) (x y : Items) (rules : ru
         ap (bodySizes p) (loaded-held [] p at tag from body x y f o) ∙ ap₂ (λ a c. a ∷ c) (inner-size o inside at) (ap₂ _++_ (inside .sizes at) (later .sizes n));
     size = λ at.
         let n = at + length (storeIn [] tag x) in
-        let b : adds p tag [] (bodySize p tag [] (loadedIn [] tag at x)) ≡ adds p tag body (bodySize p tag body x) =
+        let b : itemAdds p tag [] (bodySize p tag [] (loadedIn [] tag at x)) ≡ itemAdds p tag body (bodySize p tag body x) =
         open-adds p tag [] (bodySize p tag [] (loadedIn [] tag at x)) o
         ∙ (ap framedSize (inner-size o inside at) ∙ sym (open-adds p tag body (bodySize p tag body x) o)) in
         ap (normalSize p) (loaded-held [] p at tag from body x y f o)
@@ -101,7 +102,7 @@ module _ (s : Spot) (tag from : ℕ) (body : List ℕ) (x y : Items) (rules : ru
             let n = at + length own in
             let e = loaded-single [] p at tag from body x y f o in
             let v = ruled-parts s tag at own end (loadedIn [] p n y) (subst (λ z. ruled s z ≡ true) e (loaded-rules at)) in
-            let c : adds p tag own (bodySize p tag own end) ≡ adds p tag body (bodySize p tag body x) = ap₂ (λ d z. cond d 0 (framedSize z)) (a .1) b in
+            let c : itemAdds p tag own (bodySize p tag own end) ≡ itemAdds p tag body (bodySize p tag body x) = ap₂ (λ d z. cond d 0 (framedSize z)) (a .1) b in
             ap (normalSize p) e ∙ (size-item s tag at own end (loadedIn [] p n y) v ∙ (ap₂ _+_ c (later .size n) ∙ sym (size-item s tag from body x y u)));
       }
 

@@ -24,7 +24,8 @@ use Rattle.format.proofs.Written.{Bytes, ruled-told}
 use Rattle.format.proofs.Defaults.{ownDefaults, own-none, own-few}
 use Rattle.survey.specs.Normal.{framedSize, normalSize}
 use Rattle.survey.proofs.Sizes.{size-whole}
-use Rattle.state.proofs.BodySizes.{bodySize, adds, size-open, size-shut, size-item, open-counts}
+use Rattle.state.specs.Order.{itemAdds}
+use Rattle.state.proofs.BodySizes.{bodySize, size-open, size-shut, size-item, open-counts}
 use Rattle.edits.specs.Sites.{share}
 use Rattle.edits.proofs.Sites.{store-here}
 use Rattle.edits.proofs.Cuts.{share-shut}
@@ -42,7 +43,7 @@ module _ (s : Spot) (tag : ℕ) (body : List ℕ) (x y : Items) (u : Ruled s tag
   p = s .parent
 
   share-less : ownDefaults tag x ≤ 2 → length (storeIn [] tag x) ≤ normalSize tag x + ownDefaults tag x
-      → length (share p tag body x) ≤ adds p tag body (bodySize p tag body x) + cond (defaultOctets p tag body) 1 0
+      → length (share p tag body x) ≤ itemAdds p tag body (bodySize p tag body x) + cond (defaultOctets p tag body) 1 0
   unfolding framedSize
   share-less few inside = go (opens tag) refl (defaultOctets p tag body) refl
     where

@@ -5,7 +5,6 @@ use mathlib.Core.List.{List, []}
 use Prim.Native.Nat.{ℕ, _+_}
 use lib.ListN.{length}
 use Rattle.values.specs.Table.{known}
-use Rattle.values.specs.Calls.{defaultOctets}
 use Rattle.format.specs.Tree.{Items}
 use Rattle.format.specs.Tree.Items.{end, item}
 use Rattle.format.specs.Meaning.{opens, means, encode}
@@ -13,9 +12,10 @@ use Rattle.format.specs.Writer.{Spot, below, past, atTop, ruled}
 use Rattle.format.specs.Loaded.{stored}
 use Rattle.format.specs.State.{bodySizes, packed}
 use Rattle.format.proofs.Kept.{Ruled, ruled-parts, keeps-tag}
-use Rattle.survey.specs.Normal.{framedSize, normalSize}
+use Rattle.survey.specs.Normal.{normalSize}
 use Rattle.survey.proofs.Sizes.{size-whole}
 use Rattle.edits.specs.Lay.{addedIn, ownSizes}
+use Rattle.state.specs.Order.{itemAdds}
 use Rattle.state.proofs.BodySizes.{bodySize, size-open, size-shut, size-item}
 use Rattle.state.proofs.SizesHeld.{Own, own-packed}
 
@@ -28,7 +28,7 @@ same-item : (s : Spot) (tag at : ℕ) (body : List ℕ) (x y : Items) → Ruled 
 unfolding ownSizes addedIn bodySizes
 same-item s tag at body x y u w ix iy = record {
   sizes = rw (keeps-tag s tag body (u .rules), own, ix .sizes, iy .sizes);
-  adds = ap₂ (λ n k. cond (defaultOctets p tag body) 0 (framedSize n) + k) own (iy .adds) ∙ sym (size-item s tag at body x y u);
+  adds = ap₂ (λ n k. itemAdds p tag body n + k) own (iy .adds) ∙ sym (size-item s tag at body x y u);
 }
   where
     p : ℕ

@@ -13,7 +13,6 @@ use Rattle.text.specs.Tokens.{Entries}
 use Rattle.values.specs.declared.Kind.{Kind}
 use Rattle.values.specs.Table.{known}
 use Rattle.values.specs.Values.{fits}
-use Rattle.values.specs.Calls.{defaultOctets}
 use Rattle.format.specs.declared.Record.{Record}
 use Rattle.format.specs.Tree.{Items, count, kindOf, records}
 use Rattle.format.specs.Tree.Items.{end, item}
@@ -30,7 +29,7 @@ use Rattle.tags.specs.Listed.{listedAs}
 use Rattle.survey.specs.Normal.{framedSize}
 use Rattle.edits.specs.declared.lay.Level.{Level}
 use Rattle.edits.specs.declared.lay.Laid.{Laid}
-use Rattle.state.specs.Order.{addedBy}
+use Rattle.state.specs.Order.{itemAdds, addedBy}
 
 -- ---- sizes of bodies, over a store, as the walk sums them up. That they are `bodySizes` of format for a tree that keeps the rules is proved (proofs/Summed)
 
@@ -38,7 +37,7 @@ use Rattle.state.specs.Order.{addedBy}
 unfoldable pub addedIn : ℕ → Items → ℕ
 addedIn parent end = 0
 addedIn parent (item tag at body inside after) =
-    cond (defaultOctets parent tag body) 0 (framedSize (cond (opens tag) (addedIn tag inside) (length body))) + addedIn parent after
+    itemAdds parent tag body (cond (opens tag) (addedIn tag inside) (length body)) + addedIn parent after
 
 -- the sizes of the bodies, one for each record
 unfoldable pub ownSizes : ℕ → Items → List ℕ
@@ -125,7 +124,7 @@ pub record ValueLays (table : Entries) (kind : Kind) (tag : ℕ) (level : Level)
   pub holds : m′ .store ≡ sets (m .store) (done .end) (stored table (some kind) body)
   pub many : r .next ≡ done .next + 1
   pub ends : r .end ≡ done .end + length (stored table (some kind) body)
-  pub adds : r .body .0 ≡ done .body .0 + cond (defaultOctets (level .element) tag (stored table (some kind) body)) 0 (framedSize (length (stored table (some kind) body)))
+  pub adds : r .body .0 ≡ done .body .0 + itemAdds (level .element) tag (stored table (some kind) body) (length (stored table (some kind) body))
 
 -- ---- an item
 

@@ -24,6 +24,7 @@ use Rattle.format.proofs.Defaults.{default-attribute}
 use Rattle.survey.specs.Normal.{framedSize, normalSize}
 use Rattle.survey.proofs.Sizes.{size-inside}
 use Rattle.survey.proofs.Ways.{framed-length, value-fits, item-known, item-default}
+use Rattle.state.specs.Order.{itemAdds}
 
 abbrev pub bodySize : (parent tag : ℕ) → List ℕ → Items → ℕ
 bodySize parent tag body x = length (normalBody parent tag body x)
@@ -49,12 +50,8 @@ open-counts p tag body o = go (defaultOctets p tag body) refl
     go false d = refl
     go true d = absurd (false≢true (sym (attribute-shut tag (default-attribute p tag body d)) ∙ o))
 
--- what an item of a body of a size adds to the items of its element
-abbrev pub adds : (parent tag : ℕ) → List ℕ → (size : ℕ) → ℕ
-adds parent tag body size = cond (defaultOctets parent tag body) 0 (framedSize size)
-
 pub size-item : (s : Spot) (tag at : ℕ) (body : List ℕ) (x y : Items) → Ruled s tag body x y
-    → normalSize (s .parent) (item tag at body x y) ≡ adds (s .parent) tag body (bodySize (s .parent) tag body x) + normalSize (s .parent) y
+    → normalSize (s .parent) (item tag at body x y) ≡ itemAdds (s .parent) tag body (bodySize (s .parent) tag body x) + normalSize (s .parent) y
 unfolding normalSize stored isValue
 size-item s tag at body x y u = go (opens tag) refl (defaultOctets (s .parent) tag body) refl
   where

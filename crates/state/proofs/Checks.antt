@@ -28,7 +28,7 @@ use Rattle.survey.proofs.Parts.{framed-is}
 use Rattle.compare.specs.Normal.{isWritten}
 use Rattle.state.specs.declared.Filled.{Filled}
 use Rattle.state.specs.declared.Filled.the-variants.{Apart, Upto}
-use Rattle.state.specs.Order.{nth, liesTo, filledFrom, asFilled, addedBy, rightBelow, noSums}
+use Rattle.state.specs.Order.{nth, liesTo, filledFrom, asFilled, itemAdds, addedBy, rightBelow, noSums}
 
 -- ---- value_to
 module _ (k : Kind) (at : ℕ) (lent : List ℕ) (start size : ℕ) where
@@ -131,31 +131,29 @@ module _ (tags parents starts sizes lent : List ℕ) (n : ℕ) where
 
 pub ruleset lying-ways = (lying-start, lying-end, lying-ill, lying-next)
 
--- ---- framed_size and added_by
+-- ---- framed_size, item_adds and added_by
 pub framed-body : (body : ℕ) (h : OctetCount) → h ≡ asOctets (suc (length (lengthField body))) → h .0 + body ≡ framedSize body
 framed-body body h e = framed-is (asOctets body) h e
+
+module _ (element tag : ℕ) (octets : List ℕ) (body : ℕ) (c : Bool) (ce : c ≡ defaultOctets element tag octets) where
+  pub adds-nothing : c ≡ true → 0 ≡ itemAdds element tag octets body
+  adds-nothing t = rw (sym ce ∙ t)
+
+  pub adds-framed : c ≡ false → (r : OctetCount) → r .0 ≡ framedSize body → r .0 ≡ itemAdds element tag octets body
+  adds-framed t r e = rw (sym ce ∙ t) e
 
 module _ (element tag start size : ℕ) (lent : List ℕ) (body : ℕ) where
   pub added-beyond : length lent < start + size → (r : OctetCount) → r .0 ≡ framedSize body → r .0 ≡ addedBy element tag start size lent body
   unfolding addedBy
   added-beyond n r e = rw (lt-leb (start + size) (length lent) n) e
 
-  module _ (q : start + size ≤ length lent) (c : Bool) (ce : c ≡ defaultOctets element tag (take (start + size - start) (drop start lent))) where
-    default-is : defaultOctets element tag (take size (drop start lent)) ≡ c
-    default-is = sym (ce ∙ ap (λ x. defaultOctets element tag (take x (drop start lent))) (add-sub-cancel-left start size))
+  pub added-inside : start + size ≤ length lent → (r : OctetCount) → r .0 ≡ itemAdds element tag (take (start + size - start) (drop start lent)) body
+      → r .0 ≡ addedBy element tag start size lent body
+  unfolding addedBy
+  added-inside q r e =
+      rw (le-leb (start + size) (length lent) q) (e ∙ ap (λ x. itemAdds element tag (take x (drop start lent)) body) (add-sub-cancel-left start size))
 
-    inside : leb (start + size) (length lent) ≡ true
-    inside = le-leb (start + size) (length lent) q
-
-    pub added-default : c ≡ true → 0 ≡ addedBy element tag start size lent body
-    unfolding addedBy
-    added-default t = rw (inside, default-is ∙ t)
-
-    pub added-other : c ≡ false → (r : OctetCount) → r .0 ≡ framedSize body → r .0 ≡ addedBy element tag start size lent body
-    unfolding addedBy
-    added-other t r e = rw (inside, default-is ∙ t) e
-
-pub ruleset added-ways = (added-beyond, added-default, added-other)
+pub ruleset added-ways = (added-beyond, added-inside)
 
 -- ---- sums by depth
 pub put-beyond : (sums : List ℕ) (d sum : ℕ) → length sums ≤ d → sums ≡ set sums d sum

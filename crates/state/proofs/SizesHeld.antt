@@ -32,9 +32,9 @@ use Rattle.format.proofs.Tabled.{left, left-all, left-none, Stands, item-stands
 use Rattle.format.proofs.Loading.{loaded-held, loaded-single}
 use Rattle.survey.specs.Normal.{framedSize, normalSize}
 use Rattle.survey.proofs.Sizes.{size-whole}
-use Rattle.state.specs.Order.{addedBy, rightBelow, noSums, nth}
+use Rattle.state.specs.Order.{itemAdds, addedBy, rightBelow, noSums, nth}
 use Rattle.state.proofs.HeldTree.{sizes-count}
-use Rattle.state.proofs.BodySizes.{bodySize, size-open, size-shut, open-counts, adds, size-item}
+use Rattle.state.proofs.BodySizes.{bodySize, size-open, size-shut, open-counts, size-item}
 
 -- ---- a list of sizes, one by one
 unfoldable are : (ℕ → ℕ) → ℕ → List ℕ → Bool
@@ -147,7 +147,7 @@ module _ (row : ℕ → Record) (n : ℕ) (lent : List ℕ) (b : ℕ → ℕ) wh
   Passes s t i j sums = right j sums ≡ (are b i (bodySizes (s .parent) t) && leb (total s t sums) 32_768) && right i (set sums (s .depth) (total s t sums))
 
   added-is : (q p tag from : ℕ) (body : List ℕ) → Part lent from body → defaultOctets (row p .tag) tag body ≡ defaultOctets q tag body → (size : ℕ)
-      → addedBy (row p .tag) tag from (length body) lent size ≡ adds q tag body size
+      → addedBy (row p .tag) tag from (length body) lent size ≡ itemAdds q tag body size
   unfolding addedBy
   added-is q p tag from body l e size = let sp = part-span lent from body l in rw (le-leb (from + length body) (length lent) (sp .0), sp .1, e)
 
@@ -159,7 +159,7 @@ module _ (row : ℕ → Record) (n : ℕ) (lent : List ℕ) (b : ℕ → ℕ) wh
     own : cond (opens tag) (nth behind (suc (s .depth))) (length body) ≡ bodySize (s .parent) tag body x
     back : set behind (suc (s .depth)) 0 ≡ sums
     same : nth behind (s .depth) ≡ nth sums (s .depth)
-    less : adds (s .parent) tag body (bodySize (s .parent) tag body x) ≤ 32_768 → low ≡ true
+    less : itemAdds (s .parent) tag body (bodySize (s .parent) tag body x) ≤ 32_768 → low ≡ true
 
   module _ (s : Spot) (tag from : ℕ) (body : List ℕ) (x y : Items) (p i : ℕ) (u : Ruled s tag body x y) where
     abbrev d : ℕ
@@ -242,8 +242,8 @@ module _ (row : ℕ → Record) (n : ℕ) (lent : List ℕ) (b : ℕ → ℕ) wh
 
           sum-is : e ≡ true → sum ≡ whole
           sum-is h =
-              let a : addedBy (row p .tag) tag from (length body) lent (b i) ≡ adds (s .parent) tag body size =
-              added-is (s .parent) p tag from body l own (b i) ∙ ap (adds (s .parent) tag body) (eqb-true (b i) size h) in
+              let a : addedBy (row p .tag) tag from (length body) lent (b i) ≡ itemAdds (s .parent) tag body size =
+              added-is (s .parent) p tag from body l own (b i) ∙ ap (itemAdds (s .parent) tag body) (eqb-true (b i) size h) in
               let f : nth (ix .behind) d ≡ total s y sums = ix .same ∙ getD-set-same sums d (total s y sums) 0 (omega (arith, g)) in
               omega (arith, a, f, size-item s tag from body x y u)
 

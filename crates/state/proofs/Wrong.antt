@@ -19,7 +19,7 @@ use Rattle.format.specs.Calls.{places, treeGiven}
 use Rattle.format.specs.State.{Memory, normalBody, bodySizes, sameItems, kept, inOrder, treeHeld}
 use Rattle.survey.specs.Normal.{framedSize}
 use Rattle.state.specs.declared.Filled.the-variants.{Apart, Upto}
-use Rattle.state.specs.Order.{heldAs, addedBy}
+use Rattle.state.specs.Order.{heldAs, itemAdds, addedBy}
 
 -- a top, a schedule in it, a programme in that, and the recommendation of the programme, whose octet begins at a place of the store. 1, "no", is its default (request
 -- 2026-05) and 2 is "yes"
@@ -84,7 +84,11 @@ pub framed-told : (framedSize 253 ≡ 255) × (framedSize 254 ≡ 258)
 unfolding digits lengthField framedSize
 framed-told = (refl, refl)
 
--- a default counted, or one that isn't left out: the recommendations "no" and "yes" of a programme
+-- a default counted, or another value left out: the recommendations "no" and "yes" of a programme, by themselves and as records
+pub adds-told : (itemAdds 0x1C 0x83 (1 ∷ []) 1 ≡ 0) × (itemAdds 0x1C 0x83 (2 ∷ []) 1 ≡ 3)
+unfolding digits value lengthField framedSize rows kindIn known attribute defaults defaultIn width fits meant octetsOf isDefault defaultOctets
+adds-told = (refl, refl)
+
 pub added-told : (addedBy 0x1C 0x83 0 1 (1 ∷ []) 1 ≡ 0) × (addedBy 0x1C 0x83 0 1 (2 ∷ []) 1 ≡ 3)
 unfolding digits value lengthField framedSize rows kindIn known attribute defaults defaultIn width fits meant octetsOf isDefault defaultOctets addedBy
 added-told = (refl, refl)

@@ -51,9 +51,14 @@ asFilled (some at) = Upto at
 
 -- ---- sizes of bodies
 
--- what a record adds to the body of its element in normal form: nothing where its octets are a default (change request 2026-05), else its own body with a header
+-- what an item adds to the body of its element in normal form, by its octets and the size of its own body: nothing where they are a default (change request
+-- 2026-05), else that body with a header
+abbrev pub itemAdds : (element tag : ℕ) → List ℕ → (body : ℕ) → ℕ
+itemAdds element tag octets body = cond (defaultOctets element tag octets) 0 (framedSize body)
+
+-- the same of a record, whose octets are a part of those that are lent; one that lies beyond them has no octets that could be a default
 unfoldable pub addedBy : (element tag start size : ℕ) → List ℕ → (body : ℕ) → ℕ
-addedBy element tag start size lent body = cond (leb (start + size) (length lent) && defaultOctets element tag (take size (drop start lent))) 0 (framedSize body)
+addedBy element tag start size lent body = cond (leb (start + size) (length lent)) (itemAdds element tag (take size (drop start lent)) body) (framedSize body)
 
 -- the records below a number, from the last to the first, where each has its size: that of its own octets, or the sum of what is directly in it. The sums of the
 -- records so far stand by depth: an element takes the sum of the depth below its own, and what it adds goes to its own depth. No sum is above 32,768, which no

@@ -11,7 +11,7 @@ ghost use Rattle.tags.specs.declared.Listed.the-variants.{Value};
 ghost use Rattle.tags.specs.Listed.{listedAs};
 ghost use Rattle.survey.specs.Normal.{framedSize};
 ghost use Rattle.state.specs.Taking.{memory};
-ghost use Rattle.state.specs.Order.{heldAs, nth, liesTo, filledFrom, asFilled, addedBy, rightBelow, noSums};
+ghost use Rattle.state.specs.Order.{heldAs, nth, liesTo, filledFrom, asFilled, itemAdds, addedBy, rightBelow, noSums};
 use crate::Filled;
 use compare::is_own;
 use format::octet_at;
@@ -100,6 +100,16 @@ pub fn framed_size(body: u16) -> Octets
     Octets(all)
 }
 
+// What an item adds to the body of its element, where its own has so many octets in normal form: a default isn't written.
+pub fn item_adds(element: u8, tag: u8, octets: &[u8], body: u16) -> Octets
+    ensures { λ r. ⌜ r .0 ≡ itemAdds element tag (now (octets .entry)) body ⌝ }
+{
+    if is_default(element, tag, octets) {
+        return Octets(0);
+    }
+    framed_size(body)
+}
+
 // What a record adds to the body of its element. A well-formed record is left out of the normal form only where it is a default.
 pub fn added_by(element: u8, tag: u8, start: u16, size: u16, store: &[u8], body: u16) -> Octets
     ensures { λ r. ⌜ r .0 ≡ addedBy element tag start size (now (store .entry)) body ⌝ }
@@ -109,10 +119,7 @@ pub fn added_by(element: u8, tag: u8, start: u16, size: u16, store: &[u8], body:
     if end > store.len() {
         return framed_size(body);
     }
-    if is_default(element, tag, &store[from..end]) {
-        return Octets(0);
-    }
-    framed_size(body)
+    item_adds(element, tag, &store[from..end], body)
 }
 
 fn sum_at(sums: &[usize], depth: usize) -> Octets

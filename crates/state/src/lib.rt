@@ -5,6 +5,7 @@ mod holding;
 pub use holding::added_by;
 pub use holding::framed_size;
 pub use holding::held;
+pub use holding::item_adds;
 
 // How far records fill the store, where each text and value lies right behind the one before it. Apart: they don't lie so.
 pub enum Filled {

@@ -11,8 +11,8 @@ use values::is_default;
 use values::known_kind;
 use values::normal_size;
 
-// The kind of value as which an item is written in normal form; Unknown: it isn't written. Whoever measures a normal form and whoever writes it ask this
-// one call, so they can't differ in what they leave out.
+// The kind of value as which an item is written in normal form; Unknown: it isn't written. Whoever writes a normal form, exports an object or asks whether octets
+// are a normal form asks this call. Whoever measures wants the size of a default too, and asks for the kind and the default by themselves.
 pub fn written_as(parent: u8, tag: u8, body: &[u8]) -> KnownKind
     ensures { λ r. ⌜ r ≡ asKnown (writtenAs parent tag (now (body .entry))) ⌝ }
 {

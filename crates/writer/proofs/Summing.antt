@@ -37,7 +37,8 @@ use Rattle.tags.specs.Listed.{listedAs}
 use Rattle.tags.proofs.Listing.{is-nothing, is-inside, is-value}
 use Rattle.survey.specs.Normal.{framedSize, valueOctets, normalSize}
 use Rattle.survey.proofs.Ways.{value-fits}
-use Rattle.state.proofs.BodySizes.{bodySize, adds, size-item, size-open, size-shut, framed-few}
+use Rattle.state.specs.Order.{itemAdds}
+use Rattle.state.proofs.BodySizes.{bodySize, size-item, size-open, size-shut, framed-few}
 use Rattle.writer.specs.declared.size.Part.{Part}
 use Rattle.writer.specs.declared.size.Part.the-variants.{Past, Holds, Single}
 use Rattle.writer.specs.declared.size.Sized.{Sized}
@@ -56,14 +57,10 @@ module _ (p tag : ℕ) (body : List ℕ) (r : Listed) (e : r ≡ listedAs (known
   unfolding partOf partListed
   part-holds q = rw (sym e ∙ q)
 
-  module _ (k : Kind) (q : r ≡ Value k) (n : Octets) (ne : n .0 ≡ length (valueOctets k body)) (d : Bool) (de : d ≡ defaultOctets p tag body) where
-    pub part-default : d ≡ true → Single (n .0) (asOctets 0) ≡ partOf p tag body
-    unfolding partOf partListed
-    part-default y = rw (sym e ∙ q, sym de ∙ y, ne)
-
-    pub part-value : d ≡ false → (m : Octets) → m .0 ≡ framedSize (n .0) → Single (n .0) m ≡ partOf p tag body
-    unfolding partOf partListed
-    part-value y m f = rw (sym e ∙ q, sym de ∙ y, ← ne) (ap (λ size. Single (n .0) (asOctets size)) f)
+  pub part-value : (k : Kind) → r ≡ Value k → (n : Octets) → n .0 ≡ length (valueOctets k body) → (m : Octets) → m .0 ≡ itemAdds p tag body (n .0)
+      → Single (n .0) m ≡ partOf p tag body
+  unfolding partOf partListed
+  part-value k q n ne m f = rw (sym e ∙ q, ← ne) (ap (λ size. Single (n .0) (asOctets size)) f)
 
 module _ (p depth : ℕ) (lent : List ℕ) (l : Lists) (i : ℕ) where
   abbrev part : List ℕ
@@ -85,14 +82,14 @@ module _ (p tag : ℕ) (body : List ℕ) where
   record Alone (size added : ℕ) : Type 0 where
     shut : opens tag ≡ false
     short : added ≤ length body + 5
-    right : (s : Spot) → Kept s tag body (known p tag) → (size ≡ bodySize p tag body end) × (added ≡ adds p tag body size)
+    right : (s : Spot) → Kept s tag body (known p tag) → (size ≡ bodySize p tag body end) × (added ≡ itemAdds p tag body size)
 
   alone-nothing : Nothing ≡ listedAs (known p tag) → Alone 0 0
   alone-nothing e =
       let t = is-nothing (known p tag) e in
       record { shut = sym (items-opens p tag) ∙ t .0; short = omega arith; right = λ s k. absurd (false≢true (sym (k .noTable) ∙ (sym (t .1) ∙ k .isOne))) }
 
-  alone-value : (k : Kind) → Value k ≡ listedAs (known p tag) → Alone (length (valueOctets k body)) (adds p tag body (length (valueOctets k body)))
+  alone-value : (k : Kind) → Value k ≡ listedAs (known p tag) → Alone (length (valueOctets k body)) (itemAdds p tag body (length (valueOctets k body)))
   unfolding stored isValue
   alone-value k e =
       let t = is-value (known p tag) k e in
@@ -249,7 +246,7 @@ module _ (l : Lists) (n : ℕ) (lent : List ℕ) (at depth p : ℕ) (before bodi
       single-ordered : Ordered p (item tag-here (row l i .start) body-here end (itemsFrom l n lent depth (i + 1) .0))
       single-ordered = first-ordered end (itemsFrom l n lent depth (i + 1) .0) (ap (λ y. y .0) single)
 
-      single-right : (size ≡ bodySize p tag-here body-here end) × (m .0 ≡ adds p tag-here body-here size)
+      single-right : (size ≡ bodySize p tag-here body-here end) × (m .0 ≡ itemAdds p tag-here body-here size)
       single-right =
           let o = single-ordered in
           let u = ordered-first p tag-here (row l i .start) body-here end (itemsFrom l n lent depth (i + 1) .0) o in
@@ -262,8 +259,8 @@ module _ (l : Lists) (n : ℕ) (lent : List ℕ) (at depth p : ℕ) (before bodi
           let r = single-right in
           let u = size-item (o .spot) tag-here (row l i .start) body-here end y (ordered-first p tag-here (row l i .start) body-here end y o) in
           let first = item tag-here (row l i .start) body-here end y in
-          let z = subst (λ q. normalSize q first ≡ adds q tag-here body-here (bodySize q tag-here body-here end) + normalSize q y) (o .element) u in
-          ap (λ y. normalSize p (y .0)) single ∙ (z ∙ ap (λ q. q + normalSize p y) (sym (r .1 ∙ ap (adds p tag-here body-here) (r .0))))
+          let z = subst (λ q. normalSize q first ≡ itemAdds q tag-here body-here (bodySize q tag-here body-here end) + normalSize q y) (o .element) u in
+          ap (λ y. normalSize p (y .0)) single ∙ (z ∙ ap (λ q. q + normalSize p y) (sym (r .1 ∙ ap (itemAdds p tag-here body-here) (r .0))))
 
       single-stands : sets bodies i (own l n lent p depth i) ≡ sets (set bodies i size) (i + 1) (own l n lent p depth (i + 1))
       unfolding bodySizes

@@ -23,7 +23,8 @@ use Rattle.format.specs.State.{bodySizes}
 use Rattle.tags.specs.declared.Listed.{Listed}
 use Rattle.tags.specs.declared.Listed.the-variants.{Nothing, Inside, Value}
 use Rattle.tags.specs.Listed.{listedAs}
-use Rattle.survey.specs.Normal.{framedSize, valueOctets, itemOctets, normalSize, attributeOctets, laterOctets}
+use Rattle.survey.specs.Normal.{valueOctets, itemOctets, normalSize, attributeOctets, laterOctets}
+use Rattle.state.specs.Order.{itemAdds}
 use Rattle.writer.specs.declared.size.Part.{Part}
 use Rattle.writer.specs.declared.size.Part.the-variants.{Past, Holds, Single}
 use Rattle.writer.specs.declared.size.Sized.{Sized}
@@ -59,7 +60,7 @@ partListed parent tag body Nothing = Single 0 (asOctets 0)
 partListed parent tag body Inside = Holds tag
 partListed parent tag body (Value kind) =
     let size = length (valueOctets kind body) in
-    Single size (asOctets (cond (defaultOctets parent tag body) 0 (framedSize size)))
+    Single size (asOctets (itemAdds parent tag body size))
 
 unfoldable pub partOf : (parent tag : ℕ) → List ℕ → Part
 partOf parent tag body = partListed parent tag body (listedAs (known parent tag))

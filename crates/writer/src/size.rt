@@ -8,10 +8,10 @@ ghost use Rattle.format.specs.Calls.{row};
 ghost use Rattle.writer.specs.Steps.{four, itemsFrom, Holding, Ordered, partOf, partAt, Sizes};
 use octets::Octets;
 use state::framed_size;
+use state::item_adds;
 use survey::value_size;
 use tags::Listed;
 use tags::listed_as;
-use values::is_default;
 
 // What a record is to the items of an element: none of them; one that holds items, which are to be measured; one that has a size of its own, and adds so many octets.
 pub enum Part {
@@ -26,7 +26,7 @@ pub enum Sized {
     Size { total: Octets, next: usize },
 }
 
-// One lookup tells whether an item holds items, and as what it is written. The size of a default is told too, but it isn't written, so it adds nothing.
+// One lookup tells whether an item holds items, and as what it is written. The size of a default is told too, though it adds nothing.
 fn part_of(parent: u8, tag: u8, body: &[u8]) -> Part
     requires { ⌜ length (now body) < 65536 ⌝ }
     ensures { λ r. ⌜ r ≡ partOf parent tag (now (body .entry)) ⌝ }
@@ -39,13 +39,7 @@ fn part_of(parent: u8, tag: u8, body: &[u8]) -> Part
         Listed::Inside => Part::Holds(tag),
         Listed::Value(kind) => {
             let size = value_size(kind, body).0 as u16;
-            if is_default(parent, tag, body) {
-                return Part::Single {
-                    size,
-                    adds: Octets(0),
-                };
-            }
-            let adds = framed_size(size);
+            let adds = item_adds(parent, tag, body, size);
             Part::Single { size, adds }
         }
     }

@@ -1,5 +1,5 @@
 use Rattle.writer.proofs.Items.{value-bound}
-use Rattle.writer.proofs.Summing.{part-nothing, part-holds, part-default, part-value}
+use Rattle.writer.proofs.Summing.{part-nothing, part-holds, part-value}
 use borrow.Author.Needs.{needs}
 use Rattle.writer.proofs.size.part_of.Statement.{statement}
 use Rattle.writer.proofs.size.part_of.Tie as tie
@@ -22,23 +22,17 @@ value-size-requires c κs = search needs
 cast-size : tie.Need-cast-size
 cast-size c = search (value-bound, needs)
 
-is-default-requires : tie.Need-is-default-requires
-is-default-requires c κs = search needs
+item-adds-requires : tie.Need-item-adds-requires
+item-adds-requires c κs = search needs
 
 returns : tie.Need-returns
-returns c = search (part-default, needs)
-
-framed-size-requires : tie.Need-framed-size-requires
-framed-size-requires c κs = search needs
+returns c = search (part-nothing, needs)
 
 returns-2 : tie.Need-returns-2
-returns-2 c = search (part-nothing, needs)
+returns-2 c = search (part-holds, needs)
 
 returns-3 : tie.Need-returns-3
-returns-3 c = search (part-holds, needs)
-
-returns-4 : tie.Need-returns-4
-returns-4 c = search (part-value, needs)
+returns-3 c = search (part-value, needs)
 
 pub part-of-spec : {M : Type 1} → statement M
 part-of-spec =
@@ -50,9 +44,7 @@ part-of-spec =
     enum-known-kind
     value-size-requires
     cast-size
-    is-default-requires
+    item-adds-requires
     returns
-    framed-size-requires
     returns-2
-    returns-3
-    returns-4)
+    returns-3)
