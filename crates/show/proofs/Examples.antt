@@ -96,6 +96,26 @@ profile-words : refusalWords 0 19 ≡ ascii "an item is not in the Basic profile
 unfolding refusalWords reasons ascii
 profile-words = refl
 
+merge-words : refusalWords 0 20 ≡ ascii "the two objects cannot be merged: tops, languages, an attribute or texts differ"
+unfolding refusalWords reasons ascii
+merge-words = refl
+
+key-words : refusalWords 0 21 ≡ ascii "an object holds a merging key twice under one parent"
+unfolding refusalWords reasons ascii
+key-words = refl
+
+packed-words : refusalWords 0 22 ≡ ascii "not a packed object of that normal form, or no normal form"
+unfolding refusalWords reasons ascii
+packed-words = refl
+
+mark-words : refusalWords 0 23 ≡ ascii "not a recording: its mark or version is wrong"
+unfolding refusalWords reasons ascii
+mark-words = refl
+
+cut-words : refusalWords 0 24 ≡ ascii "the recording is cut off"
+unfolding refusalWords reasons ascii
+cut-words = refl
+
 hours-words : refusalWords 3 9 ≡ ascii "hours of a time out of range"
 unfolding refusalWords reasons fieldReasons fieldReason ascii
 hours-words = refl

@@ -379,7 +379,7 @@ pub ruleset refusal-size-ways = (refusal-field-length, refusal-length)
 pub words-same : (words : ℕ → List ℕ) (n k : ℕ) → n ≡ k → (at : ℕ) (out out′ : List ℕ) (r : Put) → Puts true (words k) at out out′ r → Puts true (words n) at out out′ r
 words-same words n k e at out out′ r p = rw e p
 
-pub words-other : (field n : ℕ) → 20 ≤ n → refusalWords field n ≡ ascii "no such refusal"
+pub words-other : (field n : ℕ) → 25 ≤ n → refusalWords field n ≡ ascii "no such refusal"
 unfolding refusalWords reasons
 words-other field n h = ap ascii (List·getD-eq-default (reasons field) "no such refusal" h)
 

@@ -60,7 +60,8 @@ fieldReasons =
 unfoldable pub fieldReason : ℕ → String
 fieldReason field = getD fieldReasons field "no such field"
 
--- why an object, a request or a list of records is refused, by the refusal's number (document 01, Refusal numbers; 17: request 2026-02; 18: 2026-06; 19: 2026-07); of 9 the field says more
+-- why an object, a request, a list of records or a recording is refused, by the refusal's number (document 01, Refusal numbers; 17: request 2026-02; 18: 2026-06;
+-- 19: 2026-07; 20 and 21: 2026-10; 22: 2026-11; 23 and 24: 2026-12); of 9 the field says more
 unfoldable pub reasons : ℕ → List String
 reasons field =
     "nothing is refused"
@@ -83,6 +84,11 @@ reasons field =
     ∷ "an item holds plain octets, which have no XML"
     ∷ "there is no such record or place, the record is of the wrong kind, or it is the top, which stays"
     ∷ "an item is not in the Basic profile of this data type"
+    ∷ "the two objects cannot be merged: tops, languages, an attribute or texts differ"
+    ∷ "an object holds a merging key twice under one parent"
+    ∷ "not a packed object of that normal form, or no normal form"
+    ∷ "not a recording: its mark or version is wrong"
+    ∷ "the recording is cut off"
     ∷ []
 
 unfoldable pub refusalWords : (field number : ℕ) → List ℕ

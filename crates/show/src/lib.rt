@@ -370,6 +370,23 @@ pub fn put_refusal_words(out: &mut [u8], at: usize, number: u8, field: u8) -> Pu
             at,
             b"an item is not in the Basic profile of this data type",
         ),
+        20 => put_bytes(
+            out,
+            at,
+            b"the two objects cannot be merged: tops, languages, an attribute or texts differ",
+        ),
+        21 => put_bytes(
+            out,
+            at,
+            b"an object holds a merging key twice under one parent",
+        ),
+        22 => put_bytes(
+            out,
+            at,
+            b"not a packed object of that normal form, or no normal form",
+        ),
+        23 => put_bytes(out, at, b"not a recording: its mark or version is wrong"),
+        24 => put_bytes(out, at, b"the recording is cut off"),
         _ => put_bytes(out, at, b"no such refusal"),
     }
 }

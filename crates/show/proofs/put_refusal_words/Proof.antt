@@ -129,6 +129,36 @@ slice-aggregate-put-bytes-20 c = search needs
 put-bytes-requires-20 : tie.Need-put-bytes-requires-20
 put-bytes-requires-20 c κs = search needs
 
+slice-aggregate-put-bytes-21 : tie.Need-slice-aggregate-put-bytes-21
+slice-aggregate-put-bytes-21 c = search needs
+
+put-bytes-requires-21 : tie.Need-put-bytes-requires-21
+put-bytes-requires-21 c κs = search needs
+
+slice-aggregate-put-bytes-22 : tie.Need-slice-aggregate-put-bytes-22
+slice-aggregate-put-bytes-22 c = search needs
+
+put-bytes-requires-22 : tie.Need-put-bytes-requires-22
+put-bytes-requires-22 c κs = search needs
+
+slice-aggregate-put-bytes-23 : tie.Need-slice-aggregate-put-bytes-23
+slice-aggregate-put-bytes-23 c = search needs
+
+put-bytes-requires-23 : tie.Need-put-bytes-requires-23
+put-bytes-requires-23 c κs = search needs
+
+slice-aggregate-put-bytes-24 : tie.Need-slice-aggregate-put-bytes-24
+slice-aggregate-put-bytes-24 c = search needs
+
+put-bytes-requires-24 : tie.Need-put-bytes-requires-24
+put-bytes-requires-24 c κs = search needs
+
+slice-aggregate-put-bytes-25 : tie.Need-slice-aggregate-put-bytes-25
+slice-aggregate-put-bytes-25 c = search needs
+
+put-bytes-requires-25 : tie.Need-put-bytes-requires-25
+put-bytes-requires-25 c κs = search needs
+
 same-length : tie.Need-same-length
 same-length c = search needs
 
@@ -274,7 +304,42 @@ same-length-21 c = search needs
 
 returns-21 : tie.Need-returns-21
 unfolding ascii reasons refusalWords
-returns-21 c = puts-same _ _ (words-other _ _ (above _ (above _ (above _ (above _ (above _ (above _ (above _ (above _ (above _ (above _ (above _ (above _ (above _ (above _ (above _ (above _ (above _ (above _ (above _ (above _ zero-le (c .before .before .before .before .before .match .rest .0 .0 .0 .0 .0 .0 .0 .0 .0 .0 .0 .0 .0 .0 .0 .0 .0 .0 .0 .1)) (c .before .before .before .before .before .match .rest .0 .0 .0 .0 .0 .0 .0 .0 .0 .0 .0 .0 .0 .0 .0 .0 .0 .0 .1)) (c .before .before .before .before .before .match .rest .0 .0 .0 .0 .0 .0 .0 .0 .0 .0 .0 .0 .0 .0 .0 .0 .0 .1)) (c .before .before .before .before .before .match .rest .0 .0 .0 .0 .0 .0 .0 .0 .0 .0 .0 .0 .0 .0 .0 .0 .1)) (c .before .before .before .before .before .match .rest .0 .0 .0 .0 .0 .0 .0 .0 .0 .0 .0 .0 .0 .0 .0 .1)) (c .before .before .before .before .before .match .rest .0 .0 .0 .0 .0 .0 .0 .0 .0 .0 .0 .0 .0 .0 .1)) (c .before .before .before .before .before .match .rest .0 .0 .0 .0 .0 .0 .0 .0 .0 .0 .0 .0 .0 .1)) (c .before .before .before .before .before .match .rest .0 .0 .0 .0 .0 .0 .0 .0 .0 .0 .0 .0 .1)) (c .before .before .before .before .before .match .rest .0 .0 .0 .0 .0 .0 .0 .0 .0 .0 .0 .1)) (c .before .before .before .before .before .match .rest .0 .0 .0 .0 .0 .0 .0 .0 .0 .0 .1)) (c .before .before .before .before .before .match .rest .0 .0 .0 .0 .0 .0 .0 .0 .0 .1)) (c .before .before .before .before .before .match .rest .0 .0 .0 .0 .0 .0 .0 .0 .1)) (c .before .before .before .before .before .match .rest .0 .0 .0 .0 .0 .0 .0 .1)) (c .before .before .before .before .before .match .rest .0 .0 .0 .0 .0 .0 .1)) (c .before .before .before .before .before .match .rest .0 .0 .0 .0 .0 .1)) (c .before .before .before .before .before .match .rest .0 .0 .0 .0 .1)) (c .before .before .before .before .before .match .rest .0 .0 .0 .1)) (c .before .before .before .before .before .match .rest .0 .0 .1)) (c .before .before .before .before .before .match .rest .0 .1)) (c .before .before .before .before .before .match .rest .1))) _ _ _ _ (c .before .before .put-bytes20 .ensures)
+returns-21 c = words-same (refusalWords _) _ 20 (c .before .before .before .before .before .match .keys21) _ _ _ _ (c .before .before .put-bytes20 .ensures)
+
+same-length-22 : tie.Need-same-length-22
+same-length-22 c = search needs
+
+returns-22 : tie.Need-returns-22
+unfolding ascii reasons refusalWords
+returns-22 c = words-same (refusalWords _) _ 21 (c .before .before .before .before .before .match .keys22) _ _ _ _ (c .before .before .put-bytes21 .ensures)
+
+same-length-23 : tie.Need-same-length-23
+same-length-23 c = search needs
+
+returns-23 : tie.Need-returns-23
+unfolding ascii reasons refusalWords
+returns-23 c = words-same (refusalWords _) _ 22 (c .before .before .before .before .before .match .keys23) _ _ _ _ (c .before .before .put-bytes22 .ensures)
+
+same-length-24 : tie.Need-same-length-24
+same-length-24 c = search needs
+
+returns-24 : tie.Need-returns-24
+unfolding ascii reasons refusalWords
+returns-24 c = words-same (refusalWords _) _ 23 (c .before .before .before .before .before .match .keys24) _ _ _ _ (c .before .before .put-bytes23 .ensures)
+
+same-length-25 : tie.Need-same-length-25
+same-length-25 c = search needs
+
+returns-25 : tie.Need-returns-25
+unfolding ascii reasons refusalWords
+returns-25 c = words-same (refusalWords _) _ 24 (c .before .before .before .before .before .match .keys25) _ _ _ _ (c .before .before .put-bytes24 .ensures)
+
+same-length-26 : tie.Need-same-length-26
+same-length-26 c = search needs
+
+returns-26 : tie.Need-returns-26
+unfolding ascii reasons refusalWords
+returns-26 c = puts-same _ _ (words-other _ _ (above _ (above _ (above _ (above _ (above _ (above _ (above _ (above _ (above _ (above _ (above _ (above _ (above _ (above _ (above _ (above _ (above _ (above _ (above _ (above _ (above _ (above _ (above _ (above _ (above _ zero-le (c .before .before .before .before .before .match .rest .0 .0 .0 .0 .0 .0 .0 .0 .0 .0 .0 .0 .0 .0 .0 .0 .0 .0 .0 .0 .0 .0 .0 .0 .1)) (c .before .before .before .before .before .match .rest .0 .0 .0 .0 .0 .0 .0 .0 .0 .0 .0 .0 .0 .0 .0 .0 .0 .0 .0 .0 .0 .0 .0 .1)) (c .before .before .before .before .before .match .rest .0 .0 .0 .0 .0 .0 .0 .0 .0 .0 .0 .0 .0 .0 .0 .0 .0 .0 .0 .0 .0 .0 .1)) (c .before .before .before .before .before .match .rest .0 .0 .0 .0 .0 .0 .0 .0 .0 .0 .0 .0 .0 .0 .0 .0 .0 .0 .0 .0 .0 .1)) (c .before .before .before .before .before .match .rest .0 .0 .0 .0 .0 .0 .0 .0 .0 .0 .0 .0 .0 .0 .0 .0 .0 .0 .0 .0 .1)) (c .before .before .before .before .before .match .rest .0 .0 .0 .0 .0 .0 .0 .0 .0 .0 .0 .0 .0 .0 .0 .0 .0 .0 .0 .1)) (c .before .before .before .before .before .match .rest .0 .0 .0 .0 .0 .0 .0 .0 .0 .0 .0 .0 .0 .0 .0 .0 .0 .0 .1)) (c .before .before .before .before .before .match .rest .0 .0 .0 .0 .0 .0 .0 .0 .0 .0 .0 .0 .0 .0 .0 .0 .0 .1)) (c .before .before .before .before .before .match .rest .0 .0 .0 .0 .0 .0 .0 .0 .0 .0 .0 .0 .0 .0 .0 .0 .1)) (c .before .before .before .before .before .match .rest .0 .0 .0 .0 .0 .0 .0 .0 .0 .0 .0 .0 .0 .0 .0 .1)) (c .before .before .before .before .before .match .rest .0 .0 .0 .0 .0 .0 .0 .0 .0 .0 .0 .0 .0 .0 .1)) (c .before .before .before .before .before .match .rest .0 .0 .0 .0 .0 .0 .0 .0 .0 .0 .0 .0 .0 .1)) (c .before .before .before .before .before .match .rest .0 .0 .0 .0 .0 .0 .0 .0 .0 .0 .0 .0 .1)) (c .before .before .before .before .before .match .rest .0 .0 .0 .0 .0 .0 .0 .0 .0 .0 .0 .1)) (c .before .before .before .before .before .match .rest .0 .0 .0 .0 .0 .0 .0 .0 .0 .0 .1)) (c .before .before .before .before .before .match .rest .0 .0 .0 .0 .0 .0 .0 .0 .0 .1)) (c .before .before .before .before .before .match .rest .0 .0 .0 .0 .0 .0 .0 .0 .1)) (c .before .before .before .before .before .match .rest .0 .0 .0 .0 .0 .0 .0 .1)) (c .before .before .before .before .before .match .rest .0 .0 .0 .0 .0 .0 .1)) (c .before .before .before .before .before .match .rest .0 .0 .0 .0 .0 .1)) (c .before .before .before .before .before .match .rest .0 .0 .0 .0 .1)) (c .before .before .before .before .before .match .rest .0 .0 .0 .1)) (c .before .before .before .before .before .match .rest .0 .0 .1)) (c .before .before .before .before .before .match .rest .0 .1)) (c .before .before .before .before .before .match .rest .1))) _ _ _ _ (c .before .before .put-bytes25 .ensures)
 
 pub put-refusal-words-spec : {M : Type 1} → statement M
 put-refusal-words-spec =
@@ -321,6 +386,16 @@ put-refusal-words-spec =
     put-bytes-requires-19
     slice-aggregate-put-bytes-20
     put-bytes-requires-20
+    slice-aggregate-put-bytes-21
+    put-bytes-requires-21
+    slice-aggregate-put-bytes-22
+    put-bytes-requires-22
+    slice-aggregate-put-bytes-23
+    put-bytes-requires-23
+    slice-aggregate-put-bytes-24
+    put-bytes-requires-24
+    slice-aggregate-put-bytes-25
+    put-bytes-requires-25
     same-length
     returns
     same-length-2
@@ -362,4 +437,14 @@ put-refusal-words-spec =
     same-length-20
     returns-20
     same-length-21
-    returns-21)
+    returns-21
+    same-length-22
+    returns-22
+    same-length-23
+    returns-23
+    same-length-24
+    returns-24
+    same-length-25
+    returns-25
+    same-length-26
+    returns-26)
