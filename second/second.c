@@ -4,7 +4,8 @@
  * Reads a stream of cases on standard input and prints one answer for each: the listing of a
  * binary SPI object (L), its normal form (N), the octets that records stand for (W), whether two
  * objects mean the same (S), the XML of an object (X), what a run of edits makes of an object (E),
- * whether the small receiver's gate lets an object pass (G), and how many records and items it has (C).
+ * whether the small receiver's gate lets an object pass (G), how many records and items it has (C), and what two
+ * objects, Basic and Advanced, are merged into (M).
  * Written from documents 01 (the rules) and 02 (the requests that amend them), from 002, TS 102 371 V3.2.1
  * (the layouts, and annex A for the gate), and for the XML and the defaults from document 003, TS 102 818,
  * alone, so that it can be held against the proved program.
@@ -52,7 +53,9 @@ enum {
     NOT_WELL_FORMED = 16,
     PLAIN_OCTETS = 17,  /* of document 02, request 2026-02 */
     NO_SUCH_RECORD = 18, /* and 2026-06; a place, a wrong kind of record and the top to be removed too */
-    OUTSIDE_PROFILE = 19 /* and 2026-07 */
+    OUTSIDE_PROFILE = 19, /* and 2026-07 */
+    CONTRADICTION = 20, /* and 2026-10, as the next */
+    KEY_TWICE = 21
 };
 
 /* Which field of a time is wrong, where 9 refuses it (document 02, request 2026-04); 0 for other kinds. */
@@ -1174,23 +1177,35 @@ static bool same_attributes(const struct tree *first, size_t *first_index, const
     return true;
 }
 
-/* Whether two accepted objects mean the same: item by item in reading order, in which tags and depths tell
- * what stands in what.  Each tree has an index of its own, since either may have defaults that the other has
- * not; attributes stand right behind their element, so each item is compared with those that follow it. */
-static bool same_meaning(const struct tree *first, const struct tree *second)
-{
-    size_t i = 0, j = 0;
+/* Records that stand side by side in a tree, the last left out. */
+struct part {
+    const struct tree *tree;
+    size_t first, end;
+};
 
-    while (i < first->count && j < second->count) {
-        const struct node *a = &first->nodes[i++], *b = &second->nodes[j++];
+/* Whether two parts mean the same: item by item in reading order, in which tags and depths tell what stands in
+ * what.  Each part has an index of its own, since either may have defaults that the other has not; attributes
+ * stand right behind their element, so each item is compared with those that follow it. */
+static bool same_parts(struct part first, struct part second)
+{
+    size_t i = first.first, j = second.first;
+
+    while (i < first.end && j < second.end) {
+        const struct node *a = &first.tree->nodes[i++], *b = &second.tree->nodes[j++];
         if (a->tag != b->tag || a->depth != b->depth)
             return false;
-        if (!same_items((struct place){first, a}, (struct place){second, b}))
+        if (!same_items((struct place){first.tree, a}, (struct place){second.tree, b}))
             return false;
-        if (!same_attributes(first, &i, second, &j))
+        if (!same_attributes(first.tree, &i, second.tree, &j))
             return false;
     }
-    return i == first->count && j == second->count;
+    return i == first.end && j == second.end;
+}
+
+/* Whether two accepted objects mean the same. */
+static bool same_meaning(const struct tree *first, const struct tree *second)
+{
+    return same_parts((struct part){first, 0, first->count}, (struct part){second, 0, second->count});
 }
 
 /* ---- XML: names (02, request 2026-02; 002, annexes D, E and F) ---------------------------------- */
@@ -2031,6 +2046,281 @@ static struct verdict judge_profile(const struct tree *tree, uint8_t data_type)
     return accepted;
 }
 
+/* ---- Merging Basic and Advanced: refusals 20 and 21 (02, 2026-10; 002, clauses 5.3 and 5.4) ------ */
+
+/* Tables 8 to 10: the attribute that is the merging key of an element, by the last name of a row's path.  The rows
+ * of a bearer are those of a service, so theirs is the code 0x29.  The version of serviceInformation is an attribute
+ * like any other here: the tops merge without a key. */
+static const uint8_t merging_attribute[ELEMENT_TAGS] = {
+    [ENSEMBLE] = 0x80,
+    [SERVICE_BEARER] = 0x80,
+    [SCHEDULE] = 0x80,
+    [PROGRAMME] = 0x81,
+    [PROGRAMME_GROUPS] = 0x80,
+    [PROGRAMME_GROUP] = 0x81
+};
+
+/* How services are told apart.  Annex D's column of parents makes a service the one element, the tops aside, that
+ * isn't named by the tables and can hold a named one. */
+enum services { BY_TAG = 0, BY_BEARERS = 1, WAYS_TO_TELL = 2 };
+
+/* An element of one of the objects, or no element, where it has no tree. */
+struct element {
+    const struct tree *tree;
+    size_t index;
+};
+
+static const struct element no_element = {NULL, 0};
+
+static const struct node *node_of(struct element element)
+{
+    return &element.tree->nodes[element.index];
+}
+
+static struct attributes attributes_of(struct element element)
+{
+    return element.tree != NULL ? attributes_at(element.tree, element.index + 1) : (struct attributes){.end = 0};
+}
+
+/* What stands in an element behind its attributes: the language of a top, child elements, CDATA. */
+static struct part inside(struct element element)
+{
+    if (element.tree == NULL)
+        return (struct part){NULL, 0, 0};
+    return (struct part){element.tree, attributes_of(element).end, behind(element.tree, element.index)};
+}
+
+/* The item of this tag directly in an element, of those that stand there at most once; NULL where there is none. */
+static const struct node *find_inside(struct element element, uint8_t tag)
+{
+    struct part part = inside(element);
+
+    for (size_t at = part.first; at < part.end; at = behind(part.tree, at))
+        if (part.tree->nodes[at].tag == tag)
+            return &part.tree->nodes[at];
+    return NULL;
+}
+
+/* Whether two items of one tag contradict each other; one that isn't there, NULL, contradicts none. */
+static bool differ(struct element first, const struct node *a, struct element second, const struct node *b)
+{
+    return a != NULL && b != NULL && !same_items((struct place){first.tree, a}, (struct place){second.tree, b});
+}
+
+static const struct node *attribute_of(struct element element, uint8_t tag)
+{
+    return attributes_of(element).by_tag[tag - FIRST_ATTRIBUTE];
+}
+
+/* The id of a bearer of a service; NULL where it has none, and for all that is no bearer. */
+static const struct node *bearer_id(const struct tree *tree, size_t index)
+{
+    if (tree->nodes[index].tag != SERVICE_BEARER)
+        return NULL;
+    return attribute_of((struct element){tree, index}, merging_attribute[SERVICE_BEARER]);
+}
+
+static bool has_bearer(struct part service, struct place id)
+{
+    for (size_t at = service.first; at < service.end; at = behind(service.tree, at)) {
+        const struct node *other = bearer_id(service.tree, at);
+        if (other != NULL && same_items(id, (struct place){service.tree, other}))
+            return true;
+    }
+    return false;
+}
+
+/* Whether each id that a bearer of the other service has is that of a bearer of this one. */
+static bool has_bearers_of(struct part service, struct part other)
+{
+    for (size_t at = other.first; at < other.end; at = behind(other.tree, at)) {
+        const struct node *id = bearer_id(other.tree, at);
+        if (id != NULL && !has_bearer(service, (struct place){other.tree, id}))
+            return false;
+    }
+    return true;
+}
+
+/* Whether the ids of their bearers are one set. */
+static bool same_services(struct part first, struct part second)
+{
+    return has_bearers_of(first, second) && has_bearers_of(second, first);
+}
+
+/* Whether items of a tag have a merging key; of those inside an element, only elements have. */
+static bool has_key(uint8_t tag)
+{
+    return is_element(tag) && (tag == SERVICE || merging_attribute[tag] != 0);
+}
+
+/* Whether two items have the same merging key, so that they become one where one is of each object.  An attribute
+ * that isn't there is a key too, and the same as another that isn't. */
+static bool same_key(struct element first, struct element second, enum services services)
+{
+    uint8_t tag = node_of(first)->tag;
+
+    if (!has_key(tag) || node_of(second)->tag != tag)
+        return false;
+    if (tag == SERVICE)
+        return services == BY_TAG || same_services(inside(first), inside(second));
+    const struct node *a = attribute_of(first, merging_attribute[tag]);
+    const struct node *b = attribute_of(second, merging_attribute[tag]);
+    return (a == NULL) == (b == NULL) && !differ(first, a, second, b);
+}
+
+/* Whether two elements that become one contradict each other, or two below them do that become one with them: in the
+ * value of an attribute, in the language, or since both have CDATA, be it the same. */
+static bool contradict(struct element basic, struct element advanced, enum services services)
+{
+    struct attributes a = attributes_of(basic), b = attributes_of(advanced);
+    struct part first = inside(basic), second = inside(advanced);
+
+    for (size_t i = 0; i < ATTRIBUTE_TAGS; i++)
+        if (differ(basic, a.by_tag[i], advanced, b.by_tag[i]))
+            return true;
+    if (differ(basic, find_inside(basic, DEFAULT_LANGUAGE), advanced, find_inside(advanced, DEFAULT_LANGUAGE)))
+        return true;
+    if (find_inside(basic, CDATA) != NULL && find_inside(advanced, CDATA) != NULL)
+        return true;
+    for (size_t i = first.first; i < first.end; i = behind(first.tree, i)) {
+        if (!has_key(first.tree->nodes[i].tag))
+            continue;
+        for (size_t j = second.first; j < second.end; j = behind(second.tree, j)) {
+            struct element child = {first.tree, i}, partner = {second.tree, j};
+            if (same_key(child, partner, services) && contradict(child, partner, services))
+                return true;
+        }
+    }
+    return false;
+}
+
+/* Whether two elements under one parent, wherever that stands, have the same key: brothers follow each other at one
+ * depth. */
+static bool has_key_twice(const struct tree *tree, enum services services)
+{
+    for (size_t i = 1; i < tree->count; i++) {
+        if (!has_key(tree->nodes[i].tag))
+            continue;
+        for (size_t j = behind(tree, i); j < tree->count && tree->nodes[j].depth == tree->nodes[i].depth;
+             j = behind(tree, j))
+            if (same_key((struct element){tree, i}, (struct element){tree, j}, services))
+                return true;
+    }
+    return false;
+}
+
+/* What two objects become: records as the normal form has them, and of each the tree that its body is read in. */
+struct merged {
+    struct tree tree;
+    const struct tree *from[LIST_LIMIT];
+    enum services services;
+};
+
+/* Adds an item behind all others; answers its number. */
+static size_t add_merged(struct merged *merged, size_t parent, const struct tree *from, const struct node *item)
+{
+    size_t index = merged->tree.count++;
+    struct node *node = &merged->tree.nodes[index];
+
+    *node = *item;
+    node->parent = (uint16_t)parent;
+    if (node->body == ITEMS)
+        node->normal_size = 0; /* it is measured anew */
+    merged->from[index] = from;
+    return index;
+}
+
+/* Adds an item that either of two elements has, if any; where both do, they mean the same. */
+static void add_either(struct merged *merged, size_t parent, struct element basic, const struct node *first,
+                       struct element advanced, const struct node *second)
+{
+    if (first != NULL)
+        add_merged(merged, parent, basic.tree, first);
+    else if (second != NULL)
+        add_merged(merged, parent, advanced.tree, second);
+}
+
+/* The element inside another that a given one becomes one with, or none. */
+static struct element partner_of(struct element element, struct element other, enum services services)
+{
+    struct part part = inside(other);
+
+    if (!has_key(node_of(element)->tag))
+        return no_element;
+    for (size_t at = part.first; at < part.end; at = behind(part.tree, at))
+        if (same_key(element, (struct element){part.tree, at}, services))
+            return (struct element){part.tree, at};
+    return no_element;
+}
+
+/* Whether an element of Basic has a child that means what an element of Advanced does. */
+static bool has_child_like(struct element basic, struct element element)
+{
+    struct part part = inside(basic), like = {element.tree, element.index, behind(element.tree, element.index)};
+
+    for (size_t at = part.first; at < part.end; at = behind(part.tree, at))
+        if (same_parts((struct part){part.tree, at, behind(part.tree, at)}, like))
+            return true;
+    return false;
+}
+
+/* Whether an item is one of the children that are gone through; language and CDATA have places of their own. */
+static bool is_child(const struct node *node)
+{
+    return node->tag != CDATA && node->tag != DEFAULT_LANGUAGE;
+}
+
+/* Adds what two elements become, below a record of the result.  An element without a partner is one of Basic's here,
+ * and Advanced's is none.  No key is twice in either object, so no element has two partners. */
+static void add_pair(struct merged *merged, size_t parent, struct element basic, struct element advanced)
+{
+    size_t index = add_merged(merged, parent, basic.tree, node_of(basic));
+    struct attributes a = attributes_of(basic), b = attributes_of(advanced);
+    struct part first = inside(basic), second = inside(advanced);
+
+    for (size_t i = 0; i < ATTRIBUTE_TAGS; i++)
+        add_either(merged, index, basic, a.by_tag[i], advanced, b.by_tag[i]);
+    add_either(merged, index, basic, find_inside(basic, DEFAULT_LANGUAGE), advanced,
+               find_inside(advanced, DEFAULT_LANGUAGE));
+    for (size_t at = first.first; at < first.end; at = behind(first.tree, at)) {
+        struct element child = {first.tree, at};
+        if (is_child(node_of(child)))
+            add_pair(merged, index, child, partner_of(child, advanced, merged->services));
+    }
+    for (size_t at = second.first; at < second.end; at = behind(second.tree, at)) {
+        struct element child = {second.tree, at};
+        if (is_child(node_of(child)) && partner_of(child, basic, merged->services).tree == NULL &&
+            !has_child_like(basic, child))
+            add_pair(merged, index, child, no_element);
+    }
+    add_either(merged, index, basic, find_inside(basic, CDATA), advanced, find_inside(advanced, CDATA));
+}
+
+/* Merges two accepted objects, or answers 20 or 21.  Twenty is looked for in each pair of one key, so it comes first
+ * even where a key is twice. */
+static int merge(struct merged *merged, const struct tree *basic, const struct tree *advanced, enum services services)
+{
+    struct element top = {basic, 0}, other = {advanced, 0};
+
+    if (node_of(top)->tag != node_of(other)->tag || contradict(top, other, services))
+        return CONTRADICTION;
+    if (has_key_twice(basic, services) || has_key_twice(advanced, services))
+        return KEY_TWICE;
+    clear_tree(&merged->tree, NULL);
+    merged->services = services;
+    add_pair(merged, 0, top, other);
+    return ACCEPTED;
+}
+
+/* Writes the normal form of what was merged, once it is measured and found to fit. */
+static void write_merged(uint8_t *out, const struct merged *merged)
+{
+    for (size_t i = 0; i < merged->tree.count; i++) {
+        const struct node *node = &merged->tree.nodes[i];
+        out = write_body(write_header(out, node), merged->from[i], node);
+    }
+}
+
 /* ---- The stream of cases ----------------------------------------------------------------------- */
 
 static struct {
@@ -2204,6 +2494,7 @@ static void put_octets(const char *word, const uint8_t *octets, size_t size)
 
 static struct tree first_tree, second_tree;
 static struct state first_state, second_state;
+static struct merged merged_objects;
 static struct object first_object, second_object;
 static uint8_t normal_form[OBJECT_LIMIT];
 static uint8_t lent_records[LIST_LIMIT * RECORD_OCTETS];
@@ -2417,6 +2708,50 @@ static bool answer_gate(void)
     return true;
 }
 
+/* What two accepted objects become, or 20, 21, 14 or 15.  The result's records and octets must fit what is lent; those
+ * of the two objects needn't. */
+static int merge_into(struct merged *result, enum services services, uint32_t places, uint32_t store, size_t *size)
+{
+    int number = merge(result, &first_tree, &second_tree, services);
+
+    if (number != ACCEPTED)
+        return number;
+    if (result->tree.count > places)
+        return TOO_FEW_PLACES;
+    struct sizes sizes = measure(&result->tree);
+    if (sizes.store > store || sizes.output > OBJECT_LIMIT)
+        return OUTPUT_TOO_LARGE;
+    *size = sizes.output;
+    return ACCEPTED;
+}
+
+static bool answer_merged(void)
+{
+    uint8_t services;
+    uint32_t places, store;
+    size_t size = 0;
+
+    if (!take_octets(&services, 1) || services >= WAYS_TO_TELL || !take_short(&places) || !take_bounded(&store))
+        return false;
+    if (!take_object(&first_object) || !take_object(&second_object))
+        return false;
+    struct verdict first = read_object(&first_tree, first_object.octets, first_object.size);
+    struct verdict second = read_object(&second_tree, second_object.octets, second_object.size);
+    if (first.number != ACCEPTED || second.number != ACCEPTED) {
+        bool is_first = first.number != ACCEPTED;
+        put_refusal_in(is_first ? first : second, is_first ? " in first" : " in second");
+        return true;
+    }
+    int number = merge_into(&merged_objects, (enum services)services, places, store, &size);
+    if (number != ACCEPTED) {
+        put_refusal(refused(number, 0));
+        return true;
+    }
+    write_merged(normal_form, &merged_objects);
+    put_octets("merged ", normal_form, size);
+    return true;
+}
+
 static bool answer_case(uint8_t letter)
 {
     switch (letter) {
@@ -2436,6 +2771,8 @@ static bool answer_case(uint8_t letter)
         return answer_gate();
     case 'C':
         return answer_reading(put_counts);
+    case 'M':
+        return answer_merged();
     default:
         return false;
     }
