@@ -749,9 +749,11 @@ def edge_cases():
             changed = ANNEX_C[:at] + bytes([ANNEX_C[at] ^ change]) + ANNEX_C[at + 1:]
             yield from both(changed)
             yield whole_xml(changed)
-    from edit_edges import edit_edge_cases  # which stands on this file, as the next two do
+    from edit_edges import edit_edge_cases  # which stands on this file, as the next ones do
     from gate_edges import gate_edge_cases
     from header_edges import header_edge_cases
+    from merge_edges import merge_edge_cases
     yield from edit_edge_cases()
     yield from gate_edge_cases()
     yield from header_edge_cases()
+    yield from merge_edge_cases()

@@ -132,6 +132,10 @@ def case_c(places, octets):
     return b"C" + number(places, 2) + sized(octets)
 
 
+def case_m(services, places, store, basic, advanced):
+    return b"M" + number(services, 1) + number(places, 2) + bounded(store) + sized(basic) + sized(advanced)
+
+
 # ---- Items as they stand in octets -------------------------------------------------------------
 
 def header(tag, size, form=0):
@@ -841,8 +845,15 @@ def random_c(rng):
     return random_counted(rng)
 
 
+def random_m(rng):
+    """Two parts of one day, most often with something at odds, or any two objects; now and then damaged, or with a place or an octet too few."""
+    from merge import random_merging  # which stands on the trees of this file
+    return random_merging(rng)
+
+
 RANDOM = {"L": random_l, "N": random_n, "W": random_w, "S": random_s, "X": random_x, "E": random_e, "G": random_g, "C": random_c}
-# The letters that are made and tried where none are named.
+RANDOM["M"] = random_m
+# The letters that are made and tried where none are named; M is added here when the library answers it.
 CASE_LETTERS = "LNWSXEGC"
 
 

@@ -2107,9 +2107,15 @@ static bool differ(struct element first, const struct node *a, struct element se
     return a != NULL && b != NULL && !same_items((struct place){first.tree, a}, (struct place){second.tree, b});
 }
 
+/* One attribute of an element, of those that have no default; NULL where it isn't there. */
 static const struct node *attribute_of(struct element element, uint8_t tag)
 {
-    return attributes_of(element).by_tag[tag - FIRST_ATTRIBUTE];
+    const struct tree *tree = element.tree;
+
+    for (size_t at = element.index + 1; at < tree->count && is_attribute(tree->nodes[at].tag); at++)
+        if (tree->nodes[at].tag == tag)
+            return &tree->nodes[at];
+    return NULL;
 }
 
 /* The id of a bearer of a service; NULL where it has none, and for all that is no bearer. */
@@ -2259,7 +2265,8 @@ static bool has_child_like(struct element basic, struct element element)
     struct part part = inside(basic), like = {element.tree, element.index, behind(element.tree, element.index)};
 
     for (size_t at = part.first; at < part.end; at = behind(part.tree, at))
-        if (same_parts((struct part){part.tree, at, behind(part.tree, at)}, like))
+        if (part.tree->nodes[at].tag == node_of(element)->tag &&
+            same_parts((struct part){part.tree, at, behind(part.tree, at)}, like))
             return true;
     return false;
 }

@@ -2,7 +2,7 @@
 """Runs a program on the named cases of expected.txt:  try_named.py PROGRAM [--letters LNWSXEGC]
 
 Those of edits stand in expected_edits.txt, and are tried where E is among the letters; those of the gate in expected_gate.txt, where G is.  Of each file,
-cases and streams that begin with a letter that isn't among them are left out.
+cases and streams that begin with a letter that isn't among them are left out.  Those of merging stand in expected_merge.txt, where M is.
 
 Prints each mismatch with its name and a last line `named cases: N held, M not`; the exit status is 0
 only where there are cases and all of them hold.
@@ -12,7 +12,7 @@ import os
 import re
 import sys
 
-from make_cases import CASE_LETTERS, RANDOM, case_c, case_e, case_g, case_l, case_n, case_s, case_w, case_x, edit_d, edit_i, edit_t
+from make_cases import CASE_LETTERS, RANDOM, case_c, case_e, case_g, case_l, case_m, case_n, case_s, case_w, case_x, edit_d, edit_i, edit_t
 from streams import ask, run
 
 HEX_PART = re.compile(r'''\s*(?:(["'])((?:(?!\1).)*)\1|([0-9A-Fa-f]{2})|\(([^()]*)\)|(-))(?:\*(\d+))?(?=\s|$)''')
@@ -34,7 +34,7 @@ def octets_of(text):
 
 def answer_line(text):
     word, _, rest = text.partition(" ")
-    return f"{word} {octets_of(rest).hex()}" if word in ("normal", "written", "xml") else text
+    return f"{word} {octets_of(rest).hex()}" if word in ("normal", "written", "xml", "merged") else text
 
 
 EDITS = {"text": (edit_t, 1), "remove": (edit_d, 1), "insert": (edit_i, 2)}  # how many numbers stand before the octets
@@ -86,6 +86,8 @@ class Named:
             return case_g(*numbers, *self.octets)
         if letter == "C":
             return case_c(*numbers, *self.octets)
+        if letter == "M":
+            return case_m(*numbers, *self.octets)
         if letter == "stream":
             return b"".join(self.octets)
         raise ValueError(f"in case {self.name}: letter {letter}")
@@ -137,6 +139,7 @@ def main():
     parser.add_argument("--letters", default=CASE_LETTERS)
     options = parser.parse_args()
     files = ["expected.txt"] + ["expected_edits.txt"] * ("E" in options.letters) + ["expected_gate.txt"] * ("G" in options.letters)
+    files += ["expected_merge.txt"] * ("M" in options.letters)
     here = os.path.dirname(os.path.abspath(__file__))
     left_out = [letter.encode() for letter in RANDOM if letter not in options.letters]
     cases = [named for file in files for named in read_named(os.path.join(here, file)) if named.stream()[:1] not in left_out]
