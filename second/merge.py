@@ -255,10 +255,11 @@ def split(rng, node, services, shared):
 
 
 def pairs_below(basic, advanced, services):
-    """Two elements that become one, and all such pairs below them."""
-    yield basic, advanced
-    for pair in pairs_of_one_key(basic, advanced, services):
-        yield from pairs_below(*pair, services)
+    """Two elements that become one, and all such pairs below them; none where the tops differ."""
+    if basic.tag == advanced.tag:
+        yield basic, advanced
+        for pair in pairs_of_one_key(basic, advanced, services):
+            yield from pairs_below(*pair, services)
 
 
 # ---- What can be at odds -----------------------------------------------------------------------------------
@@ -270,6 +271,10 @@ def some_pair(rng, trees, services, fits=lambda basic, advanced: True):
 
 def put_attribute(node, tag, value):
     node.attributes = [part for part in node.attributes if part.tag != tag] + [Node(tag, value)]
+
+
+def put_cdata(node, texts):
+    node.children = [part for part in node.children if part.tag != CDATA] + [Node(CDATA, text) for text in texts]
 
 
 def two_values(maker, trees, services):
@@ -297,9 +302,10 @@ def default_and_value(maker, trees, services):
 def two_cdata(maker, trees, services):
     """CDATA in both elements of a pair, the same every other time."""
     pair = some_pair(maker.rng, trees, services)
-    texts = [maker.shown_text(pair[0].tag), maker.shown_text(pair[0].tag)]
-    for node, text in zip(pair, texts if maker.rng.random() < 0.5 else texts[:1] * 2):
-        node.children = [part for part in node.children if part.tag != CDATA] + [Node(CDATA, text)]
+    if pair:
+        texts = [maker.shown_text(pair[0].tag), maker.shown_text(pair[0].tag)]
+        for node, text in zip(pair, texts if maker.rng.random() < 0.5 else texts[:1] * 2):
+            put_cdata(node, [text])
 
 
 def languages(maker, trees, _):
@@ -325,6 +331,20 @@ def twice(maker, trees, services):
             twin.attributes = [below for below in twin.attributes if below.tag == KEYS.get(part.tag)]
             twin.children = [below for below in twin.children if below.tag == BEARER]
         node.children.insert(rng.randint(*span_of_elements(node.children)), twin)
+
+
+def twin_at_odds(maker, trees, services):
+    """One element of a pair a second time under its parent: the second alone contradicts their partner, since both have CDATA."""
+    rng = maker.rng
+    found = any_of(rng, ((above, pair) for above in pairs_below(*trees, services) for pair in pairs_of_one_key(*above, services)))
+    if found:
+        above, pair = found
+        which = rng.randrange(2)
+        twin, children = pair[which].copy(), above[which].children
+        put_cdata(pair[which], [])
+        put_cdata(twin, [maker.text(8)])
+        put_cdata(pair[1 - which], [maker.text(8)])
+        children.insert(rng.randint(*span_of_elements(children)), twin)
 
 
 def key_gone(maker, trees, services):
@@ -356,14 +376,15 @@ def in_other_order(maker, trees, _):
 def repeated(maker, trees, services):
     """A child of one element of a pair, any but language and CDATA, in the other too, once or twice, now and then with a default more."""
     rng, pair = maker.rng, some_pair(maker.rng, trees, services)
-    source, target = rng.sample(pair, 2)
-    part = any_of(rng, source.children[slice(*span_of_elements(source.children))])
+    source, target = rng.sample(pair, 2) if pair else trees
+    part = any_of(rng, source.children[slice(*span_of_elements(source.children))]) if pair else None
     for _ in range(rng.choice([1, 1, 2]) if part else 0):
         twin = part.with_other_defaults(rng)
         target.children.insert(rng.randint(*span_of_elements(target.children)), twin)
 
 
-ODDS = [two_values, two_values, default_and_value, two_cdata, languages, tops_differ, twice, twice, key_gone, bearer_gone, in_other_order, repeated, repeated]
+ODDS = [two_values, two_values, default_and_value, two_cdata, languages, tops_differ, twice, twice, twin_at_odds, key_gone, bearer_gone, in_other_order,
+        repeated, repeated]
 
 
 # ---- Pairs -------------------------------------------------------------------------------------------------
