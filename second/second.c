@@ -13,6 +13,7 @@
  * All memory is fixed; nothing is allocated.  Each octet of an object is looked at once while it is
  * judged and once more while its normal form is written or its meaning compared; twice more for its XML.
  * An edit makes the whole edited tree anew, and takes it in the place of the old one only where it fits.
+ * Merging holds each child of an element to each of its partner's.
  */
 #include <stdbool.h>
 #include <stdint.h>
@@ -561,6 +562,7 @@ struct tree {
     size_t headers;       /* items that were judged, unknown ones and the token table too (02, 2026-09) */
     size_t count;
     struct node nodes[LIST_LIMIT];
+    uint16_t ends[LIST_LIMIT]; /* of each record the index behind it and all below it; merging alone fills it */
 };
 
 static void clear_tree(struct tree *tree, const uint8_t *octets)
@@ -2064,6 +2066,19 @@ static const uint8_t merging_attribute[ELEMENT_TAGS] = {
  * isn't named by the tables and can hold a named one. */
 enum services { BY_TAG = 0, BY_BEARERS = 1, WAYS_TO_TELL = 2 };
 
+/* Finds where each item ends, so that brothers can be gone through one by one: an element ends where the last item in
+ * it does, and items in it come behind it, so the last item is looked at first. */
+static void mark_ends(struct tree *tree)
+{
+    for (size_t i = 0; i < tree->count; i++)
+        tree->ends[i] = (uint16_t)(i + 1);
+    for (size_t i = tree->count - 1; i > 0; i--) {
+        uint16_t *parent_end = &tree->ends[tree->nodes[i].parent];
+        if (*parent_end < tree->ends[i])
+            *parent_end = tree->ends[i];
+    }
+}
+
 /* An element of one of the objects, or no element, where it has no tree. */
 struct element {
     const struct tree *tree;
@@ -2087,7 +2102,10 @@ static struct part inside(struct element element)
 {
     if (element.tree == NULL)
         return (struct part){NULL, 0, 0};
-    return (struct part){element.tree, attributes_of(element).end, behind(element.tree, element.index)};
+    struct part part = {element.tree, element.index + 1, element.tree->ends[element.index]};
+    while (part.first < part.end && is_attribute(part.tree->nodes[part.first].tag))
+        part.first++;
+    return part;
 }
 
 /* The item of this tag directly in an element, of those that stand there at most once; NULL where there is none. */
@@ -2095,7 +2113,7 @@ static const struct node *find_inside(struct element element, uint8_t tag)
 {
     struct part part = inside(element);
 
-    for (size_t at = part.first; at < part.end; at = behind(part.tree, at))
+    for (size_t at = part.first; at < part.end; at = part.tree->ends[at])
         if (part.tree->nodes[at].tag == tag)
             return &part.tree->nodes[at];
     return NULL;
@@ -2128,7 +2146,7 @@ static const struct node *bearer_id(const struct tree *tree, size_t index)
 
 static bool has_bearer(struct part service, struct place id)
 {
-    for (size_t at = service.first; at < service.end; at = behind(service.tree, at)) {
+    for (size_t at = service.first; at < service.end; at = service.tree->ends[at]) {
         const struct node *other = bearer_id(service.tree, at);
         if (other != NULL && same_items(id, (struct place){service.tree, other}))
             return true;
@@ -2139,7 +2157,7 @@ static bool has_bearer(struct part service, struct place id)
 /* Whether each id that a bearer of the other service has is that of a bearer of this one. */
 static bool has_bearers_of(struct part service, struct part other)
 {
-    for (size_t at = other.first; at < other.end; at = behind(other.tree, at)) {
+    for (size_t at = other.first; at < other.end; at = other.tree->ends[at]) {
         const struct node *id = bearer_id(other.tree, at);
         if (id != NULL && !has_bearer(service, (struct place){other.tree, id}))
             return false;
@@ -2188,10 +2206,10 @@ static bool contradict(struct element basic, struct element advanced, enum servi
         return true;
     if (find_inside(basic, CDATA) != NULL && find_inside(advanced, CDATA) != NULL)
         return true;
-    for (size_t i = first.first; i < first.end; i = behind(first.tree, i)) {
+    for (size_t i = first.first; i < first.end; i = first.tree->ends[i]) {
         if (!has_key(first.tree->nodes[i].tag))
             continue;
-        for (size_t j = second.first; j < second.end; j = behind(second.tree, j)) {
+        for (size_t j = second.first; j < second.end; j = second.tree->ends[j]) {
             struct element child = {first.tree, i}, partner = {second.tree, j};
             if (same_key(child, partner, services) && contradict(child, partner, services))
                 return true;
@@ -2207,8 +2225,8 @@ static bool has_key_twice(const struct tree *tree, enum services services)
     for (size_t i = 1; i < tree->count; i++) {
         if (!has_key(tree->nodes[i].tag))
             continue;
-        for (size_t j = behind(tree, i); j < tree->count && tree->nodes[j].depth == tree->nodes[i].depth;
-             j = behind(tree, j))
+        for (size_t j = tree->ends[i]; j < tree->count && tree->nodes[j].depth == tree->nodes[i].depth;
+             j = tree->ends[j])
             if (same_key((struct element){tree, i}, (struct element){tree, j}, services))
                 return true;
     }
@@ -2253,7 +2271,7 @@ static struct element partner_of(struct element element, struct element other, e
 
     if (!has_key(node_of(element)->tag))
         return no_element;
-    for (size_t at = part.first; at < part.end; at = behind(part.tree, at))
+    for (size_t at = part.first; at < part.end; at = part.tree->ends[at])
         if (same_key(element, (struct element){part.tree, at}, services))
             return (struct element){part.tree, at};
     return no_element;
@@ -2262,11 +2280,11 @@ static struct element partner_of(struct element element, struct element other, e
 /* Whether an element of Basic has a child that means what an element of Advanced does. */
 static bool has_child_like(struct element basic, struct element element)
 {
-    struct part part = inside(basic), like = {element.tree, element.index, behind(element.tree, element.index)};
+    struct part part = inside(basic), like = {element.tree, element.index, element.tree->ends[element.index]};
 
-    for (size_t at = part.first; at < part.end; at = behind(part.tree, at))
+    for (size_t at = part.first; at < part.end; at = part.tree->ends[at])
         if (part.tree->nodes[at].tag == node_of(element)->tag &&
-            same_parts((struct part){part.tree, at, behind(part.tree, at)}, like))
+            same_parts((struct part){part.tree, at, part.tree->ends[at]}, like))
             return true;
     return false;
 }
@@ -2289,12 +2307,12 @@ static void add_pair(struct merged *merged, size_t parent, struct element basic,
         add_either(merged, index, basic, a.by_tag[i], advanced, b.by_tag[i]);
     add_either(merged, index, basic, find_inside(basic, DEFAULT_LANGUAGE), advanced,
                find_inside(advanced, DEFAULT_LANGUAGE));
-    for (size_t at = first.first; at < first.end; at = behind(first.tree, at)) {
+    for (size_t at = first.first; at < first.end; at = first.tree->ends[at]) {
         struct element child = {first.tree, at};
         if (is_child(node_of(child)))
             add_pair(merged, index, child, partner_of(child, advanced, merged->services));
     }
-    for (size_t at = second.first; at < second.end; at = behind(second.tree, at)) {
+    for (size_t at = second.first; at < second.end; at = second.tree->ends[at]) {
         struct element child = {second.tree, at};
         if (is_child(node_of(child)) && partner_of(child, basic, merged->services).tree == NULL &&
             !has_child_like(basic, child))
@@ -2303,12 +2321,14 @@ static void add_pair(struct merged *merged, size_t parent, struct element basic,
     add_either(merged, index, basic, find_inside(basic, CDATA), advanced, find_inside(advanced, CDATA));
 }
 
-/* Merges two accepted objects, or answers 20 or 21.  Twenty is looked for in each pair of one key, so it comes first
- * even where a key is twice. */
-static int merge(struct merged *merged, const struct tree *basic, const struct tree *advanced, enum services services)
+/* Merges two accepted objects, or answers 20 or 21.  20 is looked for in each pair of one key, so it comes first even
+ * where a key is twice. */
+static int merge(struct merged *merged, struct tree *basic, struct tree *advanced, enum services services)
 {
     struct element top = {basic, 0}, other = {advanced, 0};
 
+    mark_ends(basic);
+    mark_ends(advanced);
     if (node_of(top)->tag != node_of(other)->tag || contradict(top, other, services))
         return CONTRADICTION;
     if (has_key_twice(basic, services) || has_key_twice(advanced, services))
