@@ -7,7 +7,7 @@ import re
 from collections import Counter
 
 from as_xml import CODES, pairs_named
-from make_cases import (ATTRIBUTES, DEFAULT, DEFAULTS, FIELD_LIMIT, OBJECT_LIMIT, TOKEN_TAGS, Encoder, Fixed, Maker, Node, Text, case_m, damage, lent,
+from make_cases import (ATTRIBUTES, DEFAULT, DEFAULTS, FIELD_LIMIT, OBJECT_LIMIT, SHOWN, TOKEN_TAGS, Encoder, Fixed, Maker, Node, Text, case_m, damage, lent,
                         random_tree)
 from meanings import OTHER_OCTETS, any_of, meaning, span_of_elements
 
@@ -218,7 +218,7 @@ def fill_day(maker, node, depth):
         node.children.append(maker.fill(Node(rng.choice(list(KEYS) + UNNAMED + [0x16, 0x33])), depth + 1, 4))
     rng.shuffle(node.children)
     if rng.random() < (0.8 if not CHILDREN.get(node.tag) else 0.1):
-        node.children.append(Node(CDATA, maker.shown_text(node.tag)))
+        node.children.append(Node(CDATA, maker.shown_text(node.tag) if rng.random() < 0.1 else maker.text(SHOWN.get(node.tag, FIELD_LIMIT))))
     return node
 
 
@@ -467,10 +467,6 @@ class Merging:
             forms.append(Encoder(Spelling(rng, twin), rng.choice([0, 0, 0.05, 0.2])).raw(twin))
         return forms
 
-    def fits(self):
-        """Whether both are objects, in whatever form."""
-        return not any(tree.too_long() for tree in self.trees)
-
     def case(self, places, store, forms):
         return case_m(self.services, places, store, *forms)
 
@@ -486,9 +482,12 @@ def drawn_merging(rng, draw):
     """Two objects of one kind, accepted, with their octets."""
     while True:
         services = rng.choice(SERVICES)
-        merging = Merging(services, draw(Maker(rng), services))
+        trees = draw(Maker(rng), services)
+        if any(tree.too_long() for tree in trees):
+            continue
+        merging = Merging(services, trees)
         forms = merging.written(rng)
-        if merging.fits() and max(len(raw.octets()) for raw in forms) <= OBJECT_LIMIT:
+        if max(len(raw.octets()) for raw in forms) <= OBJECT_LIMIT:
             return merging, forms
 
 

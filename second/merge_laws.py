@@ -138,9 +138,11 @@ def day_law(rng):
     while True:
         services = rng.choice(SERVICES)
         tree = drawn_day(Maker(rng), services)
+        if tree.too_long():
+            continue
         merging = Merging(services, split(rng, tree, services, rng.choice([0, 0.2])))
         octets, whole = [raw.octets() for raw in merging.written(rng)], bare(tree).normal()
-        if merging.fits() and max(map(len, octets + [whole])) <= OBJECT_LIMIT:
+        if max(map(len, octets + [whole])) <= OBJECT_LIMIT:
             return merging.case(*PLENTY, octets), read(whole).unordered()
 
 
