@@ -35,6 +35,8 @@ def items_of(octets):
         long = octets[at + 1] == 0xFE
         start = at + (4 if long else 2)
         end = start + (int.from_bytes(octets[at + 2:start], "big") if long else octets[at + 1])
+        if end > len(octets):
+            raise ValueError("an item that is cut off")
         yield Read(octets[at], octets[start:end])
         at = end
 
@@ -92,7 +94,11 @@ class Read:
 
 
 def read(octets):
-    top, = items_of(octets)
+    """The top of a normal form, or None where the octets aren't one."""
+    try:
+        top, = items_of(octets)
+    except (IndexError, ValueError):
+        return None
     return top
 
 
@@ -146,6 +152,13 @@ def day_law(rng):
             return merging.case(*PLENTY, octets), read(whole).unordered()
 
 
+def day_of(answer):
+    """What was merged but for the order of children, or None where nothing was."""
+    octets = octets_in(answer)
+    tree = None if octets is None else read(octets)
+    return tree and tree.unordered()
+
+
 def told(what, case, answer):
     return f"{what}: {case.hex()[:200]}\n  answered: {' | '.join(answer)[:200]}"
 
@@ -168,8 +181,7 @@ def broken_days(program, seed, count):
     """Which days didn't become what they were."""
     tried = [day_law(random.Random(f"merging, days {seed} {index}")) for index in range(count)]
     answers, status = ask(program, [case for case, _ in tried])
-    broken = [told("parts of a day", case, answer) for (case, must), answer in zip(tried, answers)
-              if not answer[0].startswith("merged ") or read(octets_in(answer)).unordered() != must]
+    broken = [told("parts of a day", case, answer) for (case, must), answer in zip(tried, answers) if day_of(answer) != must]
     return broken + cut_short(tried, answers, status)
 
 
@@ -211,13 +223,13 @@ class Asked:
             return False
         if None in self.normals:
             return True
-        trees = [read(normal) for normal in self.normals]
+        trees, whole = [read(normal) for normal in self.normals], None if self.merged is None else read(self.merged)
         is_twice = any(tree.has_key_twice(self.services) for tree in trees)
         if answers[2][0] != CONTRADICTED and is_twice != (answers[2][0] == TWICE):
             return False
         if answers[2][0] != line_of(*outcome(*(tree.tree() for tree in trees), self.services), *PLENTY):
             return False
-        return self.merged is None or follows(read(self.merged), *trees)
+        return self.merged is None or whole is not None and follows(whole, *trees)
 
     def is_judged(self):
         """Whether both objects are accepted, so that there is more to ask."""
