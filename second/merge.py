@@ -111,7 +111,7 @@ def key(node, services):
     if node.tag not in UNNAMED:
         return None
     bearers = [part for part in node.children if part.tag == BEARER]
-    return node.tag, frozenset(meaning(part) for bearer in bearers for part in bearer.attributes if part.tag == KEYS[BEARER]) if services else None
+    return node.tag, frozenset(key(bearer, services) for bearer in bearers) if services else None
 
 
 def pairs_of_one_key(basic, advanced, services):

@@ -67,8 +67,8 @@ class Read:
             return self.tag, self.attributes.get(KEYS[self.tag])
         if self.tag not in UNNAMED:
             return None
-        ids = {part.attributes.get(KEYS[BEARER]) for part in self.children if part.tag == BEARER}
-        return self.tag, frozenset(ids - {None}) if services == BY_BEARERS else None
+        keys = frozenset(part.key(services) for part in self.children if part.tag == BEARER)
+        return self.tag, keys if services == BY_BEARERS else None
 
     def has_key_twice(self, services):
         for node in self.walk():

@@ -2136,36 +2136,35 @@ static const struct node *attribute_of(struct element element, uint8_t tag)
     return NULL;
 }
 
-/* The id of a bearer of a service; NULL where it has none, and for all that is no bearer. */
-static const struct node *bearer_id(const struct tree *tree, size_t index)
+/* Whether the attributes of one tag of two elements are the same, or neither has it. */
+static bool same_attribute(struct element first, struct element second, uint8_t tag)
 {
-    if (tree->nodes[index].tag != SERVICE_BEARER)
-        return NULL;
-    return attribute_of((struct element){tree, index}, merging_attribute[SERVICE_BEARER]);
+    const struct node *a = attribute_of(first, tag), *b = attribute_of(second, tag);
+
+    if (a == NULL || b == NULL)
+        return a == b;
+    return same_items((struct place){first.tree, a}, (struct place){second.tree, b});
 }
 
-static bool has_bearer(struct part service, struct place id)
+static bool has_bearer(struct part service, struct element bearer)
 {
-    for (size_t at = service.first; at < service.end; at = service.tree->ends[at]) {
-        const struct node *other = bearer_id(service.tree, at);
-        if (other != NULL && same_items(id, (struct place){service.tree, other}))
+    for (size_t at = service.first; at < service.end; at = service.tree->ends[at])
+        if (service.tree->nodes[at].tag == SERVICE_BEARER &&
+            same_attribute(bearer, (struct element){service.tree, at}, merging_attribute[SERVICE_BEARER]))
             return true;
-    }
     return false;
 }
 
-/* Whether each id that a bearer of the other service has is that of a bearer of this one. */
+/* Whether each bearer of the other service has its id, or has none, as a bearer of this one. */
 static bool has_bearers_of(struct part service, struct part other)
 {
-    for (size_t at = other.first; at < other.end; at = other.tree->ends[at]) {
-        const struct node *id = bearer_id(other.tree, at);
-        if (id != NULL && !has_bearer(service, (struct place){other.tree, id}))
+    for (size_t at = other.first; at < other.end; at = other.tree->ends[at])
+        if (other.tree->nodes[at].tag == SERVICE_BEARER && !has_bearer(service, (struct element){other.tree, at}))
             return false;
-    }
     return true;
 }
 
-/* Whether the ids of their bearers are one set. */
+/* Whether the ids of their bearers are one set, in which an absent one counts as an id of its own. */
 static bool same_services(struct part first, struct part second)
 {
     return has_bearers_of(first, second) && has_bearers_of(second, first);
@@ -2187,9 +2186,7 @@ static bool same_key(struct element first, struct element second, enum services 
         return false;
     if (tag == SERVICE)
         return services == BY_TAG || same_services(inside(first), inside(second));
-    const struct node *a = attribute_of(first, merging_attribute[tag]);
-    const struct node *b = attribute_of(second, merging_attribute[tag]);
-    return (a == NULL) == (b == NULL) && !differ(first, a, second, b);
+    return same_attribute(first, second, merging_attribute[tag]);
 }
 
 /* Whether two elements that become one contradict each other, or two below them do that become one with them: in the
