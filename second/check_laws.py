@@ -1,5 +1,5 @@
 #!/usr/bin/env python3
-"""Checks laws that hold for any right program:  check_laws.py PROGRAM SEED COUNT [--letters LNWSXEGC]
+"""Checks laws that hold for any right program:  check_laws.py PROGRAM SEED COUNT [--letters LNWSXEGCFPJM]
 
 For random trees, of which the maker knows the meaning: each way to write a tree has the tree's normal
 form, its number of records and just its needs in store and room; a normal form is its own normal form
@@ -18,8 +18,9 @@ they mean the same, and that is UTF-8 and well-formed, by Python's own parser.
 
 Of edits, where E is among the letters: the laws of edit_laws.py, on runs of three kinds, COUNT of each.  Of the gate, where G is: those of gate_laws.py, on
 trees of seven kinds, COUNT of each, and on its edge cases.  Of the count of headers, where C is: those of header_laws.py, on COUNT trees, three times as many
-objects, and its edge cases.  Of merging, where M is: those of merge_laws.py, on COUNT pairs of each kind, and its edge cases.  No others where there are no
-other letters.
+objects, and its edge cases; of the same with no list, where J is.  Of folding, where F or P is: those of fold_laws.py, on COUNT trees, twice as many cases,
+and its edge cases.  Of merging, where M is: those of merge_laws.py, on COUNT pairs of each kind, and its edge cases.  No others where there are no other
+letters.
 """
 import argparse
 import random
@@ -28,9 +29,10 @@ from xml.parsers import expat
 
 from as_xml import KINDS, has_plain, xml
 from edit_laws import broken_edit_laws
-from gate_laws import broken_gate_laws
-from header_laws import broken_header_laws
+from fold_laws import broken_fold_laws
 from merge_laws import broken_merge_laws
+from gate_laws import broken_gate_laws
+from header_laws import broken_header_laws, broken_no_list_laws
 from make_cases import (CASE_LETTERS, COORDINATES, DEFAULT, FIELD_LIMIT, JUDGED, OBJECT_LIMIT, PLAIN, TIME, Bad, Encoder, Fixed, Maker, Node, case_l, case_n,
                         case_s, case_w, case_x, make_records, named_tree, random_raw)
 from meanings import NAMED_WAYS, SWOLLEN_WAYS, WAYS, known_pair, random_tree, valued, written
@@ -228,6 +230,11 @@ def broken_laws(program, seed, count):
     return f"{len(tried)} answers, {pairs} of pairs in {len(WAYS)} ways, XML of {len(tried_pairs)} pairs in {len(NAMED_WAYS)} ways", broken
 
 
+# Which laws are tried where one of these letters is asked for.
+LAWS = [("LNWSX", broken_laws), ("E", broken_edit_laws), ("G", broken_gate_laws), ("C", broken_header_laws), ("FP", broken_fold_laws),
+        ("J", broken_no_list_laws), ("M", broken_merge_laws)]
+
+
 def main():
     parser = argparse.ArgumentParser(description="Checks laws that hold for any right program.")
     parser.add_argument("program")
@@ -237,9 +244,7 @@ def main():
     options = parser.parse_args()
     if options.count < len(WAYS):
         parser.error(f"COUNT is at least {len(WAYS)}")
-    laws_of = ("LNWSX", broken_laws), ("E", broken_edit_laws), ("G", broken_gate_laws), ("C", broken_header_laws)
-    laws_of += ("M", broken_merge_laws),
-    parts = [part for letters, part in laws_of if set(letters) & set(options.letters)]
+    parts = [part for letters, part in LAWS if set(letters) & set(options.letters)]
     results = [part(options.program, options.seed, options.count) for part in parts]
     broken = [what for _, found in results for what in found]
     for what in broken[:3]:

@@ -1,5 +1,5 @@
 #!/usr/bin/env python3
-"""Compares the answers of two programs:  compare.py PROGRAM_A PROGRAM_B SEED COUNT [--letters LNWSXEGC]
+"""Compares the answers of two programs:  compare.py PROGRAM_A PROGRAM_B SEED COUNT [--letters LNWSXEGCFPJM]
 
 Both get the fixed edge cases, then COUNT random cases of the seed.  The first three differences are
 printed; the last line is `compared N cases of seed S: equal` or `...: DIFFERENT`, N counting both

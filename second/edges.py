@@ -750,10 +750,13 @@ def edge_cases():
             yield from both(changed)
             yield whole_xml(changed)
     from edit_edges import edit_edge_cases  # which stands on this file, as the next ones do
+    from fold_edges import fold_edge_cases
     from gate_edges import gate_edge_cases
-    from header_edges import header_edge_cases
+    from header_edges import header_edge_cases, no_list_edge_cases
     from merge_edges import merge_edge_cases
     yield from edit_edge_cases()
     yield from gate_edge_cases()
     yield from header_edge_cases()
+    yield from fold_edge_cases()
+    yield from no_list_edge_cases()
     yield from merge_edge_cases()

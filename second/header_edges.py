@@ -1,11 +1,12 @@
-"""The fixed edge cases of letter C: what is one item and what is none, the insides of unknown items, the most headers, a place too few, refusals."""
+"""The fixed edge cases of letters C and J: what is one item and what is none, the insides of unknown items, the most headers, a place too few, refusals."""
 from itertools import product
 
 from edges import ANNEX_C, FAULTS, GOOD, entry, nest, top
 from edit_edges import VALUES
-from make_cases import ATTRIBUTES, COORDINATES, DEFAULT, DEFAULTS, OBJECT_LIMIT, TOKEN_TAGS, UNKNOWN_ELEMENTS, case_c, item
+from make_cases import ATTRIBUTES, COORDINATES, DEFAULT, DEFAULTS, OBJECT_LIMIT, TOKEN_TAGS, UNKNOWN_ELEMENTS, case_c, case_j, item
 
 FORMS = 0, 1, 2
+OBJECT_AT = len(case_c(0, b""))  # where the object of a case begins
 # Bodies that look like items, good ones and bad: where no items are looked for, nothing of them counts.
 INSIDES = (b"", item(0x10), item(0x10) * 5, item(0x21, item(0x1C, item(0x80, b"t") + item(0x10, item(0x01, b"c")))), item(0x07, item(0x07)), item(0x90),
            item(0x01, b"c") * 2, item(0x04, entry(1, b"t")) + item(0x06, b"en"), item(0x02), top(item(0x10)), b"\x00", b"\x10", b"\x10\x09", b"\x10\xfe\x00")
@@ -145,3 +146,9 @@ def annex_c():
 def header_edge_cases():
     for group in (tops, unknown_items, token_tables, without_items, every_pair, length_forms, depths, most_headers, refusals, annex_c):
         yield from group()
+
+
+def no_list_edge_cases():
+    """The same objects with no list, each once."""
+    for octets in dict.fromkeys(case[OBJECT_AT:] for case in header_edge_cases()):
+        yield case_j(octets)

@@ -1,5 +1,6 @@
-"""The count of headers (document 02, request 2026-09), from 01 and 02 alone: what the items of an object come to, and random objects for it."""
-from make_cases import FIELD_LIMIT, OBJECT_LIMIT, UNKNOWN_ELEMENTS, Raw, case_c, damage, random_raw
+"""The count of headers (document 02, request 2026-09), from 01 and 02 alone: what the items of an object come to, and random objects for it, read into a list
+or with none (request 2026-14)."""
+from make_cases import FIELD_LIMIT, OBJECT_LIMIT, UNKNOWN_ELEMENTS, Raw, case_c, case_j, damage, random_raw
 from meanings import count_attributes, span_of_elements
 
 NEVER_KNOWN = range(0x88, 0x100)  # attributes that annex E gives to no element
@@ -49,9 +50,19 @@ def with_unknown(rng, raw):
     return twin if len(twin.octets()) <= OBJECT_LIMIT else raw
 
 
-def random_counted(rng):
+def random_octets(rng):
+    """The octets of an object, now and then damaged, and its records before that."""
     _, _, raw = random_raw(rng)
     raw = with_unknown(rng, raw) if rng.random() < 0.7 else raw
     records, _ = counts(raw)
-    octets = damage(rng, raw)[:FIELD_LIMIT] if rng.random() < 0.4 else raw.octets()
+    return records, damage(rng, raw)[:FIELD_LIMIT] if rng.random() < 0.4 else raw.octets()
+
+
+def random_counted(rng):
+    records, octets = random_octets(rng)
     return case_c(rng.choice([records] * 4 + [records + 1, 65535, 65535, 65535, records - 1]), octets)
+
+
+def random_judged(rng):
+    _, octets = random_octets(rng)
+    return case_j(octets)

@@ -1,8 +1,8 @@
 #!/usr/bin/env python3
 """Makes streams of test cases for the two programs (docs/STREAM.md).
 
-    make_cases.py SEED COUNT [--letters LNWSXEGC]   COUNT random cases, the same for the same seed
-    make_cases.py --edges [--letters LNWSXEGC]      the fixed edge cases of edges.py
+    make_cases.py SEED COUNT [--letters LNWSXEGCFPJM]   COUNT random cases, the same for the same seed
+    make_cases.py --edges [--letters LNWSXEGCFPJM]      the fixed edge cases of edges.py
 
 A random case begins as a tree of known items with its meaning.  From the tree come its octets (in
 any of the many forms that mean the same), its normal form, its records and what has to be lent;
@@ -130,6 +130,18 @@ def case_g(data_type, places, octets):
 
 def case_c(places, octets):
     return b"C" + number(places, 2) + sized(octets)
+
+
+def case_j(octets):
+    return b"J" + sized(octets)
+
+
+def case_f(normal, packed):
+    return b"F" + sized(normal) + sized(packed)
+
+
+def case_p(room, octets):
+    return b"P" + bounded(room) + sized(octets)
 
 
 def case_m(services, places, store, basic, advanced):
@@ -845,15 +857,33 @@ def random_c(rng):
     return random_counted(rng)
 
 
+def random_j(rng):
+    """The same with no list."""
+    from headers import random_judged  # which stands on the trees of this file
+    return random_judged(rng)
+
+
 def random_m(rng):
     """Two parts of one day, most often with something at odds, or any two objects; now and then damaged, or with a place or an octet too few."""
     from merge import random_merging  # which stands on the trees of this file
     return random_merging(rng)
 
 
-RANDOM = {"L": random_l, "N": random_n, "W": random_w, "S": random_s, "X": random_x, "E": random_e, "G": random_g, "C": random_c}
-RANDOM["M"] = random_m
-# The letters that are made and tried where none are named; M is added here when the library answers it.
+def random_f(rng):
+    """A normal form and what a packer may propose for it; now and then damaged."""
+    from folds import random_check  # which stands on the trees of this file
+    return random_check(rng)
+
+
+def random_p(rng):
+    """A normal form whose texts are of few words, and often a room that just does, or doesn't; now and then another form, or damaged."""
+    from folds import random_packing  # which stands on the trees of this file
+    return random_packing(rng)
+
+
+RANDOM = {"L": random_l, "N": random_n, "W": random_w, "S": random_s, "X": random_x, "E": random_e, "G": random_g, "C": random_c,
+          "F": random_f, "P": random_p, "J": random_j, "M": random_m}
+# The letters that are made and tried where none are named; F, P, J and M are added here when the library answers them.
 CASE_LETTERS = "LNWSXEGC"
 
 

@@ -4,16 +4,19 @@
  * Reads a stream of cases on standard input and prints one answer for each: the listing of a
  * binary SPI object (L), its normal form (N), the octets that records stand for (W), whether two
  * objects mean the same (S), the XML of an object (X), what a run of edits makes of an object (E),
- * whether the small receiver's gate lets an object pass (G), how many records and items it has (C), and what two
- * objects, Basic and Advanced, are merged into (M).
+ * whether the small receiver's gate lets an object pass (G), how many records and items it has (C, and J where
+ * no list is lent), what two objects, Basic and Advanced, are merged into (M), whether a packed object may go in
+ * the place of a normal form (F), and what a plain packer makes of one (P).  With the word `replay` or
+ * `replay-no-list` it reads a recording instead, and prints a line for each object of it.
  * Written from documents 01 (the rules) and 02 (the requests that amend them), from 002, TS 102 371 V3.2.1
  * (the layouts, and annex A for the gate), and for the XML and the defaults from document 003, TS 102 818,
  * alone, so that it can be held against the proved program.
  *
+ * Merging holds each child of an element to each of its partner's.
  * All memory is fixed; nothing is allocated.  Each octet of an object is looked at once while it is
  * judged and once more while its normal form is written or its meaning compared; twice more for its XML.
- * An edit makes the whole edited tree anew, and takes it in the place of the old one only where it fits.
- * Merging holds each child of an element to each of its partner's.
+ * An edit makes the whole edited tree anew, and takes it in the place of the old one only where it fits; the
+ * packer makes the packed tree likewise.
  */
 #include <stdbool.h>
 #include <stdint.h>
@@ -56,7 +59,10 @@ enum {
     NO_SUCH_RECORD = 18, /* and 2026-06; a place, a wrong kind of record and the top to be removed too */
     OUTSIDE_PROFILE = 19, /* and 2026-07 */
     CONTRADICTION = 20, /* and 2026-10, as the next */
-    KEY_TWICE = 21
+    KEY_TWICE = 21,
+    NOT_FOLDED = 22, /* and 2026-11: the check says no, or the packer is given no normal form */
+    NO_RECORDING = 23, /* and 2026-12: wrong mark or version */
+    CUT_RECORDING = 24 /* within its first five octets, a size or an object */
 };
 
 /* Which field of a time is wrong, where 9 refuses it (document 02, request 2026-04); 0 for other kinds. */
@@ -2048,6 +2054,204 @@ static struct verdict judge_profile(const struct tree *tree, uint8_t data_type)
     return accepted;
 }
 
+/* ---- Folding: refusal 22 (02, request 2026-11) ------------------------------------------------- */
+
+enum {
+    SHORTEST_WORD = 4,
+    LONGEST_WORD = 255,
+    TOKENS = 16,                   /* octets that a token may be */
+    WORD_LIMIT = OBJECT_LIMIT / 5, /* a word has four octets, and one that is in no word stands before it */
+    WORD_SLOTS = 1 << 14           /* more than twice as many */
+};
+
+/* A whole run of letters in a text, and how often it stands as one in all texts. */
+struct word {
+    const uint8_t *letters;
+    uint32_t length, uses;
+    uint8_t token; /* that stands for it, or 0 */
+};
+
+struct vocabulary {
+    size_t count, chosen_count;
+    struct word words[WORD_LIMIT]; /* in the order of their first use */
+    struct word *chosen[TOKENS];   /* those that get a token, the most octets saved first */
+    uint16_t slots[WORD_SLOTS];    /* the number of a word from 1, at its hash or behind it; 0 for none */
+};
+
+static bool is_letter(uint8_t octet)
+{
+    return (octet >= 'A' && octet <= 'Z') || (octet >= 'a' && octet <= 'z');
+}
+
+/* How many octets at the start of a text are letters. */
+static size_t letter_run(const uint8_t *text, size_t length)
+{
+    size_t run = 0;
+
+    while (run < length && is_letter(text[run]))
+        run++;
+    return run;
+}
+
+/* The place of a word among the slots: its own, or the first free one where it isn't there. */
+static uint16_t *slot_of(struct vocabulary *vocabulary, const uint8_t *letters, size_t length)
+{
+    uint32_t hash = 0;
+
+    for (size_t i = 0; i < length; i++)
+        hash = (hash ^ letters[i]) * UINT32_C(0x01000193);
+    for (uint32_t at = hash >> 16 ^ hash;; at++) {
+        uint16_t *slot = &vocabulary->slots[at % WORD_SLOTS];
+        if (*slot == 0)
+            return slot;
+        const struct word *word = &vocabulary->words[*slot - 1];
+        if (word->length == length && memcmp(word->letters, letters, length) == 0)
+            return slot;
+    }
+}
+
+static void count_word(struct vocabulary *vocabulary, const uint8_t *letters, size_t length)
+{
+    uint16_t *slot = slot_of(vocabulary, letters, length);
+
+    if (*slot == 0) {
+        struct word *word = &vocabulary->words[vocabulary->count++];
+        *word = (struct word){.letters = letters, .length = (uint32_t)length};
+        *slot = (uint16_t)vocabulary->count;
+    }
+    vocabulary->words[*slot - 1].uses++;
+}
+
+static bool is_word(size_t run)
+{
+    return run >= SHORTEST_WORD && run <= LONGEST_WORD;
+}
+
+static void count_words(struct vocabulary *vocabulary, const uint8_t *text, size_t length)
+{
+    for (size_t at = 0; at < length; at++) {
+        size_t run = letter_run(text + at, length - at);
+        if (is_word(run))
+            count_word(vocabulary, text + at, run);
+        at += run; /* the octet there is no letter */
+    }
+}
+
+/* What a token for a word saves: each use becomes one octet, and the entry is tag, length and letters. */
+static int64_t saving(const struct word *word)
+{
+    return (int64_t)word->uses * (word->length - 1) - (word->length + 2);
+}
+
+/* Puts a word among those that are chosen, behind all that save as much; the last one goes where it is one
+ * too many. */
+static void choose(struct vocabulary *vocabulary, struct word *word)
+{
+    size_t at = vocabulary->chosen_count;
+
+    while (at > 0 && saving(vocabulary->chosen[at - 1]) < saving(word))
+        at--;
+    if (at == TOKENS)
+        return;
+    if (vocabulary->chosen_count < TOKENS)
+        vocabulary->chosen_count++;
+    for (size_t i = vocabulary->chosen_count - 1; i > at; i--)
+        vocabulary->chosen[i] = vocabulary->chosen[i - 1];
+    vocabulary->chosen[at] = word;
+}
+
+/* Chooses words of an object's texts, and gives them tokens, which rise in the order of what they save. */
+static void choose_words(struct vocabulary *vocabulary, const struct tree *tree)
+{
+    vocabulary->count = vocabulary->chosen_count = 0;
+    memset(vocabulary->slots, 0, sizeof vocabulary->slots);
+    for (size_t i = 0; i < tree->count; i++)
+        if (tree->nodes[i].body == TEXT)
+            count_words(vocabulary, body_octets(tree, &tree->nodes[i]), tree->nodes[i].length);
+    for (size_t i = 0; i < vocabulary->count; i++)
+        if (saving(&vocabulary->words[i]) > 0)
+            choose(vocabulary, &vocabulary->words[i]);
+    uint8_t token = 0;
+    for (size_t i = 0; i < vocabulary->chosen_count; i++) {
+        do
+            token++;
+        while ((UINT32_C(1) << token & TOKEN_OCTETS) == 0);
+        vocabulary->chosen[i]->token = token;
+    }
+}
+
+/* Adds the table of the words that were chosen to a state. */
+static void add_table(struct state *state, const struct vocabulary *vocabulary)
+{
+    struct node *table = &state->tree.nodes[state->tree.count++];
+    uint8_t *body = state->store + state->used, *out = body;
+
+    for (size_t i = 0; i < vocabulary->chosen_count; i++) {
+        const struct word *word = vocabulary->chosen[i];
+        *out++ = word->token;
+        *out++ = (uint8_t)word->length;
+        memcpy(out, word->letters, word->length);
+        out += word->length;
+    }
+    *table = (struct node){.start = state->used,
+                           .length = (uint32_t)(out - body),
+                           .normal_size = (uint64_t)(out - body),
+                           .tag = TOKEN_TABLE,
+                           .depth = 2,
+                           .body = ENTRIES};
+    state->used += table->length;
+}
+
+/* The token of a word that was counted, or 0. */
+static uint8_t token_of(struct vocabulary *vocabulary, const uint8_t *letters, size_t length)
+{
+    return vocabulary->words[*slot_of(vocabulary, letters, length) - 1].token;
+}
+
+/* Puts tokens in the place of words, in the text that was added to a state last; it becomes no longer. */
+static void fold_last(struct state *state, struct vocabulary *vocabulary)
+{
+    struct node *node = &state->tree.nodes[state->tree.count - 1];
+    uint8_t *text = state->store + node->start, *out = text;
+
+    for (size_t at = 0; at < node->length;) {
+        size_t run = letter_run(text + at, node->length - at);
+        uint8_t token = is_word(run) ? token_of(vocabulary, text + at, run) : 0;
+        if (token != 0) {
+            *out++ = token;
+        } else {
+            memmove(out, text + at, run);
+            out += run;
+        }
+        at += run;
+        if (at < node->length)
+            *out++ = text[at++]; /* no letter */
+    }
+    node->length = (uint32_t)(out - text);
+    node->normal_size = node->length;
+    state->used = node->start + node->length;
+}
+
+/* Makes the packed form of an object in normal form: its records with folded texts, and the table behind the
+ * attributes of the top.  Answers its size. */
+static uint64_t fold(struct state *state, const struct tree *tree, struct vocabulary *vocabulary)
+{
+    size_t behind_attributes = attributes_at(tree, 1).end;
+
+    choose_words(vocabulary, tree);
+    clear_state(state);
+    for (size_t i = 0; i < tree->count; i++) {
+        if (i == behind_attributes)
+            add_table(state, vocabulary);
+        add_record(state, tree, &tree->nodes[i]);
+        if (tree->nodes[i].body == TEXT)
+            fold_last(state, vocabulary);
+    }
+    if (behind_attributes == tree->count)
+        add_table(state, vocabulary);
+    return measure(&state->tree).output;
+}
+
 /* ---- Merging Basic and Advanced: refusals 20 and 21 (02, 2026-10; 002, clauses 5.3 and 5.4) ------ */
 
 /* Tables 8 to 10: the attribute that is the merging key of an element, by the last name of a row's path.  The rows
@@ -2524,6 +2728,7 @@ static uint8_t normal_form[OBJECT_LIMIT];
 static uint8_t lent_records[LIST_LIMIT * RECORD_OCTETS];
 static uint8_t xml_octets[FIELD_LIMIT];
 static uint8_t given_octets[FIELD_LIMIT];
+static struct vocabulary vocabulary;
 
 /* Writes the normal form of an accepted object, or answers 14 or 15 and writes nothing. */
 static int normalise(struct tree *tree, uint32_t places, uint32_t store, uint32_t room, uint8_t *out,
@@ -2542,21 +2747,44 @@ static int normalise(struct tree *tree, uint32_t places, uint32_t store, uint32_
 /* Each function below takes one case and prints its answer but for the newline; false, with nothing
  * printed, where the stream is bad. */
 
-/* An object read into so many places: its listing, or its counts, of which nothing is told after a refusal, since both
- * are 0 then. */
+/* Reads an object into so many places. */
+static struct verdict read_into(struct tree *tree, const struct object *object, uint32_t places)
+{
+    struct verdict verdict = read_object(tree, object->octets, object->size);
+
+    if (verdict.number == ACCEPTED && tree->count > places)
+        return refused(TOO_FEW_PLACES, 0);
+    return verdict;
+}
+
+/* The listing of the object of a case, or its counts, of which nothing is told after a refusal, since both are
+ * 0 then. */
+static void put_reading(uint32_t places, void (*put)(const struct tree *tree))
+{
+    struct verdict verdict = read_into(&first_tree, &first_object, places);
+
+    if (verdict.number != ACCEPTED)
+        put_refusal(verdict);
+    else
+        put(&first_tree);
+}
+
 static bool answer_reading(void (*put)(const struct tree *tree))
 {
     uint32_t places;
 
     if (!take_short(&places) || !take_object(&first_object))
         return false;
-    struct verdict verdict = read_object(&first_tree, first_object.octets, first_object.size);
-    if (verdict.number == ACCEPTED && first_tree.count > places)
-        verdict = refused(TOO_FEW_PLACES, 0);
-    if (verdict.number != ACCEPTED)
-        put_refusal(verdict);
-    else
-        put(&first_tree);
+    put_reading(places, put);
+    return true;
+}
+
+/* With no list lent (02, request 2026-14): as with one that is long enough for every object. */
+static bool answer_counts(void)
+{
+    if (!take_object(&first_object))
+        return false;
+    put_reading(LIST_LIMIT, put_counts);
     return true;
 }
 
@@ -2732,6 +2960,64 @@ static bool answer_gate(void)
     return true;
 }
 
+/* Whether an object is accepted and these octets are its normal form; where that is above 32,768 octets it is
+ * no object, and no octets are. */
+static bool has_normal_form(struct tree *tree, const struct object *object, const struct object *normal)
+{
+    size_t size;
+
+    if (read_object(tree, object->octets, object->size).number != ACCEPTED)
+        return false;
+    if (normalise(tree, LIST_LIMIT, FIELD_LIMIT, OBJECT_LIMIT, normal_form, &size) != ACCEPTED)
+        return false;
+    return size == normal->size && memcmp(normal_form, normal->octets, size) == 0;
+}
+
+/* Octets that are no normal form are no object's, so nothing passes beside them. */
+static bool answer_folded(void)
+{
+    if (!take_object(&first_object) || !take_object(&second_object))
+        return false;
+    if (second_object.size <= first_object.size &&
+        has_normal_form(&second_tree, &second_object, &first_object))
+        put_string("passes");
+    else
+        put_refusal(refused(NOT_FOLDED, 0));
+    return true;
+}
+
+/* Packs a normal form, or answers 22 or 15; where the packed object isn't shorter, it is the normal form. */
+static struct verdict pack(const struct object *object, uint32_t room, uint8_t *out, size_t *size)
+{
+    if (!has_normal_form(&first_tree, object, object))
+        return refused(NOT_FOLDED, 0);
+    uint64_t folded = fold(&first_state, &first_tree, &vocabulary);
+    bool is_shorter = folded < object->size;
+    *size = is_shorter ? folded : object->size;
+    if (*size > room)
+        return refused(OUTPUT_TOO_LARGE, 0);
+    if (is_shorter)
+        write_tree(out, &first_state.tree);
+    else
+        memcpy(out, object->octets, object->size);
+    return accepted;
+}
+
+static bool answer_packed(void)
+{
+    uint32_t room;
+    size_t size;
+
+    if (!take_bounded(&room) || !take_object(&first_object))
+        return false;
+    struct verdict verdict = pack(&first_object, room, normal_form, &size);
+    if (verdict.number != ACCEPTED)
+        put_refusal(verdict);
+    else
+        put_octets("packed ", normal_form, size);
+    return true;
+}
+
 /* What two accepted objects become, or 20, 21, 14 or 15.  The result's records and octets must fit what is lent; those
  * of the two objects needn't. */
 static int merge_into(struct merged *result, enum services services, uint32_t places, uint32_t store, size_t *size)
@@ -2797,12 +3083,18 @@ static bool answer_case(uint8_t letter)
         return answer_reading(put_counts);
     case 'M':
         return answer_merged();
+    case 'J':
+        return answer_counts();
+    case 'F':
+        return answer_folded();
+    case 'P':
+        return answer_packed();
     default:
         return false;
     }
 }
 
-int main(void)
+static void answer_stream(void)
 {
     bool good = true;
 
@@ -2815,6 +3107,82 @@ int main(void)
             put_number(start);
         }
         put_char('\n');
+    }
+}
+
+/* ---- Replay of a recording (02, requests 2026-12 and 2026-14) ---------------------------------- */
+
+enum { REPLAY_PLACES = 1024 };
+
+static const uint8_t recording_head[] = {'S', 'P', 'R', 0, 1}; /* the mark, and the version in 16 bits */
+
+/* A line for an object of a recording: its number, then ok and its records, or its refusal. */
+static void put_replayed(uint64_t number, struct verdict verdict, const struct tree *tree)
+{
+    put_number(number);
+    if (verdict.number == ACCEPTED) {
+        put_string(" ok ");
+        put_number(tree->count);
+    } else {
+        put_char(' ');
+        put_number(verdict.number);
+        put_char(' ');
+        put_number(verdict.place);
+    }
+    if (verdict.number == BAD_VALUE) {
+        put_char(' ');
+        put_number(verdict.field);
+    }
+    put_char('\n');
+}
+
+/* A last line, where the recording itself is refused; places in it can be above those in an object. */
+static void put_refused_recording(int number, uint64_t place)
+{
+    put_string("refused ");
+    put_number((uint64_t)number);
+    put_char(' ');
+    put_number(place);
+    put_char('\n');
+}
+
+/* Lists the objects behind the head one by one: a size of 16 bits and as many octets each. */
+static void replay_objects(uint32_t places)
+{
+    for (uint64_t number = 1; more_input(); number++) {
+        uint64_t start = input.offset;
+        if (!take_short(&first_object.size) || !take_octets(first_object.octets, first_object.size)) {
+            put_refused_recording(CUT_RECORDING, start);
+            return;
+        }
+        put_replayed(number, read_into(&first_tree, &first_object, places), &first_tree);
+    }
+}
+
+/* Replays the recording on standard input, with so many places lent. */
+static void replay(uint32_t places)
+{
+    uint8_t head[sizeof recording_head];
+
+    if (!take_octets(head, sizeof head))
+        put_refused_recording(CUT_RECORDING, 0);
+    else if (memcmp(head, recording_head, sizeof head) != 0)
+        put_refused_recording(NO_RECORDING, 0);
+    else
+        replay_objects(places);
+}
+
+int main(int count, char **words)
+{
+    if (count == 1) {
+        answer_stream();
+    } else if (count == 2 && strcmp(words[1], "replay") == 0) {
+        replay(REPLAY_PLACES);
+    } else if (count == 2 && strcmp(words[1], "replay-no-list") == 0) {
+        replay(LIST_LIMIT); /* as with a list that is long enough for every object */
+    } else {
+        fprintf(stderr, "usage: second [replay | replay-no-list]\n");
+        return 2;
     }
     flush_output();
     return output.failed ? 1 : 0;

@@ -1,8 +1,9 @@
 #!/usr/bin/env python3
-"""Runs a program on the named cases of expected.txt:  try_named.py PROGRAM [--letters LNWSXEGC]
+"""Runs a program on the named cases of expected.txt:  try_named.py PROGRAM [--letters LNWSXEGCFPJM]
 
-Those of edits stand in expected_edits.txt, and are tried where E is among the letters; those of the gate in expected_gate.txt, where G is.  Of each file,
-cases and streams that begin with a letter that isn't among them are left out.  Those of merging stand in expected_merge.txt, where M is.
+Those of edits stand in expected_edits.txt, and are tried where E is among the letters; those of the gate in expected_gate.txt, where G is; those of folding
+in expected_folds.txt, where F or P is; those of merging in expected_merge.txt, where M is.  Of each file, cases and streams that begin with a letter that isn't
+among them are left out.
 
 Prints each mismatch with its name and a last line `named cases: N held, M not`; the exit status is 0
 only where there are cases and all of them hold.
@@ -12,7 +13,8 @@ import os
 import re
 import sys
 
-from make_cases import CASE_LETTERS, RANDOM, case_c, case_e, case_g, case_l, case_m, case_n, case_s, case_w, case_x, edit_d, edit_i, edit_t
+from make_cases import (CASE_LETTERS, RANDOM, case_c, case_e, case_f, case_g, case_j, case_l, case_m, case_n, case_p, case_s, case_w, case_x, edit_d, edit_i,
+                        edit_t)
 from streams import ask, run
 
 HEX_PART = re.compile(r'''\s*(?:(["'])((?:(?!\1).)*)\1|([0-9A-Fa-f]{2})|\(([^()]*)\)|(-))(?:\*(\d+))?(?=\s|$)''')
@@ -34,7 +36,7 @@ def octets_of(text):
 
 def answer_line(text):
     word, _, rest = text.partition(" ")
-    return f"{word} {octets_of(rest).hex()}" if word in ("normal", "written", "xml", "merged") else text
+    return f"{word} {octets_of(rest).hex()}" if word in ("normal", "written", "xml", "packed", "merged") else text
 
 
 EDITS = {"text": (edit_t, 1), "remove": (edit_d, 1), "insert": (edit_i, 2)}  # how many numbers stand before the octets
@@ -44,6 +46,10 @@ def edit_of(word, rest):
     edit, count = EDITS[word]
     *numbers, octets = (rest + " ").split(" ", count)
     return edit(*map(int, numbers), *([octets_of(octets)] if word != "remove" else []))
+
+
+# Which letters' cases stand in a file of their own.
+FILES = {"expected_edits.txt": "E", "expected_gate.txt": "G", "expected_folds.txt": "FP", "expected_merge.txt": "M"}
 
 
 class Named:
@@ -82,19 +88,25 @@ class Named:
             return case_x(*numbers, *self.octets)
         if letter == "E":
             return case_e(*numbers, *self.octets, self.edits)
+        if letter == "M":
+            return case_m(*numbers, *self.octets)
         if letter == "G":
             return case_g(*numbers, *self.octets)
         if letter == "C":
             return case_c(*numbers, *self.octets)
-        if letter == "M":
-            return case_m(*numbers, *self.octets)
+        if letter == "J":
+            return case_j(*self.octets)
+        if letter == "F":
+            return case_f(*self.octets)
+        if letter == "P":
+            return case_p(*numbers, *self.octets)
         if letter == "stream":
             return b"".join(self.octets)
         raise ValueError(f"in case {self.name}: letter {letter}")
 
 
-def read_named(path):
-    """The named cases in a file; an indented line goes on with the one above it."""
+def read_named(path, kind=Named):
+    """The named cases of a kind in a file; an indented line goes on with the one above it."""
     cases, lines = [], []
     with open(path, encoding="utf-8") as file:
         for line in file.read().split("\n"):
@@ -104,7 +116,7 @@ def read_named(path):
                 lines.append(line)
     for line in lines:
         if line.startswith("== "):
-            cases.append(Named(line[3:]))
+            cases.append(kind(line[3:]))
         else:
             cases[-1].add(line)
     return cases
@@ -138,8 +150,7 @@ def main():
     parser.add_argument("program")
     parser.add_argument("--letters", default=CASE_LETTERS)
     options = parser.parse_args()
-    files = ["expected.txt"] + ["expected_edits.txt"] * ("E" in options.letters) + ["expected_gate.txt"] * ("G" in options.letters)
-    files += ["expected_merge.txt"] * ("M" in options.letters)
+    files = ["expected.txt"] + [file for file, letters in FILES.items() if set(letters) & set(options.letters)]
     here = os.path.dirname(os.path.abspath(__file__))
     left_out = [letter.encode() for letter in RANDOM if letter not in options.letters]
     cases = [named for file in files for named in read_named(os.path.join(here, file)) if named.stream()[:1] not in left_out]

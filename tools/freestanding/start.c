@@ -51,6 +51,13 @@ int memcmp(const void *a, const void *b, size_t count)
     return 0;
 }
 
+int strcmp(const char *a, const char *b)
+{
+    for (; *a != 0 && *a == *b; a++)
+        b++;
+    return (unsigned char)*a - (unsigned char)*b;
+}
+
 /* ---- Files: read octets lie in the buffer between `at` and `end`, written ones before `end` -------- */
 
 struct file {
