@@ -1,0 +1,4 @@
+pub mod Recording
+pub mod Calls
+pub mod Lines
+pub mod Theorems
