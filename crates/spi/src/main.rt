@@ -1,5 +1,5 @@
 // The command for people: checks objects in files, also for the small receiver, lists their records, shows their items, writes their normal form or XML, edits one, compares
-// two. The script ./spi builds it and runs it, once a pair of files where two folders are compared.
+// two. The script ./spi builds it and runs it, once a pair of files where two folders are compared; a recording is replayed by the program replay.
 //
 // What is said of an object is proved where it is found, in `judge`, `reader`, `pocket`, `compare`, `edits`, `writer`, `xml` and `show`; here every function is safe and ends. A
 // program has no exit status, so the last line on standard output is a status of its own, which the script takes away and ends with.
@@ -62,7 +62,7 @@ fn usage(text: &[u8]) -> u8 {
 }
 
 fn usage_of_all() -> u8 {
-    usage(b"check | gate | list | show | normal | xml | edit | compare | help")
+    usage(b"check | gate | list | show | normal | xml | edit | compare | replay | help")
 }
 
 fn help_edit() {
@@ -101,6 +101,9 @@ fn help() -> u8 {
     help_edit();
     say(b"spi compare FILE FILE   whether two objects mean the same\n");
     say(b"spi compare DIR DIR     the same of the objects in two folders, by file name\n");
+    say(
+        b"spi replay FILE         for each object of a recording: its number, ok and its records, or its refusal, place and of 9 the field\n",
+    );
     say(b"spi help                these lines\n");
     say(b"status: 0 ok or same, 1 refused or different, 2 no such command or file\n");
     GOOD
