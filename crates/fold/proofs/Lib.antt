@@ -1,0 +1,10 @@
+pub mod Tables
+pub mod Texts
+pub mod Folds
+pub mod Chosen
+pub mod Bare
+pub mod Packs
+pub mod Checking
+pub mod Claims
+pub mod Examples
+pub mod Wrong
