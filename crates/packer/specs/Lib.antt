@@ -1,0 +1,11 @@
+pub mod Leaves
+pub mod Ranks
+pub mod Counting
+pub mod Walking
+pub mod Collecting
+pub mod Tables
+pub mod Sizing
+pub mod Laying
+pub mod Emitting
+pub mod Topping
+pub mod Packing
