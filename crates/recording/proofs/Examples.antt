@@ -1,5 +1,5 @@
--- An example recording and every cut of it, computed: an object with two records, one with a size of 0, one whose body is cut, and the first again. The same lines
--- come from the second program.
+-- An example recording and every cut of it, computed: an object with two records, one with a size of 0, one whose body is cut, and the first again. The same
+-- lines come from the second program.
 use mathlib.Core.Path.{_≡_, refl, ap}
 use mathlib.Core.Bool.{true, false}
 use mathlib.Core.Option.{none, some}

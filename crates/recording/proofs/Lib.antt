@@ -3,6 +3,7 @@ pub mod Cut
 pub mod Made
 pub mod Windows
 pub mod Theorems
+pub mod Change
 pub mod Ways
 pub mod Writing
 pub mod Examples

@@ -1,5 +1,5 @@
--- What `open` and `step` answer (change request 2026-12). A program holds a window of the file: octets that stand in it one behind the other, of which it may not know
--- yet what follows them.
+-- What `open` and `step` answer (change request 2026-12). A program holds a window of the file: octets that stand in it one behind the other, of which it may
+-- not know yet what follows them.
 use mathlib.Core.Bool.{Bool, cond}
 use mathlib.Core.List.{List}
 use Prim.Native.Nat.{ℕ, _+_}

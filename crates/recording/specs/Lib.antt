@@ -2,3 +2,4 @@ pub mod Recording
 pub mod Calls
 pub mod Lines
 pub mod Theorems
+pub mod Change

@@ -9,7 +9,7 @@ use Rattle.format.specs.declared.ReadAnswer.{ReadAnswer}
 use Rattle.format.specs.declared.ReadAnswer.the-variants.{Records, NotRead}
 use Rattle.format.specs.Judge.{judge}
 use Rattle.format.specs.Headers.{headersOf}
-use Rattle.format.specs.Calls.{readAnswer}
+use Rattle.format.specs.Calls.{readAnswer, judgeAnswer}
 use Rattle.show.specs.Digits.{decimal}
 use Rattle.show.specs.Lines.{ascii, line}
 use Rattle.recording.specs.Recording.{Recording, recordingOf}
@@ -51,6 +51,9 @@ listing answer r = answerLines 1 (map answer (r .objects)) ++ endLine (r .ends)
 abbrev pub replay : (List ℕ → ReadAnswer) → List ℕ → List ℕ
 replay answer octets = listing answer (recordingOf octets)
 
--- what answers for an object: read, lent 1,024 record places
+-- what answers for an object: at first read, lent 1,024 record places; since change request 2026-14 the reader with no list
 abbrev pub byRead : List ℕ → ReadAnswer
 byRead object = readAnswer 1_024 (headersOf object) (judge object)
+
+abbrev pub byScan : List ℕ → ReadAnswer
+byScan object = judgeAnswer (headersOf object) (judge object)

@@ -27,8 +27,8 @@ pub record Recording : Type 0 where
   pub objects : List (List ℕ)
   pub ends : Option Refusal
 
--- the size with which a part begins, and whether that many octets stand behind it. In a part with fewer than two octets no whole object stands, whatever its size
--- is told to be
+-- the size with which a part begins, and whether that many octets stand behind it. In a part with fewer than two octets no whole object stands, whatever its
+-- size is told to be
 unfoldable pub announced : List ℕ → ℕ
 announced part = value (take 2 part)
 
@@ -42,8 +42,8 @@ firstOf part = take (announced part) (drop 2 part)
 abbrev pub behindOf : List ℕ → List ℕ
 behindOf part = drop (2 + announced part) part
 
--- a part at a place that begins with no whole object: it is empty, so nothing is refused; or it is cut inside a size or an object, which is 24 at that size's first
--- octet in the file
+-- a part at a place that begins with no whole object: it is empty, so nothing is refused; or it is cut inside a size or an object, which is 24 at that size's
+-- first octet in the file
 unfoldable pub stopped : ℕ → List ℕ → Option Refusal
 stopped at [] = none
 stopped at (b ∷ bs) = some (refusal 24 at)

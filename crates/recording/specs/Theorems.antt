@@ -91,7 +91,8 @@ abbrev pub FiveSuffice : Type 0
 FiveSuffice = (octets : List ℕ) (n : ℕ) → 5 ≤ n → openOf (take n octets) ≡ openOf octets
 
 -- all that a program can do that goes over a recording with step, and what it finds. It holds octets of the file from a place on (held), and others follow them
--- there (rest). It may fetch at any time; it may say `last` only where nothing follows; an object that step finds it passes, and it stops where step says End or Cut
+-- there (rest). It may fetch at any time; it may say `last` only where nothing follows; an object that step finds it passes, and it stops where step says End
+-- or Cut
 pub data Goes : (at : ℕ) (held rest : List ℕ) → Recording → Type 0 where
   fetch : (at : ℕ) (held rest : List ℕ) (r : Recording) (piece later : List ℕ) → rest ≡ piece ++ later → Goes at (held ++ piece) later r → Goes at held rest r
   object : (at : ℕ) (held rest : List ℕ) (r : Recording) (last : Bool) (start size : ℕ) (behind : Recording) → stepOf held 0 last ≡ Next.Object start size
@@ -103,8 +104,8 @@ pub data Goes : (at : ℕ) (held rest : List ℕ) → Recording → Type 0 where
 abbrev pub WindowsTell : Type 0
 WindowsTell = (at : ℕ) (held rest : List ℕ) (r : Recording) → Goes at held rest r → r ≡ objectsAt at (held ++ rest)
 
--- so a program that opens a recording by its first octets, goes on from there as it likes and lists what it finds prints the replay; where open refuses, its one
--- line is that
+-- so a program that opens a recording by its first octets, goes on from there as it likes and lists what it finds prints the replay; where open refuses, its
+-- one line is that
 abbrev pub WindowsReplay : Type 0
 WindowsReplay =
     (answer : List ℕ → ReadAnswer) (octets : List ℕ) (n : ℕ) → 5 ≤ n → (at : ℕ) → openOf (take n octets) ≡ Opened.Begins at

@@ -1,5 +1,5 @@
-// A recording of the objects that a receiver got (request 2026-12): where its objects lie, and the lines of its replay. `open` and `step` look at octets that they
-// are lent and answer by value, so that a program that holds one object and its size can go over a recording of any length.
+// A recording of the objects that a receiver got (request 2026-12): where its objects lie, and the lines of its replay. `open` and `step` look at octets that
+// they are lent and answer by value, so that a program that holds one object and its size can go over a recording of any length.
 ghost use mathlib.Core.Path.{_≡_};
 ghost use mathlib.Core.List.{[], _∷_};
 ghost use Prim.Native.Nat.{_+_, _*_};

@@ -10,10 +10,7 @@ use lib.Seq.{sets, length-take-le, length-sets}
 use borrow.Author.Tests.{leb-true}
 use Rattle.octets.specs.declared.Put.{Put}
 use Rattle.octets.specs.Puts.{Puts, putAnswer, putOut}
-use Rattle.format.specs.declared.ReadAnswer.{ReadAnswer}
-use Rattle.format.specs.Calls.{Lists, places, ReadClaim}
 use Rattle.recording.specs.declared.Next.{Next}
-use Rattle.recording.specs.Lines.{byRead}
 use Rattle.recording.specs.Calls.{stepOf}
 use Rattle.recording.proofs.Windows.{step-at}
 use Rattle.replay.specs.declared.stream.Window.{Window}
@@ -56,12 +53,6 @@ object-lies input from to last r e h start size q =
     let b = s .2 in
     let l = length-take-le to input h in
     record { low = omega arith; high = omega arith }
-
--- read, lent 1,024 places in each list
-pub read-lent : (object : List ℕ) (before after : Lists) (r : ReadAnswer) → ReadClaim object before after r → length (before .tags) ≡ 1_024 → length (before .kinds) ≡ 1_024
-    → length (before .depths) ≡ 1_024 → length (before .parents) ≡ 1_024 → length (before .starts) ≡ 1_024 → length (before .sizes) ≡ 1_024 → r ≡ byRead object
-unfolding places
-read-lent object before after r k a b c d e f = k .answers ∙ rw (a, b, c, d, e, f)
 
 -- objects listed so far
 pub record Running (input₀ out₀ input out : List ℕ) (w : Window) (used : ℕ) : Type 0 where

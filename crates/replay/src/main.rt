@@ -1,12 +1,10 @@
-// Replays a recording (request 2026-12): reads it on standard input, piece by piece, and lists each object in it. Where an object lies and what a line says is proved
-// where it is found, in `recording`, and what an object's answer is in objects.rt; else every function here is safe and ends.
+// Replays a recording (requests 2026-12 and 2026-14): reads it on standard input, piece by piece, and lists each object in it. Where an object lies, what its
+// answer is and what a line says is proved where it is found, in `recording` and `scan`; here every function is safe and ends.
 mod lines;
-mod objects;
 mod stream;
 
 use crate::lines::say_answer;
 use crate::lines::say_file;
-use crate::objects::answer;
 use crate::stream::Turn;
 use crate::stream::Window;
 use crate::stream::cut_at;
@@ -18,6 +16,7 @@ use recording::Next;
 use recording::Opened;
 use recording::open;
 use recording::step;
+use scan::scan;
 ghost use mathlib.Core.Path.{_≡_};
 ghost use Prim.Native.Nat.{_≤_};
 ghost use lib.ListN.{length};
@@ -39,11 +38,11 @@ fn one_object(input: &mut [u8], out: &mut [u8], w: Window, number: usize, used: 
     match next {
         Next::Object { start, size } => {
             let end = start + size;
-            let told = answer(&input[start..end]);
+            let answer = scan(&input[start..end]);
             Turn::Goes {
                 w: passed(here, end - from),
                 number: std::num::wrapping_add_usize(number, 1),
-                used: say_answer(out, used, number, told),
+                used: say_answer(out, used, number, answer),
             }
         }
         Next::More => Turn::Goes {

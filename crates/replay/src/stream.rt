@@ -17,8 +17,8 @@ pub struct Window {
     pub failed: bool,
 }
 
-// What a step leaves: the window, the number of the next object and the output in use, behind an object that is listed; or the recording ends there, or is cut at a
-// place.
+// What a step leaves: the window, the number of the next object and the output in use, behind an object that is listed; or the recording ends there, or is cut
+// at a place.
 pub enum Turn {
     Goes {
         w: Window,

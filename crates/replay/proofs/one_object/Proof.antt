@@ -22,17 +22,17 @@ enum-known-next c = search needs
 add-end : tie.Need-add-end
 add-end c = let l = (object-lies (c .before .before .before .before .before .before .before .before .fetch .last .0) _ _ _ _ (c .before .before .before .step .ensures) (c .before .before .before .before .before .before .before .before .fetch .ensures .inside) _ _ (c .before .next .given .1)) in search (l, needs)
 
-sub-answer : tie.Need-sub-answer
-sub-answer c = search needs
+sub-scan : tie.Need-sub-scan
+sub-scan c = search needs
 
-part-answer-start : tie.Need-part-answer-start
-part-answer-start c = search needs
+part-scan-start : tie.Need-part-scan-start
+part-scan-start c = search needs
 
-part-answer-end : tie.Need-part-answer-end
-part-answer-end c = let l = (object-lies (c .before .before .before .before .before .before .before .before .before .fetch .last .0) _ _ _ _ (c .before .before .before .before .step .ensures) (c .before .before .before .before .before .before .before .before .before .fetch .ensures .inside) _ _ (c .before .before .next .given .1)) in search (l, c .before .before .before .before .before .before .before .before .before .fetch .ensures .inside, needs)
+part-scan-end : tie.Need-part-scan-end
+part-scan-end c = let l = (object-lies (c .before .before .before .before .before .before .before .before .before .fetch .last .0) _ _ _ _ (c .before .before .before .before .step .ensures) (c .before .before .before .before .before .before .before .before .before .fetch .ensures .inside) _ _ (c .before .before .next .given .1)) in search (l, c .before .before .before .before .before .before .before .before .before .fetch .ensures .inside, needs)
 
-answer-requires : tie.Need-answer-requires
-answer-requires c κs = search needs
+scan-requires : tie.Need-scan-requires
+scan-requires c κs = search needs
 
 sub-passed : tie.Need-sub-passed
 sub-passed c = let l = (object-lies (c .before .before .before .before .before .before .before .before .before .before .before .fetch .last .0) _ _ _ _ (c .before .before .before .before .before .before .step .ensures) (c .before .before .before .before .before .before .before .before .before .before .before .fetch .ensures .inside) _ _ (c .before .before .before .before .next .given .1)) in omega (arith, l .low)
@@ -98,10 +98,10 @@ one-object-spec =
     step-requires
     enum-known-next
     add-end
-    sub-answer
-    part-answer-start
-    part-answer-end
-    answer-requires
+    sub-scan
+    part-scan-start
+    part-scan-end
+    scan-requires
     sub-passed
     passed-requires
     wrapping-add-usize-requires
