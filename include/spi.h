@@ -36,7 +36,7 @@ extern "C" {
  * bits 47 to 40   SPI_BAD_VALUE alone: the field of a time that is wrong, 0 for a value of another kind
  * bits 39 to 0    the place of the refusal in its object; where there is none, the call's count
  *
- * Where there is no refusal, bits 55 to 40 are, of spi_read alone, the number of items that it judged.
+ * Where there is no refusal, bits 55 to 40 are, of spi_read and spi_scan, the number of items that they judged.
  */
 enum spi_refusal {
     SPI_OK = 0,
@@ -92,8 +92,8 @@ static inline size_t spi_value(uint64_t answer)
     return (size_t)(answer & 0xFFFFFFFFFF);
 }
 
-/* How many items `spi_read` judged, known and unknown, those inside unknown ones left out: at most half the object's
- * octets.  0 after a refusal; the other calls count none. */
+/* How many items `spi_read` or `spi_scan` judged, known and unknown, those inside unknown ones left out: at most half the
+ * object's octets.  0 after a refusal; the other calls count none. */
 static inline size_t spi_items(uint64_t answer)
 {
     return answer >> 56 ? 0 : (size_t)(answer >> 40 & 0xFFFF);
@@ -128,6 +128,10 @@ uint64_t spi_read(const uint8_t *object, size_t octets,
                   uint16_t *parents, size_t parents_count,
                   uint16_t *starts, size_t starts_count,
                   uint16_t *sizes, size_t sizes_count);
+
+/* Reads an object with no list: its answer is that of spi_read lent lists long enough, for every input.  Refused by 1
+ * to 13, and never by 14; the count is that of the records.  For receivers that can't lend lists. */
+uint64_t spi_scan(const uint8_t *object, size_t octets);
 
 /* Where the body of a record lies: the start in bits 63 to 32, the size in bits 31 to 0.  Both are 0
  * where the lists have no such record or the object no such part; nothing is refused. */

@@ -291,6 +291,11 @@ static uint64_t call_read(void)
     return spi_read(OCTETS(FIRST), LISTS);
 }
 
+static uint64_t call_scan(void)
+{
+    return spi_scan(OCTETS(FIRST));
+}
+
 static uint64_t call_normalise(void)
 {
     return spi_normalise(OCTETS(FIRST), LISTS, NUMBERS(BODIES), OCTETS(STORE), OCTETS(ROOM));
@@ -437,8 +442,13 @@ static void print_xml(uint64_t answer)
 /* By `read`, which has filled the lists. */
 static void print_counts(uint64_t answer)
 {
-    hand_out_lists(spi_value(answer));
     printf("records %zu headers %zu\n", spi_value(answer), spi_items(answer));
+}
+
+static void print_read_counts(uint64_t answer)
+{
+    hand_out_lists(spi_value(answer));
+    print_counts(answer);
 }
 
 static void print_yes(uint64_t answer)
@@ -493,7 +503,8 @@ struct letter {
 
 static const struct letter letters[] = {
     {'L', {take_places, take_object}, call_read, print_listing},
-    {'C', {take_places, take_object}, call_read, print_counts},
+    {'C', {take_places, take_object}, call_read, print_read_counts},
+    {'J', {take_object}, call_scan, print_counts},
     {'N', {take_places, take_store, take_room, take_object}, call_normalise, print_normal},
     {'W', {take_count, take_records, take_room, take_object}, call_write, print_written},
     {'S', {take_object, take_second_object}, call_same, print_same},

@@ -17,7 +17,8 @@ use Rattle.format.specs.declared.EditAnswer.{EditAnswer}
 use Rattle.format.specs.declared.WriteAnswer.{WriteAnswer}
 use Rattle.format.specs.declared.SameAnswer.{SameAnswer}
 use Rattle.format.specs.Answers.{readOutcome, editOutcome, writeOutcome, sameOutcome}
-use Rattle.format.specs.Calls.{Lists, places, ReadClaim, spanOf, editAnswer}
+use Rattle.format.specs.Headers.{headersOf}
+use Rattle.format.specs.Calls.{Lists, places, judgeAnswer, ReadClaim, spanOf, editAnswer}
 use Rattle.format.specs.Judge.{judge, Judged}
 use Rattle.format.specs.Same.{sameAnswer}
 use Rattle.format.specs.State.{Memory, treeIn, treeHeld}
@@ -30,8 +31,8 @@ use Rattle.pocket.specs.Table.{dataType}
 use Rattle.pocket.specs.Gate.{gateOutcome, gateOf}
 use Rattle.xml.specs.Export.{Exported, exportOf, exportAnswer, exportOctets, ExportClaim}
 use Rattle.xml.specs.Export.Exported.{refuses, shows}
-use Rattle.spi_c.specs.Claims.{ReadsC, WritesC, NormalisesC, LeavesC, WritesStateC, GatesC, SameC, roomFor, ExportsC}
-use Rattle.spi_c.proofs.Told.{Told, told-small, told-same-small, read-told, write-told, normal-told, same-told, gate-told, export-told}
+use Rattle.spi_c.specs.Claims.{ReadsC, ScansC, WritesC, NormalisesC, LeavesC, WritesStateC, GatesC, SameC, roomFor, ExportsC}
+use Rattle.spi_c.proofs.Told.{Told, told-small, told-same-small, read-told, scan-told, write-told, normal-told, same-told, gate-told, export-told}
 
 -- an answer is known, and with it its outcome and the number
 module _ {A O : Type 0} (outcome : A → O) (answer known : A) (e : answer ≡ known) (o : O) (told : o ≡ outcome answer) where
@@ -50,6 +51,13 @@ module _ (object : List ℕ) (before after : Lists) (answer : ReadAnswer) (claim
 
   pub read-says : (a : ℕ) → a ≡ packedOutcome o → ReadsC object before after a
   read-says a h = record { answers = outcome-packed readOutcome _ _ (claim .answers) o told packedOutcome a h; leaves = record { answers = refl; leaves = claim .leaves } }
+
+module _ (object : List ℕ) (answer : ReadAnswer) (claim : answer ≡ judgeAnswer (headersOf object) (judge object)) (o : Outcome) (told : o ≡ readOutcome answer) where
+  pub scan-small : Small o
+  scan-small = outcome-is readOutcome _ _ claim o told Small (told-small (scan-told object))
+
+  pub scan-says : (a : ℕ) → a ≡ packedOutcome o → ScansC object a
+  scan-says a h = record { answers = outcome-packed readOutcome _ _ claim o told packedOutcome a h }
 
 module _ (n : ℕ) (m : Memory) (bodies′ before after : List ℕ) (answer : WriteAnswer) (claim : WriteClaim n m bodies′ before after answer) (o : Outcome) (told : o ≡ writeOutcome answer) where
   pub write-small : Small o

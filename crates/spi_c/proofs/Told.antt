@@ -26,7 +26,7 @@ use Rattle.format.specs.Judge.{Judged, rule, unless, outermost, read, judge}
 use Rattle.format.specs.Judge.Judged.{refused, accepted}
 use Rattle.format.specs.Meaning.{means, meaningOf, encode, normalOf}
 use Rattle.format.specs.Loaded.{storeOf}
-use Rattle.format.specs.Calls.{countsOf, readAnswer, editAnswer, roomy, writeAnswer, Lent, storedWithin, fitsLent, misfit, normalAnswer}
+use Rattle.format.specs.Calls.{countsOf, judgeAnswer, readAnswer, editAnswer, roomy, writeAnswer, Lent, storedWithin, fitsLent, misfit, normalAnswer}
 use Rattle.format.specs.Same.{sameMeaning, sameAnswer}
 use Rattle.format.specs.State.{Memory, treeHeld}
 use Rattle.format.proofs.Headers.{few-headers, few}
@@ -142,17 +142,29 @@ late-refusal : (n : ℕ) → 1 ≤ n → n ≤ 18 → Kept (refusal n 0)
 late-refusal n l m = record { least = l; most = omega arith; place = omega arith; field = omega arith }
 
 -- ---- read
+counts-told : (o : List ℕ) (t : Items) → judge o ≡ accepted t → Told (readOutcome (Records (countsOf (headersOf o) t)))
+counts-told o t h = counts (count t) (headersOf o) (omega (arith, accepted-few o t h)) (omega (arith, few-headers o t h .half, accepted-size o t h .1))
+
 read-cases : (n : ℕ) (o : List ℕ) (j : Judged) → judge o ≡ j → Told (readOutcome (readAnswer n (headersOf o) j))
 unfolding readAnswer
 read-cases n o (refused r) h = refuses r (judged-kept o r h)
 read-cases n o (accepted t) h = go (leb (count t) n)
   where
     go : (b : Bool) → Told (readOutcome (cond b (Records (countsOf (headersOf o) t)) (NotRead (refusal 14 0))))
-    go true = counts (count t) (headersOf o) (omega (arith, accepted-few o t h)) (omega (arith, few-headers o t h .half, accepted-size o t h .1))
+    go true = counts-told o t h
     go false = refuses (refusal 14 0) (late-refusal 14 (omega arith) (omega arith))
 
 pub read-told : (n : ℕ) (o : List ℕ) → Told (readOutcome (readAnswer n (headersOf o) (judge o)))
 read-told n o = read-cases n o (judge o) refl
+
+-- ---- scan
+scan-cases : (o : List ℕ) (j : Judged) → judge o ≡ j → Told (readOutcome (judgeAnswer (headersOf o) j))
+unfolding judgeAnswer
+scan-cases o (refused r) h = refuses r (judged-kept o r h)
+scan-cases o (accepted t) h = counts-told o t h
+
+pub scan-told : (o : List ℕ) → Told (readOutcome (judgeAnswer (headersOf o) (judge o)))
+scan-told o = scan-cases o (judge o) refl
 
 -- ---- write
 roomy-small : (room : OctetCount) (o : List ℕ) → roomy room o ≡ true → length o ≤ 32_768

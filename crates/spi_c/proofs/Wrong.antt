@@ -12,7 +12,7 @@ use Rattle.format.specs.declared.SameAnswer.the-variants.{Same, Different, Firs
 use Rattle.format.specs.Answers.{refusal, wrongValue, readOutcome, editOutcome, writeOutcome, sameOutcome}
 use Rattle.format.specs.Headers.{headersOf}
 use Rattle.format.specs.Judge.{judge}
-use Rattle.format.specs.Calls.{Lists, places, readAnswer, spanOf, writeAnswer, normalAnswer, editAnswer}
+use Rattle.format.specs.Calls.{Lists, places, judgeAnswer, readAnswer, spanOf, writeAnswer, normalAnswer, editAnswer}
 use Rattle.format.specs.Same.{sameAnswer}
 use Rattle.format.specs.State.{Memory, treeIn, treeHeld}
 use Rattle.state.specs.Taking.{lentBy, takenIn}
@@ -23,9 +23,9 @@ use Rattle.pocket.specs.Table.{dataType}
 use Rattle.pocket.specs.Gate.{gateOutcome, gateOf}
 use Rattle.xml.specs.Export.{exportOf, exportAnswer}
 use Rattle.spi_c.specs.Packed.{packed, packedOutcome, outcomeIn, packedSame, sameIn, packedSpan, spanIn}
-use Rattle.spi_c.specs.Claims.{ReadsC, SpansC, WritesC, NormalisesC, TakesInC, EditsC, WritesStateC, GatesC, SameC, roomFor, ExportsC}
+use Rattle.spi_c.specs.Claims.{ReadsC, ScansC, SpansC, WritesC, NormalisesC, TakesInC, EditsC, WritesStateC, GatesC, SameC, roomFor, ExportsC}
 use Rattle.spi_c.proofs.Packing.{span-back}
-use Rattle.spi_c.proofs.Told.{told-back, told-same-back, read-told, write-told, normal-told, taken-told, edit-told, same-told, gate-told, export-told}
+use Rattle.spi_c.proofs.Told.{told-back, told-same-back, read-told, scan-told, write-told, normal-told, taken-told, edit-told, same-told, gate-told, export-told}
 use Rattle.spi_c.proofs.Calls.{span-small}
 
 -- ---- each call's number, read back
@@ -56,6 +56,9 @@ write-state-back n m before after a c = ap outcomeIn (c .answers) ∙ told-back 
 
 pub same-back : (a b : List ℕ) (n : ℕ) → SameC a b n → sameIn n ≡ sameOutcome (sameAnswer (judge a) (judge b))
 same-back a b n c = ap sameIn (c .answers) ∙ told-same-back (same-told a b)
+
+pub scan-back : (object : List ℕ) (a : ℕ) → ScansC object a → outcomeIn a ≡ readOutcome (judgeAnswer (headersOf object) (judge object))
+scan-back object a c = ap outcomeIn (c .answers) ∙ told-back (scan-told object)
 
 pub gate-back : (object : List ℕ) (number a : ℕ) → GatesC object number a → outcomeIn a ≡ gateOutcome (gateOf (dataType number) object)
 gate-back object number a c = ap outcomeIn (c .answers) ∙ told-back (gate-told (dataType number) object)

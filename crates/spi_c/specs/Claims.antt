@@ -9,7 +9,7 @@ use Rattle.octets.specs.Counts.{asOctets, sizeOf}
 use Rattle.format.specs.Answers.{readOutcome, editOutcome, writeOutcome, sameOutcome}
 use Rattle.format.specs.Judge.{judge, Judged}
 use Rattle.format.specs.Headers.{headersOf}
-use Rattle.format.specs.Calls.{Lists, places, readAnswer, ReadClaim, spanOf, writeAnswer, normalAnswer, editAnswer}
+use Rattle.format.specs.Calls.{Lists, places, judgeAnswer, readAnswer, ReadClaim, spanOf, writeAnswer, normalAnswer, editAnswer}
 use Rattle.format.specs.Same.{sameAnswer}
 use Rattle.format.specs.State.{Memory, treeIn, treeHeld}
 use Rattle.state.specs.Taking.{lentBy, NormaliseClaim, takenIn, Leaves, WriteClaim, WriteStateClaim}
@@ -23,6 +23,10 @@ use Rattle.spi_c.specs.Packed.{packedOutcome, packedSame, packedSpan}
 pub record ReadsC (object : List ℕ) (before after : Lists) (a : ℕ) : Type 0 where
   pub answers : a ≡ packedOutcome (readOutcome (readAnswer (places before) (headersOf object) (judge object)))
   pub leaves : ReadClaim object before after (readAnswer (places before) (headersOf object) (judge object))
+
+-- reading with no list (change request 2026-14)
+pub record ScansC (object : List ℕ) (a : ℕ) : Type 0 where
+  pub answers : a ≡ packedOutcome (readOutcome (judgeAnswer (headersOf object) (judge object)))
 
 pub record SpansC (object starts sizes : List ℕ) (number a : ℕ) : Type 0 where
   pub answers : a ≡ packedSpan (spanOf object starts sizes number)

@@ -6,7 +6,7 @@ ghost use Rattle.format.specs.Lent.{lent};
 ghost use Rattle.spi_c.specs.Packed.{packed, packedOutcome, packedSame, packedSpan, Small, SmallSame, SmallSpan};
 ghost use Rattle.state.specs.Taking.{memory};
 ghost use Rattle.edits.specs.Tree.Edit.{replace, remove, insert};
-ghost use Rattle.spi_c.specs.Claims.{ReadsC, SpansC, WritesC, NormalisesC, TakesInC, EditsC, WritesStateC, GatesC, SameC, ExportsC};
+ghost use Rattle.spi_c.specs.Claims.{ReadsC, ScansC, SpansC, WritesC, NormalisesC, TakesInC, EditsC, WritesStateC, GatesC, SameC, ExportsC};
 use format::Outcome;
 use format::SameOutcome;
 use format::Span;
@@ -68,6 +68,15 @@ pub extern "C" fn spi_read(
     ensures { λ r. ⌜ ReadsC (now (object .entry)) (lent (tags .entry) (kinds .entry) (depths .entry) (parents .entry) (starts .entry) (sizes .entry)) (lent (tags .exit) (kinds .exit) (depths .exit) (parents .exit) (starts .exit) (sizes .exit)) r ⌝ }
 {
     let answer = reader::read(object, tags, kinds, depths, parents, starts, sizes);
+    packed_outcome(answer.outcome())
+}
+
+// How many records and headers an object has, with no list: the answer of `spi_read` lent lists long enough.
+#[no_mangle]
+pub extern "C" fn spi_scan(object: &[u8]) -> u64
+    ensures { λ r. ⌜ ScansC (now (object .entry)) r ⌝ }
+{
+    let answer = scan::scan(object);
     packed_outcome(answer.outcome())
 }
 
