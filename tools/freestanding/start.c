@@ -1,13 +1,25 @@
 /*
- * As much of C's library as the C programs here call, over the system calls of Linux on x86-64, for a machine
- * where no C compiler is but the kit's clang, which has neither headers nor a library (tools/compile-c).
+ * As much of C's library as the C programs here call, over the system calls of Linux on x86-64 and on 64-bit Arm, for a
+ * machine where no C compiler is but the kit's clang, which has neither headers nor a library (tools/compile-c).
  */
 #include <stdbool.h>
 #include <stdint.h>
 #include <stdio.h>
 #include <string.h>
 
-enum { READ = 0, WRITE = 1, OPEN = 2, CLOSE = 3, EXIT = 60, BUFFER = 65536 };
+enum { BUFFER = 65536 };
+
+#ifdef __aarch64__
+enum { READ = 63, WRITE = 64, OPEN_AT = 56, CLOSE = 57, EXIT = 93 };
+
+static long call(long number, long a, long b, long c)
+{
+    register long which __asm__("x8") = number, first __asm__("x0") = a, second __asm__("x1") = b, third __asm__("x2") = c;
+    __asm__ volatile("svc 0" : "+r"(first) : "r"(which), "r"(second), "r"(third) : "memory");
+    return first;
+}
+#else
+enum { READ = 0, WRITE = 1, OPEN_AT = 257, CLOSE = 3, EXIT = 60 };
 
 static long call(long number, long a, long b, long c)
 {
@@ -15,6 +27,7 @@ static long call(long number, long a, long b, long c)
     __asm__ volatile("syscall" : "=a"(answer) : "a"(number), "D"(a), "S"(b), "d"(c) : "rcx", "r11", "memory");
     return answer;
 }
+#endif
 
 /* ---- Memory; nothing in a loop may be made a call of the function that it is in: -fno-builtin ---- */
 
@@ -67,13 +80,15 @@ struct file {
     uint8_t buffer[BUFFER];
 };
 
+enum { HERE = -100 }; /* names are told from the folder that the program runs in */
+
 static struct file in = {.number = 0}, out = {.number = 1}, errors = {.number = 2}, opened;
 FILE *const stdin = &in, *const stdout = &out, *const stderr = &errors;
 
 FILE *fopen(const char *name, const char *mode)
 {
     (void)mode;
-    opened = (struct file){.number = call(OPEN, (long)name, 0, 0)};
+    opened = (struct file){.number = call(OPEN_AT, HERE, (long)name, 0)};
     return opened.number < 0 ? NULL : &opened;
 }
 
@@ -201,4 +216,8 @@ __attribute__((used)) static void start(long *stack)
     call(EXIT, status, 0, 0);
 }
 
+#ifdef __aarch64__
+__asm__(".globl _start\n_start: mov x29, xzr\n mov x30, xzr\n mov x0, sp\n bl start\n");
+#else
 __asm__(".globl _start\n_start: xor %ebp, %ebp\n mov %rsp, %rdi\n and $-16, %rsp\n call start\n");
+#endif
