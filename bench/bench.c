@@ -88,6 +88,12 @@ static uint64_t read_by_second(const struct file *object, const struct file *oth
     return verdict.number == ACCEPTED ? first_tree.count : UINT64_MAX;
 }
 
+static uint64_t scan_by_library(const struct file *object, const struct file *other)
+{
+    (void)other;
+    return spi_value(spi_scan(object->octets, object->size));
+}
+
 static uint64_t normalise_by_library(const struct file *object, const struct file *other)
 {
     (void)other;
@@ -222,6 +228,7 @@ static uint64_t make_anew_by_library(const struct file *object, const struct fil
     return spi_refused(normalise_by_library(object, other));
 }
 
+ON_EACH(library_scan, scan_by_library)
 ON_EACH(library_edit, edit_by_library)
 ON_EACH(library_edit_and_write, edit_and_write_by_library)
 ON_EACH(library_anew, make_anew_by_library)
@@ -236,6 +243,7 @@ struct calls {
 };
 
 static const struct calls reading = {2, {library_read, second_read}};
+static const struct calls scanning = {2, {library_scan, second_read}};
 static const struct calls normalising = {2, {library_normalise, second_normalise}};
 static const struct calls comparing = {2, {library_same, second_same}};
 static const struct calls exporting = {2, {library_export, second_export}};
@@ -477,6 +485,13 @@ static void compare_export(const char *folder, const char *name, const char *lab
     compare(label, object_octets, &exporting);
 }
 
+/* Reading with no list, against the second program's reading, which makes a tree. */
+static void compare_scan(const char *folder, const char *name, const char *label)
+{
+    load_all(folder, name, name);
+    compare(label, object_octets, &scanning);
+}
+
 /* The small receiver's gate, which lets all of these objects pass: an offender would end the look. */
 static void compare_gate(const char *folder)
 {
@@ -539,7 +554,7 @@ static void repeat_call(const char *folder, const char *name, const char *of, un
     static const struct {
         const char *name;
         call called;
-    } calls[] = {{"library_read", library_read}, {"second_read", second_read}, {"library_normalise", library_normalise},
+    } calls[] = {{"library_read", library_read}, {"second_read", second_read}, {"library_scan", library_scan}, {"library_normalise", library_normalise},
                  {"second_normalise", second_normalise}, {"library_same", library_same}, {"second_same", second_same},
                  {"library_export", library_export}, {"second_export", second_export}, {"library_gate", library_gate},
                  {"second_gate", second_gate}, {"library_edit", library_edit},
@@ -572,6 +587,8 @@ int main(int count, char **arguments)
     compare_export(folder, "named", "export day");
     compare_export(folder, "numbers", "export small");
     compare_gate(folder);
+    compare_scan(folder, "day", "scan day");
+    compare_scan(folder, "small", "scan small");
     repeat_text("The news at one, and then the weather for the coast. ");
     compare("text English", text_octets, &checking);
     repeat_text("Le café de São João à Łódź, avec Jürgen. ");
