@@ -13,3 +13,4 @@ pub mod Edits
 pub mod Requests
 pub mod Lengths
 pub mod Shortest
+pub mod Recordings

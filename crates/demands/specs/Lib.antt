@@ -11,3 +11,4 @@ pub mod Requests
 pub mod Headers
 pub mod Lengths
 pub mod Shortest
+pub mod Recordings

@@ -20,13 +20,13 @@ use Rattle.state.specs.Taking.{WriteClaim, NormaliseClaim, TakeInClaim, WriteSt
 use Rattle.edits.specs.Tree.{Edit}
 use Rattle.edits.specs.Calls.{EditClaim}
 use Rattle.xml.specs.Export.{ExportClaim}
-use Rattle.spi_c.specs.Claims.{ReadsC, SpansC, WritesC, NormalisesC, TakesInC, EditsC, WritesStateC, GatesC, SameC, ExportsC}
+use Rattle.spi_c.specs.Claims.{ReadsC, ScansC, SpansC, WritesC, NormalisesC, TakesInC, EditsC, WritesStateC, GatesC, SameC, ExportsC}
 
 -- every call whose claim is one equation for its answer; none of them is lent anything to write.
 -- octets: read_header, item_at, header_size, read_number. text: check, is_token, is_table, is_covered, weigh, expanded_size. values: is_attribute, known_kind,
 -- is_default, Time::take, valid, canonical, local, size, Bearer::take, valid, size, fits_kind, wrong_field, normal_size. format: kind_of, refuse, and outcome
 -- of ReadAnswer, EditAnswer, WriteAnswer, SameAnswer. tags: is_top, is_allowed, latest_of, stage_after, is_within_depth, is_short, has_bit, with_bit, listed_as,
--- holds_items, holds_text. judge: judge. reader: places, span, body. records: is_well_formed. survey: survey, find_item, find_first, table_of, written_as.
+-- holds_items, holds_text. judge: judge. scan: scan. recording: open, step. reader: places, span, body. records: is_well_formed. survey: survey, find_item, find_first, table_of, written_as.
 -- pocket: gate, data_type, outcome of GateAnswer. compare: same, is_normal, same_texts, same_bodies, same_octets, same_attribute, same_attributes, same_cdata, same_child, same_children. spi_c: spi_check_text.
 -- For body and table_of, which hand back a part of the caller's octets, the equation is for what the part holds
 abbrev pub OneAnswer : Type 1
@@ -154,6 +154,9 @@ abbrev pub OneWriteStateC : Type 0
 OneWriteStateC =
     (n : ℕ) (m : Memory) (before one other : List ℕ) (answer answer′ : ℕ) → WritesStateC n m before one answer → WritesStateC n m before other answer′
     → (answer ≡ answer′) × (one ≡ other)
+
+abbrev pub OneScanC : Type 0
+OneScanC = (object : List ℕ) (answer answer′ : ℕ) → ScansC object answer → ScansC object answer′ → answer ≡ answer′
 
 abbrev pub OneGateC : Type 0
 OneGateC = (object : List ℕ) (number : ℕ) (answer answer′ : ℕ) → GatesC object number answer → GatesC object number answer′ → answer ≡ answer′
