@@ -4,14 +4,19 @@ use mathlib.Core.Bool.{Bool, true, false, cond}
 use mathlib.Core.List.{List}
 use Prim.Native.Nat.{ℕ, _+_, _-_, _≤_, _<_}
 use native.Mathlib.Omega.{arith}
-use lib.Dec.{leb}
-use lib.ListN.{length, take, drop}
+use lib.Dec.{leb, ltb}
+use lib.ListN.{length, take, drop, length-take}
 use lib.Seq.{sets, length-take-le, length-sets}
-use borrow.Author.Tests.{leb-true}
+use borrow.Author.Tests.{leb-true, ltb-false}
 use Rattle.octets.specs.declared.Put.{Put}
 use Rattle.octets.specs.Puts.{Puts, putAnswer, putOut}
 use Rattle.recording.specs.declared.Next.{Next}
-use Rattle.recording.specs.Calls.{stepOf}
+use Rattle.octets.proofs.Tests.{never}
+use Rattle.format.specs.Answers.{refusal}
+use Rattle.format.specs.Same.{sameOctets}
+use Rattle.recording.specs.declared.Opened.{Opened}
+use Rattle.recording.specs.Recording.{mark}
+use Rattle.recording.specs.Calls.{openOf, stepOf}
 use Rattle.recording.proofs.Windows.{step-at}
 use Rattle.replay.specs.declared.stream.Window.{Window}
 use Rattle.replay.specs.declared.stream.Turn.{Turn}
@@ -53,6 +58,26 @@ object-lies input from to last r e h start size q =
     let b = s .2 in
     let l = length-take-le to input h in
     record { low = omega arith; high = omega arith }
+
+-- a recording that open begins has as many octets before its first size
+begins-within : (octets : List ℕ) (at : ℕ) → openOf octets ≡ Opened.Begins at → at ≤ length octets
+unfolding openOf
+begins-within octets at e = go (ltb (length octets) 5) (sameOctets (take 5 octets) mark) refl e
+  where
+    go : (short marked : Bool) → ltb (length octets) 5 ≡ short
+        → cond short (Opened.Refused (refusal 24 0)) (cond marked (Opened.Begins 5) (Opened.Refused (refusal 23 0))) ≡ Opened.Begins at → at ≤ length octets
+    go true marked s q = never cc
+    go false true s q = let z : 5 ≡ at = cc in omega (arith, ltb-false (length octets) 5 s)
+    go false false s q = never cc
+
+pub window-begins : (input : List ℕ) (w : Window) (at : ℕ) (r : Opened) → Standing (length input) w → r ≡ openOf (take (w .to - w .from) (drop (w .from) input)) → r ≡ Opened.Begins at
+    → w .from + at ≤ w .to
+window-begins input w at r s e q =
+    let l : length (take (w .to - w .from) (drop (w .from) input)) ≤ w .to - w .from = rw length-take (omega arith) in
+    omega (arith, s .rising, l, begins-within (take (w .to - w .from) (drop (w .from) input)) at (sym e ∙ q))
+
+pub passed-stands : (buffer : ℕ) (w v : Window) (size : ℕ) → Standing buffer w → w .from + size ≤ w .to → (v .from ≡ w .from + size) × (v .to ≡ w .to) → Standing buffer v
+passed-stands buffer w v size s h p = record { rising = omega (arith, p .0, p .1); inside = omega (arith, p .1, s .inside) }
 
 -- objects listed so far
 pub record Running (input₀ out₀ input out : List ℕ) (w : Window) (used : ℕ) : Type 0 where

@@ -107,12 +107,7 @@ fn replay(input: &mut [u8], out: &mut [u8]) -> usize
     let to = here.to;
     let opened = open(&input[from..to]);
     match opened {
-        Opened::Begins(at) => {
-            if at > to - from {
-                return 0;
-            }
-            list_all(input, out, passed(here, at))
-        }
+        Opened::Begins(at) => list_all(input, out, passed(here, at)),
         Opened::Refused(refusal) => say_file(out, 0, refusal),
     }
 }
