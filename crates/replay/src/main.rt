@@ -89,6 +89,7 @@ fn list_all(input: &mut [u8], out: &mut [u8], first: Window) -> usize
     used
 }
 
+// Where reading failed, nobody knows how the recording begins: nothing is told of that but on standard error.
 fn replay(input: &mut [u8], out: &mut [u8]) -> usize
     ensures { λ r. ⌜ r ≤ length (now (out .exit)) ⌝ }
 {
@@ -100,15 +101,17 @@ fn replay(input: &mut [u8], out: &mut [u8]) -> usize
         failed: false,
     };
     let here = fetch(input, none);
-    if here.failed {
-        return 0;
-    }
     let from = here.from;
     let to = here.to;
     let opened = open(&input[from..to]);
     match opened {
         Opened::Begins(at) => list_all(input, out, passed(here, at)),
-        Opened::Refused(refusal) => say_file(out, 0, refusal),
+        Opened::Refused(refusal) => {
+            if here.failed {
+                return 0;
+            }
+            say_file(out, 0, refusal)
+        }
     }
 }
 

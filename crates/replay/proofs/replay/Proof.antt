@@ -6,12 +6,6 @@ use Rattle.replay.proofs.replay.Tie as tie
 fetch-requires : tie.Need-fetch-requires
 fetch-requires c κs = search needs
 
-same-length : tie.Need-same-length
-same-length c = search needs
-
-returns : tie.Need-returns
-returns c = search needs
-
 sub-open : tie.Need-sub-open
 sub-open c = search needs
 
@@ -28,13 +22,19 @@ enum-known-opened : tie.Need-enum-known-opened
 enum-known-opened c = search needs
 
 passed-requires : tie.Need-passed-requires
-passed-requires c κs = window-begins (c .before .before .before .before .before .before .before .before .before .before .before .fetch .last .0) _ _ _ (c .before .before .before .before .before .before .before .before .before .before .before .fetch .ensures) (c .before .before .before .before .before .open .ensures) (c .before .before .before .opened .given .1)
+passed-requires c κs = window-begins (c .before .before .before .before .before .before .before .before .before .before .fetch .last .0) _ _ _ (c .before .before .before .before .before .before .before .before .before .before .fetch .ensures) (c .before .before .before .before .before .open .ensures) (c .before .before .before .opened .given .1)
 
 list-all-requires : tie.Need-list-all-requires
-list-all-requires c κs = passed-stands _ _ _ _ (c .before .before .before .before .before .before .before .before .before .before .before .before .fetch .ensures) (window-begins (c .before .before .before .before .before .before .before .before .before .before .before .before .fetch .last .0) _ _ _ (c .before .before .before .before .before .before .before .before .before .before .before .before .fetch .ensures) (c .before .before .before .before .before .before .open .ensures) (c .before .before .before .before .opened .given .1)) (c .passed .ensures)
+list-all-requires c κs = passed-stands _ _ _ _ (c .before .before .before .before .before .before .before .before .before .before .before .fetch .ensures) (window-begins (c .before .before .before .before .before .before .before .before .before .before .before .fetch .last .0) _ _ _ (c .before .before .before .before .before .before .before .before .before .before .before .fetch .ensures) (c .before .before .before .before .before .before .open .ensures) (c .before .before .before .before .opened .given .1)) (c .passed .ensures)
 
 enum-known-opened-2 : tie.Need-enum-known-opened-2
 enum-known-opened-2 c = search needs
+
+same-length : tie.Need-same-length
+same-length c = search needs
+
+returns : tie.Need-returns
+returns c = search needs
 
 say-file-requires : tie.Need-say-file-requires
 say-file-requires c κs = search needs
@@ -62,8 +62,6 @@ replay-spec =
     tie.close
     (tie.spec
     fetch-requires
-    same-length
-    returns
     sub-open
     part-open-start
     part-open-end
@@ -72,6 +70,8 @@ replay-spec =
     passed-requires
     list-all-requires
     enum-known-opened-2
+    same-length
+    returns
     say-file-requires
     same-length-2
     same-length-3
