@@ -1,0 +1,14 @@
+pub mod Keys
+pub mod Equal
+pub mod Empty
+pub mod Fine
+pub mod Basic
+pub mod Self
+pub mod Advanced
+pub mod Comes
+pub mod Pure
+pub mod Octets
+pub mod Sizes
+pub mod Results
+pub mod Cases
+pub mod Vectors
