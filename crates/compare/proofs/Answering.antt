@@ -85,7 +85,7 @@ module _ (es fs : Entries) (h : (o : List ℕ) → expanded es o ≡ expanded fs
   means-same (item tag at body t u) = means-item tag at body t u (means-same t) (means-same u)
 
 -- under the table that is found in an accepted object, and its index, the object means what it means
-found-means : (o : List ℕ) (t : Items) (table index : List ℕ) → judge o ≡ accepted t → table ≡ tableBody o → Indexes (entries table) index → means (entriesBy index table) t ≡ meaningOf t
+pub found-means : (o : List ℕ) (t : Items) (table index : List ℕ) → judge o ≡ accepted t → table ≡ tableBody o → Indexes (entries table) index → means (entriesBy index table) t ≡ meaningOf t
 found-means o t table index h e x =
     means-same (entriesBy index table) (entries table) (indexed-expanded table index x) t ∙ ap (λ es. means es t) (ap entries e ∙ table-told o t h)
 

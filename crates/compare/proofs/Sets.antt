@@ -177,7 +177,7 @@ module _ (parent tag : ℕ) (kind : Kind) (own : known parent tag ≡ some kind)
   here : Sought o tag (spanOfTag tag o)
   here = span-says o tag (spanOfTag tag o) refl
 
-  found-body : find tag t ≡ bodyOfTag tag o
+  pub found-body : find tag t ≡ bodyOfTag tag o
   unfolding isKnown
   found-body = go (spanOfTag tag o) refl
     where
@@ -208,7 +208,7 @@ module _ (parent tag : ℕ) (kind : Kind) (own : known parent tag ≡ some kind)
       go (some c) h = by c (defaultOctets parent tag c) h
 
   -- what counts means the attribute's value
-  counted-means : (T : Entries) → attribute tag ≡ true → attributesIn T parent t tag ≡ Option·map (meant T kind) (countedOfTag parent tag o)
+  pub counted-means : (T : Entries) → attribute tag ≡ true → attributesIn T parent t tag ≡ Option·map (meant T kind) (countedOfTag parent tag o)
   unfolding attributesIn valueIn counted countedOfTag countedBody
   counted-means T a = rw (a, found-body, own) (go (bodyOfTag tag o) refl)
     where
@@ -230,7 +230,7 @@ same-meant es fs k (some x) none f g = refl
 same-meant es fs k (some x) (some y) f g = rw (f x refl, g y refl)
 
 module _ (parent tag : ℕ) (es : Entries) (a : List ℕ) (fs : Entries) (b : List ℕ) where
-  attribute-says : SameAttribute parent tag es a fs b (sameFound es fs (known parent tag) (countedOfTag parent tag a) (countedOfTag parent tag b))
+  pub attribute-says : SameAttribute parent tag es a fs b (sameFound es fs (known parent tag) (countedOfTag parent tag a) (countedOfTag parent tag b))
   unfolding SameAttribute sameFound sameMaybe
   attribute-says y d e i j t u x z = go (known parent tag) refl
     where

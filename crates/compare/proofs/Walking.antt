@@ -5,7 +5,7 @@ use mathlib.Core.Option.{Option, none, some}
 use mathlib.Core.List.{List, [], _∷_}
 use Prim.Native.Nat.{ℕ, zero, suc, _+_, _-_, _≤_, _<_}
 use native.Mathlib.Omega.{arith}
-use lib.ListN.{length, drop, getD, drop-of-length-le}
+use lib.ListN.{length, drop, getD, drop-of-length-le, length-drop}
 use borrow.Author.Tests.{eq-eqb, ne-eqb, le-leb}
 use Rattle.octets.specs.Header.{headerSize, bodySize}
 use Rattle.octets.specs.declared.Lies.{Lies}
@@ -31,8 +31,9 @@ use Rattle.tags.proofs.Listing.{is-nothing, is-inside, is-value}
 use Rattle.judge.proofs.AllWays.{tokens-four}
 use Rattle.reader.specs.Filling.{Accepts, share}
 use Rattle.reader.proofs.Opening.{Opened, fits-in, opened, opened-end}
+use Rattle.compare.specs.declared.walks.Child.{Child}
 use Rattle.compare.specs.declared.walks.Child.the-variants.{End, Found}
-use Rattle.compare.specs.Walks.{isMeant, childrenWithin, childrenIn, Children}
+use Rattle.compare.specs.Walks.{isMeant, childrenWithin, childrenIn, childWithin, childFrom, Children, NextChild}
 
 -- ---- is_meant
 
@@ -148,29 +149,69 @@ children-step (x ∷ rest) = go (isWhole s) refl
     go false q = refl
     go true q = let l = fewer-after s q in ap (childStep s true) (children-enough (length rest) (length (afterFirst s)) (afterFirst s) (omega arith) (omega arith))
 
+-- ---- where the first of them lies
+
+abbrev nextStep : ℕ → List ℕ → Bool → Child → Child
+nextStep at s b later = cond b (cond (isMeant (getD s 0 0)) (Found at (at + headerSize s) (at + headerSize s + bodySize s)) later) End
+
+child-enough : (n m at : ℕ) (s : List ℕ) → length s ≤ n → length s ≤ m → childWithin n at s ≡ childWithin m at s
+unfolding childWithin
+child-enough zero zero at s h k = refl
+child-enough zero (suc m) at s h k = rw (none-whole s h)
+child-enough (suc n) zero at s h k = rw (none-whole s k)
+child-enough (suc n) (suc m) at s h k = go (isWhole s) refl (λ l. child-enough n m (at + headerSize s + bodySize s) (afterFirst s) (omega arith) (omega arith))
+  where
+    to : ℕ
+    to = at + headerSize s + bodySize s
+
+    go : (b : Bool) → isWhole s ≡ b → (length (afterFirst s) < length s → childWithin n to (afterFirst s) ≡ childWithin m to (afterFirst s))
+        → nextStep at s b (childWithin n to (afterFirst s)) ≡ nextStep at s b (childWithin m to (afterFirst s))
+    go false q later = refl
+    go true q later = ap (nextStep at s true) (later (fewer-after s q))
+
+child-step : (n at : ℕ) (s : List ℕ) → length s ≤ n → childWithin n at s ≡ nextStep at s (isWhole s) (childWithin n (at + headerSize s + bodySize s) (afterFirst s))
+unfolding childWithin
+child-step zero at s h = rw (none-whole s h)
+child-step (suc n) at s h = go (isWhole s) refl
+  where
+    to : ℕ
+    to = at + headerSize s + bodySize s
+
+    go : (b : Bool) → isWhole s ≡ b → nextStep at s b (childWithin n to (afterFirst s)) ≡ nextStep at s b (childWithin (suc n) to (afterFirst s))
+    go false q = refl
+    go true q = let l = fewer-after s q in ap (nextStep at s true) (child-enough n (suc n) to (afterFirst s) (omega arith) (omega arith))
+
 -- ---- next_child
 
 -- no child element stands between two places
 pub record Skips (part : List ℕ) (at i : ℕ) : Type 0 where
   pub onward : at ≤ i
   pub same : childrenIn (drop at part) ≡ childrenIn (drop i part)
+  pub first : childFrom part at ≡ childFrom part i
 
 module _ (part : List ℕ) (at : ℕ) where
   pub skip-begin : Skips part at at
-  skip-begin = record { onward = omega arith; same = refl }
+  skip-begin = record { onward = omega arith; same = refl; first = refl }
 
   module _ (i : ℕ) (inv : Skips part at i) where
-    pub skip-ended : length part ≤ i → Children part at End
+    first-at : childFrom part at ≡ nextStep i (drop i part) (isWhole (drop i part)) (childWithin (length part) (i + headerSize (drop i part) + bodySize (drop i part)) (afterFirst (drop i part)))
+    unfolding childFrom
+    first-at = inv .first ∙ child-step (length part) i (drop i part) (omega (arith, length-drop i part))
+
+    pub skip-ended : length part ≤ i → NextChild part at End
     unfolding Children
-    skip-ended h = inv .same ∙ ap childrenIn (drop-of-length-le part h) ∙ children-none
+    skip-ended h = record {
+      is = sym (first-at ∙ rw (none-whole (drop i part) (omega (arith, length-drop i part))));
+      tells = inv .same ∙ ap childrenIn (drop-of-length-le part h) ∙ children-none;
+    }
 
     module _ (h : i < length part) (r : Lies) (re : r ≡ liesAt part i) where
       child-at : childrenIn (drop at part) ≡ childStep (drop i part) (isWhole (drop i part)) (childrenIn (afterFirst (drop i part)))
       child-at = inv .same ∙ children-step (drop i part)
 
-      pub skip-outside : r ≡ Outside → Children part at End
+      pub skip-outside : r ≡ Outside → NextChild part at End
       unfolding Children
-      skip-outside q = child-at ∙ rw (not-whole part i r re q)
+      skip-outside q = record { is = sym (first-at ∙ rw (not-whole part i r re q)); tells = child-at ∙ rw (not-whole part i r re q) }
 
       module _ (from to : ℕ) (q : r ≡ Between from to) where
         here : Lying part i from to
@@ -189,14 +230,22 @@ module _ (part : List ℕ) (at : ℕ) where
         child-in =
             child-at ∙ rw (le-leb (headerSize (drop i part) + bodySize (drop i part)) (length (drop i part)) (here .inside), tag-is here (omega arith), body-is here (omega arith), later-is here (omega arith))
 
+        first-in : childFrom part at ≡ cond (isMeant tag) (Found i from to) (childFrom part to)
+        unfolding childFrom
+        first-in =
+            first-at
+            ∙ rw (le-leb (headerSize (drop i part) + bodySize (drop i part)) (length (drop i part)) (here .inside), tag-is here (omega arith), later-is here (omega arith), ← (here .ends), ← (here .begins))
+
         module _ (b : Bool) (be : b ≡ isMeant tag) where
-          pub skip-found : b ≡ true → Children part at (Found i from to)
+          pub skip-found : b ≡ true → NextChild part at (Found i from to)
           unfolding Children
-          skip-found bq =
-              record { begins = h; ordered = edges .1; inside = edges .2; onward = omega (arith, edges, inv .onward); children = child-in ∙ rw (sym be ∙ bq) }
+          skip-found bq = record {
+            is = sym (first-in ∙ rw (sym be ∙ bq));
+            tells = record { begins = h; ordered = edges .1; inside = edges .2; onward = omega (arith, edges, inv .onward); children = child-in ∙ rw (sym be ∙ bq) };
+          }
 
           pub skip-again : b ≡ false → Skips part at to
-          skip-again bq = record { onward = omega (arith, edges, inv .onward); same = child-in ∙ rw (sym be ∙ bq) }
+          skip-again bq = record { onward = omega (arith, edges, inv .onward); same = child-in ∙ rw (sym be ∙ bq); first = first-in ∙ rw (sym be ∙ bq) }
 
 pub ruleset skip-ways = (skip-begin, skip-ended, skip-outside, skip-nearer, skip-found, skip-again)
 

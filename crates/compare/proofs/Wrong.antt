@@ -8,6 +8,7 @@ use native.Mathlib.Omega.{arith}
 use lib.ListN.{getD}
 use Rattle.octets.specs.Numbers.{among, value, digits}
 use Rattle.octets.specs.Header.{headerSize, bodySize}
+use Rattle.octets.specs.declared.Lies.the-variants.{Outside, Between}
 use Rattle.octets.proofs.Tests.{never}
 use Rattle.text.specs.Text.{layout, token}
 use Rattle.text.specs.Tokens.{Entries, entry, orItself, stands, expanded}
@@ -26,8 +27,9 @@ use Rattle.format.specs.Same.{sameOctets, sameValue, sameMaybe, sameAnswer, isN
 use Rattle.survey.specs.Places.{spanWithin, spanOfTag, bodyBy, bodyOfTag}
 use Rattle.compare.specs.Normal.{isWritten}
 use Rattle.compare.specs.Bodies.{sameBody}
-use Rattle.compare.specs.Walks.{childrenWithin, childrenIn}
-use Rattle.compare.specs.Items.{countedBody, countedOfTag, sameFound, sameFrom, sameSets, sameText, sameEach, sameElement, sameChildren}
+use Rattle.compare.specs.declared.walks.Child.the-variants.{End, Found}
+use Rattle.compare.specs.Walks.{childrenWithin, childrenIn, childWithin, childFrom}
+use Rattle.compare.specs.Items.{countedBody, countedOfTag, countedLies, countedSpan, sameFound, sameFrom, sameSets, sameText, sameEach, sameElement, sameChildren}
 use Rattle.compare.proofs.Examples.{rising-order, falling-minus-zero, no-cdata, empty-cdata, top, cut-short, mistimed, language, unsaid, said-no, said-yes, computed}
 
 -- `same`: no CDATA and an empty one told as the same; another order of attributes and minus 0 told as different; the second object's refusal told of the first, or
@@ -133,6 +135,24 @@ default-counted es fs h = true≢false h
 pub other-dropped : (es fs : Entries) → sameFound es fs (known 0x2B 0x83) (countedOfTag 0x2B 0x83 (0x83 ∷ 0x01 ∷ 0x01 ∷ [])) (countedOfTag 0x2B 0x83 []) ≡ true → ⊥
 unfolding sameFound sameMaybe known rows kindIn attribute countedOfTag countedBody defaultOctets defaultIn defaults bodyOfTag bodyBy spanOfTag spanWithin headerSize bodySize
 other-dropped es fs h = false≢true h
+
+-- `find_counted`: a default found; another value not found
+pub default-found : countedSpan 0x1C 0x83 (0x83 ∷ 0x01 ∷ 0x01 ∷ []) ≡ Between 2 3 → ⊥
+unfolding countedSpan countedLies defaultOctets defaultIn defaults spanOfTag spanWithin headerSize bodySize attribute
+default-found h = never (cc)
+
+pub value-lost : countedSpan 0x1C 0x83 (0x83 ∷ 0x01 ∷ 0x02 ∷ []) ≡ Outside → ⊥
+unfolding countedSpan countedLies defaultOctets defaultIn defaults spanOfTag spanWithin headerSize bodySize attribute
+value-lost h = never (cc)
+
+-- `next_child`: a token table told as a child element; an unknown element taken for the end
+pub table-found : childFrom (0x04 ∷ 0x00 ∷ 0x10 ∷ 0x00 ∷ []) 0 ≡ Found 0 2 2 → ⊥
+unfolding childFrom childWithin isChild isKnown known kindIn rows attribute headerSize bodySize
+table-found h = never (cc)
+
+pub unknown-ends : childFrom (0x7D ∷ 0x00 ∷ 0x10 ∷ 0x00 ∷ []) 0 ≡ End → ⊥
+unfolding childFrom childWithin isChild isKnown known kindIn rows attribute headerSize bodySize
+unknown-ends h = never (cc)
 
 -- `same_cdata`: none told as the same as an empty one; that of a child taken for the element's own
 pub none-as-empty : (es fs : Entries) → sameText es fs (bodyOfTag 1 []) (bodyOfTag 1 (0x01 ∷ 0x00 ∷ [])) ≡ true → ⊥

@@ -2,8 +2,9 @@
 use mathlib.Core.Path.{_≡_}
 use mathlib.Core.Bool.{Bool, cond, _&&_}
 use mathlib.Core.List.{List, [], _∷_}
-use Prim.Native.Nat.{ℕ, zero, suc, _≤_, _<_}
+use Prim.Native.Nat.{ℕ, zero, suc, _+_, _≤_, _<_}
 use lib.ListN.{length, drop, getD}
+use Rattle.octets.specs.Header.{headerSize, bodySize}
 use Rattle.octets.specs.Places.{isWhole, firstBody, afterFirst, between}
 use Rattle.values.specs.Table.{known}
 use Rattle.format.specs.Judge.{isKnown}
@@ -26,7 +27,17 @@ childrenWithin (suc n) s =
 unfoldable pub childrenIn : List ℕ → List (ℕ × List ℕ)
 childrenIn s = childrenWithin (length s) s
 
--- what next_child tells of the items from a place on: there is no child element, or where the first one lies, and that the others come behind it
+-- the first of them from a place on, where it begins and between which places its body lies
+unfoldable pub childWithin : (steps at : ℕ) → List ℕ → Child
+childWithin zero at s = End
+childWithin (suc n) at s =
+    let later = childWithin n (at + headerSize s + bodySize s) (afterFirst s) in
+    cond (isWhole s) (cond (isMeant (getD s 0 0)) (Found at (at + headerSize s) (at + headerSize s + bodySize s)) later) End
+
+unfoldable pub childFrom : List ℕ → ℕ → Child
+childFrom part at = childWithin (length part) at (drop at part)
+
+-- what that says of the child elements from a place on: there is none, or which is the first one, and that the others come behind it
 pub record ChildFound (part : List ℕ) (at place from to : ℕ) : Type 0 where
   pub begins : place < length part
   pub ordered : from ≤ to
@@ -37,3 +48,7 @@ pub record ChildFound (part : List ℕ) (at place from to : ℕ) : Type 0 where
 unfoldable pub Children : List ℕ → ℕ → Child → Type 0
 Children part at End = childrenIn (drop at part) ≡ []
 Children part at (Found place from to) = ChildFound part at place from to
+
+pub record NextChild (part : List ℕ) (at : ℕ) (r : Child) : Type 0 where
+  pub is : r ≡ childFrom part at
+  pub tells : Children part at r

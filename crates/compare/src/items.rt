@@ -33,7 +33,7 @@ fn is_absent(found: Lies) -> bool
 }
 
 // Where the attribute of a tag lies in the body of an element with the tag `parent`. One that has its default counts as absent.
-fn find_counted(parent: u8, tag: u8, part: &[u8]) -> Lies
+pub fn find_counted(parent: u8, tag: u8, part: &[u8]) -> Lies
     ensures { λ r. ⌜ r ≡ countedSpan parent tag (now (part .entry)) ⌝ }
 {
     let Lies::Between { from, to } = find_item(part, tag) else {

@@ -18,6 +18,7 @@ pub use bodies::same_bodies;
 pub use bodies::same_octets;
 use format::ReadAnswer;
 use format::SameAnswer;
+pub use items::find_counted;
 pub use items::same_attribute;
 pub use items::same_attributes;
 pub use items::same_cdata;
@@ -28,6 +29,8 @@ pub use normal::is_own;
 use survey::table_of;
 use text::index_of;
 pub use texts::same_texts;
+pub use walks::Child;
+pub use walks::next_child;
 
 // Two objects that are accepted. Each stands for the items of an element with the tag 0, whose one item is the top, at depth 1 of 16.
 fn compare_accepted(a: &[u8], b: &[u8]) -> SameAnswer

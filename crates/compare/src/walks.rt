@@ -1,6 +1,6 @@
 // Where the child elements of an element lie that have a meaning, in order. From item to item the walk goes by `item_at`.
 ghost use mathlib.Core.Path.{_≡_};
-ghost use Rattle.compare.specs.Walks.{isMeant, Children};
+ghost use Rattle.compare.specs.Walks.{isMeant, NextChild};
 use octets::Lies;
 use octets::item_at;
 use tags::Listed;
@@ -32,7 +32,7 @@ fn is_meant(tag: u8) -> bool
 
 // The first child element from the item at a place on.
 pub fn next_child(part: &[u8], at: usize) -> Child
-    ensures { λ r. ⌜ Children (now (part .entry)) at r ⌝ }
+    ensures { λ r. ⌜ NextChild (now (part .entry)) at r ⌝ }
 {
     let mut i = at;
     while i < part.len() {

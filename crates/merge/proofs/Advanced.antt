@@ -60,7 +60,7 @@ equal-merged by o (leaf tag p after) a z h =
     or-elim this (hasEqual o after) (λ q. or-left this (hasEqual o (merged by after a)) q) (λ q. or-right this (hasEqual o (merged by after a)) (equal-merged by o after a z q)) h
 
 -- what can have a partner holds items, so a leaf can't
-merges-opens : (tag : ℕ) → merges tag ≡ true → opens tag ≡ true
+pub merges-opens : (tag : ℕ) → merges tag ≡ true → opens tag ≡ true
 unfolding merges isTop opens known isItems kindIn rows attribute
 merges-opens tag h =
     or-elim (isTop tag || (eqb tag 0x26 || eqb tag 0x28 || eqb tag 0x29) || (eqb tag 0x21 || eqb tag 0x1C)) (eqb tag 0x20 || eqb tag 0x23)

@@ -27,9 +27,6 @@ comes-then n (whole i h) k = whole i (comes-then n h k)
 comes-then n (whole-leaf i h) k = whole-leaf i (comes-then n h k)
 comes-then n (joined i j u v w h) k = joined i j u v w (comes-then n h k)
 
-from-advanced : {A B : Type 0} → B → A ⊎ B
-from-advanced x = inr x
-
 languages-come : (b a n : Meaning) → Part n a → Comes b a (languages n)
 unfolding languages
 languages-come b a nothing i = no-more

@@ -11,4 +11,4 @@ pub mod Octets
 pub mod Sizes
 pub mod Results
 pub mod Cases
-pub mod Vectors
+pub mod Examples

@@ -18,7 +18,8 @@ encode-then nothing n = refl
 encode-then (element tag f m c after) n = rw (encode-then after n) (sym (append-assoc (framed tag (rising 128 0x80 f ++ (encode m ++ maybe (framed 1) c))) (encode after) (encode n)))
 encode-then (leaf tag o after) n = rw (encode-then after n) (sym (append-assoc (framed tag o) (encode after) (encode n)))
 
--- the body of two partners: united attributes by rising tag, Advanced's 0x06 where Basic has none, Basic's children with their partners, Advanced's others, the CDATA of one
+-- the body of two partners: united attributes by rising tag, Advanced's 0x06 where Basic has none, Basic's children with their partners, Advanced's others, the
+-- CDATA of one
 pub pair-octets : (by : Services) (tag : ℕ) (f g : ℕ → Option Value) (m n : Meaning) (c d : Option (List ℕ)) (r : Meaning)
     → encode (element tag (united f g) (then (newLanguage m n) (then (merged by m n) (added by m n))) (either c d) r)
     ≡ framed tag (rising 128 0x80 (united f g) ++ ((encode (newLanguage m n) ++ (encode (merged by m n) ++ encode (added by m n))) ++ maybe (framed 1) (either c d))) ++ encode r

@@ -1,5 +1,5 @@
--- What merging two accepted objects gives: its result is an object's meaning, has all of both and nothing else, and obeys demands 2 and 3; with an empty Advanced object
--- it is Basic's; and only one answer meets the claim (change request 2026-10).
+-- What merging two accepted objects gives: its result is an object's meaning, has all of both and nothing else, and obeys demands 2 and 3; with an empty
+-- Advanced object it is Basic's; and only one answer meets the claim (change request 2026-10).
 use mathlib.Core.Path.{_≡_, refl, sym, ap, _∙_, subst}
 use mathlib.Core.Bool.{Bool, true, false, cond, not, _&&_, _||_}
 use mathlib.Core.Option.{Option, none, some}
@@ -118,8 +118,8 @@ merge-gives by lent o p w h = given by lent o p w (judge o) (judge p) refl refl 
 
 -- ---- the result
 
--- it is a meaning that an object can have, so that 16 can't come; all of Basic is in it, in order, and all of Advanced, and nothing else. Its normal form is accepted,
--- means it and normalises to itself (demands 2 and 3); and the tree of that normal form fits what is lent
+-- it is a meaning that an object can have, so that 16 can't come; all of Basic is in it, in order, and all of Advanced, and nothing else. Its normal form is
+-- accepted, means it and normalises to itself (demands 2 and 3); and the tree of that normal form fits what is lent
 pub record Result (by : Services) (lent : Lent) (o p : List ℕ) (w : Meaning) : Type 0 where
   pub both : Gives by lent o p w
   pub object : ObjectOk w

@@ -20,8 +20,8 @@ use Rattle.merge.specs.declared.MergeAnswer.the-variants.{Merged, BasicR
 use Rattle.merge.specs.Merged.{merged, clash, sameTop, twice}
 use Rattle.merge.specs.Sizes.{recordsIn, storedIn}
 
--- "20, top tags differ, two different default languages, one attribute with two different values, or two CDATA for one element; 21, one object holds the same merging
--- key twice under one parent"
+-- "20, top tags differ, two different default languages, one attribute with two different values, or two CDATA for one element; 21, one object holds the same
+-- merging key twice under one parent"
 unfoldable pub conflict : Services → (basic advanced : Meaning) → Option Refusal
 conflict by m n = first (rule 20 0 (sameTop m n && not (clash by m n)) ∷ rule 21 0 (not (twice by m || twice by n)) ∷ [])
 
@@ -58,7 +58,8 @@ unfoldable pub writtenOf : Outcome → List ℕ
 writtenOf (refuses answer) = []
 writtenOf (gives m) = encode m
 
--- merge: the room has the normal form of the merged meaning then, and memory is as taking in that normal form leaves it. Where anything is refused both are as they were
+-- merge: the room has the normal form of the merged meaning then, and memory is as taking in that normal form leaves it. Where anything is refused both are as
+-- they were
 pub record MergeClaim (by : Services) (basic advanced : List ℕ) (m m′ : Memory) (room room′ : List ℕ) (answer : MergeAnswer) : Type 0 where
   pub answers : answer ≡ answerOf (outcome by (lentBy m room) (judge basic) (judge advanced))
   pub writes : room′ ≡ sets room 0 (writtenOf (outcome by (lentBy m room) (judge basic) (judge advanced)))

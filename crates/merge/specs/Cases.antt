@@ -1,5 +1,5 @@
--- Named cases of merging, for each decision one, written by hand from the request and 002 (change request 2026-10): how services are told apart, what is lent, Basic,
--- Advanced, the answer and what is written.
+-- Named cases of merging, for each decision one, written by hand from the request and 002 (change request 2026-10): how services are told apart, what is lent,
+-- Basic, Advanced, the answer and what is written.
 use mathlib.Core.List.{List, [], _∷_}
 use Prim.Native.Nat.{ℕ}
 use Rattle.octets.specs.Counts.{asOctets}

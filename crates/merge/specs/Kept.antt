@@ -42,8 +42,8 @@ IsOne one nothing = ⊥
 IsOne one (element tag f m c after) = (one ≡ element tag f m c nothing) ⊎ IsOne one after
 IsOne one (leaf tag o after) = (one ≡ leaf tag o nothing) ⊎ IsOne one after
 
--- each of the last elements is one of Basic's or of Advanced's, as it stands there; or two of them become one: each attribute is that of one of the two, and so is the
--- CDATA, and its children come in the same way from theirs
+-- each of the last elements is one of Basic's or of Advanced's, as it stands there; or two of them become one: each attribute is that of one of the two, and so
+-- is the CDATA, and its children come in the same way from theirs
 pub data Comes : (basic advanced : Meaning) → Meaning → Type 0 where
   no-more : {b a : Meaning} → Comes b a nothing
   whole : {b a : Meaning} {tag : ℕ} {f : ℕ → Option Value} {m : Meaning} {c : Option (List ℕ)} {r : Meaning} → IsOne (element tag f m c nothing) b ⊎ IsOne (element tag f m c nothing) a

@@ -12,8 +12,8 @@ use Rattle.merge.specs.declared.Services.{Services}
 use Rattle.merge.specs.declared.Services.the-variants.{ByTag, ByBearers}
 
 -- the elements that can have a partner. "The tops merge". 5.4's tables name ensemble 0x26, bearer 0x29, schedule 0x21, programme 0x1C, programmeGroups 0x20 and
--- programmeGroup 0x23 by the last name of a row. "An element that 5.4 doesn't name merges .. if its kind can hold a named one": that is service 0x28, which holds
--- bearers, and epg, a top
+-- programmeGroup 0x23 by the last name of a row. "An element that 5.4 doesn't name merges .. if its kind can hold a named one": that is service 0x28, which
+-- holds bearers, and epg, a top
 unfoldable pub merges : ℕ → Bool
 merges tag =
     isTop tag || (eqb tag 0x26 || eqb tag 0x28 || eqb tag 0x29) || (eqb tag 0x21 || eqb tag 0x1C) || (eqb tag 0x20 || eqb tag 0x23)

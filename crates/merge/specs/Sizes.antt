@@ -1,5 +1,5 @@
--- What a meaning takes of memory once it is taken in (change request 2026-06): how many records, and how many octets of the store. That its tree takes as much is
--- proved (proofs/Sizes).
+-- What a meaning takes of memory once it is taken in (change request 2026-06): how many records, and how many octets of the store. That its tree takes as much
+-- is proved (proofs/Sizes).
 use mathlib.Core.Option.{Option, none, some}
 use mathlib.Core.List.{List}
 use Prim.Native.Nat.{ℕ, zero, suc, _+_}

@@ -1,5 +1,5 @@
-// Merging a Basic and an Advanced object (change request 2026-10): what two objects become, which are refused, and the theorems about both. The definitions stand
-// in specs/. Here are only the types that the call takes and gives; the code stands in the crates above.
+// Merging a Basic and an Advanced object (change request 2026-10): what two objects become, which are refused, and the theorems about both. The definitions
+// stand in specs/. Here are only the types that the call takes and gives; the code stands in the crates above.
 use format::Refusal;
 use octets::Octets;
 
@@ -9,7 +9,8 @@ pub enum Services {
     ByBearers,
 }
 
-// The answer of merging: how many records memory has then and how many octets the room, or why nothing was merged, and whether Basic or Advanced alone is to blame.
+// The answer of merging: how many records memory has then and how many octets the room, or why nothing was merged, and whether Basic or Advanced alone is to
+// blame.
 pub enum MergeAnswer {
     Merged { records: usize, size: Octets },
     BasicRefused(Refusal),

@@ -549,7 +549,7 @@ same-children-loop-again : (t : ℕ) → same-children-lts.Need-loop-again (
   same-child.Post,
 ) (same-children-at t) same-children.Post same-children-Inv-loop same-children-μ-loop
 same-children-loop-again t c =
-    abreast-again _ _ _ _ _ _ _ (c .before .before .before .before .before .before .before .before .before .before .before .before .before .before .before .loop .inv) _ (c .before .before .before .before .before .before .before .before .before .before .before .before .before .before .next-child .ensures) _ (c .before .before .before .before .before .before .before .before .before .before .next-child3 .ensures) _ _ _ (c .before .before .before .before .before .before .before .before .before .before .before .before .at .given .1) _ _ _ (c .before .before .before .before .before .before .before .before .place .given .1) (c .before .before .before .before .if1 .left) _ (c .before .same-child .ensures) (not-false _ (c .if2 .left))
+    abreast-again _ _ _ _ _ _ _ (c .before .before .before .before .before .before .before .before .before .before .before .before .before .before .before .loop .inv) _ (c .before .before .before .before .before .before .before .before .before .before .before .before .before .before .next-child .ensures .tells) _ (c .before .before .before .before .before .before .before .before .before .before .next-child3 .ensures .tells) _ _ _ (c .before .before .before .before .before .before .before .before .before .before .before .before .at .given .1) _ _ _ (c .before .before .before .before .before .before .before .before .place .given .1) (c .before .before .before .before .if1 .left) _ (c .before .same-child .ensures) (not-false _ (c .if2 .left))
 
 pub +same-child+same-children-spec : {M : Type 1} → statement M
 +same-child+same-children-spec = close μ-same-child μ-same-children (λ t. same-child-lts.spec (

@@ -1,5 +1,5 @@
--- What the definitions answer to sixty pairs of objects is what an independent program answered, which read the request and 002 and told services apart by their
--- bearers. Where neither object holds a service, how they are told apart says nothing, so those pairs are held both ways.
+-- What the definitions answer to sixty pairs of objects is what an independent program answered, which read the request and 002 and told services apart by
+-- their bearers. Where neither object holds a service, how they are told apart says nothing, so those pairs are held both ways.
 use mathlib.Core.Path.{_≡_, refl}
 use mathlib.Core.List.{List, [], _∷_, map}
 use Prim.Native.Nat.{ℕ}

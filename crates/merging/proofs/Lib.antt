@@ -1,0 +1,9 @@
+pub mod Tests
+pub mod Searching
+pub mod KeyWays
+pub mod Shown
+pub mod KeySays
+pub mod ClashWays
+pub mod ClashSays
+pub mod Settling
+pub mod Wrong

@@ -1,0 +1,4 @@
+pub mod Searches
+pub mod Keyed
+pub mod Clashing
+pub mod Calls
