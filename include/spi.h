@@ -58,7 +58,8 @@ enum spi_refusal {
     SPI_NOT_WELL_FORMED = 16,     /* records that are no well-formed tree, or would be none after the edit */
     SPI_PLAIN_OCTETS = 17,        /* an item of plain octets, which have no XML */
     SPI_NOT_THERE = 18,           /* no such record or place, a record of the wrong kind, or the top to be removed */
-    SPI_NOT_IN_PROFILE = 19       /* an item that the Basic profile hasn't got for the data type */
+    SPI_NOT_IN_PROFILE = 19,      /* an item that the Basic profile hasn't got for the data type */
+    SPI_NOT_PACKED = 22           /* no packed object of that normal form, or no normal form */
 };
 
 /* The field of a time that is wrong, the lowest that applies.  A wrong length hides all others. */
@@ -200,6 +201,18 @@ uint64_t spi_export(const uint8_t *object, size_t octets, uint8_t *room, size_t 
 enum spi_data_type { SPI_SERVICE_INFORMATION = 0, SPI_PROGRAMME_INFORMATION = 1, SPI_GROUP_INFORMATION = 2 };
 
 uint64_t spi_gate(const uint8_t *object, size_t octets, uint8_t data_type);
+
+/* Whether `packed`, by whichever packer, may be passed on in place of a normal form: it is accepted, has that very normal
+ * form and isn't longer.  Refused by 22 at place 0: it may not, or the first is no normal form.  Nothing is lent to it but
+ * the octets, which may overlap; the count of a yes is 0. */
+uint64_t spi_check_packed(const uint8_t *normal, size_t normal_octets,
+                          const uint8_t *packed, size_t packed_octets);
+
+/* Writes a normal form with its common words folded to the room: up to 16 words that save most octets, in a token table.  It
+ * is the normal form itself where that is no longer.  What it writes passes spi_check_packed.  Refused by 22 where it is
+ * given no normal form, then by 15 where the room is too small; a room as long as the normal form always suffices.  The
+ * count is that of the octets. */
+uint64_t spi_pack(const uint8_t *normal, size_t octets, uint8_t *room, size_t room_count);
 
 /* ---- A tree that is edited ----------------------------------------------------------------------
  *

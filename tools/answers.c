@@ -316,6 +316,16 @@ static uint64_t call_gate(void)
     return spi_gate(OCTETS(FIRST), (uint8_t)data_type_given);
 }
 
+static uint64_t call_check_packed(void)
+{
+    return spi_check_packed(OCTETS(FIRST), OCTETS(SECOND));
+}
+
+static uint64_t call_pack(void)
+{
+    return spi_pack(OCTETS(FIRST), OCTETS(ROOM));
+}
+
 static uint64_t call_export(void)
 {
     return spi_export(OCTETS(FIRST), OCTETS(ROOM));
@@ -439,6 +449,13 @@ static void print_xml(uint64_t answer)
     print_room("xml", octets);
 }
 
+static void print_packed(uint64_t answer)
+{
+    size_t octets = spi_value(answer);
+
+    print_room("packed", octets);
+}
+
 /* By `read`, which has filled the lists. */
 static void print_counts(uint64_t answer)
 {
@@ -455,6 +472,12 @@ static void print_yes(uint64_t answer)
 {
     (void)answer;
     printf("yes\n");
+}
+
+static void print_passes(uint64_t answer)
+{
+    (void)answer;
+    printf("passes\n");
 }
 
 static void print_same(uint64_t answer)
@@ -510,6 +533,8 @@ static const struct letter letters[] = {
     {'S', {take_object, take_second_object}, call_same, print_same},
     {'X', {take_room, take_object}, call_export, print_xml},
     {'G', {take_data_type, take_places, take_object}, call_gate, print_yes},
+    {'F', {take_object, take_second_object}, call_check_packed, print_passes},
+    {'P', {take_room, take_object}, call_pack, print_packed},
     {'E', {take_tree_places, take_store, take_object, take_edits}, call_edits, print_edited},
 };
 

@@ -60,7 +60,8 @@ means-passing o p n l e os ps =
     let m : meaningOf t ≡ meaningOf u = same-exactly o p t u os ps (a .2) (a .3) .0 e in
     record { normally = n; packs = record { normally = normal-of p u (a .3) ∙ (ap (λ x. some (encode x)) (sym m) ∙ (sym (normal-of o t (a .2)) ∙ n)); short = l } }
 
-passing-means : (o p : List ℕ) → Octets o → Octets p → Passing o p → sameAnswer (judge o) (judge p) ≡ Same
+-- what passes means the same
+pub passing-means : (o p : List ℕ) → Octets o → Octets p → Passing o p → sameAnswer (judge o) (judge p) ≡ Same
 unfolding normal
 passing-means o p os ps k =
     let t = accepted-is normalOf (judge o) o (k .normally) in

@@ -1,4 +1,4 @@
--- What the claims of the two calls say: each has one answer, what `pack` writes passes `check`, and a refusal leaves the room as it was.
+-- What the packer's claim says: what it hands out passes the check, and a refusal leaves the room as it was.
 use mathlib.Core.Path.{_≡_, refl, sym, ap, ap₂, _∙_, subst}
 use mathlib.Core.Bool.{Bool, true, false, cond}
 use mathlib.Core.Option.{Option, none, some}
@@ -22,10 +22,6 @@ use Rattle.format.specs.Calls.{roomy}
 use Rattle.fold.specs.Packed.{packed}
 use Rattle.fold.specs.Calls.{passes, packAnswer, packOctets, PackClaim}
 use Rattle.fold.proofs.Packs.{packed-passes}
-
--- only one answer, and one content of the room, meets the packer's claim
-pub pack-one : (o before after after′ : List ℕ) (a b : WriteAnswer) → PackClaim o before after a → PackClaim o before after′ b → (a ≡ b) × (after ≡ after′)
-pack-one o before after after′ a b x y = (x .answers ∙ sym (y .answers), x .leaves ∙ sym (y .leaves))
 
 handed-not : (n : OctetCount) (r : Refusal) → Handed n ≡ NotWritten r → ⊥
 handed-not n r e = never (cc)

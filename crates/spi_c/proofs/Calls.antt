@@ -29,10 +29,13 @@ use Rattle.pocket.specs.declared.DataType.{DataType}
 use Rattle.pocket.specs.declared.GateAnswer.{GateAnswer}
 use Rattle.pocket.specs.Table.{dataType}
 use Rattle.pocket.specs.Gate.{gateOutcome, gateOf}
+use Rattle.fold.specs.declared.CheckAnswer.{CheckAnswer}
+use Rattle.fold.specs.Packed.{packed as foldedObject}
+use Rattle.fold.specs.Calls.{checkAnswer, checkOutcome, PackClaim}
 use Rattle.xml.specs.Export.{Exported, exportOf, exportAnswer, exportOctets, ExportClaim}
 use Rattle.xml.specs.Export.Exported.{refuses, shows}
-use Rattle.spi_c.specs.Claims.{ReadsC, ScansC, WritesC, NormalisesC, LeavesC, WritesStateC, GatesC, SameC, roomFor, ExportsC}
-use Rattle.spi_c.proofs.Told.{Told, told-small, told-same-small, read-told, scan-told, write-told, normal-told, same-told, gate-told, export-told}
+use Rattle.spi_c.specs.Claims.{ReadsC, ScansC, WritesC, NormalisesC, LeavesC, WritesStateC, GatesC, SameC, roomFor, ExportsC, ChecksPackedC, PacksC}
+use Rattle.spi_c.proofs.Told.{Told, told-small, told-same-small, read-told, scan-told, write-told, normal-told, same-told, gate-told, export-told, check-told, pack-told}
 
 -- an answer is known, and with it its outcome and the number
 module _ {A O : Type 0} (outcome : A → O) (answer known : A) (e : answer ≡ known) (o : O) (told : o ≡ outcome answer) where
@@ -143,6 +146,20 @@ module _ (object before : List ℕ) (most : ℕ) (m : most ≡ min (length befor
 
   pub export-says : (a : ℕ) → a ≡ packedOutcome o → ExportsC object before (part ++ drop (most - 0) (drop 0 before)) a
   export-says a h = record { answers = outcome-packed writeOutcome _ _ answer-is o told packedOutcome a h; leaves = room-holds }
+
+module _ (normal packed : List ℕ) (answer : CheckAnswer) (claim : answer ≡ checkAnswer normal packed) (o : Outcome) (told : o ≡ checkOutcome answer) where
+  pub check-small : Small o
+  check-small = outcome-is checkOutcome _ _ claim o told Small (told-small (check-told normal packed))
+
+  pub check-says : (a : ℕ) → a ≡ packedOutcome o → ChecksPackedC normal packed a
+  check-says a h = record { answers = outcome-packed checkOutcome _ _ claim o told packedOutcome a h }
+
+module _ (object before after : List ℕ) (answer : WriteAnswer) (claim : PackClaim object before after answer) (o : Outcome) (told : o ≡ writeOutcome answer) where
+  pub pack-small : Small o
+  pack-small = outcome-is writeOutcome _ _ (claim .answers) o told Small (told-small (pack-told (sizeOf before) (foldedObject object)))
+
+  pub pack-says : (a : ℕ) → a ≡ packedOutcome o → PacksC object before after a
+  pack-says a h = record { answers = outcome-packed writeOutcome _ _ (claim .answers) o told packedOutcome a h; leaves = record { answers = refl; leaves = claim .leaves } }
 
 -- numbers of 16 bits make a small span
 pub span-small : (object starts sizes : List ℕ) (i : ℕ) → getD starts i 0 < 0x1_0000 → getD sizes i 0 < 0x1_0000 → (s : Span) → s ≡ spanOf object starts sizes i → SmallSpan s

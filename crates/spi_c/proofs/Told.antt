@@ -50,6 +50,8 @@ use Rattle.survey.specs.First.{placeAt, soughtAs, soughtIn}
 use Rattle.survey.proofs.First.{place-inside}
 use Rattle.pocket.specs.declared.DataType.{DataType}
 use Rattle.pocket.specs.Gate.{offends, gateAnswer, gateOutcome, gateOf}
+use Rattle.fold.specs.declared.CheckAnswer.the-variants.{Passes, Fails}
+use Rattle.fold.specs.Calls.{passes, checkAnswer, checkOutcome, packAnswer}
 use Rattle.xml.specs.Xml.{xml}
 use Rattle.xml.specs.Named.{plainAt}
 use Rattle.xml.specs.Export.{unlessPlain, exportOf, exportAnswer}
@@ -60,7 +62,7 @@ use Rattle.spi_c.proofs.Packing.{packed-number, packed-object, packed-f
 -- what every refusal of a call is
 pub record Kept (r : Refusal) : Type 0 where
   pub least : 1 ≤ r .number
-  pub most : r .number ≤ 19
+  pub most : r .number ≤ 24
   pub place : r .place ≤ 32_768
   pub field : r .field ≤ 5
 
@@ -138,7 +140,7 @@ module _ (o : List ℕ) where
   accepted-few : (t : Items) → judge o ≡ accepted t → count t ≤ 32_768
   accepted-few t h = omega (arith, accepted-size o t h .1, few o t h)
 
-late-refusal : (n : ℕ) → 1 ≤ n → n ≤ 18 → Kept (refusal n 0)
+late-refusal : (n : ℕ) → 1 ≤ n → n ≤ 24 → Kept (refusal n 0)
 late-refusal n l m = record { least = l; most = omega arith; place = omega arith; field = omega arith }
 
 -- ---- read
@@ -284,3 +286,21 @@ export-cases o room l (accepted t) h = plain (plainAt o) refl
 
 pub export-told : (o : List ℕ) (room : OctetCount) → room .0 < 0x100_0000_0000 → Told (writeOutcome (exportAnswer room (exportOf o (judge o))))
 export-told o room l = export-cases o room l (judge o) refl
+
+-- ---- check_packed and pack
+pub check-told : (o p : List ℕ) → Told (checkOutcome (checkAnswer o p))
+unfolding checkAnswer
+check-told o p = go (passes o p)
+  where
+    go : (b : Bool) → Told (checkOutcome (cond b Passes (Fails (refusal 22 0))))
+    go true = counts 0 0 (omega arith) (omega arith)
+    go false = refuses (refusal 22 0) (late-refusal 22 (omega arith) (omega arith))
+
+pub pack-told : (room : OctetCount) (p : Option (List ℕ)) → Told (writeOutcome (packAnswer room p))
+unfolding packAnswer
+pack-told room none = refuses (refusal 22 0) (late-refusal 22 (omega arith) (omega arith))
+pack-told room (some p) = go (roomy room p) refl
+  where
+    go : (b : Bool) → roomy room p ≡ b → Told (writeOutcome (cond b (Octets (sizeOf p)) (NotWritten (refusal 15 0))))
+    go true e = counts (length p) 0 (omega (arith, roomy-small room p e)) (omega arith)
+    go false e = refuses (refusal 15 0) (late-refusal 15 (omega arith) (omega arith))

@@ -21,11 +21,13 @@ use Rattle.edits.specs.Calls.{editedIn}
 use Rattle.edits.specs.Runs.{BringsOctets}
 use Rattle.pocket.specs.Table.{dataType}
 use Rattle.pocket.specs.Gate.{gateOutcome, gateOf}
+use Rattle.fold.specs.Packed.{packed as foldedObject}
+use Rattle.fold.specs.Calls.{checkAnswer, checkOutcome, packAnswer}
 use Rattle.xml.specs.Export.{exportOf, exportAnswer}
 use Rattle.spi_c.specs.Packed.{packed, packedOutcome, outcomeIn, packedSame, sameIn, packedSpan, spanIn}
-use Rattle.spi_c.specs.Claims.{ReadsC, ScansC, SpansC, WritesC, NormalisesC, TakesInC, EditsC, WritesStateC, GatesC, SameC, roomFor, ExportsC}
+use Rattle.spi_c.specs.Claims.{ReadsC, ScansC, SpansC, WritesC, NormalisesC, TakesInC, EditsC, WritesStateC, GatesC, SameC, roomFor, ExportsC, ChecksPackedC, PacksC}
 use Rattle.spi_c.proofs.Packing.{span-back}
-use Rattle.spi_c.proofs.Told.{told-back, told-same-back, read-told, scan-told, write-told, normal-told, taken-told, edit-told, same-told, gate-told, export-told}
+use Rattle.spi_c.proofs.Told.{told-back, told-same-back, read-told, scan-told, write-told, normal-told, taken-told, edit-told, same-told, gate-told, export-told, check-told, pack-told}
 use Rattle.spi_c.proofs.Calls.{span-small}
 
 -- ---- each call's number, read back
@@ -65,6 +67,12 @@ gate-back object number a c = ap outcomeIn (c .answers) ∙ told-back (gate-told
 
 pub export-back : (object before after : List ℕ) (a : ℕ) → ExportsC object before after a → outcomeIn a ≡ writeOutcome (exportAnswer (roomFor before) (exportOf object (judge object)))
 export-back object before after a c = ap outcomeIn (c .answers) ∙ told-back (export-told object (roomFor before) (omega arith))
+
+pub check-packed-back : (normal proposed : List ℕ) (a : ℕ) → ChecksPackedC normal proposed a → outcomeIn a ≡ checkOutcome (checkAnswer normal proposed)
+check-packed-back normal proposed a c = ap outcomeIn (c .answers) ∙ told-back (check-told normal proposed)
+
+pub pack-back : (object before after : List ℕ) (a : ℕ) → PacksC object before after a → outcomeIn a ≡ writeOutcome (packAnswer (sizeOf before) (foldedObject object))
+pack-back object before after a c = ap outcomeIn (c .answers) ∙ told-back (pack-told (sizeOf before) (foldedObject object))
 
 -- ---- a refusal told by its place alone, as if it were a count; a count told as a refusal
 pub refusal-unnumbered : packedOutcome (readOutcome (NotRead (refusal 13 412))) ≡ 412 → ⊥

@@ -17,6 +17,8 @@ use Rattle.edits.specs.Tree.{Edit}
 use Rattle.edits.specs.Calls.{editedIn}
 use Rattle.pocket.specs.Table.{dataType}
 use Rattle.pocket.specs.Gate.{gateOf, gateOutcome}
+use Rattle.fold.specs.Packed.{packed as foldedObject}
+use Rattle.fold.specs.Calls.{checkAnswer, checkOutcome, packAnswer, PackClaim}
 use Rattle.xml.specs.Export.{exportOf, exportAnswer, exportOctets}
 use Rattle.spi_c.specs.Packed.{packedOutcome, packedSame, packedSpan}
 
@@ -68,3 +70,11 @@ roomFor room = asOctets (min (length room) 0xFF_FFFF_FFFF)
 pub record ExportsC (object before after : List ℕ) (a : ℕ) : Type 0 where
   pub answers : a ≡ packedOutcome (writeOutcome (exportAnswer (roomFor before) (exportOf object (judge object))))
   pub leaves : after ≡ sets before 0 (exportOctets (roomFor before) (exportOf object (judge object)))
+
+-- the check of a packed object, and the plain packer (request 2026-11)
+pub record ChecksPackedC (normal packed : List ℕ) (a : ℕ) : Type 0 where
+  pub answers : a ≡ packedOutcome (checkOutcome (checkAnswer normal packed))
+
+pub record PacksC (object before after : List ℕ) (a : ℕ) : Type 0 where
+  pub answers : a ≡ packedOutcome (writeOutcome (packAnswer (sizeOf before) (foldedObject object)))
+  pub leaves : PackClaim object before after (packAnswer (sizeOf before) (foldedObject object))

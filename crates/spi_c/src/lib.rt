@@ -6,7 +6,7 @@ ghost use Rattle.format.specs.Lent.{lent};
 ghost use Rattle.spi_c.specs.Packed.{packed, packedOutcome, packedSame, packedSpan, Small, SmallSame, SmallSpan};
 ghost use Rattle.state.specs.Taking.{memory};
 ghost use Rattle.edits.specs.Tree.Edit.{replace, remove, insert};
-ghost use Rattle.spi_c.specs.Claims.{ReadsC, ScansC, SpansC, WritesC, NormalisesC, TakesInC, EditsC, WritesStateC, GatesC, SameC, ExportsC};
+ghost use Rattle.spi_c.specs.Claims.{ReadsC, ScansC, SpansC, WritesC, NormalisesC, TakesInC, EditsC, WritesStateC, GatesC, SameC, ExportsC, ChecksPackedC, PacksC};
 use format::Outcome;
 use format::SameOutcome;
 use format::Span;
@@ -345,6 +345,24 @@ pub extern "C" fn spi_export(object: &[u8], room: &mut [u8]) -> u64
 {
     let most = at_most(Octets(room.len())).0;
     let answer = xml::export(object, &mut room[0..most]);
+    packed_outcome(answer.outcome())
+}
+
+// Whether an object may be passed on in place of a normal form: it has that very one and isn't longer; nothing is lent.
+#[no_mangle]
+pub extern "C" fn spi_check_packed(normal: &[u8], packed: &[u8]) -> u64
+    ensures { λ r. ⌜ ChecksPackedC (now (normal .entry)) (now (packed .entry)) r ⌝ }
+{
+    let answer = fold::check(normal, packed);
+    packed_outcome(answer.outcome())
+}
+
+// A normal form with its common words folded, into `room`.
+#[no_mangle]
+pub extern "C" fn spi_pack(normal: &[u8], room: &mut [u8]) -> u64
+    ensures { λ r. ⌜ PacksC (now (normal .entry)) (now (room .entry)) (now (room .exit)) r ⌝ }
+{
+    let answer = packer::pack(normal, room);
     packed_outcome(answer.outcome())
 }
 
