@@ -16,7 +16,7 @@ use Rattle.format.specs.Calls.{roomy}
 use Rattle.fold.specs.declared.CheckAnswer.{CheckAnswer}
 use Rattle.fold.specs.declared.CheckAnswer.the-variants.{Passes, Fails}
 use Rattle.fold.specs.Packed.{packed}
-use Rattle.fold.specs.Calls.{passes, checkAnswer, packAnswer, packOctets, PackClaim}
+use Rattle.fold.specs.Calls.{passes, checkAnswer, checkOutcome, packAnswer, packOctets, PackClaim}
 use Rattle.fold.proofs.Examples.{one-word, one-word-packed, by-saving, by-saving-packed, saves-one, language, tabled, computed}
 
 -- `check`: a longer object of that very normal form passed; a shorter one refused
@@ -66,3 +66,10 @@ no-room after c =
     let e : packed saves-one ≡ some saves-one = ap (λ l. getD l 2 none) (computed .packs) in
     let z : _≡_ {A = ℕ} 15 0 = ap (λ a. writeOutcome a .number) (c .answers ∙ ap (packAnswer (sizeOf room)) e) in
     omega arith
+
+-- `CheckAnswer::outcome`: a refusal without its number; one told as a count
+pub refusal-unnumbered : checkOutcome (Fails (refusal 22 0)) .number ≡ 0 → ⊥
+refusal-unnumbered h = omega (arith, h)
+
+pub refusal-counted : checkOutcome (Fails (refusal 22 0)) .count ≡ 22 → ⊥
+refusal-counted h = omega (arith, h)

@@ -2,19 +2,20 @@
 use mathlib.Core.Path.{_≡_, refl, sym, ap, ap₂, subst, _∙_}
 use mathlib.Core.Bool.{Bool, true, false, cond, not, _||_, false≢true}
 use mathlib.Core.List.{List, [], _∷_, _++_}
-use Prim.Native.Nat.{ℕ, zero, suc, _+_, _-_, _^_, _≤_, _<_}
+use Prim.Native.Nat.{ℕ, zero, suc, _+_, _*_, _-_, _%_, _^_, _≤_, _<_}
 use native.Mathlib.Numerals.{add-one}
 use native.Mathlib.Omega.{arith}
 use lib.Dec.{eqb, leb}
-use lib.ListN.{length, getD, take, drop, set, length-set, length-take, length-drop}
+use lib.ListN.{length, getD, take, drop, set, length-set, length-take, length-drop, drop-of-length-le}
 use lib.Seq.{getD-set-same, getD-set-other}
-use mir.Syntax.{w64}
+use mir.Syntax.{w8, w64}
 use mir.Val.{Fits}
 use borrow.Author.Tests.{eqb-true, eqb-false}
-use Rattle.octets.proofs.Lists.{length-part}
+use Rattle.octets.proofs.Lists.{length-part, drop-next}
+use Rattle.format.proofs.Same.{same-octets}
 use Rattle.format.specs.Same.{sameOctets}
 use Rattle.fold.specs.Words.{uses}
-use Rattle.packer.specs.Counting.{wordAt, wordsFrom, Noted, Counts}
+use Rattle.packer.specs.Counting.{wordAt, wordsFrom, keyFrom, keyOf, Noted, Keyed, Counts}
 use Rattle.packer.proofs.Tagging.{alike-not}
 
 -- ---- `is_use`
@@ -32,6 +33,113 @@ use-so o start size from other r e =
     e ∙ ap₂ (λ m n. sameOctets (take m (drop start o)) (take n (drop from o))) x y
 
 pub ruleset use-ways = (use-not, use-so)
+
+-- ---- `key_of`
+
+pub record Keying (w : List ℕ) (key i : ℕ) : Type 0 where
+  pub inside : i ≤ length w
+  pub low : key < 251
+  pub same : keyFrom key (drop i w) ≡ keyOf w
+
+module _ (w : List ℕ) where
+  pub key-begin : Keying w 0 0
+  unfolding keyOf
+  key-begin = record { inside = omega arith; low = omega arith; same = refl }
+
+  module _ (key i : ℕ) (v : Keying w key i) where
+    pub key-done : length w ≤ i → key ≡ keyOf w
+    unfolding keyFrom
+    key-done h = sym (ap (keyFrom key) (drop-of-length-le w h)) ∙ v .same
+
+    pub key-fits : Fits w64 (key * 31)
+    key-fits = record { fits = omega (arith, v .low) }
+
+    pub key-octet : Fits w8 key
+    key-octet = record { fits = omega (arith, v .low) }
+
+    module _ (h : i < length w) (b : ℕ) (e : b ≡ getD w i 0) where
+      pub key-sum : b < 256 → Fits w64 (key * 31 + b)
+      key-sum l = record { fits = omega (arith, v .low) }
+
+      pub key-again : Keying w ((key * 31 + b) % 251) (i + 1)
+      unfolding keyFrom
+      key-again = record {
+        inside = omega arith;
+        low = omega arith;
+        same = ap (λ x. keyFrom ((key * 31 + x) % 251) (drop (i + 1) w)) e ∙ (sym (ap (keyFrom key) (drop-next w i 0 h)) ∙ v .same);
+      }
+
+pub ruleset key-ways = (key-begin, key-done, key-fits, key-octet, key-sum, key-again)
+
+-- ---- `fill_keys`
+
+pub record Filling (object starts sizes keys₀ keys : List ℕ) (n j : ℕ) : Type 0 where
+  pub within : j ≤ n
+  pub long : length keys ≡ length keys₀
+  pub key : (k : ℕ) → k < j → getD keys k 0 ≡ keyOf (wordAt object starts sizes k)
+
+module _ (object starts sizes keys₀ : List ℕ) (n : ℕ) (noted : Noted object starts sizes n) (room : n ≤ length keys₀) where
+  pub fill-begin : Filling object starts sizes keys₀ keys₀ n 0
+  fill-begin = record { within = omega arith; long = refl; key = λ k h. absurd (omega arith) }
+
+  module _ (keys : List ℕ) (j : ℕ) (v : Filling object starts sizes keys₀ keys n j) where
+    pub fill-done : n ≤ j → Keyed object starts sizes keys n
+    fill-done h = record { long = omega (arith, v .long); key = λ k l. v .key k (omega arith) }
+
+    pub fill-long : length keys ≡ length keys₀
+    fill-long = v .long
+
+    module _ (h : j < n) (start size : ℕ) (es : start ≡ getD starts j 0) (ez : size ≡ getD sizes j 0) where
+      pub fill-inside : start + size ≤ length object
+      fill-inside = omega (arith, noted .inside j h)
+
+      pub fill-again : (key : ℕ) → key ≡ keyOf (take (start + size - start) (drop start object)) → Filling object starts sizes keys₀ (set keys j key) n (j + 1)
+      unfolding wordAt
+      fill-again key e = record {
+        within = omega arith;
+        long = length-set keys j key ∙ v .long;
+        key = λ k l. go k l (eqb k j) refl;
+      }
+        where
+          here : key ≡ keyOf (take (getD sizes j 0) (drop (getD starts j 0) object))
+          here =
+              let x : start + size - start ≡ size = omega arith in
+              e ∙ rw (x, es, ez)
+
+          go : (k : ℕ) → k < j + 1 → (b : Bool) → eqb k j ≡ b → getD (set keys j key) k 0 ≡ keyOf (take (getD sizes k 0) (drop (getD starts k 0) object))
+          go k l true x =
+              let y : k ≡ j = eqb-true k j x in
+              subst (λ m. getD (set keys j key) m 0 ≡ keyOf (take (getD sizes m 0) (drop (getD starts m 0) object))) (sym y)
+              (getD-set-same keys j key 0 (omega (arith, v .long)) ∙ here)
+          go k l false x =
+              let y = eqb-false k j x in
+              getD-set-other keys j k key 0 y ∙ v .key k (omega arith)
+
+pub ruleset fill-ways = (fill-begin, fill-done, fill-long, fill-inside, fill-again)
+
+-- ---- `is_again`
+
+module _ (object starts sizes keys : List ℕ) (n : ℕ) (noted : Noted object starts sizes n) (keyed : Keyed object starts sizes keys n) (i j : ℕ) (hi : i < n) (hj : j < n) where
+  -- words with two keys are two
+  pub again-not : (getD keys i 0 ≡ getD keys j 0 → ⊥) → false ≡ sameOctets (wordAt object starts sizes i) (wordAt object starts sizes j)
+  again-not d = go (sameOctets (wordAt object starts sizes i) (wordAt object starts sizes j)) refl
+    where
+      go : (b : Bool) → sameOctets (wordAt object starts sizes i) (wordAt object starts sizes j) ≡ b → false ≡ b
+      go true e = absurd (d (keyed .key i hi ∙ (ap keyOf (same-octets (wordAt object starts sizes i) (wordAt object starts sizes j) e) ∙ sym (keyed .key j hj))))
+      go false e = refl
+
+  module _ (start size from other : ℕ) (es : start ≡ getD starts i 0) (ez : size ≡ getD sizes i 0) (ef : from ≡ getD starts j 0) (eo : other ≡ getD sizes j 0) where
+    pub use-first : start + size ≤ length object
+    use-first = omega (arith, noted .inside i hi)
+
+    pub use-second : from + other ≤ length object
+    use-second = omega (arith, noted .inside j hj)
+
+    pub again-so : (r : Bool) → r ≡ sameOctets (take size (drop start object)) (take other (drop from object)) → r ≡ sameOctets (wordAt object starts sizes i) (wordAt object starts sizes j)
+    unfolding wordAt
+    again-so r e = e ∙ rw (es, ez, ef, eo)
+
+pub ruleset again-ways = (again-not, use-first, use-second, again-so)
 
 -- ---- the loop of `count_uses`
 
@@ -119,28 +227,14 @@ module _ (object starts sizes : List ℕ) where
                   let y = eqb-false k j x in
                   getD-set-other after j k (cond r 1 (getD after j 0)) 0 y ∙ v .marked k p (omega arith)
 
-        -- the same in the words of the code
-        module _ (start size from other : ℕ) (es : start ≡ getD starts i 0) (ez : size ≡ getD sizes i 0) (ef : from ≡ getD starts j 0) (eo : other ≡ getD sizes j 0) where
-          pub use-first : start + size ≤ length object
-          use-first = omega (arith, noted .inside i hi)
+          -- the same in the words of the code
+          module _ (one : ℕ) (o : one ≡ cond r 1 0) where
+            pub turn-fits : Fits w64 (count + one)
+            turn-fits = subst (λ m. Fits w64 (count + m)) (sym o) count-fits
 
-          pub use-second : from + other ≤ length object
-          use-second = omega (arith, noted .inside j h)
+            pub turn : (mark : ℕ) → mark ≡ cond r 1 (getD after j 0) → Counting before (set after j mark) i n (count + one) (j + 1)
+            turn mark m =
+                subst (λ a. Counting before (set after j a) i n (count + one) (j + 1)) (sym m)
+                (subst (λ b. Counting before (set after j (cond r 1 (getD after j 0))) i n (count + b) (j + 1)) (sym o) count-again)
 
-          module _ (r : Bool) (e : r ≡ sameOctets (take size (drop start object)) (take other (drop from object))) where
-            is : r ≡ sameOctets (at i) (at j)
-            unfolding wordAt
-            is = e ∙ rw (es, ez, ef, eo)
-
-            module _ (one : ℕ) (o : one ≡ cond r 1 0) where
-              pub turn-fits : Fits w64 (count + one)
-              turn-fits = subst (λ m. Fits w64 (count + m)) (sym o) (count-fits r is)
-
-              pub turn : (mark : ℕ) → mark ≡ cond r 1 (getD after j 0) → Counting before (set after j mark) i n (count + one) (j + 1)
-              turn mark m = ap-turn m o (count-again r is)
-                where
-                  ap-turn : {x y : ℕ} → x ≡ cond r 1 (getD after j 0) → y ≡ cond r 1 0 → Counting before (set after j (cond r 1 (getD after j 0))) i n (count + cond r 1 0) (j + 1)
-                      → Counting before (set after j x) i n (count + y) (j + 1)
-                  ap-turn {x} {y} p q c = subst (λ a. Counting before (set after j a) i n (count + y) (j + 1)) (sym p) (subst (λ b. Counting before (set after j (cond r 1 (getD after j 0))) i n (count + b) (j + 1)) (sym q) c)
-
-pub ruleset count-ways = (count-begin, count-done, count-place, use-first, use-second)
+pub ruleset count-ways = (count-begin, count-done, count-place, turn-fits, turn)

@@ -2,7 +2,7 @@
 use mathlib.Core.Path.{_≡_}
 use mathlib.Core.Bool.{cond, not}
 use mathlib.Core.List.{List, [], _∷_, map}
-use Prim.Native.Nat.{ℕ, zero, suc, _+_, _-_, _≤_, _<_}
+use Prim.Native.Nat.{ℕ, zero, suc, _+_, _*_, _-_, _%_, _≤_, _<_}
 use lib.Dec.{eqb}
 use lib.ListN.{length, getD, take, drop}
 use Rattle.format.specs.Same.{sameOctets}
@@ -26,6 +26,19 @@ pub record Noted (object starts sizes : List ℕ) (n : ℕ) : Type 0 where
   pub long : n ≤ length sizes
   pub inside : (j : ℕ) → j < n → getD starts j 0 + getD sizes j 0 ≤ length object
   pub short : (j : ℕ) → j < n → getD sizes j 0 ≤ 255
+
+-- a number of one octet that is made of a word
+unfoldable pub keyFrom : ℕ → List ℕ → ℕ
+keyFrom k [] = k
+keyFrom k (b ∷ bs) = keyFrom ((k * 31 + b) % 251) bs
+
+unfoldable pub keyOf : List ℕ → ℕ
+keyOf w = keyFrom 0 w
+
+-- the first n words have their keys
+pub record Keyed (object starts sizes keys : List ℕ) (n : ℕ) : Type 0 where
+  pub long : n ≤ length keys
+  pub key : (j : ℕ) → j < n → getD keys j 0 ≡ keyOf (wordAt object starts sizes j)
 
 -- the uses of a word from number i on are counted and marked
 pub record Counts (object starts sizes before after : List ℕ) (i n r : ℕ) : Type 0 where

@@ -1,11 +1,11 @@
 // How often each word is used, and the choice of those that save most. Words are kept by where they begin and how long they are. Each word is counted once, at its
-// first use, and marks its later uses; so the cost is the number of different words times the number of uses.
+// first use, and marks its later uses; so the cost is the number of different words times the number of uses. Most of these pairs differ in their keys.
 ghost use mathlib.Core.Path.{_≡_};
 ghost use mathlib.Core.Bool.{cond};
 ghost use Prim.Native.Nat.{ℕ, _+_, _≤_, _<_};
 ghost use lib.ListN.{length, getD, take, drop};
 ghost use Rattle.format.specs.Same.{sameOctets};
-ghost use Rattle.packer.specs.Counting.{Noted, Counts, Chooses, Taken, IsEmpty};
+ghost use Rattle.packer.specs.Counting.{wordAt, keyOf, Noted, Keyed, Counts, Chooses, Taken, IsEmpty};
 use crate::pieces::size_of;
 use crate::ranking::Best;
 use crate::ranking::Word;
@@ -53,26 +53,78 @@ fn is_use(object: &[u8], start: usize, size: usize, from: usize, other: usize) -
     same_octets(&object[start..end], &object[from..to])
 }
 
+// A key that equal words share.
+fn key_of(word: &[u8]) -> u8
+    ensures { λ r. ⌜ r ≡ keyOf (now (word .entry)) ⌝ }
+{
+    let mut key: usize = 0;
+    let mut i: usize = 0;
+    while i < word.len() {
+        key = (key * 31 + size_of(word[i])) % 251;
+        i += 1;
+    }
+    key as u8
+}
+
+// The key of each word.
+pub fn fill_keys(object: &[u8], starts: &[u16], sizes: &[u8], keys: &mut [u8], n: usize)
+    requires { ⌜ Noted (now object) (now starts) (now sizes) n ⌝ }
+    requires { ⌜ n ≤ length (now keys) ⌝ }
+    ensures { λ _. ⌜ Keyed (now (object .entry)) (now (starts .entry)) (now (sizes .entry)) (now (keys .exit)) n ⌝ }
+{
+    let mut j: usize = 0;
+    while j < n {
+        let start = place_of(starts[j]);
+        let end = start + size_of(sizes[j]);
+        keys[j] = key_of(&object[start..end]);
+        j += 1;
+    }
+}
+
+// Whether two of the first n words are the same.
+fn is_again(
+    object: &[u8],
+    starts: &[u16],
+    sizes: &[u8],
+    keys: &[u8],
+    i: usize,
+    j: usize,
+    n: usize,
+) -> bool
+    requires { ⌜ Noted (now object) (now starts) (now sizes) n ⌝ }
+    requires { ⌜ Keyed (now object) (now starts) (now sizes) (now keys) n ⌝ }
+    requires { ⌜ i < n ⌝ }
+    requires { ⌜ j < n ⌝ }
+    ensures { λ r. ⌜ r ≡ sameOctets (wordAt (now (object .entry)) (now (starts .entry)) (now (sizes .entry)) i) (wordAt (now (object .entry)) (now (starts .entry)) (now (sizes .entry)) j) ⌝ }
+{
+    if keys[i] != keys[j] {
+        return false;
+    }
+    let start = place_of(starts[i]);
+    let size = size_of(sizes[i]);
+    is_use(object, start, size, place_of(starts[j]), size_of(sizes[j]))
+}
+
 // How often the word of a number is used from there on; its uses are marked.
 fn count_uses(
     object: &[u8],
     starts: &[u16],
     sizes: &[u8],
+    keys: &[u8],
     done: &mut [u8],
     i: usize,
     n: usize,
 ) -> usize
     requires { ⌜ Noted (now object) (now starts) (now sizes) n ⌝ }
+    requires { ⌜ Keyed (now object) (now starts) (now sizes) (now keys) n ⌝ }
     requires { ⌜ i < n ⌝ }
     requires { ⌜ n ≤ length (now done) ⌝ }
     ensures { λ r. ⌜ Counts (now (object .entry)) (now (starts .entry)) (now (sizes .entry)) (now (done .entry)) (now (done .exit)) i n r ⌝ }
 {
-    let start = place_of(starts[i]);
-    let size = size_of(sizes[i]);
     let mut uses: usize = 0;
     let mut j = i;
     while j < n {
-        let same = is_use(object, start, size, place_of(starts[j]), size_of(sizes[j]));
+        let same = is_again(object, starts, sizes, keys, i, j, n);
         done[j] = mark_if(same, done[j]);
         uses += one_if(same);
         j += 1;
@@ -85,12 +137,14 @@ fn consider(
     object: &[u8],
     starts: &[u16],
     sizes: &[u8],
+    keys: &[u8],
     done: &mut [u8],
     best: Best,
     i: usize,
     n: usize,
 ) -> Best
     requires { ⌜ Noted (now object) (now starts) (now sizes) n ⌝ }
+    requires { ⌜ Keyed (now object) (now starts) (now sizes) (now keys) n ⌝ }
     requires { ⌜ i < n ⌝ }
     requires { ⌜ Chooses (now object) (now starts) (now sizes) (now done) n best i ⌝ }
     ensures { λ r. ⌜ length (now (done .exit)) ≡ length (now (done .entry)) ⌝ }
@@ -99,7 +153,7 @@ fn consider(
     if done[i] != 0 {
         return best;
     }
-    let uses = count_uses(object, starts, sizes, done, i, n);
+    let uses = count_uses(object, starts, sizes, keys, done, i, n);
     let start = place_of(starts[i]);
     let size = size_of(sizes[i]);
     let saved = saved_by(uses, size);
@@ -120,8 +174,16 @@ fn none_yet() -> Best
 }
 
 // The words that save most. No word is marked before.
-pub fn choose(object: &[u8], starts: &[u16], sizes: &[u8], done: &mut [u8], n: usize) -> Best
+pub fn choose(
+    object: &[u8],
+    starts: &[u16],
+    sizes: &[u8],
+    keys: &[u8],
+    done: &mut [u8],
+    n: usize,
+) -> Best
     requires { ⌜ Noted (now object) (now starts) (now sizes) n ⌝ }
+    requires { ⌜ Keyed (now object) (now starts) (now sizes) (now keys) n ⌝ }
     requires { ⌜ n ≤ length (now done) ⌝ }
     requires { ⌜ ((j : ℕ) → getD (now done) j 0 ≡ 0) ⌝ }
     ensures { λ r. ⌜ Taken (now (object .entry)) (now (starts .entry)) (now (sizes .entry)) n r ⌝ }
@@ -129,7 +191,7 @@ pub fn choose(object: &[u8], starts: &[u16], sizes: &[u8], done: &mut [u8], n: u
     let mut best = none_yet();
     let mut i: usize = 0;
     while i < n {
-        best = consider(object, starts, sizes, done, best, i, n);
+        best = consider(object, starts, sizes, keys, done, best, i, n);
         i += 1;
     }
     best

@@ -6,6 +6,7 @@ ghost use Rattle.fold.specs.Calls.{PackClaim};
 ghost use Rattle.packer.specs.Packing.{IsNormal, Proposed};
 use crate::collecting::collect;
 use crate::counting::choose;
+use crate::counting::fill_keys;
 use crate::making::make_table;
 use crate::sizing::framed_size;
 use crate::topping::emit_top;
@@ -45,9 +46,11 @@ fn propose(object: &[u8], table: &mut [u8]) -> usize
 {
     let mut starts = number_places();
     let mut sizes = octet_places();
+    let mut keys = octet_places();
     let mut done = octet_places();
     let n = collect(object, &mut starts, &mut sizes);
-    let best = choose(object, &starts, &sizes, &mut done, n);
+    fill_keys(object, &starts, &sizes, &mut keys, n);
+    let best = choose(object, &starts, &sizes, &keys, &mut done, n);
     make_table(object, best, table)
 }
 
