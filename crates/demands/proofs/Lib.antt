@@ -14,3 +14,4 @@ pub mod Requests
 pub mod Lengths
 pub mod Shortest
 pub mod Recordings
+pub mod Packing

@@ -1,6 +1,6 @@
 -- Only one answer: each claim gives an equation for the answer and one for each lent thing, and two things that equal a third are equal.
 use mathlib.Core.Path.{sym, _∙_}
-use Rattle.demands.specs.Only.{OneAnswer, OneRead, OneReadAtMost, OneReadRecords, OneWrite, OneNormalise, OneTakeIn, OneEdit, OneWriteState, OneExport, OnePut, OneMarks, OneWidths, OneShows, OneIndex, OneReadC, OneSpanC, OneWriteC, OneNormaliseC, OneTakeInC, OneEditC, OneWriteStateC, OneScanC, OneGateC, OneSameC, OneExportC}
+use Rattle.demands.specs.Only.{OneAnswer, OneRead, OneReadAtMost, OneReadRecords, OneWrite, OneNormalise, OneTakeIn, OneEdit, OneWriteState, OneExport, OnePack, OnePut, OneMarks, OneWidths, OneShows, OneIndex, OneReadC, OneSpanC, OneWriteC, OneNormaliseC, OneTakeInC, OneEditC, OneWriteStateC, OneScanC, OneGateC, OneSameC, OneExportC, OneCheckPackedC, OnePackC}
 use Rattle.text.proofs.Index.{one-index as index-alone}
 use Rattle.text.proofs.WeighLaws.{marks-one, widths-one, shows-one}
 
@@ -45,6 +45,9 @@ one-write-state n m before one other answer answer′ c d = (one-answer _ _ answ
 
 pub one-export : OneExport
 one-export object before one other answer answer′ c d = (one-answer _ _ answer answer′ (c .answers) (d .answers), one-answer _ _ one other (c .leaves) (d .leaves))
+
+pub one-pack : OnePack
+one-pack object before one other answer answer′ c d = (one-answer _ _ answer answer′ (c .answers) (d .answers), one-answer _ _ one other (c .leaves) (d .leaves))
 
 pub one-put : OnePut
 one-put valid octets at before one other answer answer′ c d = (one-answer _ _ answer answer′ (c .answers) (d .answers), one-answer _ _ one other (c .leaves) (d .leaves))
@@ -101,3 +104,9 @@ one-same-c a b answer answer′ c d = one-answer _ _ answer answer′ (c .answer
 
 pub one-export-c : OneExportC
 one-export-c object before one other answer answer′ c d = (one-answer _ _ answer answer′ (c .answers) (d .answers), one-answer _ _ one other (c .leaves) (d .leaves))
+
+pub one-check-packed-c : OneCheckPackedC
+one-check-packed-c form proposed answer answer′ c d = one-answer _ _ answer answer′ (c .answers) (d .answers)
+
+pub one-pack-c : OnePackC
+one-pack-c object before one other answer answer′ c d = (one-answer _ _ answer answer′ (c .answers) (d .answers), one-answer _ _ one other (c .leaves .leaves) (d .leaves .leaves))

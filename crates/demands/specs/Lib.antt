@@ -12,3 +12,4 @@ pub mod Headers
 pub mod Lengths
 pub mod Shortest
 pub mod Recordings
+pub mod Packing

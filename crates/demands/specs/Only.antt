@@ -19,15 +19,18 @@ use Rattle.format.specs.State.{Memory}
 use Rattle.state.specs.Taking.{WriteClaim, NormaliseClaim, TakeInClaim, WriteStateClaim}
 use Rattle.edits.specs.Tree.{Edit}
 use Rattle.edits.specs.Calls.{EditClaim}
+use Rattle.fold.specs.Calls.{PackClaim}
 use Rattle.xml.specs.Export.{ExportClaim}
-use Rattle.spi_c.specs.Claims.{ReadsC, ScansC, SpansC, WritesC, NormalisesC, TakesInC, EditsC, WritesStateC, GatesC, SameC, ExportsC}
+use Rattle.spi_c.specs.Claims.{ReadsC, ScansC, SpansC, WritesC, NormalisesC, TakesInC, EditsC, WritesStateC, GatesC, SameC, ExportsC, ChecksPackedC, PacksC}
 
 -- every call whose claim is one equation for its answer; none of them is lent anything to write.
 -- octets: read_header, item_at, header_size, read_number. text: check, is_token, is_table, is_covered, weigh, expanded_size. values: is_attribute, known_kind,
 -- is_default, Time::take, valid, canonical, local, size, Bearer::take, valid, size, fits_kind, wrong_field, normal_size. format: kind_of, refuse, and outcome
 -- of ReadAnswer, EditAnswer, WriteAnswer, SameAnswer. tags: is_top, is_allowed, latest_of, stage_after, is_within_depth, is_short, has_bit, with_bit, listed_as,
--- holds_items, holds_text. judge: judge. scan: scan. recording: open, step. reader: places, span, body. records: is_well_formed. survey: survey, find_item, find_first, table_of, written_as.
--- pocket: gate, data_type, outcome of GateAnswer. compare: same, is_normal, same_texts, same_bodies, same_octets, same_attribute, same_attributes, same_cdata, same_child, same_children. spi_c: spi_check_text.
+-- holds_items, holds_text. judge: judge. scan: scan. recording: open, step. reader: places, span, body. records: is_well_formed. survey: survey, find_item,
+-- find_first, table_of, written_as. pocket: gate, data_type, outcome of GateAnswer. compare: same, is_normal, same_texts, same_bodies, same_octets,
+-- same_attribute, same_attributes, same_cdata, same_child, same_children, find_counted, next_child. state: held, framed_size, item_adds, added_by. fold: check,
+-- outcome of CheckAnswer. merging: find_conflict. spi_c: spi_check_text.
 -- For body and table_of, which hand back a part of the caller's octets, the equation is for what the part holds
 abbrev pub OneAnswer : Type 1
 OneAnswer = (A : Type 0) (claimed one other : A) → one ≡ claimed → other ≡ claimed → one ≡ other
@@ -95,6 +98,13 @@ OneExport =
     → ExportClaim object before one answer → ExportClaim object before other answer′
     → (answer ≡ answer′) × (one ≡ other)
 
+-- pack
+abbrev pub OnePack : Type 0
+OnePack =
+    (object before one other : List ℕ) (answer answer′ : WriteAnswer)
+    → PackClaim object before one answer → PackClaim object before other answer′
+    → (answer ≡ answer′) × (one ≡ other)
+
 -- octets: write_header, put_number, copy_into. text: expand. values: Time::put, Bearer::put, put_normal. show: every call. xml: put_item_name, put_item_value
 abbrev pub OnePut : Type 0
 OnePut =
@@ -118,7 +128,7 @@ OneShows = (entries : Entries) (one other : List ℕ) → Shows 32 entries one �
 abbrev pub OneIndex : Type 0
 OneIndex = (entries : Entries) (one other : List ℕ) → Indexes entries one → Indexes entries other → one ≡ other
 
--- spi_read, spi_span, spi_write, spi_normalise, spi_take_in, the three edits, spi_write_state, spi_same, spi_gate, spi_export: the one number that each answers, and what is lent
+-- spi_read, spi_span, spi_write, spi_normalise, spi_take_in, the three edits, spi_write_state, spi_same, spi_gate, spi_export, spi_check_packed, spi_pack: the one number that each answers, and what is lent
 -- as above
 abbrev pub OneReadC : Type 0
 OneReadC =
@@ -167,4 +177,12 @@ OneSameC = (a b : List ℕ) (answer answer′ : ℕ) → SameC a b answer → Sa
 abbrev pub OneExportC : Type 0
 OneExportC =
     (object before one other : List ℕ) (answer answer′ : ℕ) → ExportsC object before one answer → ExportsC object before other answer′
+    → (answer ≡ answer′) × (one ≡ other)
+
+abbrev pub OneCheckPackedC : Type 0
+OneCheckPackedC = (form proposed : List ℕ) (answer answer′ : ℕ) → ChecksPackedC form proposed answer → ChecksPackedC form proposed answer′ → answer ≡ answer′
+
+abbrev pub OnePackC : Type 0
+OnePackC =
+    (object before one other : List ℕ) (answer answer′ : ℕ) → PacksC object before one answer → PacksC object before other answer′
     → (answer ≡ answer′) × (one ≡ other)
