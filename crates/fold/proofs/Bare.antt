@@ -1,11 +1,11 @@
 -- An object without a token table has no entries in force, and a normal form has none.
 use mathlib.Core.Path.{_≡_, refl, sym, ap, ap₂, _∙_, subst}
 use mathlib.Core.Bool.{Bool, true, false, cond, _&&_, false≢true}
-use mathlib.Core.Option.{Option, none, some, Option·some-ne-none}
-use mathlib.Core.List.{List, [], _∷_, _++_}
+use mathlib.Core.Option.{Option, none, Option·some-ne-none}
+use mathlib.Core.List.{List, [], _∷_}
 use Prim.Native.Nat.{ℕ, _+_}
 use lib.Dec.{eqb}
-use lib.ListN.{length, take, drop}
+use lib.ListN.{take, drop}
 use Rattle.octets.specs.Numbers.{Octets}
 use Rattle.octets.specs.Places.{isWhole, firstBody, afterFirst}
 use Rattle.octets.proofs.Tests.{and-left, and-right}
@@ -23,7 +23,7 @@ use Rattle.survey.specs.Normal.{writtenAs}
 use Rattle.compare.specs.Normal.{isShortest, isWritten, isRising, shaped}
 use Rattle.compare.proofs.Shaping.{ownShape, shaped-item}
 use Rattle.compare.proofs.Normalising.{shaped-exactly}
-use Rattle.grammar.specs.Grammar.{Part, Begins, Inside, Accepts}
+use Rattle.grammar.specs.Grammar.{Part, Begins, Inside}
 use Rattle.grammar.specs.Grammar.Part.{attributes, table, language, elements, cdata, nothing}
 use Rattle.grammar.specs.Grammar.Inside.{knownAttribute, unknownAttribute, attributesOfTop, attributesOfOther, someTable, noTable, someLanguage, noLanguage, heldElement, plainElement, unknownElement, noElement, someCdata, noCdata, filled}
 use Rattle.grammar.proofs.Headers.{begun}

@@ -1,7 +1,7 @@
 -- The ways through the check: it passes what the definition passes.
-use mathlib.Core.Path.{_≡_, refl, sym, ap, ap₂, _∙_}
+use mathlib.Core.Path.{_≡_, refl, sym, ap, _∙_}
 use mathlib.Core.Bool.{Bool, true, false, cond, false≢true}
-use mathlib.Core.Option.{none, some}
+use mathlib.Core.Option.{some}
 use mathlib.Core.List.{List}
 use Prim.Native.Nat.{ℕ, _≤_, _<_}
 use native.Mathlib.Omega.{arith}
@@ -17,15 +17,15 @@ use Rattle.format.specs.Tree.{Items}
 use Rattle.format.specs.Judge.{Judged, judge}
 use Rattle.format.specs.Judge.Judged.{refused, accepted}
 use Rattle.format.specs.Meaning.{meaningOf, ifAccepted, encode, normalOf, normal}
-use Rattle.format.specs.Same.{sameAnswer, hasNormal, isNormal}
+use Rattle.format.specs.Same.{sameAnswer, isNormal}
 use Rattle.format.proofs.Rules.{accepted-size}
 use Rattle.format.proofs.Round.{encode-injective}
-use Rattle.format.proofs.Same.{same-exactly, has-exactly, normal-exactly}
+use Rattle.format.proofs.Same.{same-exactly, normal-exactly}
 use Rattle.format.proofs.Normal.{accepted-ok, accepted-is}
 use Rattle.fold.specs.declared.CheckAnswer.{CheckAnswer}
 use Rattle.fold.specs.declared.CheckAnswer.the-variants.{Passes, Fails}
 use Rattle.fold.specs.Calls.{passes, checkAnswer}
-use Rattle.fold.proofs.Packs.{Packs, Passing, passes-exactly}
+use Rattle.fold.proofs.Packs.{Passing, passes-exactly}
 
 -- where octets can't pass, the answer is 22
 fails-where : (o p : List ℕ) → (Passing o p → ⊥) → (r : CheckAnswer) → r ≡ Fails (refusal 22 0) → r ≡ checkAnswer o p

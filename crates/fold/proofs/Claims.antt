@@ -15,7 +15,6 @@ use Rattle.octets.specs.Numbers.{Octets}
 use Rattle.octets.proofs.Lists.{part-of-sets, sets-none}
 use Rattle.octets.proofs.Tests.{never}
 use Rattle.format.specs.declared.Refusal.{Refusal}
-use Rattle.format.specs.declared.WriteAnswer.{WriteAnswer}
 use Rattle.format.specs.declared.WriteAnswer.the-variants.{Octets as Handed, NotWritten}
 use Rattle.format.specs.Answers.{refusal}
 use Rattle.format.specs.Calls.{roomy}

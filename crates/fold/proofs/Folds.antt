@@ -1,25 +1,24 @@
 -- An accepted object without a token table, its words folded: it is accepted too, and means the same. Said by the grammar, constructor by constructor.
 use mathlib.Core.Path.{_≡_, refl, sym, ap, ap₂, _∙_, subst, fun-ext}
-use mathlib.Core.Bool.{Bool, true, false, cond, not, _&&_, _||_, false≢true}
-use mathlib.Core.Option.{Option, none, some, Option·map, Option·none-ne-some, Option·some-ne-none, Option·some-injective}
+use mathlib.Core.Bool.{Bool, true, false, cond, not, false≢true}
+use mathlib.Core.Option.{none, some, Option·some-ne-none}
 use mathlib.Core.List.{List, [], _∷_, _++_, append-assoc, append-nil}
-use Prim.Native.Nat.{ℕ, zero, suc, _+_, _^_, _≤_, _<_}
+use Prim.Native.Nat.{ℕ, suc, _+_, _^_, _≤_, _<_}
 use native.Mathlib.Omega.{arith}
 use lib.Dec.{eqb, leb}
-use lib.ListN.{length, length-append}
+use lib.ListN.{length}
 use borrow.Author.Tests.{leb-true, eqb-true, ne-eqb}
 use Rattle.octets.specs.Numbers.{digits}
 use Rattle.octets.specs.Header.{lengthField, framed}
 use Rattle.octets.proofs.Frames.{headed, framed-longer}
-use Rattle.octets.proofs.Numbers.{length-digits}
 use Rattle.text.specs.Text.{text}
-use Rattle.text.specs.Tokens.{Entries, entries, isTable, expanded, covered, shownLength}
+use Rattle.text.specs.Tokens.{Entries, entries, covered, shownLength}
 use Rattle.text.proofs.Words.{expanded-empty}
 use Rattle.text.proofs.Expansion.{text-plain}
 use Rattle.values.specs.declared.Kind.{Kind}
 use Rattle.values.specs.declared.Kind.the-variants.{HoldsItems, HoldsTokens, HoldsText, HoldsPlain, HoldsTime, HoldsBearer, HoldsNumber}
 use Rattle.values.specs.Table.{known, attribute}
-use Rattle.values.specs.Values.{Value, fits, meant}
+use Rattle.values.specs.Values.{fits, meant}
 use Rattle.values.specs.Values.Value.{octets}
 use Rattle.values.proofs.Known.{ElementTag, attribute-kind, known-anywhere, known-one, known-six, items-tag, plain-tag, language-tag}
 use Rattle.format.specs.Tree.{Items, find}
@@ -29,8 +28,8 @@ use Rattle.format.specs.Meaning.{opens, counted, attributesIn, cdataIn, valueIn
 use Rattle.format.specs.Meaning.Meaning.{leaf, element}
 use Rattle.format.proofs.Force.{attribute-four, attribute-one, swap-eqb}
 use Rattle.format.proofs.Means.{items-opens, opens-items, opens-leaf, value-no-items, means-attribute, means-cdata, means-table, means-element, means-leaf, leaf-text, leaf-plain}
-use Rattle.grammar.specs.Grammar.{Form, header, Says, Begins, TextIn, ValueIn, Part, Child, Inside, Accepts}
-use Rattle.grammar.specs.Grammar.Form.{short, middle, long}
+use Rattle.grammar.specs.Grammar.{Begins, TextIn, ValueIn, Part, Child, Inside}
+use Rattle.grammar.specs.Grammar.Form.{short, middle}
 use Rattle.grammar.specs.Grammar.Part.{attributes, table, language, elements, cdata, nothing}
 use Rattle.grammar.specs.Grammar.Inside.{knownAttribute, unknownAttribute, attributesOfTop, attributesOfOther, someTable, noTable, someLanguage, noLanguage, heldElement, plainElement, unknownElement, noElement, someCdata, noCdata, filled}
 use Rattle.fold.specs.Packed.{tokens, entriesOf, tableOctets, folded, refolded}

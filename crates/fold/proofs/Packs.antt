@@ -1,12 +1,12 @@
 -- The packed object of a normal form: it is accepted, has that very normal form and isn't longer; so it passes the check (request 2026-11).
-use mathlib.Core.Path.{_≡_, refl, sym, ap, ap₂, _∙_, subst}
-use mathlib.Core.Bool.{Bool, true, false, cond, _&&_, false≢true}
+use mathlib.Core.Path.{_≡_, refl, sym, ap, _∙_, subst}
+use mathlib.Core.Bool.{Bool, true, false, cond, _&&_}
 use mathlib.Core.Logic.{_↔_}
-use mathlib.Core.Option.{Option, none, some, Option·some-injective, Option·none-ne-some, Option·some-ne-none}
-use mathlib.Core.List.{List, [], _∷_, _++_, append-nil}
-use Prim.Native.Nat.{ℕ, zero, suc, _+_, _^_, _≤_, _<_}
+use mathlib.Core.Option.{none, some, Option·some-injective, Option·none-ne-some}
+use mathlib.Core.List.{List, [], append-nil}
+use Prim.Native.Nat.{ℕ, _+_, _^_, _≤_, _<_}
 use native.Mathlib.Omega.{arith}
-use lib.Dec.{eqb, leb, ltb}
+use lib.Dec.{leb, ltb}
 use lib.ListN.{length}
 use borrow.Author.Tests.{ltb-true, leb-true, le-leb}
 use Rattle.octets.specs.Numbers.{Octets}
@@ -14,21 +14,14 @@ use Rattle.octets.specs.Header.{framed}
 use Rattle.octets.proofs.Frames.{headed, framed-longer}
 use Rattle.octets.proofs.Tests.{and-left, and-right, and-true}
 use Rattle.text.specs.Tokens.{Entries}
-use Rattle.values.specs.declared.Kind.the-variants.{HoldsItems}
-use Rattle.values.specs.Table.{known, attribute}
-use Rattle.values.proofs.Known.{items-tag}
 use Rattle.format.specs.Tree.{Items, find}
 use Rattle.format.specs.Tree.Items.{end, item}
 use Rattle.format.specs.Judge.{Judged, isTop, judge}
 use Rattle.format.specs.Judge.Judged.{refused, accepted}
-use Rattle.format.specs.Meaning.{means, tableIn, tableOf, meaningOf, ifAccepted, meaning, encode, normalOf, normal}
+use Rattle.format.specs.Meaning.{means, tableIn, tableOf, meaningOf, ifAccepted, encode, normalOf, normal}
 use Rattle.format.specs.Same.{sameOctets, hasNormal, isNormal}
-use Rattle.format.proofs.Rules.{same-tree}
-use Rattle.format.proofs.Force.{attribute-four, swap-eqb, top-known}
-use Rattle.format.proofs.Normal.{accepted-ok}
-use Rattle.grammar.specs.Grammar.{Part, Inside, Accepts}
-use Rattle.grammar.specs.Grammar.Part.{attributes, table, language, elements, cdata, nothing}
-use Rattle.grammar.specs.Grammar.Inside.{knownAttribute, unknownAttribute, attributesOfTop, attributesOfOther, someTable, noTable, someLanguage, noLanguage, heldElement, plainElement, unknownElement, noElement, someCdata, noCdata, filled}
+use Rattle.grammar.specs.Grammar.{Inside, Accepts}
+use Rattle.grammar.specs.Grammar.Part.{attributes, table}
 use Rattle.grammar.proofs.Tags.{top-items}
 use Rattle.grammar.proofs.Sound.{sound}
 use Rattle.grammar.proofs.Complete.{complete}

@@ -1,22 +1,21 @@
 -- The token table of words: it is one (rule 11), its entries are read back, and each tag finds its word.
-use mathlib.Core.Path.{_≡_, refl, sym, ap, ap₂, _∙_, subst}
-use mathlib.Core.Bool.{Bool, true, false, cond, not, _&&_, false≢true}
+use mathlib.Core.Path.{_≡_, refl, ap, _∙_}
+use mathlib.Core.Bool.{Bool, true, false, not, _&&_}
 use mathlib.Core.Option.{some}
 use mathlib.Core.List.{List, [], _∷_, _++_, append-nil}
 use Prim.Native.Nat.{ℕ, zero, suc, _+_, _≤_, _<_}
 use native.Mathlib.Omega.{arith}
 use native.Mathlib.Nat.{not-suc-le-zero}
-use lib.Dec.{eqb, leb, ltb}
-use lib.ListN.{length, take, drop, length-append}
+use lib.Dec.{leb, ltb}
+use lib.ListN.{length, length-append}
 use lib.Seq.{take-append-seam, drop-append-seam}
-use borrow.Author.Tests.{leb-true, le-leb, ltb-true, eqb-true, eq-eqb, ne-eqb}
+use borrow.Author.Tests.{leb-true, le-leb, ltb-true, eq-eqb, ne-eqb}
 use Rattle.octets.specs.Numbers.{among}
-use Rattle.octets.proofs.Tests.{and-left, and-right, and-true, or-elim}
+use Rattle.octets.proofs.Tests.{and-left, and-right, or-elim}
 use Rattle.text.specs.Runs.{within}
 use Rattle.text.specs.Text.{layout, token, utf8, text}
 use Rattle.text.specs.Tokens.{Entries, entries, cut, filled, isTable, entry}
 use Rattle.text.proofs.Laws.{ascii-text}
-use Rattle.format.specs.Same.{sameOctets}
 use Rattle.fold.specs.Words.{letter, allLetters, isWord}
 use Rattle.fold.specs.Packed.{tokens, entriesOf, tableOctets}
 

@@ -1,18 +1,17 @@
 -- A folded text: expanded, it is the text again, whatever words are folded; and it is valid text, of which each token octet has an entry.
-use mathlib.Core.Path.{_≡_, refl, sym, ap, ap₂, _∙_, subst}
-use mathlib.Core.Bool.{Bool, true, false, cond, not, _&&_, _||_, false≢true, or-true}
+use mathlib.Core.Path.{_≡_, refl, sym, ap, _∙_}
+use mathlib.Core.Bool.{Bool, true, false, cond, not, _||_, false≢true, or-true}
 use mathlib.Core.Option.{Option, none, some, Option·some-injective, Option·none-ne-some}
 use mathlib.Core.List.{List, [], _∷_, _++_, append-assoc, append-nil}
-use Prim.Native.Nat.{ℕ, zero, suc, _+_, _*_, _/_, _%_, _≤_, _<_}
+use Prim.Native.Nat.{ℕ, zero, suc, _+_, _*_, _/_, _%_}
 use native.Mathlib.Omega.{arith}
 use lib.Dec.{eqb, leb, ltb}
-use lib.ListN.{length}
-use borrow.Author.Tests.{eqb-true, lt-ltb}
+use borrow.Author.Tests.{eqb-true}
 use Rattle.octets.specs.Counts.{asCharacters}
 use Rattle.octets.proofs.Tests.{and-left, and-right, and-true, and-map, cond-map}
 use Rattle.text.specs.Text.{layout, token, character, single, goesOn, utf8, text}
 use Rattle.text.specs.Tokens.{Entries, entry, orItself, stands, expanded, present, covers, covered, starts, shownLength}
-use Rattle.text.proofs.Words.{expanded-empty, plain-text-covered, covered-cons, high-octet}
+use Rattle.text.proofs.Words.{expanded-empty}
 use Rattle.text.proofs.Sequences.{token-facts, utf8-zero, text-low}
 use Rattle.text.proofs.Laws.{ascii-text, expanded-append, bare-expanded}
 use Rattle.format.specs.Same.{sameOctets}

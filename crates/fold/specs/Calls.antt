@@ -1,11 +1,10 @@
--- What the check and the plain packer answer, and what the lent room then holds (request 2026-11). Refusal 22, at zero: the check says no, or the packer is given no
--- normal form. 15: the packed object is above the room.
+-- What the check and the plain packer answer, and what the lent room then holds (request 2026-11). Refusal 22, at zero: the check says no, or the packer is
+-- given no normal form. 15: the packed object is above the room.
 use mathlib.Core.Path.{_≡_}
 use mathlib.Core.Bool.{Bool, cond, _&&_}
 use mathlib.Core.Option.{Option, none, some}
 use mathlib.Core.List.{List, []}
 use Prim.Native.Nat.{ℕ}
-use lib.ListN.{length}
 use lib.Seq.{sets}
 use Rattle.octets.specs.declared.counts.Octets.{Octets as OctetCount}
 use Rattle.octets.specs.Counts.{sizeOf, octetsWithin}

@@ -52,7 +52,8 @@ taggedAll es (w ∷ ws) = tagged es w ++ taggedAll es ws
 unfoldable pub folded : Entries → List ℕ → List ℕ
 folded es o = taggedAll es (pieces [] o)
 
--- the items of an element of a tag, with folded texts and lengths in their shortest form; all else as it stands. The octets `table` come right behind the attributes
+-- the items of an element of a tag, with folded texts and lengths in the form that is written; all else as it stands. The octets `table` come right behind the
+-- attributes
 unfoldable pub refolded : Entries → (table : List ℕ) (parent : ℕ) → Items → List ℕ
 refolded es table parent end = table
 refolded es table parent (item tag at body inside after) =

@@ -59,8 +59,8 @@ unfoldable pub tallied : List (List ℕ) → List (List ℕ) → List Tally
 tallied seen [] = []
 tallied seen (w ∷ ws) = cond (isAmong w seen) [] ((w, uses w (w ∷ ws)) ∷ []) ++ tallied (w ∷ seen) ws
 
--- the octets that folding a word of so many octets saves, used so often: each use becomes one octet, and the entry takes a tag octet, a length octet and the word.
--- 0 where it saves none
+-- the octets that folding a word of so many octets saves, used so often: each use becomes one octet, and the entry takes a tag octet, a length octet and the
+-- word. 0 where it saves none
 unfoldable pub savedBy : (uses size : ℕ) → ℕ
 savedBy uses size = uses * (size - 1) - (size + 2)
 

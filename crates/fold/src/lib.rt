@@ -1,5 +1,5 @@
-// Common words folded again (request 2026-11): which words of a normal form are folded, what the packed object of a normal form is, and the check that any packer's
-// proposal passes or not. The plain packer itself is crate packer.
+// Common words folded again (request 2026-11): which words of a normal form are folded, what the packed object of a normal form is, and the check that a
+// proposal of any packer passes or not. The plain packer itself is crate packer.
 //
 // The check is lent no memory and asks nothing of its arguments. Cost: it judges both objects and compares what they mean.
 ghost use mathlib.Core.Path.{_≡_};

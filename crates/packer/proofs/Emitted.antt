@@ -1,18 +1,17 @@
 -- Items with folded texts, laid into a room: the ways of `emit_item` and the loop of `emit_items`.
 use mathlib.Core.Path.{_≡_, refl, sym, ap, ap₂, subst, _∙_}
-use mathlib.Core.Bool.{Bool, true, false, cond, false≢true}
+use mathlib.Core.Bool.{Bool, true, false, cond}
 use mathlib.Core.Option.{Option, none, some}
 use mathlib.Core.List.{List, [], _∷_, _++_, append-assoc, append-nil}
-use Prim.Native.Nat.{ℕ, zero, suc, _+_, _*_, _-_, _^_, _≤_, _<_}
+use Prim.Native.Nat.{ℕ, _+_, _-_, _≤_, _<_}
 use native.Mathlib.Nat.{add-zero}
 use native.Mathlib.Omega.{arith}
-use lib.Dec.{eqb, leb}
-use lib.ListN.{length, getD, take, drop, length-drop, drop-of-length-le}
+use lib.ListN.{length, getD, take, drop, drop-of-length-le}
 use Rattle.octets.specs.Header.{lengthField, framed}
 use Rattle.octets.proofs.Lists.{length-part}
 use Rattle.text.specs.Tokens.{Entries}
 use Rattle.values.specs.declared.Kind.{Kind}
-use Rattle.values.specs.Table.{known, attribute}
+use Rattle.values.specs.Table.{known}
 use Rattle.format.specs.Tree.{Items}
 use Rattle.format.specs.Tree.Items.{end, item}
 use Rattle.format.specs.Judge.{isKnown, isItems, isText}
@@ -28,7 +27,7 @@ use Rattle.reader.proofs.Opening.{lies-inside, met}
 use Rattle.fold.specs.Packed.{folded, refolded}
 use Rattle.packer.specs.declared.collecting.Sort.{Sort}
 use Rattle.packer.specs.Collecting.{sortOf}
-use Rattle.packer.specs.Sizing.{ItemsSized, Opens}
+use Rattle.packer.specs.Sizing.{ItemsSized}
 use Rattle.packer.specs.Laying.{Placed}
 use Rattle.packer.specs.Emitting.{ItemsEmitted, ItemEmitted}
 use Rattle.packer.proofs.Sized.{refolded-item}
@@ -119,9 +118,6 @@ module _ (es : Entries) (p tag left : ℕ) (body : List ℕ) (h : length body < 
       }
 
       module _ (z : s ≡ Sort.Items) (d : left ≡ 0 → ⊥) (m : ItemsSized es tag (left - 1) body n) where
-        pub emit-few : n < 65_536
-        emit-few = omega (arith, m .small)
-
         pub emit-inside : Placed (tag ∷ lengthField n) before mid at r → ItemsEmitted es tag (left - 1) body mid after r q → ItemEmitted es p tag left body before after at q
         emit-inside x y = record {
           long = y .long ∙ x .long;
@@ -163,9 +159,6 @@ begin es p left part before at = record {
 }
 
 module _ (es : Entries) (p left : ℕ) (part before out : List ℕ) (at stop i : ℕ) (inv : Emitting es p left part before out at stop i) where
-  pub still : length out ≡ length before
-  still = inv .long
-
   pub ended : length part ≤ i → ItemsEmitted es p left part before out at stop
   ended h = record {
     long = inv .long;

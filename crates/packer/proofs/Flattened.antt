@@ -1,29 +1,24 @@
 -- The words of an accepted object in the order of its octets are those of its tree. Said by the grammar, constructor by constructor.
-use mathlib.Core.Path.{_≡_, refl, sym, ap, ap₂, subst, _∙_}
-use mathlib.Core.Bool.{Bool, true, false, cond, not, _&&_, false≢true}
+use mathlib.Core.Path.{_≡_, refl, sym, ap, subst, _∙_}
+use mathlib.Core.Bool.{true, false, cond, false≢true}
 use mathlib.Core.Option.{Option, none, some}
-use mathlib.Core.List.{List, [], _∷_, _++_, append-assoc, append-nil}
-use Prim.Native.Nat.{ℕ, zero, suc, _+_, _-_, _≤_, _<_}
-use native.Mathlib.Omega.{arith}
-use lib.Dec.{eqb, leb}
-use lib.ListN.{length, getD, take, drop, length-append, length-drop, take-append-drop}
-use lib.Seq.{drop-drop}
+use mathlib.Core.List.{List, [], _++_, append-assoc}
+use Prim.Native.Nat.{ℕ, _+_, _-_}
+use lib.ListN.{length}
 use Rattle.octets.specs.Numbers.{Octets}
-use Rattle.octets.specs.Header.{headerSize, bodySize}
 use Rattle.text.specs.Tokens.{Entries}
 use Rattle.values.specs.declared.Kind.{Kind}
 use Rattle.values.specs.declared.Kind.the-variants.{HoldsItems, HoldsTokens, HoldsText, HoldsPlain}
 use Rattle.values.specs.Table.{known, attribute}
 use Rattle.values.proofs.Known.{attribute-kind, known-anywhere, known-cdata, known-four, known-six}
-use Rattle.format.specs.Tree.{Items, find}
+use Rattle.format.specs.Tree.{Items}
 use Rattle.format.specs.Tree.Items.{end, item}
-use Rattle.format.specs.Judge.{isItems, isText, isTop, judge}
+use Rattle.format.specs.Judge.{isItems, isText, judge}
 use Rattle.format.specs.Judge.Judged.{accepted}
 use Rattle.format.proofs.Means.{value-no-items}
-use Rattle.grammar.specs.Grammar.{Form, header, Begins, Part, Child, Inside, Accepts}
+use Rattle.grammar.specs.Grammar.{header, Begins, Part, Inside}
 use Rattle.grammar.specs.Grammar.Part.{attributes, table, language, elements, cdata, nothing}
 use Rattle.grammar.specs.Grammar.Inside.{knownAttribute, unknownAttribute, attributesOfTop, attributesOfOther, someTable, noTable, someLanguage, noLanguage, heldElement, plainElement, unknownElement, noElement, someCdata, noCdata, filled}
-use Rattle.grammar.proofs.Headers.{Begun, begun}
 use Rattle.grammar.proofs.Tags.{top-items}
 use Rattle.grammar.proofs.Complete.{complete}
 use Rattle.fold.specs.Words.{pieces, wordsAmong, wordsIn}

@@ -2,17 +2,15 @@
 use mathlib.Core.Path.{_≡_, refl, sym, ap, ap₂, subst, _∙_}
 use mathlib.Core.Bool.{Bool, true, false, cond, _&&_}
 use mathlib.Core.List.{List, [], _∷_, _++_, append-assoc, append-nil, map}
-use Prim.Native.Nat.{ℕ, zero, suc, _+_, _*_, _-_, _^_, _≤_, _<_, min}
+use Prim.Native.Nat.{ℕ, zero, suc, _+_, _*_, _-_, _≤_, _<_}
 use native.Mathlib.Numerals.{add-one}
 use native.Mathlib.Omega.{arith}
-use lib.Dec.{eqb, leb, ltb}
-use lib.ListN.{length, getD, take, drop, set, length-append, length-set, length-take, length-map}
+use lib.Dec.{eqb, ltb}
+use lib.ListN.{length, getD, take, drop, set, length-append, length-set, length-map}
 use lib.Seq.{sets, length-sets, take-all, length-take-le, getD-take}
-use mir.Syntax.{w64, w8}
-use mir.Val.{Fits}
 use borrow.Author.Tests.{eqb-true, lt-ltb, le-ltb}
 use Rattle.octets.proofs.Tests.{and-left, and-right}
-use Rattle.octets.proofs.Lists.{sets-append, sets-none, length-part}
+use Rattle.octets.proofs.Lists.{sets-append, length-part}
 use Rattle.text.specs.Tokens.{Entries}
 use Rattle.fold.specs.Packed.{tokens, entriesOf, tableOctets}
 use Rattle.packer.specs.declared.ranking.Word.{Word}

@@ -1,19 +1,18 @@
 -- A text folded by a token table: the ways of one piece, and the loops over the pieces.
-use mathlib.Core.Path.{_≡_, refl, sym, ap, ap₂, subst, _∙_}
-use mathlib.Core.Bool.{Bool, true, false, cond, _&&_, false≢true}
+use mathlib.Core.Path.{_≡_, refl, sym, ap, _∙_}
+use mathlib.Core.Bool.{Bool, true, false, cond, _&&_}
 use mathlib.Core.Option.{Option, none, some}
-use mathlib.Core.List.{List, [], _∷_, _++_, append-nil}
-use Prim.Native.Nat.{ℕ, zero, suc, _+_, _-_, _^_, _≤_, _<_}
-use native.Mathlib.Nat.{add-zero}
+use mathlib.Core.List.{List, [], _∷_, _++_}
+use Prim.Native.Nat.{ℕ, suc, _+_, _-_, _^_, _≤_, _<_}
 use native.Mathlib.Omega.{arith}
-use lib.Dec.{eqb, leb}
-use lib.ListN.{length, getD, take, drop, length-append, length-drop, drop-of-length-le}
+use lib.Dec.{leb}
+use lib.ListN.{length, take, drop, length-append, drop-of-length-le}
 use mir.Syntax.{w64}
 use mir.Val.{Fits}
 use borrow.Author.Tests.{leb-true}
-use Rattle.octets.proofs.Tests.{and-left, and-right}
+use Rattle.octets.proofs.Tests.{and-left}
 use Rattle.octets.proofs.Lists.{length-part}
-use Rattle.text.specs.Tokens.{Entries, entries}
+use Rattle.text.specs.Tokens.{Entries}
 use Rattle.fold.specs.Words.{letter, allLetters, pieces, isWord}
 use Rattle.fold.specs.Packed.{tagOf, orWord, tagged, taggedAll, folded}
 use Rattle.fold.proofs.Texts.{tagged-other}

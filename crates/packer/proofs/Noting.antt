@@ -1,16 +1,16 @@
 -- Words noted in lists: the ways of `note_one` and the loop of `note_words`.
-use mathlib.Core.Path.{_≡_, refl, sym, ap, ap₂, subst, _∙_}
-use mathlib.Core.Bool.{Bool, true, false, cond, not, _&&_, false≢true}
-use mathlib.Core.Logic.{_⊎_, inl, inr, ⊎-elim}
-use mathlib.Core.Option.{Option, none, some}
+use mathlib.Core.Path.{_≡_, refl, sym, ap, ap₂, _∙_}
+use mathlib.Core.Bool.{Bool, true, false, cond, _&&_}
+use mathlib.Core.Logic.{_⊎_, ⊎-elim}
+use mathlib.Core.Option.{some}
 use mathlib.Core.List.{List, [], _∷_, _++_, append-assoc, append-nil}
-use Prim.Native.Nat.{ℕ, zero, suc, _+_, _*_, _-_, _^_, _≤_, _<_}
+use Prim.Native.Nat.{ℕ, zero, suc, _+_, _-_, _≤_, _<_}
 use native.Mathlib.Numerals.{add-one}
 use native.Mathlib.Omega.{arith}
 use lib.Dec.{eqb, leb}
 use lib.ListN.{length, getD, take, drop, set, length-set, length-drop, drop-of-length-le, take-append-drop}
 use lib.Seq.{getD-set-same, getD-set-other, take-nil, take-take, drop-drop}
-use mir.Syntax.{w64, w16, w8}
+use mir.Syntax.{w64, w8}
 use mir.Val.{Fits}
 use borrow.Author.Tests.{leb-true, eqb-true, eqb-false}
 use Rattle.octets.proofs.Tests.{and-left, and-right}
@@ -27,7 +27,7 @@ use Rattle.format.specs.Judge.{isItems, isText}
 use Rattle.packer.specs.declared.collecting.Sort.{Sort}
 use Rattle.fold.specs.Words.{letter, allLetters, pieces, isWord, wordsAmong}
 use Rattle.packer.specs.Leaves.{LettersTo, PieceTo}
-use Rattle.packer.specs.Counting.{wordAt, wordsFrom, Noted}
+use Rattle.packer.specs.Counting.{wordAt, wordsFrom}
 use Rattle.packer.specs.Collecting.{sortOf, Holding, Notes}
 use Rattle.packer.proofs.Cutting.{piece-letters}
 
@@ -206,11 +206,6 @@ pub ruleset sort-ways = (sort-unknown, sort-items, sort-tokens, sort-text, sort-
 abbrev Closed : List ℕ → Type 0
 Closed [] = Unit {0}
 Closed (b ∷ o) = letter b ≡ false
-
-words-join : (a b : List (List ℕ)) → wordsAmong (a ++ b) ≡ wordsAmong a ++ wordsAmong b
-unfolding wordsAmong
-words-join [] b = refl
-words-join (w ∷ a) b = ap (λ q. cond (isWord w) (w ∷ []) [] ++ q) (words-join a b) ∙ sym (append-assoc (cond (isWord w) (w ∷ []) []) (wordsAmong a) (wordsAmong b))
 
 words-none : wordsAmong (pieces [] []) ≡ []
 unfolding pieces wordsAmong isWord

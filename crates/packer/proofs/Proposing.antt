@@ -1,12 +1,12 @@
 -- The packer of a normal form: the ways of `propose` and `pack_normal`.
 use mathlib.Core.Path.{_≡_, refl, sym, ap, ap₂, subst, _∙_}
-use mathlib.Core.Bool.{Bool, true, false, cond, _&&_, false≢true}
-use mathlib.Core.Option.{Option, none, some}
-use mathlib.Core.List.{List, [], _∷_, _++_, map}
+use mathlib.Core.Bool.{Bool, true, false, cond, false≢true}
+use mathlib.Core.Option.{none, some}
+use mathlib.Core.List.{List}
 use Prim.Native.Nat.{ℕ, zero, suc, _+_, _-_, _≤_, _<_, min}
 use native.Mathlib.Omega.{arith}
-use lib.Dec.{leb, ltb}
-use lib.ListN.{length, getD, take, drop, replicate, length-take}
+use lib.Dec.{leb}
+use lib.ListN.{length, getD, take, replicate, length-take}
 use lib.Seq.{sets, length-sets, length-take-le}
 use borrow.Author.Tests.{le-leb, lt-leb, lt-ltb, le-ltb, leb-true, leb-false, not-true, not-false}
 use Rattle.octets.specs.Counts.{asOctets, sizeOf}
@@ -38,10 +38,9 @@ use Rattle.format.proofs.Same.{same-octets, octets-same}
 use Rattle.fold.proofs.Tables.{entries-back}
 use Rattle.packer.specs.declared.ranking.Best.{Best}
 use Rattle.packer.specs.Ranks.{listed}
-use Rattle.packer.specs.Counting.{wordsFrom, Noted, Taken}
+use Rattle.packer.specs.Counting.{Taken}
 use Rattle.packer.specs.Collecting.{Collected}
 use Rattle.packer.specs.Tables.{tableBy, Tabled}
-use Rattle.packer.specs.Laying.{Placed}
 use Rattle.packer.specs.Topping.{heldWith, foldedWith, TopSized, TopEmitted}
 use Rattle.packer.specs.Packing.{IsNormal, Proposed}
 use Rattle.packer.proofs.Sized.{framed-least}

@@ -1,20 +1,19 @@
 -- Sizes of items with folded texts: the ways of `size_item` and the loop of `size_items`.
 use mathlib.Core.Path.{_≡_, refl, sym, ap, ap₂, subst, _∙_}
-use mathlib.Core.Bool.{Bool, true, false, cond, false≢true}
+use mathlib.Core.Bool.{Bool, true, false, cond}
 use mathlib.Core.Option.{Option, none, some}
-use mathlib.Core.List.{List, [], _∷_, _++_, append-nil}
-use Prim.Native.Nat.{ℕ, zero, suc, _+_, _*_, _-_, _^_, _≤_, _<_}
+use mathlib.Core.List.{List, [], _∷_, _++_}
+use Prim.Native.Nat.{ℕ, suc, _+_, _*_, _-_, _≤_, _<_}
 use native.Mathlib.Nat.{add-zero}
 use native.Mathlib.Omega.{arith}
-use lib.Dec.{eqb, leb}
-use lib.ListN.{length, getD, take, drop, length-append, length-drop, drop-of-length-le}
+use lib.Dec.{leb}
+use lib.ListN.{length, getD, take, drop, length-append, drop-of-length-le}
 use mir.Syntax.{w64}
 use mir.Val.{Fits}
 use Rattle.octets.specs.declared.counts.Octets.{Octets as OctetCount}
 use Rattle.octets.specs.Counts.{asOctets}
 use Rattle.octets.specs.Numbers.{digits}
 use Rattle.octets.specs.Header.{lengthField, framed}
-use Rattle.octets.proofs.Tests.{cond-same}
 use Rattle.octets.proofs.Lists.{length-part}
 use Rattle.octets.proofs.Numbers.{length-digits}
 use Rattle.text.specs.Tokens.{Entries}
@@ -31,13 +30,13 @@ use Rattle.survey.specs.Normal.{framedSize}
 use Rattle.octets.specs.declared.Lies.{Lies}
 use Rattle.octets.specs.declared.Lies.the-variants.{Outside, Between}
 use Rattle.octets.specs.Places.{liesAt}
-use Rattle.octets.proofs.Places.{Lying, lying, bounds, to-inside, ordered}
+use Rattle.octets.proofs.Places.{Lying, lying, bounds}
 use Rattle.reader.proofs.Opening.{lies-inside, met}
 use Rattle.survey.proofs.Ways.{framed-length}
 use Rattle.fold.specs.Packed.{folded, refolded}
 use Rattle.packer.specs.declared.collecting.Sort.{Sort}
 use Rattle.packer.specs.Collecting.{sortOf}
-use Rattle.packer.specs.Sizing.{ItemsSized, Opens, ItemSized}
+use Rattle.packer.specs.Sizing.{ItemsSized, ItemSized}
 use Rattle.packer.proofs.Measuring.{folded-shorter}
 
 -- ---- `framed_size`
@@ -141,9 +140,6 @@ module _ (es : Entries) (p tag left : ℕ) (body : List ℕ) (h : length body < 
   pub item-nothing : s ≡ Sort.Nothing → ItemSized es p tag left body 0
   item-nothing q = record { small = omega arith; told = λ depth offset u l a. sym (subst (Adds es p tag body s e (known p tag)) q (adds es p tag body s e) offset u) }
 
-  pub plain-few : length body ≤ 131_072
-  plain-few = omega arith
-
   pub item-plain : s ≡ Sort.Plain → (r : ℕ) → r ≡ framedSize (length body) → ItemSized es p tag left body r
   item-plain q r x = record {
     small = omega (arith, framed-few (length body));
@@ -168,9 +164,6 @@ module _ (es : Entries) (p tag left : ℕ) (body : List ℕ) (h : length body < 
     item-deep z = record { small = omega arith; told = λ depth offset u l a. absurd (omega (arith, a (held .0) .0)) }
 
     module _ (z : left ≡ 0 → ⊥) (n : ℕ) (m : ItemsSized es tag (left - 1) body n) where
-      pub inside-few : n ≤ 131_072
-      inside-few = omega (arith, m .small)
-
       pub item-inside : (r : ℕ) → r ≡ framedSize n → ItemSized es p tag left body r
       item-inside r x = record {
         small = omega (arith, framed-few n, m .small);

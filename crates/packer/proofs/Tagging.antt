@@ -1,22 +1,18 @@
 -- A word looked for in a token table: the loops of `are_same` and `tag_of`.
-use mathlib.Core.Path.{_≡_, refl, sym, ap, ap₂, subst, _∙_}
-use mathlib.Core.Bool.{Bool, true, false, cond, not, _&&_}
-use mathlib.Core.Option.{Option, none, some}
-use mathlib.Core.List.{List, [], _∷_, _++_}
-use Prim.Native.Nat.{ℕ, zero, suc, _+_, _-_, _^_, _≤_, _<_}
+use mathlib.Core.Path.{_≡_, refl, sym, ap, _∙_}
+use mathlib.Core.Bool.{Bool, true, false, cond, _&&_}
+use mathlib.Core.Option.{some}
+use mathlib.Core.List.{List, [], _∷_}
+use Prim.Native.Nat.{ℕ, zero, suc, _+_, _-_, _≤_, _<_}
 use native.Mathlib.Nat.{add-zero}
 use native.Mathlib.Omega.{arith}
 use lib.Dec.{eqb, leb}
-use lib.ListN.{length, getD, take, drop, length-drop, drop-of-length-le}
+use lib.ListN.{length, getD, take, drop, length-drop}
 use lib.Seq.{drop-drop, getD-drop}
-use mir.Syntax.{w64}
-use mir.Val.{Fits}
-use borrow.Author.Tests.{eq-eqb, ne-eqb, lt-leb, le-leb}
-use Rattle.octets.proofs.Lists.{part-to-end, drop-next}
-use Rattle.text.specs.Tokens.{Entries, entries, cut}
+use borrow.Author.Tests.{lt-leb, le-leb}
+use Rattle.text.specs.Tokens.{entries, cut}
 use Rattle.format.specs.Same.{sameOctets}
 use Rattle.fold.specs.Packed.{tagOf}
-use Rattle.packer.specs.declared.lookup.Tag.{Tag}
 use Rattle.packer.specs.declared.lookup.Tag.the-variants.{Nothing, Is}
 use Rattle.packer.specs.Leaves.{asTag}
 
@@ -35,36 +31,6 @@ unlike (x ∷ a) (y ∷ b) h = go (eqb x y) (unlike a b (λ e. h (ap suc e)))
 
 pub alike-not : (a b : List ℕ) → (length a ≡ length b → ⊥) → false ≡ sameOctets a b
 alike-not a b h = sym (unlike a b h)
-
--- the octets up to a place are the same
-pub record Alike (a b : List ℕ) (i : ℕ) : Type 0 where
-  pub long : length a ≡ length b
-  pub inside : i ≤ length a
-  pub rest : sameOctets a b ≡ sameOctets (drop i a) (drop i b)
-
-pub alike-begin : (a b : List ℕ) → length a ≡ length b → Alike a b 0
-alike-begin a b h = record { long = h; inside = omega arith; rest = refl }
-
-module _ (a b : List ℕ) (i : ℕ) (v : Alike a b i) where
-  pub alike-done : length a ≤ i → true ≡ sameOctets a b
-  unfolding sameOctets
-  alike-done h = rw (v .rest, drop-of-length-le a h, drop-of-length-le b {i = i} (omega (arith, v .long)))
-
-  module _ (h : i < length a) where
-    pub alike-second : i < length b
-    alike-second = omega (arith, v .long)
-
-    next : sameOctets a b ≡ eqb (getD a i 0) (getD b i 0) && sameOctets (drop (i + 1) a) (drop (i + 1) b)
-    unfolding sameOctets
-    next = v .rest ∙ rw (drop-next a i 0 h, drop-next b i 0 alike-second)
-
-    pub alike-differ : (getD a i 0 ≡ getD b i 0 → ⊥) → false ≡ sameOctets a b
-    alike-differ n = rw (next, ne-eqb (getD a i 0) (getD b i 0) n)
-
-    pub alike-again : getD a i 0 ≡ getD b i 0 → Alike a b (i + 1)
-    alike-again e = record { long = v .long; inside = omega arith; rest = next ∙ rw (eq-eqb (getD a i 0) (getD b i 0) e) }
-
-pub ruleset alike-ways = (alike-not, alike-begin, alike-done, alike-second, alike-differ, alike-again)
 
 -- ---- the loop of `tag_of`
 

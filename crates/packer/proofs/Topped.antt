@@ -1,9 +1,9 @@
 -- The top of a packed object: the loop of `emit_attributes`.
-use mathlib.Core.Path.{_≡_, refl, sym, ap, ap₂, subst, _∙_}
+use mathlib.Core.Path.{_≡_, refl, sym, ap, subst, _∙_}
 use mathlib.Core.Bool.{Bool, true, false, cond, not, _&&_, false≢true}
 use mathlib.Core.Option.{Option, none, some}
-use mathlib.Core.List.{List, [], _∷_, _++_, append-assoc, append-nil}
-use Prim.Native.Nat.{ℕ, zero, suc, _+_, _-_, _≤_, _<_}
+use mathlib.Core.List.{List, [], _++_, append-assoc, append-nil}
+use Prim.Native.Nat.{ℕ, _+_, _-_, _≤_, _<_}
 use native.Mathlib.Nat.{add-zero}
 use native.Mathlib.Omega.{arith}
 use lib.ListN.{length, getD, take, drop, drop-of-length-le}
@@ -26,11 +26,9 @@ use Rattle.octets.proofs.Places.{Lying, lying, bounds}
 use Rattle.reader.proofs.Opening.{lies-inside, met}
 use Rattle.fold.specs.Packed.{folded, refolded}
 use Rattle.packer.specs.declared.collecting.Sort.{Sort}
-use Rattle.packer.specs.declared.topping.Reached.{Reached}
 use Rattle.packer.specs.Collecting.{sortOf}
-use Rattle.packer.specs.Laying.{Placed}
 use Rattle.packer.specs.Emitting.{ItemEmitted}
-use Rattle.packer.specs.Topping.{Parted, Fronted, AttributesEmitted}
+use Rattle.packer.specs.Topping.{Parted, AttributesEmitted}
 use Rattle.packer.proofs.Sized.{refolded-item}
 use Rattle.packer.proofs.Laid.{placed-join, placed-none}
 

@@ -3,9 +3,8 @@ use mathlib.Core.Path.{_≡_, refl, sym, ap, ap₂, subst, _∙_}
 use mathlib.Core.Bool.{Bool, true, false, cond, false≢true}
 use mathlib.Core.Option.{Option, none, some}
 use mathlib.Core.List.{List, [], _∷_, _++_, append-assoc, append-nil}
-use Prim.Native.Nat.{ℕ, zero, suc, _+_, _*_, _-_, _≤_, _<_}
+use Prim.Native.Nat.{ℕ, _+_, _-_, _≤_, _<_}
 use native.Mathlib.Omega.{arith}
-use lib.Dec.{eqb, leb}
 use lib.ListN.{length, getD, take, drop, length-drop, drop-of-length-le, take-append-drop}
 use lib.Seq.{drop-drop}
 use borrow.Author.Tests.{leb-false}
@@ -21,15 +20,15 @@ use Rattle.grammar.specs.Grammar.{Begins}
 use Rattle.grammar.proofs.Headers.{Begun, begun}
 use Rattle.octets.specs.declared.Lies.{Lies}
 use Rattle.octets.specs.declared.Lies.the-variants.{Outside, Between}
-use Rattle.octets.specs.Places.{isWhole, liesAt}
+use Rattle.octets.specs.Places.{liesAt}
 use Rattle.octets.proofs.Places.{Lying, lying, not-whole, bounds, to-inside, ordered, body-is, later-is, tag-is}
 use Rattle.fold.specs.Words.{pieces, wordsAmong, wordsIn}
 use Rattle.packer.specs.declared.collecting.Sort.{Sort}
 use Rattle.packer.specs.declared.collecting.Cursor.{Cursor}
-use Rattle.packer.specs.Counting.{wordsFrom, Noted}
+use Rattle.packer.specs.Counting.{wordsFrom}
 use Rattle.packer.specs.Walking.{wordsOf, Flat}
 use Rattle.packer.specs.Walking.Flat.{stop, enter, pass}
-use Rattle.packer.specs.Collecting.{sortOf, Holding, Notes, Going, Collecting, Steps, Collected}
+use Rattle.packer.specs.Collecting.{sortOf, Holding, Notes, Collecting, Steps, Collected}
 use Rattle.packer.proofs.Flattened.{flat-words}
 
 -- ---- one item of octets with words

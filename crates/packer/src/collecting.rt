@@ -1,5 +1,5 @@
-// The words of all texts of an object, in reading order: where each begins and how long it is. Headers are read one behind the other, into each element that holds
-// items; no tree is kept.
+// The words of all texts of an object, in reading order: where each begins and how long it is. It goes from item to item, into each element that holds items; no
+// tree is kept.
 ghost use mathlib.Core.Path.{_≡_};
 ghost use mathlib.Core.Bool.{true};
 ghost use mathlib.Core.List.{[], _∷_};

@@ -1,5 +1,5 @@
-// How often each word is used, and the choice of those that save most. Words are kept by where they begin and how long they are. Each word is counted once, at its
-// first use, and marks its later uses; so the cost is the number of different words times the number of uses. Most of these pairs differ in their keys.
+// How often each word is used, and the choice of those that save most. Words are kept by where they begin and how long they are. Each word is counted once, at
+// its first use, and marks its later uses; so the cost is the number of different words times the number of uses. Most of these pairs differ in their keys.
 ghost use mathlib.Core.Path.{_≡_};
 ghost use mathlib.Core.Bool.{cond};
 ghost use Prim.Native.Nat.{ℕ, _+_, _≤_, _<_};

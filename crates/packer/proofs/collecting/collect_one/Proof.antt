@@ -1,4 +1,4 @@
-use Rattle.packer.proofs.Walked.{step-outside, step-ordered, step-inside, step-nothing, step-plain, step-items, step-holds, step-text, step-ways}
+use Rattle.packer.proofs.Walked.{step-ordered, step-inside, step-holds, step-ways}
 use borrow.Author.Needs.{needs}
 use Rattle.packer.proofs.collecting.collect_one.Statement.{statement}
 use Rattle.packer.proofs.collecting.collect_one.Tie as tie

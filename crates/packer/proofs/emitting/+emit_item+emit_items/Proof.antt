@@ -1,11 +1,10 @@
-use mathlib.Core.Path.{_∙_}
 use native.Mathlib.Omega.{arith}
 use lib.ListN.{length}
 use borrow.Author.Needs.{needs}
 use Rattle.text.specs.Tokens.{entries}
 use Rattle.octets.proofs.Places.{to-inside, ordered, nearer}
-use Rattle.packer.proofs.Emitted.{emit-nothing, emit-plain, emit-text, emit-few, emit-inside, emit-deep, emit-size}
-use Rattle.packer.proofs.Emitted.{Emitting, begin, still, ended, no-item, here, body-few, again}
+use Rattle.packer.proofs.Emitted.{emit-nothing, emit-plain, emit-text, emit-inside, emit-deep, emit-size}
+use Rattle.packer.proofs.Emitted.{Emitting, begin, ended, no-item, here, body-few, again}
 use Prim.Native.Nat.{ℕ, _+_, _-_, _<_}
 use borrow.Fn.Kinds.{In}
 use borrow.Fn.PlainCycle.{Measures, is, falls, and}

@@ -1,4 +1,3 @@
-use native.Mathlib.Omega.{arith}
 use Rattle.packer.proofs.Made.{entry-ways}
 use borrow.Author.Needs.{needs}
 use Rattle.packer.proofs.making.put_entry.Statement.{statement}

@@ -1,4 +1,3 @@
-use mathlib.Core.Path.{refl}
 use Rattle.packer.proofs.Proposing.{zeros}
 use borrow.Author.Needs.{needs}
 use Rattle.packer.proofs.packing.octet_places.Statement.{statement}

@@ -1,6 +1,4 @@
 use Rattle.packer.proofs.Cutting.{letter-is}
-use Rattle.text.specs.Runs.{within}
-use Rattle.fold.specs.Words.{letter}
 use borrow.Author.Needs.{needs}
 use Rattle.packer.proofs.pieces.is_letter.Statement.{statement}
 use Rattle.packer.proofs.pieces.is_letter.Tie as tie

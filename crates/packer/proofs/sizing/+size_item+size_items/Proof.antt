@@ -3,7 +3,7 @@ use lib.ListN.{length}
 use borrow.Author.Needs.{needs}
 use Rattle.text.specs.Tokens.{entries}
 use Rattle.octets.proofs.Places.{to-inside, ordered, nearer}
-use Rattle.packer.proofs.Sized.{item-nothing, plain-few, item-plain, text-few, item-text, item-deep, inside-few, item-inside}
+use Rattle.packer.proofs.Sized.{item-nothing, item-plain, text-few, item-text, item-deep, item-inside}
 use Rattle.packer.proofs.Sized.{Sizing, begin, ended, no-item, here, body-few, size-fits, again}
 use Prim.Native.Nat.{ℕ, _+_, _-_, _<_}
 use borrow.Fn.Kinds.{In}
