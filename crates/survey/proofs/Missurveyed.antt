@@ -3,7 +3,7 @@ use mathlib.Core.Path.{_≡_, refl, sym, ap, _∙_}
 use mathlib.Core.Bool.{true, false}
 use mathlib.Core.Option.{Option}
 use mathlib.Core.List.{List, [], _∷_}
-use Prim.Native.Nat.{ℕ, _<_}
+use Prim.Native.Nat.{ℕ, _+_, _<_}
 use native.Mathlib.Omega.{arith}
 use lib.ListN.{length, getD}
 use borrow.Author.Tests.{lt-leb}
@@ -36,7 +36,7 @@ use Rattle.survey.specs.declared.Standing.the-variants.{Bad, Misfit, Fit
 use Rattle.survey.specs.Normal.{valueOctets, writtenAs, itemOctets, normalSize}
 use Rattle.survey.specs.Sizes.{sizesOf}
 use Rattle.survey.specs.Measure.{measuredIn}
-use Rattle.survey.specs.Survey.{surveyed, neededBy}
+use Rattle.survey.specs.Survey.{surveyed, neededOf, neededBy}
 use Rattle.survey.specs.First.{orElse, picks, placeIn, placeAt, inRows, soughtBy, soughtAs}
 use Rattle.survey.specs.Places.{tableWithin, firstTable, tableBody, spanWithin, spanOfTag}
 
@@ -69,6 +69,20 @@ store-before-places lent t h e =
 pub refused-taken : (element n : ℕ) (m : Measured) (r : Refusal) → neededBy element (refused r) ≡ Takes n m → ⊥
 unfolding neededBy
 refused-taken element n m r h = let w : Refused r ≡ Takes n m = h in never (cc)
+
+-- ---- needs_of
+
+-- what is refused needs nothing
+pub refused-needed : (n : ℕ) (m : Measured) (r : Refusal) → neededOf (refused r) ≡ Takes n m → ⊥
+unfolding neededOf
+refused-needed n m r h = let w : Refused r ≡ Takes n m = h in never (cc)
+
+-- a record more than there are
+pub record-more : (t : Items) (m : Measured) → neededOf (accepted t) ≡ Takes (count t + 1) m → ⊥
+unfolding neededOf
+record-more t m h = let w : count t ≡ count t + 1 = cc h in omega arith
+
+-- ---- survey_inside, measured
 
 -- an attribute with its default, and with another value
 abbrev recommended : (body : List ℕ) → Items

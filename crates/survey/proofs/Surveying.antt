@@ -28,7 +28,7 @@ use Rattle.survey.specs.declared.measure.Measured.the-variants.{Over, Si
 use Rattle.survey.specs.declared.Needed.the-variants.{Refused, Takes}
 use Rattle.survey.specs.declared.Standing.the-variants.{Bad, Misfit, Fits}
 use Rattle.survey.specs.Measure.{measuredOf, Measures, MeasuresInside}
-use Rattle.survey.specs.Survey.{sufficient, surveyed, neededBy}
+use Rattle.survey.specs.Survey.{sufficient, surveyed, neededOf, neededBy}
 
 -- ---- measured
 
@@ -79,6 +79,21 @@ module _ (o : List ℕ) (v : ReadAnswer) (e : v ≡ judgeAnswer (headersOf o) (j
       pub survey-small : b ≡ false → (x : Refusal) → x ≡ refusal 15 0 → Misfit x ≡ surveyed lent (judge o)
       unfolding surveyed
       survey-small q x y = rw (y, so .is, le-leb (count (so .tree)) (lent .records) (omega (arith, so .many)), sym (measured o m g b lent d (so .tree) (so .is)), q)
+
+-- ---- needs_of
+
+module _ (o : List ℕ) (v : ReadAnswer) (e : v ≡ judgeAnswer (headersOf o) (judge o)) where
+  pub whole-refused : (r : Refusal) → v ≡ NotRead r → Refused r ≡ neededOf (judge o)
+  unfolding neededOf
+  whole-refused r f = rw (was-refused (headersOf o) (judge o) r (sym f ∙ e))
+
+  pub whole-items : (c : Counts) → v ≡ Records c → (m : Measured) → Measures o m → Takes (c .records) m ≡ neededOf (judge o)
+  unfolding neededOf Measures
+  whole-items c f m g =
+      let w = was-accepted (headersOf o) (judge o) c (sym f ∙ e) in
+      ap₂ (λ n x. Takes n x) (w .many) (g (w .tree) (w .is)) ∙ sym (ap neededOf (w .is))
+
+pub ruleset whole-ways = (whole-refused, whole-items)
 
 -- ---- survey_inside
 

@@ -15,7 +15,7 @@ use Rattle.survey.specs.declared.Needed.{Needed}
 use Rattle.survey.specs.declared.Needed.the-variants.{Refused, Takes}
 use Rattle.survey.specs.declared.Standing.{Standing}
 use Rattle.survey.specs.declared.Standing.the-variants.{Bad, Misfit, Fits}
-use Rattle.survey.specs.Measure.{measuredIn}
+use Rattle.survey.specs.Measure.{measuredOf, measuredIn}
 
 -- sizes that lent memory has
 unfoldable pub sufficient : Measured → (store room : Octets) → Bool
@@ -26,6 +26,11 @@ sufficient (Sizes stored octets) store room = octetsWithin stored store && octet
 unfoldable pub surveyed : Lent → Judged → Standing
 surveyed lent (refused r) = Bad r
 surveyed lent (accepted t) = cond (leb (count t) (lent .records)) (cond (storedWithin lent t) Fits (Misfit (refusal 15 0))) (Misfit (refusal 14 0))
+
+-- what an object needs: places for its records, and what its texts and values take of a store and its normal form of a room (change request 2026-09)
+unfoldable pub neededOf : Judged → Needed
+neededOf (refused r) = Refused r
+neededOf (accepted t) = Takes (count t) (measuredOf t)
 
 -- what items need that are judged by themselves in an element of a tag: 14 and 15 are asked of all that memory is to hold, so nothing is compared here
 unfoldable pub neededBy : ℕ → Judged → Needed

@@ -4,7 +4,7 @@
 ghost use mathlib.Core.Path.{_≡_};
 ghost use Rattle.format.specs.Judge.{judge};
 ghost use Rattle.judge.specs.Inside.{judgeInside};
-ghost use Rattle.survey.specs.Survey.{sufficient, surveyed, neededBy};
+ghost use Rattle.survey.specs.Survey.{sufficient, surveyed, neededOf, neededBy};
 
 mod find;
 mod look;
@@ -35,7 +35,7 @@ pub enum Standing {
     Fits,
 }
 
-// What items need that are judged by themselves: refused, or places for so many records and so much of a store and of an object.
+// What an object needs, or items that are judged by themselves: refused, or places for so many records and so much of a store and of an object.
 pub enum Needed {
     Refused(Refusal),
     Takes { records: usize, sizes: Measured },
@@ -73,6 +73,19 @@ pub fn survey(object: &[u8], places: usize, store: Octets, room: Octets) -> Stan
             }
             Standing::Misfit(refuse(15, 0))
         }
+    }
+}
+
+// What is to be lent to normalise an object or to take it in (change request 2026-09).
+pub fn needs_of(object: &[u8]) -> Needed
+    ensures { λ r. ⌜ r ≡ neededOf (judge (now (object .entry))) ⌝ }
+{
+    match judge(object) {
+        ReadAnswer::NotRead(refusal) => Needed::Refused(refusal),
+        ReadAnswer::Records(counts) => Needed::Takes {
+            records: counts.records,
+            sizes: measure(object),
+        },
     }
 }
 
