@@ -134,6 +134,22 @@ uint64_t spi_read(const uint8_t *object, size_t octets,
  * to 13, and never by 14; the count is that of the records.  For receivers that can't lend lists. */
 uint64_t spi_scan(const uint8_t *object, size_t octets);
 
+/* What is to be lent to normalise an object or to take it in, beside places for the records that spi_scan counts, with
+ * nothing lent and nothing made.  The answer is no refusal but two numbers: the octets that texts and values take of a
+ * store, and those of the normal form.  Both are 0 where the object is refused; where its normal form has more octets
+ * than an object may, which nothing can hold, they are 0 and SPI_MOST_OCTETS + 1. */
+uint64_t spi_sizes(const uint8_t *object, size_t octets);
+
+static inline size_t spi_store_size(uint64_t sizes)
+{
+    return (size_t)(sizes >> 32);
+}
+
+static inline size_t spi_normal_size(uint64_t sizes)
+{
+    return (size_t)(sizes & 0xFFFFFFFF);
+}
+
 /* Where the body of a record lies: the start in bits 63 to 32, the size in bits 31 to 0.  Both are 0
  * where the lists have no such record or the object no such part; nothing is refused. */
 uint64_t spi_span(const uint8_t *object, size_t octets,

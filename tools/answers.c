@@ -424,6 +424,15 @@ static void print_room(const char *word, size_t octets)
 }
 
 /* The answer tells the octets alone; the lists have as many records as `spi_read` counts. */
+/* What spi_sizes tells of the object is what normalising took; else the answer has a word that no other program says. */
+static void expect_sizes(size_t store, size_t normal)
+{
+    uint64_t sizes = spi_sizes(OCTETS(FIRST));
+
+    if (spi_store_size(sizes) != store || spi_normal_size(sizes) != normal)
+        printf("missized\n");
+}
+
 static void print_normal(uint64_t answer)
 {
     size_t octets = spi_value(answer);
@@ -432,6 +441,7 @@ static void print_normal(uint64_t answer)
     hand_out(BODIES, lent[TAGS].handed);
     hand_out_store();
     print_room("normal", octets);
+    expect_sizes(lent[STORE].handed, octets);
 }
 
 static void print_written(uint64_t answer)

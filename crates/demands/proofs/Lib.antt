@@ -7,6 +7,7 @@ pub mod Xml
 pub mod Gate
 pub mod Only
 pub mod Headers
+pub mod Needs
 pub mod Bench
 pub mod Frauds
 pub mod Edits

@@ -1,6 +1,6 @@
 -- Only one answer: each claim gives an equation for the answer and one for each lent thing, and two things that equal a third are equal.
 use mathlib.Core.Path.{sym, _∙_}
-use Rattle.demands.specs.Only.{OneAnswer, OneRead, OneReadAtMost, OneReadRecords, OneWrite, OneNormalise, OneTakeIn, OneEdit, OneWriteState, OneExport, OnePack, OnePut, OneMarks, OneWidths, OneShows, OneIndex, OneReadC, OneSpanC, OneWriteC, OneNormaliseC, OneTakeInC, OneEditC, OneWriteStateC, OneScanC, OneGateC, OneSameC, OneExportC, OneCheckPackedC, OnePackC}
+use Rattle.demands.specs.Only.{OneAnswer, OneRead, OneReadAtMost, OneReadRecords, OneWrite, OneNormalise, OneTakeIn, OneEdit, OneWriteState, OneExport, OnePack, OnePut, OneMarks, OneWidths, OneShows, OneIndex, OneReadC, OneSizesC, OneSpanC, OneWriteC, OneNormaliseC, OneTakeInC, OneEditC, OneWriteStateC, OneScanC, OneGateC, OneSameC, OneExportC, OneCheckPackedC, OnePackC}
 use Rattle.text.proofs.Index.{one-index as index-alone}
 use Rattle.text.proofs.WeighLaws.{marks-one, widths-one, shows-one}
 
@@ -95,6 +95,9 @@ one-write-state-c n m before one other answer answer′ c d = (one-answer _ _ an
 
 pub one-scan-c : OneScanC
 one-scan-c object answer answer′ c d = one-answer _ _ answer answer′ (c .answers) (d .answers)
+
+pub one-sizes-c : OneSizesC
+one-sizes-c object answer answer′ c d = one-answer _ _ answer answer′ (c .answers) (d .answers)
 
 pub one-gate-c : OneGateC
 one-gate-c object number answer answer′ c d = one-answer _ _ answer answer′ (c .answers) (d .answers)

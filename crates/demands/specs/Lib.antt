@@ -9,6 +9,7 @@ pub mod Frauds
 pub mod Edits
 pub mod Requests
 pub mod Headers
+pub mod Needs
 pub mod Lengths
 pub mod Shortest
 pub mod Recordings

@@ -21,14 +21,14 @@ use Rattle.edits.specs.Tree.{Edit}
 use Rattle.edits.specs.Calls.{EditClaim}
 use Rattle.fold.specs.Calls.{PackClaim}
 use Rattle.xml.specs.Export.{ExportClaim}
-use Rattle.spi_c.specs.Claims.{ReadsC, ScansC, SpansC, WritesC, NormalisesC, TakesInC, EditsC, WritesStateC, GatesC, SameC, ExportsC, ChecksPackedC, PacksC}
+use Rattle.spi_c.specs.Claims.{ReadsC, SizesC, ScansC, SpansC, WritesC, NormalisesC, TakesInC, EditsC, WritesStateC, GatesC, SameC, ExportsC, ChecksPackedC, PacksC}
 
 -- every call whose claim is one equation for its answer; none of them is lent anything to write.
 -- octets: read_header, item_at, header_size, read_number. text: check, is_token, is_table, is_covered, weigh, expanded_size. values: is_attribute, known_kind,
 -- is_default, Time::take, valid, canonical, local, size, Bearer::take, valid, size, fits_kind, wrong_field, normal_size. format: kind_of, refuse, and outcome
 -- of ReadAnswer, EditAnswer, WriteAnswer, SameAnswer. tags: is_top, is_allowed, latest_of, stage_after, is_within_depth, is_short, has_bit, with_bit, listed_as,
--- holds_items, holds_text. judge: judge. scan: scan. recording: open, step. reader: places, span, body. records: is_well_formed. survey: survey, find_item,
--- find_first, table_of, written_as. pocket: gate, data_type, outcome of GateAnswer. compare: same, is_normal, same_texts, same_bodies, same_octets,
+-- holds_items, holds_text. judge: judge. scan: scan. recording: open, step. reader: places, span, body. records: is_well_formed. survey: survey, needs_of,
+-- find_item, find_first, table_of, written_as. pocket: gate, data_type, outcome of GateAnswer. compare: same, is_normal, same_texts, same_bodies, same_octets,
 -- same_attribute, same_attributes, same_cdata, same_child, same_children, find_counted, next_child. state: held, framed_size, item_adds, added_by. fold: check,
 -- outcome of CheckAnswer. merging: find_conflict. spi_c: spi_check_text.
 -- For body and table_of, which hand back a part of the caller's octets, the equation is for what the part holds
@@ -134,6 +134,10 @@ abbrev pub OneReadC : Type 0
 OneReadC =
     (object : List ℕ) (before one other : Lists) (answer answer′ : ℕ) → ReadsC object before one answer → ReadsC object before other answer′
     → (answer ≡ answer′) × (one ≡ other)
+
+-- spi_sizes
+abbrev pub OneSizesC : Type 0
+OneSizesC = (object : List ℕ) (answer answer′ : ℕ) → SizesC object answer → SizesC object answer′ → answer ≡ answer′
 
 abbrev pub OneSpanC : Type 0
 OneSpanC = (object starts sizes : List ℕ) (number answer answer′ : ℕ) → SpansC object starts sizes number answer → SpansC object starts sizes number answer′ → answer ≡ answer′

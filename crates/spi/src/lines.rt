@@ -5,6 +5,7 @@ use format::Record;
 use libc::STDOUT_FILENO;
 use octets::Octets;
 use octets::Put;
+use survey::Measured;
 ghost use Rattle.io.specs.Counts.{Counts};
 
 // No line of a listing is longer, and no refusal in words.
@@ -83,7 +84,7 @@ pub fn say_refusal(number: u8, place: usize, field: u8) {
     say(b"\n");
 }
 
-pub fn say_accepted(path: &[u8], records: usize, items: usize, size: Octets, made: Made) {
+pub fn say_accepted(path: &[u8], records: usize, items: usize, size: Octets, sizes: Measured) {
     say(path);
     say(b": ok, ");
     say_number(records);
@@ -92,8 +93,20 @@ pub fn say_accepted(path: &[u8], records: usize, items: usize, size: Octets, mad
     say(b" items, ");
     say_octets(size);
     say(b", normal form ");
-    say_normal(made);
+    say_measured(sizes);
     say(b"\n");
+}
+
+fn say_above() {
+    say(b"above 32768 octets");
+}
+
+// How many octets a normal form has that was measured and not made.
+fn say_measured(sizes: Measured) {
+    match sizes {
+        Measured::Over => say_above(),
+        Measured::Sizes { store: _, octets } => say_octets(octets),
+    }
 }
 
 pub fn say_passed(path: &[u8]) {
@@ -126,7 +139,7 @@ pub fn say_saved(path: &[u8], size: Octets, made: &[u8], made_size: Octets, out:
 // How many octets a normal form has. What is refused of an accepted object, to which all the memory is lent that it can need, has more than an object may have.
 fn say_normal(made: Made) {
     if made.number > 0 {
-        say(b"above 32768 octets");
+        say_above();
         return;
     }
     say_octets(made.size)

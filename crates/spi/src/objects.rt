@@ -14,6 +14,8 @@ use format::WriteAnswer;
 use format::record_at;
 use octets::Octets;
 use pocket::DataType;
+use survey::Measured;
+use survey::Needed;
 ghost use mathlib.Core.Path.{_≡_};
 ghost use Rattle.format.specs.Answers.{writeOutcome};
 ghost use Rattle.io.specs.Counts.{Counts};
@@ -26,14 +28,27 @@ pub struct Made {
     pub size: Octets,
 }
 
+// The octets of an accepted object in a store and in normal form. What is refused has none that could be told.
+fn sizes_of(object: &[u8]) -> Measured {
+    match survey::needs_of(object) {
+        Needed::Refused(_) => Measured::Over,
+        Needed::Takes { records: _, sizes } => sizes,
+    }
+}
+
 pub fn check(path: &[u8], object: &[u8]) -> u8 {
     let judged = judge::judge(object).outcome();
     if judged.number > 0 {
         return say_refused(path, judged.number, judged.place, judged.field);
     }
-    let mut normal = room();
-    let made = normal_form(object, &mut normal);
-    say_accepted(path, judged.count, judged.items, Octets(object.len()), made);
+    let sizes = sizes_of(object);
+    say_accepted(
+        path,
+        judged.count,
+        judged.items,
+        Octets(object.len()),
+        sizes,
+    );
     GOOD
 }
 

@@ -8,6 +8,7 @@ use lib.Dec.{leb, ltb}
 use borrow.Author.Tests.{leb-true}
 use lib.ListN.{length, take, drop, getD, take-append-drop}
 use lib.Seq.{sets, length-take-le}
+use Rattle.octets.specs.declared.counts.Octets.{Octets as OctetCount}
 use Rattle.octets.specs.Counts.{asOctets, sizeOf}
 use Rattle.format.specs.declared.Outcome.{Outcome}
 use Rattle.format.specs.declared.SameOutcome.{SameOutcome}
@@ -23,8 +24,22 @@ use Rattle.format.specs.Judge.{judge, Judged}
 use Rattle.format.specs.Same.{sameAnswer}
 use Rattle.format.specs.State.{Memory, treeIn, treeHeld}
 use Rattle.state.specs.Taking.{lentBy, NormaliseClaim, Leaves, WriteClaim, WriteStateClaim}
-use Rattle.spi_c.specs.Packed.{packedOutcome, packedSame, Small, SmallSame, SmallSpan}
+use Rattle.spi_c.specs.Packed.{packedOutcome, packedSame, packedSpan, packedSizes, Small, SmallSame, SmallSpan, SmallSizes}
+use Rattle.octets.specs.Numbers.{Octets}
 use Rattle.octets.proofs.Lists.{sets-left}
+use Rattle.octets.proofs.Tests.{never}
+use Rattle.format.specs.declared.Refusal.{Refusal}
+use Rattle.format.specs.Tree.{Items}
+use Rattle.format.specs.Judge.Judged.{refused, accepted}
+use Rattle.format.specs.Meaning.{normalOf}
+use Rattle.format.specs.Loaded.{storeOf}
+use Rattle.survey.specs.declared.measure.Measured.{Measured}
+use Rattle.survey.specs.declared.measure.Measured.the-variants.{Over, Sizes}
+use Rattle.survey.specs.declared.Needed.{Needed}
+use Rattle.survey.specs.declared.Needed.the-variants.{Refused, Takes}
+use Rattle.survey.specs.Measure.{measuredOf}
+use Rattle.survey.specs.Survey.{neededOf}
+use Rattle.survey.proofs.WholeSizes.{store-less}
 use Rattle.pocket.specs.declared.DataType.{DataType}
 use Rattle.pocket.specs.declared.GateAnswer.{GateAnswer}
 use Rattle.pocket.specs.Table.{dataType}
@@ -34,7 +49,7 @@ use Rattle.fold.specs.Packed.{packed as foldedObject}
 use Rattle.fold.specs.Calls.{checkAnswer, checkOutcome, PackClaim}
 use Rattle.xml.specs.Export.{Exported, exportOf, exportAnswer, exportOctets, ExportClaim}
 use Rattle.xml.specs.Export.Exported.{refuses, shows}
-use Rattle.spi_c.specs.Claims.{ReadsC, ScansC, WritesC, NormalisesC, LeavesC, WritesStateC, GatesC, SameC, roomFor, ExportsC, ChecksPackedC, PacksC}
+use Rattle.spi_c.specs.Claims.{ReadsC, ScansC, WritesC, NormalisesC, LeavesC, WritesStateC, GatesC, SameC, roomFor, ExportsC, ChecksPackedC, PacksC, packedNeeds, SizesC}
 use Rattle.spi_c.proofs.Told.{Told, told-small, told-same-small, read-told, scan-told, write-told, normal-told, same-told, gate-told, export-told, check-told, pack-told}
 
 -- an answer is known, and with it its outcome and the number
@@ -160,6 +175,54 @@ module _ (object before after : List ℕ) (answer : WriteAnswer) (claim : PackCl
 
   pub pack-says : (a : ℕ) → a ≡ packedOutcome o → PacksC object before after a
   pack-says a h = record { answers = outcome-packed writeOutcome _ _ (claim .answers) o told packedOutcome a h; leaves = record { answers = refl; leaves = claim .leaves } }
+
+-- ---- what an object needs: no more of a store than of a room, and of that no more than an object may have
+measured-small : (o : List ℕ) → Octets o → (t : Items) → judge o ≡ accepted t → SmallSizes (measuredOf t)
+unfolding measuredOf
+measured-small o os t h = go (leb (length (normalOf t)) 32_768) refl
+  where
+    go : (b : Bool) → leb (length (normalOf t)) 32_768 ≡ b → SmallSizes (cond b (Sizes (sizeOf (storeOf t)) (sizeOf (normalOf t))) Over)
+    go true q =
+        let l = leb-true (length (normalOf t)) 32_768 q in
+        record { start = omega (arith, store-less o t os h); size = omega arith }
+    go false q = tt
+
+module _ (o : List ℕ) (v : Needed) (e : v ≡ neededOf (judge o)) where
+  pub needs-none : (r : Refusal) → v ≡ Refused r → SizesC o 0
+  unfolding packedNeeds
+  needs-none r f = record { answers = sym (ap packedNeeds (sym e ∙ f)) }
+
+  module _ (n : ℕ) (m : Measured) (f : v ≡ Takes n m) where
+    pub needs-small : Octets o → SmallSizes m
+    unfolding neededOf
+    needs-small os = go (judge o) refl
+      where
+        go : (j : Judged) → judge o ≡ j → SmallSizes m
+        go (refused r) h = let w : Takes n m ≡ Refused r = sym f ∙ e ∙ ap neededOf h in never (cc)
+        go (accepted t) h =
+            let w : Takes n m ≡ neededOf (accepted t) = sym f ∙ e ∙ ap neededOf h in
+            let same : m ≡ measuredOf t = cc in
+            subst SmallSizes (sym same) (measured-small o os t h)
+
+    pub needs-told : (a : ℕ) → a ≡ packedSizes m → SizesC o a
+    unfolding packedNeeds
+    needs-told a g = record { answers = g ∙ ap packedNeeds (sym f ∙ e) }
+
+-- ---- packed_sizes
+module _ (m : Measured) where
+  pub sizes-over : m ≡ Over → 32_769 ≡ packedSizes m
+  unfolding packedSizes
+  sizes-over q = rw q
+
+  module _ (s n : OctetCount) (q : m ≡ Sizes s n) where
+    pub sizes-fit : SmallSizes m → SmallSpan (record { start = s .0; size = n .0 })
+    sizes-fit h = rw q at h
+
+    pub sizes-packed : (a : ℕ) → a ≡ packedSpan (record { start = s .0; size = n .0 }) → a ≡ packedSizes m
+    unfolding packedSizes
+    sizes-packed a e = e ∙ sym (ap packedSizes q)
+
+pub ruleset sizes-ways = (sizes-over, sizes-fit, sizes-packed)
 
 -- numbers of 16 bits make a small span
 pub span-small : (object starts sizes : List ℕ) (i : ℕ) → getD starts i 0 < 0x1_0000 → getD sizes i 0 < 0x1_0000 → (s : Span) → s ≡ spanOf object starts sizes i → SmallSpan s

@@ -11,7 +11,11 @@ use Rattle.format.specs.declared.ReadAnswer.the-variants.{Records, NotRead}
 use Rattle.format.specs.declared.SameAnswer.the-variants.{Same, Different, FirstRefused, SecondRefused}
 use Rattle.format.specs.Answers.{refusal, wrongValue, readOutcome, editOutcome, writeOutcome, sameOutcome}
 use Rattle.format.specs.Headers.{headersOf}
+use Rattle.format.specs.declared.Refusal.{Refusal}
 use Rattle.format.specs.Judge.{judge}
+use Rattle.format.specs.Judge.Judged.{refused}
+use Rattle.survey.specs.declared.measure.Measured.the-variants.{Over, Sizes}
+use Rattle.survey.specs.Survey.{neededOf}
 use Rattle.format.specs.Calls.{Lists, places, judgeAnswer, readAnswer, spanOf, writeAnswer, normalAnswer, editAnswer}
 use Rattle.format.specs.Same.{sameAnswer}
 use Rattle.format.specs.State.{Memory, treeIn, treeHeld}
@@ -24,8 +28,8 @@ use Rattle.pocket.specs.Gate.{gateOutcome, gateOf}
 use Rattle.fold.specs.Packed.{packed as foldedObject}
 use Rattle.fold.specs.Calls.{checkAnswer, checkOutcome, packAnswer}
 use Rattle.xml.specs.Export.{exportOf, exportAnswer}
-use Rattle.spi_c.specs.Packed.{packed, packedOutcome, outcomeIn, packedSame, sameIn, packedSpan, spanIn}
-use Rattle.spi_c.specs.Claims.{ReadsC, ScansC, SpansC, WritesC, NormalisesC, TakesInC, EditsC, WritesStateC, GatesC, SameC, roomFor, ExportsC, ChecksPackedC, PacksC}
+use Rattle.spi_c.specs.Packed.{packed, packedOutcome, outcomeIn, packedSame, sameIn, packedSpan, packedSizes, spanIn}
+use Rattle.spi_c.specs.Claims.{ReadsC, ScansC, SpansC, WritesC, NormalisesC, TakesInC, EditsC, WritesStateC, GatesC, SameC, roomFor, ExportsC, ChecksPackedC, PacksC, packedNeeds, SizesC}
 use Rattle.spi_c.proofs.Packing.{span-back}
 use Rattle.spi_c.proofs.Told.{told-back, told-same-back, read-told, scan-told, write-told, normal-told, taken-told, edit-told, same-told, gate-told, export-told, check-told, pack-told}
 use Rattle.spi_c.proofs.Calls.{span-small}
@@ -73,6 +77,19 @@ check-packed-back normal proposed a c = ap outcomeIn (c .answers) ∙ told-back 
 
 pub pack-back : (object before after : List ℕ) (a : ℕ) → PacksC object before after a → outcomeIn a ≡ writeOutcome (packAnswer (sizeOf before) (foldedObject object))
 pack-back object before after a c = ap outcomeIn (c .answers) ∙ told-back (pack-told (sizeOf before) (foldedObject object))
+
+-- ---- what an object needs: of one that is refused, something; store and normal form exchanged; nothing told where the normal form is too long
+pub needs-refused : (object : List ℕ) (r : Refusal) → judge object ≡ refused r → SizesC object 2 → ⊥
+unfolding packedNeeds neededOf
+needs-refused object r h c = let e : _≡_ {A = ℕ} 2 0 = c .answers ∙ ap (λ j. packedNeeds (neededOf j)) h in omega arith
+
+pub sizes-exchanged : packedSizes (Sizes (asOctets 5) (asOctets 6)) ≡ packedSizes (Sizes (asOctets 6) (asOctets 5)) → ⊥
+unfolding packedSizes packedSpan
+sizes-exchanged e = omega arith
+
+pub too-long-untold : packedSizes Over ≡ 0 → ⊥
+unfolding packedSizes
+too-long-untold e = omega arith
 
 -- ---- a refusal told by its place alone, as if it were a count; a count told as a refusal
 pub refusal-unnumbered : packedOutcome (readOutcome (NotRead (refusal 13 412))) ≡ 412 → ⊥

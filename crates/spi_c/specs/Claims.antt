@@ -20,7 +20,10 @@ use Rattle.pocket.specs.Gate.{gateOf, gateOutcome}
 use Rattle.fold.specs.Packed.{packed as foldedObject}
 use Rattle.fold.specs.Calls.{checkAnswer, checkOutcome, packAnswer, PackClaim}
 use Rattle.xml.specs.Export.{exportOf, exportAnswer, exportOctets}
-use Rattle.spi_c.specs.Packed.{packedOutcome, packedSame, packedSpan}
+use Rattle.survey.specs.declared.Needed.{Needed}
+use Rattle.survey.specs.declared.Needed.the-variants.{Refused, Takes}
+use Rattle.survey.specs.Survey.{neededOf}
+use Rattle.spi_c.specs.Packed.{packedOutcome, packedSame, packedSpan, packedSizes}
 
 pub record ReadsC (object : List ℕ) (before after : Lists) (a : ℕ) : Type 0 where
   pub answers : a ≡ packedOutcome (readOutcome (readAnswer (places before) (headersOf object) (judge object)))
@@ -29,6 +32,14 @@ pub record ReadsC (object : List ℕ) (before after : Lists) (a : ℕ) : Type 0 
 -- reading with no list (change request 2026-14)
 pub record ScansC (object : List ℕ) (a : ℕ) : Type 0 where
   pub answers : a ≡ packedOutcome (readOutcome (judgeAnswer (headersOf object) (judge object)))
+
+-- what an object needs; nothing where it is refused (change request 2026-09)
+unfoldable pub packedNeeds : Needed → ℕ
+packedNeeds (Refused r) = 0
+packedNeeds (Takes n sizes) = packedSizes sizes
+
+pub record SizesC (object : List ℕ) (a : ℕ) : Type 0 where
+  pub answers : a ≡ packedNeeds (neededOf (judge object))
 
 pub record SpansC (object starts sizes : List ℕ) (number a : ℕ) : Type 0 where
   pub answers : a ≡ packedSpan (spanOf object starts sizes number)

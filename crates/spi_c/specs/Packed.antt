@@ -5,6 +5,8 @@ use lib.Dec.{eqb}
 use Rattle.format.specs.declared.Outcome.{Outcome}
 use Rattle.format.specs.declared.SameOutcome.{SameOutcome}
 use Rattle.format.specs.declared.Span.{Span}
+use Rattle.survey.specs.declared.measure.Measured.{Measured}
+use Rattle.survey.specs.declared.measure.Measured.the-variants.{Over, Sizes}
 
 -- bits 63 to 56: the number of a refusal, 0 for none; 55 to 48: the object that is refused, told by `same` alone; 47 to 40: the field of a time that is wrong, told by 9
 -- alone (change request 2026-04); 39 to 0: a place or a count. Where nothing is refused, bits 55 to 40 have the number of items that reading judged (2026-09)
@@ -47,6 +49,11 @@ sameIn a = record { same = eqb a 1; which = objectIn a; number = numberIn a; pla
 unfoldable pub packedSpan : Span → ℕ
 packedSpan s = s .start * 0x1_0000_0000 + s .size
 
+-- the octets of a store and of the normal form likewise; one more than an object may have where the normal form has more (change request 2026-09)
+unfoldable pub packedSizes : Measured → ℕ
+packedSizes Over = 32_769
+packedSizes (Sizes store octets) = packedSpan (record { start = store .0; size = octets .0 })
+
 unfoldable pub spanIn : ℕ → Span
 spanIn a = record { start = a / 0x1_0000_0000; size = a % 0x1_0000_0000 }
 
@@ -62,3 +69,7 @@ pub record SmallSame (o : SameOutcome) : Type 0 where
 pub record SmallSpan (s : Span) : Type 0 where
   pub start : s .start < 0x1_0000_0000
   pub size : s .size < 0x1_0000_0000
+
+abbrev pub SmallSizes : Measured → Type 0
+SmallSizes Over = Unit {0}
+SmallSizes (Sizes store octets) = SmallSpan (record { start = store .0; size = octets .0 })

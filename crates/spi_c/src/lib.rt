@@ -3,14 +3,16 @@ ghost use mathlib.Core.Path.{_≡_};
 ghost use Prim.Native.Nat.{_<_, min};
 ghost use Rattle.text.specs.Text.{text};
 ghost use Rattle.format.specs.Lent.{lent};
-ghost use Rattle.spi_c.specs.Packed.{packed, packedOutcome, packedSame, packedSpan, Small, SmallSame, SmallSpan};
+ghost use Rattle.spi_c.specs.Packed.{packed, packedOutcome, packedSame, packedSpan, packedSizes, Small, SmallSame, SmallSpan, SmallSizes};
 ghost use Rattle.state.specs.Taking.{memory};
 ghost use Rattle.edits.specs.Tree.Edit.{replace, remove, insert};
-ghost use Rattle.spi_c.specs.Claims.{ReadsC, ScansC, SpansC, WritesC, NormalisesC, TakesInC, EditsC, WritesStateC, GatesC, SameC, ExportsC, ChecksPackedC, PacksC};
+ghost use Rattle.spi_c.specs.Claims.{ReadsC, ScansC, SpansC, WritesC, NormalisesC, TakesInC, EditsC, WritesStateC, GatesC, SameC, ExportsC, SizesC, ChecksPackedC, PacksC};
 use format::Outcome;
 use format::SameOutcome;
 use format::Span;
 use octets::Octets;
+use survey::Measured;
+use survey::Needed;
 
 fn packed(number: u8, object: u8, field: u8, value: usize) -> u64
     requires { ⌜ value < 0x100_0000_0000 ⌝ }
@@ -54,6 +56,21 @@ fn packed_span(s: Span) -> u64
     (s.start as u64) * 0x1_0000_0000 + (s.size as u64)
 }
 
+// Octets of a store and of the normal form: the first in the upper half of the number, the second in the lower. 32,769 where the normal form has more than an
+// object may have: no memory suffices then.
+fn packed_sizes(sizes: Measured) -> u64
+    requires { ⌜ SmallSizes sizes ⌝ }
+    ensures { λ r. ⌜ r ≡ packedSizes sizes ⌝ }
+{
+    match sizes {
+        Measured::Over => 32_769,
+        Measured::Sizes { store, octets } => packed_span(Span {
+            start: store.0,
+            size: octets.0,
+        }),
+    }
+}
+
 // The records of an object, into six lists.
 #[no_mangle]
 pub extern "C" fn spi_read(
@@ -78,6 +95,17 @@ pub extern "C" fn spi_scan(object: &[u8]) -> u64
 {
     let answer = scan::scan(object);
     packed_outcome(answer.outcome())
+}
+
+// What is to be lent to normalise an object or to take it in, beside the places that `spi_scan` counts. 0 where the object is refused.
+#[no_mangle]
+pub extern "C" fn spi_sizes(object: &[u8]) -> u64
+    ensures { λ r. ⌜ SizesC (now (object .entry)) r ⌝ }
+{
+    match survey::needs_of(object) {
+        Needed::Refused(_) => 0,
+        Needed::Takes { records: _, sizes } => packed_sizes(sizes),
+    }
 }
 
 // Where the body of a record lies: the start in the upper half of the number, the size in the lower.
