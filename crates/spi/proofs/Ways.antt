@@ -26,6 +26,8 @@ use Rattle.state.specs.Taking.{NormaliseClaim, WriteStateClaim}
 use Rattle.format.specs.Tree.{Items}
 use Rattle.format.specs.Meaning.{means, encode}
 use Rattle.format.specs.Calls.{roomy, writeAnswer}
+use Rattle.fold.specs.Packed.{packed}
+use Rattle.fold.specs.Calls.{packAnswer, PackClaim}
 use Rattle.xml.specs.Export.{ExportClaim}
 use Rattle.xml.proofs.Objects.{export-inside}
 use Rattle.writer.proofs.Normalised.{written-inside}
@@ -70,7 +72,7 @@ module _ (a b : List ℕ) (i : ℕ) (v : Shared a b i) where
 
 pub ruleset shared-ways = (shared-begin, shared-first, shared-second, shared-differ, shared-again)
 
--- ---- a normal form, and an XML
+-- ---- a normal form, packed or not, and an XML
 
 -- what is handed out lies in the room
 pub normal-within : (o : List ℕ) (m m′ : Memory) (room room′ : List ℕ) (answer : WriteAnswer) → NormaliseClaim o m m′ room room′ answer
@@ -83,6 +85,19 @@ pub xml-within : (o room room′ : List ℕ) (answer : WriteAnswer) → ExportCl
     → (r : Made) → r .size .0 ≡ writeOutcome answer .count → Counts (r .size .0) room′
 xml-within o room room′ (Octets n) c e r q = counts (r .size .0) room′ (omega (arith, q, export-inside o room room′ n c))
 xml-within o room room′ (NotWritten r₁) c e r q = counts (r .size .0) room′ (omega (arith, q))
+
+pub pack-within : (o room room′ : List ℕ) (answer : WriteAnswer) → PackClaim o room room′ answer → length room′ ≡ length room
+    → (r : Made) → r .size .0 ≡ writeOutcome answer .count → Counts (r .size .0) room′
+unfolding packAnswer roomy
+pack-within o room room′ answer c e r q = counts (r .size .0) room′ (omega (arith, q, ap (λ a. writeOutcome a .count) (c .answers), few (packed o)))
+  where
+    few : (p : Option (List ℕ)) → writeOutcome (packAnswer (sizeOf room) p) .count ≤ length room
+    few none = omega arith
+    few (some p) = go (leb (length p) (min (length room) 32_768)) refl
+      where
+        go : (b : Bool) → leb (length p) (min (length room) 32_768) ≡ b → writeOutcome (cond b (Octets (sizeOf p)) (NotWritten (refusal 15 0))) .count ≤ length room
+        go true h = omega (arith, leb-true (length p) (min (length room) 32_768) h)
+        go false h = omega arith
 
 pub state-within : (n : ℕ) (m : Memory) (room room′ : List ℕ) (answer : WriteAnswer) → WriteStateClaim n m room room′ answer → length room′ ≡ length room
     → (r : Made) → r .size .0 ≡ writeOutcome answer .count → Counts (r .size .0) room′

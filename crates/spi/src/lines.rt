@@ -122,6 +122,15 @@ pub fn edited_words(made: usize, words: &mut [u8]) -> usize
     end_of(show::put_decimal(words, number, made), words)
 }
 
+// What is made of a normal form that is packed, in words.
+pub fn packed_words(normal: Octets, words: &mut [u8]) -> usize
+    ensures { λ r. ⌜ Counts r (now (words .exit)) ⌝ }
+{
+    let number = end_of(show::put_bytes(words, 0, b"normal form of "), words);
+    let behind = end_of(show::put_decimal(words, number, normal.0), words);
+    end_of(show::put_bytes(words, behind, b" octets, packed"), words)
+}
+
 // What was made of an object and where it was written.
 pub fn say_saved(path: &[u8], size: Octets, made: &[u8], made_size: Octets, out: &[u8]) {
     say(path);

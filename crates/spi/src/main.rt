@@ -1,8 +1,9 @@
-// The command for people: checks objects in files, also for the small receiver, lists their records, shows their items, writes their normal form or XML, edits one, compares
-// two. The script ./spi builds it and runs it, once a pair of files where two folders are compared; a recording is replayed by the program replay.
+// The command for people: checks objects in files, also for the small receiver, lists their records, shows their items, writes their normal form, packed or not,
+// or XML, edits one, compares two. The script ./spi builds it and runs it, once a pair of files where two folders are compared; a recording is replayed by the
+// program replay.
 //
-// What is said of an object is proved where it is found, in `judge`, `reader`, `pocket`, `compare`, `edits`, `writer`, `xml` and `show`; here every function is safe and ends. A
-// program has no exit status, so the last line on standard output is a status of its own, which the script takes away and ends with.
+// What is said of an object is proved where it is found, in `judge`, `reader`, `pocket`, `compare`, `packer`, `edits`, `writer`, `xml` and `show`; here every
+// function is safe and ends. A program has no exit status, so the last line on standard output is a status of its own, which the script takes away and ends with.
 mod asking;
 mod comparing;
 mod editing;
@@ -20,6 +21,7 @@ use crate::files::load_argument;
 use crate::files::load_input;
 use crate::files::save;
 use crate::lines::edited_words;
+use crate::lines::packed_words;
 use crate::lines::say;
 use crate::lines::say_number;
 use crate::lines::say_refused;
@@ -32,6 +34,7 @@ use crate::objects::check;
 use crate::objects::list;
 use crate::objects::normal_form;
 use crate::objects::outline;
+use crate::objects::packed_form;
 use crate::objects::pass;
 use crate::objects::xml_text;
 use crate::status::FAILED;
@@ -49,6 +52,7 @@ enum Task {
     List,
     Show,
     Normal,
+    Pack,
     Xml,
     Edit,
     Compare,
@@ -62,7 +66,7 @@ fn usage(text: &[u8]) -> u8 {
 }
 
 fn usage_of_all() -> u8 {
-    usage(b"check | gate | list | show | normal | xml | edit | compare | replay | help")
+    usage(b"check | gate | list | show | normal | pack | xml | edit | compare | replay | help")
 }
 
 fn help_edit() {
@@ -97,6 +101,9 @@ fn help() -> u8 {
         b"spi show FILE           its items as a tree: place, name and value as in the XML (line feed as &#10;), or octets in hexadecimal\n",
     );
     say(b"spi normal FILE OUT     writes an object's normal form to the file OUT\n");
+    say(
+        b"spi pack FILE OUT       writes its normal form with common words folded to the file OUT, where that is shorter; else the normal form\n",
+    );
     say(b"spi xml FILE OUT        writes an object's XML to the file OUT\n");
     help_edit();
     say(b"spi compare FILE FILE   whether two objects mean the same\n");
@@ -134,6 +141,25 @@ fn save_normal(path: &[u8], object: &[u8]) -> u8 {
     }
     let size = made.size.0;
     save_made(path, object, b"normal form", &normal[..size])
+}
+
+// The normal form has the limit of an object, and a room as long suffices, so the packer refuses nothing here.
+fn save_packed(path: &[u8], object: &[u8]) -> u8 {
+    let mut normal = room();
+    let made = normal_form(object, &mut normal);
+    if made.number > 0 {
+        return say_refused(path, made.number, made.place, made.field);
+    }
+    let size = made.size.0;
+    let mut packed = room();
+    let folded = packed_form(&normal[..size], &mut packed);
+    if folded.number > 0 {
+        return say_refused(path, folded.number, folded.place, folded.field);
+    }
+    let shorter = folded.size.0;
+    let mut words = io::buffer();
+    let end = packed_words(made.size, &mut words);
+    save_made(path, object, &words[..end], &packed[..shorter])
 }
 
 fn save_xml(path: &[u8], object: &[u8]) -> u8 {
@@ -185,6 +211,7 @@ fn treat(task: Task, path: &[u8], object: &[u8]) -> u8 {
         Task::List => list(path, object),
         Task::Show => outline(path, object),
         Task::Normal => save_normal(path, object),
+        Task::Pack => save_packed(path, object),
         Task::Xml => save_xml(path, object),
         Task::Edit => save_edited(path, object),
         Task::Compare => compare_with(path, object),
@@ -281,6 +308,9 @@ fn obey(command: &[u8], count: usize) -> u8 {
     }
     if is_word(command, b"normal") {
         return treat_first(Task::Normal, count == 4, b"normal FILE OUT");
+    }
+    if is_word(command, b"pack") {
+        return treat_first(Task::Pack, count == 4, b"pack FILE OUT");
     }
     if is_word(command, b"xml") {
         return treat_first(Task::Xml, count == 4, b"xml FILE OUT");

@@ -173,3 +173,10 @@ pub fn xml_text(object: &[u8], lent: &mut [u8]) -> Made
 {
     as_made(xml::export(object, lent))
 }
+
+// The packed object of a normal form in a lent room, likewise.
+pub fn packed_form(normal: &[u8], lent: &mut [u8]) -> Made
+    ensures { λ r. ⌜ Counts (r .size .0) (now (lent .exit)) ⌝ }
+{
+    as_made(packer::pack(normal, lent))
+}
