@@ -2,7 +2,7 @@
 use mathlib.Core.Path.{_≡_, refl, sym, ap, ap₂, subst, _∙_}
 use mathlib.Core.Bool.{Bool, true, false, cond}
 use mathlib.Core.List.{List, [], _∷_}
-use Prim.Native.Nat.{ℕ, suc, _+_, _*_, _-_, _%_, _≤_, _<_}
+use Prim.Native.Nat.{ℕ, zero, suc, _+_, _*_, _-_, _%_, _≤_, _<_}
 use native.Mathlib.Numerals.{add-one}
 use native.Mathlib.Omega.{arith}
 use lib.Dec.{eqb}
@@ -15,7 +15,7 @@ use Rattle.octets.proofs.Lists.{length-part, drop-next}
 use Rattle.format.proofs.Same.{same-octets}
 use Rattle.format.specs.Same.{sameOctets}
 use Rattle.fold.specs.Words.{uses}
-use Rattle.packer.specs.Counting.{wordAt, wordsFrom, keyFrom, keyOf, Noted, Keyed, Counts}
+use Rattle.packer.specs.Counting.{wordAt, wordsFrom, keyFrom, keyOf, Noted, Keyed, Passes, Counts}
 use Rattle.packer.proofs.Tagging.{alike-not}
 
 -- ---- `is_use`
@@ -70,6 +70,24 @@ module _ (w : List ℕ) where
       }
 
 pub ruleset key-ways = (key-begin, key-done, key-fits, key-octet, key-sum, key-again)
+
+-- ---- `next_keyed`
+
+module _ (keys : List ℕ) (key at n : ℕ) where
+  pub pass-begin : at ≤ n → Passes keys key at n at
+  pass-begin h = record { onward = omega arith; within = h; differ = λ k p q. absurd (omega arith) }
+
+  pub pass-again : (j : ℕ) → Passes keys key at n j → j < n → (getD keys j 0 ≡ key → ⊥) → Passes keys key at n (j + 1)
+  pass-again j v h d = record { onward = omega (arith, v .onward); within = omega arith; differ = λ k p q. go k p q (eqb k j) refl }
+    where
+      go : (k : ℕ) → at ≤ k → k < j + 1 → (b : Bool) → eqb k j ≡ b → getD keys k 0 ≡ key → ⊥
+      go k p q true x e = d (ap (λ m. getD keys m 0) (sym (eqb-true k j x)) ∙ e)
+      go k p q false x e = let y = eqb-false k j x in v .differ k p (omega arith) e
+
+  pub pass-inside : (j : ℕ) → Passes keys key at n j → j < n → n ≤ length keys → j < length keys
+  pass-inside j v h l = omega arith
+
+pub ruleset pass-ways = (pass-begin, pass-again, pass-inside)
 
 -- ---- `fill_keys`
 
@@ -232,9 +250,50 @@ module _ (object starts sizes : List ℕ) where
             pub turn-fits : Fits w64 (count + one)
             turn-fits = subst (λ m. Fits w64 (count + m)) (sym o) count-fits
 
-            pub turn : (mark : ℕ) → mark ≡ cond r 1 (getD after j 0) → Counting before (set after j mark) i n (count + one) (j + 1)
+            turn : (mark : ℕ) → mark ≡ cond r 1 (getD after j 0) → Counting before (set after j mark) i n (count + one) (j + 1)
             turn mark m =
                 subst (λ a. Counting before (set after j a) i n (count + one) (j + 1)) (sym m)
                 (subst (λ b. Counting before (set after j (cond r 1 (getD after j 0))) i n (count + b) (j + 1)) (sym o) count-again)
 
-pub ruleset count-ways = (count-begin, count-done, count-place, turn-fits, turn)
+    -- words that differ are passed over
+    pass-one : (after : List ℕ) (count j : ℕ) → Counting before after i n count j → j < n → sameOctets (at i) (at j) ≡ false → Counting before after i n count (j + 1)
+    unfolding uses
+    pass-one after count j v h d = record {
+      onward = omega (arith, v .onward);
+      within = omega arith;
+      few = omega (arith, v .few);
+      long = v .long;
+      total =
+          let t : uses (at i) (wordsFrom object starts sizes j (n - j)) ≡ 0 + uses (at i) (wordsFrom object starts sizes (j + 1) (n - (j + 1))) =
+          ap (uses (at i)) (words-next j n h) ∙ ap (λ b. cond b 1 0 + uses (at i) (wordsFrom object starts sizes (j + 1) (n - (j + 1)))) d in
+          omega (arith, v .total);
+      marked = λ k p q. go k p q (eqb k j) refl;
+      rest = λ k p. v .rest k (omega arith);
+    }
+      where
+        go : (k : ℕ) → i ≤ k → k < j + 1 → (b : Bool) → eqb k j ≡ b → getD after k 0 ≡ cond (sameOctets (at i) (at k)) 1 (getD before k 0)
+        go k p q true x =
+            let y : k ≡ j = eqb-true k j x in
+            v .rest k (omega arith) ∙ ap (λ b. cond b 1 (getD before k 0)) (sym (ap (λ m. sameOctets (at i) (at m)) y ∙ d))
+        go k p q false x = let y = eqb-false k j x in v .marked k p (omega arith)
+
+    pass-all : (m : ℕ) (after : List ℕ) (count j : ℕ) → Counting before after i n count j → j + m ≤ n → ((k : ℕ) → j ≤ k → k < j + m → sameOctets (at i) (at k) ≡ false) → Counting before after i n count (j + m)
+    pass-all zero after count j v h d = subst (Counting before after i n count) (let e : j ≡ j + 0 = omega arith in e) v
+    pass-all (suc m) after count j v h d =
+        subst (Counting before after i n count) (let e : j + 1 + m ≡ j + suc m = omega arith in e)
+        (pass-all m after count (j + 1) (pass-one after count j v (omega arith) (d j (omega arith) (omega arith))) (omega arith) (λ k p q. d k (omega arith) (omega arith)))
+
+    module _ (keys : List ℕ) (keyed : Keyed object starts sizes keys n) (after : List ℕ) (count j : ℕ) (v : Counting before after i n count j) (h : j < n)
+        (r : Bool) (e : r ≡ sameOctets (at i) (at j)) (one : ℕ) (o : one ≡ cond r 1 0) (mark : ℕ) (m : mark ≡ cond r 1 (getD after j 0)) where
+      pub count-next : (q : ℕ) → Passes keys (getD keys i 0) (j + 1) n q → Counting before (set after j mark) i n (count + one) q
+      count-next q p =
+          let w = p .within in
+          let x : j + 1 + (q - (j + 1)) ≡ q = omega (arith, p .onward) in
+          subst (Counting before (set after j mark) i n (count + one)) x
+          (pass-all (q - (j + 1)) (set after j mark) (count + one) (j + 1) (turn after count j v h r e one o mark m) (omega arith)
+          (λ k a b. sym (again-not object starts sizes keys n noted keyed i k hi (omega arith) (λ z. p .differ k a (omega arith) (sym z)))))
+
+    pub next-less : (j q : ℕ) → j < n → (keys : List ℕ) (key : ℕ) → Passes keys key (j + 1) n q → n - q < n - j
+    next-less j q h keys key p = omega (arith, p .onward, p .within)
+
+pub ruleset count-ways = (count-begin, count-done, count-place, turn-fits, count-next, next-less)

@@ -40,6 +40,12 @@ pub record Keyed (object starts sizes keys : List ℕ) (n : ℕ) : Type 0 where
   pub long : n ≤ length keys
   pub key : (j : ℕ) → j < n → getD keys j 0 ≡ keyOf (wordAt object starts sizes j)
 
+-- from a place up to another none of the first n words has a key
+pub record Passes (keys : List ℕ) (key at n r : ℕ) : Type 0 where
+  pub onward : at ≤ r
+  pub within : r ≤ n
+  pub differ : (k : ℕ) → at ≤ k → k < r → getD keys k 0 ≡ key → ⊥
+
 -- the uses of a word from number i on are counted and marked
 pub record Counts (object starts sizes before after : List ℕ) (i n r : ℕ) : Type 0 where
   pub answers : r ≡ uses (wordAt object starts sizes i) (wordsFrom object starts sizes i (n - i))

@@ -5,7 +5,7 @@ ghost use mathlib.Core.Bool.{cond};
 ghost use Prim.Native.Nat.{ℕ, _+_, _≤_, _<_};
 ghost use lib.ListN.{length, getD, take, drop};
 ghost use Rattle.format.specs.Same.{sameOctets};
-ghost use Rattle.packer.specs.Counting.{wordAt, keyOf, Noted, Keyed, Counts, Chooses, Taken, IsEmpty};
+ghost use Rattle.packer.specs.Counting.{wordAt, keyOf, Noted, Keyed, Passes, Counts, Chooses, Taken, IsEmpty};
 use crate::pieces::size_of;
 use crate::ranking::Best;
 use crate::ranking::Word;
@@ -105,6 +105,22 @@ fn is_again(
     is_use(object, start, size, place_of(starts[j]), size_of(sizes[j]))
 }
 
+// The first place from a place on that has a key, or n.
+fn next_keyed(keys: &[u8], key: u8, at: usize, n: usize) -> usize
+    requires { ⌜ at ≤ n ⌝ }
+    requires { ⌜ n ≤ length (now keys) ⌝ }
+    ensures { λ r. ⌜ Passes (now (keys .entry)) key at n r ⌝ }
+{
+    let mut j = at;
+    while j < n {
+        if keys[j] == key {
+            return j;
+        }
+        j += 1;
+    }
+    j
+}
+
 // How often the word of a number is used from there on; its uses are marked.
 fn count_uses(
     object: &[u8],
@@ -121,13 +137,14 @@ fn count_uses(
     requires { ⌜ n ≤ length (now done) ⌝ }
     ensures { λ r. ⌜ Counts (now (object .entry)) (now (starts .entry)) (now (sizes .entry)) (now (done .entry)) (now (done .exit)) i n r ⌝ }
 {
+    let key = keys[i];
     let mut uses: usize = 0;
     let mut j = i;
     while j < n {
         let same = is_again(object, starts, sizes, keys, i, j, n);
         done[j] = mark_if(same, done[j]);
         uses += one_if(same);
-        j += 1;
+        j = next_keyed(keys, key, j + 1, n);
     }
     uses
 }

@@ -5,10 +5,13 @@ use Rattle.packer.proofs.counting.count_uses.Statement.{statement}
 use Rattle.packer.proofs.counting.count_uses.Tie as tie
 
 abbrev Inv-loop : tie.InvT-loop
-Inv-loop object starts sizes keys done₀ i n uses₀ j₀ done uses j = Counting object starts sizes done₀ done i n uses j
+Inv-loop object starts sizes keys done₀ i n key uses₀ j₀ done uses j = Counting object starts sizes done₀ done i n uses j
 
 abbrev μ-loop : tie.MeasureT-loop
-μ-loop object starts sizes keys done₀ i n uses₀ j₀ done uses j = n - j
+μ-loop object starts sizes keys done₀ i n key uses₀ j₀ done uses j = n - j
+
+shared-slice-read-key : tie.Need-shared-slice-read-key Inv-loop μ-loop
+shared-slice-read-key c = search (count-ways, needs)
 
 loop-holds : tie.Need-loop-holds Inv-loop μ-loop
 loop-holds c = search (count-ways, needs)
@@ -31,8 +34,11 @@ one-if-requires c κs = search (count-ways, needs)
 add-uses : tie.Need-add-uses Inv-loop μ-loop
 add-uses c = search (count-ways, needs)
 
-add-j : tie.Need-add-j Inv-loop μ-loop
-add-j c = search (count-ways, needs)
+add-next-keyed : tie.Need-add-next-keyed Inv-loop μ-loop
+add-next-keyed c = search (count-ways, needs)
+
+next-keyed-requires : tie.Need-next-keyed-requires Inv-loop μ-loop
+next-keyed-requires c κs = search (count-ways, needs)
 
 loop-less : tie.Need-loop-less Inv-loop μ-loop
 loop-less c = search (count-ways, needs)
@@ -52,6 +58,7 @@ count-uses-spec =
     (tie.spec
     Inv-loop
     μ-loop
+    shared-slice-read-key
     loop-holds
     is-again-requires
     slice-read-mark-if
@@ -59,7 +66,8 @@ count-uses-spec =
     slice-write-done
     one-if-requires
     add-uses
-    add-j
+    add-next-keyed
+    next-keyed-requires
     loop-less
     loop-again
     same-length
