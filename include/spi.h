@@ -16,7 +16,7 @@
  *     NULL, even where the count is 0;
  *   - memory that a call writes overlaps nothing else that is lent to that call; memory that it only
  *     reads (const) may overlap other such memory; nobody else writes to either during the call;
- *   - there is stack: 64 KB are plenty.
+ *   - there is stack: 96 KB are plenty, and 64 KB where spi_pack isn't called.
  */
 #ifndef SPI_H
 #define SPI_H
