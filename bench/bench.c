@@ -153,7 +153,24 @@ static uint64_t gate_by_second(const struct file *object, const struct file *oth
     return 0;
 }
 
+static uint64_t pack_by_library(const struct file *object, const struct file *other)
+{
+    (void)other;
+    return spi_pack(object->octets, object->size, room, ROOM);
+}
+
+static uint64_t pack_by_second(const struct file *object, const struct file *other)
+{
+    (void)other;
+    size_t size = 0;
+    first_object.size = (uint32_t)object->size;
+    memcpy(first_object.octets, object->octets, object->size);
+    return pack(&first_object, ROOM, normal_form, &size).number == ACCEPTED ? size : UINT64_MAX;
+}
+
 ON_EACH(library_read, read_by_library)
+ON_EACH(library_pack, pack_by_library)
+ON_EACH(second_pack, pack_by_second)
 ON_EACH(second_read, read_by_second)
 ON_EACH(library_normalise, normalise_by_library)
 ON_EACH(second_normalise, normalise_by_second)
@@ -248,6 +265,7 @@ static const struct calls normalising = {2, {library_normalise, second_normalise
 static const struct calls comparing = {2, {library_same, second_same}};
 static const struct calls exporting = {2, {library_export, second_export}};
 static const struct calls gating = {2, {library_gate, second_gate}};
+static const struct calls packing = {2, {library_pack, second_pack}};
 static const struct calls editing = {2, {library_edit, library_anew}};
 static const struct calls editing_and_writing = {2, {library_edit_and_write, library_anew}};
 static const struct calls checking = {4, {library_text, second_text, octet_text, table_text}};
@@ -493,6 +511,55 @@ static void compare_scan(const char *folder, const char *name, const char *label
 }
 
 /* The small receiver's gate, which lets all of these objects pass: an offender would end the look. */
+static void hold_packed(const struct file *object)
+{
+    uint64_t size = pack_by_library(object, NULL);
+    if (size != pack_by_second(object, NULL) || memcmp(room, normal_form, size) != 0)
+        stop("the packed objects differ");
+}
+
+/* The packers are given normal forms. */
+static void compare_pack(const char *folder, const char *name, const char *label)
+{
+    load_all(folder, name, name);
+    for (size_t k = 0; k < SIZES; k++)
+        for (size_t i = 0; i < sets[k].count; i++) {
+            struct file *object = &sets[k].objects[i];
+            object->size = normalise_by_library(object, NULL);
+            memcpy(object->octets, room, object->size);
+            hold_packed(object);
+        }
+    compare(label, object_octets, &packing);
+}
+
+/* A text of four-letter words that all differ, in an attribute of the top: each is looked for among those behind it. Its cost is not one of an octet, so it is
+ * told in milliseconds. */
+static void compare_worst_pack(void)
+{
+    enum { WORDS = 6550, TEXT = 5 * WORDS, TURNS_OF_WORST = 50 };
+    struct file *object = &sets[SIZES - 1].objects[0];
+    const uint8_t head[] = {0x03, 0xFE, (TEXT + 4) >> 8, (TEXT + 4) & 0xFF, 0x82, 0xFE, TEXT >> 8, TEXT & 0xFF};
+    memcpy(object->octets, head, sizeof head);
+    for (unsigned i = 0; i < WORDS; i++) {
+        unsigned mixed = i * 7919u % 456976u; /* 26 to the fourth, and a factor that has no divisor with it */
+        uint8_t *word = object->octets + sizeof head + 5 * i;
+        for (unsigned k = 0; k < 4; k++, mixed /= 26)
+            word[k] = (uint8_t)('a' + mixed % 26);
+        word[4] = ' ';
+    }
+    object->size = sizeof head + TEXT;
+    set = &sets[SIZES - 1];
+    set->count = 1;
+    hold_packed(object);
+    double least[2] = {1e18, 1e18};
+    for (int turn = 0; turn < TURNS_OF_WORST; turn++)
+        for (size_t p = 0; p < 2; p++) {
+            double time = time_runs(packing.by[p], 1);
+            least[p] = time < least[p] ? time : least[p];
+        }
+    printf("pack %zu octets, %d words that all differ: %.2f ms, the second program %.2f ms\n", object->size, WORDS, least[0] / 1e6, least[1] / 1e6);
+}
+
 static void compare_gate(const char *folder)
 {
     load_all(folder, "basic", "basic");
@@ -587,6 +654,8 @@ int main(int count, char **arguments)
     compare_export(folder, "named", "export day");
     compare_export(folder, "numbers", "export small");
     compare_gate(folder);
+    compare_pack(folder, "named", "pack a day");
+    compare_worst_pack();
     compare_scan(folder, "day", "scan day");
     compare_scan(folder, "small", "scan small");
     repeat_text("The news at one, and then the weather for the coast. ");
