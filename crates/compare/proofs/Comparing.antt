@@ -266,7 +266,7 @@ module _ (es fs : Entries) (tag at : ℕ) (a : List ℕ) (t v : Items) (k : isCh
       go false = refl
 
   module _ (tag′ at′ : ℕ) (b : List ℕ) (u w : Items) (k′ : isChild tag′ ≡ true) where
-    tags-differ : (tag ≡ tag′ → ⊥) → sameMeaning (means es (item tag at a t v)) (means fs (item tag′ at′ b u w)) ≡ false
+    pub tags-differ : (tag ≡ tag′ → ⊥) → sameMeaning (means es (item tag at a t v)) (means fs (item tag′ at′ b u w)) ≡ false
     unfolding means sameMeaning
     tags-differ d = rw (k, k′) (go (opens tag) (opens tag′))
       where
@@ -279,7 +279,7 @@ module _ (es fs : Entries) (tag at : ℕ) (a : List ℕ) (t v : Items) (k : isCh
         go false false = rw (ne-eqb tag tag′ d)
 
   module _ (at′ : ℕ) (b : List ℕ) (u w : Items) where
-    tags-same : sameMeaning (means es (item tag at a t v)) (means fs (item tag at′ b u w)) ≡ sameInside es fs tag a t b u && sameMeaning (means es v) (means fs w)
+    pub tags-same : sameMeaning (means es (item tag at a t v)) (means fs (item tag at′ b u w)) ≡ sameInside es fs tag a t b u && sameMeaning (means es v) (means fs w)
     unfolding means sameMeaning sameInside
     tags-same = rw k (go (opens tag))
       where

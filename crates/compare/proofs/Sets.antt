@@ -107,7 +107,7 @@ pub ruleset counted-ways = (span-ordered, span-inside, lies-nowhere, lies-defaul
 
 -- what it tells
 module _ (parent tag : ℕ) (part : List ℕ) (r : Lies) (e : r ≡ countedSpan parent tag part) where
-  counted-at : bodyBy part r ≡ countedOfTag parent tag part
+  pub counted-at : bodyBy part r ≡ countedOfTag parent tag part
   unfolding countedSpan countedLies countedOfTag countedBody bodyOfTag bodyBy
   counted-at = ap (bodyBy part) e ∙ go (spanOfTag tag part)
     where
@@ -195,7 +195,7 @@ module _ (parent tag : ℕ) (kind : Kind) (own : known parent tag ≡ some kind)
           let same : between o from to ≡ b = Option·some-injective (between o from to) b (sym (body-some o tag (spanOfTag tag o) refl from to q) ∙ e) in
           subst (λ c. fits kind c ≡ true) same (sym (ap (λ l. isValue l (between o from to)) own) ∙ sought o tag (spanOfTag tag o) here from to q .value parent depth offset t x)
 
-  counted-fits : (b : List ℕ) → countedOfTag parent tag o ≡ some b → fits kind b ≡ true
+  pub counted-fits : (b : List ℕ) → countedOfTag parent tag o ≡ some b → fits kind b ≡ true
   unfolding countedOfTag countedBody
   counted-fits b e = body-fits b (go (bodyOfTag tag o) e)
     where

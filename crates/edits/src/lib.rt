@@ -22,6 +22,7 @@ mod taking;
 pub use inserting::insert;
 pub use removing::remove;
 pub use replacing::replace_text;
+pub use taking::places_in;
 pub use taking::take_in;
 
 fn refused(number: u8) -> EditAnswer
