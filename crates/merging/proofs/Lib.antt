@@ -7,3 +7,11 @@ pub mod ClashWays
 pub mod ClashSays
 pub mod Settling
 pub mod Wrong
+pub mod Among
+pub mod Adding
+pub mod Singly
+pub mod Roles
+pub mod Walking
+pub mod Fitting
+pub mod Deciding
+pub mod Mismerged

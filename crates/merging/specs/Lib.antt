@@ -2,3 +2,8 @@ pub mod Searches
 pub mod Keyed
 pub mod Clashing
 pub mod Calls
+pub mod Among
+pub mod Takes
+pub mod Roles
+pub mod Walks
+pub mod Deciding

@@ -16,7 +16,7 @@ use merge::Services;
 use octets::Lies;
 use survey::find_item;
 
-fn is_found(found: Lies) -> bool
+pub fn is_found(found: Lies) -> bool
     ensures { λ r. ⌜ r ≡ isFound found ⌝ }
 {
     match found {

@@ -1,5 +1,5 @@
-// Whether a Basic and an Advanced object can be merged (change request 2026-10): refusals 1 to 13 of each, then 20 and 21. No call asks anything of its
-// arguments, and none is lent memory.
+// A Basic and an Advanced object merged (change request 2026-10). `find_conflict` says whether they can be: refusals 1 to 13 of each, then 20 and 21; `merge`
+// merges them where the result fits what is lent, too. No call asks anything of its arguments. What is lent is touched only where nothing is refused.
 ghost use mathlib.Core.Path.{_≡_};
 ghost use Rattle.format.specs.Judge.{judge};
 ghost use Rattle.merging.specs.Calls.{HasTwice, HasClash, Settles, conflictAnswer};
@@ -7,8 +7,15 @@ ghost use Rattle.format.specs.Answers.{refusal};
 ghost use Rattle.merging.specs.declared.Conflict.the-variants.{InBoth};
 
 mod clash;
+mod counting;
+mod equal;
 mod keys;
+mod merged;
+mod object;
+mod partners;
+mod put;
 mod twice;
+mod walk;
 
 use crate::clash::is_clash;
 use crate::twice::is_twice;
@@ -18,6 +25,7 @@ use format::octet_at;
 use format::refuse;
 use judge::judge;
 use merge::Services;
+pub use merged::merge;
 use survey::table_of;
 use text::index_of;
 
