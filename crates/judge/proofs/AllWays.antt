@@ -31,7 +31,7 @@ use Rattle.judge.specs.declared.Progress.{Progress}
 use Rattle.judge.specs.declared.Sort.{Sort}
 use Rattle.judge.specs.declared.Sort.the-variants.{Skip, Leaf, Table, Element}
 use Rattle.judge.specs.declared.Item.{Item}
-use Rattle.judge.specs.declared.Item.the-variants.{Bad, Good}
+use Rattle.judge.proofs.OwnWays.{says-bad}
 use Rattle.judge.proofs.LateWays.{body-at, tag-at, late-undue, late-due}
 
 -- the tag 4 is the token table's, and no other tag is
@@ -119,9 +119,7 @@ behind-broken c at s = go (lateBefore c (getD s 0 0))
 
 -- what is said of an item by one reading of its rules, said by another
 says-of : (R Q : Option Refusal → Type 0) (parent : ℕ) (progress : Progress) (s : List ℕ) (i : Item) → ((o : Option Refusal) → R o → Q o) → Says R parent progress s i → Says Q parent progress s i
-unfolding Says
-says-of R Q parent progress s (Bad r) f h = f (some r) h
-says-of R Q parent progress s (Good sort start size next) f h = (f none (h .0), h .1)
+says-of R Q parent progress s i f h = record { breaks = f _ (h .breaks); passes = h .passes }
 
 module _ (parent left : ℕ) (progress : Progress) (table : List ℕ) (base at : ℕ) (part : List ℕ) where
   abbrev waiting? : Bool
@@ -132,46 +130,49 @@ module _ (parent left : ℕ) (progress : Progress) (table : List ℕ) (base at :
     here : Says (OwnIs parent left progress table (base + at) (drop at part)) parent progress (drop at part) i
     here = rw (← part-to-end part at) e
 
-    pub behind-bad : (r : Refusal) → i ≡ Bad r → Says (BehindIs parent left progress table base at part) parent progress (drop at part) (Bad r)
-    unfolding Says BehindIs behindOf OwnIs first
-    behind-bad r f seen waiting z w =
-        let q : Says (OwnIs parent left progress table (base + at) (drop at part)) parent progress (drop at part) (Bad r) = rw f at here in
-        rw (q seen waiting z)
+    pub behind-bad : i .good ≡ false → Says (BehindIs parent left progress table base at part) parent progress (drop at part) i
+    unfolding BehindIs behindOf OwnIs first
+    behind-bad f = record {
+      breaks = rw f (λ seen waiting z w. rw ((rw f at (here .breaks)) seen waiting z));
+      passes = here .passes;
+    }
 
-    module _ (sort : Sort) (start size : ℕ) (next : Progress) (f : i ≡ Good sort start size next) where
-      passed : Says (OwnIs parent left progress table (base + at) (drop at part)) parent progress (drop at part) (Good sort start size next)
-      passed = rw f at here
+    module _ (f : i .good ≡ true) where
+      abbrev start : ℕ
+      start = i .start
 
-      fitting : start + size ≤ length (drop at part)
-      unfolding Says
-      fitting = passed .1 .fits
+      abbrev size : ℕ
+      size = i .size
+
+      p : Passed parent progress (drop at part) i
+      p = here .passes f
 
       pub behind-from : base + length part ≤ 32_768 → at < length part → Fits w64 (at + start)
-      behind-from b h = omega (arith, fitting, length-drop at part)
+      behind-from b h = omega (arith, p .fits, length-drop at part)
 
       pub behind-to : base + length part ≤ 32_768 → at < length part → Fits w64 (at + start + size)
-      behind-to b h = omega (arith, fitting, length-drop at part)
+      behind-to b h = omega (arith, p .fits, length-drop at part)
 
       pub behind-in : at < length part → at + start + size ≤ length part
-      behind-in h = omega (arith, fitting, length-drop at part)
+      behind-in h = omega (arith, p .fits, length-drop at part)
 
-      module _ (d : Bool) (de : d ≡ (tableSort sort && waiting?)) (r : Check) (l : LateSays d part at parent base (take (at + start + size - (at + start)) (drop (at + start) part)) r) where
+      module _ (d : Bool) (de : d ≡ (tableSort (i .sort) && waiting?)) (r : Check) (l : LateSays d part at parent base (take (at + start + size - (at + start)) (drop (at + start) part)) r) where
         behind : BehindIs parent left progress table base at part (checked r)
-        unfolding BehindIs behindOf Says OwnIs first lateAfter
+        unfolding BehindIs behindOf OwnIs first lateAfter
         behind seen waiting z w =
-            let p : Passed parent progress (drop at part) sort start size next = passed .1 in
+            let own : OwnIs parent left progress table (base + at) (drop at part) none = rw f at (here .breaks) in
             let m : LateSays d part at parent base (take size (drop start (drop at part))) r = rw (body-at part at start size) at l in
-            rw (passed .0 seen waiting z, p .framed .isStart, p .framed .isSize, sort-four parent (getD (drop at part) 0 0) sort (p .sorts))
-            (first-one (cond (tableSort sort) (late (entries (take size (drop start (drop at part)))) waiting) none)
-            ∙ late-when (tableSort sort) waiting? d part at parent base (take size (drop start (drop at part))) r de m waiting w)
+            rw (own seen waiting z, p .framed .isStart, p .framed .isSize, sort-four parent (getD (drop at part) 0 0) (i .sort) (p .sorts))
+            (first-one (cond (tableSort (i .sort)) (late (entries (take size (drop start (drop at part)))) waiting) none)
+            ∙ late-when (tableSort (i .sort)) waiting? d part at parent base (take size (drop start (drop at part))) r de m waiting w)
 
-        pub behind-late : (x : Refusal) → r ≡ Broken x → Says (BehindIs parent left progress table base at part) parent progress (drop at part) (Bad x)
-        unfolding Says checked
+        pub behind-late : (x : Refusal) → r ≡ Broken x → BehindIs parent left progress table base at part (some x)
+        unfolding checked
         behind-late x q = rw q at behind
 
-        pub behind-good : r ≡ Kept → Says (BehindIs parent left progress table base at part) parent progress (drop at part) (Good sort start size next)
-        unfolding Says checked
-        behind-good q = (rw q at behind, passed .1)
+        pub behind-good : r ≡ Kept → Says (BehindIs parent left progress table base at part) parent progress (drop at part) i
+        unfolding checked
+        behind-good q = record { breaks = rw f (rw q at behind); passes = here .passes }
 
   -- the late rule before an item
   module _ (d : Bool) (de : d ≡ (not (attribute (getD part at 0) || eqb (getD part at 0) 4) && waiting?))
@@ -184,8 +185,8 @@ module _ (parent left : ℕ) (progress : Progress) (table : List ℕ) (base at :
         rw (← tag-at part at, swapped b none (late [] waiting), ← no-entries part)
         (late-when (not b) waiting? d part at parent base (take (0 - 0) (drop 0 part)) r de l waiting w)
 
-    pub all-late : (x : Refusal) → r ≡ Broken x → Says (AllIs parent left progress table base at part) parent progress (drop at part) (Bad x)
-    unfolding Says AllIs first checked
+    pub all-late : (x : Refusal) → r ≡ Broken x → AllIs parent left progress table base at part (some x)
+    unfolding AllIs first checked
     all-late x f seen waiting z w = behind-broken _ _ _ ∙ rw (before seen waiting w ∙ ap checked f)
 
     pub all-item : r ≡ Kept → (i : Item) → Says (BehindIs parent left progress table base at part) parent progress (drop at part) i
@@ -195,9 +196,9 @@ module _ (parent left : ℕ) (progress : Progress) (table : List ℕ) (base at :
         says-of (BehindIs parent left progress table base at part) (AllIs parent left progress table base at part) parent progress (drop at part) i
         (λ o h seen waiting z w. behind-broken _ _ _ ∙ rw (before seen waiting w ∙ ap checked f) (first-one _ ∙ h seen waiting z w))
 
-pub ruleset behind-ways = (behind-bad, behind-from, behind-to, behind-in, behind-late, behind-good)
+pub ruleset behind-ways = (says-bad, behind-bad, behind-from, behind-to, behind-in, behind-late, behind-good)
 
-pub ruleset all-ways = (all-late, all-item)
+pub ruleset all-ways = (says-bad, all-late, all-item)
 
 -- the late rule at the end of an element
 module _ (counts : Counts) (part : List ℕ) (at parent stage base : ℕ) (d : Bool) (de : d ≡ (isTop parent && eqb stage 0))

@@ -40,7 +40,6 @@ use Rattle.judge.specs.declared.Progress.{Progress}
 use Rattle.judge.specs.declared.Sort.{Sort}
 use Rattle.judge.specs.declared.Sort.the-variants.{Skip, Leaf, Table, Element}
 use Rattle.judge.specs.declared.Item.{Item}
-use Rattle.judge.specs.declared.Item.the-variants.{Bad, Good}
 use Rattle.judge.proofs.OwnWays.{start-two}
 use Rattle.judge.proofs.LateWays.{waits-from, tag-at, body-at}
 use Rattle.judge.proofs.AllWays.{sort-four}
@@ -223,10 +222,10 @@ module _ (part : List ℕ) (base parent left : ℕ) (before : Counts) (given : L
     some-left : 0 < length (drop at part)
     some-left = omega (arith, length-drop at part)
 
-    pub is-bad : (r : Refusal) → i ≡ Bad r → NotRead r ≡ Whole
-    unfolding Says AllIs unless counted
-    is-bad r f =
-        let q : Says (AllIs parent left progress table base at part) parent progress (drop at part) (Bad r) = rw f at e in
+    pub is-bad : i .good ≡ false → NotRead (i .refusal) ≡ Whole
+    unfolding AllIs unless counted
+    is-bad f =
+        let q : AllIs parent left progress table base at part (some (i .refusal)) = rw f at (e .breaks) in
         sym (inv .same ∙ ap (counted counts (headers parent (drop at part))) (read-step c (base + at) (drop at part) some-left) ∙ rw (q (inv .seen) (inv .waiting) (inv .sees) (inv .waited)))
 
     pub record-fits : base + length part ≤ 32_768 → Fits w64 (counts .records + 1)
@@ -235,23 +234,31 @@ module _ (part : List ℕ) (base parent left : ℕ) (before : Counts) (given : L
     pub item-fits : base + length part ≤ 32_768 → Fits w64 (counts .items + 1)
     item-fits b = omega (arith, inv .few .items)
 
-    module _ (sort : Sort) (start size : ℕ) (nx : Progress) (f : i ≡ Good sort start size nx) where
+    module _ (f : i .good ≡ true) where
+      abbrev sort : Sort
+      sort = i .sort
+
+      abbrev start : ℕ
+      start = i .start
+
+      abbrev size : ℕ
+      size = i .size
+
+      abbrev nx : Progress
+      nx = i .next
+
       abbrev tag : ℕ
       tag = getD (drop at part) 0 0
 
       abbrev body : List ℕ
       body = take size (drop start (drop at part))
 
-      good : Says (AllIs parent left progress table base at part) parent progress (drop at part) (Good sort start size nx)
-      good = rw f at e
-
-      p : Passed parent progress (drop at part) sort start size nx
-      unfolding Says
-      p = good .1
+      p : Passed parent progress (drop at part) i
+      p = e .passes f
 
       clean : brokenOf c (base + at) (drop at part) ≡ none
-      unfolding Says AllIs
-      clean = good .0 (inv .seen) (inv .waiting) (inv .sees) (inv .waited)
+      unfolding AllIs
+      clean = (rw f at (e .breaks)) (inv .seen) (inv .waiting) (inv .sees) (inv .waited)
 
       two : 2 ≤ start
       two = start-two (drop at part) start size (p .framed)

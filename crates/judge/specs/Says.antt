@@ -1,7 +1,7 @@
 -- What the code's values say, in the words of the crate format: contracts of the crate's own functions. The one public call is claimed by format's definitions
 -- alone (specs/Judge, specs/Calls). Rules are those of document 01, Refusal numbers.
 use mathlib.Core.Path.{_≡_}
-use mathlib.Core.Bool.{Bool, true, false, _&&_}
+use mathlib.Core.Bool.{Bool, true, false, cond, _&&_}
 use mathlib.Core.Option.{Option, none, some}
 use mathlib.Core.List.{List, [], _∷_, _++_}
 use Prim.Native.Nat.{ℕ, _+_, _-_, _≤_}
@@ -17,6 +17,7 @@ use Rattle.format.specs.declared.Refusal.{Refusal}
 use Rattle.format.specs.declared.Counts.{Counts}
 use Rattle.format.specs.declared.ReadAnswer.{ReadAnswer}
 use Rattle.format.specs.declared.ReadAnswer.the-variants.{Records, NotRead}
+use Rattle.format.specs.Answers.{refusal}
 use Rattle.format.specs.Tree.{count}
 use Rattle.format.specs.Tree.Items.{end}
 use Rattle.format.specs.Judge.{Judged, Context, isTop, first, itemRules, own, broken, late, lateAfter, waits, stageAfter, unless}
@@ -30,7 +31,6 @@ use Rattle.judge.specs.declared.Progress.{Progress}
 use Rattle.judge.specs.declared.Sort.{Sort}
 use Rattle.judge.specs.declared.Sort.the-variants.{Skip, Leaf, Table, Element}
 use Rattle.judge.specs.declared.Item.{Item}
-use Rattle.judge.specs.declared.Item.the-variants.{Bad, Good}
 
 -- a place in an object, by what the code keeps of it and, in `seen` and `waiting`, what it doesn't keep
 abbrev pub ctx : (parent depth stage : ℕ) (seen : List ℕ) (table : Entries) (waiting : List (ℕ × List ℕ)) → Context
@@ -129,18 +129,29 @@ AllIs parent left progress table base at part o =
 unfoldable pub after : ℕ → Progress → Progress
 after tag progress = record { stage = stageAfter tag; mask = withBit (progress .mask) tag }
 
+-- an item that breaks a rule, and one that breaks none, each with nothing where only the other has something to tell
+abbrev pub badItem : Refusal → Item
+badItem r = record { good = false; refusal = r; sort = Skip; start = 0; size = 0; next = record { stage = 0; mask = 0 } }
+
+abbrev pub goodItem : (sort : Sort) (start size : ℕ) (next : Progress) → Item
+goodItem sort start size next = record { good = true; refusal = refusal 0 0; sort = sort; start = start; size = size; next = next }
+
+-- what an item breaks
+abbrev pub brokenBy : Item → Option Refusal
+brokenBy i = cond (i .good) none (some (i .refusal))
+
 -- an item that breaks no rule: it lies in its part, its sort is that of its kind, and the next progress is told
-pub record Passed (parent : ℕ) (progress : Progress) (s : List ℕ) (sort : Sort) (start size : ℕ) (next : Progress) : Type 0 where
-  pub framed : Framed s start size
-  pub fits : start + size ≤ length s
-  pub sorts : sort ≡ sorted (known parent (getD s 0 0))
-  pub stages : next .stage ≡ stageAfter (getD s 0 0)
-  pub seens : (seen : List ℕ) → Seen parent (progress .mask) seen → Seen parent (next .mask) (getD s 0 0 ∷ seen)
+pub record Passed (parent : ℕ) (progress : Progress) (s : List ℕ) (i : Item) : Type 0 where
+  pub framed : Framed s (i .start) (i .size)
+  pub fits : i .start + i .size ≤ length s
+  pub sorts : i .sort ≡ sorted (known parent (getD s 0 0))
+  pub stages : i .next .stage ≡ stageAfter (getD s 0 0)
+  pub seens : (seen : List ℕ) → Seen parent (progress .mask) seen → Seen parent (i .next .mask) (getD s 0 0 ∷ seen)
 
 -- what an item says, where `R o` says that o is what is broken
-unfoldable pub Says : (R : Option Refusal → Type 0) (parent : ℕ) (progress : Progress) (s : List ℕ) → Item → Type 0
-Says R parent progress s (Bad r) = R (some r)
-Says R parent progress s (Good sort start size next) = R none × Passed parent progress s sort start size next
+pub record Says (R : Option Refusal → Type 0) (parent : ℕ) (progress : Progress) (s : List ℕ) (i : Item) : Type 0 where
+  pub breaks : R (brokenBy i)
+  pub passes : i .good ≡ true → Passed parent progress s i
 
 -- the late 12 is judged just after an item where that is the table
 unfoldable pub tableSort : Sort → Bool

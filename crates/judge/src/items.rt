@@ -13,6 +13,7 @@ use crate::Check;
 use crate::Item;
 use crate::Progress;
 use crate::Sort;
+use crate::bad;
 use crate::late::hold_attributes;
 use crate::late::is_due_before;
 use crate::late::is_waiting;
@@ -51,7 +52,7 @@ fn judge_item(
     requires { ⌜ InForce (now table) marks (now shows) ⌝ }
     ensures { λ r. ⌜ Says (BehindIs parent left progress (now (table .entry)) base at (now (part .entry))) parent progress (drop at (now (part .entry))) r ⌝ }
 {
-    match judge_own(
+    let item = judge_own(
         &part[at..],
         base + at,
         parent,
@@ -60,27 +61,18 @@ fn judge_item(
         table,
         marks,
         shows,
-    ) {
-        Item::Bad(refusal) => Item::Bad(refusal),
-        Item::Good {
-            sort,
-            start,
-            size,
-            next,
-        } => {
-            let from = at + start;
-            let to = from + size;
-            let due = is_due_after(sort, parent, progress.stage);
-            match judge_late(due, part, at, parent, base, &part[from..to]) {
-                Check::Broken(refusal) => Item::Bad(refusal),
-                Check::Kept => Item::Good {
-                    sort,
-                    start,
-                    size,
-                    next,
-                },
-            }
+    );
+    if item.good {
+        let from = at + item.start;
+        let to = from + item.size;
+        let sort = item.sort;
+        let due = is_due_after(sort, parent, progress.stage);
+        match judge_late(due, part, at, parent, base, &part[from..to]) {
+            Check::Broken(refusal) => bad(refusal),
+            Check::Kept => item,
         }
+    } else {
+        item
     }
 }
 
@@ -102,7 +94,7 @@ fn read_item(
 {
     let due = is_due_before(parent, progress.stage, part[at]);
     match judge_late(due, part, at, parent, base, &part[0..0]) {
-        Check::Broken(refusal) => Item::Bad(refusal),
+        Check::Broken(refusal) => bad(refusal),
         Check::Kept => judge_item(part, at, base, parent, left, progress, table, marks, shows),
     }
 }
@@ -158,51 +150,45 @@ pub fn read_items<'a>(
     let mut marks = marks;
     let mut shows: [u8; 32] = *shows;
     while at < part.len() {
-        match read_item(part, at, base, parent, left, progress, table, marks, &shows) {
-            Item::Bad(refusal) => {
-                return ReadAnswer::NotRead(refusal);
+        let item = read_item(part, at, base, parent, left, progress, table, marks, &shows);
+        if !item.good {
+            let refusal = item.refusal;
+            return ReadAnswer::NotRead(refusal);
+        }
+        let tag = part[at];
+        let from = at + item.start;
+        at = from + item.size;
+        progress = item.next;
+        counts.items = counts.items + 1;
+        let sort = item.sort;
+        match sort {
+            Sort::Skip => {}
+            Sort::Leaf => {
+                counts.records = counts.records + 1;
             }
-            Item::Good {
-                sort,
-                start,
-                size,
-                next,
-            } => {
-                let tag = part[at];
-                let from = at + start;
-                at = from + size;
-                progress = next;
-                counts.items = counts.items + 1;
-                match sort {
-                    Sort::Skip => {}
-                    Sort::Leaf => {
-                        counts.records = counts.records + 1;
+            Sort::Table => {
+                table = &part[from..at];
+                marks = tokens_of(table);
+                shows = characters_of(table);
+            }
+            Sort::Element => {
+                match read_element(
+                    part,
+                    from,
+                    at,
+                    base,
+                    tag,
+                    left,
+                    counts,
+                    table,
+                    marks,
+                    &shows,
+                ) {
+                    ReadAnswer::NotRead(refusal) => {
+                        return ReadAnswer::NotRead(refusal);
                     }
-                    Sort::Table => {
-                        table = &part[from..at];
-                        marks = tokens_of(table);
-                        shows = characters_of(table);
-                    }
-                    Sort::Element => {
-                        match read_element(
-                            part,
-                            from,
-                            at,
-                            base,
-                            tag,
-                            left,
-                            counts,
-                            table,
-                            marks,
-                            &shows,
-                        ) {
-                            ReadAnswer::NotRead(refusal) => {
-                                return ReadAnswer::NotRead(refusal);
-                            }
-                            ReadAnswer::Records(within) => {
-                                counts = within;
-                            }
-                        }
+                    ReadAnswer::Records(within) => {
+                        counts = within;
                     }
                 }
             }

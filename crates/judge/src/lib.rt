@@ -5,6 +5,7 @@ ghost use Rattle.format.specs.Judge.{judge};
 ghost use Rattle.format.specs.Headers.{headers, headersOf};
 ghost use Rattle.format.specs.Calls.{judgeAnswer};
 ghost use Rattle.judge.specs.Inside.{judgeInside};
+ghost use Rattle.judge.specs.Says.{badItem, goodItem};
 
 mod items;
 mod late;
@@ -38,16 +39,47 @@ enum Sort {
     Element,
 }
 
-// An item, judged without what is inside it. A good one has its sort, where its body begins, how large that is, and how far its element
-// was read after it.
-enum Item {
-    Bad(Refusal),
-    Good {
-        sort: Sort,
-        start: usize,
-        size: usize,
-        next: Progress,
-    },
+// An item, judged without what is inside it. A good one has its sort, where its body begins, how large that is, and how far its element was read after it; any
+// other has its refusal. It is no enum of the two: compiled code would lay that in memory, whatever is in it, and read it back.
+struct Item {
+    good: bool,
+    refusal: Refusal,
+    sort: Sort,
+    start: usize,
+    size: usize,
+    next: Progress,
+}
+
+// An item that breaks a rule.
+fn bad(refusal: Refusal) -> Item
+    ensures { λ r. ⌜ r ≡ badItem refusal ⌝ }
+{
+    Item {
+        good: false,
+        refusal,
+        sort: Sort::Skip,
+        start: 0,
+        size: 0,
+        next: Progress { stage: 0, mask: 0 },
+    }
+}
+
+// An item that breaks none.
+fn good(sort: Sort, start: usize, size: usize, next: Progress) -> Item
+    ensures { λ r. ⌜ r ≡ goodItem sort start size next ⌝ }
+{
+    Item {
+        good: true,
+        refusal: Refusal {
+            number: 0,
+            place: 0,
+            field: 0,
+        },
+        sort,
+        start,
+        size,
+        next,
+    }
 }
 
 // How many levels of elements may begin in an element of a depth.

@@ -17,6 +17,8 @@ use crate::Check;
 use crate::Item;
 use crate::Progress;
 use crate::Sort;
+use crate::bad;
+use crate::good;
 use format::Refusal;
 use format::refuse;
 use octets::Characters;
@@ -243,15 +245,15 @@ fn judge_framed(
     ensures { λ r. ⌜ Says (OwnIs parent left progress (now (table .entry)) place (now (rest .entry))) parent progress (now (rest .entry)) r ⌝ }
 {
     if rest.len() - start < size {
-        return Item::Bad(refuse(3, place));
+        return bad(refuse(3, place));
     }
     let tag = rest[0];
     if !is_allowed(parent, tag) {
-        return Item::Bad(refuse(4, place));
+        return bad(refuse(4, place));
     }
     let to = start + size;
     if trails(parent, to, rest.len()) {
-        return Item::Bad(refuse(5, place + to));
+        return bad(refuse(5, place + to));
     }
     let known = known_kind(parent, tag);
     match check_item(
@@ -266,13 +268,8 @@ fn judge_framed(
         shows,
         &rest[start..to],
     ) {
-        Check::Broken(refusal) => Item::Bad(refusal),
-        Check::Kept => Item::Good {
-            sort: sort_of(known),
-            start,
-            size,
-            next: progress_after(tag, progress),
-        },
+        Check::Broken(refusal) => bad(refusal),
+        Check::Kept => good(sort_of(known), start, size, progress_after(tag, progress)),
     }
 }
 
@@ -292,7 +289,7 @@ pub fn judge_own(
     ensures { λ r. ⌜ Says (OwnIs parent left progress (now (table .entry)) place (now (rest .entry))) parent progress (now (rest .entry)) r ⌝ }
 {
     match read_header(rest) {
-        Header::Past => Item::Bad(refuse(2, place)),
+        Header::Past => bad(refuse(2, place)),
         Header::Found { start, size } => judge_framed(
             rest,
             start,

@@ -1,6 +1,7 @@
 -- The cycle of an element and its items. Levels fall from an element to its items; what is left of the part falls from item to item.
 use native.Mathlib.Omega.{arith}
 use lib.ListN.{length, length-take, length-drop}
+use borrow.Author.Tests.{not-true, not-false}
 use borrow.Author.Needs.{needs}
 use Rattle.judge.proofs.Turn.{Holds, at-start, end-in, end-all, end-most, is-bad, item-fits, record-fits, item-in, item-from, item-to, item-less, item-few, past-skip, past-leaf, past-table, element-levels, element-bad, past-element, part-most}
 use Rattle.judge.specs.Says.{InForce}
@@ -131,21 +132,7 @@ read-items-read-item-requires : (t : ℕ) → read-items-lts.Need-read-item-requ
   end-items-reads.Learnt,
 ) (read-items-at t) read-items.Post read-items-Inv-loop read-items-μ-loop
 read-items-read-item-requires t c κs =
-    ((((c .before .before .before .before .before .before .pre) .1 .0 .0), ((c .before .loop-test) .taken)), c .before .before .loop .inv .1)
-
-read-items-enum-known-refusal : (t : ℕ) → read-items-lts.Need-enum-known-refusal (
-  read-item-reads.Asked,
-  read-item-reads.Learnt,
-  tokens-of-reads.Asked,
-  tokens-of-reads.Learnt,
-  characters-of-reads.Asked,
-  characters-of-reads.Learnt,
-  read-element-below t,
-  read-element.Post,
-  end-items-reads.Asked,
-  end-items-reads.Learnt,
-) (read-items-at t) read-items.Post read-items-Inv-loop read-items-μ-loop
-read-items-enum-known-refusal t c = search needs
+    (((c .before .before .before .before .before .before .pre .1 .0 .0), c .before .loop-test .taken), c .before .before .loop .inv .1)
 
 read-items-returns : (t : ℕ) → read-items-lts.Need-returns (
   read-item-reads.Asked,
@@ -160,21 +147,7 @@ read-items-returns : (t : ℕ) → read-items-lts.Need-returns (
   end-items-reads.Learnt,
 ) (read-items-at t) read-items.Post read-items-Inv-loop read-items-μ-loop
 read-items-returns t c =
-    (is-bad _ _ _ _ _ _ _ _ _ _ ((c .before .before .before .before .before .before .loop) .inv .0) ((c .before .before .before .before .before .loop-test) .taken) _ ((c .before .before .before .read-item) .ensures) _ ((c .before .refusal) .given .1), tt)
-
-read-items-enum-known-sort : (t : ℕ) → read-items-lts.Need-enum-known-sort (
-  read-item-reads.Asked,
-  read-item-reads.Learnt,
-  tokens-of-reads.Asked,
-  tokens-of-reads.Learnt,
-  characters-of-reads.Asked,
-  characters-of-reads.Learnt,
-  read-element-below t,
-  read-element.Post,
-  end-items-reads.Asked,
-  end-items-reads.Learnt,
-) (read-items-at t) read-items.Post read-items-Inv-loop read-items-μ-loop
-read-items-enum-known-sort t c = search needs
+    (is-bad _ _ _ _ _ _ _ _ _ _ (c .before .before .before .before .before .before .loop .inv .0) (c .before .before .before .before .before .loop-test .taken) _ (c .before .before .before .read-item .ensures) (not-true _ (c .before .if1 .taken)), tt)
 
 read-items-shared-slice-read-tag : (t : ℕ) → read-items-lts.Need-shared-slice-read-tag (
   read-item-reads.Asked,
@@ -189,7 +162,7 @@ read-items-shared-slice-read-tag : (t : ℕ) → read-items-lts.Need-shared-slic
   end-items-reads.Learnt,
 ) (read-items-at t) read-items.Post read-items-Inv-loop read-items-μ-loop
 read-items-shared-slice-read-tag t c =
-    ((c .before .before .before .before .before .before .loop-test) .taken)
+    c .before .before .before .before .before .loop-test .taken
 
 read-items-add-from : (t : ℕ) → read-items-lts.Need-add-from (
   read-item-reads.Asked,
@@ -204,7 +177,7 @@ read-items-add-from : (t : ℕ) → read-items-lts.Need-add-from (
   end-items-reads.Learnt,
 ) (read-items-at t) read-items.Post read-items-Inv-loop read-items-μ-loop
 read-items-add-from t c =
-    item-from _ _ _ _ _ _ _ _ _ _ ((c .before .before .before .before .before .before .before .loop) .inv .0) ((c .before .before .before .before .before .before .loop-test) .taken) _ ((c .before .before .before .before .read-item) .ensures) _ _ _ _ ((c .before .before .sort) .given .1) ((c .before .before .before .before .before .before .before .before .before .before .before .pre) .1 .0 .0)
+    item-from _ _ _ _ _ _ _ _ _ _ (c .before .before .before .before .before .before .before .loop .inv .0) (c .before .before .before .before .before .before .loop-test .taken) _ (c .before .before .before .before .read-item .ensures) (not-false _ (c .before .before .if1 .left)) (c .before .before .before .before .before .before .before .before .before .before .before .pre .1 .0 .0)
 
 read-items-add-at : (t : ℕ) → read-items-lts.Need-add-at (
   read-item-reads.Asked,
@@ -219,7 +192,7 @@ read-items-add-at : (t : ℕ) → read-items-lts.Need-add-at (
   end-items-reads.Learnt,
 ) (read-items-at t) read-items.Post read-items-Inv-loop read-items-μ-loop
 read-items-add-at t c =
-    item-to _ _ _ _ _ _ _ _ _ _ ((c .before .before .before .before .before .before .before .loop) .inv .0) ((c .before .before .before .before .before .before .loop-test) .taken) _ ((c .before .before .before .before .read-item) .ensures) _ _ _ _ ((c .before .before .sort) .given .1) ((c .before .before .before .before .before .before .before .before .before .before .before .pre) .1 .0 .0)
+    item-to _ _ _ _ _ _ _ _ _ _ (c .before .before .before .before .before .before .before .before .loop .inv .0) (c .before .before .before .before .before .before .before .loop-test .taken) _ (c .before .before .before .before .before .read-item .ensures) (not-false _ (c .before .before .before .if1 .left)) (c .before .before .before .before .before .before .before .before .before .before .before .before .pre .1 .0 .0)
 
 read-items-add-counts : (t : ℕ) → read-items-lts.Need-add-counts (
   read-item-reads.Asked,
@@ -234,7 +207,7 @@ read-items-add-counts : (t : ℕ) → read-items-lts.Need-add-counts (
   end-items-reads.Learnt,
 ) (read-items-at t) read-items.Post read-items-Inv-loop read-items-μ-loop
 read-items-add-counts t c =
-    item-fits _ _ _ _ _ _ _ _ _ _ ((c .before .before .before .before .before .before .before .before .loop) .inv .0) ((c .before .before .before .before .before .before .before .loop-test) .taken) _ ((c .before .before .before .before .before .read-item) .ensures) ((c .before .before .before .before .before .before .before .before .before .before .before .before .pre) .1 .0 .0)
+    item-fits _ _ _ _ _ _ _ _ _ _ (c .before .before .before .before .before .before .before .before .before .before .loop .inv .0) (c .before .before .before .before .before .before .before .before .before .loop-test .taken) _ (c .before .before .before .before .before .before .before .read-item .ensures) (c .before .before .before .before .before .before .before .before .before .before .before .before .before .before .pre .1 .0 .0)
 
 read-items-enum-told : (t : ℕ) → read-items-lts.Need-enum-told (
   read-item-reads.Asked,
@@ -263,7 +236,7 @@ read-items-loop-less : (t : ℕ) → read-items-lts.Need-loop-less (
   end-items-reads.Learnt,
 ) (read-items-at t) read-items.Post read-items-Inv-loop read-items-μ-loop
 read-items-loop-less t c =
-    item-less _ _ _ _ _ _ _ _ _ _ ((c .before .before .before .before .before .before .before .before .before .before .loop) .inv .0) ((c .before .before .before .before .before .before .before .before .before .loop-test) .taken) _ ((c .before .before .before .before .before .before .before .read-item) .ensures) _ _ _ _ ((c .before .before .before .before .before .sort) .given .1)
+    item-less _ _ _ _ _ _ _ _ _ _ (c .before .before .before .before .before .before .before .before .before .before .before .before .loop .inv .0) (c .before .before .before .before .before .before .before .before .before .before .before .loop-test .taken) _ (c .before .before .before .before .before .before .before .before .before .read-item .ensures) (not-false _ (c .before .before .before .before .before .before .before .if1 .left))
 
 read-items-loop-again : (t : ℕ) → read-items-lts.Need-loop-again (
   read-item-reads.Asked,
@@ -278,7 +251,7 @@ read-items-loop-again : (t : ℕ) → read-items-lts.Need-loop-again (
   end-items-reads.Learnt,
 ) (read-items-at t) read-items.Post read-items-Inv-loop read-items-μ-loop
 read-items-loop-again t c =
-    (past-skip _ _ _ _ _ _ _ _ _ _ ((c .before .before .before .before .before .before .before .before .before .before .loop) .inv .0) ((c .before .before .before .before .before .before .before .before .before .loop-test) .taken) _ ((c .before .before .before .before .before .before .before .read-item) .ensures) _ _ _ _ ((c .before .before .before .before .before .sort) .given .1) ((c .enum-told) .given .1), c .before .before .before .before .before .before .before .before .before .before .loop .inv .1)
+    (past-skip _ _ _ _ _ _ _ _ _ _ (c .before .before .before .before .before .before .before .before .before .before .before .before .loop .inv .0) (c .before .before .before .before .before .before .before .before .before .before .before .loop-test .taken) _ (c .before .before .before .before .before .before .before .before .before .read-item .ensures) (not-false _ (c .before .before .before .before .before .before .before .if1 .left)) (c .enum-told .given .1), c .before .before .before .before .before .before .before .before .before .before .before .before .loop .inv .1)
 
 read-items-enum-told-2 : (t : ℕ) → read-items-lts.Need-enum-told-2 (
   read-item-reads.Asked,
@@ -307,7 +280,7 @@ read-items-add-counts-2 : (t : ℕ) → read-items-lts.Need-add-counts-2 (
   end-items-reads.Learnt,
 ) (read-items-at t) read-items.Post read-items-Inv-loop read-items-μ-loop
 read-items-add-counts-2 t c =
-    record-fits _ _ _ _ _ _ _ _ _ _ ((c .before .before .before .before .before .before .before .before .before .before .before .loop) .inv .0) ((c .before .before .before .before .before .before .before .before .before .before .loop-test) .taken) _ ((c .before .before .before .before .before .before .before .before .read-item) .ensures) ((c .before .before .before .before .before .before .before .before .before .before .before .before .before .before .before .pre) .1 .0 .0)
+    record-fits _ _ _ _ _ _ _ _ _ _ (c .before .before .before .before .before .before .before .before .before .before .before .before .before .loop .inv .0) (c .before .before .before .before .before .before .before .before .before .before .before .before .loop-test .taken) _ (c .before .before .before .before .before .before .before .before .before .before .read-item .ensures) (c .before .before .before .before .before .before .before .before .before .before .before .before .before .before .before .before .before .pre .1 .0 .0)
 
 read-items-loop-less-2 : (t : ℕ) → read-items-lts.Need-loop-less-2 (
   read-item-reads.Asked,
@@ -322,7 +295,7 @@ read-items-loop-less-2 : (t : ℕ) → read-items-lts.Need-loop-less-2 (
   end-items-reads.Learnt,
 ) (read-items-at t) read-items.Post read-items-Inv-loop read-items-μ-loop
 read-items-loop-less-2 t c =
-    item-less _ _ _ _ _ _ _ _ _ _ ((c .before .before .before .before .before .before .before .before .before .before .before .loop) .inv .0) ((c .before .before .before .before .before .before .before .before .before .before .loop-test) .taken) _ ((c .before .before .before .before .before .before .before .before .read-item) .ensures) _ _ _ _ ((c .before .before .before .before .before .before .sort) .given .1)
+    item-less _ _ _ _ _ _ _ _ _ _ (c .before .before .before .before .before .before .before .before .before .before .before .before .before .loop .inv .0) (c .before .before .before .before .before .before .before .before .before .before .before .before .loop-test .taken) _ (c .before .before .before .before .before .before .before .before .before .before .read-item .ensures) (not-false _ (c .before .before .before .before .before .before .before .before .if1 .left))
 
 read-items-loop-again-2 : (t : ℕ) → read-items-lts.Need-loop-again-2 (
   read-item-reads.Asked,
@@ -337,7 +310,7 @@ read-items-loop-again-2 : (t : ℕ) → read-items-lts.Need-loop-again-2 (
   end-items-reads.Learnt,
 ) (read-items-at t) read-items.Post read-items-Inv-loop read-items-μ-loop
 read-items-loop-again-2 t c =
-    (past-leaf _ _ _ _ _ _ _ _ _ _ ((c .before .before .before .before .before .before .before .before .before .before .before .loop) .inv .0) ((c .before .before .before .before .before .before .before .before .before .before .loop-test) .taken) _ ((c .before .before .before .before .before .before .before .before .read-item) .ensures) _ _ _ _ ((c .before .before .before .before .before .before .sort) .given .1) ((c .before .enum-told2) .given .1), c .before .before .before .before .before .before .before .before .before .before .before .loop .inv .1)
+    (past-leaf _ _ _ _ _ _ _ _ _ _ (c .before .before .before .before .before .before .before .before .before .before .before .before .before .loop .inv .0) (c .before .before .before .before .before .before .before .before .before .before .before .before .loop-test .taken) _ (c .before .before .before .before .before .before .before .before .before .before .read-item .ensures) (not-false _ (c .before .before .before .before .before .before .before .before .if1 .left)) (c .before .enum-told2 .given .1), c .before .before .before .before .before .before .before .before .before .before .before .before .before .loop .inv .1)
 
 read-items-enum-told-3 : (t : ℕ) → read-items-lts.Need-enum-told-3 (
   read-item-reads.Asked,
@@ -394,7 +367,7 @@ read-items-part-table-end : (t : ℕ) → read-items-lts.Need-part-table-end (
   end-items-reads.Learnt,
 ) (read-items-at t) read-items.Post read-items-Inv-loop read-items-μ-loop
 read-items-part-table-end t c =
-    item-in _ _ _ _ _ _ _ _ _ _ ((c .before .before .before .before .before .before .before .before .before .before .loop) .inv .0) ((c .before .before .before .before .before .before .before .before .before .loop-test) .taken) _ ((c .before .before .before .before .before .before .before .read-item) .ensures) _ _ _ _ ((c .before .before .before .before .before .sort) .given .1)
+    item-in _ _ _ _ _ _ _ _ _ _ (c .before .before .before .before .before .before .before .before .before .before .before .before .loop .inv .0) (c .before .before .before .before .before .before .before .before .before .before .before .loop-test .taken) _ (c .before .before .before .before .before .before .before .before .before .read-item .ensures) (not-false _ (c .before .before .before .before .before .before .before .if1 .left))
 
 read-items-tokens-of-requires : (t : ℕ) → read-items-lts.Need-tokens-of-requires (
   read-item-reads.Asked,
@@ -437,7 +410,7 @@ read-items-loop-less-3 : (t : ℕ) → read-items-lts.Need-loop-less-3 (
   end-items-reads.Learnt,
 ) (read-items-at t) read-items.Post read-items-Inv-loop read-items-μ-loop
 read-items-loop-less-3 t c =
-    item-less _ _ _ _ _ _ _ _ _ _ ((c .before .before .before .before .before .before .before .before .before .before .before .before .before .loop) .inv .0) ((c .before .before .before .before .before .before .before .before .before .before .before .before .loop-test) .taken) _ ((c .before .before .before .before .before .before .before .before .before .before .read-item) .ensures) _ _ _ _ ((c .before .before .before .before .before .before .before .before .sort) .given .1)
+    item-less _ _ _ _ _ _ _ _ _ _ (c .before .before .before .before .before .before .before .before .before .before .before .before .before .before .before .loop .inv .0) (c .before .before .before .before .before .before .before .before .before .before .before .before .before .before .loop-test .taken) _ (c .before .before .before .before .before .before .before .before .before .before .before .before .read-item .ensures) (not-false _ (c .before .before .before .before .before .before .before .before .before .before .if1 .left))
 
 read-items-loop-again-3 : (t : ℕ) → read-items-lts.Need-loop-again-3 (
   read-item-reads.Asked,
@@ -452,7 +425,7 @@ read-items-loop-again-3 : (t : ℕ) → read-items-lts.Need-loop-again-3 (
   end-items-reads.Learnt,
 ) (read-items-at t) read-items.Post read-items-Inv-loop read-items-μ-loop
 read-items-loop-again-3 t c =
-    (past-table _ _ _ _ _ _ _ _ _ _ ((c .before .before .before .before .before .before .before .before .before .before .before .before .before .loop) .inv .0) ((c .before .before .before .before .before .before .before .before .before .before .before .before .loop-test) .taken) _ ((c .before .before .before .before .before .before .before .before .before .before .read-item) .ensures) _ _ _ _ ((c .before .before .before .before .before .before .before .before .sort) .given .1) ((c .before .before .before .enum-told3) .given .1), record { marking = c .before .tokens-of .ensures; showing = c .characters-of .ensures })
+    (past-table _ _ _ _ _ _ _ _ _ _ (c .before .before .before .before .before .before .before .before .before .before .before .before .before .before .before .loop .inv .0) (c .before .before .before .before .before .before .before .before .before .before .before .before .before .before .loop-test .taken) _ (c .before .before .before .before .before .before .before .before .before .before .before .before .read-item .ensures) (not-false _ (c .before .before .before .before .before .before .before .before .before .before .if1 .left)) (c .before .before .before .enum-told3 .given .1), record { marking = c .before .tokens-of .ensures; showing = c .characters-of .ensures })
 
 read-items-enum-told-4 : (t : ℕ) → read-items-lts.Need-enum-told-4 (
   read-item-reads.Asked,
@@ -481,9 +454,9 @@ read-items-read-element-requires : (t : ℕ) → read-items-lts.Need-read-elemen
   end-items-reads.Learnt,
 ) (read-items-at t) read-items.Post read-items-Inv-loop read-items-μ-loop
 read-items-read-element-requires t c κs =
-    (omega (arith, (c .before .before .before .before .before .before .before .before .before .before .before .before .before .before .before .pre) .0), ((omega arith, item-in _ _ _ _ _ _ _ _ _ _ ((c .before .before .before .before .before .before .before .before .before .before .before .loop) .inv .0) ((c .before .before .before .before .before .before .before .before .before .before .loop-test) .taken) _ ((c .before .before .before .before .before .before .before .before .read-item) .ensures) _ _ _ _ ((c .before .before .before .before .before .before .sort) .given .1), ((c .before .before .before .before .before .before .before .before .before .before .before .before .before .before .before .pre) .1 .0 .0), item-few _ _ _ _ _ _ _ _ _ _ ((c .before .before .before .before .before .before .before .before .before .before .before .loop) .inv .0) ((c .before .before .before .before .before .before .before .before .before .before .loop-test) .taken) _ ((c .before .before .before .before .before .before .before .before .read-item) .ensures) _ _ _ _ ((c .before .before .before .before .before .before .sort) .given .1), element-levels _ _ _ _ _ _ _ _ _ _ ((c .before .before .before .before .before .before .before .before .before .before .before .loop) .inv .0) ((c .before .before .before .before .before .before .before .before .before .before .loop-test) .taken) _ ((c .before .before .before .before .before .before .before .before .read-item) .ensures) _ _ _ _ ((c .before .before .before .before .before .before .sort) .given .1) ((c .before .enum-told4) .given .1), ((c .before .before .before .before .before .before .before .before .before .before .before .loop) .inv .0 .levels)), c .before .before .before .before .before .before .before .before .before .before .before .loop .inv .1))
+    (omega (arith, c .before .before .before .before .before .before .before .before .before .before .before .before .before .before .before .before .before .pre .0), ((omega arith, item-in _ _ _ _ _ _ _ _ _ _ (c .before .before .before .before .before .before .before .before .before .before .before .before .before .loop .inv .0) (c .before .before .before .before .before .before .before .before .before .before .before .before .loop-test .taken) _ (c .before .before .before .before .before .before .before .before .before .before .read-item .ensures) (not-false _ (c .before .before .before .before .before .before .before .before .if1 .left)), (c .before .before .before .before .before .before .before .before .before .before .before .before .before .before .before .before .before .pre .1 .0 .0), item-few _ _ _ _ _ _ _ _ _ _ (c .before .before .before .before .before .before .before .before .before .before .before .before .before .loop .inv .0) (c .before .before .before .before .before .before .before .before .before .before .before .before .loop-test .taken) _ (c .before .before .before .before .before .before .before .before .before .before .read-item .ensures) (not-false _ (c .before .before .before .before .before .before .before .before .if1 .left)), element-levels _ _ _ _ _ _ _ _ _ _ (c .before .before .before .before .before .before .before .before .before .before .before .before .before .loop .inv .0) (c .before .before .before .before .before .before .before .before .before .before .before .before .loop-test .taken) _ (c .before .before .before .before .before .before .before .before .before .before .read-item .ensures) (not-false _ (c .before .before .before .before .before .before .before .before .if1 .left)) (c .before .enum-told4 .given .1), c .before .before .before .before .before .before .before .before .before .before .before .before .before .loop .inv .0 .levels), c .before .before .before .before .before .before .before .before .before .before .before .before .before .loop .inv .1))
 
-read-items-enum-known-refusal-2 : (t : ℕ) → read-items-lts.Need-enum-known-refusal-2 (
+read-items-enum-known-refusal : (t : ℕ) → read-items-lts.Need-enum-known-refusal (
   read-item-reads.Asked,
   read-item-reads.Learnt,
   tokens-of-reads.Asked,
@@ -495,7 +468,7 @@ read-items-enum-known-refusal-2 : (t : ℕ) → read-items-lts.Need-enum-known-r
   end-items-reads.Asked,
   end-items-reads.Learnt,
 ) (read-items-at t) read-items.Post read-items-Inv-loop read-items-μ-loop
-read-items-enum-known-refusal-2 t c = search needs
+read-items-enum-known-refusal t c = search needs
 
 read-items-returns-2 : (t : ℕ) → read-items-lts.Need-returns-2 (
   read-item-reads.Asked,
@@ -510,7 +483,7 @@ read-items-returns-2 : (t : ℕ) → read-items-lts.Need-returns-2 (
   end-items-reads.Learnt,
 ) (read-items-at t) read-items.Post read-items-Inv-loop read-items-μ-loop
 read-items-returns-2 t c =
-    (element-bad _ _ _ _ _ _ _ _ _ _ ((c .before .before .before .before .before .before .before .before .before .before .before .before .before .before .before .loop) .inv .0) ((c .before .before .before .before .before .before .before .before .before .before .before .before .before .before .loop-test) .taken) _ ((c .before .before .before .before .before .before .before .before .before .before .before .before .read-item) .ensures) _ _ _ _ ((c .before .before .before .before .before .before .before .before .before .before .sort) .given .1) ((c .before .before .before .before .before .enum-told4) .given .1) _ ((c .before .before .before .read-element) .ensures .0) _ ((c .before .refusal2) .given .1), tt)
+    (element-bad _ _ _ _ _ _ _ _ _ _ (c .before .before .before .before .before .before .before .before .before .before .before .before .before .before .before .before .before .loop .inv .0) (c .before .before .before .before .before .before .before .before .before .before .before .before .before .before .before .before .loop-test .taken) _ (c .before .before .before .before .before .before .before .before .before .before .before .before .before .before .read-item .ensures) (not-false _ (c .before .before .before .before .before .before .before .before .before .before .before .before .if1 .left)) (c .before .before .before .before .before .enum-told4 .given .1) _ (c .before .before .before .read-element .ensures .0) _ (c .before .refusal2 .given .1), tt)
 
 read-items-enum-known-within : (t : ℕ) → read-items-lts.Need-enum-known-within (
   read-item-reads.Asked,
@@ -539,7 +512,7 @@ read-items-loop-less-4 : (t : ℕ) → read-items-lts.Need-loop-less-4 (
   end-items-reads.Learnt,
 ) (read-items-at t) read-items.Post read-items-Inv-loop read-items-μ-loop
 read-items-loop-less-4 t c =
-    item-less _ _ _ _ _ _ _ _ _ _ ((c .before .before .before .before .before .before .before .before .before .before .before .before .before .before .before .loop) .inv .0) ((c .before .before .before .before .before .before .before .before .before .before .before .before .before .before .loop-test) .taken) _ ((c .before .before .before .before .before .before .before .before .before .before .before .before .read-item) .ensures) _ _ _ _ ((c .before .before .before .before .before .before .before .before .before .before .sort) .given .1)
+    item-less _ _ _ _ _ _ _ _ _ _ (c .before .before .before .before .before .before .before .before .before .before .before .before .before .before .before .before .before .loop .inv .0) (c .before .before .before .before .before .before .before .before .before .before .before .before .before .before .before .before .loop-test .taken) _ (c .before .before .before .before .before .before .before .before .before .before .before .before .before .before .read-item .ensures) (not-false _ (c .before .before .before .before .before .before .before .before .before .before .before .before .if1 .left))
 
 read-items-loop-again-4 : (t : ℕ) → read-items-lts.Need-loop-again-4 (
   read-item-reads.Asked,
@@ -554,7 +527,7 @@ read-items-loop-again-4 : (t : ℕ) → read-items-lts.Need-loop-again-4 (
   end-items-reads.Learnt,
 ) (read-items-at t) read-items.Post read-items-Inv-loop read-items-μ-loop
 read-items-loop-again-4 t c =
-    (past-element _ _ _ _ _ _ _ _ _ _ ((c .before .before .before .before .before .before .before .before .before .before .before .before .before .before .before .loop) .inv .0) ((c .before .before .before .before .before .before .before .before .before .before .before .before .before .before .loop-test) .taken) _ ((c .before .before .before .before .before .before .before .before .before .before .before .before .read-item) .ensures) _ _ _ _ ((c .before .before .before .before .before .before .before .before .before .before .sort) .given .1) ((c .before .before .before .before .before .enum-told4) .given .1) _ ((c .before .before .before .read-element) .ensures .0) _ ((c .before .within) .given .1) ((c .before .before .before .read-element) .ensures .1), c .before .before .before .before .before .before .before .before .before .before .before .before .before .before .before .loop .inv .1)
+    (past-element _ _ _ _ _ _ _ _ _ _ (c .before .before .before .before .before .before .before .before .before .before .before .before .before .before .before .before .before .loop .inv .0) (c .before .before .before .before .before .before .before .before .before .before .before .before .before .before .before .before .loop-test .taken) _ (c .before .before .before .before .before .before .before .before .before .before .before .before .before .before .read-item .ensures) (not-false _ (c .before .before .before .before .before .before .before .before .before .before .before .before .if1 .left)) (c .before .before .before .before .before .enum-told4 .given .1) _ (c .before .before .before .read-element .ensures .0) _ (c .before .within .given .1) (c .before .before .before .read-element .ensures .1), c .before .before .before .before .before .before .before .before .before .before .before .before .before .before .before .before .before .loop .inv .1)
 
 read-items-end-items-requires : (t : ℕ) → read-items-lts.Need-end-items-requires (
   read-item-reads.Asked,
@@ -569,7 +542,7 @@ read-items-end-items-requires : (t : ℕ) → read-items-lts.Need-end-items-requ
   end-items-reads.Learnt,
 ) (read-items-at t) read-items.Post read-items-Inv-loop read-items-μ-loop
 read-items-end-items-requires t c κs =
-    (((c .before .before .before .before .before .pre) .1 .0 .0), end-in _ _ _ _ _ _ _ _ _ _ ((c .before .loop) .inv .0))
+    ((c .before .before .before .before .before .pre .1 .0 .0), end-in _ _ _ _ _ _ _ _ _ _ (c .before .loop .inv .0))
 
 read-items-returns-3 : (t : ℕ) → read-items-lts.Need-returns-3 (
   read-item-reads.Asked,
@@ -584,7 +557,7 @@ read-items-returns-3 : (t : ℕ) → read-items-lts.Need-returns-3 (
   end-items-reads.Learnt,
 ) (read-items-at t) read-items.Post read-items-Inv-loop read-items-μ-loop
 read-items-returns-3 t c =
-    (end-all _ _ _ _ _ _ _ _ _ _ ((c .before .before .loop) .inv .0) ((c .before .loop-test) .left) _ ((c .end-items) .ensures .0), end-most _ _ _ _ _ _ _ _ _ _ ((c .before .before .loop) .inv .0) ((c .end-items) .result) ((c .end-items) .ensures .1))
+    (end-all _ _ _ _ _ _ _ _ _ _ (c .before .before .loop .inv .0) (c .before .loop-test .left) _ (c .end-items .ensures .0), end-most _ _ _ _ _ _ _ _ _ _ (c .before .before .loop .inv .0) (c .end-items .result) (c .end-items .ensures .1))
 
 pub +read-element+read-items-spec : {M : Type 1} → statement M
 +read-element+read-items-spec = close μ-read-element μ-read-items (λ t. read-element-lts.spec (
@@ -619,9 +592,7 @@ pub +read-element+read-items-spec : {M : Type 1} → statement M
     read-items-μ-loop
     (read-items-loop-holds t)
     (read-items-read-item-requires t)
-    (read-items-enum-known-refusal t)
     (read-items-returns t)
-    (read-items-enum-known-sort t)
     (read-items-shared-slice-read-tag t)
     (read-items-add-from t)
     (read-items-add-at t)
@@ -643,7 +614,7 @@ pub +read-element+read-items-spec : {M : Type 1} → statement M
     (read-items-loop-again-3 t)
     (read-items-enum-told-4 t)
     (read-items-read-element-requires t)
-    (read-items-enum-known-refusal-2 t)
+    (read-items-enum-known-refusal t)
     (read-items-returns-2 t)
     (read-items-enum-known-within t)
     (read-items-loop-less-4 t)

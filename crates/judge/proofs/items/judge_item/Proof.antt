@@ -18,12 +18,6 @@ add-judge-own c = search needs
 judge-own-requires : tie.Need-judge-own-requires
 judge-own-requires c κs = search needs
 
-enum-known-refusal : tie.Need-enum-known-refusal
-enum-known-refusal c = search needs
-
-enum-known-sort : tie.Need-enum-known-sort
-enum-known-sort c = search needs
-
 add-from : tie.Need-add-from
 add-from c = search (behind-ways, needs)
 
@@ -45,8 +39,11 @@ part-judge-late-end c = search (behind-ways, needs)
 judge-late-requires : tie.Need-judge-late-requires
 judge-late-requires c κs = search needs
 
-enum-known-refusal-2 : tie.Need-enum-known-refusal-2
-enum-known-refusal-2 c = search needs
+enum-known-refusal : tie.Need-enum-known-refusal
+enum-known-refusal c = search needs
+
+bad-requires : tie.Need-bad-requires
+bad-requires c κs = search needs
 
 enum-told : tie.Need-enum-told
 enum-told c = search needs
@@ -69,8 +66,6 @@ judge-item-spec =
     part-judge-own-end
     add-judge-own
     judge-own-requires
-    enum-known-refusal
-    enum-known-sort
     add-from
     add-to
     is-due-after-requires
@@ -78,7 +73,8 @@ judge-item-spec =
     part-judge-late-start
     part-judge-late-end
     judge-late-requires
-    enum-known-refusal-2
+    enum-known-refusal
+    bad-requires
     enum-told
     returns
     returns-2

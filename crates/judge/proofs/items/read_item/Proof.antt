@@ -24,6 +24,9 @@ judge-late-requires c κs = search needs
 enum-known-refusal : tie.Need-enum-known-refusal
 enum-known-refusal c = search needs
 
+bad-requires : tie.Need-bad-requires
+bad-requires c κs = search needs
+
 enum-told : tie.Need-enum-told
 enum-told c = search needs
 
@@ -47,6 +50,7 @@ read-item-spec =
     part-judge-late-end
     judge-late-requires
     enum-known-refusal
+    bad-requires
     enum-told
     judge-item-requires
     returns

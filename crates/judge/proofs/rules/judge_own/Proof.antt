@@ -12,6 +12,9 @@ enum-told c = search needs
 refuse-requires : tie.Need-refuse-requires
 refuse-requires c κs = search needs
 
+bad-requires : tie.Need-bad-requires
+bad-requires c κs = search needs
+
 enum-known-start : tie.Need-enum-known-start
 enum-known-start c = search needs
 
@@ -30,7 +33,9 @@ judge-own-spec =
     (tie.spec
     read-header-requires
     enum-told
-    refuse-requires enum-known-start
+    refuse-requires
+    bad-requires
+    enum-known-start
     judge-framed-requires
     returns
     returns-2)
