@@ -29,9 +29,9 @@ use Rattle.format.specs.Tree.{Items, count, records}
 use Rattle.format.specs.Tree.Items.{end, item}
 use Rattle.format.specs.Judge.{isItems, isValue}
 use Rattle.format.specs.Loaded.{stored, storeIn, loadedIn}
-use Rattle.format.specs.Calls.{Lists, places, put, lay}
+use Rattle.format.specs.Calls.{Lists, places, put, putWhole, lay}
 use Rattle.format.specs.State.{Memory, placesIn}
-use Rattle.format.proofs.Lays.{SameLengths, places-same, within-places}
+use Rattle.format.proofs.Lays.{SameLengths, places-same, put-there}
 use Rattle.reader.specs.Filling.{Accepts}
 use Rattle.reader.proofs.Laid.{same-laid, places-after}
 use Rattle.reader.proofs.Shares.{Written, written-item}
@@ -44,7 +44,7 @@ use Rattle.edits.specs.declared.lay.Level.{Level}
 use Rattle.edits.specs.declared.lay.Laid.{Laid}
 use Rattle.state.specs.Order.{itemAdds, addedBy}
 use Rattle.edits.specs.Store.{BodyStorable, BodyStored}
-use Rattle.edits.specs.Lay.{addedIn, ownSizes, recordAt, Placeable, ValueCountable, ValueCounts, InsideCountable, InsideCounts, ValueLayable, ValueLays, loadedAt, shareAt, ItemLayable, InsideLayable, ItemLays, ItemsLayable, ItemsLay}
+use Rattle.edits.specs.Lay.{addedIn, ownSizes, recordAt, Narrow, ValueCountable, ValueCounts, InsideCountable, InsideCounts, ValueLayable, ValueLays, loadedAt, shareAt, ItemLayable, InsideLayable, ItemLays, ItemsLayable, ItemsLay}
 use Rattle.state.proofs.BodySizes.{framed-few}
 use Rattle.edits.proofs.Pieces.{Sized, sized-value, sized-items, Splits, splits-share, split-lists, split-store, split-sizes, of-nothing, OfOctets, of-octets, OfItems, of-items}
 
@@ -94,15 +94,10 @@ module _ (table : List ℕ) (kind : Kind) (level : Level) (done : Laid) (body : 
     size-is : to - done .end ≡ length octets
     size-is = omega (arith, s .ends)
 
-    pub value-placeable : Placeable (done .next) (level .number) (done .end) (to - done .end) (m .lists)
-    value-placeable =
+    pub value-narrow : Narrow (level .number) (done .end) (to - done .end)
+    value-narrow =
         let k = can .space in
-        record {
-          within = within-places (done .next) (m .lists) (in-lists (done .next) m value-within);
-          parent = omega (arith, k .above, k .few);
-          first = omega (arith, k .low);
-          long = omega (arith, k .low, size-is);
-        }
+        record { parent = omega (arith, k .above, k .few); first = omega (arith, k .low); long = omega (arith, k .low, size-is) }
 
     pub value-countable : ValueCountable done to (m .bodies)
     value-countable =
@@ -124,11 +119,11 @@ module _ (table : List ℕ) (kind : Kind) (level : Level) (done : Laid) (body : 
         ap (λ o. take (length octets) (drop (done .end) o)) (s .holds) ∙ part-of-sets (m .store) (done .end) octets (can .space .room) in
         rw (size-is, le-leb (done .end + length octets) (length store′) within, there)
 
-    module _ (tag : ℕ) (l′ : Lists) (x : l′ ≡ put (done .next) (recordAt level tag (done .end) (to - done .end)) (m .lists)) where
+    module _ (tag : ℕ) (own : Record) (is : own ≡ recordAt level tag (done .end) (to - done .end)) (l′ : Lists) (x : l′ ≡ putWhole (done .next) own (m .lists)) where
       pub value-lays : (bodies′ : List ℕ) (r : Laid) → ValueCounts (level .element) tag done to store′ (m .bodies) bodies′ r
           → ValueLays (entries table) kind tag level done body m (record { lists = l′; bodies = bodies′; store = store′ }) r
       value-lays bodies′ r c = record {
-        lists = x ∙ ap (λ n. put (done .next) (recordAt level tag (done .end) n) (m .lists)) size-is;
+        lists = put-there (done .next) own _ (m .lists) l′ (in-lists (done .next) m value-within) (is ∙ ap (recordAt level tag (done .end)) size-is) x;
         sizes = c .sizes ∙ ap (set (m .bodies) (done .next)) size-is;
         holds = s .holds;
         many = c .many;
@@ -195,13 +190,8 @@ module _ (T : Entries) (level : Level) (done : Laid) (tag : ℕ) (body : List �
     inside-within : n < placesIn m
     inside-within = omega (arith, can .item .space .holds, asked .many)
 
-    pub inside-placeable : Placeable n (level .number) 0 0 (m .lists)
-    inside-placeable = record {
-      within = within-places n (m .lists) (in-lists n m inside-within);
-      parent = omega (arith, can .item .space .above, can .item .space .few);
-      first = omega arith;
-      long = omega arith;
-    }
+    pub inside-narrow : Narrow (level .number) 0 0
+    inside-narrow = record { parent = omega (arith, can .item .space .above, can .item .space .few); first = omega arith; long = omega arith }
 
     abbrev inner : Level
     inner = record { element = tag; number = n; depth = level .depth + 1 }
@@ -214,15 +204,18 @@ module _ (T : Entries) (level : Level) (done : Laid) (tag : ℕ) (body : List �
     unfolding framedSize
     inside-sum = omega (arith, can .item .space .sum, asked .adds)
 
-    module _ (l′ : Lists) (x : l′ ≡ put n (recordAt level tag 0 0) (m .lists)) where
-      abbrev put-there : Memory
-      put-there = record { lists = l′; bodies = m .bodies; store = m .store }
+    module _ (first : Record) (is : first ≡ recordAt level tag 0 0) (l′ : Lists) (x : l′ ≡ putWhole n first (m .lists)) where
+      there : l′ ≡ put n (recordAt level tag 0 0) (m .lists)
+      there = put-there n first (recordAt level tag 0 0) (m .lists) l′ (in-lists n m inside-within) is x
 
-      same-places : placesIn put-there ≡ placesIn m
+      abbrev with-first : Memory
+      with-first = record { lists = l′; bodies = m .bodies; store = m .store }
+
+      same-places : placesIn with-first ≡ placesIn m
       unfolding placesIn
-      same-places = rw (places-after n (recordAt level tag 0 0) (m .lists) l′ x)
+      same-places = rw (places-after n (recordAt level tag 0 0) (m .lists) l′ there)
 
-      pub inside-can : ItemsLayable T inner begun body put-there
+      pub inside-can : ItemsLayable T inner begun body with-first
       inside-can =
           let k = can .item .space in
           record {
@@ -239,7 +232,7 @@ module _ (T : Entries) (level : Level) (done : Laid) (tag : ℕ) (body : List �
             };
           }
 
-      module _ (m″ : Memory) (r : Laid) (f : ItemsLay T inner begun body put-there m″ r) where
+      module _ (m″ : Memory) (r : Laid) (f : ItemsLay T inner begun body with-first m″ r) where
         pub inside-countable : InsideCountable done r (m″ .bodies)
         unfolding ItemsLay
         inside-countable =
@@ -266,7 +259,7 @@ module _ (T : Entries) (level : Level) (done : Laid) (tag : ℕ) (body : List �
             let sizes : ownSizes parent (loadedIn T parent at (shareAt level tag offset body u)) ≡ addedIn tag X ∷ ownSizes tag X = ap (ownSizes parent) (w .loads at) ∙ sized X .sizes in
             let adds : addedIn parent (loadedIn T parent at (shareAt level tag offset body u)) ≡ framedSize (addedIn tag X) = ap (addedIn parent) (w .loads at) ∙ sized X .adds in
             record {
-              lists = k .lists ∙ ap (lay (n + 1) more) x ∙ ap (λ i. lay i more (put n (recordAt level tag 0 0) (m .lists))) (add-one n) ∙ sym (ap (λ rs. lay n rs (m .lists)) laid);
+              lists = k .lists ∙ ap (lay (n + 1) more) there ∙ ap (λ i. lay i more (put n (recordAt level tag 0 0) (m .lists))) (add-one n) ∙ sym (ap (λ rs. lay n rs (m .lists)) laid);
               sizes =
                   c .sizes ∙ ap (λ i. set (m″ .bodies) n i) sum ∙ ap (λ o. set o n (addedIn tag X)) (k .sizes)
                   ∙ set-sets (m .bodies) (n + 1) (ownSizes tag X) n (addedIn tag X) (omega arith)

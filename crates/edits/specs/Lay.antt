@@ -21,7 +21,6 @@ use Rattle.format.specs.Judge.Judged.{accepted}
 use Rattle.format.specs.Meaning.{opens, normalOf}
 use Rattle.format.specs.Loaded.{stored, storeIn, loadedIn, storeOf, loadedOf}
 use Rattle.format.specs.Calls.{Lists, put, lay}
-use Rattle.format.specs.Lent.{Within}
 use Rattle.format.specs.State.{Memory, placesIn, layTree}
 use Rattle.reader.specs.Filling.{Accepts, share}
 use Rattle.tags.specs.declared.Listed.the-variants.{Inside}
@@ -49,9 +48,8 @@ ownSizes parent (item tag at body inside after) =
 abbrev pub recordAt : (level : Level) (tag start size : ℕ) → Record
 recordAt level tag start size = record { tag = tag; kind = kindOf tag; depth = level .depth; parent = level .number; start = start; size = size }
 
--- a number that each list has a place for, and numbers that the fields of its record can hold
-pub record Placeable (i number start size : ℕ) (l : Lists) : Type 0 where
-  pub within : Within i l
+-- numbers that its fields can hold
+pub record Narrow (number start size : ℕ) : Type 0 where
   pub parent : number < 2 ^ 16
   pub first : start < 2 ^ 16
   pub long : size < 2 ^ 16

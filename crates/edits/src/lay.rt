@@ -6,12 +6,12 @@
 ghost use mathlib.Core.Path.{_≡_};
 ghost use Rattle.text.specs.Tokens.{entries};
 ghost use Rattle.text.specs.Index.{Indexes};
-ghost use Rattle.format.specs.Calls.{put};
-ghost use Rattle.format.specs.Lent.{lent};
 ghost use Rattle.state.specs.Taking.{memory};
-ghost use Rattle.edits.specs.Lay.{recordAt, Placeable, ValueCountable, ValueCounts, InsideCountable, InsideCounts, ValueLayable, ValueLays, ItemLayable, InsideLayable, ItemLays, ItemsLayable, ItemsLay, Layable, LaysTree};
+ghost use Rattle.edits.specs.Lay.{recordAt, Narrow, ValueCountable, ValueCounts, InsideCountable, InsideCounts, ValueLayable, ValueLays, ItemLayable, InsideLayable, ItemLays, ItemsLayable, ItemsLay, Layable, LaysTree};
 use crate::store::store_body;
+use format::Record;
 use format::kind_of;
+use format::put_record;
 use octets::Lies;
 use octets::Octets;
 use octets::item_at;
@@ -39,30 +39,23 @@ pub struct Laid {
     pub body: Octets,
 }
 
-// The only stores into the six lists: the record of a number, for an item whose octets have a span of the store.
-fn put_record(
-    tags: &mut [u8],
-    kinds: &mut [u8],
-    depths: &mut [u8],
-    parents: &mut [u16],
-    starts: &mut [u16],
-    sizes: &mut [u16],
-    i: usize,
-    tag: u8,
-    level: Level,
-    start: usize,
-    size: usize,
-)
-    requires { ⌜ Placeable i (level .number) start size (lent tags kinds depths parents starts sizes) ⌝ }
-    ensures { λ _. ⌜ lent (tags .exit) (kinds .exit) (depths .exit) (parents .exit) (starts .exit) (sizes .exit) ≡ put i (recordAt level tag start size) (lent (tags .entry) (kinds .entry) (depths .entry) (parents .entry) (starts .entry) (sizes .entry)) ⌝ }
+// The record of an item whose octets have a span of the store. A number of a record or a place of the store is narrow, so that each field has its number whole.
+fn record_of(level: Level, tag: u8, start: usize, size: usize) -> Record
+    requires { ⌜ Narrow (level .number) start size ⌝ }
+    ensures { λ r. ⌜ r ≡ recordAt level tag start size ⌝ }
 {
     let kind = kind_of(tag);
-    tags[i] = tag;
-    kinds[i] = kind;
-    depths[i] = level.depth;
-    parents[i] = level.number as u16;
-    starts[i] = start as u16;
-    sizes[i] = size as u16;
+    let parent = level.number as u16;
+    let start = start as u16;
+    let size = size as u16;
+    Record {
+        tag,
+        kind,
+        depth: level.depth,
+        parent,
+        start,
+        size,
+    }
 }
 
 // A value is stored up to `to`: its size is its own octets', and a default adds nothing.
@@ -130,19 +123,9 @@ fn lay_value(
 {
     let at = done.end;
     let end = store_body(kind, index, table, body, store, at);
-    put_record(
-        tags,
-        kinds,
-        depths,
-        parents,
-        starts,
-        sizes,
-        done.next,
-        tag,
-        level,
-        at,
-        end - at,
-    );
+    let i = done.next;
+    let record = record_of(level, tag, at, end - at);
+    put_record(tags, kinds, depths, parents, starts, sizes, i, record);
     count_value(level.element, tag, done, end, store, bodies)
 }
 
@@ -168,19 +151,8 @@ fn lay_inside(
     ensures { λ r. ⌜ ItemLays (entries (now (table .entry))) level done tag (now (body .entry)) (memory (tags .entry) (kinds .entry) (depths .entry) (parents .entry) (starts .entry) (sizes .entry) (bodies .entry) (store .entry)) (memory (tags .exit) (kinds .exit) (depths .exit) (parents .exit) (starts .exit) (sizes .exit) (bodies .exit) (store .exit)) r ⌝ }
 {
     let i = done.next;
-    put_record(
-        tags,
-        kinds,
-        depths,
-        parents,
-        starts,
-        sizes,
-        i,
-        tag,
-        level,
-        0,
-        0,
-    );
+    let record = record_of(level, tag, 0, 0);
+    put_record(tags, kinds, depths, parents, starts, sizes, i, record);
     let inner = Level {
         element: tag,
         number: i,

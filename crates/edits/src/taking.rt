@@ -7,8 +7,9 @@ ghost use Rattle.format.specs.Lent.{lent};
 ghost use Rattle.state.specs.Taking.{memory, TakeInClaim};
 use crate::lay::lay;
 use format::EditAnswer;
+use format::least;
+use format::places;
 use octets::Octets;
-use reader::places;
 use survey::Standing;
 use survey::survey;
 
@@ -24,11 +25,10 @@ pub fn places_in(
 ) -> usize
     ensures { λ r. ⌜ r ≡ min (placesOf (lent (tags .entry) (kinds .entry) (depths .entry) (parents .entry) (starts .entry) (sizes .entry))) (length (now (bodies .entry))) ⌝ }
 {
-    let six = places(tags, kinds, depths, parents, starts, sizes);
-    if six < bodies.len() {
-        return six;
-    }
-    bodies.len()
+    least(
+        places(tags, kinds, depths, parents, starts, sizes),
+        bodies.len(),
+    )
 }
 
 // The loaded tree of an object, with the sizes of all bodies, into what is lent, where its normal form has no more octets than `most` and no more than an object may

@@ -8,9 +8,10 @@ use native.Mathlib.Nat.{add-zero, add-suc, suc-add}
 use native.Mathlib.Omega.{arith}
 use lib.ListN.{length, getD, length-set}
 use lib.Seq.{getD-set-same, getD-set-other}
+use borrow.Author.Tests.{lt-ltb, le-ltb}
 use Rattle.format.specs.declared.Record.{Record}
 use Rattle.format.specs.Writer.{tabled}
-use Rattle.format.specs.Calls.{Lists, places, row, put, lay}
+use Rattle.format.specs.Calls.{Lists, places, row, put, putWhole, lay}
 use Rattle.format.specs.Lent.{Within}
 
 -- ---- one laying after another
@@ -57,6 +58,26 @@ places-lay i rs l = places-same (lay-lengths i rs l)
 pub within-places : (i : ℕ) (l : Lists) → i < places l → Within i l
 unfolding places
 within-places i l h = omega arith
+
+-- there a record is put whole
+put-whole : (i : ℕ) (r : Record) (l : Lists) → i < places l → putWhole i r l ≡ put i r l
+unfolding putWhole
+put-whole i r l h = rw (lt-ltb i (places l) h)
+
+pub put-there : (i : ℕ) (r s : Record) (l l′ : Lists) → i < places l → r ≡ s → l′ ≡ putWhole i r l → l′ ≡ put i s l
+put-there i r s l l′ h e x = x ∙ ap (λ q. putWhole i q l) e ∙ put-whole i s l h
+
+-- a number held against the places as they were counted
+module _ (i n : ℕ) (l : Lists) (e : n ≡ places l) where
+  pub within-counted : i < n → Within i l
+  within-counted h = within-places i l (omega (arith, e))
+
+  pub put-counted : (r : Record) → i < n → put i r l ≡ putWhole i r l
+  put-counted r h = sym (put-whole i r l (omega (arith, e)))
+
+  pub kept-counted : (r : Record) → n ≤ i → l ≡ putWhole i r l
+  unfolding putWhole
+  kept-counted r h = rw (le-ltb i (places l) (omega (arith, e)))
 
 -- ---- the record of a number
 same-record : (a b : Record) → a .tag ≡ b .tag → a .kind ≡ b .kind → a .depth ≡ b .depth → a .parent ≡ b .parent → a .start ≡ b .start → a .size ≡ b .size → a ≡ b

@@ -50,6 +50,10 @@ abbrev pub put : ℕ → Record → Lists → Lists
 put i r l =
     record { tags = set (l .tags) i (r .tag); kinds = set (l .kinds) i (r .kind); depths = set (l .depths) i (r .depth); parents = set (l .parents) i (r .parent); starts = set (l .starts) i (r .start); sizes = set (l .sizes) i (r .size) }
 
+-- and whole or not at all: where one list has no such place, every list stays as it was
+unfoldable pub putWhole : ℕ → Record → Lists → Lists
+putWhole i r l = cond (ltb i (places l)) (put i r l) l
+
 -- records laid over what the lists hold, from a number on; what lies beyond stays
 unfoldable pub lay : ℕ → List Record → Lists → Lists
 lay i [] l = l

@@ -1,9 +1,10 @@
 // What the calls of the library share: records, refusals, counts, and the answers as enums. The rules are in specs/, the theorems in proofs/.
 ghost use mathlib.Core.Path.{_≡_};
+ghost use Prim.Native.Nat.{min};
 ghost use lib.ListN.{getD};
 ghost use Rattle.format.specs.Tree.{kindOf};
 ghost use Rattle.format.specs.Answers.{refusal, readOutcome, editOutcome, writeOutcome, sameOutcome};
-ghost use Rattle.format.specs.Calls.{row};
+ghost use Rattle.format.specs.Calls.{places, row, putWhole};
 ghost use Rattle.format.specs.Lent.{lent};
 use octets::Octets;
 use values::is_attribute;
@@ -38,7 +39,59 @@ fn number_at(list: &[u16], i: usize) -> u16
     0
 }
 
-// The record of a number, from the lists.
+pub fn least(a: usize, b: usize) -> usize
+    ensures { λ r. ⌜ r ≡ min a b ⌝ }
+{
+    if a < b { a } else { b }
+}
+
+// How many records the lists have places for.
+pub fn places(
+    tags: &[u8],
+    kinds: &[u8],
+    depths: &[u8],
+    parents: &[u16],
+    starts: &[u16],
+    sizes: &[u16],
+) -> usize
+    ensures { λ r. ⌜ r ≡ places (lent (tags .entry) (kinds .entry) (depths .entry) (parents .entry) (starts .entry) (sizes .entry)) ⌝ }
+{
+    least(
+        tags.len(),
+        least(
+            kinds.len(),
+            least(
+                depths.len(),
+                least(parents.len(), least(starts.len(), sizes.len())),
+            ),
+        ),
+    )
+}
+
+// A record into the lists, at its number, whole or not at all: where one of them has no such place, none is stored to.
+pub fn put_record(
+    tags: &mut [u8],
+    kinds: &mut [u8],
+    depths: &mut [u8],
+    parents: &mut [u16],
+    starts: &mut [u16],
+    sizes: &mut [u16],
+    i: usize,
+    r: Record,
+)
+    ensures { λ _. ⌜ lent (tags .exit) (kinds .exit) (depths .exit) (parents .exit) (starts .exit) (sizes .exit) ≡ putWhole i r (lent (tags .entry) (kinds .entry) (depths .entry) (parents .entry) (starts .entry) (sizes .entry)) ⌝ }
+{
+    if i < places(tags, kinds, depths, parents, starts, sizes) {
+        tags[i] = r.tag;
+        kinds[i] = r.kind;
+        depths[i] = r.depth;
+        parents[i] = r.parent;
+        starts[i] = r.start;
+        sizes[i] = r.size;
+    }
+}
+
+// The record of a number, from the lists: one test where all of them have it, a test for each field where they don't.
 pub fn record_at(
     tags: &[u8],
     kinds: &[u8],
@@ -50,6 +103,16 @@ pub fn record_at(
 ) -> Record
     ensures { λ r. ⌜ r ≡ row (lent (tags .entry) (kinds .entry) (depths .entry) (parents .entry) (starts .entry) (sizes .entry)) i ⌝ }
 {
+    if i < places(tags, kinds, depths, parents, starts, sizes) {
+        return Record {
+            tag: tags[i],
+            kind: kinds[i],
+            depth: depths[i],
+            parent: parents[i],
+            start: starts[i],
+            size: sizes[i],
+        };
+    }
     Record {
         tag: octet_at(tags, i),
         kind: octet_at(kinds, i),

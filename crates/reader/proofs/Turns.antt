@@ -20,14 +20,13 @@ use Rattle.format.specs.declared.Record.{Record}
 use Rattle.format.specs.Tree.{Items, count, recordOf, records}
 use Rattle.format.specs.Tree.Items.{end}
 use Rattle.format.specs.Judge.{isItems}
-use Rattle.format.specs.Calls.{Lists, put, lay}
+use Rattle.format.specs.Calls.{Lists, put, putWhole, lay}
 use Rattle.reader.specs.declared.filling.Place.{Place}
 use Rattle.tags.specs.declared.Listed.{Listed}
 use Rattle.tags.specs.declared.Listed.the-variants.{Nothing, Inside, Value}
 use Rattle.tags.specs.Listed.{listedAs}
 use Rattle.reader.specs.Filling.{Narrow, Accepts, Fillable, Fills, shareOf, ItemFillable, ItemFills}
-use Rattle.format.proofs.Lays.{SameLengths, places-same, within-places}
-use Rattle.format.specs.Lent.{Within}
+use Rattle.format.proofs.Lays.{SameLengths, places-same, put-there}
 use Rattle.reader.proofs.Laid.{same-lay, same-laid, places-after}
 use Rattle.reader.proofs.Shares.{count-share, lay-share, silent, Written, written-alone, written-items, holds-items}
 use Rattle.reader.proofs.Opening.{Opened, opened-end, lies-inside, met}
@@ -56,16 +55,16 @@ module _ (place : Place) (tag : ℕ) (body : List ℕ) (l : Lists) (can : ItemFi
       alone : (u : Items) → Written (shareOf place tag body u) tag (place .offset) body end
       alone u = written-alone (place .element) tag (place .offset) body u k (sym q ∙ e)
 
-      pub alone-within : Within n l
-      alone-within = within-places n l (omega (arith, can .room .holds, alone (can .inside) .many))
-
       pub alone-fits : Fits w64 (n + 1)
       alone-fits = omega (arith, can .room .few, alone (can .inside) .many)
 
-      module _ (r : Record) (re : r ≡ own) (l′ : Lists) (x : l′ ≡ put n r l) where
+      module _ (r : Record) (re : r ≡ own) (l′ : Lists) (x : l′ ≡ putWhole n r l) where
+        there : l′ ≡ put n own l
+        there = put-there n r own l l′ (omega (arith, can .room .holds, alone (can .inside) .many)) re x
+
         pub item-alone : ItemFills place tag body l l′ (n + 1)
         unfolding ItemFills lay records count
-        item-alone u a = record { laid = x ∙ ap (λ s. put n s l) re ∙ sym (ap (λ rs. lay n rs l) (alone u .laid (place .depth) (place .number) n)); many = omega (arith, alone u .many) }
+        item-alone u a = record { laid = there ∙ sym (ap (λ rs. lay n rs l) (alone u .laid (place .depth) (place .number) n)); many = omega (arith, alone u .many) }
 
     -- a record, and those of the items inside
     module _ (q : g ≡ Inside) where
@@ -74,9 +73,6 @@ module _ (place : Place) (tag : ℕ) (body : List ℕ) (l : Lists) (can : ItemFi
 
       holds : isItems (known (place .element) tag) ≡ true
       holds = holds-items (place .element) tag (place .offset) body end (sym q ∙ e)
-
-      pub both-within : Within n l
-      both-within = within-places n l (omega (arith, can .room .holds, both (can .inside) .many))
 
       pub both-fits : Fits w64 (n + 1)
       both-fits = omega (arith, can .room .few, both (can .inside) .many)
@@ -90,7 +86,10 @@ module _ (place : Place) (tag : ℕ) (body : List ℕ) (l : Lists) (can : ItemFi
       abbrev inner : Place
       inner = record { element = tag; number = n; depth = place .depth + 1; offset = place .offset; next = n + 1 }
 
-      module _ (r : Record) (re : r ≡ own) (l′ : Lists) (x : l′ ≡ put n r l) where
+      module _ (r : Record) (re : r ≡ own) (l′ : Lists) (x : l′ ≡ putWhole n r l) where
+        first : l′ ≡ put n own l
+        first = put-there n r own l l′ (omega (arith, can .room .holds, both (can .inside) .many)) re x
+
         pub both-can : Fillable inner body l′
         both-can = record {
           tree = can .inside;
@@ -99,7 +98,7 @@ module _ (place : Place) (tag : ℕ) (body : List ℕ) (l : Lists) (can : ItemFi
             above = omega arith;
             few = omega (arith, can .room .few, both (can .inside) .many);
             low = can .room .low;
-            holds = omega (arith, can .room .holds, both (can .inside) .many, places-after n r l l′ x);
+            holds = omega (arith, can .room .holds, both (can .inside) .many, places-after n own l l′ first);
           };
         }
 
@@ -110,7 +109,7 @@ module _ (place : Place) (tag : ℕ) (body : List ℕ) (l : Lists) (can : ItemFi
               let k = f u (a holds) in
               let more = records (place .depth + 1) n (n + 1) u in
               record {
-                laid = k .laid ∙ ap (lay (n + 1) more) (x ∙ ap (λ s. put n s l) re) ∙ ap (λ i. lay i more (put n own l)) (add-one n)
+                laid = k .laid ∙ ap (lay (n + 1) more) first ∙ ap (λ i. lay i more (put n own l)) (add-one n)
                     ∙ sym (ap (λ rs. lay n rs l) (both u .laid (place .depth) (place .number) n));
                 many = omega (arith, k .many, both u .many);
               }

@@ -158,15 +158,6 @@ limit-for-places after c = let h = with-wide-limit after (Records (record { reco
 pub limit-overrun : (r : ReadAnswer) → ReadAtMostClaim object 1 two (put 1 inner (put 0 top two)) r → ⊥
 limit-overrun r c = let z : _≡_ {A = ℕ} 3 9 = ap (λ l. getD (l .tags) 0 0) (with-limit (put 1 inner (put 0 top two)) r c .1) in omega arith
 
--- ---- places: of the first list; of the longest
-pub places-of-tags : places (six twos ones twos twos twos twos) ≡ 2 → ⊥
-unfolding places
-places-of-tags h = let z : _≡_ {A = ℕ} 1 2 = h in omega arith
-
-pub places-of-longest : places (six ones ones ones ones ones twos) ≡ 2 → ⊥
-unfolding places
-places-of-longest h = let z : _≡_ {A = ℕ} 1 2 = h in omega arith
-
 -- ---- span: a size with one octet too many; nothing where a body ends with the object; a span past its end; a number that only one of the lists has
 pub span-longer : spanOf object (2 ∷ 4 ∷ []) (4 ∷ 2 ∷ []) 1 ≡ record { start = 4; size = 3 } → ⊥
 unfolding spanOf

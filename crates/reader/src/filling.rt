@@ -1,13 +1,12 @@
 // Filling lent lists with the records of an object that is accepted, and for whose records they have places. Nothing is judged again: `item_at` says where an
 // item's body lies, and `listed_as` what is written of it.
 ghost use mathlib.Core.Path.{_≡_};
-ghost use Prim.Native.Nat.{_+_, _<_, min};
 ghost use Rattle.format.specs.Tree.{recordOf};
-ghost use Rattle.format.specs.Calls.{places, put};
-ghost use Rattle.format.specs.Lent.{lent, Within};
+ghost use Rattle.format.specs.Lent.{lent};
 ghost use Rattle.reader.specs.Filling.{Narrow, Fillable, Fills, ItemFillable, ItemFills};
 use format::Record;
 use format::kind_of;
+use format::put_record;
 use octets::Lies;
 use octets::item_at;
 use tags::Listed;
@@ -22,57 +21,6 @@ pub struct Place {
     pub depth: u8,
     pub offset: usize,
     pub next: usize,
-}
-
-pub fn least(a: usize, b: usize) -> usize
-    ensures { λ r. ⌜ r ≡ min a b ⌝ }
-{
-    if a < b { a } else { b }
-}
-
-// How many records the lists have places for.
-pub fn places(
-    tags: &[u8],
-    kinds: &[u8],
-    depths: &[u8],
-    parents: &[u16],
-    starts: &[u16],
-    sizes: &[u16],
-) -> usize
-    ensures { λ r. ⌜ r ≡ places (lent (tags .entry) (kinds .entry) (depths .entry) (parents .entry) (starts .entry) (sizes .entry)) ⌝ }
-{
-    least(
-        tags.len(),
-        least(
-            kinds.len(),
-            least(
-                depths.len(),
-                least(parents.len(), least(starts.len(), sizes.len())),
-            ),
-        ),
-    )
-}
-
-// The only stores into the lists.
-fn put_record(
-    tags: &mut [u8],
-    kinds: &mut [u8],
-    depths: &mut [u8],
-    parents: &mut [u16],
-    starts: &mut [u16],
-    sizes: &mut [u16],
-    i: usize,
-    r: Record,
-)
-    requires { ⌜ Within i (lent tags kinds depths parents starts sizes) ⌝ }
-    ensures { λ _. ⌜ lent (tags .exit) (kinds .exit) (depths .exit) (parents .exit) (starts .exit) (sizes .exit) ≡ put i r (lent (tags .entry) (kinds .entry) (depths .entry) (parents .entry) (starts .entry) (sizes .entry)) ⌝ }
-{
-    tags[i] = r.tag;
-    kinds[i] = r.kind;
-    depths[i] = r.depth;
-    parents[i] = r.parent;
-    starts[i] = r.start;
-    sizes[i] = r.size;
 }
 
 // An accepted object has at most 32,768 octets and half as many records, so that each field has its number whole.

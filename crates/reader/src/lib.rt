@@ -7,10 +7,10 @@ mod filling;
 
 use filling::Place;
 use filling::fill_items;
-use filling::least;
-pub use filling::places;
 use format::ReadAnswer;
 use format::Span;
+use format::least;
+use format::places;
 use format::refuse;
 use judge::judge;
 

@@ -6,7 +6,7 @@ use borrow.Author.Needs.{needs}
 use Rattle.octets.proofs.Places.{to-inside, ordered, nearer}
 use Rattle.text.specs.Tokens.{entries}
 use Rattle.format.specs.Lent.{six}
-use Rattle.edits.proofs.Laying.{inside-deep, inside-deeper, inside-next, inside-placeable, inside-can, inside-countable, inside-laid}
+use Rattle.edits.proofs.Laying.{inside-deep, inside-deeper, inside-next, inside-narrow, inside-can, inside-countable, inside-laid}
 use Rattle.edits.proofs.Laying.{item-nothing, item-value-can, item-value, item-inside-can, Walks, begin, kept, kept-bodies, kept-store, ended, no-item, here, item-can, again}
 use borrow.Fn.Kinds.{In}
 use borrow.Fn.PlainCycle.{Measures, is, falls, and}
@@ -22,7 +22,8 @@ use Rattle.edits.proofs.lay.+lay_inside+lay_item+lay_items.Lts-lay_item
 use Rattle.octets.proofs.item_at.Reads as item-at-reads
 use Rattle.edits.proofs.lay.count_inside.Reads as count-inside-reads
 use Rattle.edits.proofs.lay.lay_value.Reads as lay-value-reads
-use Rattle.edits.proofs.lay.put_record.Reads as put-record-reads
+use Rattle.edits.proofs.lay.record_of.Reads as record-of-reads
+use Rattle.format.proofs.put_record.Reads as put-record-reads
 use Rattle.tags.proofs.listed_as.Reads as listed-as-reads
 use Rattle.edits.proofs.lay.+lay_inside+lay_item+lay_items.{statement}
 use Rattle.edits.proofs.lay.+lay_inside+lay_item+lay_items.Tie.{close}
@@ -58,7 +59,9 @@ abbrev lay-items-below : ℕ → In 11 lay-items-kinds.ps
 lay-items-below t =
     and 11 lay-items-kinds.ps (falls 11 lay-items-kinds.ps _<_ μ-lay-items t) lay-items.Pre
 
-lay-inside-put-record-requires : (t : ℕ) → lay-inside-lts.Need-put-record-requires (
+lay-inside-record-of-requires : (t : ℕ) → lay-inside-lts.Need-record-of-requires (
+  record-of-reads.Asked,
+  record-of-reads.Learnt,
   put-record-reads.Asked,
   put-record-reads.Learnt,
   lay-items-below t,
@@ -66,10 +69,12 @@ lay-inside-put-record-requires : (t : ℕ) → lay-inside-lts.Need-put-record-re
   count-inside-reads.Asked,
   count-inside-reads.Learnt,
 ) (lay-inside-at t) lay-inside.Post
-lay-inside-put-record-requires t c κs =
-    inside-placeable _ _ _ _ _ _ ((c .before .before .before .before .before .before .before .before .before .before .before .before .before .before .before .before .pre) .1 .0)
+lay-inside-record-of-requires t c κs =
+    inside-narrow _ _ _ _ _ _ ((c .before .before .before .before .before .before .before .before .before .before .pre) .1 .0)
 
-lay-inside-add-t32 : (t : ℕ) → lay-inside-lts.Need-add-t32 (
+lay-inside-put-record-requires : (t : ℕ) → lay-inside-lts.Need-put-record-requires (
+  record-of-reads.Asked,
+  record-of-reads.Learnt,
   put-record-reads.Asked,
   put-record-reads.Learnt,
   lay-items-below t,
@@ -77,10 +82,11 @@ lay-inside-add-t32 : (t : ℕ) → lay-inside-lts.Need-add-t32 (
   count-inside-reads.Asked,
   count-inside-reads.Learnt,
 ) (lay-inside-at t) lay-inside.Post
-lay-inside-add-t32 t c =
-    inside-deeper _ _ _ _ _ _ ((c .before .before .before .before .before .before .before .before .before .before .before .before .before .before .before .before .before .before .before .before .before .before .before .before .before .before .before .before .before .before .pre) .1 .0)
+lay-inside-put-record-requires t c κs = search needs
 
 lay-inside-add-t33 : (t : ℕ) → lay-inside-lts.Need-add-t33 (
+  record-of-reads.Asked,
+  record-of-reads.Learnt,
   put-record-reads.Asked,
   put-record-reads.Learnt,
   lay-items-below t,
@@ -89,9 +95,24 @@ lay-inside-add-t33 : (t : ℕ) → lay-inside-lts.Need-add-t33 (
   count-inside-reads.Learnt,
 ) (lay-inside-at t) lay-inside.Post
 lay-inside-add-t33 t c =
-    inside-next _ _ _ _ _ _ ((c .before .before .before .before .before .before .before .before .before .before .before .before .before .before .before .before .before .before .before .before .before .before .before .before .before .before .before .before .before .before .pre) .1 .0)
+    inside-deeper _ _ _ _ _ _ ((c .before .before .before .before .before .before .before .before .before .before .before .before .before .before .before .before .before .before .before .before .before .before .before .before .before .before .before .before .before .before .before .pre) .1 .0)
+
+lay-inside-add-t34 : (t : ℕ) → lay-inside-lts.Need-add-t34 (
+  record-of-reads.Asked,
+  record-of-reads.Learnt,
+  put-record-reads.Asked,
+  put-record-reads.Learnt,
+  lay-items-below t,
+  lay-items.Post,
+  count-inside-reads.Asked,
+  count-inside-reads.Learnt,
+) (lay-inside-at t) lay-inside.Post
+lay-inside-add-t34 t c =
+    inside-next _ _ _ _ _ _ ((c .before .before .before .before .before .before .before .before .before .before .before .before .before .before .before .before .before .before .before .before .before .before .before .before .before .before .before .before .before .before .before .pre) .1 .0)
 
 lay-inside-lay-items-requires : (t : ℕ) → lay-inside-lts.Need-lay-items-requires (
+  record-of-reads.Asked,
+  record-of-reads.Learnt,
   put-record-reads.Asked,
   put-record-reads.Learnt,
   lay-items-below t,
@@ -100,9 +121,11 @@ lay-inside-lay-items-requires : (t : ℕ) → lay-inside-lts.Need-lay-items-requ
   count-inside-reads.Learnt,
 ) (lay-inside-at t) lay-inside.Post
 lay-inside-lay-items-requires t c κs =
-    (omega (arith, (c .before .before .before .before .before .before .before .before .before .before .before .before .before .before .before .before .before .before .before .before .before .before .before .before .before .before .before .before .before .before .before .before .before .before .before .before .before .before .pre) .0, inside-deep _ _ _ _ _ _ ((c .before .before .before .before .before .before .before .before .before .before .before .before .before .before .before .before .before .before .before .before .before .before .before .before .before .before .before .before .before .before .before .before .before .before .before .before .before .before .pre) .1 .0)), (inside-can _ _ _ _ _ _ ((c .before .before .before .before .before .before .before .before .before .before .before .before .before .before .before .before .before .before .before .before .before .before .before .before .before .before .before .before .before .before .before .before .before .before .before .before .before .before .pre) .1 .0) _ ((c .before .before .before .before .before .before .before .before .before .before .before .before .before .before .before .before .before .before .before .before .before .put-record) .ensures), (c .before .before .before .before .before .before .before .before .before .before .before .before .before .before .before .before .before .before .before .before .before .before .before .before .before .before .before .before .before .before .before .before .before .before .before .before .before .before .pre) .1 .1))
+    (omega (arith, (c .before .before .before .before .before .before .before .before .before .before .before .before .before .before .before .before .before .before .before .before .before .before .before .before .before .before .before .before .before .before .before .before .before .before .before .before .before .before .before .pre) .0, inside-deep _ _ _ _ _ _ ((c .before .before .before .before .before .before .before .before .before .before .before .before .before .before .before .before .before .before .before .before .before .before .before .before .before .before .before .before .before .before .before .before .before .before .before .before .before .before .before .pre) .1 .0)), (inside-can _ _ _ _ _ _ ((c .before .before .before .before .before .before .before .before .before .before .before .before .before .before .before .before .before .before .before .before .before .before .before .before .before .before .before .before .before .before .before .before .before .before .before .before .before .before .before .pre) .1 .0) _ ((c .before .before .before .before .before .before .before .before .before .before .before .before .before .before .before .before .before .before .before .before .before .before .before .before .before .before .before .before .record-of) .ensures) _ ((c .before .before .before .before .before .before .before .before .before .before .before .before .before .before .before .before .before .before .before .before .before .put-record) .ensures), (c .before .before .before .before .before .before .before .before .before .before .before .before .before .before .before .before .before .before .before .before .before .before .before .before .before .before .before .before .before .before .before .before .before .before .before .before .before .before .before .pre) .1 .1))
 
 lay-inside-count-inside-requires : (t : ℕ) → lay-inside-lts.Need-count-inside-requires (
+  record-of-reads.Asked,
+  record-of-reads.Learnt,
   put-record-reads.Asked,
   put-record-reads.Learnt,
   lay-items-below t,
@@ -111,9 +134,11 @@ lay-inside-count-inside-requires : (t : ℕ) → lay-inside-lts.Need-count-insid
   count-inside-reads.Learnt,
 ) (lay-inside-at t) lay-inside.Post
 lay-inside-count-inside-requires t c κs =
-    inside-countable _ _ _ _ _ _ ((c .before .before .before .before .before .before .before .before .before .before .before .before .before .before .before .before .before .before .before .before .before .before .before .before .before .before .before .before .before .before .before .before .before .before .before .before .before .before .before .before .before .before .before .before .before .before .before .before .before .before .before .before .before .before .before .before .pre) .1 .0) _ ((c .before .before .before .before .before .before .before .before .before .before .before .before .before .before .before .before .before .before .before .before .before .before .before .before .before .before .before .before .before .before .before .before .before .before .before .before .before .before .before .put-record) .ensures) _ _ ((c .before .before .before .before .before .before .before .before .before .before .before .before .before .before .before .before .before .lay-items) .ensures)
+    inside-countable _ _ _ _ _ _ ((c .before .before .before .before .before .before .before .before .before .before .before .before .before .before .before .before .before .before .before .before .before .before .before .before .before .before .before .before .before .before .before .before .before .before .before .before .before .before .before .before .before .before .before .before .before .before .before .before .before .before .before .before .before .before .before .before .before .pre) .1 .0) _ ((c .before .before .before .before .before .before .before .before .before .before .before .before .before .before .before .before .before .before .before .before .before .before .before .before .before .before .before .before .before .before .before .before .before .before .before .before .before .before .before .before .before .before .before .before .before .before .record-of) .ensures) _ ((c .before .before .before .before .before .before .before .before .before .before .before .before .before .before .before .before .before .before .before .before .before .before .before .before .before .before .before .before .before .before .before .before .before .before .before .before .before .before .before .put-record) .ensures) _ _ ((c .before .before .before .before .before .before .before .before .before .before .before .before .before .before .before .before .before .lay-items) .ensures)
 
 lay-inside-same-length : (t : ℕ) → lay-inside-lts.Need-same-length (
+  record-of-reads.Asked,
+  record-of-reads.Learnt,
   put-record-reads.Asked,
   put-record-reads.Learnt,
   lay-items-below t,
@@ -125,6 +150,8 @@ lay-inside-same-length t c =
     (c .before .before .before .before .before .before .before .before .before .before .before .before .before .before .before .before .before .before .before .tags2) .given ∙ (c .before .before .before .before .before .before .before .before .before .before .before .before .before .before .before .before .before .before .before .before .before .before .before .before .before .before .before .before .before .before .before .before .before .before .before .before .before .before .before .before .before .tags) .given
 
 lay-inside-same-length-2 : (t : ℕ) → lay-inside-lts.Need-same-length-2 (
+  record-of-reads.Asked,
+  record-of-reads.Learnt,
   put-record-reads.Asked,
   put-record-reads.Learnt,
   lay-items-below t,
@@ -136,6 +163,8 @@ lay-inside-same-length-2 t c =
     (c .before .before .before .before .before .before .before .before .before .before .before .before .before .before .before .before .before .kinds2) .given ∙ (c .before .before .before .before .before .before .before .before .before .before .before .before .before .before .before .before .before .before .before .before .before .before .before .before .before .before .before .before .before .before .before .before .before .before .before .before .before .before .before .kinds) .given
 
 lay-inside-same-length-3 : (t : ℕ) → lay-inside-lts.Need-same-length-3 (
+  record-of-reads.Asked,
+  record-of-reads.Learnt,
   put-record-reads.Asked,
   put-record-reads.Learnt,
   lay-items-below t,
@@ -147,6 +176,8 @@ lay-inside-same-length-3 t c =
     (c .before .before .before .before .before .before .before .before .before .before .before .before .before .before .before .depths2) .given ∙ (c .before .before .before .before .before .before .before .before .before .before .before .before .before .before .before .before .before .before .before .before .before .before .before .before .before .before .before .before .before .before .before .before .before .before .before .before .before .depths) .given
 
 lay-inside-same-length-4 : (t : ℕ) → lay-inside-lts.Need-same-length-4 (
+  record-of-reads.Asked,
+  record-of-reads.Learnt,
   put-record-reads.Asked,
   put-record-reads.Learnt,
   lay-items-below t,
@@ -158,6 +189,8 @@ lay-inside-same-length-4 t c =
     (c .before .before .before .before .before .before .before .before .before .before .before .before .before .parents2) .given ∙ (c .before .before .before .before .before .before .before .before .before .before .before .before .before .before .before .before .before .before .before .before .before .before .before .before .before .before .before .before .before .before .before .before .before .before .before .parents) .given
 
 lay-inside-same-length-5 : (t : ℕ) → lay-inside-lts.Need-same-length-5 (
+  record-of-reads.Asked,
+  record-of-reads.Learnt,
   put-record-reads.Asked,
   put-record-reads.Learnt,
   lay-items-below t,
@@ -169,6 +202,8 @@ lay-inside-same-length-5 t c =
     (c .before .before .before .before .before .before .before .before .before .before .before .starts2) .given ∙ (c .before .before .before .before .before .before .before .before .before .before .before .before .before .before .before .before .before .before .before .before .before .before .before .before .before .before .before .before .before .before .before .before .before .starts) .given
 
 lay-inside-same-length-6 : (t : ℕ) → lay-inside-lts.Need-same-length-6 (
+  record-of-reads.Asked,
+  record-of-reads.Learnt,
   put-record-reads.Asked,
   put-record-reads.Learnt,
   lay-items-below t,
@@ -180,6 +215,8 @@ lay-inside-same-length-6 t c =
     (c .before .before .before .before .before .before .before .before .before .sizes2) .given ∙ (c .before .before .before .before .before .before .before .before .before .before .before .before .before .before .before .before .before .before .before .before .before .before .before .before .before .before .before .before .before .before .before .sizes) .given
 
 lay-inside-same-length-7 : (t : ℕ) → lay-inside-lts.Need-same-length-7 (
+  record-of-reads.Asked,
+  record-of-reads.Learnt,
   put-record-reads.Asked,
   put-record-reads.Learnt,
   lay-items-below t,
@@ -191,6 +228,8 @@ lay-inside-same-length-7 t c =
     (c .before .bodies2) .given ∙ (c .before .before .before .before .before .before .before .bodies) .given
 
 lay-inside-same-length-8 : (t : ℕ) → lay-inside-lts.Need-same-length-8 (
+  record-of-reads.Asked,
+  record-of-reads.Learnt,
   put-record-reads.Asked,
   put-record-reads.Learnt,
   lay-items-below t,
@@ -202,6 +241,8 @@ lay-inside-same-length-8 t c =
     (c .before .before .before .before .before .store) .given
 
 lay-inside-returns : (t : ℕ) → lay-inside-lts.Need-returns (
+  record-of-reads.Asked,
+  record-of-reads.Learnt,
   put-record-reads.Asked,
   put-record-reads.Learnt,
   lay-items-below t,
@@ -210,7 +251,7 @@ lay-inside-returns : (t : ℕ) → lay-inside-lts.Need-returns (
   count-inside-reads.Learnt,
 ) (lay-inside-at t) lay-inside.Post
 lay-inside-returns t c =
-    inside-laid _ _ _ _ _ _ ((c .before .before .before .before .before .before .before .before .before .before .before .before .before .before .before .before .before .before .before .before .before .before .before .before .before .before .before .before .before .before .before .before .before .before .before .before .before .before .before .before .before .before .before .before .before .before .before .before .before .before .before .before .before .before .before .before .before .before .before .pre) .1 .0) _ ((c .before .before .before .before .before .before .before .before .before .before .before .before .before .before .before .before .before .before .before .before .before .before .before .before .before .before .before .before .before .before .before .before .before .before .before .before .before .before .before .before .before .before .put-record) .ensures) _ _ ((c .before .before .before .before .before .before .before .before .before .before .before .before .before .before .before .before .before .before .before .before .lay-items) .ensures) _ _ ((c .before .before .count-inside) .ensures)
+    inside-laid _ _ _ _ _ _ ((c .before .before .before .before .before .before .before .before .before .before .before .before .before .before .before .before .before .before .before .before .before .before .before .before .before .before .before .before .before .before .before .before .before .before .before .before .before .before .before .before .before .before .before .before .before .before .before .before .before .before .before .before .before .before .before .before .before .before .before .before .pre) .1 .0) _ ((c .before .before .before .before .before .before .before .before .before .before .before .before .before .before .before .before .before .before .before .before .before .before .before .before .before .before .before .before .before .before .before .before .before .before .before .before .before .before .before .before .before .before .before .before .before .before .before .before .before .record-of) .ensures) _ ((c .before .before .before .before .before .before .before .before .before .before .before .before .before .before .before .before .before .before .before .before .before .before .before .before .before .before .before .before .before .before .before .before .before .before .before .before .before .before .before .before .before .before .put-record) .ensures) _ _ ((c .before .before .before .before .before .before .before .before .before .before .before .before .before .before .before .before .before .before .before .before .lay-items) .ensures) _ _ ((c .before .before .count-inside) .ensures)
 
 lay-item-listed-as-requires : (t : ℕ) → lay-item-lts.Need-listed-as-requires (
   listed-as-reads.Asked,
@@ -759,6 +800,8 @@ lay-items-returns-2 t c =
 pub +lay-inside+lay-item+lay-items-spec : {M : Type 1} → statement M
 +lay-inside+lay-item+lay-items-spec =
     close μ-lay-inside μ-lay-item μ-lay-items (λ t. lay-inside-lts.spec (
+      record-of-reads.Asked,
+      record-of-reads.Learnt,
       put-record-reads.Asked,
       put-record-reads.Learnt,
       lay-items-below t,
@@ -768,9 +811,10 @@ pub +lay-inside+lay-item+lay-items-spec : {M : Type 1} → statement M
     )
     (lay-inside-at t)
     lay-inside.Post
+    (lay-inside-record-of-requires t)
     (lay-inside-put-record-requires t)
-    (lay-inside-add-t32 t)
     (lay-inside-add-t33 t)
+    (lay-inside-add-t34 t)
     (lay-inside-lay-items-requires t)
     (lay-inside-count-inside-requires t)
     (lay-inside-same-length t)

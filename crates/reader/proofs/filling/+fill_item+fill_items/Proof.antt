@@ -4,7 +4,7 @@ use lib.ListN.{length}
 use borrow.Author.Needs.{needs}
 use Rattle.octets.proofs.Places.{to-inside, ordered, nearer}
 use Rattle.format.specs.Lent.{six}
-use Rattle.reader.proofs.Turns.{narrow, item-nothing, alone-within, alone-fits, item-alone, both-within, both-fits, both-deep, both-deeper, both-can, item-both, item-same}
+use Rattle.reader.proofs.Turns.{narrow, item-nothing, alone-fits, item-alone, both-fits, both-deep, both-deeper, both-can, item-both, item-same}
 use Rattle.reader.proofs.Turns.{Turns, begin, kept, ended, no-item, here, offset-fits, item-can, again}
 use borrow.Fn.Kinds.{In}
 use borrow.Fn.PlainCycle.{Measures, is, falls, and}
@@ -16,7 +16,7 @@ use Rattle.reader.proofs.filling.fill_items.Kinds as fill-items-kinds
 use Rattle.reader.proofs.filling.+fill_item+fill_items.Lts-fill_items as fill-items-lts
 use Rattle.octets.proofs.item_at.Reads as item-at-reads
 use Rattle.tags.proofs.listed_as.Reads as listed-as-reads
-use Rattle.reader.proofs.filling.put_record.Reads as put-record-reads
+use Rattle.format.proofs.put_record.Reads as put-record-reads
 use Rattle.reader.proofs.filling.record_of.Reads as record-of-reads
 use Rattle.reader.proofs.filling.+fill_item+fill_items.{statement}
 use Rattle.reader.proofs.filling.+fill_item+fill_items.Tie.{close}
@@ -101,8 +101,7 @@ fill-item-put-record-requires : (t : ℕ) → fill-item-lts.Need-put-record-requ
   fill-items-below t,
   fill-items.Post,
 ) (fill-item-at t) fill-item.Post
-fill-item-put-record-requires t c κs =
-    alone-within _ _ _ _ ((c .before .before .before .before .before .before .before .before .before .before .before .before .before .before .before .before .before .pre) .1) _ ((c .before .before .before .before .before .before .before .before .before .listed-as) .ensures) _ ((c .before .before .before .before .before .before .before .enum-told2) .given .1)
+fill-item-put-record-requires t c κs = search needs
 
 fill-item-add-result : (t : ℕ) → fill-item-lts.Need-add-result (
   listed-as-reads.Asked,
@@ -152,8 +151,7 @@ fill-item-put-record-requires-2 : (t : ℕ) → fill-item-lts.Need-put-record-re
   fill-items-below t,
   fill-items.Post,
 ) (fill-item-at t) fill-item.Post
-fill-item-put-record-requires-2 t c κs =
-    both-within _ _ _ _ ((c .before .before .before .before .before .before .before .before .before .before .before .before .before .before .before .before .before .pre) .1) _ ((c .before .before .before .before .before .before .before .before .before .listed-as) .ensures) ((c .before .before .before .before .before .before .before .enum-told3) .given .1)
+fill-item-put-record-requires-2 t c κs = search needs
 
 fill-item-add-t42 : (t : ℕ) → fill-item-lts.Need-add-t42 (
   listed-as-reads.Asked,

@@ -1,7 +1,7 @@
 use Rattle.format.specs.Calls.{places}
 use borrow.Author.Needs.{needs}
-use Rattle.reader.proofs.filling.places.Statement.{statement}
-use Rattle.reader.proofs.filling.places.Tie as tie
+use Rattle.format.proofs.places.Statement.{statement}
+use Rattle.format.proofs.places.Tie as tie
 
 least-requires : tie.Need-least-requires
 least-requires c κs = search needs
