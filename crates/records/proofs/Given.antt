@@ -1,12 +1,12 @@
 -- Whether a tree was given, one law for each way through the code of `is_well_formed`.
-use Prim.Native.Nat.{ℕ, suc}
+use Prim.Native.Nat.{ℕ, suc, _≤_, _<_}
 use mathlib.Core.Path.{_≡_, refl, sym, ap, _∙_}
 use mathlib.Core.List.{List}
 use mathlib.Core.Option.{Option, none, some}
 use mathlib.Core.Bool.{Bool, true, false, cond, _&&_, and-false}
 use lib.Dec.{eqb, leb}
 use native.Mathlib.Omega.{arith}
-use borrow.Author.Tests.{lt-ltb}
+use borrow.Author.Tests.{lt-ltb, lt-leb, le-leb}
 use Rattle.format.specs.Writer.{atTop, walk, tree, toEnd, rebuilt}
 use Rattle.format.specs.Calls.{Lists, row, places, treeGiven}
 use Rattle.format.proofs.Walk.{whole-walk}
@@ -39,17 +39,20 @@ module _ (n : ℕ) (l : Lists) (lent : List ℕ) where
   pub given-none : n ≡ 0 → false ≡ isGiven (treeGiven n l lent)
   given-none e = sym (given-is n l lent ∙ ap (λ x. leb n (places l) && x) (ap (λ m. toEnd m (walked l n lent (firstIn above) 0 0)) e ∙ end-zero (walked l n lent (firstIn above) 0 0)) ∙ and-false (leb n (places l)))
 
-  module _ (b : Bool) (e : b ≡ leb n (places l)) where
-    pub given-beyond : b ≡ false → false ≡ isGiven (treeGiven n l lent)
-    given-beyond f = rw (given-is n l lent, sym e ∙ f)
+  module _ (k : ℕ) (e : k ≡ places l) where
+    pub given-beyond : k < n → false ≡ isGiven (treeGiven n l lent)
+    given-beyond f = rw (given-is n l lent, lt-leb n (places l) (omega (arith, e)))
 
-    module _ (f : b ≡ true) (v : Reached) (ve : v ≡ told (walked l n lent (firstIn above) 0 0)) where
+    module _ (f : n ≤ k) (v : Reached) (ve : v ≡ told (walked l n lent (firstIn above) 0 0)) where
+      listed : leb n (places l) ≡ true
+      listed = le-leb n (places l) (omega (arith, e))
+
       pub given-ill : v ≡ Ill → false ≡ isGiven (treeGiven n l lent)
       unfolding toEnd
-      given-ill q = rw (given-is n l lent, sym e ∙ f, told-ill (walked l n lent (firstIn above) 0 0) (sym q ∙ ve))
+      given-ill q = rw (given-is n l lent, listed, told-ill (walked l n lent (firstIn above) 0 0) (sym q ∙ ve))
 
       pub given-next : (j : ℕ) → v ≡ Next j → (n ≡ 0 → ⊥) → eqb j n ≡ isGiven (treeGiven n l lent)
       unfolding toEnd
-      given-next j q z = rw (given-is n l lent, sym e ∙ f, told-next (walked l n lent (firstIn above) 0 0) j (sym q ∙ ve), lt-ltb 0 n (omega arith))
+      given-next j q z = rw (given-is n l lent, listed, told-next (walked l n lent (firstIn above) 0 0) j (sym q ∙ ve), lt-ltb 0 n (omega arith))
 
 pub ruleset given-ways = (given-none, given-beyond, given-ill, given-next)

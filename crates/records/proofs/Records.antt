@@ -1,4 +1,4 @@
--- A record among the items of an element, and the places of lists, one law for each way through the code.
+-- A record among the items of an element, one law for each way through the code.
 use Prim.Native.Nat.{ℕ, _+_, _-_, _≤_, _<_}
 use mathlib.Core.Path.{_≡_, sym, ap, _∙_}
 use mathlib.Core.List.{List}
@@ -6,14 +6,12 @@ use mathlib.Core.Bool.{Bool, true, false}
 use lib.Dec.{eqb, leb}
 use lib.ListN.{length, take, drop}
 use native.Mathlib.Nat.{add-sub-cancel-left}
-use native.Mathlib.Omega.{arith}
-use borrow.Author.Tests.{lt-leb, le-leb, leb-true, eq-eqb, ne-eqb}
+use borrow.Author.Tests.{lt-leb, le-leb, eq-eqb, ne-eqb}
 use Rattle.values.specs.Table.{known}
 use Rattle.format.specs.declared.Record.{Record}
 use Rattle.format.specs.Tree.{kindOf}
 use Rattle.format.specs.Writer.{bodyIn}
-use Rattle.format.specs.Calls.{Lists, places}
-use Rattle.records.specs.Check.{heldAs, placedBy, stateAfter, itemOf, tied, itemAs, HasPlaces}
+use Rattle.records.specs.Check.{heldAs, placedBy, stateAfter, itemOf, tied, itemAs}
 use Rattle.records.specs.declared.check.Parent.{Parent}
 use Rattle.records.specs.declared.check.State.{State}
 use Rattle.records.specs.declared.check.Held.{Held}
@@ -65,51 +63,3 @@ module _ (p : Parent) (s : State) (lent : List ℕ) (r : Record) where
                 (xe ∙ ap (itemOf h (r .tag)) te ∙ ap (λ y. itemOf y (r .tag) (stateAfter p s (r .tag))) (rw add-sub-cancel-left at he))
 
 pub ruleset record-ways = (record-past, bad-kind, bad-parent, bad-span, bad-place, good-record)
-
--- fewer records have places too
-pub has-fewer : {m n : ℕ} {l : Lists} → m ≤ n → HasPlaces n l → HasPlaces m l
-has-fewer h r =
-    let a = r .tags in
-    let b = r .kinds in
-    let c = r .depths in
-    let d = r .parents in
-    let e = r .starts in
-    let f = r .sizes in
-    record { tags = omega arith; kinds = omega arith; depths = omega arith; parents = omega arith; starts = omega arith; sizes = omega arith }
-
--- each list has the places of the shortest
-places-own : (l : Lists) → HasPlaces (places l) l
-unfolding places
-places-own l =
-    record { tags = omega arith; kinds = omega arith; depths = omega arith; parents = omega arith; starts = omega arith; sizes = omega arith }
-
-module _ (n : ℕ) (l : Lists) where
-  few : (m : ℕ) → places l ≤ m → m < n → false ≡ leb n (places l)
-  few m a h = sym (lt-leb n (places l) (omega arith))
-
-  pub few-tags : length (l .tags) < n → false ≡ leb n (places l)
-  few-tags = few (length (l .tags)) (places-own l .tags)
-
-  pub few-kinds : length (l .kinds) < n → false ≡ leb n (places l)
-  few-kinds = few (length (l .kinds)) (places-own l .kinds)
-
-  pub few-depths : length (l .depths) < n → false ≡ leb n (places l)
-  few-depths = few (length (l .depths)) (places-own l .depths)
-
-  pub few-parents : length (l .parents) < n → false ≡ leb n (places l)
-  few-parents = few (length (l .parents)) (places-own l .parents)
-
-  pub few-starts : length (l .starts) < n → false ≡ leb n (places l)
-  few-starts = few (length (l .starts)) (places-own l .starts)
-
-  pub few-sizes : length (l .sizes) < n → false ≡ leb n (places l)
-  few-sizes = few (length (l .sizes)) (places-own l .sizes)
-
-  pub enough : n ≤ length (l .tags) → n ≤ length (l .kinds) → n ≤ length (l .depths) → n ≤ length (l .parents) → n ≤ length (l .starts) → n ≤ length (l .sizes) → true ≡ leb n (places l)
-  unfolding places
-  enough a b c d e f = sym (le-leb n (places l) (omega arith))
-
-  pub has-all : (b : Bool) → b ≡ leb n (places l) → b ≡ true → HasPlaces n l
-  has-all b e h = has-fewer (leb-true n (places l) (sym e ∙ h)) (places-own l)
-
-pub ruleset place-ways = (few-tags, few-kinds, few-depths, few-parents, few-starts, few-sizes, enough)

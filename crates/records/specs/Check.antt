@@ -2,7 +2,7 @@
 use mathlib.Core.Bool.{Bool, true, false, cond, not, _&&_}
 use mathlib.Core.Option.{Option, none, some}
 use mathlib.Core.List.{List, []}
-use Prim.Native.Nat.{ℕ, suc, _+_, _-_, _≤_}
+use Prim.Native.Nat.{ℕ, suc, _+_, _-_}
 use lib.Dec.{eqb, leb}
 use lib.ListN.{length}
 use Rattle.values.specs.declared.Kind.{Kind}
@@ -26,15 +26,6 @@ use Rattle.records.specs.declared.check.Reached.the-variants.{Ill, Next}
 unfoldable pub isGiven : Option Items → Bool
 isGiven none = false
 isGiven (some t) = true
-
--- so many records have a place in each list
-pub record HasPlaces (n : ℕ) (l : Lists) : Type 0 where
-  pub tags : n ≤ length (l .tags)
-  pub kinds : n ≤ length (l .kinds)
-  pub depths : n ≤ length (l .depths)
-  pub parents : n ≤ length (l .parents)
-  pub starts : n ≤ length (l .starts)
-  pub sizes : n ≤ length (l .sizes)
 
 unfoldable pub octetsIf : Bool → Held
 octetsIf b = cond b Octets Broken

@@ -4,17 +4,18 @@ ghost use mathlib.Core.Path.{_≡_};
 ghost use mathlib.Core.Bool.{false, _&&_};
 ghost use mathlib.Core.List.{[]};
 ghost use mathlib.Core.Option.{some};
-ghost use Prim.Native.Nat.{_+_, _≤_, _<_};
-ghost use lib.Dec.{leb};
+ghost use Prim.Native.Nat.{_≤_};
 ghost use Rattle.values.specs.Table.{known};
 ghost use Rattle.text.specs.Text.{text};
 ghost use Rattle.text.specs.Tokens.{shownLength};
 ghost use Rattle.format.specs.Judge.{shown};
-ghost use Rattle.format.specs.Calls.{row, places, treeGiven};
+ghost use Rattle.format.specs.Calls.{treeGiven};
 ghost use Rattle.format.specs.Lent.{lent};
-ghost use Rattle.records.specs.Check.{isGiven, HasPlaces, octetsIf, heldAs, placedBy, stateAfter, itemOf, itemAs, firstIn, parentAt, walked, told};
+ghost use Rattle.records.specs.Check.{isGiven, octetsIf, heldAs, placedBy, stateAfter, itemOf, itemAs, firstIn, parentAt, walked, told};
 use format::Record;
 use format::kind_of;
+use format::places;
+use format::record_at;
 use octets::Characters;
 use tags::has_bit;
 use tags::is_allowed;
@@ -184,29 +185,6 @@ fn check_record(given: Record, octets: &[u8], parent: Parent, state: State) -> I
     Item::Bad
 }
 
-// The record of a number. Format has a call that asks for no places; it tests each of the six, and `write` took 5 % more instructions with it.
-fn record_at(
-    tags: &[u8],
-    kinds: &[u8],
-    depths: &[u8],
-    parents: &[u16],
-    starts: &[u16],
-    sizes: &[u16],
-    i: usize,
-) -> Record
-    requires { ⌜ HasPlaces (i + 1) (lent tags kinds depths parents starts sizes) ⌝ }
-    ensures { λ r. ⌜ r ≡ row (lent (tags .entry) (kinds .entry) (depths .entry) (parents .entry) (starts .entry) (sizes .entry)) i ⌝ }
-{
-    Record {
-        tag: tags[i],
-        kind: kinds[i],
-        depth: depths[i],
-        parent: parents[i],
-        start: starts[i],
-        size: sizes[i],
-    }
-}
-
 // Record `i`, of a tag, as the element around its own items, where it stands among those of another.
 fn parent_at(parent: Parent, tag: u8, i: usize) -> Parent
     requires { ⌜ parent .depth ≤ 16 ⌝ }
@@ -233,7 +211,7 @@ fn check_items(
     at: usize,
     parent: Parent,
 ) -> Reached
-    requires { ⌜ HasPlaces count (lent tags kinds depths parents starts sizes) × (at ≤ count) × (parent .depth ≤ 17) ⌝ }
+    requires { ⌜ (at ≤ count) × (parent .depth ≤ 17) ⌝ }
     ensures { λ r. ⌜ r ≡ told (walked (lent (tags .entry) (kinds .entry) (depths .entry) (parents .entry) (starts .entry) (sizes .entry)) count (now (octets .entry)) (firstIn parent) (parent .number) at) ⌝ }
 {
     let mut i = at;
@@ -274,39 +252,6 @@ fn check_items(
     Reached::Next(i)
 }
 
-// There are no more records than places in the shortest list.
-fn has_places(
-    count: usize,
-    tags: &[u8],
-    kinds: &[u8],
-    depths: &[u8],
-    parents: &[u16],
-    starts: &[u16],
-    sizes: &[u16],
-) -> bool
-    ensures { λ r. ⌜ r ≡ leb count (places (lent (tags .entry) (kinds .entry) (depths .entry) (parents .entry) (starts .entry) (sizes .entry))) ⌝ }
-{
-    if count > tags.len() {
-        return false;
-    }
-    if count > kinds.len() {
-        return false;
-    }
-    if count > depths.len() {
-        return false;
-    }
-    if count > parents.len() {
-        return false;
-    }
-    if count > starts.len() {
-        return false;
-    }
-    if count > sizes.len() {
-        return false;
-    }
-    true
-}
-
 // Records in lists over lent octets are a well-formed tree: the walk from the top comes to the last of them.
 pub fn is_well_formed(
     count: usize,
@@ -323,7 +268,7 @@ pub fn is_well_formed(
     if count == 0 {
         return false;
     }
-    if !has_places(count, tags, kinds, depths, parents, starts, sizes) {
+    if count > places(tags, kinds, depths, parents, starts, sizes) {
         return false;
     }
     let above = Parent {

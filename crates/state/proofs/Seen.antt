@@ -19,14 +19,26 @@ use Rattle.format.specs.Calls.{Lists, places, row, treeGiven}
 use Rattle.format.specs.State.{Memory, bodySizes, packed, sameItems, treeHeld}
 use Rattle.format.proofs.Rebuilt.{Whole, rebuilt-whole}
 use Rattle.format.proofs.Same.{same-octets, octets-same}
-use Rattle.records.specs.Check.{isGiven, HasPlaces}
-use Rattle.records.proofs.Records.{has-all}
+use Rattle.records.specs.Check.{isGiven}
 use Rattle.state.specs.declared.Filled.{Filled}
 use Rattle.state.specs.declared.Filled.the-variants.{Apart}
 use Rattle.state.specs.Order.{heldAs, nth, filledFrom, asFilled, rightBelow, noSums}
 use Rattle.state.proofs.HeldTree.{Held, held, is-held, items-same, same-items}
 use Rattle.state.proofs.Order.{flat-packed}
 use Rattle.state.proofs.SizesHeld.{right-sizes}
+
+-- so many records have a place in each list
+pub record HasPlaces (n : ℕ) (l : Lists) : Type 0 where
+  pub tags : n ≤ length (l .tags)
+  pub kinds : n ≤ length (l .kinds)
+  pub depths : n ≤ length (l .depths)
+  pub parents : n ≤ length (l .parents)
+  pub starts : n ≤ length (l .starts)
+  pub sizes : n ≤ length (l .sizes)
+
+has-all : (n : ℕ) (l : Lists) → n ≤ places l → HasPlaces n l
+unfolding places
+has-all n l h = record { tags = omega arith; kinds = omega arith; depths = omega arith; parents = omega arith; starts = omega arith; sizes = omega arith }
 
 -- records that are a tree have places in all six lists
 pub has-places : (n : ℕ) (tags kinds depths parents starts sizes store : List ℕ) (b : Bool) → b ≡ isGiven (treeGiven n (six tags kinds depths parents starts sizes) store) → not b ≡ false
@@ -38,7 +50,7 @@ has-places n tags kinds depths parents starts sizes store b e q = go (leb n (pla
     l = six tags kinds depths parents starts sizes
 
     go : (c : Bool) → leb n (places l) ≡ c → HasPlaces n l
-    go true p = has-all n l true (sym p) refl
+    go true p = has-all n l (leb-true n (places l) p)
     go false p = absurd (false≢true (sym (e ∙ ap (λ z. isGiven (cond z (rebuilt (row l) n store) none)) p) ∙ not-false b q))
 
 module _ (n : ℕ) (tags kinds depths parents starts sizes bodies store : List ℕ) where

@@ -11,7 +11,7 @@ use Rattle.records.proofs.check.check_items.Kinds as check-items-kinds
 use Rattle.records.proofs.check.+check_items.Lts-check_items as check-items-lts
 use Rattle.records.proofs.check.check_record.Reads as check-record-reads
 use Rattle.records.proofs.check.parent_at.Reads as parent-at-reads
-use Rattle.records.proofs.check.record_at.Reads as record-at-reads
+use Rattle.format.proofs.record_at.Reads as record-at-reads
 use Rattle.records.proofs.check.+check_items.{statement}
 use Rattle.records.proofs.check.+check_items.Tie.{close}
 
@@ -46,7 +46,7 @@ check-items-loop-holds : (t : ℕ) → check-items-lts.Need-loop-holds (
   check-items.Post,
 ) (check-items-at t) check-items.Post check-items-Inv-loop check-items-μ-loop
 check-items-loop-holds t c =
-    at-first _ _ _ _ _ ((c .before .before .before .before .before .before .before .pre) .1 .1)
+    at-first _ _ _ _ _ ((c .before .before .before .before .before .before .before .pre) .1 .0)
 
 check-items-record-at-requires : (t : ℕ) → check-items-lts.Need-record-at-requires (
   record-at-reads.Asked,
@@ -219,7 +219,7 @@ check-items-check-items-requires : (t : ℕ) → check-items-lts.Need-check-item
   check-items.Post,
 ) (check-items-at t) check-items.Post check-items-Inv-loop check-items-μ-loop
 check-items-check-items-requires t c κs =
-    let deep = nested-shallow _ _ _ _ _ _ _ ((c .before .before .before .before .before .before .before .loop) .inv) ((c .before .before .before .before .before .before .loop-test) .taken) _ ((c .before .before .before .before .before .record-at) .ensures) _ ((c .before .before .before .before .check-record) .ensures) _ _ ((c .before .before .tag) .given .1) in let inv = (c .before .before .before .before .before .before .before .loop) .inv in let low = inv .low in let start = (c .before .before .before .before .before .before .before .before .before .before .before .before .before .before .before .pre) .0 in let less = (c .before .before .before .before .before .before .loop-test) .taken in let below = ap (λ q. q .depth) ((c .parent-at) .ensures) in (omega arith, ((c .before .before .before .before .before .before .before .before .before .before .before .before .before .before .before .pre) .1 .0, omega arith, omega arith))
+    let deep = nested-shallow _ _ _ _ _ _ _ ((c .before .before .before .before .before .before .before .loop) .inv) ((c .before .before .before .before .before .before .loop-test) .taken) _ ((c .before .before .before .before .before .record-at) .ensures) _ ((c .before .before .before .before .check-record) .ensures) _ _ ((c .before .before .tag) .given .1) in let inv = (c .before .before .before .before .before .before .before .loop) .inv in let low = inv .low in let start = (c .before .before .before .before .before .before .before .before .before .before .before .before .before .before .before .pre) .0 in let less = (c .before .before .before .before .before .before .loop-test) .taken in let below = ap (λ q. q .depth) ((c .parent-at) .ensures) in (omega arith, (omega arith, omega arith))
 
 check-items-enum-known-end : (t : ℕ) → check-items-lts.Need-enum-known-end (
   record-at-reads.Asked,
