@@ -21,10 +21,10 @@ use Rattle.format.specs.Judge.Judged.{refused, accepted}
 use Rattle.format.specs.Writer.{tabled}
 use Rattle.format.specs.Headers.{headersOf}
 use Rattle.format.specs.Calls.{Lists, places, row, countsOf, readAnswer, readRecords, ReadAtMostClaim, ReadRecordsClaim}
-use Rattle.format.proofs.Lays.{tabled-more, tabled-laid, places-lay}
+use Rattle.format.proofs.Lays.{tabled-more, tabled-laid}
 use Rattle.format.proofs.Tabled.{tabled-length}
 use Rattle.format.proofs.Spans.{records-count}
-use Rattle.entry.specs.Copies.{Copyable, copied}
+use Rattle.entry.specs.Copies.{copied}
 
 pub copied-none : (l : Lists) (slice : List Record) → copied l 0 slice ≡ slice
 unfolding tabled
@@ -69,10 +69,8 @@ module _ (o : List ℕ) (slice : List Record) (l l′ : Lists) (a : ReadAnswer) 
   many-is : many ≡ length rs
   many-is = e ∙ ap (λ r. readOutcome r .count) (c .answers) ∙ many-handed n (headersOf o) (judge o)
 
-  pub can-copy : Copyable many l′ slice
-  can-copy =
-      let p : places l′ ≡ places l = ap places (c .leaves) ∙ places-lay 0 rs l in
-      record { listed = omega (arith, many-is, few-handed n (judge o)); placed = omega (arith, many-is, few-handed n (judge o)) }
+  pub can-copy : many ≤ length slice
+  can-copy = omega (arith, many-is, few-handed n (judge o))
 
   pub all-read : (slice′ : List Record) → slice′ ≡ copied l′ many slice → ReadRecordsClaim o l l′ slice slice′ a
   all-read slice′ f =

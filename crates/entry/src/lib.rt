@@ -1,11 +1,14 @@
 // The entry for a caller who keeps records as records: read, with a lent slice of them beside the lists of numbers.
 ghost use mathlib.Core.Path.{_≡_};
+ghost use Prim.Native.Nat.{_≤_};
+ghost use lib.ListN.{length};
 ghost use Rattle.format.specs.Answers.{readOutcome};
-ghost use Rattle.format.specs.Calls.{row, ReadRecordsClaim};
-ghost use Rattle.format.specs.Lent.{lent, Within};
-ghost use Rattle.entry.specs.Copies.{Copyable, copied};
+ghost use Rattle.format.specs.Calls.{ReadRecordsClaim};
+ghost use Rattle.format.specs.Lent.{lent};
+ghost use Rattle.entry.specs.Copies.{copied};
 use format::ReadAnswer;
 use format::Record;
+use format::record_at;
 use reader::read_at_most;
 
 // How many records an answer hands out: none on a refusal.
@@ -14,29 +17,6 @@ fn handed_out(answer: ReadAnswer) -> usize
 {
     let outcome = answer.outcome();
     outcome.count
-}
-
-// The record of a number, from the lists.
-fn record_at<'l>(
-    number: usize,
-    tags: &'l [u8],
-    kinds: &'l [u8],
-    depths: &'l [u8],
-    parents: &'l [u16],
-    starts: &'l [u16],
-    sizes: &'l [u16],
-) -> Record
-    requires { ⌜ Within number (lent tags kinds depths parents starts sizes) ⌝ }
-    ensures { λ r. ⌜ r ≡ row (lent (tags .entry) (kinds .entry) (depths .entry) (parents .entry) (starts .entry) (sizes .entry)) number ⌝ }
-{
-    Record {
-        tag: tags[number],
-        kind: kinds[number],
-        depth: depths[number],
-        parent: parents[number],
-        start: starts[number],
-        size: sizes[number],
-    }
 }
 
 // The first records of the lists into the slice. The only stores into it.
@@ -50,12 +30,12 @@ fn copy_records<'r, 'l>(
     starts: &'l [u16],
     sizes: &'l [u16],
 )
-    requires { ⌜ Copyable many (lent tags kinds depths parents starts sizes) (now records) ⌝ }
+    requires { ⌜ many ≤ length (now records) ⌝ }
     ensures { λ _. ⌜ now (records .exit) ≡ copied (lent (tags .entry) (kinds .entry) (depths .entry) (parents .entry) (starts .entry) (sizes .entry)) many (now (records .entry)) ⌝ }
 {
     let mut i = 0;
     while i < many {
-        let record = record_at(i, tags, kinds, depths, parents, starts, sizes);
+        let record = record_at(tags, kinds, depths, parents, starts, sizes, i);
         records[i] = record;
         i += 1;
     }
