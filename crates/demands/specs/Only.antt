@@ -23,14 +23,15 @@ use Rattle.fold.specs.Calls.{PackClaim}
 use Rattle.xml.specs.Export.{ExportClaim}
 use Rattle.spi_c.specs.Claims.{ReadsC, SizesC, ScansC, SpansC, WritesC, NormalisesC, TakesInC, EditsC, WritesStateC, GatesC, SameC, ExportsC, ChecksPackedC, PacksC}
 
--- every call whose claim is one equation for its answer; none of them is lent anything to write.
+-- every call whose claim is one equation for its answer, and put_record of format, whose equation is for the lists that it is lent; no other of them is lent
+-- anything to write.
 -- octets: read_header, item_at, header_size, read_number. text: check, is_token, is_table, is_covered, weigh, expanded_size. values: is_attribute, known_kind,
--- is_default, Time::take, valid, canonical, local, size, Bearer::take, valid, size, fits_kind, wrong_field, normal_size. format: kind_of, refuse, and outcome
--- of ReadAnswer, EditAnswer, WriteAnswer, SameAnswer. tags: is_top, is_allowed, latest_of, stage_after, is_within_depth, is_short, has_bit, with_bit, listed_as,
--- holds_items, holds_text. judge: judge. scan: scan. recording: open, step. reader: places, span, body. records: is_well_formed. survey: survey, needs_of,
--- find_item, find_first, table_of, written_as. pocket: gate, data_type, outcome of GateAnswer. compare: same, is_normal, same_texts, same_bodies, same_octets,
--- same_attribute, same_attributes, same_cdata, same_child, same_children, find_counted, next_child. state: held, framed_size, item_adds, added_by. fold: check,
--- outcome of CheckAnswer. merging: find_conflict. spi_c: spi_check_text.
+-- is_default, Time::take, valid, canonical, local, size, Bearer::take, valid, size, fits_kind, wrong_field, normal_size. format: octet_at, least, places,
+-- record_at, kind_of, refuse, and outcome of ReadAnswer, EditAnswer, WriteAnswer, SameAnswer. tags: is_top, is_allowed, latest_of, stage_after,
+-- is_within_depth, is_short, has_bit, with_bit, listed_as, holds_items, holds_text. judge: judge. scan: scan. recording: open, step. reader: span, body.
+-- records: is_well_formed. survey: survey, needs_of, find_item, find_first, table_of, written_as. pocket: gate, data_type, outcome of GateAnswer. compare:
+-- same, is_normal, same_texts, same_bodies, same_octets, same_attribute, same_attributes, same_cdata, same_child, same_children, find_counted, next_child.
+-- state: held, framed_size, item_adds, added_by. fold: check, outcome of CheckAnswer. merging: find_conflict. spi_c: spi_check_text.
 -- For body and table_of, which hand back a part of the caller's octets, the equation is for what the part holds
 abbrev pub OneAnswer : Type 1
 OneAnswer = (A : Type 0) (claimed one other : A) → one ≡ claimed → other ≡ claimed → one ≡ other
