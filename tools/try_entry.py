@@ -98,7 +98,7 @@ fn is_kept(tags: &[u8], kinds: &[u8], depths: &[u8], parents: &[u16], starts: &[
 fn list(records: &[Record], n: usize, out: &mut [u8], at: usize) -> usize {
     let mut to = end_of(show::put_header(out, at), at);
     for i in 0..n {
-        to = end_of(show::put_record(out, to, records[i]), to);
+        to = end_of(show::put_record_line(out, to, records[i]), to);
     }
     end_of(show::put_records(out, to, n), to)
 }

@@ -235,7 +235,7 @@ fn store_record(out: &mut [u8], at: usize, r: Record) -> usize
     number_word(out, size, r.size as usize, NEWLINE)
 }
 
-pub fn put_record(out: &mut [u8], at: usize, r: Record) -> Put
+pub fn put_record_line(out: &mut [u8], at: usize, r: Record) -> Put
     ensures { λ put. ⌜ Puts true (recordLine r) at (now (out .entry)) (now (out .exit)) put ⌝ }
 {
     if !has_room(Octets(out.len()), at, record_size(r)) {

@@ -43,7 +43,7 @@ pub fn say_header() {
 
 pub fn say_record(r: Record) {
     let mut line = [0u8; LINE];
-    let end = end_of(show::put_record(&mut line, 0, r), &line);
+    let end = end_of(show::put_record_line(&mut line, 0, r), &line);
     say(&line[..end]);
 }
 

@@ -1,7 +1,7 @@
 use Rattle.show.proofs.Writing.{put-ways}
 use borrow.Author.Needs.{needs}
-use Rattle.show.proofs.put_record.Statement.{statement}
-use Rattle.show.proofs.put_record.Tie as tie
+use Rattle.show.proofs.put_record_line.Statement.{statement}
+use Rattle.show.proofs.put_record_line.Tie as tie
 
 record-size-requires : tie.Need-record-size-requires
 record-size-requires c κs = search (put-ways, needs)
@@ -21,8 +21,8 @@ same-length c = search (put-ways, needs)
 returns-2 : tie.Need-returns-2
 returns-2 c = search (put-ways, needs)
 
-pub put-record-spec : {M : Type 1} → statement M
-put-record-spec =
+pub put-record-line-spec : {M : Type 1} → statement M
+put-record-line-spec =
     tie.close
     (tie.spec
     record-size-requires
