@@ -10,5 +10,6 @@ pub mod Pure
 pub mod Octets
 pub mod Sizes
 pub mod Results
+pub mod Outcomes
 pub mod Cases
 pub mod Examples

@@ -17,6 +17,7 @@ use Rattle.state.specs.Taking.{lentBy, loadedInto}
 use Rattle.merge.specs.declared.Services.{Services}
 use Rattle.merge.specs.declared.MergeAnswer.{MergeAnswer}
 use Rattle.merge.specs.declared.MergeAnswer.the-variants.{Merged, BasicRefused, AdvancedRefused, NotMerged}
+use Rattle.merge.specs.declared.MergeOutcome.{MergeOutcome}
 use Rattle.merge.specs.Merged.{merged, clash, sameTop, twice}
 use Rattle.merge.specs.Sizes.{recordsIn, storedIn}
 
@@ -64,3 +65,16 @@ pub record MergeClaim (by : Services) (basic advanced : List ℕ) (m m′ : Memo
   pub answers : answer ≡ answerOf (outcome by (lentBy m room) (judge basic) (judge advanced))
   pub writes : room′ ≡ sets room 0 (writtenOf (outcome by (lentBy m room) (judge basic) (judge advanced)))
   pub leaves : m′ ≡ loadedInto (lentBy m room) (judge (writtenOf (outcome by (lentBy m room) (judge basic) (judge advanced)))) m
+
+-- ---- document 01's numbers for the answer
+
+-- a refusal of one object alone, 1 Basic, 2 Advanced, or of none alone, 0
+abbrev pub refusedAs : ℕ → Refusal → MergeOutcome
+refusedAs which r = record { which = which; number = r .number; place = r .place; field = r .field; records = 0; size = asOctets 0 }
+
+-- number, place and field of a refusal, all 0 where there is none; the records of memory and the octets of the room, both 0 after a refusal
+abbrev pub mergeOutcome : MergeAnswer → MergeOutcome
+mergeOutcome (Merged records size) = record { which = 0; number = 0; place = 0; field = 0; records = records; size = size }
+mergeOutcome (BasicRefused r) = refusedAs 1 r
+mergeOutcome (AdvancedRefused r) = refusedAs 2 r
+mergeOutcome (NotMerged r) = refusedAs 0 r
