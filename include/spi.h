@@ -32,11 +32,12 @@ extern "C" {
 /* ---- Answers ----------------------------------------------------------------------------------
  *
  * bits 63 to 56   the refusal, 0 where there is none
- * bits 55 to 48   spi_same alone: the object that is refused, 1 or 2
+ * bits 55 to 48   spi_same and spi_merge alone: the object that is refused, 1 or 2; 0 where spi_merge refuses the two together
  * bits 47 to 40   SPI_BAD_VALUE alone: the field of a time that is wrong, 0 for a value of another kind
  * bits 39 to 0    the place of the refusal in its object; where there is none, the call's count
  *
- * Where there is no refusal, bits 55 to 40 are, of spi_read and spi_scan, the number of items that they judged.
+ * Where there is no refusal, bits 55 to 40 are a second count: of spi_read and spi_scan the number of items that they
+ * judged, of spi_merge that of the records.
  */
 enum spi_refusal {
     SPI_OK = 0,
@@ -59,6 +60,8 @@ enum spi_refusal {
     SPI_PLAIN_OCTETS = 17,        /* an item of plain octets, which have no XML */
     SPI_NOT_THERE = 18,           /* no such record or place, a record of the wrong kind, or the top to be removed */
     SPI_NOT_IN_PROFILE = 19,      /* an item that the Basic profile hasn't got for the data type */
+    SPI_CLASH = 20,               /* tops of two tags, or for one element two languages, two values of an attribute, or two CDATA */
+    SPI_KEY_TWICE = 21,           /* an object that has the same merging key twice in one element */
     SPI_NOT_PACKED = 22           /* no packed object of that normal form, or no normal form */
 };
 
@@ -93,11 +96,17 @@ static inline size_t spi_value(uint64_t answer)
     return (size_t)(answer & 0xFFFFFFFFFF);
 }
 
-/* How many items `spi_read` or `spi_scan` judged, known and unknown, those inside unknown ones left out: at most half the
- * object's octets.  0 after a refusal; the other calls count none. */
-static inline size_t spi_items(uint64_t answer)
+/* The second count of a call that tells two, 0 after a refusal; spi_items and spi_merged_records say of what. */
+static inline size_t spi_second_value(uint64_t answer)
 {
     return answer >> 56 ? 0 : (size_t)(answer >> 40 & 0xFFFF);
+}
+
+/* How many items `spi_read` or `spi_scan` judged, known and unknown, those inside unknown ones left out: at most half the
+ * object's octets. */
+static inline size_t spi_items(uint64_t answer)
+{
+    return spi_second_value(answer);
 }
 
 /* ---- Records ----------------------------------------------------------------------------------
@@ -311,6 +320,34 @@ uint64_t spi_write_state(size_t records,
                          const uint16_t *bodies, size_t bodies_count,
                          const uint8_t *store, size_t store_count,
                          uint8_t *room, size_t room_count);
+
+/* Merges two objects of one top tag, a Basic and an Advanced one (5.3 and 5.4 of TS 102 371): elements with the same path of
+ * tags and the same merging attributes become one.  The room then has the normal form of the result, and lists and store
+ * are as spi_take_in of that normal form leaves them, so that the result can be edited further.  `by_bearers` says how the
+ * services of an ensemble are told apart: by the set of their bearers' ids, or else by their tag alone, so that an
+ * ensemble has one service.
+ *
+ * Refused by 1 to 13 of Basic, which is the first object, then of Advanced; then by 20, 21, 14 and 15, at place 0.  The
+ * count is that of the octets in the room, spi_merged_records that of the records.  With SPI_MOST_RECORDS places and
+ * SPI_MOST_OCTETS of store and of room, 14 and 15 come only where the normal form would have more octets than an object
+ * may. */
+uint64_t spi_merge(const uint8_t *basic, size_t basic_octets,
+                   const uint8_t *advanced, size_t advanced_octets,
+                   bool by_bearers,
+                   uint8_t *tags, size_t tags_count,
+                   uint8_t *kinds, size_t kinds_count,
+                   uint8_t *depths, size_t depths_count,
+                   uint16_t *parents, size_t parents_count,
+                   uint16_t *starts, size_t starts_count,
+                   uint16_t *sizes, size_t sizes_count,
+                   uint16_t *bodies, size_t bodies_count,
+                   uint8_t *store, size_t store_count,
+                   uint8_t *room, size_t room_count);
+
+static inline size_t spi_merged_records(uint64_t answer)
+{
+    return spi_second_value(answer);
+}
 
 /* Whether octets are text; `tokens` says whether token octets may stand in it. */
 bool spi_check_text(const uint8_t *text, size_t octets, bool tokens);

@@ -24,7 +24,7 @@ use Rattle.format.specs.Judge.{judge, Judged}
 use Rattle.format.specs.Same.{sameAnswer}
 use Rattle.format.specs.State.{Memory, treeIn, treeHeld}
 use Rattle.state.specs.Taking.{lentBy, NormaliseClaim, Leaves, WriteClaim, WriteStateClaim}
-use Rattle.spi_c.specs.Packed.{packedOutcome, packedSame, packedSpan, packedSizes, Small, SmallSame, SmallSpan, SmallSizes}
+use Rattle.spi_c.specs.Packed.{packedOutcome, packedSame, packedMerge, packedSpan, packedSizes, Small, SmallSame, SmallMerge, SmallSpan, SmallSizes}
 use Rattle.octets.specs.Numbers.{Octets}
 use Rattle.octets.proofs.Lists.{sets-left}
 use Rattle.octets.proofs.Tests.{never}
@@ -47,10 +47,14 @@ use Rattle.pocket.specs.Gate.{gateOutcome, gateOf}
 use Rattle.fold.specs.declared.CheckAnswer.{CheckAnswer}
 use Rattle.fold.specs.Packed.{packed as foldedObject}
 use Rattle.fold.specs.Calls.{checkAnswer, checkOutcome, PackClaim}
+use Rattle.merge.specs.declared.Services.{Services}
+use Rattle.merge.specs.declared.MergeAnswer.{MergeAnswer}
+use Rattle.merge.specs.declared.MergeOutcome.{MergeOutcome}
+use Rattle.merge.specs.Calls.{MergeClaim, mergeOutcome}
 use Rattle.xml.specs.Export.{Exported, exportOf, exportAnswer, exportOctets, ExportClaim}
 use Rattle.xml.specs.Export.Exported.{refuses, shows}
-use Rattle.spi_c.specs.Claims.{ReadsC, ScansC, WritesC, NormalisesC, LeavesC, WritesStateC, GatesC, SameC, roomFor, ExportsC, ChecksPackedC, PacksC, packedNeeds, SizesC}
-use Rattle.spi_c.proofs.Told.{Told, told-small, told-same-small, read-told, scan-told, write-told, normal-told, same-told, gate-told, export-told, check-told, pack-told}
+use Rattle.spi_c.specs.Claims.{ReadsC, ScansC, WritesC, NormalisesC, LeavesC, WritesStateC, GatesC, SameC, roomFor, ExportsC, ChecksPackedC, PacksC, packedNeeds, SizesC, servicesOf, MergesC}
+use Rattle.spi_c.proofs.Told.{Told, told-small, told-same-small, told-merge-small, read-told, scan-told, write-told, normal-told, same-told, gate-told, export-told, check-told, pack-told, merge-told}
 
 -- an answer is known, and with it its outcome and the number
 module _ {A O : Type 0} (outcome : A → O) (answer known : A) (e : answer ≡ known) (o : O) (told : o ≡ outcome answer) where
@@ -175,6 +179,19 @@ module _ (object before after : List ℕ) (answer : WriteAnswer) (claim : PackCl
 
   pub pack-says : (a : ℕ) → a ≡ packedOutcome o → PacksC object before after a
   pack-says a h = record { answers = outcome-packed writeOutcome _ _ (claim .answers) o told packedOutcome a h; leaves = record { answers = refl; leaves = claim .leaves } }
+
+module _ (bearers : Bool) (by : Services) (e : by ≡ servicesOf bearers) (basic advanced : List ℕ) (os : Octets basic) (ps : Octets advanced) (m m′ : Memory)
+    (room room′ : List ℕ) (answer : MergeAnswer) (claim : MergeClaim by basic advanced m m′ room room′ answer) (o : MergeOutcome) (told : o ≡ mergeOutcome answer) where
+  pub merge-small : SmallMerge o
+  merge-small = outcome-is mergeOutcome _ _ (claim .answers) o told SmallMerge (told-merge-small (merge-told by (lentBy m room) basic advanced os ps))
+
+  pub merge-says : (a : ℕ) → a ≡ packedMerge o → MergesC (servicesOf bearers) basic advanced m m′ room room′ a
+  merge-says a h =
+      subst (λ x. MergesC x basic advanced m m′ room room′ a) e
+      (record {
+        answers = outcome-packed mergeOutcome _ _ (claim .answers) o told packedMerge a h;
+        leaves = record { answers = refl; writes = claim .writes; leaves = claim .leaves };
+      })
 
 -- ---- what an object needs: no more of a store than of a room, and of that no more than an object may have
 measured-small : (o : List ℕ) → Octets o → (t : Items) → judge o ≡ accepted t → SmallSizes (measuredOf t)

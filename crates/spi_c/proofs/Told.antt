@@ -2,17 +2,16 @@
 use mathlib.Core.Path.{_≡_, refl, subst}
 use mathlib.Core.Bool.{Bool, true, false, cond, _&&_}
 use mathlib.Core.Option.{Option, none, some}
-use mathlib.Core.List.{List, []}
-use Prim.Native.Nat.{ℕ, _+_, _*_, _/_, _%_, _≤_, _<_, min}
+use mathlib.Core.List.{List, [], _∷_}
+use Prim.Native.Nat.{ℕ, _≤_, _<_, min}
 use native.Mathlib.Omega.{arith}
-use native.Mathlib.Nat.{div-add-mod', mod-lt, div-lt-iff-lt-mul}
 use lib.Dec.{eqb, leb}
 use lib.ListN.{length}
 use borrow.Author.Tests.{ne-eqb, leb-true}
 use Rattle.octets.specs.declared.counts.Octets.{Octets as OctetCount}
-use Rattle.octets.specs.Counts.{sizeOf}
+use Rattle.octets.specs.Counts.{asOctets, sizeOf}
 use Rattle.octets.specs.Numbers.{Octets as AreOctets}
-use Rattle.octets.proofs.Tests.{and-left, and-right}
+use Rattle.octets.proofs.Tests.{and-left, and-right, never}
 use Rattle.format.specs.declared.Refusal.{Refusal}
 use Rattle.format.specs.declared.Outcome.{Outcome}
 use Rattle.format.specs.declared.SameOutcome.{SameOutcome}
@@ -22,9 +21,9 @@ use Rattle.format.specs.declared.SameAnswer.the-variants.{Same, Different}
 use Rattle.format.specs.Answers.{refusal, readOutcome, editOutcome, writeOutcome, sameOutcome}
 use Rattle.format.specs.Tree.{Items, count}
 use Rattle.format.specs.Headers.{headersOf}
-use Rattle.format.specs.Judge.{Judged, rule, unless, outermost, read, judge}
+use Rattle.format.specs.Judge.{Judged, rule, first, unless, outermost, read, judge}
 use Rattle.format.specs.Judge.Judged.{refused, accepted}
-use Rattle.format.specs.Meaning.{means, meaningOf, encode, normalOf}
+use Rattle.format.specs.Meaning.{Meaning, means, meaningOf, encode, normalOf}
 use Rattle.format.specs.Loaded.{storeOf}
 use Rattle.format.specs.Calls.{countsOf, judgeAnswer, readAnswer, editAnswer, roomy, writeAnswer, Lent, storedWithin, fitsLent, misfit, normalAnswer}
 use Rattle.format.specs.Same.{sameMeaning, sameAnswer}
@@ -52,12 +51,19 @@ use Rattle.pocket.specs.declared.DataType.{DataType}
 use Rattle.pocket.specs.Gate.{offends, gateAnswer, gateOutcome, gateOf}
 use Rattle.fold.specs.declared.CheckAnswer.the-variants.{Passes, Fails}
 use Rattle.fold.specs.Calls.{passes, checkAnswer, checkOutcome, packAnswer}
+use Rattle.merge.specs.declared.Services.{Services}
+use Rattle.merge.specs.declared.MergeOutcome.{MergeOutcome}
+use Rattle.merge.specs.Merged.{merged}
+use Rattle.merge.specs.Sizes.{recordsIn}
+use Rattle.merge.specs.Calls.{conflict, misfit as mergeMisfit, unlessRefused, mergedInto, outcome, answerOf, refusedAs, mergeOutcome}
+use Rattle.merge.specs.Calls.Outcome.{gives}
+use Rattle.merge.proofs.Results.{small, merge-result}
 use Rattle.xml.specs.Xml.{xml}
 use Rattle.xml.specs.Named.{plainAt}
 use Rattle.xml.specs.Export.{unlessPlain, exportOf, exportAnswer}
 use Rattle.xml.proofs.NamedOnly.{plain-inside}
-use Rattle.spi_c.specs.Packed.{packed, packedOutcome, outcomeIn, packedSame, sameIn, Small, SmallSame}
-use Rattle.spi_c.proofs.Packing.{packed-number, packed-object, packed-field, packed-value}
+use Rattle.spi_c.specs.Packed.{packed, numberIn, objectIn, fieldIn, valueIn, packedOutcome, outcomeIn, packedSame, sameIn, packedMerge, mergeIn, Small, SmallSame, SmallMerge}
+use Rattle.spi_c.proofs.Packing.{packed-number, packed-object, packed-field, packed-value, counts-number, counts-second, counts-first}
 
 -- what every refusal of a call is
 pub record Kept (r : Refusal) : Type 0 where
@@ -65,6 +71,29 @@ pub record Kept (r : Refusal) : Type 0 where
   pub most : r .number ≤ 24
   pub place : r .place ≤ 32_768
   pub field : r .field ≤ 5
+
+-- a refusal, of the object of that number, is read back
+module _ (w : ℕ) (r : Refusal) (l : w < 0x100) (k : Kept r) where
+  low : r .field < 0x100
+  low = omega (arith, k .field)
+
+  near : r .place < 0x100_0000_0000
+  near = omega (arith, k .place)
+
+  refusal-numbered : eqb (r .number) 0 ≡ false
+  refusal-numbered = ne-eqb (r .number) 0 (λ z. omega (arith, k .least))
+
+  refusal-number : numberIn (packed (r .number) w (r .field) (r .place)) ≡ r .number
+  refusal-number = packed-number (r .number) w (r .field) (r .place) l low near
+
+  refusal-object : objectIn (packed (r .number) w (r .field) (r .place)) ≡ w
+  refusal-object = packed-object (r .number) w (r .field) (r .place) l low near
+
+  refusal-field : fieldIn (packed (r .number) w (r .field) (r .place)) ≡ r .field
+  refusal-field = packed-field (r .number) w (r .field) (r .place) l low near
+
+  refusal-place : valueIn (packed (r .number) w (r .field) (r .place)) ≡ r .place
+  refusal-place = packed-value (r .number) w (r .field) (r .place) l low near
 
 -- the outcomes that calls have: a count and no refusal, or a refusal and no count
 pub data Told : Outcome → Type 0 where
@@ -78,16 +107,11 @@ told-small (refuses r k) = record { place = omega arith; count = omega arith; it
 -- number, place, field, count and items are read back
 pub told-back : {o : Outcome} → Told o → outcomeIn (packedOutcome o) ≡ o
 unfolding packedOutcome outcomeIn
-told-back (counts n i l m) =
-    let upper : i / 0x100 < 0x100 = div-lt-iff-lt-mul {k = 0x100} {x = i} {y = 0x100} (omega arith) .1 (omega arith) in
-    let lower : i % 0x100 < 0x100 = mod-lt i (omega arith) in
-    let both : i / 0x100 * 0x100 + i % 0x100 ≡ i = div-add-mod' i 0x100 in
-    rw (packed-number 0 (i / 0x100) (i % 0x100) n upper lower l, packed-object 0 (i / 0x100) (i % 0x100) n upper lower l, packed-field 0 (i / 0x100) (i % 0x100) n upper lower l, packed-value 0 (i / 0x100) (i % 0x100) n upper lower l, both)
+told-back (counts n i l m) = rw (counts-number i n m l, counts-second i n m l, counts-first i n m l)
 told-back (refuses r k) =
-    let e = ne-eqb (r .number) 0 (λ z. omega arith) in
-    let low : r .field < 0x100 = omega (arith, k .field) in
-    let fits : r .place < 0x100_0000_0000 = omega (arith, k .place) in
-    rw (e, packed-number (r .number) 0 (r .field) (r .place) (omega arith) low fits, packed-field (r .number) 0 (r .field) (r .place) (omega arith) low fits, packed-value (r .number) 0 (r .field) (r .place) (omega arith) low fits, e)
+    let none : 0 < 0x100 = omega arith in
+    let e = refusal-numbered 0 r none k in
+    rw (e, refusal-number 0 r none k, refusal-field 0 r none k, refusal-place 0 r none k, e)
 
 -- the same of a comparison
 pub data ToldSame : SameOutcome → Type 0 where
@@ -106,16 +130,30 @@ same-refused : (w : ℕ) (r : Refusal) → w < 0x100 → Kept r
     → sameIn (packedSame (record { same = false; which = w; number = r .number; place = r .place; field = r .field })) ≡ record { same = false; which = w; number = r .number; place = r .place; field = r .field }
 unfolding packedSame sameIn
 same-refused w r l k =
-    let e = ne-eqb (r .number) 0 (λ z. omega arith) in
-    let low : r .field < 0x100 = omega (arith, k .field) in
-    let fits : r .place < 0x100_0000_0000 = omega (arith, k .place) in
-    rw (e, packed-refusal (r .number) w (r .field) (r .place) (k .least), packed-object (r .number) w (r .field) (r .place) l low fits, packed-number (r .number) w (r .field) (r .place) l low fits, packed-field (r .number) w (r .field) (r .place) l low fits, packed-value (r .number) w (r .field) (r .place) l low fits, e)
+    let e = refusal-numbered w r l k in
+    rw (e, packed-refusal (r .number) w (r .field) (r .place) (k .least), refusal-object w r l k, refusal-number w r l k, refusal-field w r l k, refusal-place w r l k, e)
 
 pub told-same-back : {o : SameOutcome} → ToldSame o → sameIn (packedSame o) ≡ o
 unfolding packedSame sameIn packed
 told-same-back (decides false) = refl
 told-same-back (decides true) = refl
 told-same-back (refuses w r l k) = same-refused w r l k
+
+-- the same of merging
+pub data ToldMerge : MergeOutcome → Type 0 where
+  counts : (n s : ℕ) → n < 0x1_0000 → s < 0x100_0000_0000 → ToldMerge (record { which = 0; number = 0; place = 0; field = 0; records = n; size = asOctets s })
+  refuses : (w : ℕ) (r : Refusal) → w < 0x100 → Kept r → ToldMerge (refusedAs w r)
+
+pub told-merge-small : {o : MergeOutcome} → ToldMerge o → SmallMerge o
+told-merge-small (counts n s l m) = record { place = omega arith; records = l; size = m }
+told-merge-small (refuses w r l k) = record { place = omega arith; records = omega arith; size = omega arith }
+
+pub told-merge-back : {o : MergeOutcome} → ToldMerge o → mergeIn (packedMerge o) ≡ o
+unfolding packedMerge mergeIn
+told-merge-back (counts n s l m) = rw (counts-number n s l m, counts-second n s l m, counts-first n s l m)
+told-merge-back (refuses w r l k) =
+    let e = refusal-numbered w r l k in
+    rw (e, refusal-number w r l k, refusal-object w r l k, refusal-field w r l k, refusal-place w r l k, e)
 
 -- ---- an object: rule 1 bounds its size, and with it places and counts
 module _ (o : List ℕ) where
@@ -304,3 +342,44 @@ pack-told room (some p) = go (roomy room p) refl
     go : (b : Bool) → roomy room p ≡ b → Told (writeOutcome (cond b (Octets (sizeOf p)) (NotWritten (refusal 15 0))))
     go true e = counts (length p) 0 (omega (arith, roomy-small room p e)) (omega arith)
     go false e = refuses (refusal 15 0) (late-refusal 15 (omega arith) (omega arith))
+
+-- ---- merge
+two-rules : (a b : ℕ) (x y : Bool) (r : Refusal) → Kept (refusal a 0) → Kept (refusal b 0) → first (rule a 0 x ∷ rule b 0 y ∷ []) ≡ some r → Kept r
+unfolding first rule
+two-rules a b false y r k l h = let e : refusal a 0 ≡ r = cc in subst (λ q. Kept q) e k
+two-rules a b true false r k l h = let e : refusal b 0 ≡ r = cc in subst (λ q. Kept q) e l
+two-rules a b true true r k l h = never (cc)
+
+conflict-kept : (by : Services) (m n : Meaning) (r : Refusal) → conflict by m n ≡ some r → Kept r
+unfolding conflict
+conflict-kept by m n r h = two-rules 20 21 _ _ r (late-refusal 20 (omega arith) (omega arith)) (late-refusal 21 (omega arith) (omega arith)) h
+
+misfit-kept : (lent : Lent) (m : Meaning) (r : Refusal) → mergeMisfit lent m ≡ some r → Kept r
+unfolding mergeMisfit
+misfit-kept lent m r h = two-rules 14 15 _ _ r (late-refusal 14 (omega arith) (omega arith)) (late-refusal 15 (omega arith) (omega arith)) h
+
+module _ (by : Services) (lent : Lent) (o p : List ℕ) (os : AreOctets o) (ps : AreOctets p) where
+  -- the result is an object, so its records are few
+  gives-told : (w : Meaning) → outcome by lent (judge o) (judge p) ≡ gives w → ToldMerge (mergeOutcome (answerOf (gives w)))
+  unfolding answerOf
+  gives-told w h =
+      let result = merge-result by lent o p w os ps h in
+      let again = result .again in
+      counts (recordsIn w) (length (encode w)) (omega (arith, accepted-few (encode w) (again .tree) (again .accepts), again .records)) (omega (arith, small lent w (result .both .fits)))
+
+  pair-told : (t u : Items) → judge o ≡ accepted t → judge p ≡ accepted u → (c f : Option Refusal) → conflict by (meaningOf t) (meaningOf u) ≡ c
+      → mergeMisfit lent (merged by (meaningOf t) (meaningOf u)) ≡ f
+      → ToldMerge (mergeOutcome (answerOf (unlessRefused c (unlessRefused f (gives (merged by (meaningOf t) (meaningOf u)))))))
+  unfolding outcome mergedInto unlessRefused answerOf
+  pair-told t u h g (some r) f e k = refuses 0 r (omega arith) (conflict-kept by (meaningOf t) (meaningOf u) r e)
+  pair-told t u h g none (some r) e k = refuses 0 r (omega arith) (misfit-kept lent (merged by (meaningOf t) (meaningOf u)) r k)
+  pair-told t u h g none none e k = gives-told (merged by (meaningOf t) (meaningOf u)) (rw (h, g, e, k))
+
+  merge-cases : (i j : Judged) → judge o ≡ i → judge p ≡ j → ToldMerge (mergeOutcome (answerOf (outcome by lent i j)))
+  unfolding outcome mergedInto answerOf
+  merge-cases (refused r) j h g = refuses 1 r (omega arith) (judged-kept o r h)
+  merge-cases (accepted t) (refused r) h g = refuses 2 r (omega arith) (judged-kept p r g)
+  merge-cases (accepted t) (accepted u) h g = pair-told t u h g _ _ refl refl
+
+  pub merge-told : ToldMerge (mergeOutcome (answerOf (outcome by lent (judge o) (judge p))))
+  merge-told = merge-cases (judge o) (judge p) refl refl

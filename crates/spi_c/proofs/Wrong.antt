@@ -27,11 +27,14 @@ use Rattle.pocket.specs.Table.{dataType}
 use Rattle.pocket.specs.Gate.{gateOutcome, gateOf}
 use Rattle.fold.specs.Packed.{packed as foldedObject}
 use Rattle.fold.specs.Calls.{checkAnswer, checkOutcome, packAnswer}
+use Rattle.merge.specs.declared.Services.{Services}
+use Rattle.merge.specs.declared.MergeAnswer.the-variants.{Merged, BasicRefused, AdvancedRefused, NotMerged}
+use Rattle.merge.specs.Calls.{outcome, answerOf, mergeOutcome}
 use Rattle.xml.specs.Export.{exportOf, exportAnswer}
-use Rattle.spi_c.specs.Packed.{packed, packedOutcome, outcomeIn, packedSame, sameIn, packedSpan, packedSizes, spanIn}
-use Rattle.spi_c.specs.Claims.{ReadsC, ScansC, SpansC, WritesC, NormalisesC, TakesInC, EditsC, WritesStateC, GatesC, SameC, roomFor, ExportsC, ChecksPackedC, PacksC, packedNeeds, SizesC}
+use Rattle.spi_c.specs.Packed.{packed, packedOutcome, outcomeIn, packedSame, sameIn, packedMerge, mergeIn, packedSpan, packedSizes, spanIn}
+use Rattle.spi_c.specs.Claims.{ReadsC, ScansC, SpansC, WritesC, NormalisesC, TakesInC, EditsC, WritesStateC, GatesC, SameC, roomFor, ExportsC, ChecksPackedC, PacksC, packedNeeds, SizesC, MergesC}
 use Rattle.spi_c.proofs.Packing.{span-back}
-use Rattle.spi_c.proofs.Told.{told-back, told-same-back, read-told, scan-told, write-told, normal-told, taken-told, edit-told, same-told, gate-told, export-told, check-told, pack-told}
+use Rattle.spi_c.proofs.Told.{told-back, told-same-back, told-merge-back, read-told, scan-told, write-told, normal-told, taken-told, edit-told, same-told, gate-told, export-told, check-told, pack-told, merge-told}
 use Rattle.spi_c.proofs.Calls.{span-small}
 
 -- ---- each call's number, read back
@@ -78,6 +81,10 @@ check-packed-back normal proposed a c = ap outcomeIn (c .answers) ∙ told-back 
 pub pack-back : (object before after : List ℕ) (a : ℕ) → PacksC object before after a → outcomeIn a ≡ writeOutcome (packAnswer (sizeOf before) (foldedObject object))
 pack-back object before after a c = ap outcomeIn (c .answers) ∙ told-back (pack-told (sizeOf before) (foldedObject object))
 
+pub merge-back : (by : Services) (basic advanced : List ℕ) → Octets basic → Octets advanced → (m m′ : Memory) (room room′ : List ℕ) (a : ℕ)
+    → MergesC by basic advanced m m′ room room′ a → mergeIn a ≡ mergeOutcome (answerOf (outcome by (lentBy m room) (judge basic) (judge advanced)))
+merge-back by basic advanced os ps m m′ room room′ a c = ap mergeIn (c .answers) ∙ told-merge-back (merge-told by (lentBy m room) basic advanced os ps)
+
 -- ---- what an object needs: of one that is refused, something; store and normal form exchanged; nothing told where the normal form is too long
 pub needs-refused : (object : List ℕ) (r : Refusal) → judge object ≡ refused r → SizesC object 2 → ⊥
 unfolding packedNeeds neededOf
@@ -121,6 +128,23 @@ refusal-different e = omega arith
 pub same-different : packedSame (sameOutcome Same) ≡ packedSame (sameOutcome Different) → ⊥
 unfolding packedSame packed
 same-different e = omega arith
+
+-- ---- of merging: Basic named for Advanced, or for both together; the records of memory left out, or told as octets of the room
+pub basic-named : packedMerge (mergeOutcome (AdvancedRefused (refusal 2 0))) ≡ packedMerge (mergeOutcome (BasicRefused (refusal 2 0))) → ⊥
+unfolding packedMerge packed
+basic-named e = omega arith
+
+pub both-named : packedMerge (mergeOutcome (NotMerged (refusal 20 0))) ≡ packedMerge (mergeOutcome (BasicRefused (refusal 20 0))) → ⊥
+unfolding packedMerge packed
+both-named e = omega arith
+
+pub records-left-out : packedMerge (mergeOutcome (Merged 3 (asOctets 8))) ≡ 8 → ⊥
+unfolding packedMerge packed
+records-left-out e = omega arith
+
+pub records-as-octets : packedMerge (mergeOutcome (Merged 3 (asOctets 8))) ≡ packedMerge (mergeOutcome (Merged 8 (asOctets 3))) → ⊥
+unfolding packedMerge packed
+records-as-octets e = omega arith
 
 -- ---- the field of a time left out; the field told as part of the place
 pub field-left-out : packedOutcome (readOutcome (NotRead (wrongValue 412 3))) ≡ packedOutcome (readOutcome (NotRead (refusal 9 412))) → ⊥

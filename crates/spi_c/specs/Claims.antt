@@ -1,5 +1,6 @@
 -- What each call for C answers, and what each lent list then holds: the claims of format's calls, with the answer as one number.
 use mathlib.Core.Path.{_≡_}
+use mathlib.Core.Bool.{Bool, true, false}
 use mathlib.Core.List.{List}
 use Prim.Native.Nat.{ℕ, min}
 use lib.ListN.{length}
@@ -19,11 +20,14 @@ use Rattle.pocket.specs.Table.{dataType}
 use Rattle.pocket.specs.Gate.{gateOf, gateOutcome}
 use Rattle.fold.specs.Packed.{packed as foldedObject}
 use Rattle.fold.specs.Calls.{checkAnswer, checkOutcome, packAnswer, PackClaim}
+use Rattle.merge.specs.declared.Services.{Services}
+use Rattle.merge.specs.declared.Services.the-variants.{ByTag, ByBearers}
+use Rattle.merge.specs.Calls.{outcome, answerOf, MergeClaim, mergeOutcome}
 use Rattle.xml.specs.Export.{exportOf, exportAnswer, exportOctets}
 use Rattle.survey.specs.declared.Needed.{Needed}
 use Rattle.survey.specs.declared.Needed.the-variants.{Refused, Takes}
 use Rattle.survey.specs.Survey.{neededOf}
-use Rattle.spi_c.specs.Packed.{packedOutcome, packedSame, packedSpan, packedSizes}
+use Rattle.spi_c.specs.Packed.{packedOutcome, packedSame, packedMerge, packedSpan, packedSizes}
 
 pub record ReadsC (object : List ℕ) (before after : Lists) (a : ℕ) : Type 0 where
   pub answers : a ≡ packedOutcome (readOutcome (readAnswer (places before) (headersOf object) (judge object)))
@@ -89,3 +93,12 @@ pub record ChecksPackedC (normal packed : List ℕ) (a : ℕ) : Type 0 where
 pub record PacksC (object before after : List ℕ) (a : ℕ) : Type 0 where
   pub answers : a ≡ packedOutcome (writeOutcome (packAnswer (sizeOf before) (foldedObject object)))
   pub leaves : PackClaim object before after (packAnswer (sizeOf before) (foldedObject object))
+
+-- merging two objects (request 2026-10); by what services are told apart is a flag
+abbrev pub servicesOf : (bearers : Bool) → Services
+servicesOf true = ByBearers
+servicesOf false = ByTag
+
+pub record MergesC (by : Services) (basic advanced : List ℕ) (m m′ : Memory) (room room′ : List ℕ) (a : ℕ) : Type 0 where
+  pub answers : a ≡ packedMerge (mergeOutcome (answerOf (outcome by (lentBy m room) (judge basic) (judge advanced))))
+  pub leaves : MergeClaim by basic advanced m m′ room room′ (answerOf (outcome by (lentBy m room) (judge basic) (judge advanced)))

@@ -2,14 +2,17 @@
 use mathlib.Core.Bool.{cond}
 use Prim.Native.Nat.{ℕ, _+_, _*_, _/_, _%_, _<_}
 use lib.Dec.{eqb}
+use Rattle.octets.specs.Counts.{asOctets}
 use Rattle.format.specs.declared.Outcome.{Outcome}
 use Rattle.format.specs.declared.SameOutcome.{SameOutcome}
 use Rattle.format.specs.declared.Span.{Span}
 use Rattle.survey.specs.declared.measure.Measured.{Measured}
 use Rattle.survey.specs.declared.measure.Measured.the-variants.{Over, Sizes}
+use Rattle.merge.specs.declared.MergeOutcome.{MergeOutcome}
 
--- bits 63 to 56: the number of a refusal, 0 for none; 55 to 48: the object that is refused, told by `same` alone; 47 to 40: the field of a time that is wrong, told by 9
--- alone (change request 2026-04); 39 to 0: a place or a count. Where nothing is refused, bits 55 to 40 have the number of items that reading judged (2026-09)
+-- bits 63 to 56: the number of a refusal, 0 for none; 55 to 48: the object that is refused, told by `same` and `merge` alone; 47 to 40: the field of a time that
+-- is wrong, told by 9 alone (change request 2026-04); 39 to 0: a place or a count. Where nothing is refused, bits 55 to 40 have a second count: of reading the
+-- number of items judged (2026-09), of merging that of the records in memory (2026-10)
 unfoldable pub packed : (number object field value : ℕ) → ℕ
 packed number object field value = number * 0x100_0000_0000_0000 + object * 0x1_0000_0000_0000 + field * 0x100_0000_0000 + value
 
@@ -25,16 +28,20 @@ fieldIn a = a / 0x100_0000_0000 % 0x100
 abbrev pub valueIn : ℕ → ℕ
 valueIn a = a % 0x100_0000_0000
 
-abbrev pub itemsIn : ℕ → ℕ
-itemsIn a = objectIn a * 0x100 + fieldIn a
+-- the second count and the first, where nothing is refused
+abbrev pub packedCounts : (second first : ℕ) → ℕ
+packedCounts second first = packed 0 (second / 0x100) (second % 0x100) first
+
+abbrev pub secondIn : ℕ → ℕ
+secondIn a = objectIn a * 0x100 + fieldIn a
 
 -- the place and the field of a refusal, or the count and the items where there is none
 unfoldable pub packedOutcome : Outcome → ℕ
-packedOutcome o = cond (eqb (o .number) 0) (packed 0 (o .items / 0x100) (o .items % 0x100) (o .count)) (packed (o .number) 0 (o .field) (o .place))
+packedOutcome o = cond (eqb (o .number) 0) (packedCounts (o .items) (o .count)) (packed (o .number) 0 (o .field) (o .place))
 
 unfoldable pub outcomeIn : ℕ → Outcome
 outcomeIn a =
-    let counts : Outcome = record { number = 0; place = 0; field = 0; count = valueIn a; items = itemsIn a } in
+    let counts : Outcome = record { number = 0; place = 0; field = 0; count = valueIn a; items = secondIn a } in
     let refuses : Outcome = record { number = numberIn a; place = valueIn a; field = fieldIn a; count = 0; items = 0 } in
     cond (eqb (numberIn a) 0) counts refuses
 
@@ -44,6 +51,16 @@ packedSame o = packed (o .number) (o .which) (o .field) (cond (eqb (o .number) 0
 
 unfoldable pub sameIn : ℕ → SameOutcome
 sameIn a = record { same = eqb a 1; which = objectIn a; number = numberIn a; place = cond (eqb (numberIn a) 0) 0 (valueIn a); field = fieldIn a }
+
+-- the place of a refusal, its field and the object that is refused, or the octets of the room and the records of memory where there is none (2026-10)
+unfoldable pub packedMerge : MergeOutcome → ℕ
+packedMerge o = cond (eqb (o .number) 0) (packedCounts (o .records) (o .size .0)) (packed (o .number) (o .which) (o .field) (o .place))
+
+unfoldable pub mergeIn : ℕ → MergeOutcome
+mergeIn a =
+    let merges : MergeOutcome = record { which = 0; number = 0; place = 0; field = 0; records = secondIn a; size = asOctets (valueIn a) } in
+    let refuses : MergeOutcome = record { which = objectIn a; number = numberIn a; place = valueIn a; field = fieldIn a; records = 0; size = asOctets 0 } in
+    cond (eqb (numberIn a) 0) merges refuses
 
 -- the start in the upper half, the size in the lower
 unfoldable pub packedSpan : Span → ℕ
@@ -65,6 +82,11 @@ pub record Small (o : Outcome) : Type 0 where
 
 pub record SmallSame (o : SameOutcome) : Type 0 where
   pub place : o .place < 0x100_0000_0000
+
+pub record SmallMerge (o : MergeOutcome) : Type 0 where
+  pub place : o .place < 0x100_0000_0000
+  pub records : o .records < 0x1_0000
+  pub size : o .size .0 < 0x100_0000_0000
 
 pub record SmallSpan (s : Span) : Type 0 where
   pub start : s .start < 0x1_0000_0000

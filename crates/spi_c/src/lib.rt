@@ -3,13 +3,15 @@ ghost use mathlib.Core.Path.{_≡_};
 ghost use Prim.Native.Nat.{_<_, min};
 ghost use Rattle.text.specs.Text.{text};
 ghost use Rattle.format.specs.Lent.{lent};
-ghost use Rattle.spi_c.specs.Packed.{packed, packedOutcome, packedSame, packedSpan, packedSizes, Small, SmallSame, SmallSpan, SmallSizes};
+ghost use Rattle.spi_c.specs.Packed.{packed, packedCounts, packedOutcome, packedSame, packedMerge, packedSpan, packedSizes, Small, SmallSame, SmallMerge, SmallSpan, SmallSizes};
 ghost use Rattle.state.specs.Taking.{memory};
 ghost use Rattle.edits.specs.Tree.Edit.{replace, remove, insert};
-ghost use Rattle.spi_c.specs.Claims.{ReadsC, ScansC, SpansC, WritesC, NormalisesC, TakesInC, EditsC, WritesStateC, GatesC, SameC, ExportsC, SizesC, ChecksPackedC, PacksC};
+ghost use Rattle.spi_c.specs.Claims.{ReadsC, ScansC, SpansC, WritesC, NormalisesC, TakesInC, EditsC, WritesStateC, GatesC, SameC, ExportsC, SizesC, ChecksPackedC, PacksC, servicesOf, MergesC};
 use format::Outcome;
 use format::SameOutcome;
 use format::Span;
+use merge::MergeOutcome;
+use merge::Services;
 use octets::Octets;
 use survey::Measured;
 use survey::Needed;
@@ -24,14 +26,23 @@ fn packed(number: u8, object: u8, field: u8, value: usize) -> u64
         + (value as u64)
 }
 
+// Where nothing is refused, a second count stands before the first, in the bits of the object and the field.
+fn packed_counts(second: usize, first: usize) -> u64
+    requires { ⌜ second < 0x1_0000 ⌝ }
+    requires { ⌜ first < 0x100_0000_0000 ⌝ }
+    ensures { λ r. ⌜ r ≡ packedCounts second first ⌝ }
+{
+    let upper = (second / 0x100) as u8;
+    let lower = (second % 0x100) as u8;
+    packed(0, upper, lower, first)
+}
+
 fn packed_outcome(o: Outcome) -> u64
     requires { ⌜ Small o ⌝ }
     ensures { λ r. ⌜ r ≡ packedOutcome o ⌝ }
 {
     if o.number == 0 {
-        let upper = (o.items / 0x100) as u8;
-        let lower = (o.items % 0x100) as u8;
-        return packed(0, upper, lower, o.count);
+        return packed_counts(o.items, o.count);
     }
     packed(o.number, 0, o.field, o.place)
 }
@@ -45,6 +56,16 @@ fn packed_same(o: SameOutcome) -> u64
             return packed(o.number, o.which, o.field, 1);
         }
         return packed(o.number, o.which, o.field, 0);
+    }
+    packed(o.number, o.which, o.field, o.place)
+}
+
+fn packed_merge(o: MergeOutcome) -> u64
+    requires { ⌜ SmallMerge o ⌝ }
+    ensures { λ r. ⌜ r ≡ packedMerge o ⌝ }
+{
+    if o.number == 0 {
+        return packed_counts(o.records, o.size.0);
     }
     packed(o.number, o.which, o.field, o.place)
 }
@@ -392,6 +413,51 @@ pub extern "C" fn spi_pack(normal: &[u8], room: &mut [u8]) -> u64
 {
     let answer = packer::pack(normal, room);
     packed_outcome(answer.outcome())
+}
+
+// By what the services of two ensembles are told apart: the ids of their bearers, or their tag alone.
+fn services(bearers: bool) -> Services
+    ensures { λ r. ⌜ r ≡ servicesOf bearers ⌝ }
+{
+    if bearers {
+        return Services::ByBearers;
+    }
+    Services::ByTag
+}
+
+// A Basic and an Advanced object merged: the normal form into `room`, and the seven lists and the store as taking that in leaves them.
+#[no_mangle]
+pub extern "C" fn spi_merge(
+    basic: &[u8],
+    advanced: &[u8],
+    bearers: bool,
+    tags: &mut [u8],
+    kinds: &mut [u8],
+    depths: &mut [u8],
+    parents: &mut [u16],
+    starts: &mut [u16],
+    sizes: &mut [u16],
+    bodies: &mut [u16],
+    store: &mut [u8],
+    room: &mut [u8],
+) -> u64
+    ensures { λ r. ⌜ MergesC (servicesOf bearers) (now (basic .entry)) (now (advanced .entry)) (memory (tags .entry) (kinds .entry) (depths .entry) (parents .entry) (starts .entry) (sizes .entry) (bodies .entry) (store .entry)) (memory (tags .exit) (kinds .exit) (depths .exit) (parents .exit) (starts .exit) (sizes .exit) (bodies .exit) (store .exit)) (now (room .entry)) (now (room .exit)) r ⌝ }
+{
+    let answer = merging::merge(
+        services(bearers),
+        basic,
+        advanced,
+        tags,
+        kinds,
+        depths,
+        parents,
+        starts,
+        sizes,
+        bodies,
+        store,
+        room,
+    );
+    packed_merge(answer.outcome())
 }
 
 // Whether octets are text, in which token octets may stand or not.
