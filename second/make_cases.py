@@ -883,8 +883,8 @@ def random_p(rng):
 
 RANDOM = {"L": random_l, "N": random_n, "W": random_w, "S": random_s, "X": random_x, "E": random_e, "G": random_g, "C": random_c,
           "F": random_f, "P": random_p, "J": random_j, "M": random_m}
-# The letters that are made and tried where none are named; M is added here when the library answers it.
-CASE_LETTERS = "LNWSXEGCFPJ"
+# The letters that are made and tried where none are named.
+CASE_LETTERS = "LNWSXEGCFPJM"
 
 
 def random_cases(seed, count, letters=CASE_LETTERS):

@@ -136,6 +136,7 @@ static bool is_kept(void)
 static size_t taken;         /* octets of the stream so far */
 static size_t data_type_given; /* by a G case */
 static size_t records_given; /* by a W case, whose lists may have more places */
+static size_t services_given; /* by an M case: told apart 0 by tag, 1 by bearers */
 
 static bool take_octets(uint8_t *into, size_t count)
 {
@@ -163,6 +164,11 @@ static bool take_count(void)
 static bool take_data_type(void)
 {
     return take_number(1, &data_type_given);
+}
+
+static bool take_services(void)
+{
+    return take_number(1, &services_given) && services_given <= 1;
 }
 
 static bool take_places(void)
@@ -205,12 +211,10 @@ static bool take_second_object(void)
     return take_size(SECOND) && take_octets(octets_of(SECOND), lent[SECOND].count);
 }
 
-/* Places for a tree that is edited. */
-static bool take_tree_places(void)
+/* A room that the stream does not tell of, since it is the same in every case. */
+static bool lend_whole_room(void)
 {
-    if (!take_places())
-        return false;
-    lend(BODIES, lent[TAGS].count);
+    lend(ROOM, SPI_MOST_OCTETS);
     return true;
 }
 
@@ -242,7 +246,6 @@ static bool take_edit(struct edit *edit)
     }
 }
 
-/* The room is for what is written behind the last of them. */
 static bool take_edits(void)
 {
     if (!take_number(1, &edit_count))
@@ -250,7 +253,6 @@ static bool take_edits(void)
     for (size_t i = 0; i < edit_count; i++)
         if (!take_edit(&edits[i]))
             return false;
-    lend(ROOM, SPI_MOST_OCTETS);
     return true;
 }
 
@@ -329,6 +331,11 @@ static uint64_t call_pack(void)
 static uint64_t call_export(void)
 {
     return spi_export(OCTETS(FIRST), OCTETS(ROOM));
+}
+
+static uint64_t call_merge(void)
+{
+    return spi_merge(OCTETS(FIRST), OCTETS(SECOND), services_given == 1, MEMORY, OCTETS(ROOM));
 }
 
 /* A call of a run has left what it had to leave, and the next one begins with what is there now. */
@@ -423,7 +430,6 @@ static void print_room(const char *word, size_t octets)
     printf("\n");
 }
 
-/* The answer tells the octets alone; the lists have as many records as `spi_read` counts. */
 /* What spi_sizes tells of the object is what normalising took; else the answer has a word that no other program says. */
 static void expect_sizes(size_t store, size_t normal)
 {
@@ -433,6 +439,7 @@ static void expect_sizes(size_t store, size_t normal)
         printf("missized\n");
 }
 
+/* The answer tells the octets alone; the lists have as many records as `spi_read` counts. */
 static void print_normal(uint64_t answer)
 {
     size_t octets = spi_value(answer);
@@ -450,6 +457,27 @@ static void print_written(uint64_t answer)
 
     hand_out(BODIES, records_given);
     print_room("written", octets);
+}
+
+/* Lists and store hold what the room has: they are written as that; else the answer has a word that no other program says. */
+static void expect_held(size_t records)
+{
+    static uint8_t room[SPI_MOST_OCTETS];
+    uint64_t written = spi_write_state(records, MEMORY, room, sizeof room);
+
+    if (written != lent[ROOM].handed || memcmp(room, octets_of(ROOM), lent[ROOM].handed) != 0)
+        printf("misheld\n");
+}
+
+static void print_merged(uint64_t answer)
+{
+    size_t records = spi_merged_records(answer), octets = spi_value(answer);
+
+    hand_out_lists(records);
+    hand_out(BODIES, records);
+    hand_out_store();
+    print_room("merged", octets);
+    expect_held(records);
 }
 
 static void print_xml(uint64_t answer)
@@ -545,7 +573,8 @@ static const struct letter letters[] = {
     {'G', {take_data_type, take_places, take_object}, call_gate, print_yes},
     {'F', {take_object, take_second_object}, call_check_packed, print_passes},
     {'P', {take_room, take_object}, call_pack, print_packed},
-    {'E', {take_tree_places, take_store, take_object, take_edits}, call_edits, print_edited},
+    {'E', {take_places, take_store, take_object, take_edits, lend_whole_room}, call_edits, print_edited},
+    {'M', {take_services, take_places, take_store, take_object, take_second_object, lend_whole_room}, call_merge, print_merged},
 };
 
 static const struct letter *find_letter(int letter)
