@@ -10,6 +10,7 @@ use lib.Dec.{leb}
 use mir.Syntax.{w64}
 use mir.Val.{Fits}
 use borrow.Author.Tests.{eq-eqb, ne-eqb, leb-true}
+use Rattle.octets.specs.declared.counts.Octets.{Octets as OctetCount}
 use Rattle.octets.specs.Counts.{sizeOf}
 use Rattle.octets.specs.declared.Lies.{Lies}
 use Rattle.octets.specs.declared.Lies.the-variants.{Between}
@@ -21,7 +22,7 @@ use Rattle.io.proofs.Counting.{counts}
 use Rattle.format.specs.declared.WriteAnswer.{WriteAnswer}
 use Rattle.format.specs.declared.WriteAnswer.the-variants.{Octets, NotWritten}
 use Rattle.format.specs.Answers.{writeOutcome, refusal}
-use Rattle.format.specs.State.{Memory, treeHeld}
+use Rattle.format.specs.State.{Memory, placesIn, treeHeld}
 use Rattle.state.specs.Taking.{NormaliseClaim, WriteStateClaim}
 use Rattle.format.specs.Tree.{Items}
 use Rattle.format.specs.Meaning.{means, encode}
@@ -31,6 +32,11 @@ use Rattle.fold.specs.Calls.{packAnswer, PackClaim}
 use Rattle.xml.specs.Export.{ExportClaim}
 use Rattle.xml.proofs.Objects.{export-inside}
 use Rattle.writer.proofs.Normalised.{written-inside}
+use Rattle.merge.specs.declared.Services.{Services}
+use Rattle.merge.specs.declared.MergeAnswer.{MergeAnswer}
+use Rattle.merge.specs.declared.MergeAnswer.the-variants.{Merged}
+use Rattle.merge.specs.Calls.{MergeClaim}
+use Rattle.merging.proofs.Deciding.{merge-size}
 use Rattle.spi.specs.Common.{common}
 use Rattle.spi.specs.declared.objects.Made.{Made}
 
@@ -72,7 +78,7 @@ module _ (a b : List ℕ) (i : ℕ) (v : Shared a b i) where
 
 pub ruleset shared-ways = (shared-begin, shared-first, shared-second, shared-differ, shared-again)
 
--- ---- a normal form, packed or not, and an XML
+-- ---- a normal form, packed, merged or neither, and an XML
 
 -- what is handed out lies in the room
 pub normal-within : (o : List ℕ) (m m′ : Memory) (room room′ : List ℕ) (answer : WriteAnswer) → NormaliseClaim o m m′ room room′ answer
@@ -113,6 +119,12 @@ state-within n m room room′ answer c e r q =
             → writeOutcome (cond b (Octets (sizeOf (encode (means [] t)))) (NotWritten (refusal 15 0))) .count ≤ length room
         go true h = omega (arith, leb-true (length (encode (means [] t))) (min (length room) 32_768) h)
         go false h = omega arith
+
+pub merged-within : (by : Services) (basic advanced : List ℕ) (m m′ : Memory) (room room′ : List ℕ) (answer : MergeAnswer) → MergeClaim by basic advanced m m′ room room′ answer
+    → length room′ ≡ length room → (records : ℕ) (size : OctetCount) → answer ≡ Merged records size → Counts (size .0) room′
+merged-within by basic advanced m m′ room room′ answer c e records size q =
+    let inside = merge-size by basic advanced (placesIn m) (sizeOf (m .store)) room room answer (record { answers = c .answers; leaves = refl }) records size q in
+    counts (size .0) room′ (omega (arith, e, inside))
 
 -- ---- items in a part
 

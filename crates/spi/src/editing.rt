@@ -1,5 +1,5 @@
-// An object that is edited (request 2026-06): each line of standard input is an edit, and the tree that is left is written. The edits are made in memory that is lent to
-// the library, and each is known to be made or to leave that memory as it was.
+// An object that is edited (request 2026-06): each line of standard input is an edit, and the tree that is left is written. The edits are made in memory that
+// is lent to the library, and each is known to be made or to leave that memory as it was.
 use crate::asking::Verb;
 use crate::asking::behind;
 use crate::asking::find;
@@ -35,7 +35,8 @@ pub struct Edited {
     pub records: usize,
 }
 
-// The octets that an edit brings, in a lent buffer: what is left of its line as it stands or as digits, or a file of that name. One that brings none has nothing left.
+// The octets that an edit brings, in a lent buffer: what is left of its line as it stands or as digits, or a file of that name. One that brings none has
+// nothing left.
 fn bring(word: &[u8], rest: &[u8], buf: &mut [u8]) -> Got
     ensures { λ r. ⌜ Counts (r .size .0) (now (buf .exit)) ⌝ }
 {

@@ -66,6 +66,13 @@ pub fn say_refused(path: &[u8], number: u8, place: usize, field: u8) -> u8 {
     BAD
 }
 
+// The line of two files that are refused together, and the status.
+pub fn say_both_refused(first: &[u8], second: &[u8], number: u8, place: usize, field: u8) -> u8 {
+    say(first);
+    say(b" and ");
+    say_refused(second, number, place, field)
+}
+
 // Which edit of a file a line is about.
 pub fn say_edit(path: &[u8], made: usize) {
     say(path);
@@ -131,18 +138,43 @@ pub fn packed_words(normal: Octets, words: &mut [u8]) -> usize
     end_of(show::put_bytes(words, behind, b" octets, packed"), words)
 }
 
-// What was made of an object and where it was written.
-pub fn say_saved(path: &[u8], size: Octets, made: &[u8], made_size: Octets, out: &[u8]) {
+// A file and its octets.
+fn say_file(path: &[u8], size: Octets) {
     say(path);
     say(b": ");
     say_octets(size);
+}
+
+// What was made, in words, and where it was written.
+fn say_written(made: &[u8], size: Octets, out: &[u8]) {
     say(b"; ");
     say(made);
     say(b": ");
-    say_octets(made_size);
+    say_octets(size);
     say(b", written to ");
     say(out);
     say(b"\n");
+}
+
+// What was made of an object and where it was written.
+pub fn say_saved(path: &[u8], size: Octets, made: &[u8], made_size: Octets, out: &[u8]) {
+    say_file(path, size);
+    say_written(made, made_size, out);
+}
+
+// The same of two objects that are merged.
+pub fn say_merged(
+    first: &[u8],
+    size: Octets,
+    second: &[u8],
+    second_size: Octets,
+    made_size: Octets,
+    out: &[u8],
+) {
+    say_file(first, size);
+    say(b"; ");
+    say_file(second, second_size);
+    say_written(b"normal form of both, merged", made_size, out);
 }
 
 // How many octets a normal form has. What is refused of an accepted object, to which all the memory is lent that it can need, has more than an object may have.
@@ -155,9 +187,7 @@ fn say_normal(made: Made) {
 }
 
 pub fn say_sizes(path: &[u8], size: Octets, records: usize, made: Made) {
-    say(path);
-    say(b": ");
-    say_octets(size);
+    say_file(path, size);
     say(b", ");
     say_number(records);
     say(b" records, normal form ");

@@ -1,13 +1,15 @@
-// The command for people: checks objects in files, also for the small receiver, lists their records, shows their items, writes their normal form, packed or not,
-// or XML, edits one, compares two. The script ./spi builds it and runs it, once a pair of files where two folders are compared; a recording is replayed by the
-// program replay.
+// The command for people: checks objects in files, also for the small receiver, lists their records, shows their items, writes their normal form, packed or
+// not, or XML, edits one, compares two, merges two. The script ./spi builds it and runs it, once a pair of files where two folders are compared; a recording is
+// replayed by the program replay.
 //
-// What is said of an object is proved where it is found, in `judge`, `reader`, `pocket`, `compare`, `packer`, `edits`, `writer`, `xml` and `show`; here every
-// function is safe and ends. A program has no exit status, so the last line on standard output is a status of its own, which the script takes away and ends with.
+// What is said of an object is proved where it is found, in `judge`, `reader`, `pocket`, `compare`, `packer`, `edits`, `merging`, `writer`, `xml` and `show`;
+// here every function is safe and ends. A program has no exit status, so the last line on standard output is a status of its own, which the script takes away
+// and ends with.
 mod asking;
 mod comparing;
 mod editing;
 mod files;
+mod joining;
 mod lines;
 mod memory;
 mod objects;
@@ -20,6 +22,8 @@ use crate::editing::edited_form;
 use crate::files::load_argument;
 use crate::files::load_input;
 use crate::files::save;
+use crate::joining::basic_argument;
+use crate::joining::merge_with;
 use crate::lines::edited_words;
 use crate::lines::packed_words;
 use crate::lines::say;
@@ -41,7 +45,9 @@ use crate::status::FAILED;
 use crate::status::GOOD;
 use crate::status::worse;
 use crate::words::is_word;
+use crate::words::shared;
 use libc::STDERR_FILENO;
+use merge::Services;
 use octets::Octets;
 use pocket::DataType;
 
@@ -56,6 +62,7 @@ enum Task {
     Xml,
     Edit,
     Compare,
+    Merge(Services),
 }
 
 fn usage(text: &[u8]) -> u8 {
@@ -66,7 +73,9 @@ fn usage(text: &[u8]) -> u8 {
 }
 
 fn usage_of_all() -> u8 {
-    usage(b"check | gate | list | show | normal | pack | xml | edit | compare | replay | help")
+    usage(
+        b"check | gate | list | show | normal | pack | xml | edit | compare | merge | replay | help",
+    )
 }
 
 fn help_edit() {
@@ -89,6 +98,19 @@ fn help_edit() {
     );
 }
 
+fn help_merge() {
+    say(
+        b"spi merge [--services-by-bearers] BASIC ADVANCED OUT   merges two objects and writes the normal form of the result to OUT:\n",
+    );
+    say(
+        b"  without the option              services are told apart by their tag alone: an ensemble has one then, and one that has more is refused\n",
+    );
+    say(
+        b"  --services-by-bearers           services are told apart by the set of their bearers' ids, as a multiplex with several services needs\n",
+    );
+    say(b"  Where a file is refused, or the two can't be merged, OUT isn't written.\n");
+}
+
 fn help() -> u8 {
     say(
         b"spi check FILE..        for each file: ok, its records, items, octets and those of its normal form, or why it is refused and where\n",
@@ -108,6 +130,7 @@ fn help() -> u8 {
     help_edit();
     say(b"spi compare FILE FILE   whether two objects mean the same\n");
     say(b"spi compare DIR DIR     the same of the objects in two folders, by file name\n");
+    help_merge();
     say(
         b"spi replay FILE         for each object of a recording: its number, ok and its records, or its refusal, place and of 9 the field\n",
     );
@@ -215,6 +238,7 @@ fn treat(task: Task, path: &[u8], object: &[u8]) -> u8 {
         Task::Xml => save_xml(path, object),
         Task::Edit => save_edited(path, object),
         Task::Compare => compare_with(path, object),
+        Task::Merge(by) => merge_with(by, path, object),
     }
 }
 
@@ -273,6 +297,33 @@ fn gate_all(count: usize) -> u8 {
     }
 }
 
+// By what services are told apart, as the word before the files says.
+fn services_asked() -> Services {
+    let mut word = io::buffer();
+    let n = os::arg(2, &mut word);
+    if is_word(&word[..n], b"--services-by-bearers") {
+        return Services::ByBearers;
+    }
+    Services::ByTag
+}
+
+// A word with two dashes is an option, so that one that isn't known, or stands behind the files, doesn't pass as the name of a file.
+fn is_option(i: usize) -> bool {
+    let mut word = io::buffer();
+    let n = os::arg(i, &mut word);
+    shared(&word[..n], b"--") == 2
+}
+
+fn merge_files(count: usize) -> u8 {
+    let by = services_asked();
+    let first = basic_argument(by);
+    let strange = is_option(first) | is_option(first + 1) | is_option(first + 2);
+    if strange | (count != first + 3) {
+        return usage(b"merge [--services-by-bearers] BASIC ADVANCED OUT");
+    }
+    treat_argument(Task::Merge(by), first)
+}
+
 fn no_such_command(command: &[u8]) -> u8 {
     io::write_all(STDERR_FILENO, b"spi: no such command: ");
     io::write_all(STDERR_FILENO, command);
@@ -320,6 +371,9 @@ fn obey(command: &[u8], count: usize) -> u8 {
     }
     if is_word(command, b"compare") {
         return treat_first(Task::Compare, count == 4, b"compare FILE FILE, or DIR DIR");
+    }
+    if is_word(command, b"merge") {
+        return merge_files(count);
     }
     if is_word(command, b"help") {
         return help();

@@ -1,5 +1,5 @@
-// The memory that the program lends. An object has at most 32,768 octets, and an item at least 2, so there is a place for each record; the store of a normal form
-// is no larger than the normal form.
+// The memory that the program lends. An object has at most 32,768 octets, and an item at least 2, so there is a place for each record; the store of a normal
+// form is no larger than the normal form.
 ghost use mathlib.Core.Path.{_≡_};
 ghost use lib.ListN.{length};
 
@@ -13,7 +13,7 @@ const TEXT: usize = 655_360;
 
 const PLACES: usize = 16_384;
 
-// A tree that is edited has at most two records for each octet of its normal form.
+// A tree that is edited has at most two records for each octet of its normal form, and what two objects are merged into no more than both have.
 const TREE_PLACES: usize = 65_536;
 
 // The lines of edits.

@@ -1,4 +1,5 @@
-// An accepted object's known items as an indented tree, a line each: the place of the item's tag, its name and its value as the XML has them, plain octets in hexadecimal.
+// An accepted object's known items as an indented tree, a line each: the place of the item's tag, its name and its value as the XML has them, plain octets in
+// hexadecimal.
 //
 // A value is put in pieces, since a text may be longer than any memory that is lent: each octet of it stands for itself or for the text of its token.
 use crate::lines::end_of;
@@ -17,8 +18,8 @@ ghost use lib.ListN.{length};
 // The longest beginning of a line: a place, the blanks of 16 levels, and a name of 18 octets.
 const LINE: usize = 64;
 
-// So many octets of a body are put at once. Each stands for at most 255, and each of these takes at most six, so a room of 24,480 octets suffices. No time, bearer or
-// number has as many, so these are put whole.
+// So many octets of a body are put at once. Each stands for at most 255, and each of these takes at most six, so a room of 24,480 octets suffices. No time,
+// bearer or number has as many, so these are put whole.
 const PIECE: usize = 16;
 
 // What a line shows of an item.
