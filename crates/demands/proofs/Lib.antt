@@ -16,3 +16,4 @@ pub mod Lengths
 pub mod Shortest
 pub mod Recordings
 pub mod Packing
+pub mod Merging

@@ -1,6 +1,6 @@
 -- Only one answer: each claim gives an equation for the answer and one for each lent thing, and two things that equal a third are equal.
 use mathlib.Core.Path.{sym, _∙_}
-use Rattle.demands.specs.Only.{OneAnswer, OneRead, OneReadAtMost, OneReadRecords, OneWrite, OneNormalise, OneTakeIn, OneEdit, OneWriteState, OneExport, OnePack, OnePut, OneMarks, OneWidths, OneShows, OneIndex, OneReadC, OneSizesC, OneSpanC, OneWriteC, OneNormaliseC, OneTakeInC, OneEditC, OneWriteStateC, OneScanC, OneGateC, OneSameC, OneExportC, OneCheckPackedC, OnePackC}
+use Rattle.demands.specs.Only.{OneAnswer, OneRead, OneReadAtMost, OneReadRecords, OneWrite, OneNormalise, OneTakeIn, OneEdit, OneWriteState, OneExport, OneMerge, OnePack, OnePut, OneMarks, OneWidths, OneShows, OneIndex, OneReadC, OneSizesC, OneSpanC, OneWriteC, OneNormaliseC, OneTakeInC, OneEditC, OneWriteStateC, OneScanC, OneGateC, OneSameC, OneExportC, OneCheckPackedC, OnePackC, OneMergeC}
 use Rattle.text.proofs.Index.{one-index as index-alone}
 use Rattle.text.proofs.WeighLaws.{marks-one, widths-one, shows-one}
 
@@ -45,6 +45,13 @@ one-write-state n m before one other answer answer′ c d = (one-answer _ _ answ
 
 pub one-export : OneExport
 one-export object before one other answer answer′ c d = (one-answer _ _ answer answer′ (c .answers) (d .answers), one-answer _ _ one other (c .leaves) (d .leaves))
+
+pub one-merge : OneMerge
+one-merge by basic advanced memory oneMemory otherMemory room oneRoom otherRoom answer answer′ c d = (
+  one-answer _ _ answer answer′ (c .answers) (d .answers),
+  one-answer _ _ oneMemory otherMemory (c .leaves) (d .leaves),
+  one-answer _ _ oneRoom otherRoom (c .writes) (d .writes),
+)
 
 pub one-pack : OnePack
 one-pack object before one other answer answer′ c d = (one-answer _ _ answer answer′ (c .answers) (d .answers), one-answer _ _ one other (c .leaves) (d .leaves))
@@ -113,3 +120,10 @@ one-check-packed-c form proposed answer answer′ c d = one-answer _ _ answer an
 
 pub one-pack-c : OnePackC
 one-pack-c object before one other answer answer′ c d = (one-answer _ _ answer answer′ (c .answers) (d .answers), one-answer _ _ one other (c .leaves .leaves) (d .leaves .leaves))
+
+pub one-merge-c : OneMergeC
+one-merge-c by basic advanced memory oneMemory otherMemory room oneRoom otherRoom answer answer′ c d = (
+  one-answer _ _ answer answer′ (c .answers) (d .answers),
+  one-answer _ _ oneMemory otherMemory (c .leaves .leaves) (d .leaves .leaves),
+  one-answer _ _ oneRoom otherRoom (c .leaves .writes) (d .leaves .writes),
+)

@@ -14,3 +14,4 @@ pub mod Lengths
 pub mod Shortest
 pub mod Recordings
 pub mod Packing
+pub mod Merging

@@ -19,9 +19,12 @@ use Rattle.format.specs.State.{Memory}
 use Rattle.state.specs.Taking.{WriteClaim, NormaliseClaim, TakeInClaim, WriteStateClaim}
 use Rattle.edits.specs.Tree.{Edit}
 use Rattle.edits.specs.Calls.{EditClaim}
+use Rattle.merge.specs.declared.Services.{Services}
+use Rattle.merge.specs.declared.MergeAnswer.{MergeAnswer}
+use Rattle.merge.specs.Calls.{MergeClaim}
 use Rattle.fold.specs.Calls.{PackClaim}
 use Rattle.xml.specs.Export.{ExportClaim}
-use Rattle.spi_c.specs.Claims.{ReadsC, SizesC, ScansC, SpansC, WritesC, NormalisesC, TakesInC, EditsC, WritesStateC, GatesC, SameC, ExportsC, ChecksPackedC, PacksC}
+use Rattle.spi_c.specs.Claims.{ReadsC, SizesC, ScansC, SpansC, WritesC, NormalisesC, TakesInC, EditsC, WritesStateC, GatesC, SameC, ExportsC, ChecksPackedC, PacksC, MergesC}
 
 -- every call whose claim is one equation for its answer, and put_record of format, whose equation is for the lists that it is lent; no other of them is lent
 -- anything to write.
@@ -31,7 +34,8 @@ use Rattle.spi_c.specs.Claims.{ReadsC, SizesC, ScansC, SpansC, WritesC, Normali
 -- is_within_depth, is_short, has_bit, with_bit, listed_as, holds_items, holds_text. judge: judge. scan: scan. recording: open, step. reader: span, body.
 -- records: is_well_formed. survey: survey, needs_of, find_item, find_first, table_of, written_as. pocket: gate, data_type, outcome of GateAnswer. compare:
 -- same, is_normal, same_texts, same_bodies, same_octets, same_attribute, same_attributes, same_cdata, same_child, same_children, find_counted, next_child.
--- state: held, framed_size, item_adds, added_by. fold: check, outcome of CheckAnswer. merging: find_conflict. spi_c: spi_check_text.
+-- state: held, framed_size, item_adds, added_by. fold: check, outcome of CheckAnswer. merge: outcome of MergeAnswer. merging: find_conflict. spi_c:
+-- spi_check_text.
 -- For body and table_of, which hand back a part of the caller's octets, the equation is for what the part holds
 abbrev pub OneAnswer : Type 1
 OneAnswer = (A : Type 0) (claimed one other : A) → one ≡ claimed → other ≡ claimed → one ≡ other
@@ -98,6 +102,13 @@ OneExport =
     (object before one other : List ℕ) (answer answer′ : WriteAnswer)
     → ExportClaim object before one answer → ExportClaim object before other answer′
     → (answer ≡ answer′) × (one ≡ other)
+
+-- merge
+abbrev pub OneMerge : Type 0
+OneMerge =
+    (by : Services) (basic advanced : List ℕ) (memory oneMemory otherMemory : Memory) (room oneRoom otherRoom : List ℕ) (answer answer′ : MergeAnswer)
+    → MergeClaim by basic advanced memory oneMemory room oneRoom answer → MergeClaim by basic advanced memory otherMemory room otherRoom answer′
+    → (answer ≡ answer′) × (oneMemory ≡ otherMemory) × (oneRoom ≡ otherRoom)
 
 -- pack
 abbrev pub OnePack : Type 0
@@ -191,3 +202,9 @@ abbrev pub OnePackC : Type 0
 OnePackC =
     (object before one other : List ℕ) (answer answer′ : ℕ) → PacksC object before one answer → PacksC object before other answer′
     → (answer ≡ answer′) × (one ≡ other)
+
+abbrev pub OneMergeC : Type 0
+OneMergeC =
+    (by : Services) (basic advanced : List ℕ) (memory oneMemory otherMemory : Memory) (room oneRoom otherRoom : List ℕ) (answer answer′ : ℕ)
+    → MergesC by basic advanced memory oneMemory room oneRoom answer → MergesC by basic advanced memory otherMemory room otherRoom answer′
+    → (answer ≡ answer′) × (oneMemory ≡ otherMemory) × (oneRoom ≡ otherRoom)

@@ -13,11 +13,8 @@ use Rattle.format.specs.Meaning.Meaning.{nothing, element, leaf}
 use Rattle.format.specs.WellFormed.{ObjectOk}
 use Rattle.merge.specs.declared.Services.{Services}
 use Rattle.merge.specs.Keys.{merges, sameKey, partners, hasPartner}
+use Rattle.merge.specs.Kept.{emptyTop}
 use Rattle.merge.specs.Merged.{either, united, then, hasLanguage, languages, newLanguage, added, paired, merged, apart, anyApart, bothThere, otherLanguage, clashing, clash, sameTop, twice}
-
--- an object whose top has nothing in it
-abbrev pub emptyTop : ℕ → Meaning
-emptyTop tag = element tag (λ a. none) nothing none nothing
 
 pub either-none : {A : Type 0} (a : Option A) → either a none ≡ a
 unfolding either

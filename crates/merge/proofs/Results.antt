@@ -1,5 +1,5 @@
 -- What merging two accepted objects gives: its result is an object's meaning, has all of both and nothing else, and obeys demands 2 and 3; with an empty
--- Advanced object it is Basic's; and only one answer meets the claim (change request 2026-10).
+-- Advanced object it is Basic's (change request 2026-10).
 use mathlib.Core.Path.{_≡_, refl, sym, ap, _∙_, subst}
 use mathlib.Core.Bool.{Bool, true, false, cond, not, _&&_, _||_}
 use mathlib.Core.Option.{Option, none, some}
@@ -28,11 +28,11 @@ use Rattle.merge.specs.declared.Services.{Services}
 use Rattle.merge.specs.declared.MergeAnswer.{MergeAnswer}
 use Rattle.merge.specs.declared.MergeAnswer.the-variants.{BasicRefused, AdvancedRefused, NotMerged}
 use Rattle.merge.specs.Merged.{merged, clash, sameTop, twice}
-use Rattle.merge.specs.Kept.{InOrder, AnyOrder, Comes}
+use Rattle.merge.specs.Kept.{emptyTop, Mergeable, InOrder, AnyOrder, Comes}
 use Rattle.merge.specs.Sizes.{recordsIn, storedIn}
 use Rattle.merge.specs.Calls.{conflict, misfit, Outcome, unlessRefused, mergedInto, outcome, answerOf, writtenOf, MergeClaim}
 use Rattle.merge.specs.Calls.Outcome.{refuses, gives}
-use Rattle.merge.proofs.Empty.{emptyTop, merged-empty, empty-quiet, empty-once}
+use Rattle.merge.proofs.Empty.{merged-empty, empty-quiet, empty-once}
 use Rattle.merge.proofs.Fine.{merged-ok}
 use Rattle.merge.proofs.Basic.{basic-kept}
 use Rattle.merge.proofs.Self.{or-false-left}
@@ -44,12 +44,6 @@ use Rattle.merge.proofs.Sizes.{Taken, taken-in}
 -- ---- where nothing is refused
 
 -- 20 and 21 don't come
-pub record Mergeable (by : Services) (m n : Meaning) : Type 0 where
-  pub tops : sameTop m n ≡ true
-  pub quiet : clash by m n ≡ false
-  pub basicOnce : twice by m ≡ false
-  pub advancedOnce : twice by n ≡ false
-
 pub mergeable : (by : Services) (m n : Meaning) → conflict by m n ≡ none → Mergeable by m n
 unfolding conflict
 mergeable by m n h =
@@ -174,15 +168,3 @@ unfolding outcome mergedInto unlessRefused conflict first rule
 merge-empty by lent o p t u tag os h g e s k f =
     let ok = accepted-ok o t os h in
     rw (h, g, e, s, empty-quiet by (meaningOf t) tag ok, k, empty-once by tag, merged-empty by (meaningOf t) tag ok s, f)
-
--- ---- only one answer
-
-pub record Only (a b : MergeAnswer) (m n : Memory) (x y : List ℕ) : Type 0 where
-  pub answers : a ≡ b
-  pub memory : m ≡ n
-  pub room : x ≡ y
-
-pub merge-only : (by : Services) (basic advanced : List ℕ) (m m′ m″ : Memory) (room x y : List ℕ) (a b : MergeAnswer) → MergeClaim by basic advanced m m′ room x a
-    → MergeClaim by basic advanced m m″ room y b → Only a b m′ m″ x y
-merge-only by basic advanced m m′ m″ room x y a b p q =
-    record { answers = p .answers ∙ sym (q .answers); memory = p .leaves ∙ sym (q .leaves); room = p .writes ∙ sym (q .writes) }

@@ -15,10 +15,11 @@ use Rattle.format.specs.Same.{sameMeaning}
 use Rattle.format.specs.WellFormed.{WellFormed, ObjectOk}
 use Rattle.octets.proofs.Tests.{or-left, or-right-false}
 use Rattle.values.proofs.Known.{items-tag}
+use Rattle.merge.specs.Kept.{emptyTop}
 use Rattle.merge.specs.declared.Services.{Services}
 use Rattle.merge.specs.Keys.{merges, partners, hasPartner, hasEqual}
 use Rattle.merge.specs.Merged.{either, united, then, hasLanguage, languages, newLanguage, added, paired, merged, sameTop, twice}
-use Rattle.merge.proofs.Empty.{emptyTop, then-nothing, top-is, tops-partners}
+use Rattle.merge.proofs.Empty.{then-nothing, top-is, tops-partners}
 use Rattle.merge.proofs.Keys.{or-right, partners-same, partners-swap}
 use Rattle.merge.proofs.Equal.{meaning-same, equal-behind, equal-here, equal-leaf}
 use Rattle.merge.proofs.Fine.{leaf-tag, after-two, six-first, none-languages}

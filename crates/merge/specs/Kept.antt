@@ -1,14 +1,27 @@
--- What theorems say of merging (change request 2026-10): that nothing is lost, and that nothing comes from elsewhere.
+-- What theorems say of merging (change request 2026-10): which meanings can be merged, that nothing is lost, and that nothing comes from elsewhere.
 use mathlib.Core.Path.{_≡_}
 use mathlib.Core.Logic.{_⊎_}
-use mathlib.Core.Bool.{true}
+use mathlib.Core.Bool.{true, false}
 use mathlib.Core.Option.{Option, none, some}
 use mathlib.Core.List.{List}
 use Prim.Native.Nat.{ℕ}
 use Rattle.values.specs.Values.{Value}
 use Rattle.format.specs.Meaning.{Meaning}
 use Rattle.format.specs.Meaning.Meaning.{nothing, element, leaf}
+use Rattle.merge.specs.declared.Services.{Services}
 use Rattle.merge.specs.Keys.{hasEqual}
+use Rattle.merge.specs.Merged.{clash, sameTop, twice}
+
+-- an object whose top has nothing in it
+abbrev pub emptyTop : ℕ → Meaning
+emptyTop tag = element tag (λ a. none) nothing none nothing
+
+-- nothing is in the way of merging two meanings: neither 20 nor 21
+pub record Mergeable (by : Services) (basic advanced : Meaning) : Type 0 where
+  pub tops : sameTop basic advanced ≡ true
+  pub quiet : clash by basic advanced ≡ false
+  pub basicOnce : twice by basic ≡ false
+  pub advancedOnce : twice by advanced ≡ false
 
 -- what is there stays there, the same
 abbrev pub Stays : {A : Type 0} → Option A → Option A → Type 0
