@@ -168,7 +168,27 @@ static uint64_t pack_by_second(const struct file *object, const struct file *oth
     return pack(&first_object, ROOM, normal_form, &size).number == ACCEPTED ? size : UINT64_MAX;
 }
 
+/* Basic and Advanced, each a whole day. */
+static uint64_t merge_by_library(const struct file *object, const struct file *other)
+{
+    uint64_t answer = spi_merge(object->octets, object->size, other->octets, other->size, false, SIX_LISTS, lists.bodies, PLACES, store, ROOM, room, ROOM);
+    return spi_refused(answer) == SPI_OK ? spi_value(answer) : UINT64_MAX;
+}
+
+static uint64_t merge_by_second(const struct file *object, const struct file *other)
+{
+    size_t size = 0;
+    struct verdict first = read_object(&first_tree, object->octets, (uint32_t)object->size);
+    struct verdict second = read_object(&second_tree, other->octets, (uint32_t)other->size);
+    if (first.number != ACCEPTED || second.number != ACCEPTED || merge_into(&merged_objects, BY_TAG, PLACES, ROOM, &size) != ACCEPTED)
+        return UINT64_MAX;
+    write_merged(normal_form, &merged_objects);
+    return size;
+}
+
 ON_EACH(library_read, read_by_library)
+ON_EACH(library_merge, merge_by_library)
+ON_EACH(second_merge, merge_by_second)
 ON_EACH(library_pack, pack_by_library)
 ON_EACH(second_pack, pack_by_second)
 ON_EACH(second_read, read_by_second)
@@ -266,6 +286,7 @@ static const struct calls comparing = {2, {library_same, second_same}};
 static const struct calls exporting = {2, {library_export, second_export}};
 static const struct calls gating = {2, {library_gate, second_gate}};
 static const struct calls packing = {2, {library_pack, second_pack}};
+static const struct calls merging = {2, {library_merge, second_merge}};
 static const struct calls editing = {2, {library_edit, library_anew}};
 static const struct calls editing_and_writing = {2, {library_edit_and_write, library_anew}};
 static const struct calls checking = {4, {library_text, second_text, octet_text, table_text}};
@@ -510,7 +531,6 @@ static void compare_scan(const char *folder, const char *name, const char *label
     compare(label, object_octets, &scanning);
 }
 
-/* The small receiver's gate, which lets all of these objects pass: an offender would end the look. */
 static void hold_packed(const struct file *object)
 {
     uint64_t size = pack_by_library(object, NULL);
@@ -530,6 +550,20 @@ static void compare_pack(const char *folder, const char *name, const char *label
             hold_packed(object);
         }
     compare(label, object_octets, &packing);
+}
+
+/* Two parts of each day, whose normal forms once merged are held against each other. */
+static void compare_merge(const char *folder)
+{
+    load_all(folder, "names", "words");
+    for (size_t k = 0; k < SIZES; k++)
+        for (size_t i = 0; i < sets[k].count; i++) {
+            const struct file *object = &sets[k].objects[i], *other = &sets[k].others[i];
+            uint64_t size = merge_by_library(object, other);
+            if (size == UINT64_MAX || size != merge_by_second(object, other) || memcmp(room, normal_form, size) != 0)
+                stop("the merged objects differ");
+        }
+    compare("merge two days", both_octets, &merging);
 }
 
 /* A text of four-letter words that all differ, in an attribute of the top: each is looked for among those behind it. Its cost is not one of an octet, so it is
@@ -560,6 +594,7 @@ static void compare_worst_pack(void)
     printf("pack %zu octets, %d words that all differ: %.2f ms, the second program %.2f ms\n", object->size, WORDS, least[0] / 1e6, least[1] / 1e6);
 }
 
+/* The small receiver's gate, which lets all of these objects pass: an offender would end the look. */
 static void compare_gate(const char *folder)
 {
     load_all(folder, "basic", "basic");
@@ -625,8 +660,8 @@ static void repeat_call(const char *folder, const char *name, const char *of, un
                  {"second_normalise", second_normalise}, {"library_same", library_same}, {"second_same", second_same},
                  {"library_export", library_export}, {"second_export", second_export}, {"library_gate", library_gate},
                  {"second_gate", second_gate}, {"library_edit", library_edit},
-                 {"library_edit_and_write", library_edit_and_write}};
-    load_all(folder, of, strcmp(of, "day") == 0 ? "other" : strcmp(of, "small") == 0 ? "twin" : of);
+                 {"library_edit_and_write", library_edit_and_write}, {"library_merge", library_merge}, {"second_merge", second_merge}};
+    load_all(folder, of, strcmp(of, "day") == 0 ? "other" : strcmp(of, "small") == 0 ? "twin" : strcmp(of, "names") == 0 ? "words" : of);
     set = &sets[SIZES - 1];
     if (strncmp(name, "library_edit", strlen("library_edit")) == 0)
         prepare_tree(&set->objects[0]);
@@ -656,6 +691,7 @@ int main(int count, char **arguments)
     compare_gate(folder);
     compare_pack(folder, "named", "pack a day");
     compare_worst_pack();
+    compare_merge(folder);
     compare_scan(folder, "day", "scan day");
     compare_scan(folder, "small", "scan small");
     repeat_text("The news at one, and then the weather for the coast. ");

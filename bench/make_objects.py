@@ -8,6 +8,8 @@
     named-N-I.spi   the day without its items of plain octets, so that it has an XML
     numbers-N-I.spi the small items likewise
     basic-N-I.spi   a day's programmes within the Basic profile, so that the small receiver's gate lets them pass
+    names-N-I.spi   the day in two, to be merged: what its programmes are called and when they come
+    words-N-I.spi   the same programmes with all else that is said of them
 
 N is 1, 4, 16 and 32: the object and its normal form have as many octets as fit N * 1024. I counts the objects of a size, 32 / N of
 them, so that a round over those of one size is as many octets as over those of another: a processor that has learnt the branches of one
@@ -100,6 +102,18 @@ def basic(rng, minute):
         element(0x17, number(rng, 0x81, 3), number(rng, 0x82, 2)))
 
 
+def parted(node):
+    """A schedule or programme in two elements with the same key, its version or short id: names and times, and the rest."""
+    if node.tag not in (0x1C, 0x21):
+        named = node.tag in (0x10, 0x11, 0x12, 0x19, 0x24)
+        return ([node], []) if named else ([], [node])
+    parts = [parted(child) for child in node.children]
+    key = [attribute for attribute in node.attributes if attribute.tag == (0x80 if node.tag == 0x21 else 0x81)]
+    names = element(node.tag, *node.attributes, *(name for part in parts for name in part[0]))
+    words = element(node.tag, *key, *(word for part in parts for word in part[1]))
+    return [names], [words]
+
+
 def octets(rng, node, form, tokens):
     """An element or value as it stands: its length in one of the three forms, tokens as such or replaced."""
     if node.value is None:
@@ -116,7 +130,8 @@ def whole(rng, schedule, form, tokens):
 
 
 def grown(make, limit, number_of, form):
-    """As many programmes as fit the limit: their octets with tokens and without, the latter with lengths of a form; and with tokens, but no plain octets."""
+    """As many programmes as fit the limit: their octets with tokens and without, the latter with lengths of a form; with tokens in two parts; and with tokens,
+    but no plain octets."""
     rng = random.Random(f"{make.__name__} {limit} {number_of}")
     version = number(rng, 0x80, 2)
     made = [] if make is basic else [time(rng, 0x81, 0), Node(0x82, text(rng, 20, 40))]
@@ -128,8 +143,10 @@ def grown(make, limit, number_of, form):
         forms = whole(random.Random(seed), schedule, 0, True), whole(random.Random(seed), schedule, form, False)
         if max(map(len, forms)) > limit:
             schedule.children.pop()
+            (names,), (words,) = parted(schedule)
+            parts = [whole(random.Random(seed), part, 0, True) for part in (names, words)]
             schedule.leave_plain_out()
-            return *kept, whole(random.Random(seed), schedule, 0, True)
+            return *kept, *parts, whole(random.Random(seed), schedule, 0, True)
         kept = forms
         schedule.children.append(make(rng, 5 * count % MINUTES))
     raise ValueError("the programmes never fill the object")
@@ -153,15 +170,12 @@ def main():
     (folder / "texts").write_bytes(b"".join((len(text) - 1).to_bytes(2, "big") + text for text in texts()))
     for kilo in (1, 4, 16, 32):
         for i in range(32 // kilo):
-            day, other, named = grown(programme, kilo * KILO, i, 2)
-            (folder / f"day-{kilo}-{i}.spi").write_bytes(day)
-            (folder / f"other-{kilo}-{i}.spi").write_bytes(other)
-            (folder / f"named-{kilo}-{i}.spi").write_bytes(named)
-            items, twin, numbers = grown(small, kilo * KILO, i, 0)
-            (folder / f"small-{kilo}-{i}.spi").write_bytes(items)
-            (folder / f"twin-{kilo}-{i}.spi").write_bytes(twin)
-            (folder / f"numbers-{kilo}-{i}.spi").write_bytes(numbers)
-            (folder / f"basic-{kilo}-{i}.spi").write_bytes(grown(basic, kilo * KILO, i, 0)[0])
+            day, other, names, words, named = grown(programme, kilo * KILO, i, 2)
+            items, twin, _, _, numbers = grown(small, kilo * KILO, i, 0)
+            made = {"day": day, "other": other, "names": names, "words": words, "named": named, "small": items, "twin": twin, "numbers": numbers,
+                    "basic": grown(basic, kilo * KILO, i, 0)[0]}
+            for name, octets_made in made.items():
+                (folder / f"{name}-{kilo}-{i}.spi").write_bytes(octets_made)
 
 
 if __name__ == "__main__":
