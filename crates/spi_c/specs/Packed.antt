@@ -10,9 +10,9 @@ use Rattle.survey.specs.declared.measure.Measured.{Measured}
 use Rattle.survey.specs.declared.measure.Measured.the-variants.{Over, Sizes}
 use Rattle.merge.specs.declared.MergeOutcome.{MergeOutcome}
 
--- bits 63 to 56: the number of a refusal, 0 for none; 55 to 48: the object that is refused, told by `same` and `merge` alone; 47 to 40: the field of a time that
--- is wrong, told by 9 alone (change request 2026-04); 39 to 0: a place or a count. Where nothing is refused, bits 55 to 40 have a second count: of reading the
--- number of items judged (2026-09), of merging that of the records in memory (2026-10)
+-- bits 63 to 56: the number of a refusal, 0 for none; 55 to 48: the object that is refused, told by `same` and `merge` alone; 47 to 40: the field of a time
+-- that is wrong, told by 9 alone (change request 2026-04); 39 to 0: a place or a count. Where nothing is refused, bits 55 to 40 have a second count: of reading
+-- the number of items judged (2026-09), of merging that of the records in memory (2026-10)
 unfoldable pub packed : (number object field value : ℕ) → ℕ
 packed number object field value = number * 0x100_0000_0000_0000 + object * 0x1_0000_0000_0000 + field * 0x100_0000_0000 + value
 
