@@ -8,7 +8,7 @@ use Prim.Native.Nat.{ℕ, _^_, _≤_, _<_, min}
 use native.Mathlib.Omega.{arith}
 use lib.Dec.{leb}
 use lib.ListN.{length}
-use borrow.Author.Tests.{not-true, leb-true}
+use borrow.Author.Tests.{not-true, leb-true, le-leb}
 use Rattle.octets.specs.Numbers.{Octets}
 use Rattle.octets.specs.Counts.{asOctets, sizeOf, octetsWithin}
 use Rattle.format.specs.declared.Refusal.{Refusal}
@@ -24,6 +24,8 @@ use Rattle.state.specs.Taking.{lentBy, loadedInto}
 use Rattle.octets.proofs.Tests.{and-left, and-right, or-right-false, never}
 use Rattle.format.proofs.Rules.{first-head, first-tail, first-one, rule-true}
 use Rattle.format.proofs.Normal.{accepted-ok}
+use Rattle.format.proofs.Headers.{few}
+use Rattle.survey.proofs.WholeSizes.{store-less}
 use Rattle.merge.specs.declared.Services.{Services}
 use Rattle.merge.specs.declared.MergeAnswer.{MergeAnswer}
 use Rattle.merge.specs.declared.MergeAnswer.the-variants.{BasicRefused, AdvancedRefused, NotMerged}
@@ -38,7 +40,7 @@ use Rattle.merge.proofs.Basic.{basic-kept}
 use Rattle.merge.proofs.Self.{or-false-left}
 use Rattle.merge.proofs.Advanced.{advanced-kept}
 use Rattle.merge.proofs.Comes.{all-comes}
-use Rattle.merge.proofs.Pure.{Pure, accepted-pure, merged-pure, pure-octets}
+use Rattle.merge.proofs.Pure.{accepted-pure, merged-pure, pure-octets}
 use Rattle.merge.proofs.Sizes.{Taken, taken-in}
 
 -- ---- where nothing is refused
@@ -112,6 +114,30 @@ merge-gives by lent o p w h = given by lent o p w (judge o) (judge p) refl refl 
 
 -- ---- the result
 
+-- two accepted objects with one top tag, merged into what is no longer than an object: that is an object's meaning, and its normal form is accepted
+module _ (by : Services) (o p : List ℕ) (t u : Items) (os : Octets o) (ps : Octets p) (h : judge o ≡ accepted t) (g : judge p ≡ accepted u)
+    (tops : sameTop (meaningOf t) (meaningOf u) ≡ true) where
+  pair-ok : ObjectOk (merged by (meaningOf t) (meaningOf u))
+  pair-ok = merged-ok by (meaningOf t) (meaningOf u) (accepted-ok o t os h) (accepted-ok p u ps g) tops
+
+  module _ (l : length (encode (merged by (meaningOf t) (meaningOf u))) ≤ 32_768) where
+    pair-octets : Octets (encode (merged by (meaningOf t) (meaningOf u)))
+    pair-octets =
+        pure-octets (merged by (meaningOf t) (meaningOf u)) (merged-pure by (meaningOf t) (meaningOf u) (accepted-pure o t os h) (accepted-pure p u ps g)) (omega arith)
+
+    pair-taken : Taken (merged by (meaningOf t) (meaningOf u))
+    pair-taken = taken-in (merged by (meaningOf t) (meaningOf u)) pair-ok pair-octets l
+
+    -- neither 14 nor 15 comes then where 16,384 places and 32,768 octets of store and of room are lent
+    pub merge-suffices : (lent : Lent) → 16_384 ≤ lent .records → 32_768 ≤ lent .store .0 → 32_768 ≤ lent .room .0 → misfit lent (merged by (meaningOf t) (meaningOf u)) ≡ none
+    unfolding misfit first rule roomy
+    merge-suffices lent a b c =
+        let w = merged by (meaningOf t) (meaningOf u) in
+        let k = pair-taken in
+        let places = few (encode w) (k .tree) (k .accepts) in
+        let stored = store-less (encode w) (k .tree) pair-octets (k .accepts) in
+        rw (le-leb (recordsIn w) (lent .records) (omega (arith, places, k .records)), le-leb (storedIn w) (lent .store .0) (omega (arith, stored, k .store, ap length (k .itself))), le-leb (length (encode w)) (min (lent .room .0) 32_768) (omega arith))
+
 -- it is a meaning that an object can have, so that 16 can't come; all of Basic is in it, in order, and all of Advanced, and nothing else. Its normal form is
 -- accepted, means it and normalises to itself (demands 2 and 3); and the tree of that normal form fits what is lent
 pub record Result (by : Services) (lent : Lent) (o p : List ℕ) (w : Meaning) : Type 0 where
@@ -136,13 +162,11 @@ merge-result by lent o p w os ps h =
     let n = meaningOf u in
     let okM = accepted-ok o t os (g .first) in
     let okN = accepted-ok p u ps (g .second) in
-    let ok : ObjectOk w = subst (λ x. ObjectOk x) (sym (g .is)) (merged-ok by m n okM okN (g .can .tops)) in
-    let l = small lent w (g .fits) in
-    let pure = merged-pure by m n (accepted-pure o t os (g .first)) (accepted-pure p u ps (g .second)) in
-    let k = taken-in w ok (pure-octets w (subst (λ x. Pure x) (sym (g .is)) pure) (omega arith)) l in
+    let l : length (encode (merged by m n)) ≤ 32_768 = subst (λ x. length (encode x) ≤ 32_768) (g .is) (small lent w (g .fits)) in
+    let k : Taken w = subst (λ x. Taken x) (sym (g .is)) (pair-taken by o p t u os ps (g .first) (g .second) (g .can .tops) l) in
     record {
       both = g;
-      object = ok;
+      object = subst (λ x. ObjectOk x) (sym (g .is)) (pair-ok by o p t u os ps (g .first) (g .second) (g .can .tops));
       basic = subst (λ x. InOrder m x) (sym (g .is)) (basic-kept by m n);
       advanced = subst (λ x. AnyOrder n x) (sym (g .is)) (advanced-kept by m n okM okN (g .can .tops) (g .can .quiet) (g .can .advancedOnce));
       comes = subst (λ x. Comes m n x) (sym (g .is)) (all-comes by m n);
