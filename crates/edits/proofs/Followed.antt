@@ -9,6 +9,7 @@ use lib.ListN.{length, take, getD, set, length-set}
 use lib.Seq.{sets, getD-set-other, drop-set-lt}
 use Rattle.octets.specs.Places.{between}
 use Rattle.octets.proofs.Lists.{sets-none}
+use Rattle.octets.proofs.Upward.{part-none, part-first}
 use Rattle.values.specs.declared.Kind.{Kind}
 use Rattle.values.specs.Table.{known}
 use Rattle.format.specs.Meaning.{opens}
@@ -19,7 +20,6 @@ use Rattle.tags.proofs.Listing.{is-nothing, is-inside, is-value}
 use Rattle.edits.specs.Sites.{shifted, startAfter, shiftedStarts}
 use Rattle.edits.specs.Moves.{Renumbers, Movable, Shifts}
 use Rattle.edits.proofs.Sites.{shifted-low, shifted-high}
-use Rattle.edits.proofs.Parts.{part-none, part-first}
 
 -- ---- one number of a parent
 pub parent-low : (from to parent : ℕ) → parent < from → parent ≡ shifted from to parent

@@ -10,6 +10,7 @@ use lib.ListN.{length, take, drop, getD, length-append, length-map}
 use borrow.Author.Tests.{ltb-true, ltb-false, lt-ltb}
 use Rattle.octets.specs.Places.{between}
 use Rattle.octets.proofs.Lists.{length-part}
+use Rattle.octets.proofs.Upward.{part-first}
 use Rattle.values.specs.Table.{attribute}
 use Rattle.format.specs.declared.Record.{Record}
 use Rattle.format.specs.Tree.{Items, records}
@@ -34,7 +35,6 @@ use Rattle.edits.proofs.AtSite.{part-second}
 use Rattle.edits.proofs.CutLists.{enough, held-field, cut-part}
 use Rattle.edits.proofs.Extents.{here-depth, stop-records, Extent, extent}
 use Rattle.edits.proofs.ChildWalks.{fields, here-tag}
-use Rattle.edits.proofs.Parts.{part-first}
 use Rattle.edits.proofs.Found.{Stands}
 use Rattle.edits.proofs.Putting.{Place, comesAt}
 use Rattle.edits.proofs.InsertRules.{opens-zero}

@@ -14,6 +14,7 @@ use Rattle.octets.specs.declared.Lies.the-variants.{Outside, Between}
 use Rattle.octets.specs.Places.{between, liesAt, liesIn}
 use Rattle.octets.proofs.Places.{lying}
 use Rattle.octets.proofs.Tests.{never, cond-same}
+use Rattle.octets.proofs.Upward.{part-none, part-first}
 use Rattle.values.specs.Table.{attribute}
 use Rattle.format.specs.Meaning.{opens, isChild}
 use Rattle.format.specs.declared.Refusal.{Refusal}
@@ -28,7 +29,6 @@ use Rattle.edits.specs.declared.inserting.Admission.{Admission}
 use Rattle.edits.specs.declared.inserting.Admission.the-variants.{Denied, Admitted}
 use Rattle.edits.specs.Tree.{isOneItem}
 use Rattle.edits.specs.Insertion.{countsAt, stopsAt, leftAfter, foundAt, childFrom, childBehind, childOf, tagThere, comesBetween, isElement, asAdmitted, admittedAt, admittedBy, admission}
-use Rattle.edits.proofs.Parts.{part-none, part-first}
 
 -- ---- is_child
 module _ (tag : ℕ) (a : Bool) (e : a ≡ attribute tag) where

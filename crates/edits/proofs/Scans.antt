@@ -9,8 +9,8 @@ use lib.Dec.{ltb}
 use lib.ListN.{length, getD}
 use borrow.Author.Tests.{lt-ltb, le-ltb}
 use Rattle.octets.specs.Places.{between}
+use Rattle.octets.proofs.Upward.{part-none, part-first}
 use Rattle.edits.specs.Extents.{deeper, sumOf}
-use Rattle.edits.proofs.Parts.{part-none, part-first}
 
 -- what was to be found from the record behind the item's on is what is to be found from here on
 pub record Scanning (depths : List ℕ) (n number j : ℕ) : Type 0 where

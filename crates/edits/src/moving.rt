@@ -5,24 +5,13 @@ ghost use lib.ListN.{length};
 ghost use lib.Seq.{sets};
 ghost use Rattle.octets.specs.Places.{between};
 ghost use Rattle.edits.specs.Moves.{Carries, carried};
+use octets::move_up;
 
 // What lies from a place up to another, and the place from which on it is to lie.
 pub struct Move {
     pub from: usize,
     pub end: usize,
     pub to: usize,
-}
-
-// Some places higher. It goes from the last octet down, so that none is lost.
-fn move_up(list: &mut [u8], from: usize, end: usize, by: usize)
-    requires { ⌜ (from ≤ end) × (end + by ≤ length (now list)) ⌝ }
-    ensures { λ _. ⌜ now (list .exit) ≡ sets (now (list .entry)) (from + by) (between (now (list .entry)) from end) ⌝ }
-{
-    let mut i = end;
-    while i > from {
-        i = i - 1;
-        list[i + by] = list[i];
-    }
 }
 
 // Some places lower, from the first octet up.
@@ -49,7 +38,7 @@ pub fn move_to(list: &mut [u8], part: Move)
     }
 }
 
-// The same three of a list of wider numbers.
+// The same of a list of wider numbers. What moves up goes from the last down, so that none is lost.
 fn move_up16(list: &mut [u16], from: usize, end: usize, by: usize)
     requires { ⌜ (from ≤ end) × (end + by ≤ length (now list)) ⌝ }
     ensures { λ _. ⌜ now (list .exit) ≡ sets (now (list .entry)) (from + by) (between (now (list .entry)) from end) ⌝ }

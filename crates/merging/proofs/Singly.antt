@@ -53,7 +53,7 @@ use Rattle.merge.specs.Sizes.{taken as takenOf, takenBy}
 use Rattle.merging.specs.Clashing.{isFound}
 use Rattle.merging.specs.declared.counting.Needs.{Needs}
 use Rattle.merging.specs.Takes.{most, plus, Piece, empty, with, single, held, ifThere, attributesOf, Adds, HeaderPut, ValueLaid, ValuePut, SinglePut, octetsBy, octetsIn, FoundPut, eitherIn, EitherPut, AttributesPut}
-use Rattle.merging.proofs.Adding.{with-empty, with-assoc, empty-with, adds-none, adds-nothing, adds-kept, adds-same, adds-then, held-put}
+use Rattle.merging.proofs.Adding.{records-sum, store-sum, octets-sum, with-empty, with-assoc, empty-with, adds-none, adds-nothing, adds-kept, adds-same, adds-then, held-put}
 
 -- ---- the octets of a value
 
@@ -144,11 +144,14 @@ module _ (emit : Bool) (k : Kind) (index table body : List ℕ) (size : ℕ) (n 
 
   value-adds : (o′ : List ℕ) → size ≡ min most (length octets) → (n .octets .0 + length octets ≤ min (length before) 32_768 → o′ ≡ cond emit (sets before (n .octets .0) octets) before)
       → (emit ≡ false → o′ ≡ before) → length o′ ≡ length before → Adds emit piece n before o′ r
-  unfolding plus
-  value-adds o′ e h q l =
-      let x : r .store .0 ≡ min most (n .store .0 + size) = ap (λ m. m .store .0) re in
-      let y : r .octets .0 ≡ min most (n .octets .0 + size) = ap (λ m. m .octets .0) re in
-      record { records = ap (λ m. m .records) re; store = omega (arith, x, e); octets = omega (arith, y, e); holds = h; quiet = q; long = l }
+  value-adds o′ e h q l = record {
+    records = records-sum n r 0 size size re;
+    store = omega (arith, store-sum n r 0 size size re, e);
+    octets = omega (arith, octets-sum n r 0 size size re, e);
+    holds = h;
+    quiet = q;
+    long = l;
+  }
 
   pub value-counted : emit ≡ false → ValuePut emit k index table body size n before before r
   unfolding ValuePut

@@ -1,26 +1,25 @@
 -- The walk over two objects: the ways through its functions.
 use mathlib.Core.Path.{_≡_, refl, sym, ap, ap₂, _∙_, subst}
-use mathlib.Core.Bool.{Bool, true, false, cond, not, _&&_, false≢true}
+use mathlib.Core.Bool.{Bool, true, false, cond, false≢true}
 use mathlib.Core.Option.{Option, none, some}
 use mathlib.Core.List.{List, [], _∷_, _++_, append-nil}
-use Prim.Native.Nat.{ℕ, zero, suc, _+_, _-_, _≤_, _<_, min}
+use Prim.Native.Nat.{ℕ, zero, suc, _+_, _-_, _≤_}
 use native.Mathlib.Nat.{add-zero}
 use native.Mathlib.Omega.{arith}
 use lib.ListN.{length, drop, getD}
-use Rattle.octets.specs.Counts.{asOctets}
 use Rattle.octets.specs.Header.{framed}
 use Rattle.octets.specs.Places.{isWhole, firstBody, afterFirst, between}
-use Rattle.octets.proofs.Tests.{and-left, and-right}
-use Rattle.text.specs.Tokens.{Entries, entries, expanded}
+use Rattle.octets.proofs.Tests.{and-left}
+use Rattle.text.specs.Tokens.{Entries, entries}
 use Rattle.text.specs.Index.{Indexes, entriesBy}
 use Rattle.values.specs.declared.Kind.{Kind}
 use Rattle.values.specs.declared.Kind.the-variants.{HoldsItems, HoldsTokens, HoldsText, HoldsPlain, HoldsTime, HoldsBearer, HoldsNumber}
 use Rattle.values.specs.Table.{known, attribute}
 use Rattle.values.specs.Values.{Value, fits, meant, octetsOf}
-use Rattle.values.proofs.Known.{elementRow, element-kind}
+use Rattle.values.proofs.Known.{element-kind}
 use Rattle.format.specs.Tree.{Items}
 use Rattle.format.specs.Tree.Items.{end, item}
-use Rattle.format.specs.Judge.{isKnown, isItems, isText}
+use Rattle.format.specs.Judge.{isKnown, isText}
 use Rattle.format.specs.Meaning.{Meaning, opens, isChild, attributesIn, cdataIn, leafOctets, means, maybe, rising, encode}
 use Rattle.format.specs.Meaning.Meaning.{nothing, element, leaf}
 use Rattle.format.proofs.NormalOctets.{child-no-attribute}
@@ -38,7 +37,7 @@ use Rattle.compare.proofs.Walking.Told.{over, comes}
 use Rattle.compare.proofs.Comparing.{found-ways}
 use Rattle.merge.specs.declared.Services.{Services}
 use Rattle.merge.specs.Merged.{either, united, then, newLanguage, added, merged}
-use Rattle.merge.specs.Sizes.{taken as takenOf, takenBy, recordsIn, storedIn}
+use Rattle.merge.specs.Sizes.{taken as takenOf, recordsIn, storedIn}
 use Rattle.merge.proofs.Empty.{then-nothing}
 use Rattle.merge.proofs.Self.{then-assoc}
 use Rattle.merge.proofs.Sizes.{records-then, stored-then}
@@ -46,12 +45,12 @@ use Rattle.merge.proofs.Octets.{encode-then}
 use Rattle.merging.specs.declared.counting.Needs.{Needs}
 use Rattle.merging.specs.declared.partners.Role.{Role}
 use Rattle.merging.specs.declared.partners.Role.the-variants.{Language, Own, Added}
-use Rattle.merging.specs.Takes.{most, plus, Piece, empty, with, single, held, ifThere, pieceOf, attributesOf, Adds, HeaderPut, SinglePut, octetsIn, eitherIn, EitherPut, AttributesPut}
+use Rattle.merging.specs.Takes.{plus, Piece, empty, with, single, held, ifThere, pieceOf, attributesOf, Adds, ElementClosed, SinglePut, eitherIn, EitherPut, AttributesPut}
 use Rattle.merging.specs.Roles.{chosen, isPut, partnerIn}
 use Rattle.merging.specs.Walks.{childrenOf, insideOf, ElementsPut, InsidePut, ElementPut, ChildPut, ChosenPut, ChildrenPut}
-use Rattle.merging.proofs.Adding.{adds-none, adds-nothing, adds-kept, adds-same, adds-then, held-put}
+use Rattle.merging.proofs.Adding.{adds-none, adds-nothing, adds-kept, adds-same, adds-then}
 use Rattle.merging.proofs.Singly.{cdata-mean}
-use Rattle.merging.proofs.Roles.{chosen-then, chosen-nothing, means-then, unchosen, chosen-leaf, Becomes, chosen-holder}
+use Rattle.merging.proofs.Roles.{chosen-then, chosen-nothing, means-then, unchosen, chosen-leaf, chosen-holder}
 
 -- ---- the pieces of elements
 
@@ -82,52 +81,13 @@ module _ (emit : Bool) (by : Services) (tag left : ℕ) (index table a index′ 
   unfolding ElementPut
   element-deep z after r d i j t u l deep x y v w = absurd (omega arith)
 
-  module _ (inner begun r : Needs) (p q after : List ℕ) (u : InsidePut false by tag (left - 1) index table a index′ table′ b (record { records = 0; store = asOctets 0; octets = asOctets 0 }) before p inner)
-      (h : HeaderPut emit tag (inner .octets .0) n p q begun) (nz : left ≡ 0 → ⊥) where
-    module _ (d i j : ℕ) (t v : Items) (l : d + left ≡ 17) (deep : d ≤ 16) (x : Indexes (entries table) index) (y : Indexes (entries table′) index′) (k : Accepts tag (d + 1) i a t) (w : Accepts tag (d + 1) j b v) where
-      abbrev piece : Piece
-      piece = insideOf by tag (entriesBy index table) (entriesBy index′ table′) t v
+  pub element-put : (begun inside r : Needs) (q after : List ℕ) → begun ≡ plus n 1 0 2 → InsidePut emit by tag (left - 1) index table a index′ table′ b begun before q inside
+      → ElementClosed emit tag n begun inside q after r → ElementPut emit by tag left index table a index′ table′ b n before after r
+  unfolding ElementPut InsidePut ElementClosed
+  element-put begun inside r q after e u c d i j t v l deep x y k w =
+      c (insideOf by tag (entriesBy index table) (entriesBy index′ table′) t v) before e (u (d + 1) i j t v (omega arith) x y k w)
 
-      first : Adds false piece (record { records = 0; store = asOctets 0; octets = asOctets 0 }) before p inner
-      unfolding InsidePut
-      first = u (d + 1) i j t v (omega arith) x y k w
-
-      sized : inner .octets .0 ≡ min most (length (piece .octets))
-      sized = let e = first .octets in omega arith
-
-      header : HeaderPut emit tag (inner .octets .0) n before q begun
-      header = subst (λ o. HeaderPut emit tag (inner .octets .0) n o q begun) (first .quiet refl) h
-
-      finish : Adds emit piece begun q after r → Adds emit (held tag piece) n before after r
-      finish s = held-put emit tag (inner .octets .0) piece n begun r before q after sized header s
-
-      counted : emit ≡ false → r ≡ plus begun (inner .records) (inner .store .0) (inner .octets .0) → Adds emit piece begun q q r
-      unfolding plus
-      counted e re =
-          let xr : r .records ≡ min most (begun .records + inner .records) = ap (λ m. m .records) re in
-          let xs : r .store .0 ≡ min most (begun .store .0 + inner .store .0) = ap (λ m. m .store .0) re in
-          let xo : r .octets .0 ≡ min most (begun .octets .0 + inner .octets .0) = ap (λ m. m .octets .0) re in
-          record {
-            records = let f = first .records in omega arith;
-            store = let f = first .store in omega arith;
-            octets = let f = first .octets in omega arith;
-            holds = λ z. rw e;
-            quiet = λ z. refl;
-            long = refl;
-          }
-
-    pub element-put : emit ≡ true → InsidePut true by tag (left - 1) index table a index′ table′ b begun q after r → ElementPut emit by tag left index table a index′ table′ b n before after r
-    unfolding ElementPut InsidePut
-    element-put e s d i j t v l deep x y k w =
-        finish d i j t v l deep x y k w
-        (subst (λ z. Adds z (insideOf by tag (entriesBy index table) (entriesBy index′ table′) t v) begun q after r) (sym e) (s (d + 1) i j t v (omega arith) x y k w))
-
-    pub element-counted : emit ≡ false → r ≡ plus begun (inner .records) (inner .store .0) (inner .octets .0) → after ≡ q → ElementPut emit by tag left index table a index′ table′ b n before after r
-    unfolding ElementPut
-    element-counted e re z d i j t v l deep x y k w =
-        finish d i j t v l deep x y k w (subst (λ o. Adds emit (insideOf by tag (entriesBy index table) (entriesBy index′ table′) t v) begun q o r) (sym z) (counted d i j t v l deep x y k w e re))
-
-pub ruleset element-ways = (element-deep, element-put, element-counted)
+pub ruleset element-ways = (element-deep, element-put)
 
 -- ---- put_elements and put_inside
 

@@ -84,6 +84,11 @@ pub record HeaderPut (emit : Bool) (tag size : ℕ) (n : Needs) (before after : 
   pub quiet : emit ≡ false → after ≡ before
   pub long : length after ≡ length before
 
+-- the header of an element that was begun as if it had two octets, the fewest, once the body behind these is put
+unfoldable pub ElementClosed : (emit : Bool) (tag : ℕ) (n begun inside : Needs) (before after : List ℕ) (r : Needs) → Type 0
+ElementClosed emit tag n begun inside before after r =
+    (p : Piece) (first : List ℕ) → begun ≡ plus n 1 0 2 → Adds emit p begun first before inside → Adds emit (held tag p) n first after r
+
 -- the octets of a value in normal form, from a place on
 pub record ValueLaid (kind : Kind) (index table body : List ℕ) (at : ℕ) (before after : List ℕ) : Type 0 where
   pub holds : at + length (taken (entriesBy index table) (some kind) body) ≤ length before → after ≡ sets before at (taken (entriesBy index table) (some kind) body)

@@ -1,6 +1,6 @@
 // What a part of the result takes, counted on its way. A count that would come to 2^63 or more stays there: no lent slice is as long, so it fits nowhere.
 ghost use mathlib.Core.Path.{_≡_};
-ghost use Prim.Native.Nat.{_+_, min};
+ghost use Prim.Native.Nat.{_+_, _-_, min};
 ghost use Rattle.merging.specs.Takes.{most, plus};
 use octets::Octets;
 
@@ -54,4 +54,14 @@ pub fn stopped(size: Octets) -> Octets
         return Octets(MOST);
     }
     size
+}
+
+// How far a count lies above another; 0 where it doesn't.
+pub fn excess(count: Octets, other: Octets) -> Octets
+    ensures { λ r. ⌜ r .0 ≡ count .0 - other .0 ⌝ }
+{
+    if count.0 < other.0 {
+        return Octets(0);
+    }
+    Octets(count.0 - other.0)
 }

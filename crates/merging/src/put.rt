@@ -6,10 +6,11 @@ ghost use Prim.Native.Nat.{min};
 ghost use lib.ListN.{length};
 ghost use Rattle.text.specs.Tokens.{entries, expanded};
 ghost use Rattle.survey.specs.Sizes.{taken};
-ghost use Rattle.merging.specs.Takes.{most, HeaderPut, ValueLaid, ValuePut, SinglePut, FoundPut, EitherPut, AttributesPut};
+ghost use Rattle.merging.specs.Takes.{most, HeaderPut, ElementClosed, ValueLaid, ValuePut, SinglePut, FoundPut, EitherPut, AttributesPut};
 use crate::clash::is_found;
 use crate::counting::Needs;
 use crate::counting::add;
+use crate::counting::excess;
 use crate::counting::keep;
 use crate::counting::stopped;
 use compare::find_counted;
@@ -17,6 +18,7 @@ use octets::Lies;
 use octets::Octets;
 use octets::Put;
 use octets::header_size;
+use octets::move_up;
 use octets::write_header;
 use survey::value_size;
 use text::expand;
@@ -28,11 +30,34 @@ use values::known_kind;
 use values::put_normal;
 
 // The header of an item whose body has so many octets, and the item's record.
-pub fn put_header(out: &mut [u8], needs: Needs, tag: u8, size: Octets, emit: bool) -> Needs
+fn put_header(out: &mut [u8], needs: Needs, tag: u8, size: Octets, emit: bool) -> Needs
     ensures { λ r. ⌜ HeaderPut emit tag (size .0) needs (now (out .entry)) (now (out .exit)) r ⌝ }
 {
     let counted = add(needs, 1, Octets(0), header_size(size));
     if emit {
+        let _put = write_header(out, needs.octets.0, tag, size);
+        return counted;
+    }
+    counted
+}
+
+// The header of an element that was begun with its record and two octets, the fewest that a header takes, once what is inside is put behind them. Where it
+// takes more, what is inside makes way.
+pub fn close_element(
+    out: &mut [u8],
+    needs: Needs,
+    begun: Needs,
+    inside: Needs,
+    tag: u8,
+    emit: bool,
+) -> Needs
+    ensures { λ r. ⌜ ElementClosed emit tag needs begun inside (now (out .entry)) (now (out .exit)) r ⌝ }
+{
+    let size = excess(inside.octets, begun.octets);
+    let more = header_size(size).0 - 2;
+    let counted = add(inside, 0, Octets(0), Octets(more));
+    if emit {
+        move_up(out, begun.octets.0, inside.octets.0, more);
         let _put = write_header(out, needs.octets.0, tag, size);
         return counted;
     }

@@ -1,7 +1,7 @@
 // The merged elements, by one walk over both objects that counts, and where `emit` says so puts what it counted into the room. Basic stands under `index_a`
 // and `table_a`, Advanced under `index_b` and `table_b`; where the child elements of one of them are walked over, it stands first. Nothing is judged here.
-// Cost: an element's header comes before its body, so a body that is put is counted first, and each level is counted once for each level above it: at most 16
-// times.
+// Cost: each body is counted once and put once. An element's header comes before its body, but how many octets it takes is known once that is put: a body above
+// 253 octets then moves up by two, so an octet moves at most once for each level around it.
 ghost use mathlib.Core.Path.{_≡_};
 ghost use Rattle.merging.specs.Walks.{ElementPut, InsidePut, ElementsPut, ChosenPut, ChildPut, ChildrenPut};
 use crate::counting::Needs;
@@ -10,9 +10,9 @@ use crate::counting::keep;
 use crate::partners::Role;
 use crate::partners::is_put;
 use crate::partners::partner_in;
+use crate::put::close_element;
 use crate::put::put_attributes;
 use crate::put::put_either;
-use crate::put::put_header;
 use crate::put::put_single;
 use compare::Child;
 use compare::next_child;
@@ -41,14 +41,10 @@ fn put_element(
     if left == 0 {
         return keep(needs);
     }
-    let none = Needs {
-        records: 0,
-        store: Octets(0),
-        octets: Octets(0),
-    };
-    let inner = put_inside(
+    let begun = add(needs, 1, Octets(0), Octets(2));
+    let inside = put_inside(
         out,
-        none,
+        begun,
         by,
         tag,
         left - 1,
@@ -58,26 +54,9 @@ fn put_element(
         index_b,
         table_b,
         b,
-        false,
+        emit,
     );
-    let begun = put_header(out, needs, tag, inner.octets, emit);
-    if emit {
-        return put_inside(
-            out,
-            begun,
-            by,
-            tag,
-            left - 1,
-            index_a,
-            table_a,
-            a,
-            index_b,
-            table_b,
-            b,
-            true,
-        );
-    }
-    add(begun, inner.records, inner.store, inner.octets)
+    close_element(out, needs, begun, inside, tag, emit)
 }
 
 // What they hold: the attributes of both, their child elements, CDATA.

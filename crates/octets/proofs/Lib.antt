@@ -8,5 +8,6 @@ pub mod Writing
 pub mod Answers
 pub mod Frames
 pub mod Places
+pub mod Upward
 pub mod Anchors
 pub mod Wrong

@@ -1,13 +1,16 @@
 -- Laws of lists beyond lib.Seq and lib.ListN, for this crate and those above: a list laid over another at a place (`sets`), and parts of parts. What a place
 -- outside the list would take is lost, so most laws ask nothing.
 use mathlib.Core.Path.{_≡_, refl, sym, ap, _∙_}
+use mathlib.Core.Bool.{Bool, true, false}
 use mathlib.Core.List.{List, [], _∷_, _++_, append-assoc}
 use Prim.Native.Nat.{ℕ, zero, suc, _+_, _-_, _≤_, _<_, min}
 use native.Mathlib.Nat.{add-zero, add-suc, suc-add, le-refl}
 use native.Mathlib.Numerals.{add-one}
 use native.Mathlib.Omega.{arith}
+use lib.Dec.{leb}
 use lib.ListN.{length, getD, set, take, drop, length-drop, length-set}
 use lib.Seq.{sets, sets-eq, set-set, set-comm, set-out, drop-set-lt, set-append-left, getD-set-other, take-all, take-nil, drop-nil, drop-drop, take-add, take-suc, drop-cons, getD-take, getD-drop, drop-at, length-take-le, take-append-seam}
+use borrow.Author.Tests.{leb-true, leb-false}
 
 module _ {ℓ} {A : Type ℓ} where
   -- ---- laid over a list
@@ -59,7 +62,7 @@ module _ {ℓ} {A : Type ℓ} where
   sets-start [] (x ∷ a) = sets-out [] 1 a (omega arith)
   sets-start (y ∷ l) (x ∷ a) = sets-cons x l 0 a ∙ ap (λ (m : List A). x ∷ m) (sets-start l a)
 
-  -- two layings: apart, in any order; at the same place, the second where it is as long
+  -- two layings: apart, in any order; where the second covers the first, as at the same place where it is as long
   pub set-sets : (l : List A) (i : ℕ) (a : List A) (j : ℕ) (x : A) → j < i → set (sets l i a) j x ≡ sets (set l j x) i a
   set-sets l i [] j x h = refl
   set-sets l i (y ∷ a) j x h = set-sets (set l i y) (suc i) a j x (omega arith) ∙ ap (λ (m : List A). sets m (suc i) a) (set-comm l i j y x (λ e. omega arith))
@@ -68,12 +71,20 @@ module _ {ℓ} {A : Type ℓ} where
   sets-comm l i [] j b h = refl
   sets-comm l i (x ∷ a) j b h = sets-comm (set l i x) (suc i) a j b (omega arith) ∙ ap (λ (m : List A). sets m (suc i) a) (sym (set-sets l j b i x (omega arith)))
 
+  set-covered : (l : List A) (i : ℕ) (x : A) (j : ℕ) (b : List A) → j ≤ i → i < j + length b → sets (set l i x) j b ≡ sets l j b
+  set-covered l i x j [] h k = absurd (omega arith)
+  set-covered l i x j (y ∷ b) h k = go (leb i j) refl (λ lt. set-covered (set l j y) i x (suc j) b lt (omega arith))
+    where
+      go : (t : Bool) → leb i j ≡ t → (j < i → sets (set (set l j y) i x) (suc j) b ≡ sets (set l j y) (suc j) b) → sets (set l i x) j (y ∷ b) ≡ sets l j (y ∷ b)
+      go true e ih = let w : i ≡ j = omega (arith, leb-true i j e) in ap (λ (m : List A). sets m (suc j) b) (ap (λ (n : ℕ). set (set l n x) j y) w ∙ set-set l j x y)
+      go false e ih = let w = leb-false i j e in ap (λ (m : List A). sets m (suc j) b) (set-comm l i j x y (λ q. omega arith)) ∙ ih w
+
+  pub sets-covered : (l : List A) (i : ℕ) (a : List A) (j : ℕ) (b : List A) → j ≤ i → i + length a ≤ j + length b → sets (sets l i a) j b ≡ sets l j b
+  sets-covered l i [] j b h k = refl
+  sets-covered l i (x ∷ a) j b h k = sets-covered (set l i x) (suc i) a j b (omega arith) (omega arith) ∙ set-covered l i x j b h (omega arith)
+
   pub sets-over : (l : List A) (i : ℕ) (a b : List A) → length a ≤ length b → sets (sets l i a) i b ≡ sets l i b
-  sets-over l i [] b h = refl
-  sets-over l i (x ∷ a) [] h = absurd (omega arith)
-  sets-over l i (x ∷ a) (y ∷ b) h =
-      ap (λ (m : List A). sets m (suc i) b) (set-sets (set l i x) (suc i) a i y (omega arith))
-      ∙ sets-over (set (set l i x) i y) (suc i) a b (omega arith) ∙ ap (λ (m : List A). sets m (suc i) b) (set-set l i x y)
+  sets-over l i a b h = sets-covered l i a i b (le-refl i) (omega arith)
 
   -- laying what lies there
   pub sets-same : (l : List A) (i n : ℕ) → sets l i (take n (drop i l)) ≡ l

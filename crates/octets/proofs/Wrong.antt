@@ -9,7 +9,7 @@ use lib.ListN.{length, take, drop, getD}
 use Rattle.octets.specs.Counts.{asOctets}
 use Rattle.octets.specs.Numbers.{value, digits}
 use Rattle.octets.specs.Header.{headerSize, bodySize, lengthField}
-use Rattle.octets.specs.Places.{liesIn, liesAt}
+use Rattle.octets.specs.Places.{liesIn, liesAt, movedUp}
 use Rattle.octets.specs.Calls.{headerOf, numberOf, fitsWidth}
 use Rattle.octets.specs.Puts.{putAnswer, putOut, Puts}
 use Rattle.octets.specs.declared.Header.{Header}
@@ -124,6 +124,15 @@ copied-start answer p = let z : _≡_ {A = ℕ} 1 9 = ap (λ l. getD l 0 0) (p .
 pub copied-end : (after : List ℕ) → Puts true (1 ∷ []) 2 (9 ∷ 9 ∷ []) after (Put.Done 3) → ⊥
 unfolding putAnswer
 copied-end after p = let h = p .answers in never (cc h)
+
+-- ---- move_up: from the first octet on, so that it is written over the others; as much as fits
+pub moved-smeared : movedUp (1 ∷ 2 ∷ 9 ∷ []) 0 2 1 ≡ 1 ∷ 1 ∷ 1 ∷ [] → ⊥
+unfolding movedUp
+moved-smeared h = let z : _≡_ {A = ℕ} 2 1 = ap (λ l. getD l 2 0) h in omega arith
+
+pub moved-clipped : movedUp (1 ∷ 2 ∷ []) 0 2 1 ≡ 1 ∷ 1 ∷ [] → ⊥
+unfolding movedUp
+moved-clipped h = let z : _≡_ {A = ℕ} 2 1 = ap (λ l. getD l 1 0) h in omega arith
 
 -- ---- two answers that no call may give which puts octets, whatever they are: that they were put, though they don't stand there; and that there is no room,
 -- though a part of them was left

@@ -1,10 +1,11 @@
 -- Where an item lies in octets (document 01, Framing). Told of all octets, also of such as are no accepted object; that the items of an accepted one lie in it is
 -- proved (reader/proofs/Opening).
-use mathlib.Core.Bool.{Bool, cond}
+use mathlib.Core.Bool.{Bool, cond, _&&_}
 use mathlib.Core.List.{List}
 use Prim.Native.Nat.{ℕ, _+_, _-_}
 use lib.Dec.{leb}
 use lib.ListN.{length, take, drop}
+use lib.Seq.{sets}
 use Rattle.octets.specs.Header.{headerSize, bodySize}
 use Rattle.octets.specs.declared.Lies.{Lies}
 use Rattle.octets.specs.declared.Lies.the-variants.{Outside, Between}
@@ -30,3 +31,7 @@ afterFirst s = drop (bodySize s) (drop (headerSize s) s)
 -- the octets between two places
 abbrev pub between : List ℕ → ℕ → ℕ → List ℕ
 between part from to = take (to - from) (drop from part)
+
+-- they lie so many places higher as well, where these are places of the list: what lies between the two and before them is as it was
+unfoldable pub movedUp : List ℕ → (from end by : ℕ) → List ℕ
+movedUp l from end by = cond (leb from end && leb (end + by) (length l)) (sets l (from + by) (between l from end)) l

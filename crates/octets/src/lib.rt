@@ -1,6 +1,6 @@
 // Numbers in octets, the most significant first, and the header of an item: its tag and the length of its body in one of three forms (document 01, Framing).
-// Readers and writers above take headers, numbers and plain octets through the public calls alone. None asks anything of its arguments. A call that writes
-// leaves the lent octets as they were unless it answers Done.
+// Readers and writers above take headers, numbers and plain octets through the public calls alone. None asks anything of its arguments. A call that puts
+// octets leaves the lent ones as they were unless it answers Done.
 ghost use mathlib.Core.Path.{_≡_};
 ghost use mathlib.Core.Bool.{true};
 ghost use mathlib.Core.List.{_∷_};
@@ -16,10 +16,12 @@ ghost use Rattle.octets.specs.Puts.{Puts};
 
 mod counts;
 mod items;
+mod moving;
 
 pub use counts::Characters;
 pub use counts::Octets;
 pub use items::item_at;
+pub use moving::move_up;
 
 // The header with which a part begins. Found: the span of the body, which begins behind the tag and the length and may run past the part. Past: the part ends
 // within the header.

@@ -1,6 +1,6 @@
 use native.Mathlib.Omega.{arith}
 use Prim.Native.Nat.{_-_}
-use Rattle.edits.proofs.Parts.{Falling, moving-ways, falling-length, falling-next}
+use Rattle.edits.proofs.Parts.{Falling, falling-ways, falling-length, falling-next}
 use borrow.Author.Needs.{needs}
 use Rattle.edits.proofs.moving.move_down16.Statement.{statement}
 use Rattle.edits.proofs.moving.move_down16.Tie as tie
@@ -12,7 +12,7 @@ abbrev μ-loop : tie.MeasureT-loop
 μ-loop list₀ from end by i₀ list i = end - i
 
 loop-holds : tie.Need-loop-holds Inv-loop μ-loop
-loop-holds c = search (moving-ways, needs)
+loop-holds c = search (falling-ways, needs)
 
 mul-list : tie.Need-mul-list Inv-loop μ-loop
 mul-list c = omega (arith, falling-length _ _ _ _ _ _ ((c .before .loop) .inv))
@@ -21,7 +21,7 @@ slice-read-list : tie.Need-slice-read-list Inv-loop μ-loop
 slice-read-list c = omega (arith, falling-length _ _ _ _ _ _ ((c .before .before .loop) .inv))
 
 sub-list : tie.Need-sub-list Inv-loop μ-loop
-sub-list c = search (moving-ways, needs)
+sub-list c = search (falling-ways, needs)
 
 mul-list-2 : tie.Need-mul-list-2 Inv-loop μ-loop
 mul-list-2 c = omega (arith, falling-length _ _ _ _ _ _ ((c .before .before .loop) .inv))
@@ -30,19 +30,19 @@ slice-write-list : tie.Need-slice-write-list Inv-loop μ-loop
 slice-write-list c = omega (arith, falling-length _ _ _ _ _ _ ((c .before .before .loop) .inv))
 
 add-i : tie.Need-add-i Inv-loop μ-loop
-add-i c = search (moving-ways, needs)
+add-i c = search (falling-ways, needs)
 
 loop-less : tie.Need-loop-less Inv-loop μ-loop
-loop-less c = search (moving-ways, needs)
+loop-less c = search (falling-ways, needs)
 
 loop-again : tie.Need-loop-again Inv-loop μ-loop
 loop-again c = falling-next _ _ _ _ _ _ ((c .before .before .loop) .inv) ((c .before .before .before .pre) .1) ((c .before .before .before .pre) .2) ((c .before .loop-test) .taken)
 
 same-length : tie.Need-same-length Inv-loop μ-loop
-same-length c = search (moving-ways, needs)
+same-length c = search (falling-ways, needs)
 
 returns : tie.Need-returns Inv-loop μ-loop
-returns c = search (moving-ways, needs)
+returns c = search (falling-ways, needs)
 
 pub move-down16-spec : {M : Type 1} → statement M
 move-down16-spec =

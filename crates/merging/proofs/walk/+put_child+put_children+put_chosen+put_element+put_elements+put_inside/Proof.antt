@@ -28,9 +28,9 @@ use Rattle.merging.proofs.counting.add.Reads as add-reads
 use Rattle.merging.proofs.counting.keep.Reads as keep-reads
 use Rattle.merging.proofs.partners.is_put.Reads as is-put-reads
 use Rattle.merging.proofs.partners.partner_in.Reads as partner-in-reads
+use Rattle.merging.proofs.put.close_element.Reads as close-element-reads
 use Rattle.merging.proofs.put.put_attributes.Reads as put-attributes-reads
 use Rattle.merging.proofs.put.put_either.Reads as put-either-reads
-use Rattle.merging.proofs.put.put_header.Reads as put-header-reads
 use Rattle.merging.proofs.put.put_single.Reads as put-single-reads
 use Rattle.tags.proofs.listed_as.Reads as listed-as-reads
 use Rattle.merging.proofs.walk.+put_child+put_children+put_chosen+put_element+put_elements+put_inside.{
@@ -536,161 +536,109 @@ put-chosen-returns-3 : (t : ℕ) → put-chosen-lts.Need-returns-3 (
 ) (put-chosen-at t) put-chosen.Post
 put-chosen-returns-3 t c = search (chosen-ways, needs)
 
--- src/walk.rt:41:9
+-- src/walk.rt:42:9
 put-element-keep-requires : (t : ℕ) → put-element-lts.Need-keep-requires (
   keep-reads.Asked,
   keep-reads.Learnt,
-  put-inside-below t,
-  put-inside.Post,
-  put-header-reads.Asked,
-  put-header-reads.Learnt,
   add-reads.Asked,
   add-reads.Learnt,
+  put-inside-below t,
+  put-inside.Post,
+  close-element-reads.Asked,
+  close-element-reads.Learnt,
 ) (put-element-at t) put-element.Post
 put-element-keep-requires t c κs = search (element-ways, needs)
 
--- src/walk.rt:41:9
+-- src/walk.rt:42:9
 put-element-returns : (t : ℕ) → put-element-lts.Need-returns (
   keep-reads.Asked,
   keep-reads.Learnt,
-  put-inside-below t,
-  put-inside.Post,
-  put-header-reads.Asked,
-  put-header-reads.Learnt,
   add-reads.Asked,
   add-reads.Learnt,
+  put-inside-below t,
+  put-inside.Post,
+  close-element-reads.Asked,
+  close-element-reads.Learnt,
 ) (put-element-at t) put-element.Post
 put-element-returns t c = search (element-ways, needs)
 
--- src/walk.rt:53:9
-put-element-sub-put-inside : (t : ℕ) → put-element-lts.Need-sub-put-inside (
-  keep-reads.Asked,
-  keep-reads.Learnt,
-  put-inside-below t,
-  put-inside.Post,
-  put-header-reads.Asked,
-  put-header-reads.Learnt,
-  add-reads.Asked,
-  add-reads.Learnt,
-) (put-element-at t) put-element.Post
-put-element-sub-put-inside t c = search (element-ways, needs)
-
--- src/walk.rt:48:9
-put-element-put-inside-requires : (t : ℕ) → put-element-lts.Need-put-inside-requires (
-  keep-reads.Asked,
-  keep-reads.Learnt,
-  put-inside-below t,
-  put-inside.Post,
-  put-header-reads.Asked,
-  put-header-reads.Learnt,
-  add-reads.Asked,
-  add-reads.Learnt,
-) (put-element-at t) put-element.Post
-put-element-put-inside-requires t c κs = search (element-ways, needs)
-
--- src/walk.rt:62:9
-put-element-put-header-requires : (t : ℕ) → put-element-lts.Need-put-header-requires (
-  keep-reads.Asked,
-  keep-reads.Learnt,
-  put-inside-below t,
-  put-inside.Post,
-  put-header-reads.Asked,
-  put-header-reads.Learnt,
-  add-reads.Asked,
-  add-reads.Learnt,
-) (put-element-at t) put-element.Post
-put-element-put-header-requires t c κs = search (element-ways, needs)
-
--- src/walk.rt:69:13
-put-element-sub-put-inside-2 : (t : ℕ) → put-element-lts.Need-sub-put-inside-2 (
-  keep-reads.Asked,
-  keep-reads.Learnt,
-  put-inside-below t,
-  put-inside.Post,
-  put-header-reads.Asked,
-  put-header-reads.Learnt,
-  add-reads.Asked,
-  add-reads.Learnt,
-) (put-element-at t) put-element.Post
-put-element-sub-put-inside-2 t c = search (element-ways, needs)
-
--- src/walk.rt:64:9
-put-element-put-inside-requires-2 : (t : ℕ) → put-element-lts.Need-put-inside-requires-2 (
-  keep-reads.Asked,
-  keep-reads.Learnt,
-  put-inside-below t,
-  put-inside.Post,
-  put-header-reads.Asked,
-  put-header-reads.Learnt,
-  add-reads.Asked,
-  add-reads.Learnt,
-) (put-element-at t) put-element.Post
-put-element-put-inside-requires-2 t c κs = search (element-ways, needs)
-
--- src/walk.rt:64:9
-put-element-same-length : (t : ℕ) → put-element-lts.Need-same-length (
-  keep-reads.Asked,
-  keep-reads.Learnt,
-  put-inside-below t,
-  put-inside.Post,
-  put-header-reads.Asked,
-  put-header-reads.Learnt,
-  add-reads.Asked,
-  add-reads.Learnt,
-) (put-element-at t) put-element.Post
-put-element-same-length t c = search (element-ways, needs)
-
--- src/walk.rt:64:9
-put-element-returns-2 : (t : ℕ) → put-element-lts.Need-returns-2 (
-  keep-reads.Asked,
-  keep-reads.Learnt,
-  put-inside-below t,
-  put-inside.Post,
-  put-header-reads.Asked,
-  put-header-reads.Learnt,
-  add-reads.Asked,
-  add-reads.Learnt,
-) (put-element-at t) put-element.Post
-put-element-returns-2 t c = search (element-ways, needs)
-
--- src/walk.rt:79:5
+-- src/walk.rt:44:17
 put-element-add-requires : (t : ℕ) → put-element-lts.Need-add-requires (
   keep-reads.Asked,
   keep-reads.Learnt,
-  put-inside-below t,
-  put-inside.Post,
-  put-header-reads.Asked,
-  put-header-reads.Learnt,
   add-reads.Asked,
   add-reads.Learnt,
+  put-inside-below t,
+  put-inside.Post,
+  close-element-reads.Asked,
+  close-element-reads.Learnt,
 ) (put-element-at t) put-element.Post
 put-element-add-requires t c κs = search (element-ways, needs)
 
--- src/walk.rt:24:1
-put-element-same-length-2 : (t : ℕ) → put-element-lts.Need-same-length-2 (
+-- src/walk.rt:50:9
+put-element-sub-put-inside : (t : ℕ) → put-element-lts.Need-sub-put-inside (
   keep-reads.Asked,
   keep-reads.Learnt,
-  put-inside-below t,
-  put-inside.Post,
-  put-header-reads.Asked,
-  put-header-reads.Learnt,
   add-reads.Asked,
   add-reads.Learnt,
+  put-inside-below t,
+  put-inside.Post,
+  close-element-reads.Asked,
+  close-element-reads.Learnt,
 ) (put-element-at t) put-element.Post
-put-element-same-length-2 t c = search (element-ways, needs)
+put-element-sub-put-inside t c = search (element-ways, needs)
+
+-- src/walk.rt:45:18
+put-element-put-inside-requires : (t : ℕ) → put-element-lts.Need-put-inside-requires (
+  keep-reads.Asked,
+  keep-reads.Learnt,
+  add-reads.Asked,
+  add-reads.Learnt,
+  put-inside-below t,
+  put-inside.Post,
+  close-element-reads.Asked,
+  close-element-reads.Learnt,
+) (put-element-at t) put-element.Post
+put-element-put-inside-requires t c κs = search (element-ways, needs)
+
+-- src/walk.rt:59:5
+put-element-close-element-requires : (t : ℕ) → put-element-lts.Need-close-element-requires (
+  keep-reads.Asked,
+  keep-reads.Learnt,
+  add-reads.Asked,
+  add-reads.Learnt,
+  put-inside-below t,
+  put-inside.Post,
+  close-element-reads.Asked,
+  close-element-reads.Learnt,
+) (put-element-at t) put-element.Post
+put-element-close-element-requires t c κs = search (element-ways, needs)
 
 -- src/walk.rt:24:1
-put-element-returns-3 : (t : ℕ) → put-element-lts.Need-returns-3 (
+put-element-same-length : (t : ℕ) → put-element-lts.Need-same-length (
   keep-reads.Asked,
   keep-reads.Learnt,
-  put-inside-below t,
-  put-inside.Post,
-  put-header-reads.Asked,
-  put-header-reads.Learnt,
   add-reads.Asked,
   add-reads.Learnt,
+  put-inside-below t,
+  put-inside.Post,
+  close-element-reads.Asked,
+  close-element-reads.Learnt,
 ) (put-element-at t) put-element.Post
-put-element-returns-3 t c = search (element-ways, needs)
+put-element-same-length t c = search (element-ways, needs)
+
+-- src/walk.rt:24:1
+put-element-returns-2 : (t : ℕ) → put-element-lts.Need-returns-2 (
+  keep-reads.Asked,
+  keep-reads.Learnt,
+  add-reads.Asked,
+  add-reads.Learnt,
+  put-inside-below t,
+  put-inside.Post,
+  close-element-reads.Asked,
+  close-element-reads.Learnt,
+) (put-element-at t) put-element.Post
+put-element-returns-2 t c = search (element-ways, needs)
 
 -- src/walk.rt:155:9
 put-elements-put-children-requires : (t : ℕ) → put-elements-lts.Need-put-children-requires (
@@ -864,27 +812,23 @@ pub +put-child+put-children+put-chosen+put-element+put-elements+put-inside-spec 
     (λ t. put-element-lts.spec (
       keep-reads.Asked,
       keep-reads.Learnt,
-      put-inside-below t,
-      put-inside.Post,
-      put-header-reads.Asked,
-      put-header-reads.Learnt,
       add-reads.Asked,
       add-reads.Learnt,
+      put-inside-below t,
+      put-inside.Post,
+      close-element-reads.Asked,
+      close-element-reads.Learnt,
     )
     (put-element-at t)
     put-element.Post
     (put-element-keep-requires t)
     (put-element-returns t)
+    (put-element-add-requires t)
     (put-element-sub-put-inside t)
     (put-element-put-inside-requires t)
-    (put-element-put-header-requires t)
-    (put-element-sub-put-inside-2 t)
-    (put-element-put-inside-requires-2 t)
+    (put-element-close-element-requires t)
     (put-element-same-length t)
-    (put-element-returns-2 t)
-    (put-element-add-requires t)
-    (put-element-same-length-2 t)
-    (put-element-returns-3 t))
+    (put-element-returns-2 t))
     (λ t. put-elements-lts.spec
     (put-children-below t, put-children.Post)
     (put-elements-at t)

@@ -1,9 +1,9 @@
 use native.Mathlib.Omega.{arith}
 use Prim.Native.Nat.{_-_}
-use Rattle.edits.proofs.Parts.{Rising, moving-ways, rising-length, rising-next}
+use Rattle.octets.proofs.Upward.{Rising, rising-ways, rising-length, rising-next}
 use borrow.Author.Needs.{needs}
-use Rattle.edits.proofs.moving.move_up.Statement.{statement}
-use Rattle.edits.proofs.moving.move_up.Tie as tie
+use Rattle.octets.proofs.moving.shift_up.Statement.{statement}
+use Rattle.octets.proofs.moving.shift_up.Tie as tie
 
 abbrev Inv-loop : tie.InvT-loop
 Inv-loop list₀ from end by i₀ list i = Rising from end by list₀ list i
@@ -12,34 +12,34 @@ abbrev μ-loop : tie.MeasureT-loop
 μ-loop list₀ from end by i₀ list i = i - from
 
 loop-holds : tie.Need-loop-holds Inv-loop μ-loop
-loop-holds c = search (moving-ways, needs)
+loop-holds c = search (rising-ways, needs)
 
 sub-i : tie.Need-sub-i Inv-loop μ-loop
-sub-i c = search (moving-ways, needs)
+sub-i c = search (rising-ways, needs)
 
 slice-read-list : tie.Need-slice-read-list Inv-loop μ-loop
 slice-read-list c = omega (arith, rising-length _ _ _ _ _ _ ((c .before .before .loop) .inv))
 
 add-list : tie.Need-add-list Inv-loop μ-loop
-add-list c = search (moving-ways, needs)
+add-list c = search (rising-ways, needs)
 
 slice-write-list : tie.Need-slice-write-list Inv-loop μ-loop
 slice-write-list c = omega (arith, rising-length _ _ _ _ _ _ ((c .before .before .loop) .inv))
 
 loop-less : tie.Need-loop-less Inv-loop μ-loop
-loop-less c = search (moving-ways, needs)
+loop-less c = search (rising-ways, needs)
 
 loop-again : tie.Need-loop-again Inv-loop μ-loop
 loop-again c = rising-next _ _ _ _ _ _ ((c .before .before .loop) .inv) ((c .before .before .before .pre) .1) ((c .before .loop-test) .taken)
 
 same-length : tie.Need-same-length Inv-loop μ-loop
-same-length c = search (moving-ways, needs)
+same-length c = search (rising-ways, needs)
 
 returns : tie.Need-returns Inv-loop μ-loop
-returns c = search (moving-ways, needs)
+returns c = search (rising-ways, needs)
 
-pub move-up-spec : {M : Type 1} → statement M
-move-up-spec =
+pub shift-up-spec : {M : Type 1} → statement M
+shift-up-spec =
     tie.close
     (tie.spec
     Inv-loop
