@@ -2,7 +2,7 @@
 use mathlib.Core.Path.{_≡_, refl, sym, ap, ap₂, _∙_, subst}
 use mathlib.Core.Bool.{Bool, true, false, cond, false≢true}
 use mathlib.Core.Option.{Option, none, some, Option·map}
-use mathlib.Core.List.{List, [], _∷_, _++_}
+use mathlib.Core.List.{List, [], _++_}
 use Prim.Native.Nat.{ℕ, zero, suc, _+_, _-_, _≤_, _<_, min}
 use native.Mathlib.Numerals.{add-one}
 use native.Mathlib.Omega.{arith}
@@ -11,7 +11,7 @@ use lib.ListN.{length}
 use lib.Seq.{sets, length-sets}
 use types.Run.{OneOf}
 use denote.Enum.Declared.{tagOf}
-use borrow.Author.Tests.{le-leb, lt-ltb, not-true, not-false}
+use borrow.Author.Tests.{le-leb, lt-ltb}
 use Rattle.octets.specs.Counts.{asOctets}
 use Rattle.octets.specs.declared.counts.Octets.{Octets}
 use Rattle.octets.specs.declared.Put.{Put}
@@ -50,9 +50,8 @@ use Rattle.compare.specs.Items.{countedBody, countedOfTag, countedSpan}
 use Rattle.compare.proofs.Sets.{counted-at, counted-ordered, counted-inside, found-body, counted-fits, counted-means}
 use Rattle.merge.specs.Merged.{either, united}
 use Rattle.merge.specs.Sizes.{taken as takenOf, takenBy}
-use Rattle.merging.specs.Clashing.{isFound}
 use Rattle.merging.specs.declared.counting.Needs.{Needs}
-use Rattle.merging.specs.Takes.{most, plus, Piece, empty, with, single, held, ifThere, attributesOf, Adds, HeaderPut, ValueLaid, ValuePut, SinglePut, octetsBy, octetsIn, FoundPut, eitherIn, EitherPut, AttributesPut}
+use Rattle.merging.specs.Takes.{most, plus, Piece, empty, with, single, held, ifThere, attributesOf, Adds, HeaderPut, ValueLaid, ValuePut, SinglePut, octetsBy, octetsIn, eitherIn, EitherPut, AttributesPut}
 use Rattle.merging.proofs.Adding.{records-sum, store-sum, octets-sum, with-empty, with-assoc, empty-with, adds-none, adds-nothing, adds-kept, adds-same, adds-then, held-put}
 
 -- ---- the octets of a value
@@ -174,71 +173,48 @@ single-put emit k tag index table body size n m r a b c e u v x =
     let s : size .0 ≡ min most (length o) = e ∙ ap (λ y. min most (length y)) (sym (indexed index table x k body)) in
     held-put emit tag (size .0) (record { records = 0; store = length o; octets = o }) n m r a b c s u (v s)
 
--- ---- put_found and put_either
+-- ---- put_either
 
-module _ (emit : Bool) (parent tag : ℕ) (index table part : List ℕ) (n : Needs) (before after : List ℕ) (r : Needs) (k : KnownKind) (ke : k ≡ knownKind parent tag) where
-  abbrev es : Entries
-  es = entriesBy index table
-
-  pub found-unknown : k ≡ Unknown → r ≡ plus n 0 0 0 → FoundPut emit parent tag index table part n before before r
-  unfolding FoundPut octetsIn octetsBy ifThere
-  found-unknown q e x = rw (unknown-kind parent tag k ke q) (adds-none emit n before r e)
-
-  module _ (kind : Kind) (q : k ≡ Known kind) (l : Lies) (le : l ≡ countedSpan parent tag part) where
-    octets-by : octetsIn es parent tag part ≡ Option·map (taken es (some kind)) (bodyBy part l)
-    unfolding octetsIn octetsBy
-    octets-by = ap₂ (octetsBy es) (known-kind parent tag k ke kind q) (sym (counted-at parent tag part l le))
-
-    pub found-nowhere : l ≡ Outside → r ≡ plus n 0 0 0 → FoundPut emit parent tag index table part n before before r
-    unfolding FoundPut ifThere bodyBy
-    found-nowhere w e x =
-        adds-same emit empty (ifThere tag (octetsIn es parent tag part)) n before before r (sym (ap (ifThere tag) (octets-by ∙ ap (λ y. Option·map (taken es (some kind)) (bodyBy part y)) w)))
-        (adds-none emit n before r e)
-
-    pub found-there : (from to : ℕ) → l ≡ Between from to → SinglePut emit kind tag index table (between part from to) n before after r → FoundPut emit parent tag index table part n before after r
-    unfolding FoundPut SinglePut ifThere bodyBy
-    found-there from to w p x =
-        adds-same emit (single tag (taken es (some kind) (between part from to))) (ifThere tag (octetsIn es parent tag part)) n before after r
-        (sym (ap (ifThere tag) (octets-by ∙ ap (λ y. Option·map (taken es (some kind)) (bodyBy part y)) w))) (p x)
-
-pub ruleset found-one-ways = (counted-ordered, counted-inside, found-unknown, found-nowhere, found-there)
-
-either-there : (es fs : Entries) (k : Option Kind) (x y : Option (List ℕ)) (o : List ℕ) → x ≡ some o → either (octetsBy es k x) (octetsBy fs k y) ≡ octetsBy es k x
-unfolding either octetsBy
-either-there es fs none x y o e = refl
-either-there es fs (some k) x y o e = rw e
-
-either-absent : (es fs : Entries) (k : Option Kind) (x y : Option (List ℕ)) → x ≡ none → either (octetsBy es k x) (octetsBy fs k y) ≡ octetsBy fs k y
-unfolding either octetsBy
-either-absent es fs none x y e = refl
-either-absent es fs (some k) x y e = rw e
-
-module _ (emit : Bool) (parent tag : ℕ) (index table a index′ table′ b : List ℕ) (n : Needs) (before after : List ℕ) (r : Needs) (s : Lies) (se : s ≡ countedSpan parent tag a) (h : Bool) (he : h ≡ isFound s) where
+module _ (emit : Bool) (parent tag : ℕ) (index table a index′ table′ b : List ℕ) (n : Needs) (before after : List ℕ) (r : Needs) (k : KnownKind) (ke : k ≡ knownKind parent tag) where
   abbrev first : Entries
   first = entriesBy index table
 
   abbrev second : Entries
   second = entriesBy index′ table′
 
-  pub either-first : h ≡ true → FoundPut emit parent tag index table a n before after r → EitherPut emit parent tag index table a index′ table′ b n before after r
-  unfolding FoundPut EitherPut eitherIn octetsIn isFound bodyBy
-  either-first q p x y = adds-same emit (ifThere tag (octetsIn first parent tag a)) (ifThere tag (eitherIn first second parent tag a b)) n before after r (ap (ifThere tag) (go (countedSpan parent tag a) refl)) (p x)
-    where
-      go : (l : Lies) → countedSpan parent tag a ≡ l → octetsIn first parent tag a ≡ eitherIn first second parent tag a b
-      go Outside e = absurd (false≢true (sym (he ∙ ap isFound (se ∙ e)) ∙ q))
-      go (Between from to) e =
-          sym (either-there first second (known parent tag) (countedOfTag parent tag a) (countedOfTag parent tag b) (between a from to) (sym (counted-at parent tag a (countedSpan parent tag a) refl) ∙ ap (bodyBy a) e))
+  pub either-unknown : k ≡ Unknown → r ≡ plus n 0 0 0 → EitherPut emit parent tag index table a index′ table′ b n before before r
+  unfolding EitherPut eitherIn octetsIn octetsBy either ifThere
+  either-unknown q e x y = rw (unknown-kind parent tag k ke q) (adds-none emit n before r e)
 
-  pub either-second : h ≡ false → FoundPut emit parent tag index′ table′ b n before after r → EitherPut emit parent tag index table a index′ table′ b n before after r
-  unfolding FoundPut EitherPut eitherIn octetsIn isFound bodyBy
-  either-second q p x y = adds-same emit (ifThere tag (octetsIn second parent tag b)) (ifThere tag (eitherIn first second parent tag a b)) n before after r (ap (ifThere tag) (go (countedSpan parent tag a) refl)) (p y)
-    where
-      go : (l : Lies) → countedSpan parent tag a ≡ l → octetsIn second parent tag b ≡ eitherIn first second parent tag a b
-      go Outside e =
-          sym (either-absent first second (known parent tag) (countedOfTag parent tag a) (countedOfTag parent tag b) (sym (counted-at parent tag a (countedSpan parent tag a) refl) ∙ ap (bodyBy a) e))
-      go (Between from to) e = absurd (false≢true (sym q ∙ (he ∙ ap isFound (se ∙ e))))
+  module _ (kind : Kind) (q : k ≡ Known kind) (l : Lies) (le : l ≡ countedSpan parent tag a) where
+    octets-by : (es : Entries) (part : List ℕ) (s : Lies) → s ≡ countedSpan parent tag part → octetsIn es parent tag part ≡ Option·map (taken es (some kind)) (bodyBy part s)
+    unfolding octetsIn octetsBy
+    octets-by es part s se = ap₂ (octetsBy es) (known-kind parent tag k ke kind q) (sym (counted-at parent tag part s se))
 
-pub ruleset either-ways = (either-first, either-second)
+    pub either-first : (from to : ℕ) → l ≡ Between from to → SinglePut emit kind tag index table (between a from to) n before after r → EitherPut emit parent tag index table a index′ table′ b n before after r
+    unfolding EitherPut SinglePut eitherIn either ifThere bodyBy
+    either-first from to w p x y =
+        adds-same emit (single tag (taken first (some kind) (between a from to))) (ifThere tag (eitherIn first second parent tag a b)) n before after r
+        (sym (ap (λ o. ifThere tag (either o (octetsIn second parent tag b))) (octets-by first a l le ∙ ap (λ s. Option·map (taken first (some kind)) (bodyBy a s)) w))) (p x)
+
+    module _ (w : l ≡ Outside) (m : Lies) (me : m ≡ countedSpan parent tag b) where
+      only-second : eitherIn first second parent tag a b ≡ Option·map (taken second (some kind)) (bodyBy b m)
+      unfolding eitherIn either bodyBy
+      only-second = ap₂ either (octets-by first a l le ∙ ap (λ s. Option·map (taken first (some kind)) (bodyBy a s)) w) (octets-by second b m me)
+
+      pub either-second : (from to : ℕ) → m ≡ Between from to → SinglePut emit kind tag index′ table′ (between b from to) n before after r → EitherPut emit parent tag index table a index′ table′ b n before after r
+      unfolding EitherPut SinglePut ifThere bodyBy
+      either-second from to v p x y =
+          adds-same emit (single tag (taken second (some kind) (between b from to))) (ifThere tag (eitherIn first second parent tag a b)) n before after r
+          (sym (ap (ifThere tag) (only-second ∙ ap (λ s. Option·map (taken second (some kind)) (bodyBy b s)) v))) (p y)
+
+      pub either-nowhere : m ≡ Outside → r ≡ plus n 0 0 0 → EitherPut emit parent tag index table a index′ table′ b n before before r
+      unfolding EitherPut ifThere bodyBy
+      either-nowhere v e x y =
+          adds-same emit empty (ifThere tag (eitherIn first second parent tag a b)) n before before r
+          (sym (ap (ifThere tag) (only-second ∙ ap (λ s. Option·map (taken second (some kind)) (bodyBy b s)) v))) (adds-none emit n before r e)
+
+pub ruleset either-ways = (counted-ordered, counted-inside, either-unknown, either-first, either-second, either-nowhere)
 
 -- ---- put_attributes
 

@@ -111,9 +111,6 @@ octetsBy es (some k) o = Option·map (taken es (some k)) o
 unfoldable pub octetsIn : Entries → (parent tag : ℕ) → List ℕ → Option (List ℕ)
 octetsIn es parent tag part = octetsBy es (known parent tag) (countedOfTag parent tag part)
 
-unfoldable pub FoundPut : (emit : Bool) (parent tag : ℕ) (index table part : List ℕ) (n : Needs) (before after : List ℕ) (r : Needs) → Type 0
-FoundPut emit parent tag index table part n before after r = Indexes (entries table) index → Adds emit (ifThere tag (octetsIn (entriesBy index table) parent tag part)) n before after r
-
 -- of two partners
 unfoldable pub eitherIn : Entries → Entries → (parent tag : ℕ) → List ℕ → List ℕ → Option (List ℕ)
 eitherIn es fs parent tag a b = either (octetsIn es parent tag a) (octetsIn fs parent tag b)

@@ -6,8 +6,7 @@ ghost use Prim.Native.Nat.{min};
 ghost use lib.ListN.{length};
 ghost use Rattle.text.specs.Tokens.{entries, expanded};
 ghost use Rattle.survey.specs.Sizes.{taken};
-ghost use Rattle.merging.specs.Takes.{most, HeaderPut, ElementClosed, ValueLaid, ValuePut, SinglePut, FoundPut, EitherPut, AttributesPut};
-use crate::clash::is_found;
+ghost use Rattle.merging.specs.Takes.{most, HeaderPut, ElementClosed, ValueLaid, ValuePut, SinglePut, EitherPut, AttributesPut};
 use crate::counting::Needs;
 use crate::counting::add;
 use crate::counting::excess;
@@ -138,29 +137,7 @@ pub fn put_single(
     put_value(out, begun, kind, index, table, body, size, emit)
 }
 
-// The item of a tag in a part, where it is there and counts.
-fn put_found(
-    out: &mut [u8],
-    needs: Needs,
-    parent: u8,
-    tag: u8,
-    index: &[usize; 32],
-    table: &[u8],
-    part: &[u8],
-    emit: bool,
-) -> Needs
-    ensures { λ r. ⌜ FoundPut emit parent tag (now (index .entry)) (now (table .entry)) (now (part .entry)) needs (now (out .entry)) (now (out .exit)) r ⌝ }
-{
-    let KnownKind::Known(kind) = known_kind(parent, tag) else {
-        return keep(needs);
-    };
-    let Lies::Between { from, to } = find_counted(parent, tag, part) else {
-        return keep(needs);
-    };
-    put_single(out, needs, kind, tag, index, table, &part[from..to], emit)
-}
-
-// The item of a tag that one of two partners has; where both have it, the first one's.
+// The item of a tag that one of two partners has, where it counts; where both have it, the first one's.
 pub fn put_either(
     out: &mut [u8],
     needs: Needs,
@@ -176,10 +153,16 @@ pub fn put_either(
 ) -> Needs
     ensures { λ r. ⌜ EitherPut emit parent tag (now («index_a» .entry)) (now («table_a» .entry)) (now (a .entry)) (now («index_b» .entry)) (now («table_b» .entry)) (now (b .entry)) needs (now (out .entry)) (now (out .exit)) r ⌝ }
 {
-    if is_found(find_counted(parent, tag, a)) {
-        return put_found(out, needs, parent, tag, index_a, table_a, a, emit);
+    let KnownKind::Known(kind) = known_kind(parent, tag) else {
+        return keep(needs);
+    };
+    if let Lies::Between { from, to } = find_counted(parent, tag, a) {
+        return put_single(out, needs, kind, tag, index_a, table_a, &a[from..to], emit);
     }
-    put_found(out, needs, parent, tag, index_b, table_b, b, emit)
+    let Lies::Between { from, to } = find_counted(parent, tag, b) else {
+        return keep(needs);
+    };
+    put_single(out, needs, kind, tag, index_b, table_b, &b[from..to], emit)
 }
 
 // The attributes of two partners, by rising tag. No element knows one above 0x86.
