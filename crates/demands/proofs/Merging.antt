@@ -31,10 +31,10 @@ use Rattle.merge.specs.Kept.{emptyTop, Mergeable, InOrder, AnyOrder, Comes}
 use Rattle.merge.specs.Sizes.{recordsIn, storedIn}
 use Rattle.merge.specs.Calls.{conflict, misfit, Outcome, unlessRefused, mergedInto, outcome, answerOf, writtenOf, MergeClaim}
 use Rattle.merge.specs.Calls.Outcome.{refuses, gives}
-use Rattle.merge.proofs.Results.{Fits, merge-result, merge-leaves, merge-empty}
+use Rattle.merge.proofs.Results.{Fits, merge-suffices, merge-result, merge-leaves, merge-empty}
 use Rattle.demands.specs.One.{OfCall}
 use Rattle.demands.specs.One.OfCall.{ofCall}
-use Rattle.demands.specs.Merging.{Ended, MergeEnds, Suffices, Hinders, MergeOrder, MergeInOrder, MergedObject, MergeGives, MergeEmpty}
+use Rattle.demands.specs.Merging.{Ended, MergeEnds, Suffices, Hinders, MergeOrder, MergeInOrder, MergedObject, MergeGives, MergeEmpty, MergeAlways}
 use Rattle.demands.specs.Merging.Ended.{merges, ofBasic, ofAdvanced, ofBoth}
 use Rattle.demands.specs.Merging.Hinders.{twenty, twentyOne, fourteen, fifteen}
 use Rattle.demands.proofs.Laws.{empty-refused, of-object, has-meaning, accepted-means}
@@ -311,3 +311,10 @@ merge-with-empty by basic advanced os ps m m′ room room′ answer c b tag e f 
     let octets = written by basic advanced m m′ room room′ answer c b o (r .both .fits) in
     let again = accepted-means (encode b) (r .again .tree) (r .again .accepts) ∙ ap some (r .again .means-it) in
     (recordsIn b, sizeOf (encode b), a, ap meaning octets ∙ again ∙ sym e)
+
+pub merge-always : MergeAlways
+unfolding outcome mergedInto unlessRefused answerOf
+merge-always by basic advanced os ps m m′ room room′ answer c t u h g f a b r l =
+    let w = merged by (meaningOf t) (meaningOf u) in
+    let fits = merge-suffices by basic advanced t u os ps h g (f .tops) l (lentBy m room) a b r in
+    (recordsIn w, sizeOf (encode w), c .answers ∙ rw (h, g, conflict-none by (meaningOf t) (meaningOf u) f, fits))

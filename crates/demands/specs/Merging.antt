@@ -17,7 +17,7 @@ use Rattle.format.specs.Judge.Judged.{refused, accepted}
 use Rattle.format.specs.Meaning.{Meaning, meaningOf, meaning, encode, normal}
 use Rattle.format.specs.Loaded.{loadedOf}
 use Rattle.format.specs.Calls.{Lent}
-use Rattle.format.specs.State.{Memory, layTree}
+use Rattle.format.specs.State.{Memory, placesIn, layTree}
 use Rattle.state.specs.Taking.{lentBy}
 use Rattle.merge.specs.declared.Services.{Services}
 use Rattle.merge.specs.declared.MergeAnswer.{MergeAnswer}
@@ -100,3 +100,11 @@ MergeEmpty =
     → MergeClaim by basic advanced m m′ room room′ answer → (b : Meaning) (tag : ℕ) → meaning basic ≡ some b → meaning advanced ≡ some (emptyTop tag)
     → sameTop b (emptyTop tag) ≡ true → twice by b ≡ false → Suffices (lentBy m room) b
     → (n : ℕ) × (size : OctetCount) × (answer ≡ Merged n size) × (meaning (take (size .0) room′) ≡ meaning basic)
+
+-- with 16,384 places, and 32,768 octets of store and of room, whatever can be merged is, unless the result has more octets than an object may
+abbrev pub MergeAlways : Type 0
+MergeAlways =
+    (by : Services) (basic advanced : List ℕ) → Octets basic → Octets advanced → (m m′ : Memory) (room room′ : List ℕ) (answer : MergeAnswer)
+    → MergeClaim by basic advanced m m′ room room′ answer → (t u : Items) → judge basic ≡ accepted t → judge advanced ≡ accepted u
+    → Mergeable by (meaningOf t) (meaningOf u) → 16_384 ≤ placesIn m → 32_768 ≤ length (m .store) → 32_768 ≤ length room
+    → length (encode (merged by (meaningOf t) (meaningOf u))) ≤ 32_768 → (n : ℕ) × (size : OctetCount) × (answer ≡ Merged n size)
