@@ -36,7 +36,7 @@ pub fn verb_of(word: &[u8]) -> Verb {
 }
 
 // An insertion has a place beside the number of a record.
-fn has_place(word: &[u8]) -> bool {
+pub fn has_place(word: &[u8]) -> bool {
     match verb_of(word) {
         Verb::Insert => true,
         Verb::InsertFile => true,

@@ -3,6 +3,7 @@
 use crate::asking::Verb;
 use crate::asking::behind;
 use crate::asking::find;
+use crate::asking::has_place;
 use crate::asking::numbers_of;
 use crate::asking::octets_in;
 use crate::asking::verb_of;
@@ -82,45 +83,28 @@ fn make(
     bodies: &mut [u16],
     store: &mut [u8],
 ) -> Outcome {
+    if has_place(word) {
+        let answer = edits::insert(
+            records,
+            number,
+            place,
+            given,
+            tags,
+            kinds,
+            depths,
+            parents,
+            starts,
+            sizes,
+            bodies,
+            store,
+        );
+        return answer.outcome();
+    }
     match verb_of(word) {
         Verb::Remove => {
             let answer = edits::remove(
                 records,
                 number,
-                tags,
-                kinds,
-                depths,
-                parents,
-                starts,
-                sizes,
-                bodies,
-                store,
-            );
-            answer.outcome()
-        }
-        Verb::Insert => {
-            let answer = edits::insert(
-                records,
-                number,
-                place,
-                given,
-                tags,
-                kinds,
-                depths,
-                parents,
-                starts,
-                sizes,
-                bodies,
-                store,
-            );
-            answer.outcome()
-        }
-        Verb::InsertFile => {
-            let answer = edits::insert(
-                records,
-                number,
-                place,
-                given,
                 tags,
                 kinds,
                 depths,
