@@ -91,7 +91,7 @@ pub fn put_record(
     }
 }
 
-// The record of a number, from the lists: one test where all of them have it, a test for each field where they don't.
+// The record of a number, from the lists.
 pub fn record_at(
     tags: &[u8],
     kinds: &[u8],
@@ -103,16 +103,6 @@ pub fn record_at(
 ) -> Record
     ensures { λ r. ⌜ r ≡ row (lent (tags .entry) (kinds .entry) (depths .entry) (parents .entry) (starts .entry) (sizes .entry)) i ⌝ }
 {
-    if i < places(tags, kinds, depths, parents, starts, sizes) {
-        return Record {
-            tag: tags[i],
-            kind: kinds[i],
-            depth: depths[i],
-            parent: parents[i],
-            start: starts[i],
-            size: sizes[i],
-        };
-    }
     Record {
         tag: octet_at(tags, i),
         kind: octet_at(kinds, i),

@@ -1,4 +1,4 @@
--- A record among the items of an element, one law for each way through the code.
+-- A record among the items of an element, one law for each way through the code; and a record's place in the lists.
 use Prim.Native.Nat.{ℕ, _+_, _-_, _≤_, _<_}
 use mathlib.Core.Path.{_≡_, sym, ap, _∙_}
 use mathlib.Core.List.{List}
@@ -6,11 +6,15 @@ use mathlib.Core.Bool.{Bool, true, false}
 use lib.Dec.{eqb, leb}
 use lib.ListN.{length, take, drop}
 use native.Mathlib.Nat.{add-sub-cancel-left}
+use native.Mathlib.Omega.{arith}
 use borrow.Author.Tests.{lt-leb, le-leb, eq-eqb, ne-eqb}
 use Rattle.values.specs.Table.{known}
 use Rattle.format.specs.declared.Record.{Record}
 use Rattle.format.specs.Tree.{kindOf}
 use Rattle.format.specs.Writer.{bodyIn}
+use Rattle.format.specs.Calls.{Lists, places}
+use Rattle.format.specs.Lent.{Within}
+use Rattle.format.proofs.Lays.{within-places}
 use Rattle.records.specs.Check.{heldAs, placedBy, stateAfter, itemOf, tied, itemAs}
 use Rattle.records.specs.declared.check.Parent.{Parent}
 use Rattle.records.specs.declared.check.State.{State}
@@ -63,3 +67,7 @@ module _ (p : Parent) (s : State) (lent : List ℕ) (r : Record) where
                 (xe ∙ ap (itemOf h (r .tag)) te ∙ ap (λ y. itemOf y (r .tag) (stateAfter p s (r .tag))) (rw add-sub-cancel-left at he))
 
 pub ruleset record-ways = (record-past, bad-kind, bad-parent, bad-span, bad-place, good-record)
+
+-- one of so many records, for which there are places
+pub listed-within : (i n : ℕ) (l : Lists) → i < n → n ≤ places l → Within i l
+listed-within i n l h k = within-places i l (omega arith)

@@ -9,13 +9,12 @@ ghost use Rattle.values.specs.Table.{known};
 ghost use Rattle.text.specs.Text.{text};
 ghost use Rattle.text.specs.Tokens.{shownLength};
 ghost use Rattle.format.specs.Judge.{shown};
-ghost use Rattle.format.specs.Calls.{treeGiven};
+ghost use Rattle.format.specs.Calls.{places, treeGiven};
 ghost use Rattle.format.specs.Lent.{lent};
 ghost use Rattle.records.specs.Check.{isGiven, octetsIf, heldAs, placedBy, stateAfter, itemOf, itemAs, firstIn, parentAt, walked, told};
 use format::Record;
 use format::kind_of;
 use format::places;
-use format::record_at;
 use octets::Characters;
 use tags::has_bit;
 use tags::is_allowed;
@@ -198,7 +197,8 @@ fn parent_at(parent: Parent, tag: u8, i: usize) -> Parent
 }
 
 // The records of the items in one element, from a number on. Each turn looks at one record and goes on behind it, so that all turns
-// together are as many as the records. An element below depth 16 is bad, so that the calls nest at most 17 deep.
+// together are as many as the records. An element below depth 16 is bad, so that the calls nest at most 17 deep. A record's fields are read here, where it is
+// known that each list has it: by `record_at` of format, which asks for nothing and so tests, an edit took 12 to 20 % longer.
 fn check_items(
     count: usize,
     tags: &[u8],
@@ -211,13 +211,20 @@ fn check_items(
     at: usize,
     parent: Parent,
 ) -> Reached
-    requires { ⌜ (at ≤ count) × (parent .depth ≤ 17) ⌝ }
+    requires { ⌜ (count ≤ places (lent tags kinds depths parents starts sizes)) × (at ≤ count) × (parent .depth ≤ 17) ⌝ }
     ensures { λ r. ⌜ r ≡ told (walked (lent (tags .entry) (kinds .entry) (depths .entry) (parents .entry) (starts .entry) (sizes .entry)) count (now (octets .entry)) (firstIn parent) (parent .number) at) ⌝ }
 {
     let mut i = at;
     let mut state = State { stage: 0, mask: 0 };
     while i < count {
-        let given = record_at(tags, kinds, depths, parents, starts, sizes, i);
+        let given = Record {
+            tag: tags[i],
+            kind: kinds[i],
+            depth: depths[i],
+            parent: parents[i],
+            start: starts[i],
+            size: sizes[i],
+        };
         match check_record(given, octets, parent, state) {
             Item::Past => {
                 return Reached::Next(i);

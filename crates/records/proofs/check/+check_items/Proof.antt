@@ -1,7 +1,8 @@
 use Prim.Native.Nat.{_-_}
-use mathlib.Core.Path.{ap}
+use mathlib.Core.Path.{refl, ap}
 use native.Mathlib.Omega.{arith}
 use borrow.Author.Needs.{needs}
+use Rattle.records.proofs.Records.{listed-within}
 use Rattle.records.proofs.Turns.{Holds, at-first, turns-end, turn-past, turn-bad, turn-single, turn-ill, turn-nested, nested-less, nested-shallow}
 use Prim.Native.Nat.{ℕ, _<_}
 use borrow.Fn.Kinds.{In}
@@ -11,7 +12,6 @@ use Rattle.records.proofs.check.check_items.Kinds as check-items-kinds
 use Rattle.records.proofs.check.+check_items.Lts-check_items as check-items-lts
 use Rattle.records.proofs.check.check_record.Reads as check-record-reads
 use Rattle.records.proofs.check.parent_at.Reads as parent-at-reads
-use Rattle.format.proofs.record_at.Reads as record-at-reads
 use Rattle.records.proofs.check.+check_items.{statement}
 use Rattle.records.proofs.check.+check_items.Tie.{close}
 
@@ -36,8 +36,6 @@ check-items-μ-loop count tags kinds depths parents starts sizes octets at paren
     count - i
 
 check-items-loop-holds : (t : ℕ) → check-items-lts.Need-loop-holds (
-  record-at-reads.Asked,
-  record-at-reads.Learnt,
   check-record-reads.Asked,
   check-record-reads.Learnt,
   parent-at-reads.Asked,
@@ -46,11 +44,9 @@ check-items-loop-holds : (t : ℕ) → check-items-lts.Need-loop-holds (
   check-items.Post,
 ) (check-items-at t) check-items.Post check-items-Inv-loop check-items-μ-loop
 check-items-loop-holds t c =
-    at-first _ _ _ _ _ ((c .before .before .before .before .before .before .before .pre) .1 .0)
+    at-first _ _ _ _ _ ((c .before .before .before .before .before .before .before .pre) .1 .1)
 
-check-items-record-at-requires : (t : ℕ) → check-items-lts.Need-record-at-requires (
-  record-at-reads.Asked,
-  record-at-reads.Learnt,
+check-items-shared-slice-read-t20 : (t : ℕ) → check-items-lts.Need-shared-slice-read-t20 (
   check-record-reads.Asked,
   check-record-reads.Learnt,
   parent-at-reads.Asked,
@@ -58,11 +54,98 @@ check-items-record-at-requires : (t : ℕ) → check-items-lts.Need-record-at-re
   check-items-below t,
   check-items.Post,
 ) (check-items-at t) check-items.Post check-items-Inv-loop check-items-μ-loop
-check-items-record-at-requires t c κs = search needs
+check-items-shared-slice-read-t20 t c =
+    listed-within _ _ _ ((c .before .loop-test) .taken) ((c .before .before .before .before .before .before .before .before .before .before .pre) .1 .0) .tags
+
+check-items-shared-slice-read-t22 : (t : ℕ) → check-items-lts.Need-shared-slice-read-t22 (
+  check-record-reads.Asked,
+  check-record-reads.Learnt,
+  parent-at-reads.Asked,
+  parent-at-reads.Learnt,
+  check-items-below t,
+  check-items.Post,
+) (check-items-at t) check-items.Post check-items-Inv-loop check-items-μ-loop
+check-items-shared-slice-read-t22 t c =
+    listed-within _ _ _ ((c .before .before .loop-test) .taken) ((c .before .before .before .before .before .before .before .before .before .before .before .pre) .1 .0) .kinds
+
+check-items-shared-slice-read-t24 : (t : ℕ) → check-items-lts.Need-shared-slice-read-t24 (
+  check-record-reads.Asked,
+  check-record-reads.Learnt,
+  parent-at-reads.Asked,
+  parent-at-reads.Learnt,
+  check-items-below t,
+  check-items.Post,
+) (check-items-at t) check-items.Post check-items-Inv-loop check-items-μ-loop
+check-items-shared-slice-read-t24 t c =
+    listed-within _ _ _ ((c .before .before .before .loop-test) .taken) ((c .before .before .before .before .before .before .before .before .before .before .before .before .pre) .1 .0) .depths
+
+check-items-mul-t25 : (t : ℕ) → check-items-lts.Need-mul-t25 (
+  check-record-reads.Asked,
+  check-record-reads.Learnt,
+  parent-at-reads.Asked,
+  parent-at-reads.Learnt,
+  check-items-below t,
+  check-items.Post,
+) (check-items-at t) check-items.Post check-items-Inv-loop check-items-μ-loop
+check-items-mul-t25 t c =
+    let within = listed-within _ _ _ ((c .before .before .before .loop-test) .taken) ((c .before .before .before .before .before .before .before .before .before .before .before .before .pre) .1 .0) in search (within, needs)
+
+check-items-shared-slice-read-t27 : (t : ℕ) → check-items-lts.Need-shared-slice-read-t27 (
+  check-record-reads.Asked,
+  check-record-reads.Learnt,
+  parent-at-reads.Asked,
+  parent-at-reads.Learnt,
+  check-items-below t,
+  check-items.Post,
+) (check-items-at t) check-items.Post check-items-Inv-loop check-items-μ-loop
+check-items-shared-slice-read-t27 t c =
+    listed-within _ _ _ ((c .before .before .before .before .loop-test) .taken) ((c .before .before .before .before .before .before .before .before .before .before .before .before .before .pre) .1 .0) .parents
+
+check-items-mul-t28 : (t : ℕ) → check-items-lts.Need-mul-t28 (
+  check-record-reads.Asked,
+  check-record-reads.Learnt,
+  parent-at-reads.Asked,
+  parent-at-reads.Learnt,
+  check-items-below t,
+  check-items.Post,
+) (check-items-at t) check-items.Post check-items-Inv-loop check-items-μ-loop
+check-items-mul-t28 t c =
+    let within = listed-within _ _ _ ((c .before .before .before .before .loop-test) .taken) ((c .before .before .before .before .before .before .before .before .before .before .before .before .before .pre) .1 .0) in search (within, needs)
+
+check-items-shared-slice-read-t30 : (t : ℕ) → check-items-lts.Need-shared-slice-read-t30 (
+  check-record-reads.Asked,
+  check-record-reads.Learnt,
+  parent-at-reads.Asked,
+  parent-at-reads.Learnt,
+  check-items-below t,
+  check-items.Post,
+) (check-items-at t) check-items.Post check-items-Inv-loop check-items-μ-loop
+check-items-shared-slice-read-t30 t c =
+    listed-within _ _ _ ((c .before .before .before .before .before .loop-test) .taken) ((c .before .before .before .before .before .before .before .before .before .before .before .before .before .before .pre) .1 .0) .starts
+
+check-items-mul-t31 : (t : ℕ) → check-items-lts.Need-mul-t31 (
+  check-record-reads.Asked,
+  check-record-reads.Learnt,
+  parent-at-reads.Asked,
+  parent-at-reads.Learnt,
+  check-items-below t,
+  check-items.Post,
+) (check-items-at t) check-items.Post check-items-Inv-loop check-items-μ-loop
+check-items-mul-t31 t c =
+    let within = listed-within _ _ _ ((c .before .before .before .before .before .loop-test) .taken) ((c .before .before .before .before .before .before .before .before .before .before .before .before .before .before .pre) .1 .0) in search (within, needs)
+
+check-items-shared-slice-read-t33 : (t : ℕ) → check-items-lts.Need-shared-slice-read-t33 (
+  check-record-reads.Asked,
+  check-record-reads.Learnt,
+  parent-at-reads.Asked,
+  parent-at-reads.Learnt,
+  check-items-below t,
+  check-items.Post,
+) (check-items-at t) check-items.Post check-items-Inv-loop check-items-μ-loop
+check-items-shared-slice-read-t33 t c =
+    listed-within _ _ _ ((c .before .before .before .before .before .before .loop-test) .taken) ((c .before .before .before .before .before .before .before .before .before .before .before .before .before .before .before .pre) .1 .0) .sizes
 
 check-items-check-record-requires : (t : ℕ) → check-items-lts.Need-check-record-requires (
-  record-at-reads.Asked,
-  record-at-reads.Learnt,
   check-record-reads.Asked,
   check-record-reads.Learnt,
   parent-at-reads.Asked,
@@ -73,8 +156,6 @@ check-items-check-record-requires : (t : ℕ) → check-items-lts.Need-check-rec
 check-items-check-record-requires t c κs = search needs
 
 check-items-enum-told : (t : ℕ) → check-items-lts.Need-enum-told (
-  record-at-reads.Asked,
-  record-at-reads.Learnt,
   check-record-reads.Asked,
   check-record-reads.Learnt,
   parent-at-reads.Asked,
@@ -85,8 +166,6 @@ check-items-enum-told : (t : ℕ) → check-items-lts.Need-enum-told (
 check-items-enum-told t c = search needs
 
 check-items-returns : (t : ℕ) → check-items-lts.Need-returns (
-  record-at-reads.Asked,
-  record-at-reads.Learnt,
   check-record-reads.Asked,
   check-record-reads.Learnt,
   parent-at-reads.Asked,
@@ -95,11 +174,9 @@ check-items-returns : (t : ℕ) → check-items-lts.Need-returns (
   check-items.Post,
 ) (check-items-at t) check-items.Post check-items-Inv-loop check-items-μ-loop
 check-items-returns t c =
-    turn-past _ _ _ _ _ _ _ ((c .before .before .before .before .before .loop) .inv) ((c .before .before .before .before .loop-test) .taken) _ ((c .before .before .before .record-at) .ensures) _ ((c .before .before .check-record) .ensures) ((c .enum-told) .given .1)
+    turn-past _ _ _ _ _ _ _ ((c .before .before .before .before .before .before .before .before .before .before .loop) .inv) ((c .before .before .before .before .before .before .before .before .before .loop-test) .taken) _ refl _ ((c .before .before .check-record) .ensures) ((c .enum-told) .given .1)
 
 check-items-enum-told-2 : (t : ℕ) → check-items-lts.Need-enum-told-2 (
-  record-at-reads.Asked,
-  record-at-reads.Learnt,
   check-record-reads.Asked,
   check-record-reads.Learnt,
   parent-at-reads.Asked,
@@ -110,8 +187,6 @@ check-items-enum-told-2 : (t : ℕ) → check-items-lts.Need-enum-told-2 (
 check-items-enum-told-2 t c = search needs
 
 check-items-returns-2 : (t : ℕ) → check-items-lts.Need-returns-2 (
-  record-at-reads.Asked,
-  record-at-reads.Learnt,
   check-record-reads.Asked,
   check-record-reads.Learnt,
   parent-at-reads.Asked,
@@ -120,11 +195,9 @@ check-items-returns-2 : (t : ℕ) → check-items-lts.Need-returns-2 (
   check-items.Post,
 ) (check-items-at t) check-items.Post check-items-Inv-loop check-items-μ-loop
 check-items-returns-2 t c =
-    turn-bad _ _ _ _ _ _ _ ((c .before .before .before .before .before .loop) .inv) ((c .before .before .before .before .loop-test) .taken) _ ((c .before .before .before .record-at) .ensures) _ ((c .before .before .check-record) .ensures) ((c .enum-told2) .given .1)
+    turn-bad _ _ _ _ _ _ _ ((c .before .before .before .before .before .before .before .before .before .before .loop) .inv) ((c .before .before .before .before .before .before .before .before .before .loop-test) .taken) _ refl _ ((c .before .before .check-record) .ensures) ((c .enum-told2) .given .1)
 
 check-items-enum-known-next : (t : ℕ) → check-items-lts.Need-enum-known-next (
-  record-at-reads.Asked,
-  record-at-reads.Learnt,
   check-record-reads.Asked,
   check-record-reads.Learnt,
   parent-at-reads.Asked,
@@ -135,8 +208,6 @@ check-items-enum-known-next : (t : ℕ) → check-items-lts.Need-enum-known-next
 check-items-enum-known-next t c = search needs
 
 check-items-add-i : (t : ℕ) → check-items-lts.Need-add-i (
-  record-at-reads.Asked,
-  record-at-reads.Learnt,
   check-record-reads.Asked,
   check-record-reads.Learnt,
   parent-at-reads.Asked,
@@ -147,8 +218,6 @@ check-items-add-i : (t : ℕ) → check-items-lts.Need-add-i (
 check-items-add-i t c = search needs
 
 check-items-loop-less : (t : ℕ) → check-items-lts.Need-loop-less (
-  record-at-reads.Asked,
-  record-at-reads.Learnt,
   check-record-reads.Asked,
   check-record-reads.Learnt,
   parent-at-reads.Asked,
@@ -159,8 +228,6 @@ check-items-loop-less : (t : ℕ) → check-items-lts.Need-loop-less (
 check-items-loop-less t c = search needs
 
 check-items-loop-again : (t : ℕ) → check-items-lts.Need-loop-again (
-  record-at-reads.Asked,
-  record-at-reads.Learnt,
   check-record-reads.Asked,
   check-record-reads.Learnt,
   parent-at-reads.Asked,
@@ -169,11 +236,9 @@ check-items-loop-again : (t : ℕ) → check-items-lts.Need-loop-again (
   check-items.Post,
 ) (check-items-at t) check-items.Post check-items-Inv-loop check-items-μ-loop
 check-items-loop-again t c =
-    turn-single _ _ _ _ _ _ _ ((c .before .before .before .before .before .before .loop) .inv) ((c .before .before .before .before .before .loop-test) .taken) _ ((c .before .before .before .before .record-at) .ensures) _ ((c .before .before .before .check-record) .ensures) _ ((c .before .next) .given .1)
+    turn-single _ _ _ _ _ _ _ ((c .before .before .before .before .before .before .before .before .before .before .before .loop) .inv) ((c .before .before .before .before .before .before .before .before .before .before .loop-test) .taken) _ refl _ ((c .before .before .before .check-record) .ensures) _ ((c .before .next) .given .1)
 
 check-items-enum-known-tag : (t : ℕ) → check-items-lts.Need-enum-known-tag (
-  record-at-reads.Asked,
-  record-at-reads.Learnt,
   check-record-reads.Asked,
   check-record-reads.Learnt,
   parent-at-reads.Asked,
@@ -184,8 +249,6 @@ check-items-enum-known-tag : (t : ℕ) → check-items-lts.Need-enum-known-tag (
 check-items-enum-known-tag t c = search needs
 
 check-items-add-check-items : (t : ℕ) → check-items-lts.Need-add-check-items (
-  record-at-reads.Asked,
-  record-at-reads.Learnt,
   check-record-reads.Asked,
   check-record-reads.Learnt,
   parent-at-reads.Asked,
@@ -196,8 +259,6 @@ check-items-add-check-items : (t : ℕ) → check-items-lts.Need-add-check-items
 check-items-add-check-items t c = search needs
 
 check-items-parent-at-requires : (t : ℕ) → check-items-lts.Need-parent-at-requires (
-  record-at-reads.Asked,
-  record-at-reads.Learnt,
   check-record-reads.Asked,
   check-record-reads.Learnt,
   parent-at-reads.Asked,
@@ -206,11 +267,9 @@ check-items-parent-at-requires : (t : ℕ) → check-items-lts.Need-parent-at-re
   check-items.Post,
 ) (check-items-at t) check-items.Post check-items-Inv-loop check-items-μ-loop
 check-items-parent-at-requires t c κs =
-    nested-shallow _ _ _ _ _ _ _ ((c .before .before .before .before .before .before .loop) .inv) ((c .before .before .before .before .before .loop-test) .taken) _ ((c .before .before .before .before .record-at) .ensures) _ ((c .before .before .before .check-record) .ensures) _ _ ((c .before .tag) .given .1)
+    nested-shallow _ _ _ _ _ _ _ ((c .before .before .before .before .before .before .before .before .before .before .before .loop) .inv) ((c .before .before .before .before .before .before .before .before .before .before .loop-test) .taken) _ refl _ ((c .before .before .before .check-record) .ensures) _ _ ((c .before .tag) .given .1)
 
 check-items-check-items-requires : (t : ℕ) → check-items-lts.Need-check-items-requires (
-  record-at-reads.Asked,
-  record-at-reads.Learnt,
   check-record-reads.Asked,
   check-record-reads.Learnt,
   parent-at-reads.Asked,
@@ -219,11 +278,9 @@ check-items-check-items-requires : (t : ℕ) → check-items-lts.Need-check-item
   check-items.Post,
 ) (check-items-at t) check-items.Post check-items-Inv-loop check-items-μ-loop
 check-items-check-items-requires t c κs =
-    let deep = nested-shallow _ _ _ _ _ _ _ ((c .before .before .before .before .before .before .before .loop) .inv) ((c .before .before .before .before .before .before .loop-test) .taken) _ ((c .before .before .before .before .before .record-at) .ensures) _ ((c .before .before .before .before .check-record) .ensures) _ _ ((c .before .before .tag) .given .1) in let inv = (c .before .before .before .before .before .before .before .loop) .inv in let low = inv .low in let start = (c .before .before .before .before .before .before .before .before .before .before .before .before .before .before .before .pre) .0 in let less = (c .before .before .before .before .before .before .loop-test) .taken in let below = ap (λ q. q .depth) ((c .parent-at) .ensures) in (omega arith, (omega arith, omega arith))
+    let deep = nested-shallow _ _ _ _ _ _ _ ((c .before .before .before .before .before .before .before .before .before .before .before .before .loop) .inv) ((c .before .before .before .before .before .before .before .before .before .before .before .loop-test) .taken) _ refl _ ((c .before .before .before .before .check-record) .ensures) _ _ ((c .before .before .tag) .given .1) in let inv = (c .before .before .before .before .before .before .before .before .before .before .before .before .loop) .inv in let low = inv .low in let start = (c .before .before .before .before .before .before .before .before .before .before .before .before .before .before .before .before .before .before .before .before .pre) .0 in let less = (c .before .before .before .before .before .before .before .before .before .before .before .loop-test) .taken in let below = ap (λ q. q .depth) ((c .parent-at) .ensures) in (omega arith, ((c .before .before .before .before .before .before .before .before .before .before .before .before .before .before .before .before .before .before .before .before .pre) .1 .0, omega arith, omega arith))
 
 check-items-enum-known-end : (t : ℕ) → check-items-lts.Need-enum-known-end (
-  record-at-reads.Asked,
-  record-at-reads.Learnt,
   check-record-reads.Asked,
   check-record-reads.Learnt,
   parent-at-reads.Asked,
@@ -234,8 +291,6 @@ check-items-enum-known-end : (t : ℕ) → check-items-lts.Need-enum-known-end (
 check-items-enum-known-end t c = search needs
 
 check-items-enum-told-3 : (t : ℕ) → check-items-lts.Need-enum-told-3 (
-  record-at-reads.Asked,
-  record-at-reads.Learnt,
   check-record-reads.Asked,
   check-record-reads.Learnt,
   parent-at-reads.Asked,
@@ -246,8 +301,6 @@ check-items-enum-told-3 : (t : ℕ) → check-items-lts.Need-enum-told-3 (
 check-items-enum-told-3 t c = search needs
 
 check-items-returns-3 : (t : ℕ) → check-items-lts.Need-returns-3 (
-  record-at-reads.Asked,
-  record-at-reads.Learnt,
   check-record-reads.Asked,
   check-record-reads.Learnt,
   parent-at-reads.Asked,
@@ -256,11 +309,9 @@ check-items-returns-3 : (t : ℕ) → check-items-lts.Need-returns-3 (
   check-items.Post,
 ) (check-items-at t) check-items.Post check-items-Inv-loop check-items-μ-loop
 check-items-returns-3 t c =
-    turn-ill _ _ _ _ _ _ _ ((c .before .before .before .before .before .before .before .before .before .before .loop) .inv) ((c .before .before .before .before .before .before .before .before .before .loop-test) .taken) _ ((c .before .before .before .before .before .before .before .before .record-at) .ensures) _ ((c .before .before .before .before .before .before .before .check-record) .ensures) _ _ ((c .before .before .before .before .before .tag) .given .1) _ ((c .before .before .before .parent-at) .ensures) _ ((c .before .before .check-items) .ensures) ((c .enum-told3) .given .1)
+    turn-ill _ _ _ _ _ _ _ ((c .before .before .before .before .before .before .before .before .before .before .before .before .before .before .before .loop) .inv) ((c .before .before .before .before .before .before .before .before .before .before .before .before .before .before .loop-test) .taken) _ refl _ ((c .before .before .before .before .before .before .before .check-record) .ensures) _ _ ((c .before .before .before .before .before .tag) .given .1) _ ((c .before .before .before .parent-at) .ensures) _ ((c .before .before .check-items) .ensures) ((c .enum-told3) .given .1)
 
 check-items-loop-less-2 : (t : ℕ) → check-items-lts.Need-loop-less-2 (
-  record-at-reads.Asked,
-  record-at-reads.Learnt,
   check-record-reads.Asked,
   check-record-reads.Learnt,
   parent-at-reads.Asked,
@@ -269,11 +320,9 @@ check-items-loop-less-2 : (t : ℕ) → check-items-lts.Need-loop-less-2 (
   check-items.Post,
 ) (check-items-at t) check-items.Post check-items-Inv-loop check-items-μ-loop
 check-items-loop-less-2 t c =
-    nested-less _ _ _ _ _ _ _ ((c .before .before .before .before .before .before .before .before .before .before .before .loop) .inv) ((c .before .before .before .before .before .before .before .before .before .before .loop-test) .taken) _ ((c .before .before .before .before .before .before .before .before .before .record-at) .ensures) _ ((c .before .before .before .before .before .before .before .before .check-record) .ensures) _ _ ((c .before .before .before .before .before .before .tag) .given .1) _ ((c .before .before .before .before .parent-at) .ensures) _ ((c .before .before .before .check-items) .ensures) _ ((c .before .end) .given .1)
+    nested-less _ _ _ _ _ _ _ ((c .before .before .before .before .before .before .before .before .before .before .before .before .before .before .before .before .loop) .inv) ((c .before .before .before .before .before .before .before .before .before .before .before .before .before .before .before .loop-test) .taken) _ refl _ ((c .before .before .before .before .before .before .before .before .check-record) .ensures) _ _ ((c .before .before .before .before .before .before .tag) .given .1) _ ((c .before .before .before .before .parent-at) .ensures) _ ((c .before .before .before .check-items) .ensures) _ ((c .before .end) .given .1)
 
 check-items-loop-again-2 : (t : ℕ) → check-items-lts.Need-loop-again-2 (
-  record-at-reads.Asked,
-  record-at-reads.Learnt,
   check-record-reads.Asked,
   check-record-reads.Learnt,
   parent-at-reads.Asked,
@@ -282,11 +331,9 @@ check-items-loop-again-2 : (t : ℕ) → check-items-lts.Need-loop-again-2 (
   check-items.Post,
 ) (check-items-at t) check-items.Post check-items-Inv-loop check-items-μ-loop
 check-items-loop-again-2 t c =
-    turn-nested _ _ _ _ _ _ _ ((c .before .before .before .before .before .before .before .before .before .before .before .loop) .inv) ((c .before .before .before .before .before .before .before .before .before .before .loop-test) .taken) _ ((c .before .before .before .before .before .before .before .before .before .record-at) .ensures) _ ((c .before .before .before .before .before .before .before .before .check-record) .ensures) _ _ ((c .before .before .before .before .before .before .tag) .given .1) _ ((c .before .before .before .before .parent-at) .ensures) _ ((c .before .before .before .check-items) .ensures) _ ((c .before .end) .given .1)
+    turn-nested _ _ _ _ _ _ _ ((c .before .before .before .before .before .before .before .before .before .before .before .before .before .before .before .before .loop) .inv) ((c .before .before .before .before .before .before .before .before .before .before .before .before .before .before .before .loop-test) .taken) _ refl _ ((c .before .before .before .before .before .before .before .before .check-record) .ensures) _ _ ((c .before .before .before .before .before .before .tag) .given .1) _ ((c .before .before .before .before .parent-at) .ensures) _ ((c .before .before .before .check-items) .ensures) _ ((c .before .end) .given .1)
 
 check-items-returns-4 : (t : ℕ) → check-items-lts.Need-returns-4 (
-  record-at-reads.Asked,
-  record-at-reads.Learnt,
   check-record-reads.Asked,
   check-record-reads.Learnt,
   parent-at-reads.Asked,
@@ -299,8 +346,6 @@ check-items-returns-4 t c =
 
 pub +check-items-spec : {M : Type 1} → statement M
 +check-items-spec = close μ-check-items λ t. check-items-lts.spec (
-  record-at-reads.Asked,
-  record-at-reads.Learnt,
   check-record-reads.Asked,
   check-record-reads.Learnt,
   parent-at-reads.Asked,
@@ -313,7 +358,15 @@ pub +check-items-spec : {M : Type 1} → statement M
     check-items-Inv-loop
     check-items-μ-loop
     (check-items-loop-holds t)
-    (check-items-record-at-requires t)
+    (check-items-shared-slice-read-t20 t)
+    (check-items-shared-slice-read-t22 t)
+    (check-items-shared-slice-read-t24 t)
+    (check-items-mul-t25 t)
+    (check-items-shared-slice-read-t27 t)
+    (check-items-mul-t28 t)
+    (check-items-shared-slice-read-t30 t)
+    (check-items-mul-t31 t)
+    (check-items-shared-slice-read-t33 t)
     (check-items-check-record-requires t)
     (check-items-enum-told t)
     (check-items-returns t)

@@ -15,7 +15,7 @@ returns-2 c = search (given-ways, needs)
 
 check-items-requires : tie.Need-check-items-requires
 check-items-requires c κs =
-    (omega arith, omega arith)
+    (omega (arith, c .before .places .ensures), omega arith, omega arith)
 
 enum-told : tie.Need-enum-told
 enum-told c = search needs
