@@ -1,6 +1,6 @@
 -- Request 2026-10, by the theorems of merge.
 use mathlib.Core.Path.{_≡_, refl, sym, ap, _∙_, subst}
-use mathlib.Core.Bool.{Bool, true, false, cond}
+use mathlib.Core.Bool.{Bool, true, false}
 use mathlib.Core.Option.{none, some}
 use mathlib.Core.List.{List, [], _∷_}
 use Prim.Native.Nat.{ℕ, _≤_, _<_, min}
@@ -11,7 +11,7 @@ use lib.Seq.{sets}
 use borrow.Author.Tests.{leb-true, leb-false, le-leb, lt-leb}
 use Rattle.octets.specs.declared.counts.Octets.{Octets as OctetCount}
 use Rattle.octets.specs.Counts.{sizeOf}
-use Rattle.octets.specs.Numbers.{Octets, among}
+use Rattle.octets.specs.Numbers.{among}
 use Rattle.octets.proofs.Lists.{part-of-sets, drop-sets}
 use Rattle.octets.proofs.Tests.{never}
 use Rattle.format.specs.declared.Refusal.{Refusal}
@@ -19,7 +19,7 @@ use Rattle.format.specs.Answers.{refusal}
 use Rattle.format.specs.Tree.{Items}
 use Rattle.format.specs.Judge.{Judged, rule, first, judge}
 use Rattle.format.specs.Judge.Judged.{refused, accepted}
-use Rattle.format.specs.Meaning.{Meaning, meaningOf, meaning, ifAccepted, encode, normalOf, normal}
+use Rattle.format.specs.Meaning.{Meaning, meaningOf, meaning, ifAccepted, encode, normal}
 use Rattle.format.specs.Calls.{Lent, roomy}
 use Rattle.format.specs.State.{Memory}
 use Rattle.state.specs.Taking.{lentBy, loadedInto}
@@ -34,7 +34,7 @@ use Rattle.merge.specs.Calls.Outcome.{refuses, gives}
 use Rattle.merge.proofs.Results.{Fits, merge-suffices, merge-result, merge-leaves, merge-empty}
 use Rattle.demands.specs.One.{OfCall}
 use Rattle.demands.specs.One.OfCall.{ofCall}
-use Rattle.demands.specs.Merging.{Ended, MergeEnds, Suffices, Hinders, MergeOrder, MergeInOrder, MergedObject, MergeGives, MergeEmpty, MergeAlways}
+use Rattle.demands.specs.Merging.{Ended, MergeEnds, Suffices, Hinders, MergeOrder, MergeInOrder, MergeGives, MergeEmpty, MergeAlways}
 use Rattle.demands.specs.Merging.Ended.{merges, ofBasic, ofAdvanced, ofBoth}
 use Rattle.demands.specs.Merging.Hinders.{twenty, twentyOne, fourteen, fifteen}
 use Rattle.demands.proofs.Laws.{empty-refused, of-object, has-meaning, accepted-means}

@@ -20,7 +20,7 @@ use Rattle.format.specs.Judge.{isItems, isValue, judge}
 use Rattle.format.specs.Judge.Judged.{accepted}
 use Rattle.format.specs.Meaning.{opens, normalOf}
 use Rattle.format.specs.Loaded.{stored, storeIn, loadedIn, storeOf, loadedOf}
-use Rattle.format.specs.Calls.{Lists, put, lay}
+use Rattle.format.specs.Calls.{put, lay}
 use Rattle.format.specs.State.{Memory, placesIn, layTree}
 use Rattle.reader.specs.Filling.{Accepts, share}
 use Rattle.tags.specs.declared.Listed.the-variants.{Inside}

@@ -1,22 +1,22 @@
 -- What merging two accepted objects gives: its result is an object's meaning, has all of both and nothing else, and obeys demands 2 and 3; with an empty
 -- Advanced object it is Basic's (change request 2026-10).
 use mathlib.Core.Path.{_≡_, refl, sym, ap, _∙_, subst}
-use mathlib.Core.Bool.{Bool, true, false, cond, not, _&&_, _||_}
+use mathlib.Core.Bool.{true, false, cond, not, _&&_, _||_}
 use mathlib.Core.Option.{Option, none, some}
 use mathlib.Core.List.{List, [], _∷_}
-use Prim.Native.Nat.{ℕ, _^_, _≤_, _<_, min}
+use Prim.Native.Nat.{ℕ, _≤_, min}
 use native.Mathlib.Omega.{arith}
 use lib.Dec.{leb}
 use lib.ListN.{length}
 use borrow.Author.Tests.{not-true, leb-true, le-leb}
 use Rattle.octets.specs.Numbers.{Octets}
-use Rattle.octets.specs.Counts.{asOctets, sizeOf, octetsWithin}
+use Rattle.octets.specs.Counts.{asOctets, octetsWithin}
 use Rattle.format.specs.declared.Refusal.{Refusal}
-use Rattle.format.specs.Tree.{Items, count}
+use Rattle.format.specs.Tree.{Items}
 use Rattle.format.specs.Judge.{Judged, rule, first, judge}
 use Rattle.format.specs.Judge.Judged.{refused, accepted}
-use Rattle.format.specs.Meaning.{Meaning, meaningOf, normalOf, encode}
-use Rattle.format.specs.Loaded.{storeOf, loadedOf}
+use Rattle.format.specs.Meaning.{Meaning, meaningOf, encode}
+use Rattle.format.specs.Loaded.{loadedOf}
 use Rattle.format.specs.Calls.{Lent, roomy, storedWithin, fitsLent}
 use Rattle.format.specs.State.{Memory, layTree}
 use Rattle.format.specs.WellFormed.{ObjectOk}
@@ -28,12 +28,11 @@ use Rattle.format.proofs.Headers.{few}
 use Rattle.survey.proofs.WholeSizes.{store-less}
 use Rattle.merge.specs.declared.Services.{Services}
 use Rattle.merge.specs.declared.MergeAnswer.{MergeAnswer}
-use Rattle.merge.specs.declared.MergeAnswer.the-variants.{BasicRefused, AdvancedRefused, NotMerged}
 use Rattle.merge.specs.Merged.{merged, clash, sameTop, twice}
 use Rattle.merge.specs.Kept.{emptyTop, Mergeable, InOrder, AnyOrder, Comes}
 use Rattle.merge.specs.Sizes.{recordsIn, storedIn}
-use Rattle.merge.specs.Calls.{conflict, misfit, Outcome, unlessRefused, mergedInto, outcome, answerOf, writtenOf, MergeClaim}
-use Rattle.merge.specs.Calls.Outcome.{refuses, gives}
+use Rattle.merge.specs.Calls.{conflict, misfit, Outcome, unlessRefused, mergedInto, outcome, writtenOf, MergeClaim}
+use Rattle.merge.specs.Calls.Outcome.{gives}
 use Rattle.merge.proofs.Empty.{merged-empty, empty-quiet, empty-once}
 use Rattle.merge.proofs.Fine.{merged-ok}
 use Rattle.merge.proofs.Basic.{basic-kept}

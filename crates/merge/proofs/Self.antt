@@ -1,9 +1,9 @@
 -- Merging an object with itself gives its own meaning, and so does merging an empty Basic object with Advanced.
-use mathlib.Core.Path.{_≡_, refl, sym, ap, ap₂, _∙_, fun-ext, subst}
-use mathlib.Core.Bool.{Bool, true, false, cond, _&&_, _||_, false≢true, or-true}
+use mathlib.Core.Path.{_≡_, refl, sym, ap, _∙_, fun-ext, subst}
+use mathlib.Core.Bool.{Bool, true, false, cond, _||_, false≢true, or-true}
 use mathlib.Core.Option.{Option, none, some}
 use mathlib.Core.List.{List}
-use Prim.Native.Nat.{ℕ, zero, suc, _≤_}
+use Prim.Native.Nat.{ℕ, _≤_}
 use native.Mathlib.Omega.{arith}
 use lib.Dec.{eqb}
 use borrow.Author.Tests.{eqb-true}
@@ -11,7 +11,6 @@ use Rattle.values.specs.Values.{Value}
 use Rattle.format.specs.Judge.{isTop, stageAfter}
 use Rattle.format.specs.Meaning.{Meaning}
 use Rattle.format.specs.Meaning.Meaning.{nothing, element, leaf}
-use Rattle.format.specs.Same.{sameMeaning}
 use Rattle.format.specs.WellFormed.{WellFormed, ObjectOk}
 use Rattle.octets.proofs.Tests.{or-left, or-right-false}
 use Rattle.values.proofs.Known.{items-tag}
@@ -21,7 +20,7 @@ use Rattle.merge.specs.Keys.{merges, partners, hasPartner, hasEqual}
 use Rattle.merge.specs.Merged.{either, united, then, hasLanguage, languages, newLanguage, added, paired, merged, sameTop, twice}
 use Rattle.merge.proofs.Empty.{then-nothing, top-is, tops-partners}
 use Rattle.merge.proofs.Keys.{or-right, partners-same, partners-swap}
-use Rattle.merge.proofs.Equal.{meaning-same, equal-behind, equal-here, equal-leaf}
+use Rattle.merge.proofs.Equal.{equal-behind, equal-here, equal-leaf}
 use Rattle.merge.proofs.Fine.{leaf-tag, after-two, six-first, none-languages}
 
 -- ---- elements, then others
