@@ -16,7 +16,7 @@ use Rattle.format.specs.Answers.{refusal}
 use Rattle.format.specs.Tree.{Items}
 use Rattle.format.specs.Judge.{Judged, judge}
 use Rattle.format.specs.Judge.Judged.{refused, accepted}
-use Rattle.format.specs.Meaning.{meaningOf, ifAccepted, encode, normalOf, normal}
+use Rattle.format.specs.Meaning.{meaningOf, encode, normalOf, normal}
 use Rattle.format.specs.Same.{sameAnswer, isNormal}
 use Rattle.format.proofs.Rules.{accepted-size}
 use Rattle.format.proofs.Round.{encode-injective}
@@ -25,7 +25,7 @@ use Rattle.format.proofs.Normal.{accepted-ok, accepted-is}
 use Rattle.fold.specs.declared.CheckAnswer.{CheckAnswer}
 use Rattle.fold.specs.declared.CheckAnswer.the-variants.{Passes, Fails}
 use Rattle.fold.specs.Calls.{passes, checkAnswer}
-use Rattle.fold.proofs.Packs.{Passing, passes-exactly}
+use Rattle.fold.proofs.Packs.{Passing, passes-exactly, normal-accepted}
 
 -- where octets can't pass, the answer is 22
 fails-where : (o p : List ℕ) → (Passing o p → ⊥) → (r : CheckAnswer) → r ≡ Fails (refusal 22 0) → r ≡ checkAnswer o p
@@ -47,10 +47,6 @@ same-accepted (refused r) y e = never (cc)
 same-accepted (accepted t) (refused r) e = never (cc)
 same-accepted (accepted t) (accepted u) e = (t, u, refl, refl)
 
-normal-of : (o : List ℕ) (t : Items) → judge o ≡ accepted t → normal o ≡ some (normalOf t)
-unfolding normal ifAccepted
-normal-of o t h = rw h
-
 -- two objects of one meaning, the first its own normal form
 means-passing : (o p : List ℕ) → normal o ≡ some o → length p ≤ length o → sameAnswer (judge o) (judge p) ≡ Same → Octets o → Octets p → Passing o p
 means-passing o p n l e os ps =
@@ -58,7 +54,7 @@ means-passing o p n l e os ps =
     let t = a .0 in
     let u = a .1 in
     let m : meaningOf t ≡ meaningOf u = same-exactly o p t u os ps (a .2) (a .3) .0 e in
-    record { normally = n; packs = record { normally = normal-of p u (a .3) ∙ (ap (λ x. some (encode x)) (sym m) ∙ (sym (normal-of o t (a .2)) ∙ n)); short = l } }
+    record { normally = n; packs = record { normally = normal-accepted p u (a .3) ∙ (ap (λ x. some (encode x)) (sym m) ∙ (sym (normal-accepted o t (a .2)) ∙ n)); short = l } }
 
 -- what passes means the same
 pub passing-means : (o p : List ℕ) → Octets o → Octets p → Passing o p → sameAnswer (judge o) (judge p) ≡ Same

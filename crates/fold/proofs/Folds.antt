@@ -7,7 +7,7 @@ use Prim.Native.Nat.{ℕ, suc, _+_, _^_, _≤_, _<_}
 use native.Mathlib.Omega.{arith}
 use lib.Dec.{eqb, leb}
 use lib.ListN.{length}
-use borrow.Author.Tests.{leb-true, eqb-true, ne-eqb}
+use borrow.Author.Tests.{leb-true, eqb-true}
 use Rattle.octets.specs.Numbers.{digits}
 use Rattle.octets.specs.Header.{lengthField, framed}
 use Rattle.octets.proofs.Frames.{headed, framed-longer}
@@ -20,7 +20,7 @@ use Rattle.values.specs.declared.Kind.the-variants.{HoldsItems, HoldsTokens, Ho
 use Rattle.values.specs.Table.{known, attribute}
 use Rattle.values.specs.Values.{fits, meant}
 use Rattle.values.specs.Values.Value.{octets}
-use Rattle.values.proofs.Known.{ElementTag, attribute-kind, known-anywhere, known-one, known-six, items-tag, plain-tag, language-tag}
+use Rattle.values.proofs.Known.{ElementTag, attribute-kind, known-anywhere, known-one, known-six, items-tag, plain-tag, language-tag, not-attribute}
 use Rattle.format.specs.Tree.{Items, find}
 use Rattle.format.specs.Tree.Items.{end, item}
 use Rattle.format.specs.Judge.{isItems, isText, isTop, limit, notAbove}
@@ -127,9 +127,6 @@ pub record Kept (T : Entries) (e : ℕ) (u u′ : Items) : Type 0 where
   pub values : (a : ℕ) → attribute a ≡ true → valueIn T (find a u′) (known e a) ≡ valueIn [] (find a u) (known e a)
   pub absent : (a : ℕ) → attribute a ≡ true → find a u ≡ none → find a u′ ≡ none
 
-not-tag : (a tag : ℕ) → attribute a ≡ true → attribute tag ≡ false → eqb a tag ≡ false
-not-tag a tag p n = ne-eqb a tag (λ w. false≢true (sym n ∙ (ap attribute (sym w) ∙ p)))
-
 kept-end : (T : Entries) (e : ℕ) → Kept T e end end
 unfolding means cdataIn find valueIn
 kept-end T e = record { children = refl; words = refl; values = λ a p. refl; absent = λ a p q. refl }
@@ -141,8 +138,8 @@ unfolding cdataIn find
 kept-beside T e tag at at′ body body′ s s′ u u′ a o m k = record {
   children = m;
   words = rw (swap-eqb tag 1 o) (k .words);
-  values = λ b p. rw (not-tag b tag p a) (k .values b p);
-  absent = λ b p. rw (not-tag b tag p a) (k .absent b p);
+  values = λ b p. rw (not-attribute b tag p a) (k .values b p);
+  absent = λ b p. rw (not-attribute b tag p a) (k .absent b p);
 }
 
 -- the attributes of an element and of the folded one are the same set
@@ -241,8 +238,8 @@ module _ (ws : List (List ℕ)) (good : AllWords ws) where
           record {
             children = means-table Es (at + headed (length Tab)) Tab end (i .0) ∙ i .2 .children;
             words = i .2 .words;
-            values = λ a p. rw (not-tag a 4 p refl) (i .2 .values a p);
-            absent = λ a p. rw (not-tag a 4 p refl) (i .2 .absent a p);
+            values = λ a p. rw (not-attribute a 4 p refl) (i .2 .values a p);
+            absent = λ a p. rw (not-attribute a 4 p refl) (i .2 .absent a p);
           },
           refl,
         );
@@ -334,8 +331,8 @@ module _ (ws : List (List ℕ)) (good : AllWords ws) where
   kept-cdata e at at′ body u u′ c k = record {
     children = means-cdata Es at′ (folded Es body) end u′ ∙ (k .children ∙ sym (means-cdata [] at body end u));
     words = ap some (folded-expanded ws body c ∙ sym (expanded-empty body));
-    values = λ b p. rw (not-tag b 1 p refl) (k .values b p);
-    absent = λ b p. rw (not-tag b 1 p refl) (k .absent b p);
+    values = λ b p. rw (not-attribute b 1 p refl) (k .values b p);
+    absent = λ b p. rw (not-attribute b 1 p refl) (k .absent b p);
   }
 
   by-cdata : {e d from : ℕ} {body : List ℕ} {u : Items} → TextIn [] body → notAbove (shownLength [] body) (limit e) ≡ true → Refolds nothing e d u → Refolds cdata e d (item 1 from body end u)

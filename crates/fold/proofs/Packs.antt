@@ -101,7 +101,7 @@ module _ (ws : List (List ℕ)) (good : AllWords ws) where
 
 -- ---- normal forms
 
-normal-accepted : (o : List ℕ) (t : Items) → judge o ≡ accepted t → normal o ≡ some (normalOf t)
+pub normal-accepted : (o : List ℕ) (t : Items) → judge o ≡ accepted t → normal o ≡ some (normalOf t)
 unfolding normal ifAccepted
 normal-accepted o t h = rw h
 

@@ -15,7 +15,7 @@ use Rattle.octets.specs.declared.Put.{Put}
 use Rattle.octets.specs.Puts.{putOut, Puts}
 use Rattle.octets.specs.Header.{lengthField, framed}
 use Rattle.octets.specs.Places.{between, movedUp}
-use Rattle.octets.proofs.Answers.{size-two}
+use Rattle.octets.proofs.Answers.{size-two, framed-length}
 use Rattle.octets.proofs.Lists.{sets-append, sets-comm, sets-covered, part-of-sets}
 use Rattle.octets.proofs.Upward.{moves-up, moved-long}
 use Rattle.merging.specs.declared.counting.Needs.{Needs}
@@ -148,10 +148,6 @@ module _ (emit : Bool) (tag size : ℕ) (n : Needs) (before after : List ℕ) (h
 
 pub ruleset header-ways = (header-counted, header-put)
 
-framed-long : (tag : ℕ) (body : List ℕ) → length (framed tag body) ≡ suc (length (lengthField (length body))) + length body
-unfolding framed
-framed-long tag body = omega (arith, length-append (lengthField (length body)) body)
-
 -- the body that comes behind it
 module _ (emit : Bool) (tag size : ℕ) (p : Piece) (n m r : Needs) (a b c : List ℕ) (e : size ≡ min most (length (p .octets))) (u : HeaderPut emit tag size n a b m) (v : Adds emit p m b c r) where
   abbrev body : List ℕ
@@ -167,8 +163,8 @@ module _ (emit : Bool) (tag size : ℕ) (p : Piece) (n m r : Needs) (a b c : Lis
       go true q =
           let w = whole (leb-true (length body) most q) in
           let k : m .octets .0 ≡ min most (n .octets .0 + suc (length (lengthField (length body)))) = u .octets ∙ ap (λ s. min most (n .octets .0 + suc (length (lengthField s)))) w in
-          omega (arith, k, v .octets, framed-long tag body)
-      go false q = omega (arith, leb-false (length body) most q, v .octets, framed-long tag body)
+          omega (arith, k, v .octets, framed-length tag body)
+      go false q = omega (arith, leb-false (length body) most q, v .octets, framed-length tag body)
 
   laid : (emits : Bool) → b ≡ cond emits (sets a (n .octets .0) (tag ∷ lengthField (length body))) a → c ≡ cond emits (sets b (n .octets .0 + suc (length (lengthField (length body)))) body) b
       → c ≡ cond emits (sets a (n .octets .0) (framed tag body)) a
@@ -183,7 +179,7 @@ module _ (emit : Bool) (tag size : ℕ) (p : Piece) (n m r : Needs) (a b c : Lis
     store = omega (arith, u .store, v .store);
     octets = counted-octets;
     holds = λ l.
-        let fl = framed-long tag body in
+        let fl = framed-length tag body in
         let w : size ≡ length body = whole (omega arith) in
         let w′ : suc (length (lengthField size)) ≡ suc (length (lengthField (length body))) = ap (λ s. suc (length (lengthField s))) w in
         let x = u .holds (omega (arith, w, w′, fl)) in
@@ -229,10 +225,10 @@ module _ (emit : Bool) (tag : ℕ) (n begun inside : Needs) (before : List ℕ) 
         go : (q : Bool) → leb (n .octets .0 + 2 + length own) most ≡ q → r .octets .0 ≡ min most (n .octets .0 + length (framed tag own))
         go true q =
             let l = leb-true (n .octets .0 + 2 + length own) most q in
-            omega (arith, l, header-is l, least, octets-sum n begun 1 0 2 be, u .octets, octets-sum inside r 0 0 (h .0 - 2) re, framed-long tag own)
+            omega (arith, l, header-is l, least, octets-sum n begun 1 0 2 be, u .octets, octets-sum inside r 0 0 (h .0 - 2) re, framed-length tag own)
         go false q =
             let l = leb-false (n .octets .0 + 2 + length own) most q in
-            omega (arith, l, size-two (length own), octets-sum n begun 1 0 2 be, u .octets, octets-sum inside r 0 0 (h .0 - 2) re, framed-long tag own)
+            omega (arith, l, size-two (length own), octets-sum n begun 1 0 2 be, u .octets, octets-sum inside r 0 0 (h .0 - 2) re, framed-length tag own)
 
     closed-records : r .records ≡ min most (n .records + suc (p .records))
     closed-records = omega (arith, records-sum n begun 1 0 2 be, u .records, records-sum inside r 0 0 (h .0 - 2) re)
@@ -253,7 +249,7 @@ module _ (emit : Bool) (tag : ℕ) (n begun inside : Needs) (before : List ℕ) 
         more = h .0 - 2
 
         fits : at + 2 + length own ≤ most
-        fits = omega (arith, framed-long tag own, size-two (length own))
+        fits = omega (arith, framed-length tag own, size-two (length own))
 
         from : begun .octets .0 ≡ at + 2
         from = omega (arith, octets-sum n begun 1 0 2 be, fits)
@@ -263,16 +259,16 @@ module _ (emit : Bool) (tag : ℕ) (n begun inside : Needs) (before : List ℕ) 
 
         put : before ≡ sets first (at + 2) own
         put =
-            let there = u .holds (omega (arith, from, framed-long tag own, size-two (length own))) in
+            let there = u .holds (omega (arith, from, framed-length tag own, size-two (length own))) in
             there ∙ rw e (ap (λ k. sets first k own) from)
 
         moves : moved ≡ sets (sets first (at + 2) own) (at + 2 + more) own
         moves =
             let size-is : inside .octets .0 - begun .octets .0 ≡ length own = omega (arith, from, end) in
-            let room : inside .octets .0 + more ≤ length before = omega (arith, end, header-is fits, least, framed-long tag own, u .long) in
+            let room : inside .octets .0 + more ≤ length before = omega (arith, end, header-is fits, least, framed-length tag own, u .long) in
             let part : between before (begun .octets .0) (inside .octets .0) ≡ own =
             ap (λ k. take k (drop (begun .octets .0) before)) size-is ∙ (ap₂ (λ k o. take (length own) (drop k o)) from put
-            ∙ part-of-sets first (at + 2) own (omega (arith, framed-long tag own, size-two (length own)))) in
+            ∙ part-of-sets first (at + 2) own (omega (arith, framed-length tag own, size-two (length own)))) in
             m ∙ (moves-up before (begun .octets .0) (inside .octets .0) more (omega (arith, from, end)) room ∙ (ap (sets before (begun .octets .0 + more)) part
             ∙ ap₂ (λ k o. sets o (k + more) own) from put))
 
@@ -281,7 +277,7 @@ module _ (emit : Bool) (tag : ℕ) (n begun inside : Needs) (before : List ℕ) 
         closed-laid =
             let size-is = sized fits in
             let long-is : suc (length (lengthField (size .0))) ≡ h .0 = sym (ap (λ k. k .0) he) in
-            let laid = header-laid tag (size .0) at moved after answer q (omega (arith, size-is, long-is, header-is fits, framed-long tag own, moved-as-long)) in
+            let laid = header-laid tag (size .0) at moved after answer q (omega (arith, size-is, long-is, header-is fits, framed-length tag own, moved-as-long)) in
             laid ∙ (ap₂ (λ o s. sets o at (tag ∷ lengthField s)) moves size-is
             ∙ way-made first own (tag ∷ lengthField (length own)) at more (omega (arith, header-is fits, least)))
 

@@ -1,10 +1,10 @@
 -- The ways through the loops over the child elements of a part, and what they say of an accepted one.
 use mathlib.Core.Path.{_≡_, refl, sym, ap, ap₂, _∙_, subst}
 use mathlib.Core.Bool.{Bool, true, false, cond, _&&_, _||_, false≢true, and-true}
-use mathlib.Core.List.{List, [], _∷_}
+use mathlib.Core.List.{List}
 use Prim.Native.Nat.{ℕ, _+_, _≤_}
 use lib.Dec.{eqb}
-use lib.ListN.{length, drop, getD}
+use lib.ListN.{getD}
 use borrow.Author.Tests.{eqb-true, eqb-false, eq-eqb, ne-eqb, not-true, not-false}
 use Rattle.octets.specs.Places.{between}
 use Rattle.text.specs.Tokens.{Entries}
@@ -18,7 +18,7 @@ use Rattle.format.specs.Same.{sameMeaning}
 use Rattle.reader.specs.Filling.{Accepts}
 use Rattle.compare.specs.declared.walks.Child.{Child}
 use Rattle.compare.specs.declared.walks.Child.the-variants.{End, Found}
-use Rattle.compare.specs.Walks.{childrenIn, ChildFound, Children}
+use Rattle.compare.specs.Walks.{childrenIn, Children}
 use Rattle.compare.specs.Items.{sameElement}
 use Rattle.compare.proofs.Walking.{Told, children-told}
 use Rattle.compare.proofs.Walking.Told.{over, comes}
@@ -117,6 +117,13 @@ module _ (es fs : Entries) (levels tag d i : ℕ) (a : List ℕ) (t : Items) (k 
 pub six-shut : opens 6 ≡ false
 unfolding opens isItems known kindIn rows attribute
 six-shut = refl
+
+pub open-not-six : (tag : ℕ) → opens tag ≡ true → eqb tag 6 ≡ false
+open-not-six tag o = go (eqb tag 6) refl
+  where
+    go : (b : Bool) → eqb tag 6 ≡ b → b ≡ false
+    go true e = absurd (false≢true (sym (ap opens (eqb-true tag 6 e) ∙ six-shut) ∙ o))
+    go false e = refl
 
 -- a default language stands among them
 first-language : (es : Entries) (tag at : ℕ) (body : List ℕ) (inside after : Items) → isChild tag ≡ true

@@ -2,11 +2,11 @@
 use mathlib.Core.Path.{_≡_, refl, sym, ap, ap₂, _∙_, subst}
 use mathlib.Core.Bool.{Bool, true, false, cond, not, _&&_, _||_, false≢true, and-false}
 use mathlib.Core.Option.{Option, none, some, Option·map}
-use mathlib.Core.List.{List, [], _∷_}
-use Prim.Native.Nat.{ℕ, zero, suc, _+_, _≤_, _<_}
+use mathlib.Core.List.{List}
+use Prim.Native.Nat.{ℕ, zero, suc, _+_, _≤_}
 use native.Mathlib.Omega.{arith}
 use lib.Dec.{eqb}
-use borrow.Author.Tests.{eqb-true, ltb-true, lt-ltb}
+use borrow.Author.Tests.{eqb-true, lt-ltb}
 use Rattle.octets.specs.declared.Lies.{Lies}
 use Rattle.octets.specs.declared.Lies.the-variants.{Outside, Between}
 use Rattle.octets.specs.Places.{between}
@@ -19,17 +19,16 @@ use Rattle.values.specs.Values.{Value, meant}
 use Rattle.values.specs.Calls.{defaultOctets}
 use Rattle.values.proofs.Known.{known-six, known-cdata}
 use Rattle.format.specs.Tree.{Items, find}
-use Rattle.format.specs.Judge.{isItems, judge}
 use Rattle.format.specs.Judge.Judged.{accepted}
-use Rattle.format.specs.Meaning.{Meaning, opens, attributesIn, cdataIn, leafOctets, means, meaningOf}
+use Rattle.format.specs.Meaning.{Meaning, opens, attributesIn, cdataIn, leafOctets, means}
 use Rattle.format.specs.Meaning.Meaning.{nothing, element, leaf}
-use Rattle.format.specs.Same.{sameOctets, sameValue, sameMaybe}
-use Rattle.format.proofs.Means.{leaf-text, opens-leaf, unknown-attribute}
+use Rattle.format.specs.Same.{sameOctets, sameMaybe}
+use Rattle.format.proofs.Means.{leaf-text, unknown-attribute}
 use Rattle.reader.specs.Filling.{Accepts}
 use Rattle.reader.proofs.Reading.{whole}
 use Rattle.survey.specs.Places.{spanOfTag, bodyBy, bodyOfTag, tableBody}
 use Rattle.survey.proofs.Rising.{past-known}
-use Rattle.compare.specs.Items.{countedBody, countedOfTag, countedLies, countedSpan, sameFound}
+use Rattle.compare.specs.Items.{countedBody, countedOfTag, countedLies, countedSpan}
 use Rattle.compare.specs.Walks.{childrenIn}
 use Rattle.compare.proofs.Sets.{found-body, counted-means}
 use Rattle.compare.proofs.Answering.{found-means}
@@ -39,9 +38,9 @@ use Rattle.merge.specs.Merged.{apart, anyApart, bothThere, otherLanguage, clash
 use Rattle.merge.proofs.Fine.{partners-tag}
 use Rattle.merge.proofs.Advanced.{merges-opens}
 use Rattle.merging.specs.Searches.{anyChild}
-use Rattle.merging.specs.Keyed.{sameAt, isPartner}
 use Rattle.merging.specs.Clashing.{isFound, isApart, anyApartFrom, bothCdata, isOther, pairClash, itemClash, clashAmong, clashBelow}
 use Rattle.merging.specs.Calls.{HasClash}
+use Rattle.merging.proofs.Among.{open-not-six}
 use Rattle.merging.proofs.Searching.{isThere}
 use Rattle.merging.proofs.Shown.{Shows, shows}
 use Rattle.merging.proofs.Shown.Shows.{over, holds, single}
@@ -134,17 +133,6 @@ unfolding bothCdata
 cdata-says p q d e i j T U x y t u a b = ap₂ _&&_ (cdata-there p d i T x t a) (cdata-there q e j U y u b) ∙ both-is (cdataIn T t) (cdataIn U u)
 
 -- ---- default languages
-
-six-shut : opens 6 ≡ false
-unfolding isItems
-six-shut = opens-leaf 6 HoldsText known-six refl
-
-open-not-six : (tag : ℕ) → opens tag ≡ true → eqb tag 6 ≡ false
-open-not-six tag o = go (eqb tag 6) refl
-  where
-    go : (b : Bool) → eqb tag 6 ≡ b → b ≡ false
-    go true e = absurd (false≢true (sym six-shut ∙ (ap opens (sym (eqb-true tag 6 e)) ∙ o)))
-    go false e = refl
 
 language-text : (T : Entries) (tag : ℕ) (o : List ℕ) → eqb tag 6 ≡ true → leafOctets T tag o ≡ expanded T o
 language-text T tag o e = leaf-text T tag o (ap (known 0) (eqb-true tag 6 e) ∙ known-six)

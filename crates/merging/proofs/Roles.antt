@@ -2,12 +2,12 @@
 use mathlib.Core.Path.{_≡_, refl, sym, ap, ap₂, _∙_, subst, fun-ext}
 use mathlib.Core.Bool.{Bool, true, false, cond, not, _&&_, _||_, false≢true}
 use mathlib.Core.Option.{Option, none, some}
-use mathlib.Core.List.{List, [], _∷_}
-use Prim.Native.Nat.{ℕ, _+_, _-_, _≤_, _<_}
+use mathlib.Core.List.{List, []}
+use Prim.Native.Nat.{ℕ, _+_, _-_, _≤_}
 use native.Mathlib.Omega.{arith}
 use lib.Dec.{eqb}
-use lib.ListN.{length, drop}
-use borrow.Author.Tests.{eqb-true, eq-eqb, ne-eqb, not-true, not-false}
+use lib.ListN.{length}
+use borrow.Author.Tests.{eq-eqb, ne-eqb, not-true, not-false}
 use Rattle.octets.specs.declared.Lies.{Lies}
 use Rattle.octets.specs.declared.Lies.the-variants.{Outside, Between}
 use Rattle.octets.specs.Places.{between}
@@ -43,7 +43,7 @@ use Rattle.merging.specs.declared.partners.Role.the-variants.{Language, 
 use Rattle.merging.specs.Among.{equalIn, languageIn}
 use Rattle.merging.specs.Roles.{chosen, staysIn, isPut, orNone, partnerBody, partnerIn}
 use Rattle.merging.specs.Walks.{childrenOf}
-use Rattle.merging.proofs.Among.{equal-says, language-says, six-shut}
+use Rattle.merging.proofs.Among.{equal-says, language-says, open-not-six}
 
 -- ---- is_added, is_new_language and is_put
 
@@ -237,13 +237,6 @@ module _ (es : Entries) (tag at : ℕ) (body : List ℕ) (t : Items) (k : isChil
   unfolding means
   means-leaf o = rw (k, o)
 
-six-opens : (tag : ℕ) → opens tag ≡ true → eqb tag 6 ≡ false
-six-opens tag o = go (eqb tag 6) refl
-  where
-    go : (b : Bool) → eqb tag 6 ≡ b → b ≡ false
-    go true e = absurd (false≢true (sym (ap opens (eqb-true tag 6 e) ∙ six-shut) ∙ o))
-    go false e = refl
-
 shut-merges : (tag : ℕ) → opens tag ≡ false → merges tag ≡ false
 shut-merges tag o = go (merges tag) refl
   where
@@ -272,7 +265,7 @@ module _ (by : Services) (es fs : Entries) (levels tag d i : ℕ) (a : List ℕ)
           ≡ cond b (hasPartner by tag (attributesIn es tag t) (means es t) others) (hasEqual (element tag (attributesIn es tag t) (means es t) (cdataIn es t) nothing) others)
       go true e = partners-say es fs by tag (d + 1) i a t e (h o .1) (shows es levels′ tag (d + 1) i a t n′ (h o .1)) shown
       go false e =
-          ap (λ b. b || equalIn levels es tag a fs part) (six-opens tag o) ∙ equal-says es fs levels tag d i a t k n h q d j part u y
+          ap (λ b. b || equalIn levels es tag a fs part) (open-not-six tag o) ∙ equal-says es fs levels tag d i a t k n h q d j part u y
           ∙ ap (λ m. hasEqual m others) (means-holder es tag i a t k o)
 
   stays-leaf : opens tag ≡ false → staysIn by levels es tag a fs part ≡ eqb tag 6 || hasEqual (leaf tag (leafOctets es tag a) nothing) others
@@ -309,7 +302,7 @@ module _ (by : Services) (es fs : Entries) (levels tag d i : ℕ) (a : List ℕ)
       none-there false = refl
 
       go : (o : Bool) → opens tag ≡ o → newLanguage others one ≡ cond (eqb tag 6 && not (languageIn part)) one nothing
-      go true o = ap (newLanguage others) (means-holder es tag i a t k o) ∙ none-there (hasLanguage others) ∙ sym (ap (λ b. cond (b && not (languageIn part)) one nothing) (six-opens tag o))
+      go true o = ap (newLanguage others) (means-holder es tag i a t k o) ∙ none-there (hasLanguage others) ∙ sym (ap (λ b. cond (b && not (languageIn part)) one nothing) (open-not-six tag o))
       go false o =
           ap (newLanguage others) (means-leaf es tag i a t k o) ∙ by-tests (eqb tag 6) (hasLanguage others) (leaf tag (leafOctets es tag a) nothing)
           ∙ ap₂ (λ c m. cond (eqb tag 6 && not c) m nothing) (sym (language-says fs q d j part u y)) (sym (means-leaf es tag i a t k o))

@@ -8,7 +8,7 @@ use Prim.Native.Nat.{ℕ, zero, suc, _+_, _-_, _≤_, _<_}
 use native.Mathlib.Numerals.{add-one}
 use native.Mathlib.Omega.{arith}
 use lib.Dec.{eqb, leb}
-use lib.ListN.{length, getD, take, drop, set, length-set, length-drop, drop-of-length-le, take-append-drop}
+use lib.ListN.{length, getD, take, drop, set, length-set, drop-of-length-le, take-append-drop}
 use lib.Seq.{getD-set-same, getD-set-other, take-nil, take-take, drop-drop}
 use mir.Syntax.{w64, w8}
 use mir.Val.{Fits}
@@ -29,7 +29,7 @@ use Rattle.fold.specs.Words.{letter, allLetters, pieces, isWord, wordsAmong}
 use Rattle.packer.specs.Leaves.{LettersTo, PieceTo}
 use Rattle.packer.specs.Counting.{wordAt, wordsFrom}
 use Rattle.packer.specs.Collecting.{sortOf, Holding, Notes}
-use Rattle.packer.proofs.Cutting.{piece-letters}
+use Rattle.packer.proofs.Cutting.{closed-at, piece-letters}
 
 -- a part of a part
 drop-take : {A : Type 0} (i n : ℕ) (l : List A) → drop i (take n l) ≡ take (n - i) (drop i l)
@@ -226,17 +226,6 @@ words-run [] run o h l = rw (append-nil run) (words-closed run o l)
 words-run (b ∷ more) run o h l =
     rw (and-left (letter b) (allLetters more) h)
     (words-run more (run ++ (b ∷ [])) o (and-right (letter b) (allLetters more) h) l ∙ rw (append-assoc run (b ∷ []) more))
-
-closed-at : (s : List ℕ) (end : ℕ) → (end < length s → letter (getD s end 0) ≡ false) → Closed (drop end s)
-closed-at s end h = go (drop end s) refl
-  where
-    go : (o : List ℕ) → drop end s ≡ o → Closed o
-    go [] e = tt
-    go (b ∷ o) e =
-        let n : length (drop end s) ≡ suc (length o) = ap length e in
-        let l : end < length s = omega (arith, length-drop end s) in
-        let x : b ≡ getD s end 0 = ap (λ q. getD q 0 0) (sym e ∙ drop-next s end 0 l) in
-        ap letter x ∙ h l
 
 words-piece : (s : List ℕ) (at end : ℕ) → PieceTo s at end
     → wordsAmong (pieces [] (drop at s)) ≡ wordsAmong (take (end - at) (drop at s) ∷ []) ++ wordsAmong (pieces [] (drop end s))
