@@ -149,7 +149,7 @@ pub fn same_cdata(
 }
 
 // What an element's body is: items, text, or octets that mean themselves.
-#[derive(Drop)]
+#[derive(Clone, Copy)]
 enum Content {
     Items,
     Text,

@@ -1,6 +1,8 @@
 // Whether two objects mean the same, whether an object is its own normal form, and what both stand on: two texts under two token tables, two values of a kind,
 // attributes and CDATA of two elements. No memory is lent, so no object is refused for want of room. No call asks anything of its arguments.
 // Cost: both objects are judged; then each item is stepped over a few times, and each octet of an expansion is gone through once.
+#![tactic(auto)]
+
 ghost use Rattle.std.specs.Prelude.{◌≡◌};
 ghost use Rattle.format.specs.Judge.{judge};
 ghost use Rattle.format.specs.Same.{same_answer, is_normal};

@@ -13,7 +13,7 @@ use octets::{Lies, item_at};
 use values::{KnownKind, is_attribute, known_kind};
 
 // The attribute that comes next in a body. None: there is no further one. Lost: its tag isn't above the last one's, or it runs past the end.
-#[derive(Drop)]
+#[derive(Clone, Copy)]
 enum Due {
     None,
     Lost,
@@ -21,7 +21,7 @@ enum Due {
 }
 
 // Whether the attributes are the same. Astray: they are not in step, and nothing is known.
-#[derive(Drop)]
+#[derive(Clone, Copy)]
 pub enum InStep {
     Same,
     Different,

@@ -11,7 +11,7 @@ use octets::Lies;
 use text::is_token;
 
 // What is left of an expansion: the octets of the table from one place up to another, and behind them the text from a place on.
-#[derive(Drop)]
+#[derive(Clone, Copy)]
 struct Rest {
     from: usize,
     to: usize,

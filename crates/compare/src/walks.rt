@@ -7,7 +7,7 @@ use tags::{Listed, listed_as};
 use values::is_attribute;
 
 // A child element: where it begins, and between which places its body lies. End: there is no further one.
-#[derive(Drop)]
+#[derive(Clone, Copy)]
 pub enum Child {
     End,
     Found { at: usize, from: usize, to: usize },

@@ -1,1 +1,2 @@
 // The demands, each sentence a statement (specs/) with its proof (proofs/), over the claims of the public calls. No code.
+#![tactic(auto)]

@@ -24,14 +24,14 @@ use text::index_of;
 use values::is_attribute;
 
 // Where a child element comes: before the record of a number, which is the element's next or the first behind it; or there is no such place.
-#[derive(Drop)]
+#[derive(Clone, Copy)]
 enum Child {
     Nowhere,
     Before(usize),
 }
 
 // What is said of octets at a place: the number of the refusal, or before which record they come, how many they have, and what they take.
-#[derive(Drop)]
+#[derive(Clone, Copy)]
 enum Admission {
     Denied(u8),
     Admitted {
@@ -42,7 +42,7 @@ enum Admission {
 }
 
 // What putting them in comes to: the number of the refusal, or the gap.
-#[derive(Drop)]
+#[derive(Clone, Copy)]
 enum Insertion {
     Refused(u8),
     Opens(Gap),

@@ -20,7 +20,7 @@ use values::Kind;
 
 // Where items are laid: the element that they stand in (its tag and the number of its record) and their depth. The object itself counts
 // as an element with the tag 0, whose one item is the top.
-#[derive(Drop)]
+#[derive(Clone, Copy)]
 pub struct Level {
     pub element: u8,
     pub number: usize,
@@ -29,7 +29,7 @@ pub struct Level {
 
 // How far the walk has come: the number that the next record gets, the place up to which the store is filled, and how many octets the items of the element so far
 // add to its body in normal form.
-#[derive(Drop)]
+#[derive(Clone, Copy)]
 pub struct Laid {
     pub next: usize,
     pub end: usize,

@@ -7,7 +7,7 @@ ghost use Rattle.edits.specs.Moves.{Carries, carried};
 use octets::move_up;
 
 // What lies from a place up to another, and the place from which on it is to lie.
-#[derive(Drop)]
+#[derive(Clone, Copy)]
 pub struct Move {
     pub from: usize,
     pub end: usize,

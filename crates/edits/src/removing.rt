@@ -61,7 +61,7 @@ fn gap_of(
 }
 
 // What removing comes to: the number of the refusal, or the gap.
-#[derive(Drop)]
+#[derive(Clone, Copy)]
 enum Removal {
     Refused(u8),
     Closes(Gap),

@@ -17,7 +17,7 @@ use state::{Filled, framed_size, held};
 use tags::holds_text;
 
 // What replacing comes to: the number of the refusal, or how much of the store is taken before.
-#[derive(Drop)]
+#[derive(Clone, Copy)]
 enum Replacement {
     Refused(u8),
     Fits(usize),

@@ -8,7 +8,7 @@ use crate::shifting::{carry_parents, carry_starts};
 use octets::Octets;
 
 // The records behind the gap and what they take of the store, and the element around it, in which what added `was` octets adds `is`.
-#[derive(Drop)]
+#[derive(Clone, Copy)]
 pub struct Gap {
     pub records: Move,
     pub octets: Move,

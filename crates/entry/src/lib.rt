@@ -1,4 +1,6 @@
 // The entry for a caller who keeps records as records: read, with a lent slice of them beside the lists of numbers.
+#![tactic(auto)]
+
 ghost use Rattle.std.specs.Prelude.{◌≡◌, ◌≤◌, length};
 ghost use Rattle.format.specs.Answers.{read_outcome};
 ghost use Rattle.format.specs.Calls.{ReadRecordsClaim};

@@ -2,6 +2,8 @@
 // proposal of any packer passes or not. The plain packer itself is crate packer.
 //
 // The check is lent no memory and asks nothing of its arguments. Cost: it judges both objects and compares what they mean.
+#![tactic(auto)]
+
 ghost use Rattle.std.specs.Prelude.{◌≡◌};
 ghost use Rattle.format.specs.Answers.{refusal};
 ghost use Rattle.fold.specs.declared.CheckAnswer.TheVariants.{Fails};
@@ -11,7 +13,7 @@ use compare::{is_normal, same};
 use format::{Outcome, Refusal, SameAnswer, refuse};
 
 // The answer of the check: the packed object may be passed on, or 22.
-#[derive(Drop)]
+#[derive(Clone, Copy)]
 pub enum CheckAnswer {
     Passes,
     Fails(Refusal),

@@ -1,4 +1,6 @@
 // What the calls of the library share: records, refusals, counts, and the answers as enums. The rules are in specs/, the theorems in proofs/.
+#![tactic(auto)]
+
 ghost use Rattle.std.specs.Prelude.{◌≡◌, min, get_or};
 ghost use Rattle.format.specs.Tree.{kind_of};
 ghost use Rattle.format.specs.Answers.{refusal, read_outcome, edit_outcome, write_outcome, same_outcome};
@@ -10,7 +12,7 @@ use values::is_attribute;
 
 // One known item: its tag, its kind (0 an element, 1 an attribute, 2 CDATA), its depth, the number of its parent's record, and where its body
 // begins and how many octets it has. (`size`, since `length` in a contract is a list's.)
-#[derive(Drop)]
+#[derive(Clone, Copy)]
 pub struct Record {
     pub tag: u8,
     pub kind: u8,
@@ -125,7 +127,7 @@ pub fn kind_of(tag: u8) -> u8
 
 // A refusal: its number in document 01's table, the offset that goes with it, and for 9 the field of a time that is wrong: 1 length, 2 date, 3 hours, 4 minutes,
 // 5 seconds. The field is 0 for values of other kinds and for other numbers (change request 2026-04).
-#[derive(Drop)]
+#[derive(Clone, Copy)]
 pub struct Refusal {
     pub number: u8,
     pub place: usize,
@@ -144,14 +146,14 @@ pub fn refuse(number: u8, place: usize) -> Refusal
 }
 
 // What reading counts: records, and the items that it judged, known and unknown, those inside unknown ones left out (change request 2026-09).
-#[derive(Drop)]
+#[derive(Clone, Copy)]
 pub struct Counts {
     pub records: usize,
     pub items: usize,
 }
 
 // The answer of reading: what was handed out, or why nothing was.
-#[derive(Drop)]
+#[derive(Clone, Copy)]
 pub enum ReadAnswer {
     Records(Counts),
     NotRead(Refusal),
@@ -159,21 +161,21 @@ pub enum ReadAnswer {
 
 // The answer of taking in and of editing: how many records memory has then, or why nothing was changed. In memory every item has a record, so that items are no
 // count of their own (docs/DECISIONS.md).
-#[derive(Drop)]
+#[derive(Clone, Copy)]
 pub enum EditAnswer {
     HasRecords(usize),
     NotChanged(Refusal),
 }
 
 // The answer of writing and of normalising: how many octets were handed out, or why none were.
-#[derive(Drop)]
+#[derive(Clone, Copy)]
 pub enum WriteAnswer {
     Octets(Octets),
     NotWritten(Refusal),
 }
 
 // The answer of comparing two objects.
-#[derive(Drop)]
+#[derive(Clone, Copy)]
 pub enum SameAnswer {
     Same,
     Different,
@@ -182,7 +184,7 @@ pub enum SameAnswer {
 }
 
 // A part of an object: where it begins and how many octets it has.
-#[derive(Drop)]
+#[derive(Clone, Copy)]
 pub struct Span {
     pub start: usize,
     pub size: usize,
@@ -190,7 +192,7 @@ pub struct Span {
 
 // Document 01's numbers for an answer: the refusal's number, 0 where there is none, its place and field, the count, of records or of octets, and
 // for reading the number of items judged; both are 0 after a refusal.
-#[derive(Drop)]
+#[derive(Clone, Copy)]
 pub struct Outcome {
     pub number: u8,
     pub place: usize,
@@ -200,7 +202,7 @@ pub struct Outcome {
 }
 
 // The same for a comparison: which object was refused (0 none, 1 the first, 2 the second), and whether they mean the same.
-#[derive(Drop)]
+#[derive(Clone, Copy)]
 pub struct SameOutcome {
     pub same: bool,
     pub which: u8,

@@ -1,4 +1,6 @@
 // The judgement of an object, and of items by themselves.
+#![tactic(auto)]
+
 ghost use Rattle.std.specs.Prelude.{◌≡◌, ◌-◌};
 ghost use Rattle.format.specs.Judge.{judge};
 ghost use Rattle.format.specs.Headers.{headers, headers_of};
@@ -15,21 +17,21 @@ use items::read_items;
 use text::{characters_of, tokens_of};
 
 // What rules say in their order: that they are kept, or the refusal of the first that is broken.
-#[derive(Drop)]
+#[derive(Clone, Copy)]
 enum Check {
     Kept,
     Broken(Refusal),
 }
 
 // How far the items of one element were read: the stage of their order, and the attributes seen.
-#[derive(Drop)]
+#[derive(Clone, Copy)]
 struct Progress {
     stage: u8,
     mask: u64,
 }
 
 // What becomes of a good item: an unknown one is passed over, the token table taken, an element read; any other known item counts.
-#[derive(Drop)]
+#[derive(Clone, Copy)]
 enum Sort {
     Skip,
     Leaf,
@@ -39,7 +41,7 @@ enum Sort {
 
 // An item, judged without what is inside it. A good one has its sort, where its body begins, how large that is, and how far its element was read after it; any
 // other has its refusal. It is no enum of the two: compiled code would lay that in memory, whatever is in it, and read it back.
-#[derive(Drop)]
+#[derive(Clone, Copy)]
 struct Item {
     good: bool,
     refusal: Refusal,

@@ -3,6 +3,8 @@
 // A question is a letter, an octet that says a size, and so many octets: K the kind of an element and tag, D whether octets are the default of an attribute, U
 // whether octets are text, T a time or the field of it that is wrong, O its local time, B a bearer. What an answer says is proved where it is found, in `values`,
 // `text` and `show`; here every function is safe and ends.
+#![tactic(auto)]
+
 ghost use Rattle.std.specs.Prelude.{◌≡◌, ◌≤◌, length};
 
 use libc::{STDIN_FILENO, STDOUT_FILENO};

@@ -1,5 +1,7 @@
 // Merging a Basic and an Advanced object (change request 2026-10): what two objects become, which are refused, and the theorems about both. The definitions
 // stand in specs/. Here are only the types that the call takes and gives; the code stands in the crates above.
+#![tactic(auto)]
+
 ghost use Rattle.std.specs.Prelude.{◌≡◌};
 ghost use Rattle.merge.specs.Calls.{refused_as, merge_outcome};
 
@@ -7,7 +9,7 @@ use format::Refusal;
 use octets::Octets;
 
 // By what the services of two ensembles are told apart: by their tag alone, so that an ensemble has one, or by the ids of their bearers.
-#[derive(Drop)]
+#[derive(Clone, Copy)]
 pub enum Services {
     ByTag,
     ByBearers,
@@ -15,7 +17,7 @@ pub enum Services {
 
 // The answer of merging: how many records memory has then and how many octets the room, or why nothing was merged, and whether Basic or Advanced alone is to
 // blame.
-#[derive(Drop)]
+#[derive(Clone, Copy)]
 pub enum MergeAnswer {
     Merged { records: usize, size: Octets },
     BasicRefused(Refusal),
@@ -25,7 +27,7 @@ pub enum MergeAnswer {
 
 // Document 01's numbers for that answer: which object alone is refused (1 Basic, 2 Advanced, 0 none), the refusal's number, 0 where there is none, its place
 // and field, and how many records memory has then and how many octets the room; both are 0 after a refusal.
-#[derive(Drop)]
+#[derive(Clone, Copy)]
 pub struct MergeOutcome {
     pub which: u8,
     pub number: u8,

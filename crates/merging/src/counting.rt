@@ -7,7 +7,7 @@ use octets::Octets;
 const MOST: usize = 0x8000_0000_0000_0000;
 
 // How much the result takes as far as the walk has come: records, octets of a store, octets of its normal form.
-#[derive(Drop)]
+#[derive(Clone, Copy)]
 pub struct Needs {
     pub records: usize,
     pub store: Octets,

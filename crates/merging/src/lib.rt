@@ -1,5 +1,7 @@
 // A Basic and an Advanced object merged (change request 2026-10). `find_conflict` says whether they can be: refusals 1 to 13 of each, then 20 and 21; `merge`
 // merges them where the result fits what is lent, too. No call asks anything of its arguments. What is lent is touched only where nothing is refused.
+#![tactic(auto)]
+
 ghost use Rattle.std.specs.Prelude.{◌≡◌};
 ghost use Rattle.format.specs.Judge.{judge};
 ghost use Rattle.merging.specs.Calls.{HasTwice, HasClash, Settles, conflict_answer};
@@ -27,7 +29,7 @@ use survey::table_of;
 use text::index_of;
 
 // Free: nothing is in the way of merging but places, store and room. Else a refusal, and which object it is told of.
-#[derive(Drop)]
+#[derive(Clone, Copy)]
 pub enum Conflict {
     Free,
     InBasic(Refusal),

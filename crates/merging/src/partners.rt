@@ -12,7 +12,7 @@ use octets::Lies;
 
 // What the child elements of a part are walked over for. Language: Advanced's default language, where Basic has none. Own: Basic's, each become one with its
 // partner. Added: Advanced's others that come behind.
-#[derive(Drop)]
+#[derive(Clone, Copy)]
 pub enum Role {
     Language,
     Own,

@@ -1,6 +1,8 @@
 // Numbers in octets, the most significant first, and the header of an item: its tag and the length of its body in one of three forms (document 01, Framing).
 // Readers and writers above take headers, numbers and plain octets through the public calls alone. None asks anything of its arguments. A call that puts
 // octets leaves the lent ones as they were unless it answers Done.
+#![tactic(auto)]
+
 ghost use Rattle.std.specs.Prelude.{◌≡◌, true, ◌∷◌, suc, ◌+◌, ◌*◌, ◌/◌, ◌%◌, ◌^◌, ◌≤◌, ◌<◌, leb, ltb, length};
 ghost use Rattle.std.proofs.lemmas.List.Edits.{sets};
 ghost use Rattle.octets.specs.Counts.{as_octets};
@@ -19,21 +21,21 @@ pub use moving::move_up;
 
 // The header with which a part begins. Found: the span of the body, which begins behind the tag and the length and may run past the part. Past: the part ends
 // within the header.
-#[derive(Drop)]
+#[derive(Clone, Copy)]
 pub enum Header {
     Past,
     Found { start: usize, size: usize },
 }
 
 // Where the body of an item lies, if it lies in the part.
-#[derive(Drop)]
+#[derive(Clone, Copy)]
 pub enum Lies {
     Outside,
     Between { from: usize, to: usize },
 }
 
 // The number that octets write. TooLong: there are more than four.
-#[derive(Drop)]
+#[derive(Clone, Copy)]
 pub enum Number {
     Is(u32),
     TooLong,
@@ -41,7 +43,7 @@ pub enum Number {
 
 // Octets put into a lent slice, by a call of this crate or of one above it. Done: the place behind the last of them. Invalid: what is to be written has no such
 // octets, whatever the room. Done alone wrote.
-#[derive(Drop)]
+#[derive(Clone, Copy)]
 pub enum Put {
     Done(usize),
     NoRoom,
@@ -49,7 +51,7 @@ pub enum Put {
 }
 
 // How a length is written: as the length octet itself, or behind 0xFE in two octets. A length in three octets is read, but never written.
-#[derive(Drop)]
+#[derive(Clone, Copy)]
 enum LengthForm {
     One,
     Two,

@@ -10,7 +10,7 @@ use octets::{Lies, item_at};
 use values::{Kind, KnownKind, known_kind};
 
 // What is done with an item: it is left out where it is unknown, gone into where it holds items, folded where it is text, and else taken as it is.
-#[derive(Drop)]
+#[derive(Clone, Copy)]
 pub enum Sort {
     Nothing,
     Items,
@@ -84,7 +84,7 @@ fn note_words(
 }
 
 // Where the walk over headers stands: at a place, behind the beginning of an element of a tag, with so many words noted.
-#[derive(Drop)]
+#[derive(Clone, Copy)]
 pub struct Cursor {
     pub at: usize,
     pub parent: u8,

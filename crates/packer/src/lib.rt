@@ -2,6 +2,8 @@
 // of an object is defined in crate fold, where it is proved that whatever it proposes passes the check.
 //
 // Nothing is lent but the room; arrays of some 45 KB on the stack hold the words. No call asks anything of its arguments.
+#![tactic(auto)]
+
 ghost use Rattle.fold.specs.Calls.{PackClaim};
 
 mod collecting;

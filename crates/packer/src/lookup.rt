@@ -7,7 +7,7 @@ ghost use Rattle.packer.specs.Leaves.{as_tag};
 use crate::pieces::size_of;
 use compare::same_octets;
 
-#[derive(Drop)]
+#[derive(Clone, Copy)]
 pub enum Tag {
     Nothing,
     Is(u8),

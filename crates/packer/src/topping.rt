@@ -27,7 +27,7 @@ fn is_behind(parent: u8, tag: u8) -> bool
 }
 
 // How far the attributes go: a place of the part, and one of the room.
-#[derive(Drop)]
+#[derive(Clone, Copy)]
 pub struct Reached {
     pub place: usize,
     pub end: usize,

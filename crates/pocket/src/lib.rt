@@ -1,6 +1,8 @@
 // The small receiver's gate (request 2026-07): whether an object may be sent to the pocket receiver, which takes what annex A of 002 has in the Basic profile.
 //
 // A product over the library: `find_first` judges, and looks for the first item that isn't in the annex's table. No list is lent, so 14 never comes.
+#![tactic(auto)]
+
 ghost use Rattle.std.specs.Prelude.{◌≡◌};
 ghost use Rattle.pocket.specs.Table.{data_type};
 ghost use Rattle.pocket.specs.Gate.{gate_of, gate_outcome};
@@ -12,7 +14,7 @@ use format::{Outcome, Refusal, refuse};
 use survey::Sought;
 
 // Service, programme and group information: SI, PI and GI of 002. For any other the annex has no table, so it allows nothing.
-#[derive(Drop)]
+#[derive(Clone, Copy)]
 pub enum DataType {
     Service,
     Programme,
@@ -20,7 +22,7 @@ pub enum DataType {
     Untabled,
 }
 
-#[derive(Drop)]
+#[derive(Clone, Copy)]
 pub enum GateAnswer {
     Yes,
     No(Refusal),

@@ -12,7 +12,7 @@ use tags::{Listed, listed_as};
 // Where reading stands: the element whose items are read (its tag and the number of its record), the depth of these items, an offset
 // of the object, and the number that the next record gets. The object itself counts as an element with the tag 0, whose one item is
 // the top.
-#[derive(Drop)]
+#[derive(Clone, Copy)]
 pub struct Place {
     pub element: u8,
     pub number: usize,

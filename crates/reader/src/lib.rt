@@ -1,4 +1,6 @@
 // Reading: the records of an object into lists that the caller lends, and the octets that a record speaks of.
+#![tactic(auto)]
+
 ghost use Rattle.std.specs.Prelude.{◌≡◌};
 ghost use Rattle.format.specs.Calls.{ReadClaim, ReadAtMostClaim, span_of, body_at};
 ghost use Rattle.format.specs.Lent.{lent};

@@ -1,5 +1,7 @@
 // A recording of the objects that a receiver got (request 2026-12): where its objects lie, and the lines of its replay. `open` and `step` look at octets that
 // they are lent and answer by value, so that a program that holds one object and its size can go over a recording of any length.
+#![tactic(auto)]
+
 ghost use Rattle.std.specs.Prelude.{◌≡◌, [], ◌∷◌, ◌+◌, ◌*◌};
 ghost use Rattle.format.specs.Same.{same_octets};
 ghost use Rattle.recording.specs.Recording.{mark};
@@ -12,7 +14,7 @@ mod lines;
 pub use lines::{put_answer, put_file};
 
 // How a recording begins: with its first object's size at a place, or with a refusal.
-#[derive(Drop)]
+#[derive(Clone, Copy)]
 pub enum Opened {
     Begins(usize),
     Refused(Refusal),
@@ -20,7 +22,7 @@ pub enum Opened {
 
 // What stands at a place of a window. Object: a whole one, with its start in the window and its size; the next stands just behind it. More: the window
 // doesn't hold a whole one, and more may follow it. End: nothing is left. Cut: the recording is cut inside a size or an object.
-#[derive(Drop)]
+#[derive(Clone, Copy)]
 pub enum Next {
     Object { start: usize, size: usize },
     More,

@@ -17,7 +17,7 @@ use text::{Weighed, characters_of, tokens_of, weigh};
 use values::{Kind, KnownKind, fits_kind, known_kind};
 
 // The element whose items are looked at: its tag (0 above the top), the number of its record, and the depth of the items in it.
-#[derive(Drop)]
+#[derive(Clone, Copy)]
 pub struct Parent {
     pub tag: u8,
     pub number: usize,
@@ -25,14 +25,14 @@ pub struct Parent {
 }
 
 // What the items so far left behind in their element: the stage of its order, and the bits of its attributes.
-#[derive(Drop)]
+#[derive(Clone, Copy)]
 pub struct State {
     pub stage: u8,
     pub mask: u64,
 }
 
 // What a body holds: octets, or items, which have records of their own; or it breaks a rule.
-#[derive(Drop)]
+#[derive(Clone, Copy)]
 pub enum Held {
     Broken,
     Octets,
@@ -41,7 +41,7 @@ pub enum Held {
 
 // What a record is among the items of an element: past the last of them; bad; or an item without or with items inside it, with what it
 // leaves behind.
-#[derive(Drop)]
+#[derive(Clone, Copy)]
 pub enum Item {
     Past,
     Bad,
@@ -50,7 +50,7 @@ pub enum Item {
 }
 
 // Where the items of an element end: the number of the first record past them. Ill: a record is bad.
-#[derive(Drop)]
+#[derive(Clone, Copy)]
 pub enum Reached {
     Ill,
     Next(usize),

@@ -1,5 +1,7 @@
 // Replays a recording (requests 2026-12 and 2026-14): reads it on standard input, piece by piece, and lists each object in it. Where an object lies, what its
 // answer is and what a line says is proved where it is found, in `recording` and `scan`; here every function is safe and ends.
+#![tactic(auto)]
+
 mod lines;
 mod stream;
 

@@ -8,7 +8,7 @@ use libc::STDIN_FILENO;
 const LONGEST_PIECE: usize = 65_537;
 
 // The part of the buffer that is not listed yet, the offset in the recording at which it begins, whether there may be more to read, and whether reading failed.
-#[derive(Drop)]
+#[derive(Clone, Copy)]
 pub struct Window {
     pub from: usize,
     pub to: usize,
@@ -19,7 +19,7 @@ pub struct Window {
 
 // What a step leaves: the window, the number of the next object and the output in use, behind an object that is listed; or the recording ends there, or is cut
 // at a place.
-#[derive(Drop)]
+#[derive(Clone, Copy)]
 pub enum Turn {
     Goes {
         w: Window,
@@ -31,7 +31,7 @@ pub enum Turn {
 }
 
 // How far the buffer is filled, and whether reading failed.
-#[derive(Drop)]
+#[derive(Clone, Copy)]
 struct Filled {
     to: usize,
     failed: bool,

@@ -1,5 +1,7 @@
 // Reading with no list (request 2026-14), for receivers that can't lend one: how many records and headers an object has, or its refusal with place and field.
 // It stands on the judgement alone, and no crate below it is lent a list.
+#![tactic(auto)]
+
 ghost use Rattle.std.specs.Prelude.{◌≡◌};
 ghost use Rattle.format.specs.Judge.{judge};
 ghost use Rattle.format.specs.Headers.{headers_of};

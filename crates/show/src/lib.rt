@@ -2,6 +2,8 @@
 // lent slice from a place on and says where it ended; where the text doesn't fit, the slice stays as it was.
 //
 // A call measures its text, asks for room, and only then stores it, word by word. What stores (`store_..`, `.._word`) is told that there is room.
+#![tactic(auto)]
+
 ghost use Rattle.std.specs.Prelude.{◌≡◌, true, [], ◌∷◌, ◌++◌, ◌+◌, ◌≤◌, ◌<◌, length};
 ghost use Rattle.octets.specs.Puts.{Puts, Lays};
 ghost use Rattle.show.specs.Digits.{decimal, hex_digit, two_digits, hex_lower, hex_upper};

@@ -6,7 +6,7 @@ use crate::files::Got;
 use crate::words::is_word;
 use octets::Octets;
 
-#[derive(Drop)]
+#[derive(Clone, Copy)]
 pub enum Verb {
     Text,
     TextHex,
@@ -69,7 +69,7 @@ pub fn behind(s: &[u8], at: usize) -> usize
 // ---- numbers
 
 // A number, where the word is one; one of more than a million counts as a million or more, which no record or place has.
-#[derive(Drop)]
+#[derive(Clone, Copy)]
 pub struct Number {
     pub whole: bool,
     pub value: usize,
@@ -111,7 +111,7 @@ pub fn number_of(s: &[u8]) -> Number {
 }
 
 // The number that begins at a place of a line, and where what is behind it begins.
-#[derive(Drop)]
+#[derive(Clone, Copy)]
 struct Next {
     whole: bool,
     value: usize,
@@ -132,7 +132,7 @@ fn next_number(line: &[u8], from: usize) -> Next
 }
 
 // The numbers of an edit, whether all are there, and where its octets begin.
-#[derive(Drop)]
+#[derive(Clone, Copy)]
 pub struct Numbers {
     pub whole: bool,
     pub record: usize,
@@ -165,7 +165,7 @@ pub fn numbers_of(line: &[u8], word: usize) -> Numbers
 
 // ---- octets by their digits
 
-#[derive(Drop)]
+#[derive(Clone, Copy)]
 struct Octet {
     whole: bool,
     value: u8,

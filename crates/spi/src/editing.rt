@@ -14,7 +14,7 @@ use libc::STDERR_FILENO;
 use octets::Octets;
 
 // How editing goes: the status, how many edits were made, and how many records there are.
-#[derive(Drop)]
+#[derive(Clone, Copy)]
 pub struct Edited {
     pub status: u8,
     pub made: usize,
@@ -240,7 +240,7 @@ fn written_form(
 }
 
 // An edited object in a lent room: how it went, how many edits were made, and how many octets its normal form has.
-#[derive(Drop)]
+#[derive(Clone, Copy)]
 pub struct Done {
     pub status: u8,
     pub made: usize,

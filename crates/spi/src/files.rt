@@ -9,14 +9,14 @@ use octets::Octets;
 const LONGEST: usize = 4_000;
 
 // How many octets were read, where nothing failed.
-#[derive(Drop)]
+#[derive(Clone, Copy)]
 pub struct Got {
     pub whole: bool,
     pub size: Octets,
 }
 
 // How many octets an argument has, and the file that it names.
-#[derive(Drop)]
+#[derive(Clone, Copy)]
 pub struct Named {
     pub whole: bool,
     pub name: Octets,

@@ -5,6 +5,8 @@
 // What is said of an object is proved where it is found, in `judge`, `reader`, `pocket`, `compare`, `packer`, `edits`, `merging`, `writer`, `xml` and `show`;
 // here every function is safe and ends. A program has no exit status, so the last line on standard output is a status of its own, which the script takes away
 // and ends with.
+#![tactic(auto)]
+
 mod asking;
 mod comparing;
 mod editing;
@@ -32,7 +34,7 @@ use octets::Octets;
 use pocket::DataType;
 
 // What is to be done with a file.
-#[derive(Drop)]
+#[derive(Clone, Copy)]
 enum Task {
     Check,
     Gate(DataType),

@@ -13,7 +13,7 @@ use pocket::DataType;
 use survey::{Measured, Needed};
 
 // A normal form or an XML in a lent room: how many octets it has. Where there is none, the number, the place and the field of the refusal, and no octets.
-#[derive(Drop)]
+#[derive(Clone, Copy)]
 pub struct Made {
     pub number: u8,
     pub place: usize,

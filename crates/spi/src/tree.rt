@@ -19,7 +19,7 @@ const LINE: usize = 64;
 const PIECE: usize = 16;
 
 // What a line shows of an item.
-#[derive(Drop)]
+#[derive(Clone, Copy)]
 enum Form {
     Nothing,
     Name,

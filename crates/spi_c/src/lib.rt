@@ -1,4 +1,6 @@
 // The library for programs in C: each call answers by one number of 64 bits, so that no slot for an answer is lent. include/spi.h declares it.
+#![tactic(auto)]
+
 ghost use Rattle.std.specs.Prelude.{◌≡◌, ◌<◌, min};
 ghost use Rattle.text.specs.Text.{text};
 ghost use Rattle.format.specs.Lent.{lent};

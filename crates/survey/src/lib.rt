@@ -1,6 +1,8 @@
 // An object is surveyed before anything is written: judged, and then measured and held against what is lent. Also where an item of a tag lies, and the first item that a
 // list has or lacks, the token table of an object, for whoever walks over an object again, and whether an item is written in normal form. No call asks anything of its
 // arguments, and none is lent memory to write to.
+#![tactic(auto)]
+
 ghost use Rattle.std.specs.Prelude.{◌≡◌};
 ghost use Rattle.format.specs.Judge.{judge};
 ghost use Rattle.judge.specs.Inside.{judge_inside};
@@ -23,7 +25,7 @@ pub use table::table_of;
 pub use written::{value_size, written_as};
 
 // An object held against what is lent: refused by the judgement; accepted, but without places for it (14) or room (15); or it fits.
-#[derive(Drop)]
+#[derive(Clone, Copy)]
 pub enum Standing {
     Bad(Refusal),
     Misfit(Refusal),
@@ -31,7 +33,7 @@ pub enum Standing {
 }
 
 // What an object needs, or items that are judged by themselves: refused, or places for so many records and so much of a store and of an object.
-#[derive(Drop)]
+#[derive(Clone, Copy)]
 pub enum Needed {
     Refused(Refusal),
     Takes { records: usize, sizes: Measured },

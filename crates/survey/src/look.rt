@@ -10,7 +10,7 @@ use octets::{Lies, item_at};
 use values::{Kind, KnownKind, known_kind};
 
 // What is found in an object: it is refused, or the tag of the first such item lies at a place, if there is one.
-#[derive(Drop)]
+#[derive(Clone, Copy)]
 pub enum Sought {
     Refused(Refusal),
     Nowhere,
@@ -18,14 +18,14 @@ pub enum Sought {
 }
 
 // The same of a part of an accepted object.
-#[derive(Drop)]
+#[derive(Clone, Copy)]
 enum Place {
     Nowhere,
     At(usize),
 }
 
 // What is to be done with an item: it is passed over, looked into, or it is the one.
-#[derive(Drop)]
+#[derive(Clone, Copy)]
 enum Step {
     Past,
     Into,

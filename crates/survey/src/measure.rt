@@ -18,7 +18,7 @@ use text::{expanded_size, widths_of};
 use values::{Kind, is_default};
 
 // The octets that items take of a store and in normal form. Over: their normal form has more than 32,768, which no object may have.
-#[derive(Drop)]
+#[derive(Clone, Copy)]
 pub enum Measured {
     Over,
     Sizes { store: Octets, octets: Octets },
@@ -26,7 +26,7 @@ pub enum Measured {
 
 // What is measured of an item: nothing; a default, whose one octet is kept in the store but not written; the items inside it; octets of its own, of which no
 // more than 32,769 are counted.
-#[derive(Drop)]
+#[derive(Clone, Copy)]
 enum Part {
     Nothing,
     Kept,

@@ -1,5 +1,7 @@
 // The rules of where an item may stand, by its tag, the tag of its element and what came before it (document 01, Framing and Refusal numbers:
 // 4, 6, 7, 8 and 13). An object's items and records that are lent are held to the same ones, so each is said here, once. Also what is listed of an item.
+#![tactic(auto)]
+
 mod rules;
 mod seen;
 mod sorts;
@@ -10,7 +12,7 @@ pub use sorts::{holds_items, holds_text, listed_as};
 use values::Kind;
 
 // What is listed of an item: nothing; its record and those of the items inside it; its record, with a value of a kind.
-#[derive(Drop)]
+#[derive(Clone, Copy)]
 pub enum Listed {
     Nothing,
     Inside,

@@ -142,7 +142,7 @@ fn copy(part: &[u8], out: &mut [u8], at: usize)
 }
 
 // Where the text of an entry begins in its table, and how long it is.
-#[derive(Drop)]
+#[derive(Clone, Copy)]
 pub enum Found {
     At { start: usize, size: usize },
     Nothing,

@@ -1,5 +1,7 @@
 // Text, the tokens in it and their table (document 01, Values: Text and Tokens). Every call takes any octets: what is not text, or not a
 // table, gets the answer that the definition gives.
+#![tactic(auto)]
+
 mod characters;
 mod expanding;
 mod links;
@@ -16,7 +18,7 @@ pub use tables::{index_of, is_table, tokens_of, widths_of};
 pub use weighing::weigh;
 
 // A text looked at once: no text (rule 10); or text, whether each of its tokens has an entry (rule 12), and how many characters are shown of it (rule 13).
-#[derive(Drop)]
+#[derive(Clone, Copy)]
 pub enum Weighed {
     NoText,
     Text { covered: bool, shown: Characters },

@@ -9,7 +9,7 @@ use crate::characters::{check, is_token, token_bit};
 use octets::Octets;
 
 // The entry with which a part of a table begins: its tag, and the size of its text, which lies inside that part.
-#[derive(Drop)]
+#[derive(Clone, Copy)]
 enum Piece {
     Past,
     Entry { tag: u8, size: usize },

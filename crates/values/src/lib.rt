@@ -1,5 +1,6 @@
 // Kinds of values, times and bearers: the types that code and definitions share, and the calls that look a pair up, take values apart
 // and put them together. No call has a `requires`: octets that are no value, a time out of range or a room too small get an answer.
+#![tactic(auto)]
 
 mod bearer_form;
 mod defaults;
@@ -14,7 +15,7 @@ pub use table::{is_attribute, known_kind};
 pub use value_form::{fits_kind, normal_size, put_normal, wrong_field};
 
 // The kinds of number that document 01 names; each has a width of its own.
-#[derive(Drop)]
+#[derive(Clone, Copy)]
 pub enum NumberKind {
     Duration,
     ShortId,
@@ -23,7 +24,7 @@ pub enum NumberKind {
 }
 
 // What the body of a known item holds.
-#[derive(Drop)]
+#[derive(Clone, Copy)]
 pub enum Kind {
     HoldsItems,
     HoldsTokens,
@@ -35,7 +36,7 @@ pub enum Kind {
 }
 
 // A point in time, UTC, with the offset of local time in half hours.
-#[derive(Drop)]
+#[derive(Clone, Copy)]
 pub struct Time {
     pub day: u32,
     pub hour: u32,
@@ -46,7 +47,7 @@ pub struct Time {
 }
 
 // A time moved by its offset. The day is signed: it may be the one before day 0.
-#[derive(Drop)]
+#[derive(Clone, Copy)]
 pub struct Local {
     pub day: i64,
     pub hour: u64,
@@ -55,14 +56,14 @@ pub struct Local {
 }
 
 // The ensemble of a bearer, where it names one.
-#[derive(Drop)]
+#[derive(Clone, Copy)]
 pub enum Ensemble {
     Absent,
     Present { ecc: u8, eid: u16 },
 }
 
 // A DAB bearer. `long` tells a 32-bit service id from a 16-bit one, which it never equals.
-#[derive(Drop)]
+#[derive(Clone, Copy)]
 pub struct Bearer {
     pub ensemble: Ensemble,
     pub long: bool,
@@ -71,28 +72,28 @@ pub struct Bearer {
 }
 
 // What the table of pairs says of an item: not known, or what its body holds.
-#[derive(Drop)]
+#[derive(Clone, Copy)]
 pub enum KnownKind {
     Unknown,
     Known(Kind),
 }
 
 // The time that octets hold, if they hold one, or else the field of them that is wrong: 1 length, 2 date, 3 hours, 4 minutes, 5 seconds.
-#[derive(Drop)]
+#[derive(Clone, Copy)]
 pub enum TakenTime {
     Good(Time),
     Bad(u8),
 }
 
 // The bearer that octets hold, if they hold one.
-#[derive(Drop)]
+#[derive(Clone, Copy)]
 pub enum TakenBearer {
     Good(Bearer),
     Bad,
 }
 
 // The size in normal form of octets that are a value of their kind.
-#[derive(Drop)]
+#[derive(Clone, Copy)]
 pub enum NormalSize {
     Octets(Octets),
     NoValue,

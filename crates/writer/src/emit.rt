@@ -16,14 +16,14 @@ use values::KnownKind;
 
 // An attribute and its record: the one with the lowest tag of those that were asked for. With the tag 0x87 there is none: the table of
 // items knows no attribute from there on.
-#[derive(Drop)]
+#[derive(Clone, Copy)]
 pub struct Lowest {
     pub tag: u8,
     pub place: usize,
 }
 
 // What a record is to the items of an element: none of them, an element that holds items, an attribute, any other item.
-#[derive(Drop)]
+#[derive(Clone, Copy)]
 pub enum Role {
     Gone,
     Element(u8),
@@ -32,7 +32,7 @@ pub enum Role {
 }
 
 // Where written items end: in the room, and in the lists.
-#[derive(Drop)]
+#[derive(Clone, Copy)]
 pub struct Reached {
     pub end: usize,
     pub next: usize,

@@ -2,6 +2,8 @@
 // record's body stands in a list of its own, so a header is written before what is in it. Records that a caller lends are checked, then measured, and only what is
 // known to fit the room is written. An object has one normal form with all objects that mean the same: it is loaded as records that are known to be well formed and
 // to fit, with their sizes, so they are written without being looked at before.
+#![tactic(auto)]
+
 ghost use Rattle.std.specs.Prelude.{◌≡◌};
 ghost use Rattle.format.specs.declared.WriteAnswer.TheVariants.{NotWritten};
 ghost use Rattle.format.specs.Answers.{refusal};

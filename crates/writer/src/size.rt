@@ -11,7 +11,7 @@ use survey::value_size;
 use tags::{Listed, listed_as};
 
 // What a record is to the items of an element: none of them; one that holds items, which are to be measured; one that has a size of its own, and adds so many octets.
-#[derive(Drop)]
+#[derive(Clone, Copy)]
 pub enum Part {
     Past,
     Holds(u8),
@@ -19,7 +19,7 @@ pub enum Part {
 }
 
 // The size of the items of an element, and the number of the first record past them. Over: above 32,768.
-#[derive(Drop)]
+#[derive(Clone, Copy)]
 pub enum Sized {
     Over,
     Size { total: Octets, next: usize },

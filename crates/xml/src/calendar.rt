@@ -8,7 +8,7 @@ use crate::put::{put_four, put_octet, put_two};
 use values::{Local, Time};
 
 // A year and the days after its 1 January; a month and the day in it.
-#[derive(Drop)]
+#[derive(Clone, Copy)]
 struct Part {
     number: u32,
     rest: u32,
