@@ -4,7 +4,7 @@ use Prim.Native.Nat.{ℕ, zero, suc, ◌+◌, ◌-◌, ◌*◌, ◌/◌, ◌^◌
 use mathlib.Core.Path.{◌≡◌, refl, sym, ap, ap₂, subst, ◌∙◌}
 use mathlib.Core.List.{List, [], ◌∷◌, ◌++◌}
 use mathlib.Core.Bool.{Bool, true, false, cond, ◌&&◌, and-false}
-use mathlib.Core.Option.{none, some}
+use mathlib.Core.Option.{none}
 use lib.ListN.{length, get_or, take, drop, set, replicate, length-set, length-append, length-drop, drop_of_length-le, get_or-replicate}
 use lib.Seq.{drop-drop, get_or-drop, get_or-set_same, get_or-set_other, length-take-le, ext_get_or}
 use lib.Dec.{eqb, leb, ltb}
