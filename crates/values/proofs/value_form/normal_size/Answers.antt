@@ -1,0 +1,24 @@
+use Rattle.values.proofs.ValueForm.{size-ways}
+use borrow.Author.Rules.{rules}
+use Rattle.values.proofs.value_form.normal_size.Goals as goal
+
+pub returns-in-HoldsItems : goal.returns-in-HoldsItems
+returns-in-HoldsItems c = search (size-ways, rules)
+
+pub returns-in-HoldsTokens : goal.returns-in-HoldsTokens
+returns-in-HoldsTokens c = search (size-ways, rules)
+
+pub returns-in-HoldsText : goal.returns-in-HoldsText
+returns-in-HoldsText c = search (size-ways, rules)
+
+pub returns-in-HoldsPlain : goal.returns-in-HoldsPlain
+returns-in-HoldsPlain c = search (size-ways, rules)
+
+pub returns-in-HoldsTime : goal.returns-in-HoldsTime
+returns-in-HoldsTime c = search (size-ways, rules)
+
+pub returns-in-HoldsBearer : goal.returns-in-HoldsBearer
+returns-in-HoldsBearer c = search (size-ways, rules)
+
+pub returns-in-HoldsNumber : goal.returns-in-HoldsNumber
+returns-in-HoldsNumber c = search (size-ways, rules)
