@@ -264,7 +264,7 @@ fn fit(
     store: &[u8],
 ) -> Insertion
     requires { Fittable n used number next takes (memory tags kinds depths parents starts sizes bodies store) }
-    ensures { result ≡ fitted_by n used number (memory tags.entry kinds.entry depths.entry parents.entry starts.entry sizes.entry bodies.entry store.entry) (Admitted next records takes) }
+    ensures { result ≡ fitted_by n used number (memory tags.now kinds.now depths.now parents.now starts.now sizes.now bodies.now store.now) (Admitted next records takes) }
 {
     if records > places_in(tags, kinds, depths, parents, starts, sizes, bodies) - n {
         return Insertion::Refused(14);
@@ -318,7 +318,7 @@ fn plan_insertion(
     bodies: &[u16],
     store: &[u8],
 ) -> Insertion
-    ensures { result ≡ insertion_of n number place element.now (memory tags.entry kinds.entry depths.entry parents.entry starts.entry sizes.entry bodies.entry store.entry) }
+    ensures { result ≡ insertion_of n number place element.now (memory tags.now kinds.now depths.now parents.now starts.now sizes.now bodies.now store.now) }
 {
     let Filled::Upto(used) = held(
         n, tags, kinds, depths, parents, starts, sizes, bodies, store,
@@ -353,7 +353,7 @@ fn put_in(
     store: &mut [u8],
 )
     requires { PutsIn gap number element.now (memory tags kinds depths parents starts sizes bodies store) }
-    ensures { PutIn gap number element.now (memory tags.entry kinds.entry depths.entry parents.entry starts.entry sizes.entry bodies.entry store.entry) (memory tags.exit kinds.exit depths.exit parents.exit starts.exit sizes.exit bodies.exit store.exit) }
+    ensures { PutIn gap number element.now (memory tags.old kinds.old depths.old parents.old starts.old sizes.old bodies.old store.old) (memory tags.new kinds.new depths.new parents.new starts.new sizes.new bodies.new store.new) }
 {
     let level = Level {
         element: tags[number],
@@ -394,7 +394,7 @@ pub fn insert(
     bodies: &mut [u16],
     store: &mut [u8],
 ) -> EditAnswer
-    ensures { EditClaim (insertion number place element.now) n (memory tags.entry kinds.entry depths.entry parents.entry starts.entry sizes.entry bodies.entry store.entry) (memory tags.exit kinds.exit depths.exit parents.exit starts.exit sizes.exit bodies.exit store.exit) result }
+    ensures { EditClaim (insertion number place element.now) n (memory tags.old kinds.old depths.old parents.old starts.old sizes.old bodies.old store.old) (memory tags.new kinds.new depths.new parents.new starts.new sizes.new bodies.new store.new) result }
 {
     match plan_insertion(
         n, number, place, element, tags, kinds, depths, parents, starts, sizes, bodies, store,

@@ -116,7 +116,7 @@ fn lay_value(
 ) -> Laid
     requires value_layable { ValueLayable (entries table.now) kind level done body.now (memory tags kinds depths parents starts sizes bodies store) }
     requires indexes { Indexes (entries table.now) index.now }
-    ensures { ValueLays (entries table.now) kind tag level done body.now (memory tags.entry kinds.entry depths.entry parents.entry starts.entry sizes.entry bodies.entry store.entry) (memory tags.exit kinds.exit depths.exit parents.exit starts.exit sizes.exit bodies.exit store.exit) result }
+    ensures { ValueLays (entries table.now) kind tag level done body.now (memory tags.old kinds.old depths.old parents.old starts.old sizes.old bodies.old store.old) (memory tags.new kinds.new depths.new parents.new starts.new sizes.new bodies.new store.new) result }
 {
     let at = done.end;
     let end = store_body(kind, index, table, body, store, at);
@@ -146,7 +146,7 @@ fn lay_inside(
 ) -> Laid
     requires inside_layable { InsideLayable (entries table.now) level done tag body.now (memory tags kinds depths parents starts sizes bodies store) }
     requires indexes { Indexes (entries table.now) index.now }
-    ensures { ItemLays (entries table.now) level done tag body.now (memory tags.entry kinds.entry depths.entry parents.entry starts.entry sizes.entry bodies.entry store.entry) (memory tags.exit kinds.exit depths.exit parents.exit starts.exit sizes.exit bodies.exit store.exit) result }
+    ensures { ItemLays (entries table.now) level done tag body.now (memory tags.old kinds.old depths.old parents.old starts.old sizes.old bodies.old store.old) (memory tags.new kinds.new depths.new parents.new starts.new sizes.new bodies.new store.new) result }
 {
     let i = done.next;
     let record = record_of(level, tag, 0, 0);
@@ -188,7 +188,7 @@ fn lay_item(
 ) -> Laid
     requires item_layable { ItemLayable (entries table.now) level done tag body.now (memory tags kinds depths parents starts sizes bodies store) }
     requires indexes { Indexes (entries table.now) index.now }
-    ensures { ItemLays (entries table.now) level done tag body.now (memory tags.entry kinds.entry depths.entry parents.entry starts.entry sizes.entry bodies.entry store.entry) (memory tags.exit kinds.exit depths.exit parents.exit starts.exit sizes.exit bodies.exit store.exit) result }
+    ensures { ItemLays (entries table.now) level done tag body.now (memory tags.old kinds.old depths.old parents.old starts.old sizes.old bodies.old store.old) (memory tags.new kinds.new depths.new parents.new starts.new sizes.new bodies.new store.new) result }
 {
     match listed_as(level.element, tag) {
         Listed::Nothing => done,
@@ -222,7 +222,7 @@ pub fn lay_items(
 ) -> Laid
     requires items_layable { ItemsLayable (entries table.now) level done part.now (memory tags kinds depths parents starts sizes bodies store) }
     requires indexes { Indexes (entries table.now) index.now }
-    ensures { ItemsLay (entries table.now) level done part.now (memory tags.entry kinds.entry depths.entry parents.entry starts.entry sizes.entry bodies.entry store.entry) (memory tags.exit kinds.exit depths.exit parents.exit starts.exit sizes.exit bodies.exit store.exit) result }
+    ensures { ItemsLay (entries table.now) level done part.now (memory tags.old kinds.old depths.old parents.old starts.old sizes.old bodies.old store.old) (memory tags.new kinds.new depths.new parents.new starts.new sizes.new bodies.new store.new) result }
 {
     let mut done = done;
     let mut at: usize = 0;
@@ -254,7 +254,7 @@ pub fn lay(
     store: &mut [u8],
 ) -> usize
     requires { Layable object.now (memory tags kinds depths parents starts sizes bodies store) }
-    ensures { LaysTree object.now (memory tags.entry kinds.entry depths.entry parents.entry starts.entry sizes.entry bodies.entry store.entry) (memory tags.exit kinds.exit depths.exit parents.exit starts.exit sizes.exit bodies.exit store.exit) result }
+    ensures { LaysTree object.now (memory tags.old kinds.old depths.old parents.old starts.old sizes.old bodies.old store.old) (memory tags.new kinds.new depths.new parents.new starts.new sizes.new bodies.new store.new) result }
 {
     let table = table_of(object);
     let index = index_of(table);

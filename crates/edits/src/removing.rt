@@ -80,7 +80,7 @@ fn plan_removal(
     bodies: &[u16],
     store: &[u8],
 ) -> Removal
-    ensures { result ≡ removal_of n number (memory tags.entry kinds.entry depths.entry parents.entry starts.entry sizes.entry bodies.entry store.entry) }
+    ensures { result ≡ removal_of n number (memory tags.now kinds.now depths.now parents.now starts.now sizes.now bodies.now store.now) }
 {
     let Filled::Upto(used) = held(
         n, tags, kinds, depths, parents, starts, sizes, bodies, store,
@@ -112,7 +112,7 @@ pub fn remove(
     bodies: &mut [u16],
     store: &mut [u8],
 ) -> EditAnswer
-    ensures { EditClaim (removal number) n (memory tags.entry kinds.entry depths.entry parents.entry starts.entry sizes.entry bodies.entry store.entry) (memory tags.exit kinds.exit depths.exit parents.exit starts.exit sizes.exit bodies.exit store.exit) result }
+    ensures { EditClaim (removal number) n (memory tags.old kinds.old depths.old parents.old starts.old sizes.old bodies.old store.old) (memory tags.new kinds.new depths.new parents.new starts.new sizes.new bodies.new store.new) result }
 {
     match plan_removal(
         n, number, tags, kinds, depths, parents, starts, sizes, bodies, store,

@@ -81,7 +81,7 @@ fn plan_text(
     bodies: &[u16],
     store: &[u8],
 ) -> Replacement
-    ensures { result ≡ replacement_in (tree_held n (memory tags.entry kinds.entry depths.entry parents.entry starts.entry sizes.entry bodies.entry store.entry)) (edited_in (memory tags.entry kinds.entry depths.entry parents.entry starts.entry sizes.entry bodies.entry store.entry) (replace number text.now) (tree_held n (memory tags.entry kinds.entry depths.entry parents.entry starts.entry sizes.entry bodies.entry store.entry))) }
+    ensures { result ≡ replacement_in (tree_held n (memory tags.now kinds.now depths.now parents.now starts.now sizes.now bodies.now store.now)) (edited_in (memory tags.now kinds.now depths.now parents.now starts.now sizes.now bodies.now store.now) (replace number text.now) (tree_held n (memory tags.now kinds.now depths.now parents.now starts.now sizes.now bodies.now store.now))) }
 {
     let Filled::Upto(used) = held(
         n, tags, kinds, depths, parents, starts, sizes, bodies, store,
@@ -175,7 +175,7 @@ pub fn replace_text(
     bodies: &mut [u16],
     store: &mut [u8],
 ) -> EditAnswer
-    ensures { EditClaim (replace number text.now) n (memory tags.entry kinds.entry depths.entry parents.entry starts.entry sizes.entry bodies.entry store.entry) (memory tags.entry kinds.entry depths.entry parents.entry starts.exit sizes.exit bodies.exit store.exit) result }
+    ensures { EditClaim (replace number text.now) n (memory tags.now kinds.now depths.now parents.now starts.old sizes.old bodies.old store.old) (memory tags.now kinds.now depths.now parents.now starts.new sizes.new bodies.new store.new) result }
 {
     match plan_text(
         n, number, text, tags, kinds, depths, parents, starts, sizes, bodies, store,

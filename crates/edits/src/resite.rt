@@ -30,7 +30,7 @@ pub fn resite(
     store: &mut [u8],
 )
     requires { Resites gap (memory tags kinds depths parents starts sizes bodies store) }
-    ensures { Resited gap (memory tags.entry kinds.entry depths.entry parents.entry starts.entry sizes.entry bodies.entry store.entry) (memory tags.exit kinds.exit depths.exit parents.exit starts.exit sizes.exit bodies.exit store.exit) }
+    ensures { Resited gap (memory tags.old kinds.old depths.old parents.old starts.old sizes.old bodies.old store.old) (memory tags.new kinds.new depths.new parents.new starts.new sizes.new bodies.new store.new) }
 {
     let records = gap.records;
     let octets = gap.octets;

@@ -1,7 +1,7 @@
 // Taking an object into lent memory, to be edited or written from there: it is judged, measured and held against what is lent before anything is laid.
 ghost use Rattle.std.specs.Prelude.{◌≡◌, min, length};
 ghost use Rattle.format.specs.Calls.{places as places_of};
-ghost use Rattle.format.specs.Lent.{lent};
+ghost use Rattle.format.specs.Lent.{six};
 ghost use Rattle.state.specs.Taking.{memory, TakeInClaim};
 
 use crate::lay::lay;
@@ -19,7 +19,7 @@ pub fn places_in(
     sizes: &[u16],
     bodies: &[u16],
 ) -> usize
-    ensures { result ≡ min (places_of (lent tags.entry kinds.entry depths.entry parents.entry starts.entry sizes.entry)) (length bodies.now) }
+    ensures { result ≡ min (places_of (six tags.now kinds.now depths.now parents.now starts.now sizes.now)) (length bodies.now) }
 {
     least(
         places(tags, kinds, depths, parents, starts, sizes),
@@ -41,7 +41,7 @@ pub fn take_in(
     store: &mut [u8],
     most: Octets,
 ) -> EditAnswer
-    ensures { TakeInClaim object.now most (memory tags.entry kinds.entry depths.entry parents.entry starts.entry sizes.entry bodies.entry store.entry) (memory tags.exit kinds.exit depths.exit parents.exit starts.exit sizes.exit bodies.exit store.exit) result }
+    ensures { TakeInClaim object.now most (memory tags.old kinds.old depths.old parents.old starts.old sizes.old bodies.old store.old) (memory tags.new kinds.new depths.new parents.new starts.new sizes.new bodies.new store.new) result }
 {
     let there = places_in(tags, kinds, depths, parents, starts, sizes, bodies);
     match survey(object, there, Octets(store.len()), most) {

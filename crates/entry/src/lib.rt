@@ -4,7 +4,7 @@
 ghost use Rattle.std.specs.Prelude.{◌≡◌, ◌≤◌, length};
 ghost use Rattle.format.specs.Answers.{read_outcome};
 ghost use Rattle.format.specs.Calls.{ReadRecordsClaim};
-ghost use Rattle.format.specs.Lent.{lent};
+ghost use Rattle.format.specs.Lent.{six};
 ghost use Rattle.entry.specs.Copies.{copied};
 
 use format::{ReadAnswer, Record, record_at};
@@ -30,7 +30,7 @@ fn copy_records<'r, 'l>(
     sizes: &'l [u16],
 )
     requires { many ≤ length records.old }
-    ensures { records.new ≡ copied (lent tags.entry kinds.entry depths.entry parents.entry starts.entry sizes.entry) many records.old }
+    ensures { records.new ≡ copied (six tags.now kinds.now depths.now parents.now starts.now sizes.now) many records.old }
 {
     let mut i = 0;
     while i < many {
@@ -52,7 +52,7 @@ pub fn read_records(
     sizes: &mut [u16],
     records: &mut [Record],
 ) -> ReadAnswer
-    ensures { ReadRecordsClaim object.now (lent tags.entry kinds.entry depths.entry parents.entry starts.entry sizes.entry) (lent tags.exit kinds.exit depths.exit parents.exit starts.exit sizes.exit) records.old records.new result }
+    ensures { ReadRecordsClaim object.now (six tags.old kinds.old depths.old parents.old starts.old sizes.old) (six tags.new kinds.new depths.new parents.new starts.new sizes.new) records.old records.new result }
 {
     let most = records.len();
     let answer = read_at_most(object, most, tags, kinds, depths, parents, starts, sizes);

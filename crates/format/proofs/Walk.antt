@@ -106,15 +106,15 @@ module _ (row : ℕ → Record) (n : ℕ) (lent : List ℕ) where
   -- and a derivation as the walk's answer, with any fuel above the number of records that are left
   pub walked-walk : {s : Spot} {p i j : ℕ} → Walked row n lent s p i j → (k : ℕ) → n - i < k → walk k row n lent s p i ≡ some j
   unfolding onward
-  walked-walk w zero q = absurd (not-suc-le-zero q)
-  walked-walk (stop {s = s} {p = p} {i = i} e) (suc k) q = turn-stop k s p i e
-  walked-walk (single {s = s} {p = p} {i = i} e g o w) (suc k) q =
+  walked-walk {s = s} {p = p} {i = i} {j = j} w zero q = absurd (not-suc-le-zero q)
+  walked-walk {s = s} {p = p} {i = i} (stop e) (suc k) q = turn-stop k s p i e
+  walked-walk {s = s} {p = p} {i = i} {j = j} (single e g o w) (suc k) q =
       let l = here-less row n s.depth i e in
-      turn-single k s p i e g o ∙ walked-walk w k (omega arith)
-  walked-walk (nested {s = s} {p = p} {i = i} e g o v w) (suc k) q =
+      turn-single k s p i e g o ∙ walked-walk {s = past s (row i).tag} {p = p} {i = suc i} {j = j} w k (omega arith)
+  walked-walk {s = s} {p = p} {i = i} {j = j} (nested {m = m} e g o v w) (suc k) q =
       let l = here-less row n s.depth i e in
       let f = forward v in
-      turn-nested k s p i e g o ∙ ap (λ x. onward x (walk k row n lent (past s (row i).tag) p)) (walked-walk v k (omega arith)) ∙ walked-walk w k (omega arith)
+      turn-nested k s p i e g o ∙ ap (λ x. onward x (walk k row n lent (past s (row i).tag) p)) (walked-walk {s = below s (row i).tag} {p = i} {i = suc i} {j = m} v k (omega arith)) ∙ walked-walk {s = past s (row i).tag} {p = p} {i = m} {j = j} w k (omega arith)
 
   -- so any two such fuels give one answer
   pub same-walk : (k l : ℕ) (s : Spot) (p i : ℕ) → n - i < k → n - i < l → walk k row n lent s p i ≡ walk l row n lent s p i

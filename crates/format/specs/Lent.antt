@@ -1,6 +1,5 @@
 -- Six lent slices of numbers as the one record of lists that the claims speak of.
 use Rattle.std.specs.Prelude.{List, ℕ, ◌<◌, length}
-use Rattle.std.specs.Borrow.{Bor}
 use Rattle.format.specs.Calls.{Lists}
 
 abbrev pub six : (tags kinds depths parents starts sizes : List ℕ) → Lists
@@ -14,7 +13,3 @@ pub record Within (i : ℕ) (l : Lists) : Type 0 where
   pub parents : i < length l.parents
   pub starts : i < length l.starts
   pub sizes : i < length l.sizes
-
--- what six references lend
-abbrev pub lent : (tags kinds depths parents starts sizes : Bor (List ℕ)) → Lists
-lent tags kinds depths parents starts sizes = six tags.now kinds.now depths.now parents.now starts.now sizes.now

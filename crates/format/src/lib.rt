@@ -5,7 +5,7 @@ ghost use Rattle.std.specs.Prelude.{◌≡◌, min, get_or};
 ghost use Rattle.format.specs.Tree.{kind_of};
 ghost use Rattle.format.specs.Answers.{refusal, read_outcome, edit_outcome, write_outcome, same_outcome};
 ghost use Rattle.format.specs.Calls.{places, row, put_whole};
-ghost use Rattle.format.specs.Lent.{lent};
+ghost use Rattle.format.specs.Lent.{six};
 
 use octets::Octets;
 use values::is_attribute;
@@ -56,7 +56,7 @@ pub fn places(
     starts: &[u16],
     sizes: &[u16],
 ) -> usize
-    ensures { result ≡ places (lent tags.entry kinds.entry depths.entry parents.entry starts.entry sizes.entry) }
+    ensures { result ≡ places (six tags.now kinds.now depths.now parents.now starts.now sizes.now) }
 {
     least(
         tags.len(),
@@ -81,7 +81,7 @@ pub fn put_record(
     i: usize,
     r: Record,
 )
-    ensures { lent tags.exit kinds.exit depths.exit parents.exit starts.exit sizes.exit ≡ put_whole i r (lent tags.entry kinds.entry depths.entry parents.entry starts.entry sizes.entry) }
+    ensures { six tags.new kinds.new depths.new parents.new starts.new sizes.new ≡ put_whole i r (six tags.old kinds.old depths.old parents.old starts.old sizes.old) }
 {
     if i < places(tags, kinds, depths, parents, starts, sizes) {
         tags[i] = r.tag;
@@ -103,7 +103,7 @@ pub fn record_at(
     sizes: &[u16],
     i: usize,
 ) -> Record
-    ensures { result ≡ row (lent tags.entry kinds.entry depths.entry parents.entry starts.entry sizes.entry) i }
+    ensures { result ≡ row (six tags.now kinds.now depths.now parents.now starts.now sizes.now) i }
 {
     Record {
         tag: octet_at(tags, i),

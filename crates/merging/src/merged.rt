@@ -53,7 +53,7 @@ fn fill(
     room: &mut [u8],
 ) -> EditAnswer
     requires { size ≤ length room.old }
-    ensures { Fills by basic.now advanced.now size (memory tags.entry kinds.entry depths.entry parents.entry starts.entry sizes.entry bodies.entry store.entry) (memory tags.exit kinds.exit depths.exit parents.exit starts.exit sizes.exit bodies.exit store.exit) room.old room.new }
+    ensures { Fills by basic.now advanced.now size (memory tags.old kinds.old depths.old parents.old starts.old sizes.old bodies.old store.old) (memory tags.new kinds.new depths.new parents.new starts.new sizes.new bodies.new store.new) room.old room.new }
 {
     let _needs = put_object(room, by, basic, advanced, true);
     let most = Octets(room.len());
@@ -88,7 +88,7 @@ pub fn merge(
     store: &mut [u8],
     room: &mut [u8],
 ) -> MergeAnswer
-    ensures { MergeClaim by basic.now advanced.now (memory tags.entry kinds.entry depths.entry parents.entry starts.entry sizes.entry bodies.entry store.entry) (memory tags.exit kinds.exit depths.exit parents.exit starts.exit sizes.exit bodies.exit store.exit) room.old room.new result }
+    ensures { MergeClaim by basic.now advanced.now (memory tags.old kinds.old depths.old parents.old starts.old sizes.old bodies.old store.old) (memory tags.new kinds.new depths.new parents.new starts.new sizes.new bodies.new store.new) room.old room.new result }
 {
     let places = places_in(tags, kinds, depths, parents, starts, sizes, bodies);
     let answer = decide(by, basic, advanced, places, Octets(store.len()), room);

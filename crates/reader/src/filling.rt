@@ -2,7 +2,7 @@
 // item's body lies, and `listed_as` what is written of it.
 ghost use Rattle.std.specs.Prelude.{◌≡◌};
 ghost use Rattle.format.specs.Tree.{record_of};
-ghost use Rattle.format.specs.Lent.{lent};
+ghost use Rattle.format.specs.Lent.{six};
 ghost use Rattle.reader.specs.Filling.{Narrow, Fillable, Fills, ItemFillable, ItemFills};
 
 use format::{Record, kind_of, put_record};
@@ -53,8 +53,8 @@ fn fill_item(
     starts: &mut [u16],
     sizes: &mut [u16],
 ) -> usize
-    requires { ItemFillable place tag body.now (lent tags kinds depths parents starts sizes) }
-    ensures { ItemFills place tag body.now (lent tags.entry kinds.entry depths.entry parents.entry starts.entry sizes.entry) (lent tags.exit kinds.exit depths.exit parents.exit starts.exit sizes.exit) result }
+    requires { ItemFillable place tag body.now (six tags kinds depths parents starts sizes) }
+    ensures { ItemFills place tag body.now (six tags.old kinds.old depths.old parents.old starts.old sizes.old) (six tags.new kinds.new depths.new parents.new starts.new sizes.new) result }
 {
     let n = place.next;
     match listed_as(place.element, tag) {
@@ -91,8 +91,8 @@ pub fn fill_items(
     starts: &mut [u16],
     sizes: &mut [u16],
 ) -> usize
-    requires { Fillable place part.now (lent tags kinds depths parents starts sizes) }
-    ensures { Fills place part.now (lent tags.entry kinds.entry depths.entry parents.entry starts.entry sizes.entry) (lent tags.exit kinds.exit depths.exit parents.exit starts.exit sizes.exit) result }
+    requires { Fillable place part.now (six tags kinds depths parents starts sizes) }
+    ensures { Fills place part.now (six tags.old kinds.old depths.old parents.old starts.old sizes.old) (six tags.new kinds.new depths.new parents.new starts.new sizes.new) result }
 {
     let mut next = place.next;
     let mut at: usize = 0;

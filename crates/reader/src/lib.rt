@@ -3,7 +3,7 @@
 
 ghost use Rattle.std.specs.Prelude.{◌≡◌};
 ghost use Rattle.format.specs.Calls.{ReadClaim, ReadAtMostClaim, span_of, body_at};
-ghost use Rattle.format.specs.Lent.{lent};
+ghost use Rattle.format.specs.Lent.{six};
 
 mod filling;
 
@@ -24,7 +24,7 @@ pub fn read_at_most<'o, 'l>(
     starts: &'l mut [u16],
     sizes: &'l mut [u16],
 ) -> ReadAnswer
-    ensures { ReadAtMostClaim object.now most (lent tags.entry kinds.entry depths.entry parents.entry starts.entry sizes.entry) (lent tags.exit kinds.exit depths.exit parents.exit starts.exit sizes.exit) result }
+    ensures { ReadAtMostClaim object.now most (six tags.old kinds.old depths.old parents.old starts.old sizes.old) (six tags.new kinds.new depths.new parents.new starts.new sizes.new) result }
 {
     let answer = judge(object);
     match answer {
@@ -58,7 +58,7 @@ pub fn read(
     starts: &mut [u16],
     sizes: &mut [u16],
 ) -> ReadAnswer
-    ensures { ReadClaim object.now (lent tags.entry kinds.entry depths.entry parents.entry starts.entry sizes.entry) (lent tags.exit kinds.exit depths.exit parents.exit starts.exit sizes.exit) result }
+    ensures { ReadClaim object.now (six tags.old kinds.old depths.old parents.old starts.old sizes.old) (six tags.new kinds.new depths.new parents.new starts.new sizes.new) result }
 {
     let most = tags.len();
     read_at_most(object, most, tags, kinds, depths, parents, starts, sizes)

@@ -7,7 +7,7 @@ ghost use Rattle.text.specs.Text.{text};
 ghost use Rattle.text.specs.Tokens.{shown_length};
 ghost use Rattle.format.specs.Judge.{shown};
 ghost use Rattle.format.specs.Calls.{places, tree_given};
-ghost use Rattle.format.specs.Lent.{lent};
+ghost use Rattle.format.specs.Lent.{six};
 ghost use Rattle.records.specs.Check.{is_given, octets_if, held_as, placed_by, state_after, item_of, item_as, first_in, parent_at, walked, told};
 
 use format::{Record, kind_of, places};
@@ -200,8 +200,8 @@ fn check_items(
     at: usize,
     parent: Parent,
 ) -> Reached
-    requires { (count ≤ places (lent tags kinds depths parents starts sizes)) × (at ≤ count) × (parent.depth ≤ 17) }
-    ensures { result ≡ told (walked (lent tags.entry kinds.entry depths.entry parents.entry starts.entry sizes.entry) count octets.now (first_in parent) parent.number at) }
+    requires { (count ≤ places (six tags kinds depths parents starts sizes)) × (at ≤ count) × (parent.depth ≤ 17) }
+    ensures { result ≡ told (walked (six tags.now kinds.now depths.now parents.now starts.now sizes.now) count octets.now (first_in parent) parent.number at) }
 {
     let mut i = at;
     let mut state = State { stage: 0, mask: 0 };
@@ -259,7 +259,7 @@ pub fn is_well_formed(
     sizes: &[u16],
     octets: &[u8],
 ) -> bool
-    ensures { result ≡ is_given (tree_given count (lent tags.entry kinds.entry depths.entry parents.entry starts.entry sizes.entry) octets.now) }
+    ensures { result ≡ is_given (tree_given count (six tags.now kinds.now depths.now parents.now starts.now sizes.now) octets.now) }
 {
     if count == 0 {
         return false;

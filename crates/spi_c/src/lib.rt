@@ -3,7 +3,7 @@
 
 ghost use Rattle.std.specs.Prelude.{◌≡◌, ◌<◌, min};
 ghost use Rattle.text.specs.Text.{text};
-ghost use Rattle.format.specs.Lent.{lent};
+ghost use Rattle.format.specs.Lent.{six};
 ghost use Rattle.spi_c.specs.Packed.{packed, packed_counts, packed_outcome, packed_same, packed_merge, packed_span, packed_sizes, Small, SmallSame, SmallMerge, SmallSpan, SmallSizes};
 ghost use Rattle.state.specs.Taking.{memory};
 ghost use Rattle.edits.specs.Tree.Edit.{replace, remove, insert};
@@ -101,7 +101,7 @@ pub extern "C" fn spi_read(
     starts: &mut [u16],
     sizes: &mut [u16],
 ) -> u64
-    ensures { ReadsC object.now (lent tags.entry kinds.entry depths.entry parents.entry starts.entry sizes.entry) (lent tags.exit kinds.exit depths.exit parents.exit starts.exit sizes.exit) result }
+    ensures { ReadsC object.now (six tags.old kinds.old depths.old parents.old starts.old sizes.old) (six tags.new kinds.new depths.new parents.new starts.new sizes.new) result }
 {
     let answer = reader::read(object, tags, kinds, depths, parents, starts, sizes);
     packed_outcome(answer.outcome())
@@ -149,7 +149,7 @@ pub extern "C" fn spi_write(
     octets: &[u8],
     room: &mut [u8],
 ) -> u64
-    ensures { WritesC count (memory tags.entry kinds.entry depths.entry parents.entry starts.entry sizes.entry bodies.entry octets.entry) bodies.new room.old room.new result }
+    ensures { WritesC count (memory tags.now kinds.now depths.now parents.now starts.now sizes.now bodies.old octets.now) bodies.new room.old room.new result }
 {
     let answer = writer::write(
         count, tags, kinds, depths, parents, starts, sizes, bodies, octets, room,
@@ -171,7 +171,7 @@ pub extern "C" fn spi_normalise(
     store: &mut [u8],
     room: &mut [u8],
 ) -> u64
-    ensures { NormalisesC object.now (memory tags.entry kinds.entry depths.entry parents.entry starts.entry sizes.entry bodies.entry store.entry) (memory tags.exit kinds.exit depths.exit parents.exit starts.exit sizes.exit bodies.exit store.exit) room.old room.new result }
+    ensures { NormalisesC object.now (memory tags.old kinds.old depths.old parents.old starts.old sizes.old bodies.old store.old) (memory tags.new kinds.new depths.new parents.new starts.new sizes.new bodies.new store.new) room.old room.new result }
 {
     let answer = writer::normalise(
         object, tags, kinds, depths, parents, starts, sizes, bodies, store, room,
@@ -192,7 +192,7 @@ pub extern "C" fn spi_take_in(
     bodies: &mut [u16],
     store: &mut [u8],
 ) -> u64
-    ensures { TakesInC object.now (memory tags.entry kinds.entry depths.entry parents.entry starts.entry sizes.entry bodies.entry store.entry) (memory tags.exit kinds.exit depths.exit parents.exit starts.exit sizes.exit bodies.exit store.exit) result }
+    ensures { TakesInC object.now (memory tags.old kinds.old depths.old parents.old starts.old sizes.old bodies.old store.old) (memory tags.new kinds.new depths.new parents.new starts.new sizes.new bodies.new store.new) result }
 {
     let answer = edits::take_in(
         object,
@@ -224,7 +224,7 @@ pub extern "C" fn spi_replace_text(
     bodies: &mut [u16],
     store: &mut [u8],
 ) -> u64
-    ensures { EditsC (replace number text.now) count (memory tags.entry kinds.entry depths.entry parents.entry starts.entry sizes.entry bodies.entry store.entry) (memory tags.entry kinds.entry depths.entry parents.entry starts.exit sizes.exit bodies.exit store.exit) result }
+    ensures { EditsC (replace number text.now) count (memory tags.now kinds.now depths.now parents.now starts.old sizes.old bodies.old store.old) (memory tags.now kinds.now depths.now parents.now starts.new sizes.new bodies.new store.new) result }
 {
     let answer = edits::replace_text(
         count, number, text, tags, kinds, depths, parents, starts, sizes, bodies, store,
@@ -246,7 +246,7 @@ pub extern "C" fn spi_remove(
     bodies: &mut [u16],
     store: &mut [u8],
 ) -> u64
-    ensures { EditsC (remove number) count (memory tags.entry kinds.entry depths.entry parents.entry starts.entry sizes.entry bodies.entry store.entry) (memory tags.exit kinds.exit depths.exit parents.exit starts.exit sizes.exit bodies.exit store.exit) result }
+    ensures { EditsC (remove number) count (memory tags.old kinds.old depths.old parents.old starts.old sizes.old bodies.old store.old) (memory tags.new kinds.new depths.new parents.new starts.new sizes.new bodies.new store.new) result }
 {
     let answer = edits::remove(
         count, number, tags, kinds, depths, parents, starts, sizes, bodies, store,
@@ -270,7 +270,7 @@ pub extern "C" fn spi_insert(
     bodies: &mut [u16],
     store: &mut [u8],
 ) -> u64
-    ensures { EditsC (insert parent place element.now) count (memory tags.entry kinds.entry depths.entry parents.entry starts.entry sizes.entry bodies.entry store.entry) (memory tags.exit kinds.exit depths.exit parents.exit starts.exit sizes.exit bodies.exit store.exit) result }
+    ensures { EditsC (insert parent place element.now) count (memory tags.old kinds.old depths.old parents.old starts.old sizes.old bodies.old store.old) (memory tags.new kinds.new depths.new parents.new starts.new sizes.new bodies.new store.new) result }
 {
     let answer = edits::insert(
         count, parent, place, element, tags, kinds, depths, parents, starts, sizes, bodies, store,
@@ -292,7 +292,7 @@ pub extern "C" fn spi_write_state(
     store: &[u8],
     room: &mut [u8],
 ) -> u64
-    ensures { WritesStateC count (memory tags.entry kinds.entry depths.entry parents.entry starts.entry sizes.entry bodies.entry store.entry) room.old room.new result }
+    ensures { WritesStateC count (memory tags.now kinds.now depths.now parents.now starts.now sizes.now bodies.now store.now) room.old room.new result }
 {
     let answer = writer::write_state(
         count, tags, kinds, depths, parents, starts, sizes, bodies, store, room,
@@ -382,7 +382,7 @@ pub extern "C" fn spi_merge(
     store: &mut [u8],
     room: &mut [u8],
 ) -> u64
-    ensures { MergesC (services_of bearers) basic.now advanced.now (memory tags.entry kinds.entry depths.entry parents.entry starts.entry sizes.entry bodies.entry store.entry) (memory tags.exit kinds.exit depths.exit parents.exit starts.exit sizes.exit bodies.exit store.exit) room.old room.new result }
+    ensures { MergesC (services_of bearers) basic.now advanced.now (memory tags.old kinds.old depths.old parents.old starts.old sizes.old bodies.old store.old) (memory tags.new kinds.new depths.new parents.new starts.new sizes.new bodies.new store.new) room.old room.new result }
 {
     let answer = merging::merge(
         services(bearers),

@@ -2,7 +2,6 @@
 use Rattle.std.specs.Prelude.{◌≡◌, cond, ◌&&◌, List, [], ◌∷◌, ℕ, leb}
 use Rattle.std.proofs.Math.Option.{Option, none, some}
 use Rattle.std.proofs.lemmas.List.Edits.{sets}
-use Rattle.std.specs.Borrow.{Bor}
 use Rattle.octets.specs.declared.counts.Octets.{Octets as OctetCount}
 use Rattle.octets.specs.Counts.{size_of, octets_within}
 use Rattle.format.specs.declared.Refusal.{Refusal}
@@ -15,13 +14,13 @@ use Rattle.format.specs.Judge.Judged.{refused, accepted}
 use Rattle.format.specs.Meaning.{means, encode, normal_of}
 use Rattle.format.specs.Loaded.{loaded_of}
 use Rattle.format.specs.Calls.{Lent, roomy, fits_lent, edit_answer, write_answer, write_octets, normal_answer, handed}
-use Rattle.format.specs.Lent.{lent}
+use Rattle.format.specs.Lent.{six}
 use Rattle.format.specs.State.{Memory, places_in, body_sizes, packed_store, lay_tree, tree_in, tree_held}
 
--- the memory that eight references lend
-abbrev pub memory : (tags kinds depths parents starts sizes bodies store : Bor (List ℕ)) → Memory
+-- the memory that eight lent slices are
+abbrev pub memory : (tags kinds depths parents starts sizes bodies store : List ℕ) → Memory
 memory tags kinds depths parents starts sizes bodies store =
-    record { lists = lent tags kinds depths parents starts sizes; bodies = bodies.now; store = store.now }
+    record { lists = six tags kinds depths parents starts sizes; bodies = bodies; store = store }
 
 -- "14 if its records don't fit; then 15 exactly when its texts and values together exceed the store or its normal form 32,768 octets", or so many octets as the caller
 -- has room for

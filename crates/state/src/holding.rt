@@ -216,7 +216,7 @@ pub fn held(
     bodies: &[u16],
     store: &[u8],
 ) -> Filled
-    ensures { result ≡ held_as (tree_held n (memory tags.entry kinds.entry depths.entry parents.entry starts.entry sizes.entry bodies.entry store.entry)) }
+    ensures { result ≡ held_as (tree_held n (memory tags.now kinds.now depths.now parents.now starts.now sizes.now bodies.now store.now)) }
 {
     if n > bodies.len() {
         return Filled::Apart;

@@ -2,7 +2,6 @@
 use Rattle.std.specs.Prelude.{◌≡◌, true, false, cond, ◌&&◌, List, [], ◌++◌, ℕ, suc, ◌+◌, ◌-◌, ◌≤◌, ◌<◌, eqb, leb, ltb, length, take, drop, get_or}
 use Rattle.std.proofs.Math.Option.{none, some}
 use Rattle.std.proofs.lemmas.List.Edits.{sets}
-use Rattle.std.specs.Borrow.{Bor}
 pub use Rattle.octets.specs.Puts.{Lays}
 use Rattle.octets.specs.Counts.{as_octets}
 use Rattle.octets.specs.Header.{framed}
@@ -32,9 +31,6 @@ use Rattle.writer.specs.declared.emit.Role.TheVariants.{Gone, Element, Attribute
 -- measuring and writing read four of the lent lists
 abbrev pub four_of : (tags depths starts sizes : List ℕ) → Lists
 four_of tags depths starts sizes = record { tags = tags; kinds = []; depths = depths; parents = []; starts = starts; sizes = sizes }
-
-abbrev pub four : (tags depths starts sizes : Bor (List ℕ)) → Lists
-four tags depths starts sizes = four_of tags.now depths.now starts.now sizes.now
 
 -- the items of an element from record i on, at a depth, and the number of the first record past them
 unfoldable pub items_from : Lists → ℕ → List ℕ → (depth i : ℕ) → Items × ℕ

@@ -5,7 +5,7 @@
 ghost use Rattle.std.specs.Prelude.{◌≡◌, true, ◌+◌, ◌≤◌, ◌<◌, length, get_or};
 ghost use Rattle.octets.specs.Puts.{Lays};
 ghost use Rattle.survey.specs.Normal.{item_octets, attribute_octets, later_octets};
-ghost use Rattle.writer.specs.Steps.{four, items_from, Holding, Ordered, Fitting, lower_of, FindsLowest, BodyAt, body_at};
+ghost use Rattle.writer.specs.Steps.{four_of, items_from, Holding, Ordered, Fitting, lower_of, FindsLowest, BodyAt, body_at};
 ghost use Rattle.writer.specs.Steps.{role_of, Emits, Standing, AsLaid, SizesStand};
 
 use crate::item::{put_header, put_item, put_stored};
@@ -135,10 +135,10 @@ fn emit_attributes(
     to: usize,
     stored: bool,
 ) -> usize
-    requires holding { Holding count (four tags depths starts sizes) octets.now × Ordered parent (items_from (four tags depths starts sizes) count octets.now depth at).0 }
-    requires as_laid { stored ≡ true → AsLaid parent (items_from (four tags depths starts sizes) count octets.now depth at).0 }
-    requires fitting { Fitting (attribute_octets parent (items_from (four tags depths starts sizes) count octets.now depth at).0) to (length room.old) }
-    ensures { Lays (attribute_octets parent (items_from (four tags.entry depths.entry starts.entry sizes.entry) count octets.now depth at).0) to room.old room.new result }
+    requires holding { Holding count (four_of tags depths starts sizes) octets.now × Ordered parent (items_from (four_of tags depths starts sizes) count octets.now depth at).0 }
+    requires as_laid { stored ≡ true → AsLaid parent (items_from (four_of tags depths starts sizes) count octets.now depth at).0 }
+    requires fitting { Fitting (attribute_octets parent (items_from (four_of tags depths starts sizes) count octets.now depth at).0) to (length room.old) }
+    ensures { Lays (attribute_octets parent (items_from (four_of tags.now depths.now starts.now sizes.now) count octets.now depth at).0) to room.old room.new result }
 {
     let mut end = to;
     let mut next = next_attribute(count, tags, depths, at, depth, 0x80);
@@ -187,11 +187,11 @@ pub fn emit_items(
     to: usize,
     stored: bool,
 ) -> Reached
-    requires holding { Holding count (four tags depths starts sizes) octets.now × Ordered parent (items_from (four tags depths starts sizes) count octets.now depth at).0 × (at ≤ count) × (depth ≤ at + 1) }
-    requires as_laid { stored ≡ true → AsLaid parent (items_from (four tags depths starts sizes) count octets.now depth at).0 }
-    requires sizes_stand { SizesStand count (four tags depths starts sizes) octets.now bodies.now }
-    requires fitting { Fitting (later_octets parent (items_from (four tags depths starts sizes) count octets.now depth at).0) to (length room.old) }
-    ensures { Emits (items_from (four tags.entry depths.entry starts.entry sizes.entry) count octets.now depth at) parent to room.old room.new result }
+    requires holding { Holding count (four_of tags depths starts sizes) octets.now × Ordered parent (items_from (four_of tags depths starts sizes) count octets.now depth at).0 × (at ≤ count) × (depth ≤ at + 1) }
+    requires as_laid { stored ≡ true → AsLaid parent (items_from (four_of tags depths starts sizes) count octets.now depth at).0 }
+    requires sizes_stand { SizesStand count (four_of tags depths starts sizes) octets.now bodies.now }
+    requires fitting { Fitting (later_octets parent (items_from (four_of tags depths starts sizes) count octets.now depth at).0) to (length room.old) }
+    ensures { Emits (items_from (four_of tags.now depths.now starts.now sizes.now) count octets.now depth at) parent to room.old room.new result }
 {
     let mut i = at;
     let mut end = to;

@@ -42,7 +42,7 @@ pub fn write(
     octets: &[u8],
     room: &mut [u8],
 ) -> WriteAnswer
-    ensures { WriteClaim count (memory tags.entry kinds.entry depths.entry parents.entry starts.entry sizes.entry bodies.entry octets.entry) bodies.new room.old room.new result }
+    ensures { WriteClaim count (memory tags.now kinds.now depths.now parents.now starts.now sizes.now bodies.old octets.now) bodies.new room.old room.new result }
 {
     if count > bodies.len() {
         return refused(16);
@@ -91,7 +91,7 @@ pub fn write_state(
     store: &[u8],
     room: &mut [u8],
 ) -> WriteAnswer
-    ensures { WriteStateClaim count (memory tags.entry kinds.entry depths.entry parents.entry starts.entry sizes.entry bodies.entry store.entry) room.old room.new result }
+    ensures { WriteStateClaim count (memory tags.now kinds.now depths.now parents.now starts.now sizes.now bodies.now store.now) room.old room.new result }
 {
     match held(
         count, tags, kinds, depths, parents, starts, sizes, bodies, store,
@@ -123,7 +123,7 @@ pub fn normalise(
     store: &mut [u8],
     room: &mut [u8],
 ) -> WriteAnswer
-    ensures { NormaliseClaim object.now (memory tags.entry kinds.entry depths.entry parents.entry starts.entry sizes.entry bodies.entry store.entry) (memory tags.exit kinds.exit depths.exit parents.exit starts.exit sizes.exit bodies.exit store.exit) room.old room.new result }
+    ensures { NormaliseClaim object.now (memory tags.old kinds.old depths.old parents.old starts.old sizes.old bodies.old store.old) (memory tags.new kinds.new depths.new parents.new starts.new sizes.new bodies.new store.new) room.old room.new result }
 {
     let most = Octets(room.len());
     match take_in(

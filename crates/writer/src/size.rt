@@ -3,7 +3,7 @@
 // may be. Cost: each record is looked at once.
 ghost use Rattle.std.specs.Prelude.{◌≡◌, ◌+◌, ◌≤◌, ◌<◌, length, set};
 ghost use Rattle.format.specs.Calls.{row};
-ghost use Rattle.writer.specs.Steps.{four, items_from, Holding, Ordered, part_of, part_at, Sizes};
+ghost use Rattle.writer.specs.Steps.{four_of, items_from, Holding, Ordered, part_of, part_at, Sizes};
 
 use octets::Octets;
 use state::{framed_size, item_adds};
@@ -54,8 +54,8 @@ fn part_at(
     depth: usize,
     parent: u8,
 ) -> Part
-    requires { Holding (i + 1) (four tags depths starts sizes) octets.now }
-    ensures { result ≡ part_at parent depth octets.now (row (four tags.entry depths.entry starts.entry sizes.entry) i) }
+    requires { Holding (i + 1) (four_of tags depths starts sizes) octets.now }
+    ensures { result ≡ part_at parent depth octets.now (row (four_of tags.now depths.now starts.now sizes.now) i) }
 {
     if depths[i] as usize != depth {
         return Part::Past;
@@ -87,8 +87,8 @@ pub fn size_items(
     depth: usize,
     parent: u8,
 ) -> Sized
-    requires { Holding count (four tags depths starts sizes) octets.now × Ordered parent (items_from (four tags depths starts sizes) count octets.now depth at).0 × (at ≤ count) × (depth ≤ at + 1) }
-    ensures { Sizes count (four tags.entry depths.entry starts.entry sizes.entry) octets.now parent depth at bodies.old bodies.new result }
+    requires { Holding count (four_of tags depths starts sizes) octets.now × Ordered parent (items_from (four_of tags depths starts sizes) count octets.now depth at).0 × (at ≤ count) × (depth ≤ at + 1) }
+    ensures { Sizes count (four_of tags.now depths.now starts.now sizes.now) octets.now parent depth at bodies.old bodies.new result }
 {
     let mut i = at;
     let mut total: usize = 0;
