@@ -1,0 +1,9 @@
+use Rattle.judge.proofs.OwnWays.{own-ways}
+use borrow.Author.Rules.{rules}
+use Rattle.judge.proofs.rules.judge_own.Goals as goal
+
+pub judge_framed-requires : goal.judge_framed-requires
+judge_framed-requires c = search (own-ways, rules)
+
+pub returns-in-Past : goal.returns-in-Past
+returns-in-Past c = search (own-ways, rules)
