@@ -263,7 +263,7 @@ fn fit(
     bodies: &[u16],
     store: &[u8],
 ) -> Insertion
-    requires { Fittable n used number next takes (memory tags kinds depths parents starts sizes bodies store) }
+    requires { Fittable n used number next takes (memory tags.now kinds.now depths.now parents.now starts.now sizes.now bodies.now store.now) }
     ensures { result ≡ fitted_by n used number (memory tags.now kinds.now depths.now parents.now starts.now sizes.now bodies.now store.now) (Admitted next records takes) }
 {
     if records > places_in(tags, kinds, depths, parents, starts, sizes, bodies) - n {
@@ -352,7 +352,7 @@ fn put_in(
     bodies: &mut [u16],
     store: &mut [u8],
 )
-    requires { PutsIn gap number element.now (memory tags kinds depths parents starts sizes bodies store) }
+    requires { PutsIn gap number element.now (memory tags.old kinds.old depths.old parents.old starts.old sizes.old bodies.old store.old) }
     ensures { PutIn gap number element.now (memory tags.old kinds.old depths.old parents.old starts.old sizes.old bodies.old store.old) (memory tags.new kinds.new depths.new parents.new starts.new sizes.new bodies.new store.new) }
 {
     let level = Level {

@@ -114,7 +114,7 @@ fn lay_value(
     bodies: &mut [u16],
     store: &mut [u8],
 ) -> Laid
-    requires value_layable { ValueLayable (entries table.now) kind level done body.now (memory tags kinds depths parents starts sizes bodies store) }
+    requires value_layable { ValueLayable (entries table.now) kind level done body.now (memory tags.old kinds.old depths.old parents.old starts.old sizes.old bodies.old store.old) }
     requires indexes { Indexes (entries table.now) index.now }
     ensures { ValueLays (entries table.now) kind tag level done body.now (memory tags.old kinds.old depths.old parents.old starts.old sizes.old bodies.old store.old) (memory tags.new kinds.new depths.new parents.new starts.new sizes.new bodies.new store.new) result }
 {
@@ -144,7 +144,7 @@ fn lay_inside(
     bodies: &mut [u16],
     store: &mut [u8],
 ) -> Laid
-    requires inside_layable { InsideLayable (entries table.now) level done tag body.now (memory tags kinds depths parents starts sizes bodies store) }
+    requires inside_layable { InsideLayable (entries table.now) level done tag body.now (memory tags.old kinds.old depths.old parents.old starts.old sizes.old bodies.old store.old) }
     requires indexes { Indexes (entries table.now) index.now }
     ensures { ItemLays (entries table.now) level done tag body.now (memory tags.old kinds.old depths.old parents.old starts.old sizes.old bodies.old store.old) (memory tags.new kinds.new depths.new parents.new starts.new sizes.new bodies.new store.new) result }
 {
@@ -186,7 +186,7 @@ fn lay_item(
     bodies: &mut [u16],
     store: &mut [u8],
 ) -> Laid
-    requires item_layable { ItemLayable (entries table.now) level done tag body.now (memory tags kinds depths parents starts sizes bodies store) }
+    requires item_layable { ItemLayable (entries table.now) level done tag body.now (memory tags.old kinds.old depths.old parents.old starts.old sizes.old bodies.old store.old) }
     requires indexes { Indexes (entries table.now) index.now }
     ensures { ItemLays (entries table.now) level done tag body.now (memory tags.old kinds.old depths.old parents.old starts.old sizes.old bodies.old store.old) (memory tags.new kinds.new depths.new parents.new starts.new sizes.new bodies.new store.new) result }
 {
@@ -220,7 +220,7 @@ pub fn lay_items(
     bodies: &mut [u16],
     store: &mut [u8],
 ) -> Laid
-    requires items_layable { ItemsLayable (entries table.now) level done part.now (memory tags kinds depths parents starts sizes bodies store) }
+    requires items_layable { ItemsLayable (entries table.now) level done part.now (memory tags.old kinds.old depths.old parents.old starts.old sizes.old bodies.old store.old) }
     requires indexes { Indexes (entries table.now) index.now }
     ensures { ItemsLay (entries table.now) level done part.now (memory tags.old kinds.old depths.old parents.old starts.old sizes.old bodies.old store.old) (memory tags.new kinds.new depths.new parents.new starts.new sizes.new bodies.new store.new) result }
 {
@@ -253,7 +253,7 @@ pub fn lay(
     bodies: &mut [u16],
     store: &mut [u8],
 ) -> usize
-    requires { Layable object.now (memory tags kinds depths parents starts sizes bodies store) }
+    requires { Layable object.now (memory tags.old kinds.old depths.old parents.old starts.old sizes.old bodies.old store.old) }
     ensures { LaysTree object.now (memory tags.old kinds.old depths.old parents.old starts.old sizes.old bodies.old store.old) (memory tags.new kinds.new depths.new parents.new starts.new sizes.new bodies.new store.new) result }
 {
     let table = table_of(object);

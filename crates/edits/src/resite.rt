@@ -29,7 +29,7 @@ pub fn resite(
     bodies: &mut [u16],
     store: &mut [u8],
 )
-    requires { Resites gap (memory tags kinds depths parents starts sizes bodies store) }
+    requires { Resites gap (memory tags.old kinds.old depths.old parents.old starts.old sizes.old bodies.old store.old) }
     ensures { Resited gap (memory tags.old kinds.old depths.old parents.old starts.old sizes.old bodies.old store.old) (memory tags.new kinds.new depths.new parents.new starts.new sizes.new bodies.new store.new) }
 {
     let records = gap.records;

@@ -13,7 +13,7 @@ use Rattle.format.specs.declared.Counts.{Counts}
 use Rattle.format.specs.declared.ReadAnswer.{ReadAnswer}
 use Rattle.format.specs.declared.ReadAnswer.TheVariants.{Records, NotRead}
 use Rattle.format.specs.Answers.{refusal}
-use Rattle.format.specs.Tree.{Items, count, records}
+use Rattle.format.specs.Tree.{Items, count}
 use Rattle.format.specs.Judge.{Judged, judge, outermost}
 use Rattle.format.specs.Judge.Judged.{refused, accepted}
 use Rattle.format.specs.Headers.{headers_of}

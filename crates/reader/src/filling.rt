@@ -53,7 +53,7 @@ fn fill_item(
     starts: &mut [u16],
     sizes: &mut [u16],
 ) -> usize
-    requires { ItemFillable place tag body.now (six tags kinds depths parents starts sizes) }
+    requires { ItemFillable place tag body.now (six tags.old kinds.old depths.old parents.old starts.old sizes.old) }
     ensures { ItemFills place tag body.now (six tags.old kinds.old depths.old parents.old starts.old sizes.old) (six tags.new kinds.new depths.new parents.new starts.new sizes.new) result }
 {
     let n = place.next;
@@ -91,7 +91,7 @@ pub fn fill_items(
     starts: &mut [u16],
     sizes: &mut [u16],
 ) -> usize
-    requires { Fillable place part.now (six tags kinds depths parents starts sizes) }
+    requires { Fillable place part.now (six tags.old kinds.old depths.old parents.old starts.old sizes.old) }
     ensures { Fills place part.now (six tags.old kinds.old depths.old parents.old starts.old sizes.old) (six tags.new kinds.new depths.new parents.new starts.new sizes.new) result }
 {
     let mut next = place.next;

@@ -200,7 +200,7 @@ fn check_items(
     at: usize,
     parent: Parent,
 ) -> Reached
-    requires { (count ≤ places (six tags kinds depths parents starts sizes)) × (at ≤ count) × (parent.depth ≤ 17) }
+    requires { (count ≤ places (six tags.now kinds.now depths.now parents.now starts.now sizes.now)) × (at ≤ count) × (parent.depth ≤ 17) }
     ensures { result ≡ told (walked (six tags.now kinds.now depths.now parents.now starts.now sizes.now) count octets.now (first_in parent) parent.number at) }
 {
     let mut i = at;

@@ -135,9 +135,9 @@ fn emit_attributes(
     to: usize,
     stored: bool,
 ) -> usize
-    requires holding { Holding count (four_of tags depths starts sizes) octets.now × Ordered parent (items_from (four_of tags depths starts sizes) count octets.now depth at).0 }
-    requires as_laid { stored ≡ true → AsLaid parent (items_from (four_of tags depths starts sizes) count octets.now depth at).0 }
-    requires fitting { Fitting (attribute_octets parent (items_from (four_of tags depths starts sizes) count octets.now depth at).0) to (length room.old) }
+    requires holding { Holding count (four_of tags.now depths.now starts.now sizes.now) octets.now × Ordered parent (items_from (four_of tags.now depths.now starts.now sizes.now) count octets.now depth at).0 }
+    requires as_laid { stored ≡ true → AsLaid parent (items_from (four_of tags.now depths.now starts.now sizes.now) count octets.now depth at).0 }
+    requires fitting { Fitting (attribute_octets parent (items_from (four_of tags.now depths.now starts.now sizes.now) count octets.now depth at).0) to (length room.old) }
     ensures { Lays (attribute_octets parent (items_from (four_of tags.now depths.now starts.now sizes.now) count octets.now depth at).0) to room.old room.new result }
 {
     let mut end = to;
@@ -187,10 +187,10 @@ pub fn emit_items(
     to: usize,
     stored: bool,
 ) -> Reached
-    requires holding { Holding count (four_of tags depths starts sizes) octets.now × Ordered parent (items_from (four_of tags depths starts sizes) count octets.now depth at).0 × (at ≤ count) × (depth ≤ at + 1) }
-    requires as_laid { stored ≡ true → AsLaid parent (items_from (four_of tags depths starts sizes) count octets.now depth at).0 }
-    requires sizes_stand { SizesStand count (four_of tags depths starts sizes) octets.now bodies.now }
-    requires fitting { Fitting (later_octets parent (items_from (four_of tags depths starts sizes) count octets.now depth at).0) to (length room.old) }
+    requires holding { Holding count (four_of tags.now depths.now starts.now sizes.now) octets.now × Ordered parent (items_from (four_of tags.now depths.now starts.now sizes.now) count octets.now depth at).0 × (at ≤ count) × (depth ≤ at + 1) }
+    requires as_laid { stored ≡ true → AsLaid parent (items_from (four_of tags.now depths.now starts.now sizes.now) count octets.now depth at).0 }
+    requires sizes_stand { SizesStand count (four_of tags.now depths.now starts.now sizes.now) octets.now bodies.now }
+    requires fitting { Fitting (later_octets parent (items_from (four_of tags.now depths.now starts.now sizes.now) count octets.now depth at).0) to (length room.old) }
     ensures { Emits (items_from (four_of tags.now depths.now starts.now sizes.now) count octets.now depth at) parent to room.old room.new result }
 {
     let mut i = at;

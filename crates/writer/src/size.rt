@@ -54,7 +54,7 @@ fn part_at(
     depth: usize,
     parent: u8,
 ) -> Part
-    requires { Holding (i + 1) (four_of tags depths starts sizes) octets.now }
+    requires { Holding (i + 1) (four_of tags.now depths.now starts.now sizes.now) octets.now }
     ensures { result ≡ part_at parent depth octets.now (row (four_of tags.now depths.now starts.now sizes.now) i) }
 {
     if depths[i] as usize != depth {
@@ -87,7 +87,7 @@ pub fn size_items(
     depth: usize,
     parent: u8,
 ) -> Sized
-    requires { Holding count (four_of tags depths starts sizes) octets.now × Ordered parent (items_from (four_of tags depths starts sizes) count octets.now depth at).0 × (at ≤ count) × (depth ≤ at + 1) }
+    requires { Holding count (four_of tags.now depths.now starts.now sizes.now) octets.now × Ordered parent (items_from (four_of tags.now depths.now starts.now sizes.now) count octets.now depth at).0 × (at ≤ count) × (depth ≤ at + 1) }
     ensures { Sizes count (four_of tags.now depths.now starts.now sizes.now) octets.now parent depth at bodies.old bodies.new result }
 {
     let mut i = at;

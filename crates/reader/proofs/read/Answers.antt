@@ -1,0 +1,6 @@
+use Rattle.reader.proofs.Reading.{read_whole}
+use borrow.Author.Rules.{rules}
+use Rattle.reader.proofs.read.Goals as goal
+
+pub returns : goal.returns
+returns c = search (read_whole, rules)
