@@ -2,24 +2,23 @@
 use mathlib.Core.Path.{◌≡◌, refl, sym, ap, ◌∙◌}
 use mathlib.Core.Bool.{Bool, true, false, cond, ◌&&◌}
 use mathlib.Core.List.{List, [], ◌∷◌}
-use Prim.Native.Nat.{ℕ, ◌*◌, ◌≤◌, ◌<◌}
+use Prim.Native.Nat.{ℕ, ◌≤◌}
 use native.Mathlib.Omega.{arith}
-use lib.Dec.{eqb, leb}
+use lib.Dec.{leb}
 use lib.ListN.{length}
 use borrow.Author.Tests.{leb-true, leb-false, le-leb, ne_eqb}
 use Rattle.octets.proofs.Tests.{and_right, never}
 use Rattle.format.specs.declared.Refusal.{Refusal}
-use Rattle.format.specs.declared.ReadAnswer.{ReadAnswer}
 use Rattle.format.specs.declared.ReadAnswer.TheVariants.{Records, NotRead}
 use Rattle.format.specs.Answers.{refusal}
 use Rattle.format.specs.Tree.{Items, count}
 use Rattle.format.specs.Judge.{Judged, judge, rule, unless, read, outermost}
 use Rattle.format.specs.Judge.Judged.{refused, accepted}
 use Rattle.format.specs.Headers.{headers_of}
-use Rattle.format.specs.Calls.{Lists, places, counts_of, judge_answer, read_answer}
+use Rattle.format.specs.Calls.{places, counts_of, judge_answer, read_answer}
 use Rattle.format.proofs.Headers.{few}
 use Rattle.format.proofs.Refusals.{refusal-inside}
-use Rattle.scan.specs.Theorems.{scanned, read_with, Enough, ScansAsRead, HalfIsEnough, AllAreEnough, OfObject, ScanRefuses, changed, ScanChanges, OthersStay, Fourteen, FourteenMeans}
+use Rattle.scan.specs.Theorems.{Enough, ScansAsRead, HalfIsEnough, AllAreEnough, OfObject, ScanRefuses, changed, ScanChanges, OthersStay, Fourteen, FourteenMeans}
 
 -- ---- places enough
 enough-answer : (n h : ℕ) (j : Judged) → Enough n j → judge_answer h j ≡ read_answer n h j
