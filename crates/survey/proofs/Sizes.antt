@@ -95,7 +95,8 @@ sum-attribute s tag at body x y k a e f r ih = go (default_octets p tag body) re
     )
 
     same_at : (d : default_octets p tag body ≡ true) (t : ℕ) (b : Bool) → eqb t tag ≡ b → attributes_in [] p (item tag at body x y) t ≡ attributes_in [] p y t
-    same_at d t true q = rw (eqb-true t tag q) (now ∙ (rw d (sym later)))
+    same_at d t true q =
+        subst (λ w. attributes_in [] p (item tag at body x y) w ≡ attributes_in [] p y w) (sym (eqb-true t tag q)) (now ∙ (rw d (sym later)))
     same_at d t false q = other-attribute [] p tag at body x y t (eqb-false t tag q)
 
     go : (b : Bool) → default_octets p tag body ≡ b → Summed p (item tag at body x y)
