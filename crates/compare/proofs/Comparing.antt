@@ -18,7 +18,7 @@ use Rattle.values.specs.declared.Kind.TheVariants.{HoldsText}
 use Rattle.values.specs.Table.{known}
 use Rattle.values.specs.contracts.Kind.{the_type}
 use Rattle.format.specs.Tree.{Items}
-use Rattle.format.specs.Tree.Items.{end, item}
+use Rattle.format.specs.Tree.Items.{item}
 use Rattle.format.specs.Judge.{is_items, is_text}
 use Rattle.format.specs.Meaning.{opens, is_child, attributes_in, cdata_in, leaf_octets, means}
 use Rattle.format.specs.Meaning.Meaning.{nothing, element, leaf}
