@@ -67,7 +67,9 @@ check_items-requires t c =
     let inv = c.loop-i.invariant in
     let low = inv.low in
     let start = c.requires.0 in
-    let less = c.loop-i-test.true in let below = ap (λ q. q.depth) c.parent_at.ensures in (omega arith, (c.requires.0, omega arith, omega arith))
+    let less = c.loop-i-test.true in
+    let below = ap (λ q. q.depth) c.parent_at.ensures in
+    (omega arith, (c.requires.0, omega arith, omega arith))
 
 pub returns-in_default : goal.returns-in_default
 returns-in_default t c =
