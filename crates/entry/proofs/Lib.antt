@@ -1,4 +1,2 @@
-pub mod Lending
-pub mod Walking
 pub mod Copying
 pub mod Wrong

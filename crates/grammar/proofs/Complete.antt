@@ -30,7 +30,7 @@ use Rattle.format.proofs.Induction.{Cases, judged-all, Unbroken, Nexts, in_at}
 use Rattle.format.proofs.Force.{settled, settled-after, settled-next, settled-within, not-four, inner-tag, Valid, valid-within, valid-next, quiet-now, quiet-before, quiet-attribute, covered-attribute, forced, in_force, force-next, force-skip, force-after}
 use Rattle.format.proofs.Place.{attribute-other}
 use Rattle.grammar.specs.Grammar.{Begins, TextIn, Part, Child, Inside, Accepts}
-use Rattle.grammar.specs.Grammar.Part.{attributes, table, language, elements, nothing}
+use Rattle.grammar.specs.Grammar.Part.{attributes, language, elements, nothing}
 use Rattle.grammar.specs.Grammar.Inside.{known_attribute, unknown_attribute, attributes_of_top, attributes_of_other, some_table, no_table, some_language, no_language, held_element, plain_element, unknown_element, no_element, some_cdata, no_cdata, filled}
 use Rattle.grammar.proofs.Headers.{begins, body-length}
 use Rattle.grammar.proofs.Tags.{ChildTag, child-tag, Once, top-items}

@@ -7,7 +7,7 @@ use Rattle.scan.specs.Theorems.{changed}
 use Rattle.scan.proofs.Theorems.{scan-changes, others-stay, fourteen-means}
 use Rattle.recording.specs.Recording.{recording_of}
 use Rattle.recording.specs.Lines.{ok_line, answer_line, answer_lines, end_line, listing, by_read, by_scan}
-use Rattle.recording.specs.Change.{LineStays, NowOk, LineChanges, ReplayChanges}
+use Rattle.recording.specs.Change.{LineStays, LineChanges, ReplayChanges}
 
 pub line_stays : LineStays
 line_stays object number h = ap (answer_line number) (others-stay object 1_024 h)

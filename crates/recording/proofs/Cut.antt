@@ -1,21 +1,19 @@
 -- A recording that is cut, and one that is made.
-use mathlib.Core.Path.{◌≡◌, refl, sym, ap, ap₂, subst, ◌∙◌}
+use mathlib.Core.Path.{◌≡◌, refl, ap, ap₂, ◌∙◌}
 use mathlib.Core.Bool.{Bool, true, false, cond}
-use mathlib.Core.Option.{Option, none, some}
-use mathlib.Core.List.{List, [], ◌∷◌, ◌++◌, append_assoc}
-use Prim.Native.Nat.{ℕ, zero, suc, ◌+◌, ◌-◌, ◌^◌, ◌≤◌, ◌<◌}
+use mathlib.Core.Option.{none, some}
+use mathlib.Core.List.{List, [], ◌∷◌}
+use Prim.Native.Nat.{ℕ, suc, ◌+◌, ◌-◌, ◌≤◌, ◌<◌}
 use native.Mathlib.Omega.{arith}
 use native.Mathlib.Nat.{add-zero}
 use lib.Dec.{eqb, leb}
-use lib.ListN.{length, take, drop, length-append, length-drop, length-take, take-append-drop}
-use lib.Seq.{take-take, take-nil, take_at, drop_at, take_all, take-add}
-use borrow.Author.Tests.{leb-true, leb-false, le-leb, lt-leb, eq-eqb, ne_eqb, eqb-true, eqb-false}
-use Rattle.octets.specs.Numbers.{value, digits, Octets}
-use Rattle.octets.proofs.Numbers.{length_digits, value-digits, digits_value, octets-take, octets-drop}
-use Rattle.format.specs.declared.Refusal.{Refusal}
+use lib.ListN.{length, take, drop, length-take}
+use lib.Seq.{take-take}
+use borrow.Author.Tests.{leb-true, leb-false, eq-eqb, ne_eqb, eqb-true, eqb-false}
+use Rattle.octets.specs.Numbers.{value}
 use Rattle.format.specs.Answers.{refusal}
-use Rattle.recording.specs.Recording.{run, Recording, announced, whole, first_of, behind_of, stopped, preceded, objects_at}
-use Rattle.recording.specs.Theorems.{AllSized, taken, whole_in, end_at}
+use Rattle.recording.specs.Recording.{Recording, announced, whole, first_of, behind_of, stopped, preceded, objects_at}
+use Rattle.recording.specs.Theorems.{taken, whole_in, end_at}
 use Rattle.recording.proofs.Walk.{drop-take, whole-fits, part-short, fits_whole, short-part, length-first, length-behind, at-object, at-stop, by-objects}
 
 -- ---- a part that is cut

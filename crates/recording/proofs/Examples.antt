@@ -1,8 +1,7 @@
 -- An example recording and every cut of it, computed: an object with two records, one with a size of 0, one whose body is cut, and the first again. The same
 -- lines come from the second program.
-use mathlib.Core.Path.{◌≡◌, refl, ap}
+use mathlib.Core.Path.{◌≡◌, refl}
 use mathlib.Core.Bool.{true, false}
-use mathlib.Core.Option.{none, some}
 use mathlib.Core.List.{List, [], ◌∷◌, map}
 use Prim.Native.Nat.{ℕ}
 use native.Mathlib.Omega.{arith}

@@ -1,19 +1,17 @@
 -- A recording that is made is read back, and is the only one with its objects.
 use mathlib.Core.Path.{◌≡◌, refl, sym, ap, ap₂, subst, ◌∙◌}
-use mathlib.Core.Bool.{Bool, true, false, cond}
-use mathlib.Core.Option.{Option, none, some}
+use mathlib.Core.Bool.{true, false}
+use mathlib.Core.Option.{none}
 use mathlib.Core.List.{List, [], ◌∷◌, ◌++◌, append_assoc}
-use Prim.Native.Nat.{ℕ, zero, suc, ◌+◌, ◌-◌, ◌^◌, ◌≤◌, ◌<◌}
+use Prim.Native.Nat.{ℕ, ◌+◌, ◌^◌, ◌≤◌, ◌<◌}
 use native.Mathlib.Omega.{arith}
-use lib.ListN.{length, take, drop, length-append, length-drop, length-take, take-append-drop, drop_of_length-le}
-use lib.Seq.{take_at, drop_at, take_all, drop-drop, take-length}
+use lib.ListN.{length, take, drop, length-append, length-take, take-append-drop, drop_of_length-le}
+use lib.Seq.{take_at, drop_at, drop-drop, take-length}
 use Rattle.octets.specs.Numbers.{value, digits, Octets}
 use Rattle.octets.proofs.Numbers.{length_digits, value-digits, digits_value, octets-take, octets-drop}
-use Rattle.format.specs.declared.Refusal.{Refusal}
-use Rattle.format.specs.Answers.{refusal}
 use Rattle.recording.specs.Recording.{run, Recording, announced, whole, first_of, behind_of, stopped, preceded, objects_at}
 use Rattle.recording.specs.Theorems.{AllSized}
-use Rattle.recording.proofs.Walk.{whole-fits, part-short, fits_whole, short-part, length-first, length-behind, at-object, at-stop, by-objects, whole_append, first-append, behind-append, size-append}
+use Rattle.recording.proofs.Walk.{whole-fits, fits_whole, short-part, length-first, at-object, at-stop, by-objects, whole_append, first-append, behind-append, size-append}
 
 -- ---- one object with its size
 module _ (b : List ℕ) (h : length b < 256 ^ 2) where

@@ -1,17 +1,14 @@
 -- The theorems that specs/Theorems states, of whole recordings and their listings. Those of windows are in Windows.
 use mathlib.Core.Path.{◌≡◌, refl, sym, ap, ap₂, subst, ◌∙◌}
-use mathlib.Core.Bool.{Bool, true, false, cond, ◌&&◌, false≢true}
-use mathlib.Core.Option.{Option, none, some}
+use mathlib.Core.Bool.{Bool, true, false, cond}
+use mathlib.Core.Option.{Option, none}
 use mathlib.Core.List.{List, [], ◌∷◌, ◌++◌, append_assoc, map}
-use Prim.Native.Nat.{ℕ, zero, suc, ◌+◌, ◌-◌, ◌^◌, ◌≤◌, ◌<◌}
+use Prim.Native.Nat.{ℕ, zero, suc, ◌+◌, ◌-◌, ◌≤◌, ◌<◌}
 use native.Mathlib.Omega.{arith}
-use native.Mathlib.Nat.{add-zero}
-use lib.Dec.{eqb, leb, ltb}
-use lib.ListN.{length, take, drop, length-append, length-drop, length-take, take-append-drop}
-use lib.Seq.{take-take, take_all, take_at, drop_at, length-take-le}
-use borrow.Author.Tests.{ltb-true, ltb-false, lt-ltb, le-ltb, leb-true, leb-false, le-leb, lt-leb, eq-eqb, eqb-true}
-use Rattle.octets.specs.Numbers.{Octets}
-use Rattle.octets.proofs.Tests.{and_left, and_right}
+use lib.Dec.{leb, ltb}
+use lib.ListN.{length, take, drop, length-drop, length-take, take-append-drop}
+use lib.Seq.{take-take, take_all, take_at, drop_at}
+use borrow.Author.Tests.{ltb-true, ltb-false, lt-ltb, le-ltb, le-leb, lt-leb, eq-eqb}
 use Rattle.octets.proofs.Numbers.{octets-drop}
 use Rattle.format.specs.declared.Refusal.{Refusal}
 use Rattle.format.specs.declared.ReadAnswer.{ReadAnswer}
@@ -20,11 +17,11 @@ use Rattle.format.specs.Same.{same_octets}
 use Rattle.format.proofs.Same.{same-octets}
 use Rattle.recording.specs.declared.Opened.{Opened}
 use Rattle.recording.specs.Recording.{mark, run, recorded, Recording, objects_at, refused_with, recording_of}
-use Rattle.recording.specs.Lines.{answer_line, answer_lines, end_line, listing, replay}
+use Rattle.recording.specs.Lines.{answer_line, answer_lines, end_line, listing}
 use Rattle.recording.specs.Calls.{open_of}
 use Rattle.recording.specs.Theorems.{ReadsBack, OnlyRecording, taken, whole_in, CutKeeps, end_at, CutEnds, CutBetween, Starts, CutLists, LinesJoin, begun, OpenTells, FiveSuffice, WindowsReplay, RefusedReplay, OneListing}
 use Rattle.recording.proofs.Walk.{drop-take}
-use Rattle.recording.proofs.Cut.{cut_keeps, Ends, ends}
+use Rattle.recording.proofs.Cut.{cut_keeps, ends}
 use Rattle.recording.proofs.Windows.{windows-tell}
 use Rattle.recording.proofs.Made.{reads-run, only-run}
 

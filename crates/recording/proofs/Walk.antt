@@ -1,19 +1,16 @@
 -- Going over the objects of a recording: the number that bounds the walk is never seen, one equation for an object and one for where none stands.
-use mathlib.Core.Path.{◌≡◌, refl, sym, ap, ap₂, subst, ◌∙◌}
+use mathlib.Core.Path.{◌≡◌, refl, sym, ap, ◌∙◌}
 use mathlib.Core.Bool.{Bool, true, false, cond}
-use mathlib.Core.Option.{none, some}
 use mathlib.Core.List.{List, [], ◌∷◌, ◌++◌}
-use Prim.Native.Nat.{ℕ, zero, suc, ◌+◌, ◌-◌, ◌^◌, ◌≤◌, ◌<◌}
+use Prim.Native.Nat.{ℕ, zero, suc, ◌+◌, ◌-◌, ◌≤◌, ◌<◌}
 use native.Mathlib.Omega.{arith}
 use native.Mathlib.Nat.{not-suc-le-zero}
-use lib.Dec.{leb}
 use lib.ListN.{length, take, drop, length-append, length-drop, length-take}
 use lib.Seq.{take-nil, take-append-le, drop-append-le}
 use borrow.Author.Tests.{leb-true, leb-false, le-leb, lt-leb}
 use Rattle.octets.specs.Numbers.{value, Octets}
-use Rattle.octets.proofs.Numbers.{octets-take, value-lt}
-use Rattle.format.specs.Answers.{refusal}
-use Rattle.recording.specs.Recording.{Recording, announced, whole, first_of, behind_of, stopped, preceded, walk, objects_at}
+use Rattle.octets.proofs.Numbers.{octets-take}
+use Rattle.recording.specs.Recording.{announced, whole, first_of, behind_of, stopped, preceded, walk, objects_at}
 
 -- ---- a part of what is cut
 module _ {ℓ} {A : Type ℓ} where

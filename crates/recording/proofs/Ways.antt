@@ -1,11 +1,11 @@
 -- The ways through the code.
-use mathlib.Core.Path.{◌≡◌, refl, sym, ap, ap₂, ◌∙◌}
+use mathlib.Core.Path.{◌≡◌, refl, sym, ap, ◌∙◌}
 use mathlib.Core.Bool.{Bool, true, false, not, ◌&&◌}
-use mathlib.Core.List.{List, [], ◌∷◌, ◌++◌}
-use Prim.Native.Nat.{ℕ, zero, suc, ◌+◌, ◌-◌, ◌*◌, ◌^◌, ◌≤◌, ◌<◌}
+use mathlib.Core.List.{List, [], ◌∷◌}
+use Prim.Native.Nat.{ℕ, ◌+◌, ◌-◌, ◌*◌, ◌^◌, ◌≤◌, ◌<◌}
 use native.Mathlib.Omega.{arith}
-use lib.Dec.{eqb, leb, ltb}
-use lib.ListN.{length, take, drop, get_or, length-drop, drop_of_length-le}
+use lib.Dec.{eqb}
+use lib.ListN.{length, take, drop, get_or, length-drop}
 use borrow.Author.Tests.{lt-ltb, le-ltb, eq-eqb, ne_eqb, not-true, not-false}
 use Rattle.octets.specs.Numbers.{value}
 use Rattle.octets.proofs.Lists.{drop-next}
@@ -14,7 +14,7 @@ use Rattle.format.specs.Answers.{refusal}
 use Rattle.format.specs.Same.{same_octets}
 use Rattle.recording.specs.declared.Opened.{Opened}
 use Rattle.recording.specs.declared.Next.{Next}
-use Rattle.recording.specs.Recording.{mark, announced, whole}
+use Rattle.recording.specs.Recording.{mark, announced}
 use Rattle.recording.specs.Calls.{open_of, short_of, step_of}
 use Rattle.recording.proofs.Walk.{fits_whole, short-part}
 

@@ -1,21 +1,19 @@
 -- Going over a recording by windows.
-use mathlib.Core.Path.{◌≡◌, refl, sym, ap, ap₂, subst, ◌∙◌}
+use mathlib.Core.Path.{◌≡◌, refl, sym, ap, ap₂, ◌∙◌}
 use mathlib.Core.Bool.{Bool, true, false, cond}
 use mathlib.Core.Option.{Option, none, some}
 use mathlib.Core.List.{List, [], ◌∷◌, ◌++◌, append_assoc, append-nil}
-use Prim.Native.Nat.{ℕ, zero, suc, ◌+◌, ◌-◌, ◌≤◌, ◌<◌}
+use Prim.Native.Nat.{ℕ, suc, ◌+◌}
 use native.Mathlib.Omega.{arith}
-use lib.Dec.{eqb, leb}
-use lib.ListN.{length, take, drop, length-append, length-drop}
+use lib.Dec.{eqb}
+use lib.ListN.{length, take, drop, length-drop}
 use borrow.Author.Tests.{ne_eqb}
-use Rattle.octets.specs.Numbers.{Octets}
 use Rattle.format.specs.declared.Refusal.{Refusal}
 use Rattle.format.specs.Answers.{refusal}
-use Rattle.recording.specs.declared.Opened.{Opened}
 use Rattle.recording.specs.declared.Next.{Next}
-use Rattle.recording.specs.Recording.{Recording, announced, whole, first_of, behind_of, stopped, preceded, objects_at}
+use Rattle.recording.specs.Recording.{announced, whole, behind_of, stopped, preceded, objects_at}
 use Rattle.recording.specs.Calls.{short_of, step_of}
-use Rattle.recording.specs.Theorems.{Goes, WindowsTell, WindowsReach, Short, MoreIsShort, StepAt}
+use Rattle.recording.specs.Theorems.{Goes, WindowsTell, WindowsReach, MoreIsShort, StepAt}
 use Rattle.recording.specs.Theorems.Goes.{fetch, object, end, cut}
 use Rattle.recording.proofs.Walk.{whole-fits, part-short, size_small, at-object, at-stop, by-objects, whole_append, first-append, behind-append, size-append}
 

@@ -1,14 +1,13 @@
 -- The ways through the code that makes lines.
-use mathlib.Core.Path.{◌≡◌, refl, sym, ap, subst, ◌∙◌}
-use mathlib.Core.Bool.{Bool, true, false, cond}
+use mathlib.Core.Path.{◌≡◌, refl, ap, ◌∙◌}
+use mathlib.Core.Bool.{true}
 use mathlib.Core.List.{List, [], ◌∷◌, ◌++◌}
-use Prim.Native.Nat.{ℕ, suc, ◌+◌, ◌*◌, ◌-◌, ◌^◌, ◌≤◌, ◌<◌}
+use Prim.Native.Nat.{ℕ, ◌+◌, ◌^◌, ◌≤◌, ◌<◌}
 use native.Mathlib.Omega.{arith}
-use lib.Dec.{eqb}
-use lib.ListN.{length, take, drop, set, length-append}
+use lib.ListN.{length, take, set, length-append}
 use mir.Syntax.{w64}
 use mir.Val.{Fits}
-use borrow.Author.Tests.{ne_eqb, eq-eqb}
+use borrow.Author.Tests.{ne_eqb}
 use Rattle.octets.specs.Puts.{Puts, Lays}
 use Rattle.octets.specs.declared.Put.{Put}
 use Rattle.octets.proofs.Lists.{part-of-sets}
@@ -19,10 +18,10 @@ use Rattle.format.specs.declared.Counts.{Counts}
 use Rattle.format.specs.declared.ReadAnswer.{ReadAnswer}
 use Rattle.format.specs.declared.ReadAnswer.TheVariants.{Records, NotRead}
 use Rattle.show.specs.Digits.{decimal}
-use Rattle.show.specs.Lines.{ascii, line}
+use Rattle.show.specs.Lines.{line}
 use Rattle.show.proofs.Digits.{decimal-few}
 use Rattle.show.proofs.Writing.{word_room, word_in, word_end, word-done}
-use Rattle.recording.specs.Lines.{ok_line, placed, bad_line, answer_line, file_line}
+use Rattle.recording.specs.Lines.{ok_line, placed, bad_line, answer_line}
 
 -- ---- a word with the character behind it, put where both are known to fit
 module _ (w : List ℕ) (b at : ℕ) (out : List ℕ) (h : at + length w + 1 ≤ length out) (out' : List ℕ) (answer : Put) (p : Puts true w at out out' answer) where
