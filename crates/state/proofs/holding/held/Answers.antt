@@ -1,0 +1,25 @@
+use Rattle.state.proofs.Seen.{has-places, seen-ways}
+use borrow.Author.Rules.{rules}
+use Rattle.state.proofs.holding.held.Goals as goal
+
+pub returns-then-n-bodies : goal.returns-then-n-bodies
+returns-then-n-bodies c = search (seen-ways, rules)
+
+pub returns-then-not-is_well_formed : goal.returns-then-not-is_well_formed
+returns-then-not-is_well_formed c = search (seen-ways, rules)
+
+pub are_right-requires : goal.are_right-requires
+are_right-requires c =
+    let p = has-places _ _ _ _ _ _ _ _ _ c.is_well_formed.ensures c.if-not-is_well_formed.false-raw in
+    (p.tags, p.depths, p.parents, p.starts, p.sizes, c.if-n-bodies.false)
+
+pub returns-then-not-are_right : goal.returns-then-not-are_right
+returns-then-not-are_right c = search (seen-ways, rules)
+
+pub lie_all-requires : goal.lie_all-requires
+lie_all-requires c =
+    let p = has-places _ _ _ _ _ _ _ _ _ c.is_well_formed.ensures c.if-not-is_well_formed.false-raw in
+    (p.tags, p.parents, p.starts, p.sizes)
+
+pub returns : goal.returns
+returns c = search (seen-ways, rules)
