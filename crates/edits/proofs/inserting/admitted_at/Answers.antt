@@ -1,0 +1,18 @@
+use Rattle.edits.proofs.InsertLeaves.{admits-ways}
+use borrow.Author.Rules.{rules}
+use Rattle.edits.proofs.inserting.admitted_at.Goals as goal
+
+pub returns-then-not-is_element : goal.returns-then-not-is_element
+returns-then-not-is_element c = search (admits-ways, rules)
+
+pub returns-then-not-comes_between : goal.returns-then-not-comes_between
+returns-then-not-comes_between c = search (admits-ways, rules)
+
+pub returns-then-records-eq0 : goal.returns-then-records-eq0
+returns-then-records-eq0 c = search (admits-ways, rules)
+
+pub returns-in-Refused : goal.returns-in-Refused
+returns-in-Refused c = search (admits-ways, rules)
+
+pub returns-else-records-eq0 : goal.returns-else-records-eq0
+returns-else-records-eq0 c = search (admits-ways, rules)
