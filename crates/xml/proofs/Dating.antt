@@ -291,6 +291,7 @@ module _ (z : ℤ) (f : SFits w64 z) (l : LocalDay z) where
     where
       go : (y : ℤ) → LocalDay y → lt_z y (pos 0) ≡ true → 319 ≡ days_to y
       go (negsuc zero) day_before e = refl
+      go (negsuc (suc _)) l e = elim l [ ]
       go (pos n) (day_onward m) e = absurd (omega (arith, ltb-true n 0 e))
 
   module _ (h : lt_z (to_z w64 (of_z w64 z)) (pos 0) ≡ false) where
@@ -300,6 +301,7 @@ module _ (z : ℤ) (f : SFits w64 z) (l : LocalDay z) where
       where
         go : (y : ℤ) → LocalDay y → lt_z y (pos 0) ≡ false → (n : ℕ) × (n ≤ 100_000) × (y ≡ pos n) × (days_to y ≡ 320 + n)
         go (negsuc zero) day_before e = absurd (false≢true (sym e))
+        go (negsuc (suc _)) l e = elim l [ ]
         go (pos n) (day_onward m) e = (n, m, refl, refl)
 
     pub day-onward : T (non_neg (to_z w64 (of_z w64 z)))

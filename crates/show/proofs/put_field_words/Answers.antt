@@ -1,7 +1,6 @@
-use Rattle.octets.proofs.Numbers.{above}
 use Rattle.show.proofs.Writing.{words_same, fields-other, puts-same}
 use Rattle.show.specs.Lines.{ascii, field_reasons, field_reason}
-use Prim.Native.Nat.{zero-le}
+use native.Mathlib.Omega.{arith}
 use Rattle.show.proofs.put_field_words.Goals as goal
 
 pub returns-in-0 : goal.returns-in-0
@@ -30,15 +29,4 @@ returns-in-5 c = words_same (λ n. ascii (field_reason n)) _ 5 c.in-5.is _ _ _ _
 
 pub returns-in_default : goal.returns-in_default
 unfolding ascii field_reasons field_reason
-returns-in_default c =
-    puts-same _ _
-        (fields-other _
-            (above _
-                (above _
-                    (above _
-                        (above _ (above _ (above _ zero-le c.in_default.in_default-own.rest.0.0.0.0.0.1) c.in_default.in_default-own.rest.0.0.0.0.1)
-                            c.in_default.in_default-own.rest.0.0.0.1)
-                        c.in_default.in_default-own.rest.0.0.1)
-                    c.in_default.in_default-own.rest.0.1)
-                c.in_default.in_default-own.rest.1))
-        _ _ _ _ c.put_bytes-in_default.ensures
+returns-in_default c = puts-same _ _ (fields-other c.args.field (omega arith)) _ _ _ _ c.put_bytes-in_default.ensures

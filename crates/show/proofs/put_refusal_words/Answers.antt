@@ -1,7 +1,6 @@
-use Rattle.octets.proofs.Numbers.{above}
 use Rattle.show.proofs.Writing.{words_same, words-other, puts-same}
 use Rattle.show.specs.Lines.{ascii, reasons, refusal_words}
-use Prim.Native.Nat.{zero-le}
+use native.Mathlib.Omega.{arith}
 use Rattle.show.proofs.put_refusal_words.Goals as goal
 
 pub returns-in-0 : goal.returns-in-0
@@ -106,57 +105,4 @@ returns-in-24 c = words_same (refusal_words _) _ 24 c.in-24.is _ _ _ _ c.put_byt
 
 pub returns-in_default : goal.returns-in_default
 unfolding ascii reasons refusal_words
-returns-in_default c =
-    puts-same _ _
-        (words-other _ _
-            (above _
-                (above _
-                    (above _
-                        (above _
-                            (above _
-                                (above _
-                                    (above _
-                                        (above _
-                                            (above _
-                                                (above _
-                                                    (above _
-                                                        (above _
-                                                            (above _
-                                                                (above _
-                                                                    (above _
-                                                                        (above _
-                                                                            (above _
-                                                                                (above _
-                                                                                    (above _
-                                                                                        (above _
-                                                                                            (above _
-                                                                                                (above _
-                                                                                                    (above _
-                                                                                                        (above _
-                                                                                                            (above _ zero-le
-                                                                                                                c.in_default.in_default-own.rest.0.0.0.0.0.0.0.0.0.0.0.0.0.0.0.0.0.0.0.0.0.0.0.0.1)
-                                                                                                            c.in_default.in_default-own.rest.0.0.0.0.0.0.0.0.0.0.0.0.0.0.0.0.0.0.0.0.0.0.0.1)
-                                                                                                        c.in_default.in_default-own.rest.0.0.0.0.0.0.0.0.0.0.0.0.0.0.0.0.0.0.0.0.0.0.1)
-                                                                                                    c.in_default.in_default-own.rest.0.0.0.0.0.0.0.0.0.0.0.0.0.0.0.0.0.0.0.0.0.1)
-                                                                                                c.in_default.in_default-own.rest.0.0.0.0.0.0.0.0.0.0.0.0.0.0.0.0.0.0.0.0.1)
-                                                                                            c.in_default.in_default-own.rest.0.0.0.0.0.0.0.0.0.0.0.0.0.0.0.0.0.0.0.1)
-                                                                                        c.in_default.in_default-own.rest.0.0.0.0.0.0.0.0.0.0.0.0.0.0.0.0.0.0.1)
-                                                                                    c.in_default.in_default-own.rest.0.0.0.0.0.0.0.0.0.0.0.0.0.0.0.0.0.1)
-                                                                                c.in_default.in_default-own.rest.0.0.0.0.0.0.0.0.0.0.0.0.0.0.0.0.1)
-                                                                            c.in_default.in_default-own.rest.0.0.0.0.0.0.0.0.0.0.0.0.0.0.0.1)
-                                                                        c.in_default.in_default-own.rest.0.0.0.0.0.0.0.0.0.0.0.0.0.0.1)
-                                                                    c.in_default.in_default-own.rest.0.0.0.0.0.0.0.0.0.0.0.0.0.1)
-                                                                c.in_default.in_default-own.rest.0.0.0.0.0.0.0.0.0.0.0.0.1)
-                                                            c.in_default.in_default-own.rest.0.0.0.0.0.0.0.0.0.0.0.1)
-                                                        c.in_default.in_default-own.rest.0.0.0.0.0.0.0.0.0.0.1)
-                                                    c.in_default.in_default-own.rest.0.0.0.0.0.0.0.0.0.1)
-                                                c.in_default.in_default-own.rest.0.0.0.0.0.0.0.0.1)
-                                            c.in_default.in_default-own.rest.0.0.0.0.0.0.0.1)
-                                        c.in_default.in_default-own.rest.0.0.0.0.0.0.1)
-                                    c.in_default.in_default-own.rest.0.0.0.0.0.1)
-                                c.in_default.in_default-own.rest.0.0.0.0.1)
-                            c.in_default.in_default-own.rest.0.0.0.1)
-                        c.in_default.in_default-own.rest.0.0.1)
-                    c.in_default.in_default-own.rest.0.1)
-                c.in_default.in_default-own.rest.1))
-        _ _ _ _ c.put_bytes-in_default.ensures
+returns-in_default c = puts-same _ _ (words-other c.args.field c.args.number (omega arith)) _ _ _ _ c.put_bytes-in_default.ensures

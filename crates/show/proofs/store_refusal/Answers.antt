@@ -19,7 +19,8 @@ octets_word-place-requires c =
 pub store_place-requires : goal.store_place-requires
 unfolding ascii refusal_line
 store_place-requires c =
-    (room_after (room_after (room_after (refusal-room c.args.r _ c.args.out.now c.requires) c.octets_word-number.ensures) c.number_word-word.ensures) c.octets_word-place.ensures).fits
+    let word = room_after (refusal-room c.args.r _ c.args.out.now c.requires) c.octets_word-number.ensures in
+    (room_after (room_after word c.number_word-word.ensures) c.octets_word-place.ensures).fits
 
 pub returns : goal.returns
 unfolding ascii refusal_line
