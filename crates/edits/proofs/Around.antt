@@ -45,7 +45,7 @@ around-same c zero l p q = absurd (omega arith)
 around-same c (suc k) zero p q = absurd (omega arith)
 around-same {parents = ps} (top was b h) (suc k) (suc l) p q = around-none k ps ∙ sym (around-none l ps)
 around-same {parents = ps} (step g was s b a h lt c) (suc k) (suc l) p q =
-    around-next k ps g s ∙ (ap {B = List ℕ} (λ z. g ∷ z) (around-same c k l (omega arith) (omega arith)) ∙ sym (around-next l ps g s))
+    around-next k ps g s ∙ (ap {B = List ℕ} (λ z. g ∷ z) (around-same {g = get_or ps g 0} c k l (omega arith) (omega arith)) ∙ sym (around-next l ps g s))
 
 pub up_next : (parents bodies : List ℕ) (g was : ℕ) → Climbs parents bodies g was → 0 < g → up_from parents g ≡ g ∷ up_from parents (get_or parents g 0)
 up_next ps bs g was (top was' b h) s = absurd (omega arith)

@@ -23,7 +23,7 @@ use Rattle.format.specs.Tree.Items.{end, item}
 use Rattle.format.specs.Judge.{read}
 use Rattle.format.specs.Judge.Judged.{refused, accepted}
 use Rattle.format.specs.Meaning.{opens, is_child, means, encode}
-use Rattle.format.specs.Writer.{below, past, at_top, ruled}
+use Rattle.format.specs.Writer.{below, at_top, ruled}
 use Rattle.format.specs.Loaded.{store_in, loaded_in}
 use Rattle.format.specs.Calls.{places}
 use Rattle.format.specs.State.{Memory, places_in, body_sizes, packed, packed_store, lay_tree, tree_held}

@@ -1,4 +1,3 @@
-use Prim.Native.Nat.{◌-◌}
 use Rattle.edits.proofs.Scans.{scanning-ways}
 use borrow.Author.Rules.{rules}
 use Rattle.edits.proofs.extent.end_of.Goals as goal

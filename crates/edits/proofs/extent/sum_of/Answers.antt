@@ -1,4 +1,3 @@
-use Prim.Native.Nat.{◌-◌}
 use native.Mathlib.Omega.{arith}
 use Rattle.edits.proofs.Scans.{summing-ways, summing-fits}
 use borrow.Author.Rules.{rules}

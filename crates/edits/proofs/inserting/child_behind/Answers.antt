@@ -1,5 +1,4 @@
 use native.Mathlib.Omega.{arith}
-use Prim.Native.Nat.{◌-◌}
 use borrow.Author.Rules.{rules}
 use Rattle.edits.proofs.InsertLeaves.{walking-next, walking-ways}
 use Rattle.edits.proofs.inserting.child_behind.Goals as goal
@@ -44,7 +43,7 @@ pub loop-next-smaller : goal.loop-next-smaller
 loop-next-smaller c = search (walking-ways, rules)
 
 pub loop-next-preserved : goal.loop-next-preserved
-loop-next-preserved c = walking-next _ _ _ _ _ c.requires _ _ c.loop-next.invariant (omega arith) _ c.stops_at.ensures c.if-stops_at.false _ c.left_After.ensures
+loop-next-preserved c = walking-next _ _ _ _ _ c.requires _ _ c.loop-next.invariant (omega arith) _ c.stops_at.ensures c.if-stops_at.false _ c.left_after-left.ensures
 
 pub found_at-requires-2 : goal.found_at-requires-2
 found_at-requires-2 c = search (walking-ways, rules)

@@ -1,5 +1,4 @@
 use mathlib.Core.Path.{◌∙◌}
-use Prim.Native.Nat.{◌-◌}
 use native.Mathlib.Omega.{arith}
 use Rattle.octets.proofs.Places.{to_inside, ordered, nearer}
 use Rattle.edits.proofs.Laying.{inside-deep, inside-deeper, inside-next, inside-narrow, inside-can, inside-countable, inside-laid}

@@ -16,7 +16,7 @@ decreases-lay_items l = 3 * (17 - l.level.depth) + 2
 
 abbrev pub invariant-lay_items-loop-at : goal.invariant-lay_items-loop-at
 invariant-lay_items-loop-at l =
-    Walks (entries l.table) l.level l.initial.done l.part (record { lists = six l.initial.tags l.initial.kinds l.initial.depths l.initial.parents l.initial.starts l.initial.sizes; l.bodies = l.initial.bodies; l.store = l.initial.store }) l.done l.at (record { lists = six l.tags l.kinds l.depths l.parents l.starts l.sizes; l.bodies = l.bodies; l.store = l.store })
+    Walks (entries l.table) l.level l.initial.done l.part (record { lists = six l.initial.tags l.initial.kinds l.initial.depths l.initial.parents l.initial.starts l.initial.sizes; bodies = l.initial.bodies; store = l.initial.store }) l.done l.at (record { lists = six l.tags l.kinds l.depths l.parents l.starts l.sizes; bodies = l.bodies; store = l.store })
 
 abbrev pub decreases-lay_items-loop-at : goal.decreases-lay_items-loop-at
 decreases-lay_items-loop-at l =

@@ -1,5 +1,4 @@
 use native.Mathlib.Omega.{arith}
-use Prim.Native.Nat.{◌-◌}
 use Rattle.edits.proofs.Parts.{falling-ways, falling-length, falling-next}
 use borrow.Author.Rules.{rules}
 use Rattle.edits.proofs.moving.move_down.Goals as goal

@@ -1,5 +1,4 @@
 use native.Mathlib.Omega.{arith}
-use Prim.Native.Nat.{◌-◌}
 use Rattle.octets.proofs.Upward.{rising-ways, rising-length, rising-next}
 use borrow.Author.Rules.{rules}
 use Rattle.edits.proofs.moving.move_up16.Goals as goal

@@ -3,16 +3,17 @@ use Rattle.edits.proofs.Removed.{refused-leaves, closes-asks, closes-order, clos
 use Rattle.edits.proofs.removing.remove.Goals as goal
 
 pub resite-requires : goal.resite-requires
-resite-requires c = closes-asks _ _ _ _ c.plan_removal.ensures (λ i. omega (arith, c.slice_known-8-1.given i)) _ (c.in-Closes.is) (λ i. omega (arith, c.type_inv.parents i))
+resite-requires c =
+    closes-asks _ _ _ _ c.plan_removal.ensures (λ i. omega (arith, c.slice_known-8-1.given i)) _ c.in-Closes.is (λ i. omega (arith, c.slice_known-4-1.given i))
 
 pub overflow_sub-gone : goal.overflow_sub-gone
-overflow_sub-gone c = omega (arith, closes-order _ _ _ _ c.plan_removal.ensures (λ i. omega (arith, c.slice_known-8-1.given i)) _ (c.in-Closes.is))
+overflow_sub-gone c = omega (arith, closes-order _ _ _ _ c.plan_removal.ensures (λ i. omega (arith, c.slice_known-8-1.given i)) _ c.in-Closes.is)
 
 pub overflow_sub-result : goal.overflow_sub-result
-overflow_sub-result c = omega (arith, closes-order _ _ _ _ c.plan_removal.ensures (λ i. omega (arith, c.slice_known-8-1.given i)) _ (c.in-Closes.is))
+overflow_sub-result c = omega (arith, closes-order _ _ _ _ c.plan_removal.ensures (λ i. omega (arith, c.slice_known-8-1.given i)) _ c.in-Closes.is)
 
 pub returns-in-Refused : goal.returns-in-Refused
-returns-in-Refused c = refused-leaves _ _ _ _ c.plan_removal.ensures _ (c.in-Refused.is) _ c.refused.ensures
+returns-in-Refused c = refused-leaves _ _ _ _ c.plan_removal.ensures _ c.in-Refused.is _ c.refused.ensures
 
 pub returns-in-Closes : goal.returns-in-Closes
-returns-in-Closes c = closes-leaves _ _ _ _ c.plan_removal.ensures (λ i. omega (arith, c.slice_known-8-1.given i)) _ (c.in-Closes.is) _ c.resite.ensures
+returns-in-Closes c = closes-leaves _ _ _ _ c.plan_removal.ensures (λ i. omega (arith, c.slice_known-8-1.given i)) _ c.in-Closes.is _ c.resite.ensures

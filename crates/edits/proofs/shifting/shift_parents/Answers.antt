@@ -1,4 +1,3 @@
-use Prim.Native.Nat.{◌-◌}
 use Rattle.edits.proofs.Followed.{renumbering-ways}
 use borrow.Author.Rules.{rules}
 use Rattle.edits.proofs.shifting.shift_parents.Goals as goal

@@ -1,4 +1,3 @@
-use Prim.Native.Nat.{◌-◌}
 use Rattle.edits.proofs.Followed.{shifting-ways}
 use borrow.Author.Rules.{rules}
 use Rattle.edits.proofs.shifting.shift_starts.Goals as goal
