@@ -1,7 +1,6 @@
 -- What is written, item after item in the order of the records, is the normal form.
 use mathlib.Core.Path.{◌≡◌, refl, sym, ap, ◌∙◌, subst}
 use mathlib.Core.Bool.{true, cond}
-use mathlib.Core.Option.{none}
 use mathlib.Core.List.{List, [], ◌++◌, append_assoc, append-nil}
 use Prim.Native.Nat.{ℕ}
 use Rattle.octets.specs.Header.{framed}

@@ -18,7 +18,6 @@ use Rattle.format.specs.declared.WriteAnswer.{WriteAnswer}
 use Rattle.format.specs.declared.WriteAnswer.TheVariants.{Octets, NotWritten}
 use Rattle.format.specs.Answers.{refusal}
 use Rattle.format.specs.Tree.{Items}
-use Rattle.format.specs.Tree.Items.{end}
 use Rattle.format.specs.Meaning.{means, encode}
 use Rattle.format.specs.Writer.{Spot, at_top, walk, tree, to_end, rebuilt, ruled}
 use Rattle.format.specs.Calls.{Lists, places, row, roomy, tree_given, write_answer, write_octets}
