@@ -1,11 +1,11 @@
 #!/usr/bin/env python3
 """Tries the entry as a caller would:  try_entry.py PROGRAM SEED COUNT
 
-A caller that lends a slice of records is proved by hand or not at all, so this one is not proved and stands in no crate of the repository: its text is written to a
-folder of its own, where `rt try` runs it, on an interpreter and compiled with checks. It reads a stream of COUNT small listing cases, half of them drawn from the edge
-cases, half random ones, calls entry::read_records for each, and lists the records that then stand in its slice. It says so where a list holds something else than the
-slice, or where a place behind the records was touched. PROGRAM, the second program, must print the very same. Prints a last line
-`entry read N objects of seed S as listed`; the exit status is 0 only where that holds.
+This caller is not proved and stands in no crate of the repository, since the older kit proved one that lends a slice of records by hand or not at all: its
+text is written to a folder of its own, where `rt try` runs it, on an interpreter and compiled with checks. It reads a stream of COUNT small listing cases,
+half of them drawn from the edge cases, half random ones, calls entry::read_records for each, and lists the records that then stand in its slice. It says so
+where a list holds something else than the slice, or where a place behind the records was touched. PROGRAM, the second program, must print the very same.
+Prints a last line `entry read N objects of seed S as listed`; the exit status is 0 only where that holds.
 """
 import os
 import random
