@@ -8,7 +8,6 @@ compute what the definitions answer: a crate `vectors`, made in a folder of its 
 import os
 import random
 import re
-import shutil
 import subprocess
 import sys
 import tempfile
@@ -29,30 +28,27 @@ DEFINITIONS = {"octets": "Numbers Header Places", "text": "Text Tokens", "values
                "format": "Tree Judge Headers Meaning Writer Loaded Calls Same State", "state": "Taking", "edits": "Tree Calls"}
 
 ANSWERS = """-- What the definitions answer to a case of the stream.
-use mathlib.Core.Bool.{Bool, true, false, cond}
-use mathlib.Core.List.{List, [], _∷_, map}
-use mathlib.Core.Option.{some}
-use Prim.Native.Nat.{ℕ}
-use lib.ListN.{replicate}
-use Rattle·octets.specs.Counts.{as_octets}
-use Rattle·format.specs.declared.Record.{Record}
-use Rattle·format.specs.declared.ReadAnswer.{ReadAnswer}
-use Rattle·format.specs.declared.ReadAnswer.the-variants.{Records, NotRead}
-use Rattle·format.specs.declared.WriteAnswer.{WriteAnswer}
-use Rattle·format.specs.declared.WriteAnswer.the-variants.{Octets, NotWritten}
-use Rattle·format.specs.declared.SameAnswer.{SameAnswer}
-use Rattle·format.specs.declared.SameAnswer.the-variants.{Same, Different, FirstRefused, SecondRefused}
-use Rattle·format.specs.Tree.{Items}
-use Rattle·format.specs.Judge.{Judged, judge}
-use Rattle·format.specs.Judge.Judged.{refused as isRefused, accepted as isAccepted}
-use Rattle·format.specs.Headers.{headers_of}
-use Rattle·format.specs.Meaning.{means, encode, normal_of}
-use Rattle·format.specs.Calls.{Lists, read_answer, read_records, write_answer, write_octets, Lent, normal_answer, handed}
-use Rattle·format.specs.Same.{same_answer}
-use Rattle·format.specs.State.{Memory, body_sizes, tree_in}
-use Rattle·state.specs.Taking.{taken_in}
-use Rattle·edits.specs.Tree.{Edit}
-use Rattle·edits.specs.Calls.{edited_in}
+use Rattle.std.specs.Prelude.{List, [], ◌∷◌, map, ℕ, replicate}
+use Rattle.std.proofs.Math.Option.{some}
+use Rattle.octets.specs.Counts.{as_octets}
+use Rattle.format.specs.declared.Record.{Record}
+use Rattle.format.specs.declared.ReadAnswer.{ReadAnswer}
+use Rattle.format.specs.declared.ReadAnswer.TheVariants.{Records, NotRead}
+use Rattle.format.specs.declared.WriteAnswer.{WriteAnswer}
+use Rattle.format.specs.declared.WriteAnswer.TheVariants.{Octets, NotWritten}
+use Rattle.format.specs.declared.SameAnswer.{SameAnswer}
+use Rattle.format.specs.declared.SameAnswer.TheVariants.{Same, Different, FirstRefused, SecondRefused}
+use Rattle.format.specs.Tree.{Items}
+use Rattle.format.specs.Judge.{Judged, judge}
+use Rattle.format.specs.Judge.Judged.{refused as is_refused, accepted as is_accepted}
+use Rattle.format.specs.Headers.{headers_of}
+use Rattle.format.specs.Meaning.{means, encode, normal_of}
+use Rattle.format.specs.Calls.{Lists, read_answer, read_records, write_answer, write_octets, Lent, normal_answer, handed}
+use Rattle.format.specs.Same.{same_answer}
+use Rattle.format.specs.State.{Memory, body_sizes, tree_in}
+use Rattle.state.specs.Taking.{taken_in}
+use Rattle.edits.specs.Tree.{Edit}
+use Rattle.edits.specs.Calls.{edited_in}
 
 pub data Case : Type 0 where
   list tally : ℕ → List ℕ → Case
@@ -65,69 +61,69 @@ pub data Answer : Type 0 where
   refused : ℕ → ℕ → ℕ → Answer
   listed : List (List ℕ) → Answer
   tallied : (records items : ℕ) → Answer
-  handedOut : List ℕ → Answer
+  handed_out : List ℕ → Answer
   same different : Answer
-  refusedFirst refusedSecond : ℕ → ℕ → ℕ → Answer
+  refused_first refused_second : ℕ → ℕ → ℕ → Answer
   ran : List (List ℕ) → (written sizes : List ℕ) → Answer
 
 abbrev pub line : Record → List ℕ
-line r = r .depth ∷ r .tag ∷ r .kind ∷ r .start ∷ r .size ∷ []
+line r = r.depth ∷ r.tag ∷ r.kind ∷ r.start ∷ r.size ∷ []
 
-abbrev pub afterRead : ReadAnswer → List Record → Answer
-afterRead (Records n) rs = listed (map line rs)
-afterRead (NotRead r) rs = refused (r .number) (r .place) (r .field)
+abbrev pub after_read : ReadAnswer → List Record → Answer
+after_read (Records n) rs = listed (map line rs)
+after_read (NotRead r) rs = refused (r.number) (r.place) (r.field)
 
-abbrev pub afterCount : ReadAnswer → Answer
-afterCount (Records n) = tallied (n .records) (n .items)
-afterCount (NotRead r) = refused (r .number) (r .place) (r .field)
+abbrev pub after_count : ReadAnswer → Answer
+after_count (Records n) = tallied (n.records) (n.items)
+after_count (NotRead r) = refused (r.number) (r.place) (r.field)
 
-abbrev pub afterWrite : WriteAnswer → List ℕ → Answer
-afterWrite (Octets n) o = handedOut o
-afterWrite (NotWritten r) o = refused (r .number) (r .place) (r .field)
+abbrev pub after_write : WriteAnswer → List ℕ → Answer
+after_write (Octets n) o = handed_out o
+after_write (NotWritten r) o = refused (r.number) (r.place) (r.field)
 
-abbrev pub afterSame : SameAnswer → Answer
-afterSame Same = same
-afterSame Different = different
-afterSame (FirstRefused r) = refusedFirst (r .number) (r .place) (r .field)
-afterSame (SecondRefused r) = refusedSecond (r .number) (r .place) (r .field)
+abbrev pub after_same : SameAnswer → Answer
+after_same Same = same
+after_same Different = different
+after_same (FirstRefused r) = refused_first (r.number) (r.place) (r.field)
+after_same (SecondRefused r) = refused_second (r.number) (r.place) (r.field)
 
 -- of a case's numbers, those of a store and of a room are counts of octets
-abbrev pub lentOf : (places store room : ℕ) → Lent
-lentOf places store room = record { records = places; store = as_octets store; room = as_octets room }
+abbrev pub lent_of : (places store room : ℕ) → Lent
+lent_of places store room = record { records = places; store = as_octets store; room = as_octets room }
 
 -- memory of so many places and octets, whatever it holds: what edits answer hangs on the tree and on how much is lent
-abbrev pub memoryOf : (places store : ℕ) → Memory
-memoryOf p s =
+abbrev pub memory_of : (places store : ℕ) → Memory
+memory_of p s =
     let l = replicate {A = ℕ} p 0 in
     record { lists = record { tags = l; kinds = l; depths = l; parents = l; starts = l; sizes = l }; bodies = l; store = replicate {A = ℕ} s 0 }
 
 -- the refusal of an edit, nothing where it is made, and the tree that is there then
-abbrev pub afterEdit : Judged → List ℕ
-afterEdit (isRefused r) = r .number ∷ r .place ∷ r .field ∷ []
-afterEdit (isAccepted u) = []
+abbrev pub after_edit : Judged → List ℕ
+after_edit (is_refused r) = r.number ∷ r.place ∷ r.field ∷ []
+after_edit (is_accepted u) = []
 
-abbrev pub treeAfter : Items → Judged → Items
-treeAfter t (isRefused r) = t
-treeAfter t (isAccepted u) = u
+abbrev pub tree_after : Items → Judged → Items
+tree_after t (is_refused r) = t
+tree_after t (is_accepted u) = u
 
 -- a run of edits from a tree on, the last answer first
-abbrev pub runFrom : Memory → List Edit → List (List ℕ) → Items → Answer
-runFrom m [] said t = ran said (encode (means [] t)) (body_sizes 0 t)
-runFrom m (e ∷ es) said t = runFrom m es (afterEdit (edited_in m e (some t)) ∷ said) (treeAfter t (edited_in m e (some t)))
+abbrev pub run_from : Memory → List Edit → List (List ℕ) → Items → Answer
+run_from m [] said t = ran said (encode (means [] t)) (body_sizes 0 t)
+run_from m (e ∷ es) said t = run_from m es (after_edit (edited_in m e (some t)) ∷ said) (tree_after t (edited_in m e (some t)))
 
 abbrev pub begin : Memory → List Edit → Judged → Answer
-begin m es (isRefused r) = refused (r .number) (r .place) (r .field)
-begin m es (isAccepted t) = runFrom m es [] t
+begin m es (is_refused r) = refused (r.number) (r.place) (r.field)
+begin m es (is_accepted t) = run_from m es [] t
 
 abbrev pub answer : Case → Answer
-answer (list places o) = afterRead (read_answer places (headers_of o) (judge o)) (read_records places (judge o))
-answer (tally places o) = afterCount (read_answer places (headers_of o) (judge o))
-answer (normalise p s r o) = afterWrite (normal_answer (lentOf p s r) (judge o)) (handed (lentOf p s r) normal_of (judge o))
+answer (list places o) = after_read (read_answer places (headers_of o) (judge o)) (read_records places (judge o))
+answer (tally places o) = after_count (read_answer places (headers_of o) (judge o))
+answer (normalise p s r o) = after_write (normal_answer (lent_of p s r) (judge o)) (handed (lent_of p s r) normal_of (judge o))
 answer (write n lists room o) =
-    let t = tree_in n (record { lists = lists; bodies = lists .sizes; store = o }) in
-    afterWrite (write_answer (as_octets room) t) (write_octets (as_octets room) t)
-answer (compare a b) = afterSame (same_answer (judge a) (judge b))
-answer (edit p s o es) = begin (memoryOf p s) es (taken_in (as_octets 32_768) (memoryOf p s) (judge o))
+    let t = tree_in n (record { lists = lists; bodies = lists.sizes; store = o }) in
+    after_write (write_answer (as_octets room) t) (write_octets (as_octets room) t)
+answer (compare a b) = after_same (same_answer (judge a) (judge b))
+answer (edit p s o es) = begin (memory_of p s) es (taken_in (as_octets 32_768) (memory_of p s) (judge o))
 """
 
 
@@ -217,10 +213,10 @@ def answer_term(answer):
     if words[0] == "records":
         return f"tallied {words[1]} {words[3]}"
     if words[0] in ("normal", "written"):
-        return f"handedOut ({numbers(bytes.fromhex(words[1]) if len(words) > 1 else b'')})"
+        return f"handed_out ({numbers(bytes.fromhex(words[1]) if len(words) > 1 else b'')})"
     if words[0] in ("same", "different"):
         return words[0]
-    name = {"first": "refusedFirst", "second": "refusedSecond"}[words[-1]] if "in" in words else "refused"
+    name = {"first": "refused_first", "second": "refused_second"}[words[-1]] if "in" in words else "refused"
     field = words[words.index("field") + 1] if "field" in words else 0
     return f"{name} {words[1]} {words[3]} {field}"
 
@@ -233,18 +229,18 @@ def opened_names(crates):
             with open(os.path.join(crates, crate, "specs", module + ".antt"), encoding="utf-8") as text:
                 found = re.findall(r"^unfoldable pub (\S+) :", text.read(), re.M)
             if found:
-                lines.append(f"use Rattle·{crate}.specs.{module}.{{{', '.join(found)}}}")
+                lines.append(f"use Rattle.{crate}.specs.{module}.{{{', '.join(found)}}}")
                 names += found
     return lines, names
 
 
 def proof_text(crates, cases, answers):
     lines, names = opened_names(crates)
-    out = ["-- Made by tools/hold_definitions.py.", "use mathlib.Core.Path.{_≡_, refl}", "use mathlib.Core.List.{List, [], _∷_, map}"]
-    out += ["use Rattle·vectors·specs.specs.Answers.{Case, Answer, answer}"]
-    out += ["use Rattle·vectors·specs.specs.Answers.Case.{list, tally, normalise, write, compare, edit}"]
-    out += ["use Rattle·vectors·specs.specs.Answers.Answer.{refused, listed, tallied, handedOut, same, different, refusedFirst, refusedSecond, ran}"]
-    out += ["use Rattle·edits.specs.Tree.Edit.{replace, remove, insert}"]
+    out = ["-- Made by tools/hold_definitions.py.", "use Rattle.std.specs.Prelude.{◌≡◌, [], ◌∷◌, map}", "use mathlib.Core.Path.{refl}"]
+    out += ["use Rattle.vectors.specs.Answers.{Case, Answer, answer}"]
+    out += ["use Rattle.vectors.specs.Answers.Case.{list, tally, normalise, write, compare, edit}"]
+    out += ["use Rattle.vectors.specs.Answers.Answer.{refused, listed, tallied, handed_out, same, different, refused_first, refused_second, ran}"]
+    out += ["use Rattle.edits.specs.Tree.Edit.{replace, remove, insert}"]
     out += lines
     for start in range(0, len(cases), CHUNK):
         inputs = "".join(f"\n    {'∷ ' if i else ''}({case_term(c)})" for i, c in enumerate(cases[start:start + CHUNK]))
@@ -271,19 +267,16 @@ def main():
     if len(answers) != len(cases):
         print(f"the program gave {len(answers)} answers to {len(cases)} cases")
         return 1
-    with tempfile.TemporaryDirectory() as folder:
-        shutil.copytree(os.path.join(HERE, "crates"), os.path.join(folder, "crates"))
-        if os.path.isdir(os.path.join(HERE, "target")):
-            shutil.copytree(os.path.join(HERE, "target"), os.path.join(folder, "target"), symlinks=True)
-        with open(os.path.join(HERE, "crates.txt"), encoding="utf-8") as text:
-            write(os.path.join(folder, "crates.txt"), text.read() + "vectors: octets text values format tags judge reader records survey compare state edits\n")
-        made = os.path.join(folder, "crates", "vectors")
+    kit = subprocess.run([os.path.join(HERE, "tools", "kit")], stdout=subprocess.PIPE, text=True, check=True).stdout.strip()
+    libraries = subprocess.run([os.path.join(HERE, "tools", "libraries"), "edits"], stdout=subprocess.PIPE, text=True, check=True).stdout.splitlines()
+    with tempfile.TemporaryDirectory() as made:
         write(os.path.join(made, "src", "lib.rt"), "// Made by tools/hold_definitions.py: no code.\n")
         write(os.path.join(made, "specs", "Lib.antt"), "pub mod Answers\n")
         write(os.path.join(made, "specs", "Answers.antt"), ANSWERS)
         write(os.path.join(made, "proofs", "Lib.antt"), "pub mod Vectors\n")
         write(os.path.join(made, "proofs", "Vectors.antt"), proof_text(os.path.join(HERE, "crates"), cases, answers))
-        done = subprocess.run(["rt", "check", "vectors"], cwd=folder, stdout=subprocess.PIPE, stderr=subprocess.STDOUT, check=False)
+        words = [f"{kit}/bin/rattle", "check", "--crate-name", "vectors", "src/lib.rt", *libraries]
+        done = subprocess.run(words, cwd=made, stdout=subprocess.PIPE, stderr=subprocess.STDOUT, check=False)
     if done.returncode != 0:
         print(done.stdout.decode("utf-8", "replace")[-4000:])
         print(f"definitions NOT held on {len(cases)} cases of seed {seed}")

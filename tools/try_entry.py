@@ -1,14 +1,15 @@
 #!/usr/bin/env python3
 """Tries the entry as a caller would:  try_entry.py PROGRAM SEED COUNT
 
-A caller that lends a slice of records is proved by hand or not at all, so this one is not proved and stands in no crate of the repository: its text is written to a
-folder of its own, where `rt try` runs it on the interpreter and compiled three ways. It reads a stream of COUNT small listing cases, half of them drawn from the edge
-cases, half random ones, calls entry::read_records for each, and lists the records that then stand in its slice. It says so where a list holds something else than the
-slice, or where a place behind the records was touched. PROGRAM, the second program, must print the very same. Prints a last line
-`entry read N objects of seed S as listed`; the exit status is 0 only where that holds.
+This caller is not proved and stands in no crate of the repository, since the older kit proved one that lends a slice of records by hand or not at all: its
+text is written to a folder of its own, where `rt try` runs it, on an interpreter and compiled with checks. It reads a stream of COUNT small listing cases,
+half of them drawn from the edge cases, half random ones, calls entry::read_records for each, and lists the records that then stand in its slice. It says so
+where a list holds something else than the slice, or where a place behind the records was touched. PROGRAM, the second program, must print the very same.
+Prints a last line `entry read N objects of seed S as listed`; the exit status is 0 only where that holds.
 """
 import os
 import random
+import shutil
 import subprocess
 import sys
 import tempfile
@@ -23,11 +24,11 @@ LONGEST = 160  # octets in an object
 PLACES = (0, 1, 2, 3, 4, 5, 6, 8, 11, 16, 24, 64)  # the caller has 64
 
 CALLER = """// Lists the records that entry::read_records puts into a slice. By turns the slice and the lists have the places that a case asks for, and the others plenty.
-use format::ReadAnswer;
-use format::Record;
-use libc::STDIN_FILENO;
-use libc::STDOUT_FILENO;
+#![tactic(auto)]
+
+use format::{ReadAnswer, Record};
 use octets::Put;
+use std::io::Read;
 
 const PLENTY: usize = 64;
 const INPUT: usize = 131_072;
@@ -122,12 +123,10 @@ fn answer(object: &[u8], tags: &mut [u8], kinds: &mut [u8], depths: &mut [u8], p
     to
 }
 
-fn read_all(input: &mut [u8]) -> usize {
+fn read_all(rt: &HostRuntime, input: &mut [u8]) -> usize {
     let mut to: usize = 0;
     while to < input.len() {
-        let part = &mut input[to..];
-        let got = libc::read(STDIN_FILENO, part);
-        let n = io::count(got, part);
+        let n = rt.stdin().read(&mut input[to..]).unwrap_or(0);
         if n == 0 {
             return to;
         }
@@ -136,7 +135,7 @@ fn read_all(input: &mut [u8]) -> usize {
     to
 }
 
-fn main() {
+fn main(rt: HostRuntime) {
     let mut input = [0u8; INPUT];
     let mut out = [0u8; OUTPUT];
     let mut tags = [0u8; PLENTY];
@@ -146,7 +145,7 @@ fn main() {
     let mut starts = [0u16; PLENTY];
     let mut sizes = [0u16; PLENTY];
     let mut records = [mark(); PLENTY];
-    let end = read_all(&mut input);
+    let end = read_all(&rt, &mut input);
     let mut at: usize = 0;
     let mut used: usize = 0;
     let mut turn = false;
@@ -161,7 +160,7 @@ fn main() {
         turn = !turn;
         at = to;
     }
-    io::write_all(STDOUT_FILENO, &out[..used]);
+    let _ = rt.write_all(&out[..used]);
 }
 """
 
@@ -191,16 +190,16 @@ def main():
         os.makedirs(os.path.join(crate, "src"))
         crates = known_crates()
         for name in crates:
-            os.symlink(os.path.join(HERE, "crates", name), os.path.join(made, "crates", name))
+            whole = os.path.join(HERE, "crates", name)
+            shutil.copytree(whole, os.path.join(made, "crates", name), ignore=lambda folder, _: ["out", "must-fail"] if folder == whole else [])
         with open(os.path.join(made, "crates.txt"), "w", encoding="utf-8") as lines:
             lines.writelines(f"{name}:{below}\n" for name, below in crates.items())
-            lines.write(f"try_entry: {' '.join(crates)} io libc\n")
-        for name, text in (("src/main.rt", CALLER.encode()), ("stdin", stream), ("stdout", listed)):
-            with open(os.path.join(crate, name), "wb") as file:
-                file.write(text)
-        done = subprocess.run(["rt", "try", "try_entry"], cwd=made, stdout=subprocess.PIPE, stderr=subprocess.STDOUT, check=False)
-    if done.returncode != 0:
-        print(done.stdout.decode("utf-8", "backslashreplace")[-3000:])
+            lines.write(f"try_entry: {' '.join(crates)}\n")
+        with open(os.path.join(crate, "src", "main.rt"), "w", encoding="utf-8") as file:
+            file.write(CALLER)
+        done = subprocess.run(["rt", "try"], cwd=crate, input=stream, stdout=subprocess.PIPE, stderr=subprocess.PIPE, check=False)
+    if done.returncode != 0 or done.stdout != listed:
+        print((done.stdout if done.returncode == 0 else done.stderr).decode("utf-8", "backslashreplace")[-3000:])
         sys.exit("the entry and the second program differ, or the caller doesn't run")
     print(f"entry read {len(chosen)} objects of seed {seed} as listed")
 

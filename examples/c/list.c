@@ -1,7 +1,7 @@
 /*
  * list FILE: prints the listing of a binary SPI object, a line for each known item.
  *
- *   rt staticlib spi_c
+ *   tools/c-library
  *   gcc -O2 -I include examples/c/list.c target/staticlib/libspi_c.a -o list
  */
 #include "spi.h"

@@ -1,4 +1,4 @@
-// The library for programs in C: each call answers by one number of 64 bits, so that no slot for an answer is lent. include/spi.h declares it.
+// The calls for programs in C: each answers by one number of 64 bits, so that no slot for an answer is lent. spi_c_c exports them; include/spi.h declares them.
 #![tactic(auto)]
 
 ghost use Rattle.std.specs.Prelude.{◌≡◌, ◌<◌, min};
@@ -91,8 +91,7 @@ fn packed_sizes(sizes: Measured) -> u64
 }
 
 // The records of an object, into six lists.
-#[unsafe(no_mangle)]
-pub extern "C" fn spi_read(
+pub fn spi_read(
     object: &[u8],
     tags: &mut [u8],
     kinds: &mut [u8],
@@ -108,8 +107,7 @@ pub extern "C" fn spi_read(
 }
 
 // How many records and headers an object has, with no list: the answer of `spi_read` lent lists long enough.
-#[unsafe(no_mangle)]
-pub extern "C" fn spi_scan(object: &[u8]) -> u64
+pub fn spi_scan(object: &[u8]) -> u64
     ensures { ScansC object.now result }
 {
     let answer = scan::scan(object);
@@ -117,8 +115,7 @@ pub extern "C" fn spi_scan(object: &[u8]) -> u64
 }
 
 // What is to be lent to normalise an object or to take it in, beside the places that `spi_scan` counts. 0 where the object is refused.
-#[unsafe(no_mangle)]
-pub extern "C" fn spi_sizes(object: &[u8]) -> u64
+pub fn spi_sizes(object: &[u8]) -> u64
     ensures { SizesC object.now result }
 {
     match survey::needs_of(object) {
@@ -128,16 +125,14 @@ pub extern "C" fn spi_sizes(object: &[u8]) -> u64
 }
 
 // Where the body of a record lies: the start in the upper half of the number, the size in the lower.
-#[unsafe(no_mangle)]
-pub extern "C" fn spi_span(object: &[u8], starts: &[u16], sizes: &[u16], number: usize) -> u64
+pub fn spi_span(object: &[u8], starts: &[u16], sizes: &[u16], number: usize) -> u64
     ensures { SpansC object.now starts.now sizes.now number result }
 {
     packed_span(reader::span(object, starts, sizes, number))
 }
 
 // The normal form of the first `count` records, whose bodies lie in `octets`, into `room`; `bodies` then has the size of each record's body in it.
-#[unsafe(no_mangle)]
-pub extern "C" fn spi_write(
+pub fn spi_write(
     count: usize,
     tags: &[u8],
     kinds: &[u8],
@@ -158,8 +153,7 @@ pub extern "C" fn spi_write(
 }
 
 // The normal form of an object, into `room`; the seven lists and the store then hold its loaded tree.
-#[unsafe(no_mangle)]
-pub extern "C" fn spi_normalise(
+pub fn spi_normalise(
     object: &[u8],
     tags: &mut [u8],
     kinds: &mut [u8],
@@ -180,8 +174,7 @@ pub extern "C" fn spi_normalise(
 }
 
 // An object into lent memory, to be edited there: its records, the sizes of their bodies in normal form, and its texts and values.
-#[unsafe(no_mangle)]
-pub extern "C" fn spi_take_in(
+pub fn spi_take_in(
     object: &[u8],
     tags: &mut [u8],
     kinds: &mut [u8],
@@ -210,8 +203,7 @@ pub extern "C" fn spi_take_in(
 }
 
 // Another text for a record of the tree in lent memory.
-#[unsafe(no_mangle)]
-pub extern "C" fn spi_replace_text(
+pub fn spi_replace_text(
     count: usize,
     number: usize,
     text: &[u8],
@@ -233,8 +225,7 @@ pub extern "C" fn spi_replace_text(
 }
 
 // A record of the tree in lent memory goes, with all below it.
-#[unsafe(no_mangle)]
-pub extern "C" fn spi_remove(
+pub fn spi_remove(
     count: usize,
     number: usize,
     tags: &mut [u8],
@@ -255,8 +246,7 @@ pub extern "C" fn spi_remove(
 }
 
 // An element comes into the tree in lent memory, with all below it, as the child element of a number of a record.
-#[unsafe(no_mangle)]
-pub extern "C" fn spi_insert(
+pub fn spi_insert(
     count: usize,
     parent: usize,
     place: usize,
@@ -279,8 +269,7 @@ pub extern "C" fn spi_insert(
 }
 
 // The normal form of the tree in lent memory, into `room`.
-#[unsafe(no_mangle)]
-pub extern "C" fn spi_write_state(
+pub fn spi_write_state(
     count: usize,
     tags: &[u8],
     kinds: &[u8],
@@ -301,8 +290,7 @@ pub extern "C" fn spi_write_state(
 }
 
 // Whether two objects mean the same; nothing is lent.
-#[unsafe(no_mangle)]
-pub extern "C" fn spi_same(a: &[u8], b: &[u8]) -> u64
+pub fn spi_same(a: &[u8], b: &[u8]) -> u64
     ensures { SameC a.now b.now result }
 {
     let answer = compare::same(a, b);
@@ -310,8 +298,7 @@ pub extern "C" fn spi_same(a: &[u8], b: &[u8]) -> u64
 }
 
 // Whether an object may be sent to the small receiver as one of a data type: 0 SI, 1 PI, 2 GI; as any other nothing may.
-#[unsafe(no_mangle)]
-pub extern "C" fn spi_gate(object: &[u8], number: u8) -> u64
+pub fn spi_gate(object: &[u8], number: u8) -> u64
     ensures { GatesC object.now number result }
 {
     let answer = pocket::gate(object, pocket::data_type(number));
@@ -329,8 +316,7 @@ fn at_most(size: Octets) -> Octets
 }
 
 // The XML of an object's meaning, into `room`.
-#[unsafe(no_mangle)]
-pub extern "C" fn spi_export(object: &[u8], room: &mut [u8]) -> u64
+pub fn spi_export(object: &[u8], room: &mut [u8]) -> u64
     ensures { ExportsC object.now room.old room.new result }
 {
     let most = at_most(Octets(room.len())).0;
@@ -339,8 +325,7 @@ pub extern "C" fn spi_export(object: &[u8], room: &mut [u8]) -> u64
 }
 
 // Whether an object may be passed on in place of a normal form: it has that very one and isn't longer; nothing is lent.
-#[unsafe(no_mangle)]
-pub extern "C" fn spi_check_packed(normal: &[u8], packed: &[u8]) -> u64
+pub fn spi_check_packed(normal: &[u8], packed: &[u8]) -> u64
     ensures { ChecksPackedC normal.now packed.now result }
 {
     let answer = fold::check(normal, packed);
@@ -348,8 +333,7 @@ pub extern "C" fn spi_check_packed(normal: &[u8], packed: &[u8]) -> u64
 }
 
 // A normal form with its common words folded, into `room`.
-#[unsafe(no_mangle)]
-pub extern "C" fn spi_pack(normal: &[u8], room: &mut [u8]) -> u64
+pub fn spi_pack(normal: &[u8], room: &mut [u8]) -> u64
     ensures { PacksC normal.now room.old room.new result }
 {
     let answer = packer::pack(normal, room);
@@ -367,8 +351,7 @@ fn services(bearers: bool) -> Services
 }
 
 // A Basic and an Advanced object merged: the normal form into `room`, and the seven lists and the store as taking that in leaves them.
-#[unsafe(no_mangle)]
-pub extern "C" fn spi_merge(
+pub fn spi_merge(
     basic: &[u8],
     advanced: &[u8],
     bearers: bool,
@@ -402,8 +385,7 @@ pub extern "C" fn spi_merge(
 }
 
 // Whether octets are text, in which token octets may stand or not.
-#[unsafe(no_mangle)]
-pub extern "C" fn spi_check_text(octets: &[u8], tokens: bool) -> bool
+pub fn spi_check_text(octets: &[u8], tokens: bool) -> bool
     ensures { result ≡ text tokens octets.now }
 {
     text::check(octets, tokens)
