@@ -26,12 +26,12 @@ const OCTETS: usize = 8;
 // ---- output
 
 // What standard output doesn't take is lost, and nothing is said of that.
-fn write_out(rt: &impl Print, lines: &[u8]) {
+fn write_out(rt: &HostRuntime, lines: &[u8]) {
     let _ = rt.write_all(lines);
 }
 
 // Room for a line: what is in use is written out where less than a line is free.
-fn make_room(rt: &impl Print, out: &[u8], used: usize) -> usize
+fn make_room(rt: &HostRuntime, out: &[u8], used: usize) -> usize
     requires { used ≤ length out.now }
     ensures { result ≤ length out.now }
 {
@@ -386,7 +386,7 @@ fn answer(letter: u8, s: &[u8], out: &mut [u8], used: usize) -> usize
     }
 }
 
-fn answer_line(rt: &impl Print, letter: u8, s: &[u8], out: &mut [u8], used: usize) -> usize
+fn answer_line(rt: &HostRuntime, letter: u8, s: &[u8], out: &mut [u8], used: usize) -> usize
     requires { used ≤ length out.old }
     ensures { result ≤ length out.new }
 {
@@ -396,7 +396,7 @@ fn answer_line(rt: &impl Print, letter: u8, s: &[u8], out: &mut [u8], used: usiz
 }
 
 // Up to the end of the input, or to a question that it cuts short.
-fn run(rt: &impl Print, input: &[u8], out: &mut [u8]) {
+fn run(rt: &HostRuntime, input: &[u8], out: &mut [u8]) {
     let mut used: usize = 0;
     let mut at: usize = 0;
     while input.len() - at >= 2 {
@@ -425,19 +425,19 @@ fn output_buffer() -> [u8; OUTPUT]
 }
 
 // Nothing where reading fails, as where the input ends.
-fn read_some(from: &mut impl Read, part: &mut [u8]) -> usize
+fn read_some(rt: &HostRuntime, part: &mut [u8]) -> usize
     ensures { result ≤ length part.new }
 {
-    from.read(part).unwrap_or(0)
+    rt.stdin().read(part).unwrap_or(0)
 }
 
 // Reads until the buffer is full, or nothing more comes.
-fn read_full(from: &mut impl Read, buf: &mut [u8]) -> usize
+fn read_full(rt: &HostRuntime, buf: &mut [u8]) -> usize
     ensures { result ≤ length buf.new }
 {
     let mut size: usize = 0;
     while size < buf.len() {
-        let more = read_some(from, &mut buf[size..]);
+        let more = read_some(rt, &mut buf[size..]);
         if more == 0 {
             return size;
         }
@@ -449,6 +449,6 @@ fn read_full(from: &mut impl Read, buf: &mut [u8]) -> usize
 fn main(rt: HostRuntime) {
     let mut input = input_buffer();
     let mut out = output_buffer();
-    let size = read_full(&mut rt.stdin(), &mut input);
+    let size = read_full(&rt, &mut input);
     run(&rt, &input[..size], &mut out);
 }
