@@ -23,6 +23,11 @@ pub fn complain(rt: &HostRuntime, text: &[u8]) {
     let _ = rt.stderr().write_all(text);
 }
 
+// In decimal digits.
+pub fn complain_number(rt: &HostRuntime, n: usize) {
+    let _ = rt.eprint(n);
+}
+
 // A line: what failed, as the caller names it, and the system's words for why.
 pub fn fail(rt: &HostRuntime, what: &[u8], error: Error) {
     let mut text = Cursor::new([0u8; WORDS]);
