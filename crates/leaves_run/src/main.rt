@@ -7,12 +7,15 @@
 
 ghost use Rattle.std.specs.Prelude.{◌≡◌, ◌≤◌, length};
 
-use libc::{STDIN_FILENO, STDOUT_FILENO};
 use octets::Put;
+use std::io::Read;
 use values::{Bearer, Ensemble, Kind, KnownKind, Local, NumberKind, TakenBearer, TakenTime, Time};
 
 // More than all questions together have.
 const INPUT: usize = 131_072;
+
+// So much is written at once.
+const OUTPUT: usize = 65_536;
 
 // No line is longer.
 const LINE: usize = 128;
@@ -22,15 +25,20 @@ const OCTETS: usize = 8;
 
 // ---- output
 
+// What standard output doesn't take is lost, and nothing is said of that.
+fn write_out(rt: &HostRuntime, lines: &[u8]) {
+    let _ = rt.write_all(lines);
+}
+
 // Room for a line: what is in use is written out where less than a line is free.
-fn make_room(out: &[u8], used: usize) -> usize
+fn make_room(rt: &HostRuntime, out: &[u8], used: usize) -> usize
     requires { used ≤ length out.now }
     ensures { result ≤ length out.now }
 {
     if out.len() - used >= LINE {
         return used;
     }
-    io::write_all(STDOUT_FILENO, &out[..used]);
+    write_out(rt, &out[..used]);
     0
 }
 
@@ -378,17 +386,17 @@ fn answer(letter: u8, s: &[u8], out: &mut [u8], used: usize) -> usize
     }
 }
 
-fn answer_line(letter: u8, s: &[u8], out: &mut [u8], used: usize) -> usize
+fn answer_line(rt: &HostRuntime, letter: u8, s: &[u8], out: &mut [u8], used: usize) -> usize
     requires { used ≤ length out.old }
     ensures { result ≤ length out.new }
 {
-    let from = make_room(out, used);
+    let from = make_room(rt, out, used);
     let to = answer(letter, s, out, from);
     say(out, to, b"\n")
 }
 
 // Up to the end of the input, or to a question that it cuts short.
-fn run(input: &[u8], out: &mut [u8]) {
+fn run(rt: &HostRuntime, input: &[u8], out: &mut [u8]) {
     let mut used: usize = 0;
     let mut at: usize = 0;
     while input.len() - at >= 2 {
@@ -398,10 +406,10 @@ fn run(input: &[u8], out: &mut [u8]) {
             break;
         }
         let end = start + size;
-        used = answer_line(input[at], &input[start..end], out, used);
+        used = answer_line(rt, input[at], &input[start..end], out, used);
         at = end;
     }
-    io::write_all(STDOUT_FILENO, &out[..used]);
+    write_out(rt, &out[..used]);
 }
 
 fn input_buffer() -> [u8; INPUT]
@@ -410,9 +418,37 @@ fn input_buffer() -> [u8; INPUT]
     [0; INPUT]
 }
 
-fn main() {
+fn output_buffer() -> [u8; OUTPUT]
+    ensures { 65_536 ≡ length result }
+{
+    [0; OUTPUT]
+}
+
+// Nothing where reading fails, as where the input ends.
+fn read_some(rt: &HostRuntime, part: &mut [u8]) -> usize
+    ensures { result ≤ length part.new }
+{
+    rt.stdin().read(part).unwrap_or(0)
+}
+
+// Reads until the buffer is full, or nothing more comes.
+fn read_full(rt: &HostRuntime, buf: &mut [u8]) -> usize
+    ensures { result ≤ length buf.new }
+{
+    let mut size: usize = 0;
+    while size < buf.len() {
+        let more = read_some(rt, &mut buf[size..]);
+        if more == 0 {
+            return size;
+        }
+        size = size + more;
+    }
+    size
+}
+
+fn main(rt: HostRuntime) {
     let mut input = input_buffer();
-    let mut out = io::large_buffer();
-    let size = io::read_full(STDIN_FILENO, &mut input);
-    run(&input[..size], &mut out);
+    let mut out = output_buffer();
+    let size = read_full(&rt, &mut input);
+    run(&rt, &input[..size], &mut out);
 }

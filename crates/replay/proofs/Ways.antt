@@ -1,5 +1,5 @@
 -- The ways through the program's functions: where lines end, where an object lies in the buffer, and the turns.
-use Rattle.std.proofs.Common.{◌≡◌, ℕ, ◌+◌, ◌-◌, ◌<◌, ◌≤◌, Bool, true, false, cond, ltb, leb, List, length, take, drop, sym, refl, ap, ◌∙◌, arith, length-take, length-take-le, ltb-false, leb-true}
+use Rattle.std.proofs.Common.{◌≡◌, ℕ, ◌+◌, ◌-◌, ◌≤◌, Bool, true, false, cond, ltb, leb, List, length, take, drop, sym, refl, ap, ◌∙◌, arith, length-take, length-take-le, ltb-false, leb-true}
 use lib.Seq.{sets, length-sets}
 use Rattle.octets.specs.declared.Put.{Put}
 use Rattle.octets.specs.Puts.{Puts, put_answer, put_out}
@@ -71,13 +71,6 @@ window-begins input w at r s e q =
 
 pub passed-stands : (buffer : ℕ) (w v : Window) (size : ℕ) → Standing buffer w → w.from + size ≤ w.to → (v.from ≡ w.from + size) × (v.to ≡ w.to) → Standing buffer v
 passed-stands buffer w v size s h p = record { rising = omega (arith, p.0, p.1); inside = omega (arith, p.1, s.inside) }
-
--- objects listed so far
-pub record Running (input₀ out₀ input out : List ℕ) (w : Window) (used : ℕ) : Type 0 where
-  pub standing : Standing (length input) w
-  pub inside : used ≤ length out
-  pub input-long : length input ≡ length input₀
-  pub out-long : length out ≡ length out₀
 
 pub turned : (buffer room : ℕ) (t : Turn) → Turned buffer room t → (w : Window) (number used : ℕ) → t ≡ Goes w number used → Stepped buffer room w used
 turned buffer room t r w number used e = rw e at r

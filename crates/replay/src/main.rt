@@ -2,29 +2,39 @@
 // answer is and what a line says is proved where it is found, in `recording` and `scan`; here every function is safe and ends.
 #![tactic(auto)]
 
+mod failing;
 mod lines;
 mod stream;
 
 ghost use Rattle.std.specs.Prelude.{◌≡◌, ◌≤◌, length};
 ghost use Rattle.replay.specs.Stream.{Standing, Turned};
 
-use crate::lines::{say_answer, say_file};
+use crate::lines::{say_answer, say_file, write_out};
 use crate::stream::{Turn, Window, cut_at, fetch, passed};
 use format::refuse;
-use libc::STDOUT_FILENO;
 use recording::{Next, Opened, open, step};
 use scan::scan;
 
 // About twice the longest object with its size, so that what is left is seldom moved.
 const INPUT: usize = 131_072;
 
+// So much is written at once.
+const OUTPUT: usize = 65_536;
+
 // The object at the start of the window.
-fn one_object(input: &mut [u8], out: &mut [u8], w: Window, number: usize, used: usize) -> Turn
+fn one_object(
+    rt: &HostRuntime,
+    input: &mut [u8],
+    out: &mut [u8],
+    w: Window,
+    number: usize,
+    used: usize,
+) -> Turn
     requires standing { Standing (length input.old) w }
     requires used_in_bounds { used ≤ length out.old }
     ensures { Turned (length input.new) (length out.new) result }
 {
-    let here = fetch(input, w);
+    let here = fetch(rt, input, w);
     let from = here.from;
     let to = here.to;
     let next = step(&input[..to], from, !here.more);
@@ -35,7 +45,7 @@ fn one_object(input: &mut [u8], out: &mut [u8], w: Window, number: usize, used: 
             Turn::Goes {
                 w: passed(here, end - from),
                 number: std::num::wrapping_add_usize(number, 1),
-                used: say_answer(out, used, number, answer),
+                used: say_answer(rt, out, used, number, answer),
             }
         }
         Next::More => Turn::Goes {
@@ -50,7 +60,7 @@ fn one_object(input: &mut [u8], out: &mut [u8], w: Window, number: usize, used: 
 
 // Nothing says that the input ends, so the turns are counted down from a number that no run uses up. The answer is how much of the output is still to be
 // written.
-fn list_all(input: &mut [u8], out: &mut [u8], first: Window) -> usize
+fn list_all(rt: &HostRuntime, input: &mut [u8], out: &mut [u8], first: Window) -> usize
     requires { Standing (length input.old) first }
     ensures { result ≤ length out.new }
 {
@@ -59,13 +69,13 @@ fn list_all(input: &mut [u8], out: &mut [u8], first: Window) -> usize
     let mut number: usize = 1;
     let mut turns = u64::MAX;
     while turns > 0 {
-        let turn = one_object(input, out, w, number, used);
+        let turn = one_object(rt, input, out, w, number, used);
         match turn {
             Turn::End => {
                 return used;
             }
             Turn::Cut(place) => {
-                return say_file(out, used, refuse(24, place));
+                return say_file(rt, out, used, refuse(24, place));
             }
             Turn::Goes {
                 w: behind,
@@ -83,7 +93,7 @@ fn list_all(input: &mut [u8], out: &mut [u8], first: Window) -> usize
 }
 
 // Where reading failed, nobody knows how the recording begins: nothing is told of that but on standard error.
-fn replay(input: &mut [u8], out: &mut [u8]) -> usize
+fn replay(rt: &HostRuntime, input: &mut [u8], out: &mut [u8]) -> usize
     ensures { result ≤ length out.new }
 {
     let none = Window {
@@ -93,17 +103,17 @@ fn replay(input: &mut [u8], out: &mut [u8]) -> usize
         more: true,
         failed: false,
     };
-    let here = fetch(input, none);
+    let here = fetch(rt, input, none);
     let from = here.from;
     let to = here.to;
     let opened = open(&input[from..to]);
     match opened {
-        Opened::Begins(at) => list_all(input, out, passed(here, at)),
+        Opened::Begins(at) => list_all(rt, input, out, passed(here, at)),
         Opened::Refused(refusal) => {
             if here.failed {
                 return 0;
             }
-            say_file(out, 0, refusal)
+            say_file(rt, out, 0, refusal)
         }
     }
 }
@@ -114,9 +124,15 @@ fn input_buffer() -> [u8; INPUT]
     [0; INPUT]
 }
 
-fn main() {
+fn output_buffer() -> [u8; OUTPUT]
+    ensures { 65_536 ≡ length result }
+{
+    [0; OUTPUT]
+}
+
+fn main(rt: HostRuntime) {
     let mut input = input_buffer();
-    let mut out = io::large_buffer();
-    let used = replay(&mut input, &mut out);
-    io::write_all(STDOUT_FILENO, &out[..used]);
+    let mut out = output_buffer();
+    let used = replay(&rt, &mut input, &mut out);
+    write_out(&rt, &out[..used]);
 }

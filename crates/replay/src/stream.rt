@@ -2,7 +2,8 @@
 ghost use Rattle.std.specs.Prelude.{◌≡◌, ◌+◌, ◌≤◌, length};
 ghost use Rattle.replay.specs.Stream.{Standing, Stops};
 
-use libc::STDIN_FILENO;
+use crate::failing::fail;
+use std::io::Read;
 
 // No piece is longer: a size and an object.
 const LONGEST_PIECE: usize = 65_537;
@@ -37,30 +38,31 @@ struct Filled {
     failed: bool,
 }
 
-// A failure is said on standard error, in the system's words, just after it happened.
-fn read_at(input: &mut [u8], at: usize) -> Filled
+// A failure is said on standard error, in the system's words.
+fn read_at(rt: &HostRuntime, input: &mut [u8], at: usize) -> Filled
     requires { at ≤ length input.old }
     ensures { at + result.to ≤ length input.new }
 {
-    let part = &mut input[at..];
-    let got = libc::read(STDIN_FILENO, part);
-    if got < 0 {
-        os::fail(b"replay: standard input");
-    }
-    Filled {
-        to: io::count(got, part),
-        failed: got < 0,
+    match rt.stdin().read(&mut input[at..]) {
+        Ok(to) => Filled { to, failed: false },
+        Err(error) => {
+            fail(rt, b"replay: standard input", error);
+            Filled {
+                to: 0,
+                failed: true,
+            }
+        }
     }
 }
 
 // Reads until the buffer is full, the input ends or reading fails.
-fn read_more(input: &mut [u8], from: usize) -> Filled
+fn read_more(rt: &HostRuntime, input: &mut [u8], from: usize) -> Filled
     requires { from ≤ length input.old }
     ensures { result.to ≤ length input.new }
 {
     let mut to = from;
     while to < input.len() {
-        let got = read_at(input, to);
+        let got = read_at(rt, input, to);
         if got.to == 0 {
             return Filled {
                 to,
@@ -88,7 +90,7 @@ fn move_down(input: &mut [u8], from: usize, to: usize) -> usize
 }
 
 // A whole piece in the buffer, or all that is left of the recording.
-pub fn fetch(input: &mut [u8], w: Window) -> Window
+pub fn fetch(rt: &HostRuntime, input: &mut [u8], w: Window) -> Window
     requires { Standing (length input.old) w }
     ensures { Standing (length input.new) result }
 {
@@ -99,7 +101,7 @@ pub fn fetch(input: &mut [u8], w: Window) -> Window
         return w;
     }
     let kept = move_down(input, w.from, w.to);
-    let filled = read_more(input, kept);
+    let filled = read_more(rt, input, kept);
     Window {
         from: 0,
         to: filled.to,

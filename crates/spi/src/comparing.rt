@@ -7,14 +7,15 @@ use crate::words::shared;
 use format::Outcome;
 use octets::Octets;
 
-fn say_difference(a: &[u8], b: &[u8]) {
-    say(b"the normal forms first differ at ");
-    say_number(shared(a, b));
-    say(b"\n");
+fn say_difference(rt: &HostRuntime, a: &[u8], b: &[u8]) {
+    say(rt, b"the normal forms first differ at ");
+    say_number(rt, shared(a, b));
+    say(rt, b"\n");
 }
 
 // Two accepted objects. They are compared whatever their normal forms have; where both can be told, so can the place of the first difference.
 fn report(
+    rt: &HostRuntime,
     first: &[u8],
     a: &[u8],
     first_records: usize,
@@ -28,38 +29,41 @@ fn report(
     let made_b = normal_form(b, &mut room_b);
     let same = compare::same(a, b).outcome().same;
     if same {
-        say(b"same\n")
+        say(rt, b"same\n")
     } else {
-        say(b"different\n")
+        say(rt, b"different\n")
     }
-    say_sizes(first, Octets(a.len()), first_records, made_a);
-    say_sizes(second, Octets(b.len()), second_records, made_b);
+    say_sizes(rt, first, Octets(a.len()), first_records, made_a);
+    say_sizes(rt, second, Octets(b.len()), second_records, made_b);
     if same {
         return GOOD;
     }
     if (made_a.number == 0) & (made_b.number == 0) {
         let n = made_a.size.0;
         let m = made_b.size.0;
-        say_difference(&room_a[..n], &room_b[..m]);
+        say_difference(rt, &room_a[..n], &room_b[..m]);
     }
     BAD
 }
 
 // Check's line of a refused file.
-fn say_if_refused(path: &[u8], judged: Outcome) -> u8 {
+fn say_if_refused(rt: &HostRuntime, path: &[u8], judged: Outcome) -> u8 {
     if judged.number == 0 {
         return GOOD;
     }
-    say_refused(path, judged.number, judged.place, judged.field)
+    say_refused(rt, path, judged.number, judged.place, judged.field)
 }
 
 // Each file that is refused has its line.
-pub fn compare(first: &[u8], a: &[u8], second: &[u8], b: &[u8]) -> u8 {
+pub fn compare(rt: &HostRuntime, first: &[u8], a: &[u8], second: &[u8], b: &[u8]) -> u8 {
     let one = judge::judge(a).outcome();
     let two = judge::judge(b).outcome();
-    let status = worse(say_if_refused(first, one), say_if_refused(second, two));
+    let status = worse(
+        say_if_refused(rt, first, one),
+        say_if_refused(rt, second, two),
+    );
     if status > GOOD {
         return status;
     }
-    report(first, a, one.count, second, b, two.count)
+    report(rt, first, a, one.count, second, b, two.count)
 }

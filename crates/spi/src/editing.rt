@@ -4,13 +4,13 @@ ghost use Rattle.std.specs.Prelude.{suc, ◌≤◌, min, length};
 ghost use Rattle.io.specs.Counts.{IsPrefixLen};
 
 use crate::asking::{Verb, behind, find, has_place, numbers_of, octets_in, verb_of};
+use crate::failing::{complain, complain_number};
 use crate::files::{Got, load};
 use crate::lines::{end_of, say_edit, say_refusal, say_refused};
 use crate::memory::{file_buffer, room, tree_numbers, tree_octets};
 use crate::objects::{Made, as_made};
 use crate::status::{BAD, FAILED, GOOD};
 use format::Outcome;
-use libc::STDERR_FILENO;
 use octets::Octets;
 
 // How editing goes: the status, how many edits were made, and how many records there are.
@@ -23,7 +23,7 @@ pub struct Edited {
 
 // The octets that an edit brings, in a lent buffer: what is left of its line as it stands or as digits, or a file of that name. One that brings none has
 // nothing left.
-fn bring(word: &[u8], rest: &[u8], buf: &mut [u8]) -> Got
+fn bring(rt: &HostRuntime, word: &[u8], rest: &[u8], buf: &mut [u8]) -> Got
     ensures { IsPrefixLen result.size.0 buf.new }
 {
     match verb_of(word) {
@@ -34,7 +34,7 @@ fn bring(word: &[u8], rest: &[u8], buf: &mut [u8]) -> Got
             size: Octets(0),
         },
         Verb::Insert => octets_in(rest, buf),
-        Verb::InsertFile => load(rest, buf),
+        Verb::InsertFile => load(rt, rest, buf),
         Verb::Unknown => Got {
             whole: false,
             size: Octets(0),
@@ -92,14 +92,11 @@ fn make(
 }
 
 // An edit that spi doesn't know, or whose numbers, digits or file can't be read.
-fn fail_edit(path: &[u8], made: usize) -> u8 {
-    io::write_all(STDERR_FILENO, path);
-    io::write_all(STDERR_FILENO, b": edit ");
-    io::print_decimal(STDERR_FILENO, made as u64);
-    io::write_all(
-        STDERR_FILENO,
-        b" can't be read; spi help says how edits are written\n",
-    );
+fn fail_edit(rt: &HostRuntime, path: &[u8], made: usize) -> u8 {
+    complain(rt, path);
+    complain(rt, b": edit ");
+    complain_number(rt, made);
+    complain(rt, b" can't be read; spi help says how edits are written\n");
     FAILED
 }
 
@@ -118,6 +115,7 @@ fn ended(status: u8, made: usize, records: usize) -> Edited {
 
 // One line: an edit, of which is said why it isn't made, or nothing.
 fn edit_line(
+    rt: &HostRuntime,
     path: &[u8],
     line: &[u8],
     made: usize,
@@ -139,9 +137,9 @@ fn edit_line(
     let numbers = numbers_of(line, word);
     let from = numbers.from;
     let mut buf = file_buffer();
-    let brought = bring(&line[0..word], &line[from..], &mut buf);
+    let brought = bring(rt, &line[0..word], &line[from..], &mut buf);
     if !(numbers.whole & brought.whole) {
-        return ended(fail_edit(path, this), made, records);
+        return ended(fail_edit(rt, path, this), made, records);
     }
     let size = brought.size.0;
     let came = make(
@@ -160,8 +158,8 @@ fn edit_line(
         store,
     );
     if came.number > 0 {
-        say_edit(path, this);
-        say_refusal(came.number, came.place, came.field);
+        say_edit(rt, path, this);
+        say_refusal(rt, came.number, came.place, came.field);
         return ended(BAD, made, records);
     }
     ended(GOOD, this, came.count)
@@ -179,6 +177,7 @@ fn next_line(input: &[u8], end: usize, status: u8) -> usize
 
 // All lines of the input, until one isn't made.
 pub fn edit_lines(
+    rt: &HostRuntime,
     path: &[u8],
     input: &[u8],
     taken: usize,
@@ -198,6 +197,7 @@ pub fn edit_lines(
     while at < input.len() {
         let end = find(input, b'\n', at);
         let step = edit_line(
+            rt,
             path,
             &input[at..end],
             made,
@@ -248,7 +248,13 @@ pub struct Done {
 }
 
 // An object taken in, edited by the lines of an input, and written to a lent room.
-pub fn edited_form(path: &[u8], object: &[u8], input: &[u8], lent: &mut [u8]) -> Done
+pub fn edited_form(
+    rt: &HostRuntime,
+    path: &[u8],
+    object: &[u8],
+    input: &[u8],
+    lent: &mut [u8],
+) -> Done
     ensures { IsPrefixLen result.size.0 lent.new }
 {
     let mut tags = tree_octets();
@@ -274,12 +280,13 @@ pub fn edited_form(path: &[u8], object: &[u8], input: &[u8], lent: &mut [u8]) ->
     let taken = answer.outcome();
     if taken.number > 0 {
         return Done {
-            status: say_refused(path, taken.number, taken.place, taken.field),
+            status: say_refused(rt, path, taken.number, taken.place, taken.field),
             made: 0,
             size: Octets(0),
         };
     }
     let edited = edit_lines(
+        rt,
         path,
         input,
         taken.count,

@@ -4,9 +4,9 @@ ghost use Rattle.octets.specs.declared.counts.Octets.{Octets as OctetCount};
 ghost use Rattle.io.specs.Counts.{IsPrefixLen};
 ghost use Rattle.merge.specs.declared.MergeAnswer.TheVariants.{Merged};
 
-use crate::files::{load_argument, save};
+use crate::files::{argument, load_argument, save};
 use crate::lines::{say_both_refused, say_merged, say_refused};
-use crate::memory::{file_buffer, room, tree_numbers, tree_octets};
+use crate::memory::{file_buffer, name_buffer, room, tree_numbers, tree_octets};
 use crate::status::{FAILED, GOOD};
 use merge::{MergeAnswer, Services};
 use octets::Octets;
@@ -52,6 +52,7 @@ fn merged_form(by: Services, basic: &[u8], advanced: &[u8], lent: &mut [u8]) -> 
 
 // A merged object to the file that an argument names.
 fn save_merged(
+    rt: &HostRuntime,
     i: usize,
     first: &[u8],
     basic: &[u8],
@@ -59,12 +60,13 @@ fn save_merged(
     advanced: &[u8],
     merged: &[u8],
 ) -> u8 {
-    let mut out = io::buffer();
-    let name = os::arg(i, &mut out);
-    if !save(&out[..name], merged) {
+    let mut out = name_buffer();
+    let name = argument(rt, i, &mut out);
+    if !save(rt, &out[..name], merged) {
         return FAILED;
     }
     say_merged(
+        rt,
         first,
         Octets(basic.len()),
         second,
@@ -76,23 +78,33 @@ fn save_merged(
 }
 
 // Two objects of files that are named. The line of a refusal names the file that is refused, or both.
-fn merge_both(by: Services, first: &[u8], basic: &[u8], second: &[u8], advanced: &[u8]) -> u8 {
+fn merge_both(
+    rt: &HostRuntime,
+    by: Services,
+    first: &[u8],
+    basic: &[u8],
+    second: &[u8],
+    advanced: &[u8],
+) -> u8 {
     let mut normal = room();
     let answer = merged_form(by, basic, advanced, &mut normal);
     match answer {
         MergeAnswer::BasicRefused(refusal) => say_refused(
+            rt,
             first,
             refusal.number,
             refusal.place,
             refusal.field,
         ),
         MergeAnswer::AdvancedRefused(refusal) => say_refused(
+            rt,
             second,
             refusal.number,
             refusal.place,
             refusal.field,
         ),
         MergeAnswer::NotMerged(refusal) => say_both_refused(
+            rt,
             first,
             second,
             refusal.number,
@@ -102,6 +114,7 @@ fn merge_both(by: Services, first: &[u8], basic: &[u8], second: &[u8], advanced:
         MergeAnswer::Merged { records: _, size } => {
             let end = size.0;
             save_merged(
+                rt,
                 basic_argument(by) + 2,
                 first,
                 basic,
@@ -114,14 +127,14 @@ fn merge_both(by: Services, first: &[u8], basic: &[u8], second: &[u8], advanced:
 }
 
 // A Basic object merged with that in the file that the next argument names.
-pub fn merge_with(by: Services, first: &[u8], basic: &[u8]) -> u8 {
-    let mut path = io::buffer();
+pub fn merge_with(rt: &HostRuntime, by: Services, first: &[u8], basic: &[u8]) -> u8 {
+    let mut path = name_buffer();
     let mut advanced = file_buffer();
-    let got = load_argument(basic_argument(by) + 1, &mut path, &mut advanced);
+    let got = load_argument(rt, basic_argument(by) + 1, &mut path, &mut advanced);
     if !got.whole {
         return FAILED;
     }
     let name = got.name.0;
     let size = got.size.0;
-    merge_both(by, first, basic, &path[..name], &advanced[..size])
+    merge_both(rt, by, first, basic, &path[..name], &advanced[..size])
 }

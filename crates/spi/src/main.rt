@@ -10,6 +10,7 @@
 mod asking;
 mod comparing;
 mod editing;
+mod failing;
 mod files;
 mod joining;
 mod lines;
@@ -21,14 +22,14 @@ mod words;
 
 use crate::comparing::compare;
 use crate::editing::edited_form;
-use crate::files::{load_argument, load_input, save};
+use crate::failing::complain;
+use crate::files::{argument, argument_count, load_argument, load_input, save};
 use crate::joining::{basic_argument, merge_with};
 use crate::lines::{edited_words, packed_words, say, say_number, say_refused, say_saved};
-use crate::memory::{file_buffer, input_buffer, room, text_room};
+use crate::memory::{file_buffer, input_buffer, name_buffer, room, text_room};
 use crate::objects::{check, list, normal_form, outline, packed_form, pass, xml_text};
 use crate::status::{FAILED, GOOD, worse};
 use crate::words::{is_word, shared};
-use libc::STDERR_FILENO;
 use merge::Services;
 use octets::Octets;
 use pocket::DataType;
@@ -48,88 +49,127 @@ enum Task {
     Merge(Services),
 }
 
-fn usage(text: &[u8]) -> u8 {
-    io::write_all(STDERR_FILENO, b"usage: spi ");
-    io::write_all(STDERR_FILENO, text);
-    io::write_all(STDERR_FILENO, b"\n");
+fn usage(rt: &HostRuntime, text: &[u8]) -> u8 {
+    complain(rt, b"usage: spi ");
+    complain(rt, text);
+    complain(rt, b"\n");
     FAILED
 }
 
-fn usage_of_all() -> u8 {
+fn usage_of_all(rt: &HostRuntime) -> u8 {
     usage(
+        rt,
         b"check | gate | list | show | normal | pack | xml | edit | compare | merge | replay | help",
     )
 }
 
-fn help_edit() {
+fn help_edit(rt: &HostRuntime) {
     say(
+        rt,
         b"spi edit FILE OUT       edits an object, by lines of standard input or by the words behind OUT, and writes its normal form to OUT:\n",
     );
     say(
+        rt,
         b"  text NUMBER TEXT                another text for a record, all that is left of the line\n",
     );
     say(
+        rt,
         b"  text-hex NUMBER HEX             the same by hexadecimal digits, for a text with a line end\n",
     );
-    say(b"  remove NUMBER                   a record goes, with all below it\n");
     say(
+        rt,
+        b"  remove NUMBER                   a record goes, with all below it\n",
+    );
+    say(
+        rt,
         b"  insert PARENT PLACE HEX         an element comes, by its octets, as the child element of that number from 0\n",
     );
-    say(b"  insert-file PARENT PLACE FILE   the same by a file of its octets\n");
     say(
+        rt,
+        b"  insert-file PARENT PLACE FILE   the same by a file of its octets\n",
+    );
+    say(
+        rt,
         b"  Records have numbers from 0 in the order of spi list. One edit that is refused, and OUT isn't written.\n",
     );
 }
 
-fn help_merge() {
+fn help_merge(rt: &HostRuntime) {
     say(
+        rt,
         b"spi merge [--services-by-bearers] BASIC ADVANCED OUT   merges two objects and writes the normal form of the result to OUT:\n",
     );
     say(
+        rt,
         b"  without the option              services are told apart by their tag alone: an ensemble has one then, and one that has more is refused\n",
     );
     say(
+        rt,
         b"  --services-by-bearers           services are told apart by the set of their bearers' ids, as a multiplex with several services needs\n",
     );
-    say(b"  Where a file is refused, or the two can't be merged, OUT isn't written.\n");
+    say(
+        rt,
+        b"  Where a file is refused, or the two can't be merged, OUT isn't written.\n",
+    );
 }
 
-fn help() -> u8 {
+fn help(rt: &HostRuntime) -> u8 {
     say(
+        rt,
         b"spi check FILE..        for each file: ok, its records, items, octets and those of its normal form, or why it is refused and where\n",
     );
     say(
+        rt,
         b"spi gate TYPE FILE..    for each file, as one of the data type SI, PI or GI: yes, or why the small receiver isn't sent it and where\n",
     );
-    say(b"spi list FILE           the records of an object\n");
+    say(rt, b"spi list FILE           the records of an object\n");
     say(
+        rt,
         b"spi show FILE           its items as a tree: place, name and value as in the XML (line feed as &#10;), or octets in hexadecimal\n",
     );
-    say(b"spi normal FILE OUT     writes an object's normal form to the file OUT\n");
     say(
+        rt,
+        b"spi normal FILE OUT     writes an object's normal form to the file OUT\n",
+    );
+    say(
+        rt,
         b"spi pack FILE OUT       writes its normal form with common words folded to the file OUT, where that is shorter; else the normal form\n",
     );
-    say(b"spi xml FILE OUT        writes an object's XML to the file OUT\n");
-    help_edit();
-    say(b"spi compare FILE FILE   whether two objects mean the same\n");
-    say(b"spi compare DIR DIR     the same of the objects in two folders, by file name\n");
-    help_merge();
     say(
+        rt,
+        b"spi xml FILE OUT        writes an object's XML to the file OUT\n",
+    );
+    help_edit(rt);
+    say(
+        rt,
+        b"spi compare FILE FILE   whether two objects mean the same\n",
+    );
+    say(
+        rt,
+        b"spi compare DIR DIR     the same of the objects in two folders, by file name\n",
+    );
+    help_merge(rt);
+    say(
+        rt,
         b"spi replay FILE         for each object of a recording: its number, ok and its records, or its refusal, place and of 9 the field\n",
     );
-    say(b"spi help                these lines\n");
-    say(b"status: 0 ok or same, 1 refused or different, 2 no such command or file\n");
+    say(rt, b"spi help                these lines\n");
+    say(
+        rt,
+        b"status: 0 ok or same, 1 refused or different, 2 no such command or file\n",
+    );
     GOOD
 }
 
 // What was made of an object to the file that the third argument names.
-fn save_made(path: &[u8], object: &[u8], words: &[u8], made: &[u8]) -> u8 {
-    let mut out = io::buffer();
-    let name = os::arg(3, &mut out);
-    if !save(&out[..name], made) {
+fn save_made(rt: &HostRuntime, path: &[u8], object: &[u8], words: &[u8], made: &[u8]) -> u8 {
+    let mut out = name_buffer();
+    let name = argument(rt, 3, &mut out);
+    if !save(rt, &out[..name], made) {
         return FAILED;
     }
     say_saved(
+        rt,
         path,
         Octets(object.len()),
         words,
@@ -139,111 +179,111 @@ fn save_made(path: &[u8], object: &[u8], words: &[u8], made: &[u8]) -> u8 {
     GOOD
 }
 
-fn save_normal(path: &[u8], object: &[u8]) -> u8 {
+fn save_normal(rt: &HostRuntime, path: &[u8], object: &[u8]) -> u8 {
     let mut normal = room();
     let made = normal_form(object, &mut normal);
     if made.number > 0 {
-        return say_refused(path, made.number, made.place, made.field);
+        return say_refused(rt, path, made.number, made.place, made.field);
     }
     let size = made.size.0;
-    save_made(path, object, b"normal form", &normal[..size])
+    save_made(rt, path, object, b"normal form", &normal[..size])
 }
 
 // The normal form has the limit of an object, and a room as long suffices, so the packer refuses nothing here.
-fn save_packed(path: &[u8], object: &[u8]) -> u8 {
+fn save_packed(rt: &HostRuntime, path: &[u8], object: &[u8]) -> u8 {
     let mut normal = room();
     let made = normal_form(object, &mut normal);
     if made.number > 0 {
-        return say_refused(path, made.number, made.place, made.field);
+        return say_refused(rt, path, made.number, made.place, made.field);
     }
     let size = made.size.0;
     let mut packed = room();
     let folded = packed_form(&normal[..size], &mut packed);
     if folded.number > 0 {
-        return say_refused(path, folded.number, folded.place, folded.field);
+        return say_refused(rt, path, folded.number, folded.place, folded.field);
     }
     let shorter = folded.size.0;
-    let mut words = io::buffer();
+    let mut words = name_buffer();
     let end = packed_words(made.size, &mut words);
-    save_made(path, object, &words[..end], &packed[..shorter])
+    save_made(rt, path, object, &words[..end], &packed[..shorter])
 }
 
-fn save_xml(path: &[u8], object: &[u8]) -> u8 {
+fn save_xml(rt: &HostRuntime, path: &[u8], object: &[u8]) -> u8 {
     let mut text = text_room();
     let made = xml_text(object, &mut text);
     if made.number > 0 {
-        return say_refused(path, made.number, made.place, made.field);
+        return say_refused(rt, path, made.number, made.place, made.field);
     }
     let size = made.size.0;
-    save_made(path, object, b"XML", &text[..size])
+    save_made(rt, path, object, b"XML", &text[..size])
 }
 
 // An object edited as standard input says.
-fn save_edited(path: &[u8], object: &[u8]) -> u8 {
+fn save_edited(rt: &HostRuntime, path: &[u8], object: &[u8]) -> u8 {
     let mut input = input_buffer();
-    let got = load_input(&mut input);
+    let got = load_input(rt, &mut input);
     if !got.whole {
         return FAILED;
     }
     let lines = got.size.0;
     let mut normal = room();
-    let done = edited_form(path, object, &input[..lines], &mut normal);
+    let done = edited_form(rt, path, object, &input[..lines], &mut normal);
     if done.status > GOOD {
         return done.status;
     }
     let size = done.size.0;
-    let mut words = io::buffer();
+    let mut words = name_buffer();
     let end = edited_words(done.made, &mut words);
-    save_made(path, object, &words[..end], &normal[..size])
+    save_made(rt, path, object, &words[..end], &normal[..size])
 }
 
 // An object compared with that in the file that the third argument names.
-fn compare_with(first: &[u8], a: &[u8]) -> u8 {
-    let mut path = io::buffer();
+fn compare_with(rt: &HostRuntime, first: &[u8], a: &[u8]) -> u8 {
+    let mut path = name_buffer();
     let mut object = file_buffer();
-    let got = load_argument(3, &mut path, &mut object);
+    let got = load_argument(rt, 3, &mut path, &mut object);
     if !got.whole {
         return FAILED;
     }
     let name = got.name.0;
     let size = got.size.0;
-    compare(first, a, &path[..name], &object[..size])
+    compare(rt, first, a, &path[..name], &object[..size])
 }
 
-fn treat(task: Task, path: &[u8], object: &[u8]) -> u8 {
+fn treat(rt: &HostRuntime, task: Task, path: &[u8], object: &[u8]) -> u8 {
     match task {
-        Task::Check => check(path, object),
-        Task::Gate(subject) => pass(path, object, subject),
-        Task::List => list(path, object),
-        Task::Show => outline(path, object),
-        Task::Normal => save_normal(path, object),
-        Task::Pack => save_packed(path, object),
-        Task::Xml => save_xml(path, object),
-        Task::Edit => save_edited(path, object),
-        Task::Compare => compare_with(path, object),
-        Task::Merge(by) => merge_with(by, path, object),
+        Task::Check => check(rt, path, object),
+        Task::Gate(subject) => pass(rt, path, object, subject),
+        Task::List => list(rt, path, object),
+        Task::Show => outline(rt, path, object),
+        Task::Normal => save_normal(rt, path, object),
+        Task::Pack => save_packed(rt, path, object),
+        Task::Xml => save_xml(rt, path, object),
+        Task::Edit => save_edited(rt, path, object),
+        Task::Compare => compare_with(rt, path, object),
+        Task::Merge(by) => merge_with(rt, by, path, object),
     }
 }
 
 // A task on the file that an argument names.
-fn treat_argument(task: Task, i: usize) -> u8 {
-    let mut path = io::buffer();
+fn treat_argument(rt: &HostRuntime, task: Task, i: usize) -> u8 {
+    let mut path = name_buffer();
     let mut object = file_buffer();
-    let got = load_argument(i, &mut path, &mut object);
+    let got = load_argument(rt, i, &mut path, &mut object);
     if !got.whole {
         return FAILED;
     }
     let name = got.name.0;
     let size = got.size.0;
-    treat(task, &path[..name], &object[..size])
+    treat(rt, task, &path[..name], &object[..size])
 }
 
 // A task on each file from an argument on.
-fn treat_all(task: Task, from: usize, count: usize) -> u8 {
+fn treat_all(rt: &HostRuntime, task: Task, from: usize, count: usize) -> u8 {
     let mut status = GOOD;
     let mut i = from;
     while i < count {
-        status = worse(status, treat_argument(task, i));
+        status = worse(status, treat_argument(rt, task, i));
         i = i + 1;
     }
     status
@@ -263,27 +303,27 @@ fn data_type(word: &[u8]) -> DataType {
     DataType::Untabled
 }
 
-fn usage_of_gate() -> u8 {
-    usage(b"gate SI|PI|GI FILE..")
+fn usage_of_gate(rt: &HostRuntime) -> u8 {
+    usage(rt, b"gate SI|PI|GI FILE..")
 }
 
-fn gate_all(count: usize) -> u8 {
+fn gate_all(rt: &HostRuntime, count: usize) -> u8 {
     if count < 4 {
-        return usage_of_gate();
+        return usage_of_gate(rt);
     }
-    let mut word = io::buffer();
-    let n = os::arg(2, &mut word);
+    let mut word = name_buffer();
+    let n = argument(rt, 2, &mut word);
     let subject = data_type(&word[..n]);
     match subject {
-        DataType::Untabled => usage_of_gate(),
-        _ => treat_all(Task::Gate(subject), 3, count),
+        DataType::Untabled => usage_of_gate(rt),
+        _ => treat_all(rt, Task::Gate(subject), 3, count),
     }
 }
 
 // By what services are told apart, as the word before the files says.
-fn services_asked() -> Services {
-    let mut word = io::buffer();
-    let n = os::arg(2, &mut word);
+fn services_asked(rt: &HostRuntime) -> Services {
+    let mut word = name_buffer();
+    let n = argument(rt, 2, &mut word);
     if is_word(&word[..n], b"--services-by-bearers") {
         return Services::ByBearers;
     }
@@ -291,92 +331,97 @@ fn services_asked() -> Services {
 }
 
 // A word with two dashes is an option, so that one that isn't known, or stands behind the files, doesn't pass as the name of a file.
-fn is_option(i: usize) -> bool {
-    let mut word = io::buffer();
-    let n = os::arg(i, &mut word);
+fn is_option(rt: &HostRuntime, i: usize) -> bool {
+    let mut word = name_buffer();
+    let n = argument(rt, i, &mut word);
     shared(&word[..n], b"--") == 2
 }
 
-fn merge_files(count: usize) -> u8 {
-    let by = services_asked();
+fn merge_files(rt: &HostRuntime, count: usize) -> u8 {
+    let by = services_asked(rt);
     let first = basic_argument(by);
-    let strange = is_option(first) | is_option(first + 1) | is_option(first + 2);
+    let strange = is_option(rt, first) | is_option(rt, first + 1) | is_option(rt, first + 2);
     if strange | (count != first + 3) {
-        return usage(b"merge [--services-by-bearers] BASIC ADVANCED OUT");
+        return usage(rt, b"merge [--services-by-bearers] BASIC ADVANCED OUT");
     }
-    treat_argument(Task::Merge(by), first)
+    treat_argument(rt, Task::Merge(by), first)
 }
 
-fn no_such_command(command: &[u8]) -> u8 {
-    io::write_all(STDERR_FILENO, b"spi: no such command: ");
-    io::write_all(STDERR_FILENO, command);
-    io::write_all(STDERR_FILENO, b"\n");
-    usage_of_all()
+fn no_such_command(rt: &HostRuntime, command: &[u8]) -> u8 {
+    complain(rt, b"spi: no such command: ");
+    complain(rt, command);
+    complain(rt, b"\n");
+    usage_of_all(rt)
 }
 
 // A task on a command's first file, where the command has all its words.
-fn treat_first(task: Task, whole: bool, words: &[u8]) -> u8 {
+fn treat_first(rt: &HostRuntime, task: Task, whole: bool, words: &[u8]) -> u8 {
     if !whole {
-        return usage(words);
+        return usage(rt, words);
     }
-    treat_argument(task, 2)
+    treat_argument(rt, task, 2)
 }
 
 // `count` counts the program's name and the command too.
-fn obey(command: &[u8], count: usize) -> u8 {
+fn obey(rt: &HostRuntime, command: &[u8], count: usize) -> u8 {
     if is_word(command, b"check") {
         return if count > 2 {
-            treat_all(Task::Check, 2, count)
+            treat_all(rt, Task::Check, 2, count)
         } else {
-            usage(b"check FILE..")
+            usage(rt, b"check FILE..")
         };
     }
     if is_word(command, b"gate") {
-        return gate_all(count);
+        return gate_all(rt, count);
     }
     if is_word(command, b"list") {
-        return treat_first(Task::List, count == 3, b"list FILE");
+        return treat_first(rt, Task::List, count == 3, b"list FILE");
     }
     if is_word(command, b"show") {
-        return treat_first(Task::Show, count == 3, b"show FILE");
+        return treat_first(rt, Task::Show, count == 3, b"show FILE");
     }
     if is_word(command, b"normal") {
-        return treat_first(Task::Normal, count == 4, b"normal FILE OUT");
+        return treat_first(rt, Task::Normal, count == 4, b"normal FILE OUT");
     }
     if is_word(command, b"pack") {
-        return treat_first(Task::Pack, count == 4, b"pack FILE OUT");
+        return treat_first(rt, Task::Pack, count == 4, b"pack FILE OUT");
     }
     if is_word(command, b"xml") {
-        return treat_first(Task::Xml, count == 4, b"xml FILE OUT");
+        return treat_first(rt, Task::Xml, count == 4, b"xml FILE OUT");
     }
     if is_word(command, b"edit") {
-        return treat_first(Task::Edit, count == 4, b"edit FILE OUT [EDIT]");
+        return treat_first(rt, Task::Edit, count == 4, b"edit FILE OUT [EDIT]");
     }
     if is_word(command, b"compare") {
-        return treat_first(Task::Compare, count == 4, b"compare FILE FILE, or DIR DIR");
+        return treat_first(
+            rt,
+            Task::Compare,
+            count == 4,
+            b"compare FILE FILE, or DIR DIR",
+        );
     }
     if is_word(command, b"merge") {
-        return merge_files(count);
+        return merge_files(rt, count);
     }
     if is_word(command, b"help") {
-        return help();
+        return help(rt);
     }
-    no_such_command(command)
+    no_such_command(rt, command)
 }
 
-fn run() -> u8 {
-    let count = os::arg_count();
+fn run(rt: &HostRuntime) -> u8 {
+    let count = argument_count(rt);
     if count < 2 {
-        return usage_of_all();
+        return usage_of_all(rt);
     }
-    let mut command = io::buffer();
-    let n = os::arg(1, &mut command);
-    obey(&command[..n], count)
+    let mut command = name_buffer();
+    let n = argument(rt, 1, &mut command);
+    obey(rt, &command[..n], count)
 }
 
-fn main() {
-    let status = run();
-    say(b"spi status ");
-    say_number(status as usize);
-    say(b"\n");
+fn main(rt: HostRuntime) {
+    let status = run(&rt);
+    say(&rt, b"spi status ");
+    say_number(&rt, status as usize);
+    say(&rt, b"\n");
 }

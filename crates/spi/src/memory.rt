@@ -18,6 +18,15 @@ const TREE_PLACES: usize = 65_536;
 // The lines of edits.
 const INPUT: usize = 1_048_576;
 
+// As many octets as a path may have.
+const NAME: usize = 4_096;
+
+pub fn name_buffer() -> [u8; NAME]
+    ensures { 4_096 ≡ length result }
+{
+    [0; NAME]
+}
+
 pub fn file_buffer() -> [u8; FILE]
     ensures { 32_769 ≡ length result }
 {

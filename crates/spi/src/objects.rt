@@ -29,13 +29,14 @@ fn sizes_of(object: &[u8]) -> Measured {
     }
 }
 
-pub fn check(path: &[u8], object: &[u8]) -> u8 {
+pub fn check(rt: &HostRuntime, path: &[u8], object: &[u8]) -> u8 {
     let judged = judge::judge(object).outcome();
     if judged.number > 0 {
-        return say_refused(path, judged.number, judged.place, judged.field);
+        return say_refused(rt, path, judged.number, judged.place, judged.field);
     }
     let sizes = sizes_of(object);
     say_accepted(
+        rt,
         path,
         judged.count,
         judged.items,
@@ -46,16 +47,17 @@ pub fn check(path: &[u8], object: &[u8]) -> u8 {
 }
 
 // Whether an object may be sent to the small receiver.
-pub fn pass(path: &[u8], object: &[u8], subject: DataType) -> u8 {
+pub fn pass(rt: &HostRuntime, path: &[u8], object: &[u8], subject: DataType) -> u8 {
     let gated = pocket::gate(object, subject).outcome();
     if gated.number > 0 {
-        return say_refused(path, gated.number, gated.place, gated.field);
+        return say_refused(rt, path, gated.number, gated.place, gated.field);
     }
-    say_passed(path);
+    say_passed(rt, path);
     GOOD
 }
 
 fn say_listing(
+    rt: &HostRuntime,
     tags: &[u8],
     kinds: &[u8],
     depths: &[u8],
@@ -64,16 +66,19 @@ fn say_listing(
     sizes: &[u16],
     n: usize,
 ) {
-    say_header();
+    say_header(rt);
     let mut i: usize = 0;
     while i < n {
-        say_record(record_at(tags, kinds, depths, parents, starts, sizes, i));
+        say_record(
+            rt,
+            record_at(tags, kinds, depths, parents, starts, sizes, i),
+        );
         i = i + 1;
     }
-    say_records(n);
+    say_records(rt, n);
 }
 
-pub fn list(path: &[u8], object: &[u8]) -> u8 {
+pub fn list(rt: &HostRuntime, path: &[u8], object: &[u8]) -> u8 {
     let mut tags = octet_places();
     let mut kinds = octet_places();
     let mut depths = octet_places();
@@ -91,20 +96,20 @@ pub fn list(path: &[u8], object: &[u8]) -> u8 {
     );
     let read = answer.outcome();
     if read.number > 0 {
-        return say_refused(path, read.number, read.place, read.field);
+        return say_refused(rt, path, read.number, read.place, read.field);
     }
     say_listing(
-        &tags, &kinds, &depths, &parents, &starts, &sizes, read.count,
+        rt, &tags, &kinds, &depths, &parents, &starts, &sizes, read.count,
     );
     GOOD
 }
 
-pub fn outline(path: &[u8], object: &[u8]) -> u8 {
+pub fn outline(rt: &HostRuntime, path: &[u8], object: &[u8]) -> u8 {
     let judged = judge::judge(object).outcome();
     if judged.number > 0 {
-        return say_refused(path, judged.number, judged.place, judged.field);
+        return say_refused(rt, path, judged.number, judged.place, judged.field);
     }
-    show_tree(object);
+    show_tree(rt, object);
     GOOD
 }
 

@@ -60,22 +60,22 @@ fn margin_of(left: usize) -> usize {
     if left < 16 { 6 + 2 * (16 - left) } else { 6 }
 }
 
-fn say_name(parent: u8, tag: u8, left: usize, place: usize) {
+fn say_name(rt: &HostRuntime, parent: u8, tag: u8, left: usize, place: usize) {
     let mut line = [b' '; LINE];
     show::put_decimal(&mut line, column_of(place), place);
     let end = end_of(
         xml::put_item_name(&mut line, margin_of(left), parent, tag),
         &line,
     );
-    say(&line[..end]);
+    say(rt, &line[..end]);
 }
 
 // What stands between a name and a value: behind that of an attribute what XML has there, behind that of an element a blank. CDATA has no name.
-fn say_mark(tag: u8) {
+fn say_mark(rt: &HostRuntime, tag: u8) {
     match format::kind_of(tag) {
-        0 => say(b" "),
-        1 => say(b"="),
-        _ => say(b""),
+        0 => say(rt, b" "),
+        1 => say(rt, b"="),
+        _ => say(rt, b""),
     }
 }
 
@@ -87,10 +87,10 @@ fn is_control(b: u8) -> bool {
 }
 
 // XML's reference to a character that could break the line.
-fn say_reference(b: u8) {
-    say(b"&#");
-    say_number(b as usize);
-    say(b";");
+fn say_reference(rt: &HostRuntime, b: u8) {
+    say(rt, b"&#");
+    say_number(rt, b as usize);
+    say(rt, b";");
 }
 
 // How far characters go that are printed, from a place on.
@@ -108,26 +108,26 @@ fn printed_end(text: &[u8], at: usize) -> usize
     end
 }
 
-fn say_printed(text: &[u8]) {
+fn say_printed(rt: &HostRuntime, text: &[u8]) {
     let mut at: usize = 0;
     while at < text.len() {
         let end = printed_end(text, at);
-        say(&text[at..end]);
+        say(rt, &text[at..end]);
         if end == text.len() {
             return;
         }
-        say_reference(text[end]);
+        say_reference(rt, text[end]);
         at = end + 1;
     }
 }
 
-fn say_piece(parent: u8, tag: u8, piece: &[u8], table: &[u8]) {
+fn say_piece(rt: &HostRuntime, parent: u8, tag: u8, piece: &[u8], table: &[u8]) {
     let mut text = room();
     let end = end_of(
         xml::put_item_value(&mut text, 0, parent, tag, piece, table),
         &text,
     );
-    say_printed(&text[..end]);
+    say_printed(rt, &text[..end]);
 }
 
 fn piece_end(at: usize, end: usize) -> usize
@@ -137,42 +137,50 @@ fn piece_end(at: usize, end: usize) -> usize
     if end - at > PIECE { at + PIECE } else { end }
 }
 
-fn say_pieces(parent: u8, tag: u8, body: &[u8], table: &[u8]) {
+fn say_pieces(rt: &HostRuntime, parent: u8, tag: u8, body: &[u8], table: &[u8]) {
     let mut at: usize = 0;
     while at < body.len() {
         let to = piece_end(at, body.len());
-        say_piece(parent, tag, &body[at..to], table);
+        say_piece(rt, parent, tag, &body[at..to], table);
         at = to;
     }
 }
 
-fn say_value(parent: u8, tag: u8, body: &[u8], table: &[u8], quote: &[u8]) {
-    say_mark(tag);
-    say(quote);
-    say_pieces(parent, tag, body, table);
-    say(quote);
-    say(b"\n");
+fn say_value(rt: &HostRuntime, parent: u8, tag: u8, body: &[u8], table: &[u8], quote: &[u8]) {
+    say_mark(rt, tag);
+    say(rt, quote);
+    say_pieces(rt, parent, tag, body, table);
+    say(rt, quote);
+    say(rt, b"\n");
 }
 
 // ---- items
 
 // The line of an item, if it has one, and whether the items in it have lines too. So many levels of elements may still open.
-fn say_item(parent: u8, tag: u8, left: usize, body: &[u8], table: &[u8], place: usize) -> bool {
+fn say_item(
+    rt: &HostRuntime,
+    parent: u8,
+    tag: u8,
+    left: usize,
+    body: &[u8],
+    table: &[u8],
+    place: usize,
+) -> bool {
     match form_of(parent, tag) {
         Form::Nothing => false,
         Form::Name => {
-            say_name(parent, tag, left, place);
-            say(b"\n");
+            say_name(rt, parent, tag, left, place);
+            say(rt, b"\n");
             true
         }
         Form::Octets => {
-            say_name(parent, tag, left, place);
-            say_value(parent, tag, body, table, b"");
+            say_name(rt, parent, tag, left, place);
+            say_value(rt, parent, tag, body, table, b"");
             false
         }
         Form::Value => {
-            say_name(parent, tag, left, place);
-            say_value(parent, tag, body, table, b"\"");
+            say_name(rt, parent, tag, left, place);
+            say_value(rt, parent, tag, body, table, b"\"");
             false
         }
     }
@@ -180,19 +188,28 @@ fn say_item(parent: u8, tag: u8, left: usize, body: &[u8], table: &[u8], place: 
 
 // One item in an element of a tag: its tag lies at a place of the object and its body from an offset on. No element opens below depth 16 in an accepted object.
 #[cycle(show_item_show_items)]
-fn show_item(parent: u8, tag: u8, left: usize, body: &[u8], table: &[u8], place: usize, from: usize)
+fn show_item(
+    rt: &HostRuntime,
+    parent: u8,
+    tag: u8,
+    left: usize,
+    body: &[u8],
+    table: &[u8],
+    place: usize,
+    from: usize,
+)
     requires { from + length body.now < 2 ^ 63 }
 {
-    if say_item(parent, tag, left, body, table, place) {
+    if say_item(rt, parent, tag, left, body, table, place) {
         if left > 0 {
-            show_items(tag, left - 1, body, table, from);
+            show_items(rt, tag, left - 1, body, table, from);
         }
     }
 }
 
 // The items in a part, which is the body of an element of a tag.
 #[cycle(show_item_show_items)]
-fn show_items(parent: u8, left: usize, part: &[u8], table: &[u8], offset: usize)
+fn show_items(rt: &HostRuntime, parent: u8, left: usize, part: &[u8], table: &[u8], offset: usize)
     requires { offset + length part.now < 2 ^ 63 }
 {
     let mut at: usize = 0;
@@ -201,6 +218,7 @@ fn show_items(parent: u8, left: usize, part: &[u8], table: &[u8], offset: usize)
             return;
         };
         show_item(
+            rt,
             parent,
             part[at],
             left,
@@ -214,7 +232,7 @@ fn show_items(parent: u8, left: usize, part: &[u8], table: &[u8], offset: usize)
 }
 
 // The object itself counts as an element with the tag 0, whose one item is the top at depth 1.
-pub fn show_tree(object: &[u8]) {
+pub fn show_tree(rt: &HostRuntime, object: &[u8]) {
     let table = table_of(object);
-    show_items(0, 16, object, table, 0);
+    show_items(rt, 0, 16, object, table, 0);
 }
