@@ -1,6 +1,6 @@
 -- An accepted object without a token table, its words folded: it is accepted too, and means the same. Said by the grammar, constructor by constructor.
 use mathlib.Core.Path.{◌≡◌, refl, sym, ap, ap₂, ◌∙◌, subst, fun_ext}
-use mathlib.Core.Bool.{Bool, true, false, cond, not, false≢true}
+use mathlib.Core.Bool.{Bool, true, false, cond, false≢true}
 use mathlib.Core.Option.{none, some, some-ne-none}
 use mathlib.Core.List.{List, [], ◌∷◌, ◌++◌, append_assoc, append-nil}
 use Prim.Native.Nat.{ℕ, suc, ◌+◌, ◌^◌, ◌≤◌, ◌<◌}
@@ -11,8 +11,7 @@ use borrow.Author.Tests.{leb-true, eqb-true}
 use Rattle.octets.specs.Numbers.{digits}
 use Rattle.octets.specs.Header.{length_field, framed}
 use Rattle.octets.proofs.Frames.{headed, framed-longer}
-use Rattle.text.specs.Text.{text}
-use Rattle.text.specs.Tokens.{Entries, entries, covered, shown_length}
+use Rattle.text.specs.Tokens.{Entries, covered, shown_length}
 use Rattle.text.proofs.Words.{expanded-empty}
 use Rattle.text.proofs.Expansion.{text-plain}
 use Rattle.values.specs.declared.Kind.{Kind}
@@ -25,7 +24,7 @@ use Rattle.format.specs.Tree.{Items, find}
 use Rattle.format.specs.Tree.Items.{end, item}
 use Rattle.format.specs.Judge.{is_items, is_text, is_top, limit, not_above}
 use Rattle.format.specs.Meaning.{opens, counted, attributes_in, cdata_in, value_in, leaf_octets, means}
-use Rattle.format.specs.Meaning.Meaning.{leaf, element}
+use Rattle.format.specs.Meaning.Meaning.{leaf}
 use Rattle.format.proofs.Force.{attribute-four, attribute-one, swap-eqb}
 use Rattle.format.proofs.Means.{items-opens, opens-items, opens-leaf, value-no-items, means-attribute, means-cdata, means-table, means-element, means-leaf, leaf-text, leaf-plain}
 use Rattle.grammar.specs.Grammar.{Begins, TextIn, ValueIn, Part, Child, Inside}

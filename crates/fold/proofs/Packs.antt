@@ -21,7 +21,7 @@ use Rattle.format.specs.Judge.Judged.{refused, accepted}
 use Rattle.format.specs.Meaning.{means, table_in, table_of, meaning_of, if_accepted, encode, normal_of, normal}
 use Rattle.format.specs.Same.{same_octets, has_normal, is_normal}
 use Rattle.grammar.specs.Grammar.{Inside, Accepts}
-use Rattle.grammar.specs.Grammar.Part.{attributes, table}
+use Rattle.grammar.specs.Grammar.Part.{attributes}
 use Rattle.grammar.proofs.Tags.{top-items}
 use Rattle.grammar.proofs.Sound.{sound}
 use Rattle.grammar.proofs.Complete.{complete}

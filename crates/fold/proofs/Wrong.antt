@@ -13,7 +13,6 @@ use Rattle.format.specs.declared.WriteAnswer.{WriteAnswer}
 use Rattle.format.specs.declared.WriteAnswer.TheVariants.{Octets, NotWritten}
 use Rattle.format.specs.Answers.{refusal, write_outcome}
 use Rattle.format.specs.Calls.{roomy}
-use Rattle.fold.specs.declared.CheckAnswer.{CheckAnswer}
 use Rattle.fold.specs.declared.CheckAnswer.TheVariants.{Passes, Fails}
 use Rattle.fold.specs.Packed.{packed}
 use Rattle.fold.specs.Calls.{passes, check_answer, check_outcome, pack_answer, pack_octets, PackClaim}

@@ -1,16 +1,15 @@
 -- Nothing of Basic is lost, and its order stays.
-use mathlib.Core.Path.{◌≡◌, refl}
+use mathlib.Core.Path.{refl}
 use mathlib.Core.Bool.{Bool, true, false, cond}
 use mathlib.Core.Option.{Option, none, some}
 use mathlib.Core.List.{List}
 use Prim.Native.Nat.{ℕ}
-use lib.Dec.{eqb}
 use Rattle.values.specs.Values.{Value}
 use Rattle.format.specs.Meaning.{Meaning}
 use Rattle.format.specs.Meaning.Meaning.{nothing, element, leaf}
 use Rattle.merge.specs.declared.Services.{Services}
 use Rattle.merge.specs.Keys.{partners}
-use Rattle.merge.specs.Merged.{either, united, then, languages, has_language, new_language, added, paired, merged}
+use Rattle.merge.specs.Merged.{either, united, then, new_language, added, paired, merged}
 use Rattle.merge.specs.Kept.{Stays, InOrder}
 use Rattle.merge.specs.Kept.InOrder.{none_left, here, leaf-here, passed, leaf-passed}
 

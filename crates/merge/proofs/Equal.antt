@@ -1,19 +1,19 @@
 -- 'A child of equal meaning': what the test among elements says.
-use mathlib.Core.Path.{◌≡◌, refl, sym, ap, ◌∙◌}
+use mathlib.Core.Path.{◌≡◌, refl}
 use mathlib.Core.Logic.{◌⊎◌, inl, inr, ◌↔◌}
-use mathlib.Core.Bool.{Bool, true, false, ◌&&◌, ◌||◌, false≢true}
+use mathlib.Core.Bool.{Bool, true, ◌&&◌, ◌||◌, false≢true}
 use mathlib.Core.Option.{Option, none, some}
 use mathlib.Core.List.{List}
 use Prim.Native.Nat.{ℕ, zero, suc}
 use lib.Dec.{eqb}
 use borrow.Author.Tests.{eqb-true, eq-eqb}
-use Rattle.values.specs.Values.{Value, octets_of}
+use Rattle.values.specs.Values.{Value}
 use Rattle.format.specs.Judge.{stage_after}
 use Rattle.format.specs.Meaning.{Meaning}
 use Rattle.format.specs.Meaning.Meaning.{nothing, element, leaf}
-use Rattle.format.specs.Same.{same_octets, same_value, same_maybe, same_attributes, same_meaning}
+use Rattle.format.specs.Same.{same_octets, same_maybe, same_attributes, same_meaning}
 use Rattle.format.specs.WellFormed.{WellFormed}
-use Rattle.octets.proofs.Tests.{and_left, and_right, and-true, or_elim, or_left}
+use Rattle.octets.proofs.Tests.{and_left, or_elim, or_left}
 use Rattle.format.proofs.Same.{octets-same, meaning-exactly}
 use Rattle.merge.specs.Keys.{has_equal}
 use Rattle.merge.specs.Merged.{then}

@@ -1,17 +1,16 @@
 -- The merged meaning of two well-formed meanings is well-formed.
 use mathlib.Core.Path.{◌≡◌, refl, sym, ap, ◌∙◌, subst}
-use mathlib.Core.Bool.{Bool, true, false, cond, not, ◌&&◌, ◌||◌, false≢true}
-use mathlib.Core.Option.{Option, none, some, some-injective}
+use mathlib.Core.Bool.{Bool, true, false, cond, ◌&&◌, ◌||◌, false≢true}
+use mathlib.Core.Option.{Option, none, some}
 use mathlib.Core.List.{List}
-use Prim.Native.Nat.{ℕ, zero, suc, ◌≤◌}
+use Prim.Native.Nat.{ℕ, suc, ◌≤◌}
 use native.Mathlib.Omega.{arith}
-use lib.Dec.{eqb, leb}
+use lib.Dec.{eqb}
 use borrow.Author.Tests.{leb-true, le-leb, eqb-true, ne_eqb}
-use Rattle.values.specs.declared.Kind.{Kind}
-use Rattle.values.specs.declared.Kind.TheVariants.{HoldsItems, HoldsText, HoldsPlain}
+use Rattle.values.specs.declared.Kind.TheVariants.{HoldsItems}
 use Rattle.values.specs.Table.{known, attribute}
 use Rattle.values.specs.Values.{Value}
-use Rattle.format.specs.Judge.{is_items, is_top, allowed, latest, stage_after}
+use Rattle.format.specs.Judge.{is_items, is_top, latest, stage_after}
 use Rattle.format.specs.Meaning.{Meaning}
 use Rattle.format.specs.Meaning.Meaning.{nothing, element, leaf}
 use Rattle.format.specs.WellFormed.{AttributeOk, CdataOk, PlaceOk, LeafOk, WellFormed, ObjectOk}

@@ -3,7 +3,7 @@ use mathlib.Core.Path.{◌≡◌, refl, sym, ◌∙◌, subst}
 use mathlib.Core.Bool.{Bool, true, false, cond, ◌||◌}
 use mathlib.Core.Option.{Option, none, some, some-injective, none-ne-some}
 use mathlib.Core.List.{List, ◌++◌}
-use Prim.Native.Nat.{ℕ, zero, suc, ◌+◌, ◌^◌, ◌<◌, ◌≤◌}
+use Prim.Native.Nat.{ℕ, zero, suc, ◌+◌, ◌^◌, ◌<◌}
 use native.Mathlib.Omega.{arith}
 use lib.Dec.{eqb}
 use lib.ListN.{length, length-append}
@@ -15,10 +15,9 @@ use Rattle.octets.proofs.Numbers.{octets-none, octets-append}
 use Rattle.text.specs.Tokens.{Entries, expanded}
 use Rattle.text.proofs.Expansion.{Sound}
 use Rattle.values.specs.declared.Kind.{Kind}
-use Rattle.values.specs.declared.Kind.TheVariants.{HoldsText, HoldsPlain}
+use Rattle.values.specs.declared.Kind.TheVariants.{HoldsText}
 use Rattle.values.specs.Table.{known, attribute}
 use Rattle.values.specs.Values.{Value, meant, octets_of}
-use Rattle.values.specs.Proper.{Proper}
 use Rattle.values.proofs.Known.{known-anywhere}
 use Rattle.format.specs.Tree.{Items, find}
 use Rattle.format.specs.Tree.Items.{end, item}

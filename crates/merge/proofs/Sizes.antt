@@ -1,7 +1,6 @@
 -- What a meaning takes of memory is what the tree of its normal form takes; and what elements and others behind them take is the sum.
-use mathlib.Core.Path.{◌≡◌, refl, sym, ap, ◌∙◌, subst}
+use mathlib.Core.Path.{◌≡◌, refl, ap, ◌∙◌}
 use mathlib.Core.Option.{Option, none, some}
-use mathlib.Core.List.{List, []}
 use Prim.Native.Nat.{ℕ, zero, suc, ◌+◌, ◌≤◌}
 use native.Mathlib.Omega.{arith}
 use lib.ListN.{length}
@@ -10,13 +9,13 @@ use Rattle.values.specs.Values.{Value, octets_of}
 use Rattle.format.specs.Tree.{Items, count}
 use Rattle.format.specs.Judge.{judge}
 use Rattle.format.specs.Judge.Judged.{accepted}
-use Rattle.format.specs.Meaning.{Meaning, table_of, meaning_of, means, encode, normal_of}
+use Rattle.format.specs.Meaning.{Meaning, meaning_of, means, encode, normal_of}
 use Rattle.format.specs.Meaning.Meaning.{nothing, element, leaf}
 use Rattle.format.specs.Loaded.{store_of}
 use Rattle.format.specs.WellFormed.{ObjectOk}
 use Rattle.format.proofs.Sums.{sum}
-use Rattle.format.proofs.Takes.{Measure, if_any, of_set, of_meaning, in_records, in_store, records-means, store-means}
-use Rattle.format.proofs.Round.{Reread, reread}
+use Rattle.format.proofs.Takes.{if_any, of_set, of_meaning, in_records, in_store, records-means, store-means}
+use Rattle.format.proofs.Round.{reread}
 use Rattle.merge.specs.Merged.{then}
 use Rattle.merge.specs.Sizes.{taken, taken_by, records_in, stored_in}
 

@@ -1,7 +1,7 @@
 -- What a meaning takes of memory once it is taken in (change request 2026-06): how many records, and how many octets of the store. That its tree takes as much
 -- is proved (proofs/Sizes).
 use Rattle.std.proofs.Math.Option.{Option, none, some}
-use Rattle.std.specs.Prelude.{List, ℕ, zero, suc, ◌+◌, length}
+use Rattle.std.specs.Prelude.{ℕ, zero, suc, ◌+◌, length}
 use Rattle.values.specs.Values.{Value, octets_of}
 use Rattle.format.specs.Meaning.{Meaning}
 use Rattle.format.specs.Meaning.Meaning.{nothing, element, leaf}
