@@ -20,7 +20,8 @@ returns-in-2 c = record { result_value = sym (ap length (kind-cdata _ c.in-2.is)
 pub returns-in_default : goal.returns-in_default
 unfolding ascii
 returns-in_default c =
-    record
-        {result_value = sym
-            (ap length (kind-other _ c.in_default.in_default-own.rest.0.0.1 c.in_default.in_default-own.rest.0.1 c.in_default.in_default-own.rest.1));
-            result_bound = search rules}
+    record {
+      result_value = sym
+          (ap length (kind-other _ c.in_default.in_default-own.rest.0.0.1 c.in_default.in_default-own.rest.0.1 c.in_default.in_default-own.rest.1));
+      result_bound = search rules;
+    }

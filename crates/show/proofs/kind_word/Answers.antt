@@ -19,7 +19,7 @@ pub octets_word-requires-in_default : goal.octets_word-requires-in_default
 unfolding ascii
 octets_word-requires-in_default c =
     word_same _ _ (kind-other _ c.in_default.in_default-own.rest.0.0.1 c.in_default.in_default-own.rest.0.1 c.in_default.in_default-own.rest.1) _ c.args.out.now
-        c.args.behind c.requires
+    c.args.behind c.requires
 
 pub shape_of-out-in-0 : goal.shape_of-out-in-0
 shape_of-out-in-0 c = search (kind-element, kind-attribute, kind-cdata, kind-other, lays-same, word_same, rules)

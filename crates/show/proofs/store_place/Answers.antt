@@ -20,7 +20,7 @@ pub number_word-requires-2 : goal.number_word-requires-2
 unfolding ascii
 number_word-requires-2 c =
     room-last
-        (room_after (room_after (place-room c.args.r c.if-r-ne9.false _ c.args.out.now c.requires) c.number_word-word.ensures) c.octets_word-field.ensures)
+    (room_after (room_after (place-room c.args.r c.if-r-ne9.false _ c.args.out.now c.requires) c.number_word-word.ensures) c.octets_word-field.ensures)
 
 pub returns : goal.returns
 unfolding ascii

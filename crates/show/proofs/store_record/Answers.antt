@@ -20,22 +20,22 @@ pub number_word-size-requires : goal.number_word-size-requires
 unfolding ascii record_line
 number_word-size-requires c =
     room_word
-        (room_after (room_after (room_after (record-room c.args.r _ c.args.out.now c.requires) c.number_word-tag.ensures) c.tag_word-kind.ensures)
-            c.kind_word-start.ensures)
+    (room_after (room_after (room_after (record-room c.args.r _ c.args.out.now c.requires) c.number_word-tag.ensures) c.tag_word-kind.ensures)
+    c.kind_word-start.ensures)
 
 pub number_word-requires : goal.number_word-requires
 unfolding ascii record_line
 number_word-requires c =
     room-last
-        (room_after
-            (room_after (room_after (room_after (record-room c.args.r _ c.args.out.now c.requires) c.number_word-tag.ensures) c.tag_word-kind.ensures)
-                c.kind_word-start.ensures)
-            c.number_word-size.ensures)
+    (room_after
+    (room_after (room_after (room_after (record-room c.args.r _ c.args.out.now c.requires) c.number_word-tag.ensures) c.tag_word-kind.ensures)
+    c.kind_word-start.ensures)
+    c.number_word-size.ensures)
 
 pub returns : goal.returns
 unfolding ascii record_line
 returns c =
     line-more _ _ _ _ _ _ _ _ _ c.number_word-tag.ensures
-        (line-more _ _ _ _ _ _ _ _ _ c.tag_word-kind.ensures
-            (line-more _ _ _ _ _ _ _ _ _ c.kind_word-start.ensures
-                (line-more _ _ _ _ _ _ _ _ _ c.number_word-size.ensures (line-last _ _ _ _ _ c.number_word.ensures))))
+    (line-more _ _ _ _ _ _ _ _ _ c.tag_word-kind.ensures
+    (line-more _ _ _ _ _ _ _ _ _ c.kind_word-start.ensures
+    (line-more _ _ _ _ _ _ _ _ _ c.number_word-size.ensures (line-last _ _ _ _ _ c.number_word.ensures))))

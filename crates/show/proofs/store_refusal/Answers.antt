@@ -26,4 +26,4 @@ pub returns : goal.returns
 unfolding ascii refusal_line
 returns c =
     line-more _ _ _ _ _ _ _ _ _ c.octets_word-number.ensures
-        (line-more _ _ _ _ _ _ _ _ _ c.number_word-word.ensures (line-more _ _ _ _ _ _ _ _ _ c.octets_word-place.ensures c.store_place.ensures))
+    (line-more _ _ _ _ _ _ _ _ _ c.number_word-word.ensures (line-more _ _ _ _ _ _ _ _ _ c.octets_word-place.ensures c.store_place.ensures))

@@ -74,17 +74,17 @@ check_items-requires t c =
 pub returns-in_default : goal.returns-in_default
 returns-in_default t c =
     turn-ill _ _ _ _ _ _ _ c.loop-i.invariant c.loop-i-test.true _ refl _ c.check_record.ensures _ _ c.in-Nested.is _ c.parent_at.ensures _
-        c.check_items.ensures c.in_default.is
+    c.check_items.ensures c.in_default.is
 
 pub loop-i-smaller : goal.loop-i-smaller
 loop-i-smaller t c =
     nested-less _ _ _ _ _ _ _ c.loop-i.invariant c.loop-i-test.true _ refl _ c.check_record.ensures _ _ c.in-Nested.is _ c.parent_at.ensures _
-        c.check_items.ensures _ c.in-Next.is
+    c.check_items.ensures _ c.in-Next.is
 
 pub loop-i-preserved : goal.loop-i-preserved
 loop-i-preserved t c =
     turn-nested _ _ _ _ _ _ _ c.loop-i.invariant c.loop-i-test.true _ refl _ c.check_record.ensures _ _ c.in-Nested.is _ c.parent_at.ensures _
-        c.check_items.ensures _ c.in-Next.is
+    c.check_items.ensures _ c.in-Next.is
 
 pub returns : goal.returns
 returns t c =
