@@ -19,7 +19,6 @@ use Rattle.values.specs.Values.{Value, meant}
 use Rattle.values.specs.Calls.{default_octets}
 use Rattle.values.proofs.Known.{known-six, known-cdata}
 use Rattle.format.specs.Tree.{Items, find}
-use Rattle.format.specs.Judge.Judged.{accepted}
 use Rattle.format.specs.Meaning.{Meaning, opens, attributes_in, cdata_in, leaf_octets, means}
 use Rattle.format.specs.Meaning.Meaning.{nothing, element, leaf}
 use Rattle.format.specs.Same.{same_octets, same_maybe}

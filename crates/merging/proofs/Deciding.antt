@@ -1,9 +1,9 @@
 -- The ways through the call: what is decided of two objects, and what is written and laid where nothing is refused.
 use mathlib.Core.Path.{◌≡◌, refl, sym, ap, ap₂, ◌∙◌, subst}
-use mathlib.Core.Bool.{Bool, true, false, cond, ◌&&◌}
+use mathlib.Core.Bool.{true, false, cond}
 use mathlib.Core.Option.{Option, none, some}
-use mathlib.Core.List.{List, [], ◌∷◌}
-use Prim.Native.Nat.{ℕ, ◌+◌, ◌-◌, ◌≤◌, ◌<◌, min}
+use mathlib.Core.List.{List, []}
+use Prim.Native.Nat.{ℕ, ◌-◌, ◌≤◌, ◌<◌, min}
 use native.Mathlib.Omega.{arith}
 use lib.Dec.{leb}
 use lib.ListN.{length, take, drop}
@@ -31,7 +31,7 @@ use Rattle.merge.specs.declared.Services.{Services}
 use Rattle.merge.specs.declared.MergeAnswer.{MergeAnswer}
 use Rattle.merge.specs.declared.MergeAnswer.TheVariants.{Merged, BasicRefused, AdvancedRefused, NotMerged}
 use Rattle.merge.specs.Merged.{merged}
-use Rattle.merge.specs.Sizes.{records_in, stored_in}
+use Rattle.merge.specs.Sizes.{records_in}
 use Rattle.merge.specs.Calls.{conflict, misfit, Outcome, unless_refused, merged_into, outcome, answer_of, written_of, MergeClaim}
 use Rattle.merge.specs.Calls.Outcome.{refuses, gives}
 use Rattle.merge.proofs.Pure.{Pure, accepted-pure, merged-pure, pure-octets}
@@ -42,7 +42,7 @@ use Rattle.merging.specs.declared.counting.Needs.{Needs}
 use Rattle.merging.specs.Calls.{as_conflict, conflict_answer}
 use Rattle.merging.specs.Takes.{most, piece_of, Adds}
 use Rattle.merging.specs.Walks.{none_yet, ObjectPut}
-use Rattle.merging.specs.Deciding.{Counted, lending, FitTold, Decided, Filled, Fills}
+use Rattle.merging.specs.Deciding.{Counted, lending, FitTold, Decided, Fills}
 
 -- ---- decide
 

@@ -1,8 +1,8 @@
 -- A merged object: what it takes, and whether that fits what is lent.
-use mathlib.Core.Path.{◌≡◌, refl, sym, ap, ap₂, ◌∙◌, subst}
-use mathlib.Core.Bool.{Bool, true, false, cond, ◌&&◌, and-false}
-use mathlib.Core.List.{List, [], ◌∷◌}
-use Prim.Native.Nat.{ℕ, ◌+◌, ◌≤◌, ◌<◌, min}
+use mathlib.Core.Path.{◌≡◌, refl, ap, ap₂, ◌∙◌}
+use mathlib.Core.Bool.{Bool, true, false}
+use mathlib.Core.List.{List}
+use Prim.Native.Nat.{ℕ, ◌≤◌, ◌<◌, min}
 use native.Mathlib.Omega.{arith}
 use lib.Dec.{leb}
 use lib.ListN.{length}
@@ -11,11 +11,8 @@ use Rattle.octets.specs.declared.counts.Octets.{Octets}
 use Rattle.octets.specs.Counts.{as_octets}
 use Rattle.text.specs.Tokens.{entries}
 use Rattle.text.specs.Index.{Indexes, entries_by}
-use Rattle.format.specs.declared.Refusal.{Refusal}
 use Rattle.format.specs.Answers.{refusal}
-use Rattle.format.specs.Tree.{Items}
-use Rattle.format.specs.Judge.{rule, first, judge}
-use Rattle.format.specs.Judge.Judged.{accepted}
+use Rattle.format.specs.Judge.{rule, first}
 use Rattle.format.specs.Meaning.{Meaning, means, meaning_of, encode}
 use Rattle.format.specs.Calls.{roomy}
 use Rattle.reader.proofs.Reading.{whole}
@@ -30,7 +27,7 @@ use Rattle.merge.specs.Calls.{misfit, unless_refused, answer_of}
 use Rattle.merge.specs.Calls.Outcome.{gives}
 use Rattle.merging.specs.declared.counting.Needs.{Needs}
 use Rattle.merging.specs.declared.partners.Role.TheVariants.{Own}
-use Rattle.merging.specs.Takes.{most, piece_of, Adds}
+use Rattle.merging.specs.Takes.{most, piece_of}
 use Rattle.merging.specs.Roles.{chosen}
 use Rattle.merging.specs.Walks.{ChildrenPut, none_yet, ObjectPut}
 use Rattle.merging.specs.Deciding.{Counted, lending, FitTold}

@@ -1,8 +1,8 @@
 -- Of accepted octets the keys are those of their meaning.
 use mathlib.Core.Path.{◌≡◌, refl, sym, ap, ap₂, ◌∙◌, subst}
 use mathlib.Core.Bool.{Bool, true, false, cond, not, ◌&&◌, ◌||◌, false≢true}
-use mathlib.Core.List.{List, [], ◌∷◌}
-use Prim.Native.Nat.{ℕ, zero, suc, ◌+◌, ◌≤◌}
+use mathlib.Core.List.{List}
+use Prim.Native.Nat.{ℕ, zero, suc, ◌+◌}
 use native.Mathlib.Omega.{arith}
 use lib.Dec.{eqb}
 use borrow.Author.Tests.{eqb-true}
@@ -10,9 +10,8 @@ use Rattle.text.specs.Tokens.{Entries, entries}
 use Rattle.text.specs.Index.{Indexes, entries_by}
 use Rattle.values.specs.Table.{known, attribute, kind_in, rows}
 use Rattle.format.specs.Tree.{Items}
-use Rattle.format.specs.Judge.{is_items, is_top, judge}
-use Rattle.format.specs.Judge.Judged.{accepted}
-use Rattle.format.specs.Meaning.{Meaning, opens, attributes_in, means, meaning_of}
+use Rattle.format.specs.Judge.{is_items, is_top}
+use Rattle.format.specs.Meaning.{Meaning, opens, attributes_in, means}
 use Rattle.reader.specs.Filling.{Accepts}
 use Rattle.reader.proofs.Reading.{whole}
 use Rattle.survey.specs.Places.{table_body}

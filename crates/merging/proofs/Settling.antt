@@ -1,9 +1,9 @@
 -- The ways through settle and find_conflict.
 use mathlib.Core.Path.{◌≡◌, refl, sym, ap, ap₂, ◌∙◌}
-use mathlib.Core.Bool.{Bool, true, false, cond, not, ◌&&◌, ◌||◌, or-true}
-use mathlib.Core.Option.{Option, none, some}
+use mathlib.Core.Bool.{Bool, true, false, not, ◌&&◌, ◌||◌}
+use mathlib.Core.Option.{Option, some}
 use mathlib.Core.List.{List, [], ◌∷◌}
-use Prim.Native.Nat.{ℕ, suc, ◌+◌, ◌≤◌, ◌<◌}
+use Prim.Native.Nat.{ℕ, suc, ◌+◌, ◌<◌}
 use native.Mathlib.Omega.{arith}
 use lib.Dec.{eqb}
 use lib.ListN.{length, get_or}
@@ -20,8 +20,8 @@ use Rattle.format.specs.declared.ReadAnswer.TheVariants.{Records, NotRead}
 use Rattle.format.specs.Answers.{refusal}
 use Rattle.format.specs.Tree.{Items}
 use Rattle.format.specs.Tree.Items.{item}
-use Rattle.format.specs.Judge.{Judged, is_items, rule, first, judge, outermost, read}
-use Rattle.format.specs.Judge.Judged.{refused, accepted}
+use Rattle.format.specs.Judge.{is_items, rule, first, judge, outermost, read}
+use Rattle.format.specs.Judge.Judged.{accepted}
 use Rattle.format.specs.Meaning.{Meaning, attributes_in, cdata_in, means, table_of, meaning_of}
 use Rattle.format.specs.Meaning.Meaning.{element}
 use Rattle.format.specs.Headers.{headers_of}

@@ -1,12 +1,12 @@
 -- The child elements of accepted octets, and the meaning that they show under a token table: what walks over two objects are told of.
-use mathlib.Core.Path.{◌≡◌, refl, sym, ap, ◌∙◌, subst}
+use mathlib.Core.Path.{◌≡◌, refl, sym, subst}
 use mathlib.Core.Bool.{Bool, true, false, cond}
 use mathlib.Core.List.{List, [], ◌∷◌}
 use Prim.Native.Nat.{ℕ, zero, suc, ◌+◌, ◌≤◌}
 use native.Mathlib.Omega.{arith}
 use Rattle.text.specs.Tokens.{Entries}
 use Rattle.format.specs.Tree.{Items}
-use Rattle.format.specs.Tree.Items.{end, item}
+use Rattle.format.specs.Tree.Items.{item}
 use Rattle.format.specs.Meaning.{Meaning, opens, is_child, attributes_in, cdata_in, leaf_octets, means}
 use Rattle.format.specs.Meaning.Meaning.{nothing, element, leaf}
 use Rattle.reader.specs.Filling.{Accepts}
