@@ -1,0 +1,8 @@
+use Rattle.spi_c.proofs.Calls.{pack-small, pack-says}
+use Rattle.spi_c.proofs.spi_pack.Goals as goal
+
+pub packed_outcome-requires : goal.packed_outcome-requires
+packed_outcome-requires c = pack-small _ _ _ _ c.pack-answer.ensures _ c.outcome.ensures
+
+pub returns : goal.returns
+returns c = pack-says _ _ _ _ c.pack-answer.ensures _ c.outcome.ensures _ c.packed_outcome.ensures

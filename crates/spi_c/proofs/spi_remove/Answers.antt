@@ -1,0 +1,10 @@
+use borrow.Author.Rules.{rules}
+use Rattle.spi_c.proofs.Told.{edit-told}
+use Rattle.spi_c.proofs.Calls.{leaves-small, leaves-says}
+use Rattle.spi_c.proofs.spi_remove.Goals as goal
+
+pub packed_outcome-requires : goal.packed_outcome-requires
+packed_outcome-requires c = leaves-small _ _ _ _ c.remove-answer.ensures (edit-told _ _ _ (λ i. search rules) tt) _ c.outcome.ensures
+
+pub returns : goal.returns
+returns c = leaves-says _ _ _ _ c.remove-answer.ensures (edit-told _ _ _ (λ i. search rules) tt) _ c.outcome.ensures _ c.packed_outcome.ensures

@@ -1,0 +1,15 @@
+use native.Mathlib.Omega.{arith}
+use borrow.Author.Rules.{rules}
+use Rattle.spi_c.proofs.Calls.{needs-none, needs-small, needs-told}
+use Rattle.spi_c.proofs.spi_sizes.Goals as goal
+
+pub packed_sizes-requires : goal.packed_sizes-requires
+packed_sizes-requires c =
+    needs-small _ _ c.needs_of.ensures _ _ c.in-Takes.is
+    (λ i. omega (arith, c.type_inv.object i))
+
+pub returns-in-Refused : goal.returns-in-Refused
+returns-in-Refused c = search (needs-none, rules)
+
+pub returns-in-Takes : goal.returns-in-Takes
+returns-in-Takes c = needs-told _ _ c.needs_of.ensures _ _ c.in-Takes.is _ c.packed_sizes.ensures
