@@ -1,8 +1,7 @@
 -- Request 2026-09: what is to be lent, from the definitions of measuring and of normalising.
 use mathlib.Core.Path.{◌≡◌, refl, sym, ap, ◌∙◌}
 use mathlib.Core.Logic.{◌↔◌}
-use mathlib.Core.Bool.{Bool, true, false, cond, ◌&&◌, false≢true}
-use mathlib.Core.List.{List}
+use mathlib.Core.Bool.{Bool, true, false, cond, ◌&&◌}
 use Prim.Native.Nat.{ℕ, ◌≤◌, ◌<◌, min}
 use native.Mathlib.Omega.{arith}
 use lib.Dec.{leb}
@@ -10,8 +9,7 @@ use lib.ListN.{length}
 use borrow.Author.Tests.{leb-true, leb-false, le-leb}
 use Rattle.octets.specs.declared.counts.Octets.{Octets as OctetCount}
 use Rattle.octets.specs.Counts.{size_of}
-use Rattle.octets.proofs.Tests.{and_left, and_right, and-true, chosen, not_chosen, never}
-use Rattle.format.specs.declared.WriteAnswer.{WriteAnswer}
+use Rattle.octets.proofs.Tests.{and_left, and_right, never}
 use Rattle.format.specs.declared.WriteAnswer.TheVariants.{Octets as Written, NotWritten}
 use Rattle.format.specs.Answers.{refusal}
 use Rattle.format.specs.Tree.{Items, count}
@@ -21,7 +19,7 @@ use Rattle.format.specs.Meaning.{normal_of}
 use Rattle.format.specs.Loaded.{store_of}
 use Rattle.format.specs.Calls.{Lent, roomy, stored_within, fits_lent, misfit, normal_answer}
 use Rattle.survey.specs.declared.measure.Measured.TheVariants.{Over, Sizes}
-use Rattle.survey.specs.declared.Needed.TheVariants.{Refused, Takes}
+use Rattle.survey.specs.declared.Needed.TheVariants.{Takes}
 use Rattle.survey.specs.Measure.{measured_of}
 use Rattle.survey.specs.Survey.{needed_of}
 use Rattle.demands.specs.Needs.{NeedsSuffice, OverNever}

@@ -1,15 +1,13 @@
 -- Request 2026-11, by the theorems of fold.
 use mathlib.Core.Path.{◌≡◌, refl, sym, ap, ◌∙◌, subst}
-use mathlib.Core.Bool.{Bool, true, false, cond, true≢false}
-use mathlib.Core.Option.{Option, none, some, some-injective, none-ne-some}
+use mathlib.Core.Bool.{Bool, true, false, cond}
+use mathlib.Core.Option.{Option, none, some, none-ne-some}
 use mathlib.Core.List.{List}
-use Prim.Native.Nat.{ℕ, ◌≤◌, ◌<◌, min}
+use Prim.Native.Nat.{ℕ, ◌≤◌, min}
 use native.Mathlib.Omega.{arith}
 use lib.Dec.{leb}
 use lib.ListN.{length, take}
 use borrow.Author.Tests.{leb-false, le-leb}
-use Rattle.octets.specs.Numbers.{Octets}
-use Rattle.octets.specs.declared.counts.Octets.{Octets as OctetCount}
 use Rattle.octets.specs.Counts.{size_of}
 use Rattle.octets.proofs.Tests.{never}
 use Rattle.text.proofs.Words.{plain-text-covered}
@@ -28,10 +26,10 @@ use Rattle.fold.specs.Calls.{passes, check_answer, pack_answer, PackClaim}
 use Rattle.fold.proofs.Texts.{folded-expanded}
 use Rattle.fold.proofs.Packs.{passes-exactly, packed-packs, packed-exactly}
 use Rattle.fold.proofs.Checking.{passing-means}
-use Rattle.fold.proofs.Claims.{pack-hands, pack-passes, pack-refused}
+use Rattle.fold.proofs.Claims.{pack-passes, pack-refused}
 use Rattle.demands.specs.One.{Ends}
 use Rattle.demands.specs.One.Ends.{answered, refused_at}
-use Rattle.demands.specs.Packing.{FoldExpands, Passable, CheckExactly, OwnForm, PackPasses, AsInput, PackedAsInput, PackRefuses, PackEnds, PackAlways}
+use Rattle.demands.specs.Packing.{FoldExpands, CheckExactly, OwnForm, PackPasses, PackedAsInput, PackRefuses, PackEnds, PackAlways}
 use Rattle.demands.specs.Packing.PackRefuses.{no_form, no_room}
 
 pub fold-expands : FoldExpands
