@@ -8,7 +8,7 @@ use octets::Put;
 // No line is longer: four numbers of at most 20 digits.
 const LINE: usize = 128;
 
-// What standard output doesn't take is lost; the script that runs the program sees that.
+// What standard output doesn't take is lost, and nothing is said of that.
 pub fn write_out(rt: &HostRuntime, lines: &[u8]) {
     let _ = rt.write_all(lines);
 }

@@ -3,8 +3,8 @@
 // replayed by the program replay.
 //
 // What is said of an object is proved where it is found, in `judge`, `reader`, `pocket`, `compare`, `packer`, `edits`, `merging`, `writer`, `xml` and `show`;
-// here every function is safe and ends. A program has no exit status, so the last line on standard output is a status of its own, which the script takes away
-// and ends with.
+// here every function is safe and ends. The last line on standard output is a status of its own, which the script takes away and ends with; the program itself
+// ends with 0.
 #![tactic(auto)]
 
 mod asking;
