@@ -1,7 +1,8 @@
 /*
  * spi.h - the proved library for binary service and programme information, for C on x86-64 Linux.
  *
- * `tools/c-library` has the library proved and writes target/staticlib/libspi_c.a; link that.
+ * `tools/c-library` has the library proved and writes target/staticlib/libspi_c.a; link that.  Its
+ * code needs a processor of x86-64-v2, the kit's default.
  *
  * Each call takes memory that the caller lends, as a pointer and a count of elements, and answers by
  * one number of 64 bits.  It keeps nothing after it returns, allocates nothing and calls nothing.

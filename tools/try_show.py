@@ -1,9 +1,9 @@
 #!/usr/bin/env python3
 """Holds the trees of `spi show` to the maker's objects:  try_show.py SEED N
 
-Runs the program spi on N random objects, plain octets and all, and finds in what it says, line by line, just the known items that the maker wrote: the place of each, its
-depth, and the name and the value that second/as_xml.py has for it in XML. Prints the first difference and a last line `trees of N objects of seed S: ..`; the exit
-status is 0 only where there is no difference and every kind of line was met.
+Runs the program spi on N random objects, plain octets and all, and finds in what it says, line by line, just the known items that the maker wrote: the place
+of each, its depth, and the name and the value that second/as_xml.py has for it in XML. Prints the first difference and a last line `trees of N objects of
+seed S: ..`; the exit status is 0 only where there is no difference and every kind of line was met.
 """
 import os
 import random
