@@ -6,12 +6,12 @@ use std::io::{Cursor, Error, Write};
 // Room for the system's words for an error.
 const WORDS: usize = 128;
 
-// Where the system's words for an error end: behind them std puts its number.
+// Where the words for an error end: behind the system's std puts its number, and behind std's own nothing was written.
 fn words_end(text: &[u8]) -> usize
     ensures { result ≤ length text.now }
 {
     for i in 0..text.len() {
-        if text[i..].starts_with(b" (os error ") {
+        if text[i] == 0 || text[i..].starts_with(b" (os error ") {
             return i;
         }
     }
