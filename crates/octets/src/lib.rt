@@ -90,10 +90,8 @@ fn value_of(s: &[u8]) -> u32
     ensures { result ≡ value s.now }
 {
     let mut n: u32 = 0;
-    let mut i: usize = 0;
-    while i < s.len() {
-        n = joined(n, s[i]);
-        i = i + 1;
+    for b in s {
+        n = joined(n, *b);
     }
     n
 }
@@ -188,12 +186,8 @@ fn store_number(out: &mut [u8], at: usize, width: Octets, n: u32)
     requires width_in_bounds { at + width.0 ≤ length out.old }
     ensures { out.new ≡ sets out.old at (digits width.0 n) }
 {
-    let mut to = at;
-    let mut left = width.0;
-    while 0 < left {
-        left = left - 1;
-        out[to] = digit(n, left);
-        to = to + 1;
+    for i in 0..width.0 {
+        out[at + i] = digit(n, width.0 - 1 - i);
     }
 }
 
@@ -213,19 +207,9 @@ pub fn copy_into(out: &mut [u8], at: usize, s: &[u8]) -> Result<usize, PutError>
     if !has_room(Octets(out.len()), at, size) {
         return Err(PutError::NoRoom);
     }
-    copy(out, at, s);
-    Ok(at + size.0)
-}
-
-fn copy(out: &mut [u8], at: usize, s: &[u8])
-    requires { at + length s.now ≤ length out.old }
-    ensures { out.new ≡ sets out.old at s.now }
-{
-    let mut i: usize = 0;
-    while i < s.len() {
-        out[at + i] = s[i];
-        i = i + 1;
-    }
+    let end = at + size.0;
+    out[at..end].copy_from_slice(s);
+    Ok(end)
 }
 
 // Whether so many octets, put at a place, lie within the room. No sum is made before it is known to fit. Calls that put octets, here and above, ask this before
