@@ -15,7 +15,7 @@ use borrow.Author.Tests.{leb-true, le-leb, lt-leb}
 use Rattle.octets.specs.Numbers.{Octets}
 use Rattle.octets.specs.Header.{header_size, body_size}
 use Rattle.octets.specs.declared.Span.{Span}
-use Rattle.octets.specs.declared.Bounds.{Bounds}
+use Rattle.octets.specs.declared.Lies.{Lies}
 use Rattle.octets.specs.Calls.{header_of}
 use Rattle.octets.specs.Places.{is_whole, lies_in, lies_at, first_body, after_first, between}
 use Rattle.octets.proofs.Lists.{part_to_end}
@@ -67,7 +67,7 @@ pub record Lying (part : List ℕ) (at from to : ℕ) : Type 0 where
   pub ends : to ≡ at + header_size (drop at part) + body_size (drop at part)
   pub inside : header_size (drop at part) + body_size (drop at part) ≤ length (drop at part)
 
-module _ (part : List ℕ) (at : ℕ) (r : Option Bounds) (e : r ≡ lies_at part at) where
+module _ (part : List ℕ) (at : ℕ) (r : Option Lies) (e : r ≡ lies_at part at) where
   pub lying : (from to : ℕ) → r ≡ Some (from_to from to) → Lying part at from to
   unfolding lies_at lies_in
   lying from to q = go (leb (header_size s + body_size s) (length s)) refl (sym q ∙ e)

@@ -2,10 +2,10 @@
 ghost use Rattle.std.specs.Prelude.{◌≡◌};
 ghost use Rattle.octets.specs.Places.{lies_at};
 
-use crate::{Bounds, read_header};
+use crate::{Lies, read_header};
 
 // The item that begins at a place of a part. None begins behind its end.
-pub fn item_at(part: &[u8], at: usize) -> Option<Bounds>
+pub fn item_at(part: &[u8], at: usize) -> Option<Lies>
     ensures { result ≡ lies_at part.now at }
 {
     if at > part.len() {
@@ -18,7 +18,7 @@ pub fn item_at(part: &[u8], at: usize) -> Option<Bounds>
     if body.size > part.len() - from {
         return None;
     }
-    Some(Bounds {
+    Some(Lies {
         from,
         to: from + body.size,
     })

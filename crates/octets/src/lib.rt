@@ -26,9 +26,9 @@ pub struct Span {
     pub size: usize,
 }
 
-// The same by the places between which it lies: those of the body of an item that lies in its part.
+// The same by the places between which it lies, as the body of an item lies in its part.
 #[derive(Clone, Copy)]
-pub struct Bounds {
+pub struct Lies {
     pub from: usize,
     pub to: usize,
 }

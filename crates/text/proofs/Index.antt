@@ -1,5 +1,6 @@
 -- The index of a token table: how `index_of` makes it, which entries any index tells of a table, and that those of the table's own index are as good as the
 -- table's.
+use Rattle.std.specs.Prelude.{Result}
 use Prim.Native.Nat.{ℕ, zero, suc, ◌+◌, ◌-◌, ◌*◌, ◌/◌, ◌^◌, ◌≤◌, ◌<◌, max}
 use mathlib.Core.Path.{◌≡◌, refl, sym, ap, ap₂, subst, ◌∙◌}
 use mathlib.Core.List.{List, [], ◌∷◌, ◌++◌}
@@ -14,9 +15,9 @@ use mir.Val.{Fits}
 use mir.Syntax.{w64}
 use borrow.Author.Tests.{eqb-true, eqb-false, eq-eqb, ne_eqb, leb-true, le-leb, lt-leb, ltb-true, ltb-false, lt-ltb, le-ltb}
 use Rattle.octets.specs.Puts.{Puts}
-use Rattle.octets.specs.declared.Put.{Put}
 use Rattle.octets.proofs.Puts.{puts-same}
 use Rattle.octets.proofs.Tests.{and_left, and_right}
+use Rattle.octets.specs.declared.PutError.{PutError}
 use Rattle.text.specs.Text.{token}
 use Rattle.text.specs.Tokens.{Entries, entries, cut, entry, or_itself, stands, expanded, expanded_size}
 use Rattle.text.specs.Found.{found, found_in, Inside}
@@ -525,7 +526,7 @@ module _ (table index : List ℕ) (made : Indexes (entries table) index) where
   indexed-expanded (b ∷ s) = ap₂ (λ p q. p ++ q) (stands-own b) (indexed-expanded s)
 
   -- so what `expand` answers by that index is what it says of the table
-  pub indexed-claim : (s out out' : List ℕ) (at : ℕ) (answer : Put) → Puts true (expanded (entries_by index table) s) at out out' answer
+  pub indexed-claim : (s out out' : List ℕ) (at : ℕ) (answer : Result ℕ PutError) → Puts true (expanded (entries_by index table) s) at out out' answer
       → Puts true (expanded (entries table) s) at out out' answer
   indexed-claim s out out' at answer c =
       puts-same true true (expanded (entries_by index table) s) (expanded (entries table) s) refl (indexed-expanded s) at out out' answer c

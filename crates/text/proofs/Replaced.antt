@@ -1,4 +1,5 @@
 -- Texts with their tokens replaced: what the definitions are on each way through src/expanding.rt.
+use Rattle.std.specs.Prelude.{Ok, Err}
 use Prim.Native.Nat.{ℕ, ◌+◌, ◌-◌, ◌≤◌, ◌<◌, ◌^◌, min}
 use mathlib.Core.Path.{◌≡◌, refl, sym, ap, subst, ◌∙◌}
 use mathlib.Core.List.{List, [], ◌∷◌, ◌++◌}
@@ -19,7 +20,6 @@ use Rattle.text.specs.Text.{token}
 use Rattle.octets.specs.declared.counts.Octets.{Octets}
 use Rattle.octets.specs.Counts.{as_octets}
 use Rattle.octets.specs.Puts.{Puts, Lays}
-use Rattle.octets.specs.declared.Put.{Put}
 use Rattle.octets.proofs.Puts.{puts_none, puts-done}
 use Rattle.text.specs.Tokens.{Entries, entry, stands, expanded, present, covers, covered, expanded_size}
 use Rattle.text.specs.Leaves.{token_bit}
@@ -30,6 +30,7 @@ use Rattle.text.specs.declared.expanding.Found.{Found}
 use Rattle.text.specs.declared.expanding.Found.TheVariants.{At, Nothing}
 use Rattle.octets.proofs.Lists.{drop-next}
 use Rattle.octets.proofs.Left.{Left, left-begin, left-done, left-room, left-more}
+use Rattle.octets.specs.declared.PutError.TheVariants.{NoRoom}
 use Rattle.text.proofs.Masks.{bit-none, kept-within, within-kept, Marking, mark-begin, mark-done, mark-more}
 use Rattle.text.proofs.Index.{self-by, part_by, inside-by, width-by}
 use Rattle.text.proofs.Widths.{width-next, width-eight}
@@ -308,11 +309,11 @@ fits-measured es s room n e = go (leb (expanded_size es s).0 room) refl
 
 -- ---- `expand`
 module _ (es : Entries) (s out : List ℕ) (at : ℕ) where
-  pub outside-put : length out < at → Puts true (expanded es s) at out out Put.NoRoom
+  pub outside-put : length out < at → Puts true (expanded es s) at out out (Err NoRoom)
   outside-put h = puts_none true (expanded es s) at out refl (omega arith)
 
   module _ (h : at ≤ length out) (fit : Bool) (e : fit ≡ leb (expanded_size es s).0 (length out - at)) where
-    pub long-put : fit ≡ false → Puts true (expanded es s) at out out Put.NoRoom
+    pub long-put : fit ≡ false → Puts true (expanded es s) at out out (Err NoRoom)
     unfolding expanded_size
     long-put n = puts_none true (expanded es s) at out refl (omega (arith, leb-false (expanded_size es s).0 (length out - at) (sym e ∙ n)))
 
@@ -321,7 +322,7 @@ module _ (es : Entries) (s out : List ℕ) (at : ℕ) where
       unfolding expanded_size
       expand-room = omega (arith, leb-true (expanded_size es s).0 (length out - at) (sym e ∙ y))
 
-      pub all-put : (end : ℕ) (out' : List ℕ) → Lays (expanded es s) at out out' end → Puts true (expanded es s) at out out' (Put.Done end)
+      pub all-put : (end : ℕ) (out' : List ℕ) → Lays (expanded es s) at out out' end → Puts true (expanded es s) at out out' (Ok end)
       all-put end out' w = puts-done true (expanded es s) at out refl out' end expand-room w.leaves w.ends
 
 pub ruleset expand-ways = (outside-put, long-put, expand-room, all-put)

@@ -1,4 +1,5 @@
 -- Wrong answers of each public call, each refuted at a closed input by what its contract says.
+use Rattle.std.specs.Prelude.{Ok, Err}
 use mathlib.Core.Path.{◌≡◌, sym, ◌∙◌, ap}
 use mathlib.Core.Bool.{true, false, false≢true}
 use mathlib.Core.List.{List, [], ◌∷◌}
@@ -8,8 +9,8 @@ use lib.ListN.{get_or, replicate}
 use Rattle.octets.specs.Counts.{as_octets, as_characters}
 use Rattle.octets.specs.Numbers.{among}
 use Rattle.octets.specs.Puts.{put_answer, put_out, Puts}
-use Rattle.octets.specs.declared.Put.TheVariants.{Done, NoRoom}
 use Rattle.octets.proofs.Tests.{never}
+use Rattle.octets.specs.declared.PutError.TheVariants.{NoRoom}
 use Rattle.text.specs.Text.{layout, token, character, single, goes_on, utf8, text}
 use Rattle.text.specs.Tokens.{entries, cut, filled, is_table, entry, or_itself, stands, expanded, present, covers, covered, starts}
 use Rattle.text.specs.Leaves.{replaced_by}
@@ -170,18 +171,18 @@ size-runs-on h = let z : ◌≡◌ {A = ℕ} 4 3 = ap (λ n. n.0) h in omega ari
 
 -- expand: a room of just the size is refused; what fits is written there and no more is told than its size; what doesn't fit is written in part; by an index
 -- that tells of no entry, one is taken from the table
-pub room-refused : (after : List ℕ) → Puts true (expanded (entries_by abc_index abc) (0x01 ∷ [])) 0 (0 ∷ 0 ∷ 0 ∷ []) after NoRoom → ⊥
+pub room-refused : (after : List ℕ) → Puts true (expanded (entries_by abc_index abc) (0x01 ∷ [])) 0 (0 ∷ 0 ∷ 0 ∷ []) after (Err NoRoom) → ⊥
 unfolding put_answer expanded stands token layout among entry or_itself entries_by entries_below with_place place_by place_at usable
 room-refused after h = let e = h.answers in never (cc)
 
-pub size-told : (after : List ℕ) → Puts true (expanded (entries_by abc_index abc) (0x01 ∷ [])) 1 (0 ∷ 0 ∷ 0 ∷ 0 ∷ []) after (Done 3) → ⊥
+pub size-told : (after : List ℕ) → Puts true (expanded (entries_by abc_index abc) (0x01 ∷ [])) 1 (0 ∷ 0 ∷ 0 ∷ 0 ∷ []) after (Ok 3) → ⊥
 unfolding put_answer expanded stands token layout among entry or_itself entries_by entries_below with_place place_by place_at usable
 size-told after h = let e = h.answers in let z : ◌≡◌ {A = ℕ} 3 4 = cc in omega arith
 
-pub part-written : Puts true (expanded (entries_by abc_index abc) (0x01 ∷ [])) 0 (0 ∷ 0 ∷ []) (0x41 ∷ 0x42 ∷ []) NoRoom → ⊥
+pub part-written : Puts true (expanded (entries_by abc_index abc) (0x01 ∷ [])) 0 (0 ∷ 0 ∷ []) (0x41 ∷ 0x42 ∷ []) (Err NoRoom) → ⊥
 unfolding put_out expanded stands token layout among entry or_itself entries_by entries_below with_place place_by place_at usable
 part-written h = let e = h.leaves in let z : ◌≡◌ {A = ℕ} 0x41 0 = cc in omega arith
 
-pub index-unasked : (after : List ℕ) → Puts true (expanded (entries_by (replicate 32 0) abc) (0x01 ∷ [])) 0 (0 ∷ 0 ∷ 0 ∷ []) after (Done 3) → ⊥
+pub index-unasked : (after : List ℕ) → Puts true (expanded (entries_by (replicate 32 0) abc) (0x01 ∷ [])) 0 (0 ∷ 0 ∷ 0 ∷ []) after (Ok 3) → ⊥
 unfolding put_answer expanded stands token layout among entry or_itself entries_by entries_below with_place place_by place_at usable
 index-unasked after h = let e = h.answers in let z : ◌≡◌ {A = ℕ} 3 1 = cc in omega arith

@@ -13,7 +13,7 @@ ghost use Rattle.text.specs.Index.{place_by, entries_by, Bounds};
 use crate::characters::{is_token, token_bit, wide};
 use crate::runs::untokened_end;
 use crate::tables::tokens_of;
-use octets::{Octets, Put};
+use octets::{Octets, PutError};
 
 // The tokens of a text, a bit each. Nothing is decided between two octets, so that the compiler takes eight at a time.
 fn tokens_in(s: &[u8]) -> u32
@@ -265,15 +265,15 @@ fn fits(index: &[usize; 32], table: &[u8], s: &[u8], room: Octets) -> bool
 
 // The expansion of a text, written from a place on where it fits. That is known before the first octet is written, and nothing is written where it
 // doesn't fit. Any index may be given; by the one that `index_of` makes of the table it is the expansion by that table (proofs/Index, indexed-expanded).
-pub fn expand(index: &[usize; 32], table: &[u8], s: &[u8], out: &mut [u8], at: usize) -> Put
+pub fn expand(index: &[usize; 32], table: &[u8], s: &[u8], out: &mut [u8], at: usize) -> Result<usize, PutError>
     ensures { Puts true (expanded (entries_by index.now table.now) s.now) at out.old out.new result }
 {
     if at > out.len() {
-        return Put::NoRoom;
+        return Err(PutError::NoRoom);
     }
     let room = out.len() - at;
     if !fits(index, table, s, Octets(room)) {
-        return Put::NoRoom;
+        return Err(PutError::NoRoom);
     }
-    Put::Done(write_all(index, table, s, out, at))
+    Ok(write_all(index, table, s, out, at))
 }

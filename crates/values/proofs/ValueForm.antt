@@ -1,4 +1,5 @@
 -- The ways through the calls on values by kind, in the words of the code.
+use Rattle.std.specs.Prelude.{Result, Err}
 use mathlib.Core.Path.{◌≡◌, refl, sym, ap, ap₂, ◌∙◌}
 use mathlib.Core.Bool.{Bool, true, false, cond}
 use mathlib.Core.List.{List}
@@ -10,9 +11,10 @@ use Rattle.octets.specs.declared.counts.Octets.{Octets as OctetCount}
 use Rattle.octets.specs.Counts.{as_octets, size_of}
 use Rattle.octets.specs.Numbers.{value, digits, Octets}
 use Rattle.octets.specs.Puts.{Puts}
-use Rattle.octets.specs.declared.Put.{Put}
 use Rattle.octets.proofs.Numbers.{digits_value, length_digits}
 use Rattle.octets.proofs.Puts.{puts-invalid, puts-same}
+use Rattle.octets.specs.declared.PutError.{PutError}
+use Rattle.octets.specs.declared.PutError.TheVariants.{Invalid}
 use Rattle.values.specs.declared.Kind.{Kind}
 use Rattle.values.specs.declared.Kind.TheVariants.{HoldsTime, HoldsBearer, HoldsNumber}
 use Rattle.values.specs.declared.NumberKind.{NumberKind}
@@ -53,7 +55,7 @@ module _ (s : List ℕ) (r : TakenTime) (e : r ≡ taken_time s) where
   time-not-sized n g = rw (time-refused s r e n g) refl
 
   module _ (out : List ℕ) (at : ℕ) where
-    pub time-put : (t : Time) (a : Put) (after : List ℕ) → r ≡ of_time.Good t → Puts (in_range t) (time_octets t) at out after a
+    pub time-put : (t : Time) (a : Result ℕ PutError) (after : List ℕ) → r ≡ of_time.Good t → Puts (in_range t) (time_octets t) at out after a
         → Puts (fits HoldsTime s) (normal_octets HoldsTime s) at out after a
     unfolding fits normal_octets meant octets_of
     time-put t a after g p =
@@ -62,7 +64,7 @@ module _ (s : List ℕ) (r : TakenTime) (e : r ≡ taken_time s) where
         let o : time_octets t ≡ time_octets (time_of s) = ap time_octets k.means in
         puts-same (in_range t) (is_time s) (time_octets t) (time_octets (time_of s)) v o at out after a p
 
-    pub time-not-put : (n : ℕ) → r ≡ of_time.Bad n → Puts (fits HoldsTime s) (normal_octets HoldsTime s) at out out Put.Invalid
+    pub time-not-put : (n : ℕ) → r ≡ of_time.Bad n → Puts (fits HoldsTime s) (normal_octets HoldsTime s) at out out (Err Invalid)
     unfolding fits
     time-not-put n g = puts-invalid (is_time s) (normal_octets HoldsTime s) at out (time-refused s r e n g)
 
@@ -91,7 +93,7 @@ module _ (s : List ℕ) (r : TakenBearer) (e : r ≡ taken_bearer s) where
   bearer-not-sized g = rw (bearer-refused s r e g) refl
 
   module _ (out : List ℕ) (at : ℕ) where
-    pub bearer-put : (b : Bearer) (a : Put) (after : List ℕ) → Octets s → r ≡ of_bearer.Good b → Puts (bearer_in_range b) (bearer_octets b) at out after a
+    pub bearer-put : (b : Bearer) (a : Result ℕ PutError) (after : List ℕ) → Octets s → r ≡ of_bearer.Good b → Puts (bearer_in_range b) (bearer_octets b) at out after a
         → Puts (fits HoldsBearer s) (normal_octets HoldsBearer s) at out after a
     unfolding fits normal_octets meant octets_of
     bearer-put b a after os g p =
@@ -100,7 +102,7 @@ module _ (s : List ℕ) (r : TakenBearer) (e : r ≡ taken_bearer s) where
         let o : bearer_octets b ≡ bearer_octets (bearer_of s) = ap bearer_octets k.means in
         puts-same (bearer_in_range b) (is_bearer s) (bearer_octets b) (bearer_octets (bearer_of s)) v o at out after a p
 
-    pub bearer-not-put : r ≡ of_bearer.Bad → Puts (fits HoldsBearer s) (normal_octets HoldsBearer s) at out out Put.Invalid
+    pub bearer-not-put : r ≡ of_bearer.Bad → Puts (fits HoldsBearer s) (normal_octets HoldsBearer s) at out out (Err Invalid)
     unfolding fits
     bearer-not-put g = puts-invalid (is_bearer s) (normal_octets HoldsBearer s) at out (bearer-refused s r e g)
 
@@ -125,14 +127,14 @@ module _ (n : NumberKind) (s : List ℕ) where
     number-not-sized t = rw (sym e ∙ t) refl
 
     module _ (out : List ℕ) (at : ℕ) where
-      pub number_put : (a : Put) (after : List ℕ) → Octets s → b ≡ true → Puts true s at out after a → Puts (fits (HoldsNumber n) s) (normal_octets (HoldsNumber n) s) at out after a
+      pub number_put : (a : Result ℕ PutError) (after : List ℕ) → Octets s → b ≡ true → Puts true s at out after a → Puts (fits (HoldsNumber n) s) (normal_octets (HoldsNumber n) s) at out after a
       unfolding fits normal_octets meant octets_of
       number_put a after os t p =
           let v : true ≡ fits (HoldsNumber n) s = sym (sym e ∙ t) in
           let o : s ≡ digits (width n) (value s) = sym (digits_value s os) ∙ ap (λ w. digits w (value s)) (eqb-true (length s) (width n) (sym e ∙ t)) in
           puts-same true (fits (HoldsNumber n) s) s (digits (width n) (value s)) v o at out after a p
 
-      pub number-not-put : b ≡ false → Puts (fits (HoldsNumber n) s) (normal_octets (HoldsNumber n) s) at out out Put.Invalid
+      pub number-not-put : b ≡ false → Puts (fits (HoldsNumber n) s) (normal_octets (HoldsNumber n) s) at out out (Err Invalid)
       number-not-put t = puts-invalid (fits (HoldsNumber n) s) (normal_octets (HoldsNumber n) s) at out (sym e ∙ t)
 
 pub ruleset number-ways = (has_width, number-sized, number-not-sized, number_put, number-not-put)
@@ -154,7 +156,7 @@ module _ (k l : Kind) (e : k ≡ l) (s : List ℕ) where
       sized-as (sized.Octets (size_of s))
       (sym (ap₂ (λ b o. cond b (sized.Octets (size_of o)) sized.NoValue) (stands-fits l s h) (stands-normal l s h)))
 
-  module _ (out : List ℕ) (at : ℕ) (a : Put) (after : List ℕ) where
+  module _ (out : List ℕ) (at : ℕ) (a : Result ℕ PutError) (after : List ℕ) where
     pub put_as : Puts (fits l s) (normal_octets l s) at out after a → Puts (fits k s) (normal_octets k s) at out after a
     put_as p = rw e p
 

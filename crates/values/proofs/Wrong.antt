@@ -1,4 +1,5 @@
 -- Wrong answers, refuted by computing the definitions: for each public call two or more, of the kind that slips make.
+use Rattle.std.specs.Prelude.{Ok, Err}
 use mathlib.Core.Path.{◌≡◌, ap}
 use mathlib.Core.Bool.{Bool, true, false, false≢true, true≢false}
 use mathlib.Core.List.{List, [], ◌∷◌}
@@ -9,8 +10,8 @@ use lib.ListN.{length, get_or}
 use Rattle.octets.specs.Counts.{as_octets, size_of}
 use Rattle.octets.specs.Numbers.{value, digits}
 use Rattle.octets.specs.Puts.{put_answer, put_out, Puts}
-use Rattle.octets.specs.declared.Put.TheVariants.{Done, NoRoom}
 use Rattle.octets.proofs.Tests.{never}
+use Rattle.octets.specs.declared.PutError.TheVariants.{NoRoom}
 use Rattle.values.specs.declared.Kind.TheVariants.{HoldsText, HoldsPlain, HoldsTime, HoldsBearer, HoldsNumber}
 use Rattle.values.specs.declared.NumberKind.TheVariants.{Duration, ShortId, Integer}
 use Rattle.values.specs.declared.KnownKind.TheVariants.{Known}
@@ -153,15 +154,15 @@ zero-offset-counted h = omega (arith, ap (λ n. n.0) h)
 abbrev five : List ℕ
 five = 1 ∷ 2 ∷ 3 ∷ 4 ∷ 5 ∷ []
 
-pub time-past-room : (after : List ℕ) → Puts (in_range (at 50_000 0)) (time_octets (at 50_000 0)) 2 five after (Done 6) → ⊥
+pub time-past-room : (after : List ℕ) → Puts (in_range (at 50_000 0)) (time_octets (at 50_000 0)) 2 five after (Ok 6) → ⊥
 unfolding put_answer in_range time_octets digits sign
 time-past-room after p = let h = p.answers in never (cc)
 
-pub time-part-written : Puts (in_range (at 50_000 0)) (time_octets (at 50_000 0)) 2 five (1 ∷ 2 ∷ 0x30 ∷ 0xD4 ∷ 0x00 ∷ []) NoRoom → ⊥
+pub time-part-written : Puts (in_range (at 50_000 0)) (time_octets (at 50_000 0)) 2 five (1 ∷ 2 ∷ 0x30 ∷ 0xD4 ∷ 0x00 ∷ []) (Err NoRoom) → ⊥
 unfolding put_out in_range time_octets digits sign
 time-part-written p = let z : ◌≡◌ {A = ℕ} 0x30 3 = ap (λ l. get_or l 2 0) p.leaves in omega arith
 
-pub late-date-written : (after : List ℕ) → Puts (in_range (at 100_000 0)) (time_octets (at 100_000 0)) 0 five after (Done 4) → ⊥
+pub late-date-written : (after : List ℕ) → Puts (in_range (at 100_000 0)) (time_octets (at 100_000 0)) 0 five after (Ok 4) → ⊥
 unfolding put_answer in_range
 late-date-written after p = let h = p.answers in never (cc)
 
@@ -205,7 +206,7 @@ pub widths-confused : bearer_octets (record { ensemble = Absent; long = false; s
 unfolding bearer_octets ensemble_bit ensemble_octets digits
 widths-confused h = let z : ◌≡◌ {A = ℕ} 0x05 0x15 = ap (λ l. get_or l 0 0) h in omega arith
 
-pub bearer-from-start : Puts true (bearer_octets (record { ensemble = Absent; long = false; sid = 0xC123; scids = 5 })) 2 five (0x05 ∷ 0xC1 ∷ 0x23 ∷ 4 ∷ 5 ∷ []) (Done 5) → ⊥
+pub bearer-from-start : Puts true (bearer_octets (record { ensemble = Absent; long = false; sid = 0xC123; scids = 5 })) 2 five (0x05 ∷ 0xC1 ∷ 0x23 ∷ 4 ∷ 5 ∷ []) (Ok 5) → ⊥
 unfolding put_out bearer_octets ensemble_bit ensemble_octets digits
 bearer-from-start p = let z : ◌≡◌ {A = ℕ} 0x05 1 = ap (λ l. get_or l 0 0) p.leaves in omega arith
 
@@ -254,6 +255,6 @@ pub zero-seconds-kept : length (normal_octets HoldsTime (0x30 ∷ 0xD4 ∷ 0x08 
 unfolding normal_octets meant octets_of time_of bits long_flag offset_flag offset_octet value time_octets digits sign
 zero-seconds-kept h = omega arith
 
-pub no-value-written : (after : List ℕ) → Puts (fits (HoldsNumber Duration) (0x3C ∷ [])) (normal_octets (HoldsNumber Duration) (0x3C ∷ [])) 0 five after (Done 2) → ⊥
+pub no-value-written : (after : List ℕ) → Puts (fits (HoldsNumber Duration) (0x3C ∷ [])) (normal_octets (HoldsNumber Duration) (0x3C ∷ [])) 0 five after (Ok 2) → ⊥
 unfolding put_answer fits width
 no-value-written after p = let h = p.answers in never (cc)

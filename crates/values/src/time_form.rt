@@ -9,7 +9,7 @@ ghost use Rattle.values.specs.Calls.{taken_time};
 
 use crate::numbers::{four_at, low, put_four};
 use crate::{Local, TakenTime, Time};
-use octets::{Octets, Put, has_room};
+use octets::{Octets, PutError, has_room};
 
 impl Time {
     // The time that octets hold: of exactly the size that the two flags say, and in range.
@@ -142,18 +142,18 @@ impl Time {
     }
 
     // The normal octets, written from a place on.
-    pub fn put(self, out: &mut [u8], at: usize) -> Put
+    pub fn put(self, out: &mut [u8], at: usize) -> Result<usize, PutError>
         ensures { Puts (in_range self) (time_octets self) at out.old out.new result }
     {
         if !self.valid() {
-            return Put::Invalid;
+            return Err(PutError::Invalid);
         }
         let size = self.size();
         if !has_room(Octets(out.len()), at, size) {
-            return Put::NoRoom;
+            return Err(PutError::NoRoom);
         }
         self.store(out, at);
-        Put::Done(at + size.0)
+        Ok(at + size.0)
     }
 
     fn store(self, out: &mut [u8], at: usize)

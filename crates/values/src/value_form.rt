@@ -8,7 +8,7 @@ ghost use Rattle.values.specs.Values.{width, fits, wrong_field};
 ghost use Rattle.values.specs.Calls.{normal_octets, normal_size};
 
 use crate::{Bearer, Kind, NormalSize, NumberKind, TakenBearer, TakenTime, Time};
-use octets::{Octets, Put, copy_into};
+use octets::{Octets, PutError, copy_into};
 
 // Rule 9: whether octets are a value of their kind. Text, tokens, items and plain octets always are.
 pub fn fits_kind(kind: Kind, s: &[u8]) -> bool
@@ -65,7 +65,7 @@ pub fn normal_size(kind: Kind, s: &[u8]) -> NormalSize
 }
 
 // The normal octets of a value, written from a place on.
-pub fn put_normal(kind: Kind, s: &[u8], out: &mut [u8], at: usize) -> Put
+pub fn put_normal(kind: Kind, s: &[u8], out: &mut [u8], at: usize) -> Result<usize, PutError>
     ensures { Puts (fits kind s.now) (normal_octets kind s.now) at out.old out.new result }
 {
     match kind {
@@ -142,30 +142,30 @@ fn number_size(n: NumberKind, s: &[u8]) -> NormalSize
     NormalSize::NoValue
 }
 
-fn put_time(s: &[u8], out: &mut [u8], at: usize) -> Put
+fn put_time(s: &[u8], out: &mut [u8], at: usize) -> Result<usize, PutError>
     ensures { Puts (fits HoldsTime s.now) (normal_octets HoldsTime s.now) at out.old out.new result }
 {
     match Time::take(s) {
         TakenTime::Good(t) => t.put(out, at),
-        TakenTime::Bad(_) => Put::Invalid,
+        TakenTime::Bad(_) => Err(PutError::Invalid),
     }
 }
 
-fn put_bearer(s: &[u8], out: &mut [u8], at: usize) -> Put
+fn put_bearer(s: &[u8], out: &mut [u8], at: usize) -> Result<usize, PutError>
     ensures { Puts (fits HoldsBearer s.now) (normal_octets HoldsBearer s.now) at out.old out.new result }
 {
     match Bearer::take(s) {
         TakenBearer::Good(b) => b.put(out, at),
-        TakenBearer::Bad => Put::Invalid,
+        TakenBearer::Bad => Err(PutError::Invalid),
     }
 }
 
 // The octets of a number of the right width are its normal octets.
-fn put_number(n: NumberKind, s: &[u8], out: &mut [u8], at: usize) -> Put
+fn put_number(n: NumberKind, s: &[u8], out: &mut [u8], at: usize) -> Result<usize, PutError>
     ensures { Puts (fits (HoldsNumber n) s.now) (normal_octets (HoldsNumber n) s.now) at out.old out.new result }
 {
     if has_width(n, s) {
         return copy_into(out, at, s);
     }
-    Put::Invalid
+    Err(PutError::Invalid)
 }
