@@ -1,14 +1,15 @@
 // What the calls of the library share: records, refusals, counts, and the answers as enums. The rules are in specs/, the theorems in proofs/.
 #![tactic(auto)]
 
-ghost use Rattle.std.specs.Prelude.{◌≡◌, min, get_or};
+ghost use Rattle.std.specs.Prelude.{◌≡◌};
 ghost use Rattle.format.specs.Tree.{kind_of};
 ghost use Rattle.format.specs.Answers.{refusal, read_outcome, edit_outcome, write_outcome, of_refused, same_outcome};
-ghost use Rattle.format.specs.Calls.{places, row, put_whole};
-ghost use Rattle.format.specs.Lent.{six};
 
-pub use octets::Span;
+mod lent;
+
+pub use lent::{Records, RecordsMut, at_or};
 use octets::Octets;
+pub use octets::Span;
 use values::is_attribute;
 
 // One known item: its tag, its kind (0 an element, 1 an attribute, 2 CDATA), its depth, the number of its parent's record, and where its body
@@ -21,99 +22,6 @@ pub struct Record {
     pub parent: u16,
     pub start: u16,
     pub size: u16,
-}
-
-// What a list has at a place, 0 where it has no such place.
-pub fn octet_at(list: &[u8], i: usize) -> u8
-    ensures { result ≡ get_or list.now i 0 }
-{
-    if i < list.len() {
-        return list[i];
-    }
-    0
-}
-
-fn number_at(list: &[u16], i: usize) -> u16
-    ensures { result ≡ get_or list.now i 0 }
-{
-    if i < list.len() {
-        return list[i];
-    }
-    0
-}
-
-pub fn least(a: usize, b: usize) -> usize
-    ensures { result ≡ min a b }
-{
-    if a < b { a } else { b }
-}
-
-// How many records the lists have places for.
-pub fn places(
-    tags: &[u8],
-    kinds: &[u8],
-    depths: &[u8],
-    parents: &[u16],
-    starts: &[u16],
-    sizes: &[u16],
-) -> usize
-    ensures { result ≡ places (six tags.now kinds.now depths.now parents.now starts.now sizes.now) }
-{
-    least(
-        tags.len(),
-        least(
-            kinds.len(),
-            least(
-                depths.len(),
-                least(parents.len(), least(starts.len(), sizes.len())),
-            ),
-        ),
-    )
-}
-
-// A record into the lists, at its number, whole or not at all: where one of them has no such place, none is stored to.
-pub fn put_record(
-    tags: &mut [u8],
-    kinds: &mut [u8],
-    depths: &mut [u8],
-    parents: &mut [u16],
-    starts: &mut [u16],
-    sizes: &mut [u16],
-    i: usize,
-    r: Record,
-)
-    ensures { six tags.new kinds.new depths.new parents.new starts.new sizes.new ≡ put_whole i r (six tags.old kinds.old depths.old parents.old starts.old sizes.old) }
-{
-    if i < places(tags, kinds, depths, parents, starts, sizes) {
-        tags[i] = r.tag;
-        kinds[i] = r.kind;
-        depths[i] = r.depth;
-        parents[i] = r.parent;
-        starts[i] = r.start;
-        sizes[i] = r.size;
-    }
-}
-
-// The record of a number, from the lists.
-pub fn record_at(
-    tags: &[u8],
-    kinds: &[u8],
-    depths: &[u8],
-    parents: &[u16],
-    starts: &[u16],
-    sizes: &[u16],
-    i: usize,
-) -> Record
-    ensures { result ≡ row (six tags.now kinds.now depths.now parents.now starts.now sizes.now) i }
-{
-    Record {
-        tag: octet_at(tags, i),
-        kind: octet_at(kinds, i),
-        depth: octet_at(depths, i),
-        parent: number_at(parents, i),
-        start: number_at(starts, i),
-        size: number_at(sizes, i),
-    }
 }
 
 // The kind that the record of a tag shows.

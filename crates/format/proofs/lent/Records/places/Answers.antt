@@ -1,5 +1,5 @@
 use Rattle.format.specs.Calls.{places}
-use Rattle.format.proofs.places.Goals as goal
+use Rattle.format.proofs.lent.Records.places.Goals as goal
 
 pub returns : goal.returns
 unfolding places
