@@ -7,10 +7,11 @@ use native.Mathlib.Nat.{zero-add}
 use native.Mathlib.Numerals.{add-one}
 use native.Mathlib.Omega.{arith}
 use lib.Dec.{leb}
-use lib.ListN.{length, drop, set}
-use lib.Seq.{sets, length-sets, take_all}
+use lib.ListN.{length, take, drop, set}
+use lib.Seq.{sets, take_all, length-take-le}
+use Rattle.std.proofs.lemmas.List.{take-append-drop}
 use borrow.Author.Tests.{leb-true}
-use Rattle.octets.proofs.Lists.{sets-none, sets_last, sets-start}
+use Rattle.octets.proofs.Lists.{sets-none, sets_last, sets-start, sets-left}
 use Rattle.format.specs.declared.Record.{Record}
 use Rattle.format.specs.declared.ReadAnswer.{ReadAnswer}
 use Rattle.format.specs.declared.ReadAnswer.TheVariants.{Records, NotRead}
@@ -36,8 +37,16 @@ copied_next l i slice r e =
     ap (set (copied l i slice) i) (e ∙ ap (row l) (sym (zero-add i))) ∙ ap (λ k. set (copied l i slice) k (row l (0 + i))) (sym n)
     ∙ sym (sets_last slice 0 (tabled (row l) i 0) (row l (0 + i))) ∙ ap (sets slice 0) (sym (tabled-more (row l) i 0)) ∙ ap (λ k. copied l k slice) (sym (add-one i))
 
-pub copied-length : (l : Lists) (i : ℕ) (slice : List Record) → length (copied l i slice) ≡ length slice
-copied-length l i slice = length-sets slice 0 (tabled (row l) i 0)
+-- all that were to be copied, into the front part of the slice
+pub all-copied : (l : Lists) (i many : ℕ) (slice front : List Record) → many ≤ length slice → i ≤ length (take many slice) → length (take many slice) ≤ i
+    → front ≡ copied l i (take many slice) → front ++ drop many slice ≡ copied l many slice
+all-copied l i many slice front h a b e =
+    let n : length (take many slice) ≡ many = length-take-le many slice h in
+    let m : i ≡ many = omega arith in
+    let rs = tabled (row l) many 0 in
+    rw (e, m)
+    (sym (sets-left (take many slice) (drop many slice) 0 rs (omega (arith, tabled-length (row l) many 0)))
+    ∙ ap (λ s. sets s 0 rs) (take-append-drop many slice))
 
 -- as many records as the answer counts, and no more than the places
 many-handed : (n h : ℕ) (j : Judged) → (read_outcome (read_answer n h j)).count ≡ length (read_records n j)

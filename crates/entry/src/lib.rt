@@ -32,11 +32,8 @@ fn copy_records<'r, 'l>(
     requires { many ≤ length records.old }
     ensures { records.new ≡ copied (six tags.now kinds.now depths.now parents.now starts.now sizes.now) many records.old }
 {
-    let mut i = 0;
-    while i < many {
-        let record = record_at(tags, kinds, depths, parents, starts, sizes, i);
-        records[i] = record;
-        i += 1;
+    for (i, record) in records[..many].iter_mut().enumerate() {
+        *record = record_at(tags, kinds, depths, parents, starts, sizes, i);
     }
 }
 

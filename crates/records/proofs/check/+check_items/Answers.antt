@@ -1,4 +1,5 @@
-use mathlib.Core.Path.{refl, ap}
+use mathlib.Core.Path.{refl, ap, ◌∙◌}
+use Rattle.std.specs.Prelude.{Some}
 use native.Mathlib.Omega.{arith}
 use borrow.Author.Rules.{rules}
 use Rattle.records.proofs.Records.{listed-within}
@@ -45,25 +46,26 @@ pub bounds-sizes-i : goal.bounds-sizes-i
 bounds-sizes-i t c =
     (listed-within _ _ _ c.loop-i-test.true c.requires.0).sizes
 
+pub returns-in_err-check_record : goal.returns-in_err-check_record
+returns-in_err-check_record t c =
+    c.from_residual.ensures ∙ turn-bad _ _ _ _ _ _ _ c.loop-i.invariant c.loop-i-test.true _ refl _ c.check_record.ensures c.in_err-check_record.was
+
 pub returns-in-Past : goal.returns-in-Past
 returns-in-Past t c =
-    turn-past _ _ _ _ _ _ _ c.loop-i.invariant c.loop-i-test.true _ refl _ c.check_record.ensures c.in-Past.is
-
-pub returns-in-Bad : goal.returns-in-Bad
-returns-in-Bad t c =
-    turn-bad _ _ _ _ _ _ _ c.loop-i.invariant c.loop-i-test.true _ refl _ c.check_record.ensures c.in-Bad.is
+    turn-past _ _ _ _ _ _ _ c.loop-i.invariant c.loop-i-test.true _ refl _ c.check_record.ensures (c.in_ok-check_record.was ∙ ap Some c.in-Past.is)
 
 pub loop-i-preserved-in-Single : goal.loop-i-preserved-in-Single
 loop-i-preserved-in-Single t c =
-    turn-single _ _ _ _ _ _ _ c.loop-i.invariant c.loop-i-test.true _ refl _ c.check_record.ensures _ c.in-Single.is
+    turn-single _ _ _ _ _ _ _ c.loop-i.invariant c.loop-i-test.true _ refl _ c.check_record.ensures _ (c.in_ok-check_record.was ∙ ap Some c.in-Single.is)
 
 pub parent_at-requires : goal.parent_at-requires
 parent_at-requires t c =
-    nested-shallow _ _ _ _ _ _ _ c.loop-i.invariant c.loop-i-test.true _ refl _ c.check_record.ensures _ _ c.in-Nested.is
+    nested-shallow _ _ _ _ _ _ _ c.loop-i.invariant c.loop-i-test.true _ refl _ c.check_record.ensures _ _ (c.in_ok-check_record.was ∙ ap Some c.in-Nested.is)
 
 pub check_items-requires : goal.check_items-requires
 check_items-requires t c =
-    let deep = nested-shallow _ _ _ _ _ _ _ c.loop-i.invariant c.loop-i-test.true _ refl _ c.check_record.ensures _ _ c.in-Nested.is in
+    let deep = nested-shallow _ _ _ _ _ _ _ c.loop-i.invariant c.loop-i-test.true _ refl _ c.check_record.ensures _ _
+    (c.in_ok-check_record.was ∙ ap Some c.in-Nested.is) in
     let inv = c.loop-i.invariant in
     let low = inv.low in
     let start = c.requires.0 in
@@ -71,20 +73,21 @@ check_items-requires t c =
     let below = ap (λ q. q.depth) c.parent_at.ensures in
     (omega arith, (c.requires.0, omega arith, omega arith))
 
-pub returns-in_default : goal.returns-in_default
-returns-in_default t c =
-    turn-ill _ _ _ _ _ _ _ c.loop-i.invariant c.loop-i-test.true _ refl _ c.check_record.ensures _ _ c.in-Nested.is _ c.parent_at.ensures _
-    c.check_items.ensures c.in_default.is
+pub returns-in_err-i-in-Nested : goal.returns-in_err-i-in-Nested
+returns-in_err-i-in-Nested t c =
+    c.from_residual-in_err-i-in-Nested.ensures
+    ∙ turn-ill _ _ _ _ _ _ _ c.loop-i.invariant c.loop-i-test.true _ refl _ c.check_record.ensures _ _
+    (c.in_ok-check_record.was ∙ ap Some c.in-Nested.is) _ c.parent_at.ensures _ c.check_items.ensures c.in_err-i-in-Nested.was
 
 pub loop-i-smaller : goal.loop-i-smaller
 loop-i-smaller t c =
-    nested-less _ _ _ _ _ _ _ c.loop-i.invariant c.loop-i-test.true _ refl _ c.check_record.ensures _ _ c.in-Nested.is _ c.parent_at.ensures _
-    c.check_items.ensures _ c.in-Next.is
+    nested-less _ _ _ _ _ _ _ c.loop-i.invariant c.loop-i-test.true _ refl _ c.check_record.ensures _ _
+    (c.in_ok-check_record.was ∙ ap Some c.in-Nested.is) _ c.parent_at.ensures _ c.check_items.ensures _ c.in_ok-i-in-Nested.was
 
 pub loop-i-preserved : goal.loop-i-preserved
 loop-i-preserved t c =
-    turn-nested _ _ _ _ _ _ _ c.loop-i.invariant c.loop-i-test.true _ refl _ c.check_record.ensures _ _ c.in-Nested.is _ c.parent_at.ensures _
-    c.check_items.ensures _ c.in-Next.is
+    turn-nested _ _ _ _ _ _ _ c.loop-i.invariant c.loop-i-test.true _ refl _ c.check_record.ensures _ _
+    (c.in_ok-check_record.was ∙ ap Some c.in-Nested.is) _ c.parent_at.ensures _ c.check_items.ensures _ c.in_ok-i-in-Nested.was
 
 pub returns : goal.returns
 returns t c =
