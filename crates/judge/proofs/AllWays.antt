@@ -1,4 +1,5 @@
 -- All that is judged at an item, the late rule among it.
+use Rattle.std.specs.Prelude.{Ok, Err}
 use mathlib.Core.Path.{◌≡◌, refl, sym, ap, ◌∙◌}
 use mathlib.Core.Bool.{Bool, true, false, cond, not, ◌&&◌, ◌||◌, false≢true}
 use mathlib.Core.Option.{Option, none, some}
@@ -20,7 +21,6 @@ use Rattle.values.specs.Table.{rows, known, attribute}
 use Rattle.values.proofs.Known.{row-holds, known-four, known-anywhere}
 use Rattle.format.specs.declared.Refusal.{Refusal}
 use Rattle.format.specs.declared.Counts.{Counts}
-use Rattle.format.specs.declared.ReadAnswer.TheVariants.{Records, NotRead}
 use Rattle.format.specs.Tree.{count}
 use Rattle.format.specs.Judge.{Context, is_top, is_tokens, first, late, late_before, late_after, broken, unless}
 use Rattle.format.proofs.Rules.{first_one}
@@ -206,11 +206,11 @@ module _ (counts : Counts) (part : List ℕ) (at parent stage base : ℕ) (d : B
   ended : (waiting : List (ℕ × List ℕ)) → WaitsWhen (is_top parent && eqb stage 0) parent base part at waiting → late [] waiting ≡ checked r
   ended waiting w = rw (← no-entries part) (late-when true (is_top parent && eqb stage 0) d part at parent base (take (0 - 0) (drop 0 part)) r de l waiting w)
 
-  ended-late : (x : Refusal) → r ≡ Broken x → EndSays counts part at parent stage base (NotRead x)
+  ended-late : (x : Refusal) → r ≡ Broken x → EndSays counts part at parent stage base (Err x)
   unfolding EndSays unless counted checked
   ended-late x f waiting w = rw (ended waiting w ∙ ap checked f)
 
-  ended-good : r ≡ Kept → EndSays counts part at parent stage base (Records counts)
+  ended-good : r ≡ Kept → EndSays counts part at parent stage base (Ok counts)
   unfolding EndSays unless counted checked count
   ended-good f waiting w = rw (ended waiting w ∙ ap checked f, add-zero counts.records, add-zero counts.items)
 
@@ -219,14 +219,14 @@ module _ (counts : Counts) (part : List ℕ) (at parent stage base : ℕ) (d : B
   abbrev nothing : List ℕ
   nothing = take (0 - 0) (drop 0 part)
 
-  pub end-undue : d ≡ false → EndSays counts part at parent stage base (Records counts)
+  pub end-undue : d ≡ false → EndSays counts part at parent stage base (Ok counts)
   end-undue e = ended-good counts part at parent stage base d de Kept (late-undue d part at parent base nothing e) refl
 
   module _ (e : d ≡ true) (r : Check) (l : LateSays true part at parent base nothing r) where
-    pub end-late : (x : Refusal) → r ≡ Broken x → EndSays counts part at parent stage base (NotRead x)
+    pub end-late : (x : Refusal) → r ≡ Broken x → EndSays counts part at parent stage base (Err x)
     end-late = ended-late counts part at parent stage base d de r (late_due d part at parent base nothing e r l)
 
-    pub end-good : r ≡ Kept → EndSays counts part at parent stage base (Records counts)
+    pub end-good : r ≡ Kept → EndSays counts part at parent stage base (Ok counts)
     end-good = ended-good counts part at parent stage base d de r (late_due d part at parent base nothing e r l)
 
 pub ruleset end-ways = (end-undue, end-late, end-good)

@@ -1,4 +1,5 @@
 -- The late rule 12: what waits, and the scan over it.
+use Rattle.std.specs.Prelude.{Some, None, Option as Optional}
 use mathlib.Core.Path.{◌≡◌, refl, sym, ap, ◌∙◌}
 use mathlib.Core.Bool.{Bool, true, false, not, ◌||◌}
 use mathlib.Core.Option.{Option}
@@ -21,9 +22,8 @@ use Rattle.format.specs.declared.Refusal.{Refusal}
 use Rattle.format.specs.Answers.{refusal}
 use Rattle.format.specs.Judge.{is_text, rule, first, late, waits}
 use Rattle.format.proofs.Rules.{first_one}
-use Rattle.octets.specs.Calls.{header_of}
-use Rattle.octets.specs.declared.Header.{Header}
-use Rattle.octets.specs.declared.Header.TheVariants.{Past, Found}
+use Rattle.octets.specs.Calls.{header_of, span}
+use Rattle.octets.specs.declared.Span.{Span}
 use Rattle.judge.specs.Says.{checked, Framed, Waits, WaitsWhen, LateSays}
 use Rattle.judge.specs.Says.Waits.{done, more}
 use Rattle.judge.specs.declared.Check.{Check}
@@ -126,14 +126,14 @@ module _ (part : List ℕ) (run parent base : ℕ) (table : List ℕ) where
     unfolding late checked
     late-end h = concluded Kept (λ ws q. q.same ∙ ap (late (entries table)) (at-stop parent base part run at q.later q.there h))
 
-    module _ (h : at < run) (r : Header) (e : r ≡ header_of (take (length part - at) (drop at part))) where
+    module _ (h : at < run) (r : Optional Span) (e : r ≡ header_of (take (length part - at) (drop at part))) where
       here : r ≡ header_of (drop at part)
       here = rw (← part_to_end part at) e
 
-      pub late-past : r ≡ Past → LateSays true part run parent base table Kept
+      pub late-past : r ≡ None → LateSays true part run parent base table Kept
       late-past f = concluded Kept (λ ws q. absurd (omega (arith, in-front parent base part run at q.later q.there h, header-past (drop at part) r here f)))
 
-      module _ (start size : ℕ) (f : r ≡ Found start size) where
+      module _ (start size : ℕ) (f : r ≡ Some (span start size)) where
         fr : Framed (drop at part) start size
         fr = framed (drop at part) r start size here f
 

@@ -1,4 +1,5 @@
 -- An item's own rules, 2 to 13, on each way through the code's tests.
+use Rattle.std.specs.Prelude.{Some, None, Option as Optional}
 use mathlib.Core.Path.{◌≡◌, refl, sym, ap, ◌∙◌}
 use mathlib.Core.Bool.{Bool, true, false, not, ◌&&◌, ◌||◌, false≢true}
 use mathlib.Core.Option.{Option, some}
@@ -18,10 +19,9 @@ use Rattle.format.specs.declared.Refusal.{Refusal}
 use Rattle.format.specs.Answers.{refusal}
 use Rattle.format.specs.Judge.{allowed, stage_after, rule, first, item_rules, own}
 use Rattle.format.proofs.Rules.{first_one}
-use Rattle.octets.specs.Calls.{header_of}
+use Rattle.octets.specs.Calls.{header_of, span}
+use Rattle.octets.specs.declared.Span.{Span}
 use Rattle.values.specs.Calls.{known_kind}
-use Rattle.octets.specs.declared.Header.{Header}
-use Rattle.octets.specs.declared.Header.TheVariants.{Past, Found}
 use Rattle.values.specs.declared.KnownKind.{KnownKind}
 use Rattle.tags.specs.Rules.{with_bit}
 use Rattle.tags.proofs.Masks.{marked}
@@ -38,7 +38,7 @@ unfolding after
 progress-is tag progress stage mask e f = λ i. record { stage = e i; mask = f i }
 
 -- the header of a part
-pub framed : (s : List ℕ) (r : Header) (start size : ℕ) → r ≡ header_of s → r ≡ Found start size → Framed s start size
+pub framed : (s : List ℕ) (r : Optional Span) (start size : ℕ) → r ≡ header_of s → r ≡ Some (span start size) → Framed s start size
 framed s r start size e f = let h = header-found s r e start size f in record { is_start = sym h.header; is_size = sym h.body; in_part = omega arith }
 
 pub start-two : (s : List ℕ) (start size : ℕ) → Framed s start size → 2 ≤ start
@@ -60,7 +60,7 @@ module _ (parent left : ℕ) (progress : Progress) (table : List ℕ) (place : �
   abbrev R : Option Refusal → Type 0
   R = OwnIs parent left progress table place s
 
-  pub own-2 : (r : Header) → r ≡ header_of s → r ≡ Past → (x : Refusal) → x ≡ refusal 2 place → R (some x)
+  pub own-2 : (r : Optional Span) → r ≡ header_of s → r ≡ None → (x : Refusal) → x ≡ refusal 2 place → R (some x)
   unfolding OwnIs own_of own first rule
   own-2 r e f x m seen waiting z = rw (m, lt-leb (header_size s) (length s) (header-past s r e f))
 

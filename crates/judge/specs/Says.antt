@@ -1,6 +1,6 @@
 -- What the code's values say, in the words of the crate format: contracts of the crate's own functions. The one public call is claimed by format's definitions
 -- alone (specs/Judge, specs/Calls). Rules are those of document 01, Refusal numbers.
-use Rattle.std.specs.Prelude.{◌≡◌, Bool, true, false, cond, ◌&&◌, List, [], ◌∷◌, ◌++◌, ℕ, ◌+◌, ◌-◌, ◌≤◌, eqb, length, take, drop, get_or}
+use Rattle.std.specs.Prelude.{◌≡◌, Bool, true, false, cond, ◌&&◌, List, [], ◌∷◌, ◌++◌, ℕ, ◌+◌, ◌-◌, ◌≤◌, eqb, length, take, drop, get_or, Result, Ok, Err}
 use Rattle.std.proofs.Math.Option.{Option, none, some}
 use Rattle.octets.specs.Header.{header_size, body_size}
 use Rattle.text.specs.Tokens.{Entries, entries}
@@ -10,8 +10,6 @@ use Rattle.values.specs.declared.Kind.TheVariants.{HoldsItems, HoldsTokens, Hold
 use Rattle.values.specs.Table.{known}
 use Rattle.format.specs.declared.Refusal.{Refusal}
 use Rattle.format.specs.declared.Counts.{Counts}
-use Rattle.format.specs.declared.ReadAnswer.{ReadAnswer}
-use Rattle.format.specs.declared.ReadAnswer.TheVariants.{Records, NotRead}
 use Rattle.format.specs.Answers.{refusal}
 use Rattle.format.specs.Tree.{count}
 use Rattle.format.specs.Tree.Items.{end}
@@ -54,7 +52,7 @@ unfoldable pub checked : Check → Option Refusal
 checked Kept = none
 checked (Broken r) = some r
 
--- what becomes of an item by its kind: an unknown one gives nothing, the table no record of its own (document 01, Records and meaning)
+-- what becomes of an item by its kind: an unknown one gives nothing, the table no record of its own (document 01, Ok and meaning)
 unfoldable pub sorted : Option Kind → Sort
 sorted none = Skip
 sorted (some HoldsItems) = Element
@@ -163,12 +161,12 @@ abbrev pub record_more : Counts → Counts
 record_more n = record { records = n.records + 1; items = n.items }
 
 -- what judging items with so many headers answers where so much was counted before them
-unfoldable pub counted : Counts → (headers : ℕ) → Judged → ReadAnswer
-counted before h (refused r) = NotRead r
-counted before h (accepted t) = Records (record { records = before.records + count t; items = before.items + h })
+unfoldable pub counted : Counts → (headers : ℕ) → Judged → Result Counts Refusal
+counted before h (refused r) = Err r
+counted before h (accepted t) = Ok (record { records = before.records + count t; items = before.items + h })
 
 -- the end of an element's items, at a place: what still waits is judged without a table
-unfoldable pub EndSays : (counts : Counts) (part : List ℕ) (at parent stage base : ℕ) → ReadAnswer → Type 0
+unfoldable pub EndSays : (counts : Counts) (part : List ℕ) (at parent stage base : ℕ) → Result Counts Refusal → Type 0
 EndSays counts part at parent stage base r =
     (waiting : List (ℕ × List ℕ)) → WaitsWhen (is_top parent && eqb stage 0) parent base part at waiting → r ≡ counted counts 0 (unless (late [] waiting) (accepted end))
 
@@ -177,11 +175,11 @@ pub record AtMost (m : ℕ) (counts : Counts) : Type 0 where
   pub records : counts.records ≤ m
   pub items : counts.items ≤ m
 
-abbrev pub CountsAtMost : ℕ → ReadAnswer → Type 0
-CountsAtMost m (Records counts) = AtMost m counts
-CountsAtMost m (NotRead r) = Unit {0}
+abbrev pub CountsAtMost : ℕ → Result Counts Refusal → Type 0
+CountsAtMost m (Ok counts) = AtMost m counts
+CountsAtMost m (Err r) = Unit {0}
 
 -- an answer counts what was counted before, and no more
-abbrev pub CountsAs : Counts → ReadAnswer → Type 0
-CountsAs before (Records counts) = counts ≡ before
-CountsAs before (NotRead r) = Unit {0}
+abbrev pub CountsAs : Counts → Result Counts Refusal → Type 0
+CountsAs before (Ok counts) = counts ≡ before
+CountsAs before (Err r) = Unit {0}

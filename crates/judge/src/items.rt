@@ -8,7 +8,7 @@ ghost use Rattle.judge.specs.Says.{ctx, InForce, depth_of, table_sort, BehindIs,
 use crate::late::{hold_attributes, is_due_before, is_waiting, judge_late};
 use crate::rules::judge_own;
 use crate::{Check, Item, Progress, Sort, bad};
-use format::{Counts, ReadAnswer};
+use format::{Counts, Refusal};
 use text::{characters_of, tokens_of};
 
 // The late rule is judged just after the table.
@@ -94,7 +94,7 @@ fn end_items(
     parent: u8,
     stage: u8,
     base: usize,
-) -> ReadAnswer
+) -> Result<Counts, Refusal>
     requires { (base + length part.now ≤ 32_768) × (at ≤ length part.now) }
     ensures end_says { EndSays counts part.now at parent stage base result }
     ensures counts_as { CountsAs counts result }
@@ -102,14 +102,14 @@ fn end_items(
     if is_waiting(parent, stage) {
         match hold_attributes(part, at, parent, base, &part[0..0]) {
             Check::Broken(refusal) => {
-                return ReadAnswer::NotRead(refusal);
+                return Err(refusal);
             }
             Check::Kept => {
-                return ReadAnswer::Records(counts);
+                return Ok(counts);
             }
         }
     }
-    ReadAnswer::Records(counts)
+    Ok(counts)
 }
 
 // The items of a part, which begins at the place `base` of the object and is the body of an element with the tag `parent`, or the object (0).
@@ -125,7 +125,7 @@ pub fn read_items<'a>(
     table: &'a [u8],
     marks: u32,
     shows: &[u8; 32],
-) -> ReadAnswer
+) -> Result<Counts, Refusal>
     requires part_bound { (base + length part.now ≤ 32_768) × AtMost base counts × (left ≤ 16) }
     requires in_force { InForce table.now marks shows.now }
     ensures value { result ≡ counted counts (headers parent part.now) (read (ctx parent (depth_of left) 0 [] (entries table.now) []) base part.now) }
@@ -141,7 +141,7 @@ pub fn read_items<'a>(
         let item = read_item(part, at, base, parent, left, progress, table, marks, &shows);
         if !item.good {
             let refusal = item.refusal;
-            return ReadAnswer::NotRead(refusal);
+            return Err(refusal);
         }
         let tag = part[at];
         let from = at + item.start;
@@ -163,10 +163,10 @@ pub fn read_items<'a>(
                 match read_element(
                     part, from, at, base, tag, left, counts, table, marks, &shows,
                 ) {
-                    ReadAnswer::NotRead(refusal) => {
-                        return ReadAnswer::NotRead(refusal);
+                    Err(refusal) => {
+                        return Err(refusal);
                     }
-                    ReadAnswer::Records(within) => {
+                    Ok(within) => {
                         counts = within;
                     }
                 }
@@ -190,7 +190,7 @@ fn read_element<'a>(
     table: &'a [u8],
     marks: u32,
     shows: &[u8; 32],
-) -> ReadAnswer
+) -> Result<Counts, Refusal>
     requires from_le_to { (from ≤ to) × (to ≤ length part.now) × (base + length part.now ≤ 32_768) × AtMost (base + from) (record_more counts) × (0 < left) × (left ≤ 16) }
     requires in_force { InForce table.now marks shows.now }
     ensures value { result ≡ counted (record_more counts) (headers tag (take (to - from) (drop from part.now))) (read (ctx tag (depth_of (left - 1)) 0 [] (entries table.now) []) (base + from) (take (to - from) (drop from part.now))) }

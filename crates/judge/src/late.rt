@@ -8,7 +8,7 @@ ghost use Rattle.judge.specs.Says.{LateSays};
 
 use crate::Check;
 use format::refuse;
-use octets::{Header, read_header};
+use octets::read_header;
 use tags::{holds_text, is_top};
 use text::is_covered;
 use values::is_attribute;
@@ -54,23 +54,18 @@ pub fn hold_attributes(part: &[u8], run: usize, parent: u8, base: usize, table: 
 {
     let mut at: usize = 0;
     while at < run {
-        match read_header(&part[at..]) {
-            Header::Past => {
-                return Check::Kept;
-            }
-            Header::Found { start, size } => {
-                if part.len() - at - start < size {
-                    return Check::Kept;
-                }
-                let from = at + start;
-                let to = from + size;
-                if is_settled(parent, part[at], table, &part[from..to]) {
-                    at = to;
-                } else {
-                    return Check::Broken(refuse(12, base + at));
-                }
-            }
+        let Some(body) = read_header(&part[at..]) else {
+            return Check::Kept;
+        };
+        if part.len() - at - body.start < body.size {
+            return Check::Kept;
         }
+        let from = at + body.start;
+        let to = from + body.size;
+        if !is_settled(parent, part[at], table, &part[from..to]) {
+            return Check::Broken(refuse(12, base + at));
+        }
+        at = to;
     }
     Check::Kept
 }

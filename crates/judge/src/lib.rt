@@ -12,7 +12,7 @@ mod items;
 mod late;
 mod rules;
 
-use format::{Counts, ReadAnswer, Refusal, refuse};
+use format::{Counts, Refusal, refuse};
 use items::read_items;
 use text::{characters_of, tokens_of};
 
@@ -95,11 +95,11 @@ pub fn levels_in(depth: u8) -> u8
 
 // Items of an element of a tag and a depth, judged by themselves, where no token table is in force: the refusal of document 01's table, with its place and field,
 // or how many records they have and how many items were judged. Nothing is written.
-pub fn judge_inside(element: u8, depth: u8, octets: &[u8]) -> ReadAnswer
+pub fn judge_inside(element: u8, depth: u8, octets: &[u8]) -> Result<Counts, Refusal>
     ensures { result ≡ judge_answer (headers element octets.now) (judge_inside element depth octets.now) }
 {
     if octets.len() > 32_768 {
-        return ReadAnswer::NotRead(refuse(1, 0));
+        return Err(refuse(1, 0));
     }
     let none = &octets[0..0];
     let marks = tokens_of(none);
@@ -121,11 +121,11 @@ pub fn judge_inside(element: u8, depth: u8, octets: &[u8]) -> ReadAnswer
 }
 
 // The whole judgement of an object, which counts as an element with the tag 0 and the depth 0, whose one item is the top.
-pub fn judge(object: &[u8]) -> ReadAnswer
+pub fn judge(object: &[u8]) -> Result<Counts, Refusal>
     ensures { result ≡ judge_answer (headers_of object.now) (judge object.now) }
 {
     if object.len() == 0 {
-        return ReadAnswer::NotRead(refuse(1, 0));
+        return Err(refuse(1, 0));
     }
     judge_inside(0, 0, object)
 }

@@ -12,7 +12,7 @@ ghost use Rattle.judge.specs.Says.{depth_of, as_kind, sorted, bare, InForce, che
 
 use crate::{Check, Item, Progress, Sort, bad, good};
 use format::{Refusal, refuse};
-use octets::{Characters, Header, read_header};
+use octets::{Characters, read_header};
 use tags::{
     has_bit, is_allowed, is_short, is_top, is_within_depth, latest_of, stage_after, with_bit,
 };
@@ -265,10 +265,10 @@ pub fn judge_own(
     requires in_force { InForce table.now marks shows.now }
     ensures { Says (OwnIs parent left progress table.now place rest.now) parent progress rest.now result }
 {
-    match read_header(rest) {
-        Header::Past => bad(refuse(2, place)),
-        Header::Found { start, size } => judge_framed(
-            rest, start, size, place, parent, left, progress, table, marks, shows,
-        ),
-    }
+    let Some(body) = read_header(rest) else {
+        return bad(refuse(2, place));
+    };
+    judge_framed(
+        rest, body.start, body.size, place, parent, left, progress, table, marks, shows,
+    )
 }

@@ -79,9 +79,9 @@ pub read_items-read_element-requires : goal.read_items-read_element-requires
 read_items-read_element-requires t c =
     (omega (arith, c.decreases), ((omega arith, item_in _ _ _ _ _ _ _ _ _ _ c.loop-at.invariant.0 c.loop-at-test.true _ c.read_item-item.ensures (not-false _ c.if-not-item.false), c.requires.part_bound.0, item-few _ _ _ _ _ _ _ _ _ _ c.loop-at.invariant.0 c.loop-at-test.true _ c.read_item-item.ensures (not-false _ c.if-not-item.false), element-levels _ _ _ _ _ _ _ _ _ _ c.loop-at.invariant.0 c.loop-at-test.true _ c.read_item-item.ensures (not-false _ c.if-not-item.false) c.in-Element.is, c.loop-at.invariant.0.levels), c.loop-at.invariant.1))
 
-pub read_items-returns-in-NotRead : goal.read_items-returns-in-NotRead
-read_items-returns-in-NotRead t c =
-    record { value = element-bad _ _ _ _ _ _ _ _ _ _ c.loop-at.invariant.0 c.loop-at-test.true _ c.read_item-item.ensures (not-false _ c.if-not-item.false) c.in-Element.is _ c.read_element.ensures.value _ c.in-NotRead.is; counts_at_most = tt }
+pub read_items-returns-in-Err : goal.read_items-returns-in-Err
+read_items-returns-in-Err t c =
+    record { value = element-bad _ _ _ _ _ _ _ _ _ _ c.loop-at.invariant.0 c.loop-at-test.true _ c.read_item-item.ensures (not-false _ c.if-not-item.false) c.in-Element.is _ c.read_element.ensures.value _ c.in-Err.is; counts_at_most = tt }
 
 pub read_items-loop-at-smaller : goal.read_items-loop-at-smaller
 read_items-loop-at-smaller t c =
@@ -89,7 +89,7 @@ read_items-loop-at-smaller t c =
 
 pub read_items-loop-at-preserved : goal.read_items-loop-at-preserved
 read_items-loop-at-preserved t c =
-    (past-element _ _ _ _ _ _ _ _ _ _ c.loop-at.invariant.0 c.loop-at-test.true _ c.read_item-item.ensures (not-false _ c.if-not-item.false) c.in-Element.is _ c.read_element.ensures.value _ c.in-Records.is c.read_element.ensures.counts_at_most, c.loop-at.invariant.1)
+    (past-element _ _ _ _ _ _ _ _ _ _ c.loop-at.invariant.0 c.loop-at-test.true _ c.read_item-item.ensures (not-false _ c.if-not-item.false) c.in-Element.is _ c.read_element.ensures.value _ c.in-Ok.is c.read_element.ensures.counts_at_most, c.loop-at.invariant.1)
 
 pub read_items-end_items-requires : goal.read_items-end_items-requires
 read_items-end_items-requires t c =
