@@ -71,8 +71,8 @@ look_items-look_item-requires t c = search (look-ways, rules)
 pub look_items-enum_known-place : goal.look_items-enum_known-place
 look_items-enum_known-place t c = search (look-ways, rules)
 
-pub look_items-returns-in-At : goal.look_items-returns-in-At
-look_items-returns-in-At t c = search (look-ways, rules)
+pub look_items-returns-in-Some : goal.look_items-returns-in-Some
+look_items-returns-in-Some t c = search (look-ways, rules)
 
 pub look_items-enum_told-in_default-look_item : goal.look_items-enum_told-in_default-look_item
 look_items-enum_told-in_default-look_item t c = search (look-ways, rules)
