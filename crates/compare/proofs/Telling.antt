@@ -1,12 +1,13 @@
 -- Two bodies of one kind: the ways through the functions of bodies.
 use mathlib.Core.Path.{◌≡◌, refl, sym, ap, ap₂, ◌∙◌, subst}
 use mathlib.Core.Bool.{Bool, true, false, not, ◌&&◌, false≢true, and-false}
-use mathlib.Core.List.{List, []}
+use mathlib.Core.List.{List, [], ◌∷◌}
 use Prim.Native.Nat.{ℕ, zero, suc, ◌+◌, ◌-◌, ◌≤◌, ◌<◌}
 use native.Mathlib.Numerals.{add-one}
 use native.Mathlib.Nat.{add-zero}
 use native.Mathlib.Omega.{arith}
 use lib.Dec.{eqb}
+use lib.Pointwise.{pointwise}
 use lib.ListN.{length, take, drop, get_or, drop_of_length-le}
 use lib.Seq.{drop-cons, get_or-drop}
 use borrow.Author.Tests.{eqb-true, eq-eqb, ne_eqb}
@@ -36,7 +37,7 @@ use Rattle.values.proofs.Times.{time-ok}
 use Rattle.values.proofs.Bearers.{bearer-ok}
 use Rattle.values.proofs.Laws.{number-normal, time-taken, time-refused, bearer-taken, bearer-refused}
 use Rattle.format.specs.Same.{same_octets, same_value}
-use Rattle.compare.specs.Bodies.{same_body, same_standing, Tells, all_by, Alike}
+use Rattle.compare.specs.Bodies.{same_body, same_standing, Tells, all_by}
 use Rattle.format.proofs.Same.{same-octets, tests_agree, value-exactly}
 
 -- ---- octets
@@ -49,64 +50,13 @@ pub eight-by : (t : ℕ → ℕ → Bool) (x y : List ℕ) (a b c d e f g h : Bo
 unfolding all_by
 eight-by t x y a b c d e f g h ea eb ec ed ee ef eg eh = rw (ea, eb, ec, ed, ee, ef, eg, eh)
 
-module _ (a b : List ℕ) where
-  pub alike-longer : (length a ≡ length b → ⊥) → false ≡ same_octets a b
-  alike-longer h = go (same_octets a b) refl
-    where
-      go : (t : Bool) → same_octets a b ≡ t → false ≡ same_octets a b
-      go true e = absurd (h (ap length (same-octets a b e)))
-      go false e = sym e
-
-  pub alike-begin : length a ≡ length b → Alike a b 0
-  alike-begin h = record { inside = omega arith; long = h; same = refl }
-
-  module _ (i : ℕ) (inv : Alike a b i) where
-    pub alike-ended : length a ≤ i → true ≡ same_octets a b
-    unfolding same_octets
-    alike-ended h = let g : length b ≤ i = omega (arith, inv.long) in sym (inv.same ∙ ap₂ same_octets (drop_of_length-le a h) (drop_of_length-le b g))
-
-    module _ (h : i < length a) where
-      pub alike-other : i < length b
-      alike-other = let l = inv.long in omega arith
-
-      step : same_octets a b ≡ eqb (get_or a i 0) (get_or b i 0) && same_octets (drop (suc i) a) (drop (suc i) b)
-      unfolding same_octets
-      step = inv.same ∙ ap₂ same_octets (drop-cons a i 0 h) (drop-cons b i 0 alike-other)
-
-      pub alike-differ : (get_or a i 0 ≡ get_or b i 0 → ⊥) → false ≡ same_octets a b
-      alike-differ d = sym (step ∙ rw (ne_eqb (get_or a i 0) (get_or b i 0) d))
-
-      pub alike-again : get_or a i 0 ≡ get_or b i 0 → Alike a b (i + 1)
-      alike-again e = record { inside = omega arith; long = inv.long; same = rw add-one (step ∙ rw (eq-eqb (get_or a i 0) (get_or b i 0) e)) }
-
-pub ruleset alike-ways = (alike-longer, alike-ended, alike-other, alike-differ, alike-again)
-
-module _ (a b : List ℕ) where
-  alike-more : (k i : ℕ) → Alike a b i → i + k ≤ length a → all_by eqb k (drop i a) (drop i b) ≡ true → Alike a b (i + k)
-  unfolding all_by
-  alike-more zero i inv h e = rw add-zero inv
-  alike-more (suc k) i inv h e =
-      let x = get_or (drop i a) k 0 in
-      let y = get_or (drop i b) k 0 in
-      let last = eqb-true x y (and_right (all_by eqb k (drop i a) (drop i b)) (eqb x y) e) in
-      let before = alike-more k i inv (omega arith) (and_left (all_by eqb k (drop i a) (drop i b)) (eqb x y) e) in
-      let m : i + k + 1 ≡ i + suc k = omega arith in
-      subst (Alike a b) m (alike-again a b (i + k) before (omega arith) (sym (get_or-drop i a k 0) ∙ last ∙ get_or-drop i b k 0))
-
-  module _ (i : ℕ) (inv : Alike a b i) where
-    pub alike-inside : i ≤ length a
-    alike-inside = inv.inside
-
-    pub alike-inside-second : i ≤ length b
-    alike-inside-second = omega (arith, inv.inside, inv.long)
-
-    pub alike-eight-second : 8 ≤ length a - i → 8 ≤ length b - i
-    alike-eight-second h = omega (arith, inv.long)
-
-    pub alike-eight : 8 ≤ length a - i → (r : Bool) → r ≡ all_by eqb 8 (take (length a - i) (drop i a)) (take (length b - i) (drop i b)) → r ≡ true → Alike a b (i + 8)
-    alike-eight h r e q = alike-more 8 i inv (omega (arith, inv.inside)) (ap₂ (all_by eqb 8) (sym (part_to_end a i)) (sym (part_to_end b i)) ∙ sym e ∙ q)
-
-pub ruleset eights-ways = (alike-begin, alike-inside, alike-inside-second, alike-eight-second)
+-- the library's test of two slices is that of octets
+pub octets-told : (a b : List ℕ) → pointwise eqb a b ≡ same_octets a b
+unfolding same_octets
+octets-told [] [] = refl
+octets-told [] (y ∷ b) = refl
+octets-told (x ∷ a) [] = refl
+octets-told (x ∷ a) (y ∷ b) = ap (λ t. eqb x y && t) (octets-told a b)
 
 -- ---- answers that tell equality
 

@@ -22,9 +22,3 @@ pub record Tells {A : Type 0} (a b : A) (r : Bool) : Type 0 where
 unfoldable pub all_by : (ℕ → ℕ → Bool) → ℕ → List ℕ → List ℕ → Bool
 all_by f zero a b = true
 all_by f (suc n) a b = all_by f n a b && f (get_or a n 0) (get_or b n 0)
-
--- lists of one length are the same exactly where they are from a place on
-pub record Alike (a b : List ℕ) (i : ℕ) : Type 0 where
-  pub inside : i ≤ length a
-  pub long : length a ≡ length b
-  pub same : same_octets a b ≡ same_octets (drop i a) (drop i b)
