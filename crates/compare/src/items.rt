@@ -88,12 +88,10 @@ fn same_by_tags(
 ) -> bool
     ensures { result ≡ same_sets parent (entries_by index_a.now table_a.now) a.now (entries_by index_b.now table_b.now) b.now }
 {
-    let mut tag: u8 = 0x80;
-    while tag < 0x87 {
+    for tag in 0x80..0x87 {
         if !same_attribute(parent, tag, index_a, table_a, a, index_b, table_b, b) {
             return false;
         }
-        tag = tag + 1;
     }
     true
 }
