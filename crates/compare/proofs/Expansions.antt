@@ -2,13 +2,13 @@
 use mathlib.Core.Path.{◌≡◌, refl, sym, ap, ap₂, ◌∙◌, subst}
 use mathlib.Core.Bool.{Bool, true, false, cond, ◌&&◌, false≢true, and-false}
 use mathlib.Core.List.{List, [], ◌∷◌, ◌++◌, append_assoc}
-use Prim.Native.Nat.{ℕ, zero, suc, ◌+◌, ◌-◌, ◌*◌, ◌^◌, ◌≤◌, ◌<◌, min, max}
+use Prim.Native.Nat.{ℕ, zero, suc, ◌+◌, ◌-◌, ◌*◌, ◌^◌, ◌≤◌, ◌<◌, min}
 use native.Mathlib.Nat.{add-zero}
 use native.Mathlib.Omega.{arith}
 use lib.Dec.{eqb, leb, ltb}
 use lib.ListN.{length, take, drop, get_or, length-append, length-drop, drop_of_length-le}
 use lib.Seq.{drop-drop, length-take-le, get_or-take, get_or-drop}
-use borrow.Author.Tests.{ltb-true, ltb-false, lt-ltb, le-ltb, lt-leb, leb-true, leb-false, eqb-true, eqb-false, eq-eqb, ne_eqb}
+use borrow.Author.Tests.{ltb-true, ltb-false, lt-ltb, le-ltb, lt-leb, leb-true, leb-false, eqb-true, eq-eqb, ne_eqb}
 use Rattle.octets.specs.declared.Lies.{Lies}
 use Rattle.octets.specs.declared.Lies.TheVariants.{Outside, Between}
 use Rattle.octets.specs.Places.{between}
@@ -156,13 +156,6 @@ module _ (s : List ℕ) (r : Rest) where
   over-text h = rw (le-ltb r.from r.to h)
 
 pub ruleset over-ways = (over-entry, over-text)
-
-module _ (a b : List ℕ) (p q : Rest) (t : Bool) (e : t ≡ is_over a p) where
-  pub over-both : t ≡ true → (r : Bool) → r ≡ is_over b q → r ≡ is_over a p && is_over b q
-  over-both y r f = f ∙ ap (λ x. x && is_over b q) (sym y ∙ e)
-
-  pub over-not : t ≡ false → false ≡ is_over a p && is_over b q
-  over-not n = ap (λ x. x && is_over b q) (sym n ∙ e)
 
 -- ---- common
 

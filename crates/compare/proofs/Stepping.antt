@@ -8,7 +8,7 @@ use native.Mathlib.Omega.{arith}
 use lib.Dec.{eqb, ltb}
 use lib.ListN.{length, get_or}
 use borrow.Author.Tests.{eqb-true, eqb-false, eq-eqb, ne_eqb, ltb-true, ltb-false, lt-ltb, le-ltb}
-use Rattle.std.specs.Prelude.{Option, None, Some, Result, Ok, Err}
+use Rattle.std.specs.Prelude.{Option, None, Some, Ok, Err}
 use Rattle.octets.specs.declared.Lies.{Lies}
 use Rattle.octets.specs.declared.Lies.TheVariants.{Outside, Between}
 use Rattle.octets.specs.Places.{lies_at, between}
@@ -26,7 +26,6 @@ use Rattle.survey.specs.Places.{span_of_tag, body_of_tag}
 use Rattle.survey.proofs.Rising.{known-few}
 use Rattle.survey.proofs.Seeking.{Spans, span-begin, span-ended, span-behind, span-found, span-again}
 use Rattle.compare.specs.declared.steps.Due.{Due}
-use Rattle.compare.specs.declared.steps.Astray.{Astray}
 use Rattle.compare.specs.Bodies.{same_body}
 use Rattle.compare.specs.Items.{counted_body, counted_of_tag, same_found, same_from, same_sets}
 use Rattle.compare.specs.Steps.{attribute_at, astray, due_as, due_at, item_of}
@@ -119,9 +118,11 @@ module _ (part : List ℕ) (at last : ℕ) (v : Option Due) (e : Ok v ≡ due_at
             → Ok (Some d) ≡ cond (b && k) (cond c (due_as x l) (Err astray)) (Ok None) → Tagged part at d.tag d.from d.to × (attribute d.tag ≡ true) × (last < d.tag)
         go true t true k true c (Between f g) l p =
             let w : d ≡ record { tag = x; from = f; to = g } = cc in
-            let y : x ≡ d.tag = sym (ap (λ z. z.tag) w) in
-            (record { begins = ltb-true at (length part) t; tagged = y; lies = ap₂ Between (ap (λ z. z.from) w) (ap (λ z. z.to) w) ∙ sym l },
-            subst (λ z. attribute z ≡ true) y k, subst (λ z. last < z) y (ltb-true last x c))
+            let y : x ≡ d.tag = sym (ap (λ z. z.tag) w) in (
+              record { begins = ltb-true at (length part) t; tagged = y; lies = ap₂ Between (ap (λ z. z.from) w) (ap (λ z. z.to) w) ∙ sym l },
+              subst (λ z. attribute z ≡ true) y k,
+              subst (λ z. last < z) y (ltb-true last x c),
+            )
         go true t true k true c Outside l p = never (cc)
         go true t true k false c l m p = never (cc)
         go true t false k c o l m p = never (cc)

@@ -1,9 +1,9 @@
 -- Two bodies of one kind, and what the functions that compare their fields and their octets tell.
-use Rattle.std.specs.Prelude.{◌≡◌, Bool, true, ◌&&◌, List, [], ℕ, zero, suc, ◌≤◌, length, drop, get_or}
+use Rattle.std.specs.Prelude.{◌≡◌, Bool, true, ◌&&◌, List, [], ℕ, zero, suc, get_or}
 use Rattle.text.specs.Tokens.{Entries}
 use Rattle.values.specs.declared.Kind.{Kind}
 use Rattle.values.specs.Values.{fits, meant}
-use Rattle.format.specs.Same.{same_octets, same_value}
+use Rattle.format.specs.Same.{same_value}
 
 -- both are values of the kind and mean the same, each under the entries of its own token table (document 01, Values)
 unfoldable pub same_body : Entries → Entries → Kind → List ℕ → List ℕ → Bool

@@ -17,15 +17,6 @@ pub fn same_octets(a: &[u8], b: &[u8]) -> bool
     a == b
 }
 
-fn are_flags_same(a: bool, b: bool) -> bool
-    ensures { Tells a b result }
-{
-    if a {
-        return b;
-    }
-    !b
-}
-
 fn are_times_same(t: Time, u: Time) -> bool
     ensures { Tells t u result }
 {
@@ -44,7 +35,7 @@ fn are_times_same(t: Time, u: Time) -> bool
     if t.halves != u.halves {
         return false;
     }
-    are_flags_same(t.minus, u.minus)
+    t.minus == u.minus
 }
 
 fn are_ensembles_same(a: Ensemble, b: Ensemble) -> bool
@@ -79,12 +70,10 @@ fn are_bearers_same(a: Bearer, b: Bearer) -> bool
     if a.scids != b.scids {
         return false;
     }
-    if !are_flags_same(a.long, b.long) {
+    if a.long != b.long {
         return false;
     }
-    let first = a.ensemble;
-    let second = b.ensemble;
-    are_ensembles_same(first, second)
+    are_ensembles_same(a.ensemble, b.ensemble)
 }
 
 fn same_times(a: &[u8], b: &[u8]) -> bool

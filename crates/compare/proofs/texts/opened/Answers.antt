@@ -2,17 +2,8 @@ use borrow.Author.Rules.{rules}
 use Rattle.compare.proofs.Expansions.{open-ways}
 use Rattle.compare.proofs.texts.opened.Goals as goal
 
-pub loop-at-init : goal.loop-at-init
-loop-at-init c = search (open-ways, rules)
-
-pub returns-then-r : goal.returns-then-r
-returns-then-r c = search (open-ways, rules)
-
 pub returns-in_default : goal.returns-in_default
 returns-in_default c = search (open-ways, rules)
 
 pub loop-at-preserved : goal.loop-at-preserved
 loop-at-preserved c = search (open-ways, rules)
-
-pub returns : goal.returns
-returns c = search (open-ways, rules)
