@@ -296,13 +296,12 @@ from_past zero tag parent es a fs b h = refl
 from_past (suc n) tag parent es a fs b h = rw (none_above parent tag h) (from_past n (suc tag) parent es a fs b (omega arith))
 
 pub record Sets (parent : ℕ) (es : Entries) (a : List ℕ) (fs : Entries) (b : List ℕ) (tag : ℕ) : Type 0 where
-  pub high : tag ≤ 0x87
   pub goes : same_sets parent es a fs b ≡ same_from (0x100 - tag) tag parent es a fs b
 
 module _ (parent : ℕ) (es : Entries) (a : List ℕ) (fs : Entries) (b : List ℕ) where
   pub sets-begin : Sets parent es a fs b 0x80
   unfolding same_sets
-  sets-begin = record { high = omega arith; goes = refl }
+  sets-begin = record { goes = refl }
 
   module _ (tag : ℕ) (inv : Sets parent es a fs b tag) where
     pub sets-ended : 0x87 ≤ tag → true ≡ same_sets parent es a fs b
@@ -319,7 +318,7 @@ module _ (parent : ℕ) (es : Entries) (a : List ℕ) (fs : Entries) (b : List �
       sets-differ q = sym (turn ∙ rw q)
 
       pub sets-again : r ≡ true → Sets parent es a fs b (tag + 1)
-      sets-again q = record { high = omega arith; goes = turn ∙ rw q }
+      sets-again q = record { goes = turn ∙ rw q }
 
 pub ruleset sets-ways = (sets-begin, sets-ended, sets-differ, sets-again)
 
