@@ -8,8 +8,7 @@ use native.Mathlib.Nat.{add-sub_cancel_left}
 use native.Mathlib.Numerals.{add-one}
 use native.Mathlib.Omega.{arith}
 use lib.Dec.{eqb, leb}
-use lib.ListN.{length, take, drop, set, length-set}
-use lib.Seq.{set_out}
+use lib.ListN.{length, take, drop, set}
 use borrow.Author.Tests.{eq-eqb, ne_eqb, eqb-true, le-leb, lt-leb}
 use Rattle.octets.specs.declared.counts.Octets.{Octets as OctetCount}
 use Rattle.octets.specs.Counts.{as_octets}
@@ -92,7 +91,6 @@ told-apart (some j) q = let z : ◌≡◌ {A = ℕ} 0 1 = cc in absurd (omega ar
 
 -- what was to be known from the first record on is what is to be known from here on
 pub record Lying (tags parents starts sizes lent : List ℕ) (n i at : ℕ) : Type 0 where
-  pub high : i ≤ n
   pub rest : filled_from (nth tags) (nth parents) (nth starts) (nth sizes) lent n 0 0 ≡ filled_from (nth tags) (nth parents) (nth starts) (nth sizes) lent (n - i) i at
 
 module _ (tags parents starts sizes lent : List ℕ) (n : ℕ) where
@@ -100,7 +98,7 @@ module _ (tags parents starts sizes lent : List ℕ) (n : ℕ) where
   from m i at = filled_from (nth tags) (nth parents) (nth starts) (nth sizes) lent m i at
 
   pub lying-start : Lying tags parents starts sizes lent n 0 0
-  lying-start = let z : n ≡ n - 0 = omega arith in record { high = omega arith; rest = ap (λ m. from m 0 0) z }
+  lying-start = let z : n ≡ n - 0 = omega arith in record { rest = ap (λ m. from m 0 0) z }
 
   module _ (i at : ℕ) (v : Lying tags parents starts sizes lent n i at) where
     pub lying-end : n ≤ i → Upto at ≡ as_filled (filled_from (nth tags) (nth parents) (nth starts) (nth sizes) lent n 0 0)
@@ -125,7 +123,6 @@ module _ (tags parents starts sizes lent : List ℕ) (n : ℕ) where
       pub lying-next : (k : ℕ) → r ≡ Upto k → Lying tags parents starts sizes lent n (i + 1) k
       unfolding onward
       lying-next k q = record {
-        high = omega arith;
         rest = step ∙ (ap (λ o. onward o (λ j. from (n - suc i) (suc i) j)) (told-upto one k (sym is_one ∙ q)) ∙ ap (λ j. from (n - j) j k) (sym (add-one i)));
       }
 
@@ -156,9 +153,6 @@ module _ (element tag start size : ℕ) (lent : List ℕ) (body : ℕ) where
 pub ruleset added-ways = (added-beyond, added-inside)
 
 -- ---- sums by depth
-pub put-beyond : (sums : List ℕ) (d sum : ℕ) → length sums ≤ d → sums ≡ set sums d sum
-put-beyond sums d sum h = sym (set_out sums d sum h)
-
 module _ (tag : ℕ) (r : Listed) (e : r ≡ listed_as (known 0 tag)) (sums : List ℕ) (depth size : ℕ) where
   pub own-nothing : r ≡ Nothing → size ≡ cond (opens tag) (nth sums (suc depth)) size
   unfolding opens
@@ -174,26 +168,8 @@ module _ (tag : ℕ) (r : Listed) (e : r ≡ listed_as (known 0 tag)) (sums : Li
 
 pub ruleset own-ways = (own-nothing, own-inside, own_value)
 
-module _ (sums : List ℕ) (depth part : ℕ) (s : OctetCount) (sum_is_lem : s.0 ≡ nth sums depth) where
-  pub sum_over : 32_768 < s.0 → 32_769 ≡ min 32_769 (nth sums depth + part)
-  sum_over h = omega (arith, sum_is_lem)
-
-  pub sum_more : 32_768 - s.0 < part → 32_769 ≡ min 32_769 (nth sums depth + part)
-  sum_more h = omega (arith, sum_is_lem)
-
-  pub sum_low : s.0 ≤ 32_768 → part ≤ 32_768 - s.0 → s.0 + part ≡ min 32_769 (nth sums depth + part)
-  sum_low h g = omega (arith, sum_is_lem)
-
-pub ruleset sum-ways = (sum_over, sum_more, sum_low)
-
--- ---- sum_up
-pub summed-up : (sums : List ℕ) (depth sum : ℕ) (a : List ℕ) → a ≡ set sums (depth + 1) 0 → (b : List ℕ) → b ≡ set a depth sum → b ≡ set (set sums (suc depth) 0) depth sum
-summed-up sums depth sum a ae b be = be ∙ ap (λ x. set x depth sum) (ae ∙ ap (λ x. set sums x 0) (add-one depth))
-
 -- ---- are_right
 pub record Righting (tags depths parents starts sizes bodies lent : List ℕ) (n i : ℕ) (sums : List ℕ) : Type 0 where
-  pub high : i ≤ n
-  pub long : length sums ≡ 18
   pub rest : right_below (nth tags) (nth depths) (nth parents) (nth starts) (nth sizes) (nth bodies) lent n no_sums ≡ right_below (nth tags) (nth depths) (nth parents) (nth starts) (nth sizes) (nth bodies) lent i sums
 
 module _ (tags depths parents starts sizes bodies lent : List ℕ) (n : ℕ) where
@@ -201,7 +177,7 @@ module _ (tags depths parents starts sizes bodies lent : List ℕ) (n : ℕ) whe
   right i sums = right_below (nth tags) (nth depths) (nth parents) (nth starts) (nth sizes) (nth bodies) lent i sums
 
   pub righting-start : Righting tags depths parents starts sizes bodies lent n n no_sums
-  righting-start = record { high = omega arith; long = refl; rest = refl }
+  righting-start = record { rest = refl }
 
   module _ (i : ℕ) (sums : List ℕ) (v : Righting tags depths parents starts sizes bodies lent n i sums) where
     pub righting-end : i ≤ 0 → true ≡ right_below (nth tags) (nth depths) (nth parents) (nth starts) (nth sizes) (nth bodies) lent n no_sums
@@ -238,7 +214,6 @@ module _ (tags depths parents starts sizes bodies lent : List ℕ) (n : ℕ) whe
         righting-next l b be =
             let s : total.0 ≡ sum = omega (arith, total-is) in
             let same : b ≡ after = be ∙ ap (set (set sums (suc (nth depths (i - 1))) 0) (nth depths (i - 1))) s in
-            let kept : length after ≡ 18 = length-set (set sums (suc (nth depths (i - 1))) 0) (nth depths (i - 1)) sum ∙ (length-set sums (suc (nth depths (i - 1))) 0 ∙ v.long) in
-            record { high = omega (arith, v.high); long = ap length same ∙ kept; rest = right-step ∙ rw (eq-eqb (nth bodies (i - 1)) o.0 q, le-leb sum 32_768 (omega arith)) (ap (right (i - 1)) (sym same)) }
+            record { rest = right-step ∙ rw (eq-eqb (nth bodies (i - 1)) o.0 q, le-leb sum 32_768 (omega arith)) (ap (right (i - 1)) (sym same)) }
 
 pub ruleset righting-ways = (righting-start, righting-end, righting-wrong, righting-over, righting-next)

@@ -63,25 +63,13 @@ fn lie_all(
     requires { (n ≤ length tags.now) × (n ≤ length parents.now) × (n ≤ length starts.now) × (n ≤ length sizes.now) }
     ensures { result ≡ as_filled (filled_from (nth tags.now) (nth parents.now) (nth starts.now) (nth sizes.now) store.now n 0 0) }
 {
-    let mut i: usize = 0;
     let mut at: usize = 0;
-    while i < n {
-        match lies_to(
-            octet_at(tags, parents[i] as usize),
-            at,
-            store,
-            tags[i],
-            starts[i],
-            sizes[i],
-        ) {
-            Filled::Apart => {
-                return Filled::Apart;
-            }
-            Filled::Upto(end) => {
-                at = end;
-                i = i + 1;
-            }
-        }
+    for i in 0..n {
+        let element = octet_at(tags, parents[i] as usize);
+        let Filled::Upto(end) = lies_to(element, at, store, tags[i], starts[i], sizes[i]) else {
+            return Filled::Apart;
+        };
+        at = end;
     }
     Filled::Upto(at)
 }
@@ -183,9 +171,7 @@ fn are_right(
     ensures { result ≡ right_below (nth tags.now) (nth depths.now) (nth parents.now) (nth starts.now) (nth sizes.now) (nth bodies.now) store.now n no_sums }
 {
     let mut sums: [usize; 18] = [0; 18];
-    let mut i = n;
-    while i > 0 {
-        i = i - 1;
+    for i in (0..n).rev() {
         let tag = tags[i];
         let depth = depths[i];
         let size = sizes[i];
