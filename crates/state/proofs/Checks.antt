@@ -3,13 +3,14 @@ use mathlib.Core.Path.{◌≡◌, refl, sym, ap, ◌∙◌}
 use mathlib.Core.Bool.{Bool, true, false, cond, ◌&&◌, and-false}
 use mathlib.Core.Option.{Option, none, some}
 use mathlib.Core.List.{List}
-use Prim.Native.Nat.{ℕ, suc, ◌+◌, ◌-◌, ◌≤◌, ◌<◌, min}
+use Prim.Native.Nat.{ℕ, suc, ◌+◌, ◌-◌, ◌≤◌, ◌<◌}
 use native.Mathlib.Nat.{add-sub_cancel_left}
 use native.Mathlib.Numerals.{add-one}
 use native.Mathlib.Omega.{arith}
 use lib.Dec.{eqb, leb}
 use lib.ListN.{length, take, drop, set}
-use borrow.Author.Tests.{eq-eqb, ne_eqb, eqb-true, le-leb, lt-leb}
+use Rattle.std.specs.Prelude.{Option as Maybe, Some, None}
+use borrow.Author.Tests.{eq-eqb, ne_eqb, eqb-true, le-leb, lt-leb, leb-true, leb-false}
 use Rattle.octets.specs.declared.counts.Octets.{Octets as OctetCount}
 use Rattle.octets.specs.Counts.{as_octets}
 use Rattle.octets.specs.Header.{length_field}
@@ -27,7 +28,7 @@ use Rattle.survey.proofs.Parts.{framed_is}
 use Rattle.compare.specs.Normal.{is_written}
 use Rattle.state.specs.declared.Filled.{Filled}
 use Rattle.state.specs.declared.Filled.TheVariants.{Apart, Upto}
-use Rattle.state.specs.Order.{nth, lies_to, filled_from, as_filled, item_adds, added_by, right_below, no_sums}
+use Rattle.state.specs.Order.{nth, lies_to, filled_from, as_filled, item_adds, added_by, right_below, no_sums, short}
 
 -- ---- value_to
 module _ (k : Kind) (at : ℕ) (lent : List ℕ) (start size : ℕ) where
@@ -169,6 +170,21 @@ module _ (tag : ℕ) (r : Listed) (e : r ≡ listed_as (known 0 tag)) (sums : Li
 pub ruleset own-ways = (own-nothing, own-inside, own_value)
 
 -- ---- are_right
+-- what is short is itself
+pub short-is : (n : ℕ) (size : OctetCount) → short n ≡ Some size → (size.0 ≡ n) × (n ≤ 32_768)
+short-is n size e = go (leb n 32_768) refl e
+  where
+    go : (b : Bool) → leb n 32_768 ≡ b → cond b (Some (as_octets n)) None ≡ Some size → (size.0 ≡ n) × (n ≤ 32_768)
+    go true t q = (cc, leb-true n 32_768 t)
+    go false t q = cc
+
+pub short-not : (n : ℕ) → short n ≡ None → 32_768 < n
+short-not n e = go (leb n 32_768) refl e
+  where
+    go : (b : Bool) → leb n 32_768 ≡ b → cond b (Some (as_octets n)) None ≡ None → 32_768 < n
+    go true t q = cc
+    go false t q = omega (arith, leb-false n 32_768 t)
+
 pub record Righting (tags depths parents starts sizes bodies lent : List ℕ) (n i : ℕ) (sums : List ℕ) : Type 0 where
   pub rest : right_below (nth tags) (nth depths) (nth parents) (nth starts) (nth sizes) (nth bodies) lent n no_sums ≡ right_below (nth tags) (nth depths) (nth parents) (nth starts) (nth sizes) (nth bodies) lent i sums
 
@@ -200,20 +216,21 @@ module _ (tags depths parents starts sizes bodies lent : List ℕ) (n : ℕ) whe
 
       module _ (q : nth bodies (i - 1) ≡ o.0) (g : ℕ) (ge : g ≡ nth tags (nth parents (i - 1)))
           (part : OctetCount) (pe : part.0 ≡ added_by g (nth tags (i - 1)) (nth starts (i - 1)) (nth sizes (i - 1)) lent (nth bodies (i - 1)))
-          (total : OctetCount) (te : total.0 ≡ min 32_769 (nth sums (nth depths (i - 1)) + part.0)) where
-        total-is : total.0 ≡ min 32_769 sum
-        total-is =
-            te ∙ ap (λ z. min 32_769 (nth sums (nth depths (i - 1)) + z)) (pe
+          (r : Maybe OctetCount) (re : r ≡ short (nth sums (nth depths (i - 1)) + part.0)) where
+        sum-is : r ≡ short sum
+        sum-is =
+            re ∙ ap (λ z. short (nth sums (nth depths (i - 1)) + z)) (pe
             ∙ ap (λ z. added_by z (nth tags (i - 1)) (nth starts (i - 1)) (nth sizes (i - 1)) lent (nth bodies (i - 1))) ge)
 
-        pub righting-over : 32_768 < total.0 → false ≡ right_below (nth tags) (nth depths) (nth parents) (nth starts) (nth sizes) (nth bodies) lent n no_sums
-        righting-over l = sym (right-step ∙ rw (eq-eqb (nth bodies (i - 1)) o.0 q, lt-leb sum 32_768 (omega (arith, total-is))))
+        pub righting-over : r ≡ None → false ≡ right_below (nth tags) (nth depths) (nth parents) (nth starts) (nth sizes) (nth bodies) lent n no_sums
+        righting-over l = sym (right-step ∙ rw (eq-eqb (nth bodies (i - 1)) o.0 q, lt-leb sum 32_768 (short-not sum (sym sum-is ∙ l))))
 
-        pub righting-next : total.0 ≤ 32_768 → (b : List ℕ) → b ≡ set (set sums (suc (nth depths (i - 1))) 0) (nth depths (i - 1)) total.0
+        pub righting-next : (total : OctetCount) → r ≡ Some total → (b : List ℕ) → b ≡ set (set sums (suc (nth depths (i - 1))) 0) (nth depths (i - 1)) total.0
             → Righting tags depths parents starts sizes bodies lent n (i - 1) b
-        righting-next l b be =
-            let s : total.0 ≡ sum = omega (arith, total-is) in
+        righting-next total l b be =
+            let whole = short-is sum total (sym sum-is ∙ l) in
+            let s : total.0 ≡ sum = whole.0 in
             let same : b ≡ after = be ∙ ap (set (set sums (suc (nth depths (i - 1))) 0) (nth depths (i - 1))) s in
-            record { rest = right-step ∙ rw (eq-eqb (nth bodies (i - 1)) o.0 q, le-leb sum 32_768 (omega arith)) (ap (right (i - 1)) (sym same)) }
+            record { rest = right-step ∙ rw (eq-eqb (nth bodies (i - 1)) o.0 q, le-leb sum 32_768 whole.1) (ap (right (i - 1)) (sym same)) }
 
 pub ruleset righting-ways = (righting-start, righting-end, righting-wrong, righting-over, righting-next)

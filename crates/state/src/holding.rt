@@ -1,6 +1,6 @@
 // Whether memory holds a tree as it takes it: well-formed records over a packed store, with all sizes right. Nothing is written.
 // Cost: three looks at each record, one of `is_well_formed` and one each for its size and its place, and two at the octets of a time or a bearer.
-ghost use Rattle.std.specs.Prelude.{◌≡◌, cond, suc, ◌+◌, ◌≤◌, min, length, set};
+ghost use Rattle.std.specs.Prelude.{◌≡◌, cond, suc, ◌+◌, ◌≤◌, length, set};
 ghost use Rattle.values.specs.Table.{known};
 ghost use Rattle.format.specs.Meaning.{opens};
 ghost use Rattle.format.specs.State.{tree_held};
@@ -8,7 +8,7 @@ ghost use Rattle.tags.specs.declared.Listed.TheVariants.{Value};
 ghost use Rattle.tags.specs.Listed.{listed_as};
 ghost use Rattle.survey.specs.Normal.{framed_size};
 ghost use Rattle.state.specs.Taking.{memory};
-ghost use Rattle.state.specs.Order.{held_as, nth, lies_to, filled_from, as_filled, item_adds, added_by, right_below, no_sums};
+ghost use Rattle.state.specs.Order.{held_as, nth, lies_to, filled_from, as_filled, item_adds, added_by, right_below, no_sums, short};
 
 use crate::Filled;
 use compare::is_own;
@@ -125,18 +125,15 @@ fn own_size(sums: &[usize], depth: u8, tag: u8, size: u16) -> Octets
     }
 }
 
-// The sum at a depth with one part more, stopped at 32,769.
-fn sum_with(sums: &[usize], depth: u8, part: Octets) -> Octets
-    ensures { result.0 ≡ min 32_769 (nth sums.now depth + part.0) }
+// The sum at a depth with one part more, where an object may have so many octets.
+fn sum_with(sums: &[usize], depth: u8, part: Octets) -> Option<Octets>
+    ensures { result ≡ short (nth sums.now depth + part.0) }
 {
-    let sum = sum_at(sums, depth as usize);
-    if sum.0 > 32_768 {
-        return Octets(32_769);
+    let sum = sum_at(sums, depth as usize).0.checked_add(part.0)?;
+    if sum > 32_768 {
+        return None;
     }
-    if part.0 > 32_768 - sum.0 {
-        return Octets(32_769);
-    }
-    Octets(sum.0 + part.0)
+    Some(Octets(sum))
 }
 
 fn put_sum(sums: &mut [usize], depth: usize, sum: Octets)
@@ -181,10 +178,9 @@ fn are_right(
         }
         let element = octet_at(tags, parents[i] as usize);
         let part = added_by(element, tag, starts[i], size, store, body);
-        let sum = sum_with(&sums, depth, part);
-        if sum.0 > 32_768 {
+        let Some(sum) = sum_with(&sums, depth, part) else {
             return false;
-        }
+        };
         sum_up(&mut sums, depth, sum);
     }
     true
