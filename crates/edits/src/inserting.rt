@@ -120,15 +120,13 @@ fn child_behind(n: usize, number: usize, place: usize, tags: &[u8], depths: &[u8
 {
     let level = depths[number];
     let mut left = place;
-    let mut next = number + 1;
-    while next < n {
+    for next in number + 1..n {
         if stops_at(level, depths[next], tags[next], left) {
             return found_at(left, next);
         }
         left = left_after(level, depths[next], tags[next], left);
-        next = next + 1;
     }
-    found_at(left, next)
+    found_at(left, n)
 }
 
 // Only a record that holds items has such places.
