@@ -114,21 +114,18 @@ pub ruleset found-ways = (found_here, found_nowhere)
 
 -- ---- child_behind: what is found from record j on is what was to be found
 pub record Walking (n i k : ℕ) (tags depths : List ℕ) (left j : ℕ) : Type 0 where
-  pub low : i < j
-  pub high : j ≤ n
   pub holds : child_from (get_or depths i 0) left j (between tags j n) (between depths j n) ≡ child_behind n i k tags depths
 
 module _ (n i k : ℕ) (tags depths : List ℕ) (asks : (i < n) × (n ≤ length tags) × (n ≤ length depths)) where
   pub walking_start : Walking n i k tags depths k (i + 1)
-  walking_start = record { low = omega arith; high = omega (arith, asks.0); holds = rw (add-one i) }
+  walking_start = record { holds = rw (add-one i) }
 
   module _ (left j : ℕ) (w : Walking n i k tags depths left j) where
-    pub walking-end : n ≤ j → (r : Child) → r ≡ found_at left j → r ≡ child_behind n i k tags depths
+    pub walking-end : j ≡ n → (r : Child) → r ≡ found_at left n → r ≡ child_behind n i k tags depths
     unfolding child_from
-    walking-end h r e =
-        let z : n ≡ j = omega (arith, w.high) in
-        let none : between tags j n ≡ [] = ap (λ x. between tags j x) z ∙ part_none j tags in
-        e ∙ (sym (ap (λ x. child_from (get_or depths i 0) left j x (between depths j n)) none) ∙ w.holds)
+    walking-end z r e =
+        let none : between tags j n ≡ [] = ap (λ x. between tags j x) (sym z) ∙ part_none j tags in
+        e ∙ ap (found_at left) (sym z) ∙ (sym (ap (λ x. child_from (get_or depths i 0) left j x (between depths j n)) none) ∙ w.holds)
 
     module _ (h : j < n) where
       first-record : child_from (get_or depths i 0) left j (between tags j n) (between depths j n)
@@ -143,8 +140,6 @@ module _ (n i k : ℕ) (tags depths : List ℕ) (asks : (i < n) × (n ≤ length
 
         pub walking-next : s ≡ false → (left' : ℕ) → left' ≡ left_after (get_or depths i 0) (get_or depths j 0) (get_or tags j 0) left → Walking n i k tags depths left' (j + 1)
         walking-next q left' f = record {
-          low = omega (arith, w.low);
-          high = omega arith;
           holds = ap₂ (λ x y. child_from (get_or depths i 0) x y (between tags (j + 1) n) (between depths (j + 1) n)) f (add-one j) ∙ (sym (first-record ∙ rw (sym e ∙ q)) ∙ w.holds);
         }
 

@@ -1,13 +1,13 @@
 -- The ways through measuring whether an element fits, through the plan of inserting, and through the call.
 use mathlib.Core.Path.{◌≡◌, refl, sym, ap, ◌∙◌, subst}
-use mathlib.Core.Bool.{Bool, true, false, and-false}
+use mathlib.Core.Bool.{Bool, true, false, not, and-false}
 use mathlib.Core.Option.{Option, none, some}
 use mathlib.Core.List.{List}
 use Prim.Native.Nat.{ℕ, ◌+◌, ◌-◌, ◌≤◌, ◌<◌, min}
 use native.Mathlib.Omega.{arith}
 use lib.Dec.{leb}
 use lib.ListN.{length, take, drop, get_or}
-use borrow.Author.Tests.{leb-true, leb-false, le-leb, lt-leb}
+use borrow.Author.Tests.{le-leb, lt-leb, not-true}
 use Rattle.octets.specs.declared.counts.Octets.{Octets as OctetCount}
 use Rattle.octets.specs.Counts.{as_octets}
 use Rattle.octets.specs.Numbers.{Octets}
@@ -44,7 +44,6 @@ use Rattle.edits.specs.Insertion.{child_of, tag_there, admitted_at, admitted_by,
 use Rattle.edits.specs.Resites.{Resited}
 use Rattle.edits.specs.declared.lay.Laid.{Laid}
 use Rattle.edits.specs.Lay.{ItemsLayable, ItemsLay}
-use Rattle.edits.proofs.Climbing.{framed-more}
 use Rattle.edits.proofs.Inserted.{there-nowhere, Verdict, verdict, Ready}
 use Rattle.edits.proofs.Inserted.Verdict.{breaks, stands}
 use Rattle.octets.proofs.Tests.{never}
@@ -94,53 +93,43 @@ module _ (n used i j c : ℕ) (takes : Measured) (m : Memory) (f : Fittable n us
       pub fit-asks : Climbs m.lists.parents m.bodies i 0 × (a.0 < 65_536)
       fit-asks = let w : (a.0 ≤ 32_768) × (s.0 ≤ 32_770) = subst SmallSizes q f.small in (f.climbs, omega (arith, w.0))
 
-      module _ (l : s.0 ≤ length m.store - used) (top : OctetCount) (pe : top.0 ≡ min 32_769 (top_then i a.0 m)) where
-        module _ (r : OctetCount) (re : r.0 ≡ framed_size top.0) where
-          pub fit-large : 32_768 < r.0 → Refused 15 ≡ fitted_by n used i m (Admitted j c takes)
-          unfolding opened_by
-          fit-large z =
-              let w : leb (framed_size (top_then i a.0 m)) 32_768 ≡ false = lt-leb (framed_size (top_then i a.0 m)) 32_768 (large (leb (top_then i a.0 m) 32_769) refl) in
-              rw (← by-sizes, q, w, and-false (leb (used + s.0) (length m.store)))
+      module _ (l : s.0 ≤ length m.store - used) (r : Bool) (re : r ≡ leb (framed_size (top_then i a.0 m)) 32_768) where
+        pub fit-large : not r ≡ true → Refused 15 ≡ fitted_by n used i m (Admitted j c takes)
+        unfolding opened_by
+        fit-large z =
+            let w : leb (framed_size (top_then i a.0 m)) 32_768 ≡ false = sym re ∙ not-true r z in
+            rw (← by-sizes, q, w, and-false (leb (used + s.0) (length m.store)))
+
+        module _ (z : r ≡ true) where
+          pub fit-sum : (0 ≤ j) × (j ≤ length m.lists.sizes) × (sum_of (between m.lists.sizes 0 j) ≤ 65_535)
+          fit-sum = (omega arith, long f.low f.all (sizes-long m), f.place)
             where
-              large : (b : Bool) → leb (top_then i a.0 m) 32_769 ≡ b → 32_768 < framed_size (top_then i a.0 m)
-              large true e =
-                  let same : top.0 ≡ top_then i a.0 m = omega (arith, leb-true (top_then i a.0 m) 32_769 e) in
-                  omega (arith, ap framed_size same)
-              large false e = omega (arith, leb-false (top_then i a.0 m) 32_769 e, framed-more (top_then i a.0 m))
+              long : j ≤ n → n ≤ places_in m → places_in m ≤ length m.lists.sizes → j ≤ length m.lists.sizes
+              long a b d = omega arith
 
-          module _ (z : r.0 ≤ 32_768) where
-            top-is : top.0 ≡ top_then i a.0 m
-            top-is = omega (arith, framed-more top.0)
+          pub fit-place : (place : OctetCount) → place.0 ≡ sum_of (between m.lists.sizes 0 j) → place.0 + s.0 ≤ 98_305
+          fit-place place e = let w : (a.0 ≤ 32_768) × (s.0 ≤ 32_770) = subst SmallSizes q f.small in omega (arith, f.place, w.1)
 
-            pub fit-sum : (0 ≤ j) × (j ≤ length m.lists.sizes) × (sum_of (between m.lists.sizes 0 j) ≤ 65_535)
-            fit-sum = (omega arith, long f.low f.all (sizes-long m), f.place)
-              where
-                long : j ≤ n → n ≤ places_in m → places_in m ≤ length m.lists.sizes → j ≤ length m.lists.sizes
-                long a b d = omega arith
-
-            pub fit-place : (place : OctetCount) → place.0 ≡ sum_of (between m.lists.sizes 0 j) → place.0 + s.0 ≤ 98_305
-            fit-place place e = let w : (a.0 ≤ 32_768) × (s.0 ≤ 32_770) = subst SmallSizes q f.small in omega (arith, f.place, w.1)
-
-            pub fit-opens : (place : OctetCount) → place.0 ≡ sum_of (between m.lists.sizes 0 j)
-                → Opens (record {
-                  records = record { from = j; end = n; to = j + c };
-                  octets = record { from = place.0; end = used; to = place.0 + s.0 };
-                  element = i;
-                  was = as_octets 0;
-                  is = a;
-                }) ≡ fitted_by n used i m (Admitted j c takes)
-            unfolding opened_by gap_for
-            fit-opens place e =
-                let u : leb (used + s.0) (length m.store) ≡ true = le-leb (used + s.0) (length m.store) (omega (arith, f.filled)) in
-                let v : leb (framed_size (top_then i a.0 m)) 32_768 ≡ true = le-leb (framed_size (top_then i a.0 m)) 32_768 (omega (arith, ap framed_size top-is)) in
-                rw (← by-sizes, q, u, v)
-                (λ y. Opens (record {
-                  records = record { from = j; end = n; to = j + c };
-                  octets = record { from = e y; end = used; to = e y + s.0 };
-                  element = i;
-                  was = as_octets 0;
-                  is = a;
-                }))
+          pub fit-opens : (place : OctetCount) → place.0 ≡ sum_of (between m.lists.sizes 0 j)
+              → Opens (record {
+                records = record { from = j; end = n; to = j + c };
+                octets = record { from = place.0; end = used; to = place.0 + s.0 };
+                element = i;
+                was = as_octets 0;
+                is = a;
+              }) ≡ fitted_by n used i m (Admitted j c takes)
+          unfolding opened_by gap_for
+          fit-opens place e =
+              let u : leb (used + s.0) (length m.store) ≡ true = le-leb (used + s.0) (length m.store) (omega (arith, f.filled)) in
+              let v : leb (framed_size (top_then i a.0 m)) 32_768 ≡ true = sym re ∙ z in
+              rw (← by-sizes, q, u, v)
+              (λ y. Opens (record {
+                records = record { from = j; end = n; to = j + c };
+                octets = record { from = e y; end = used; to = e y + s.0 };
+                element = i;
+                was = as_octets 0;
+                is = a;
+              }))
 
 pub ruleset fit-ways = (fit-order, fit-full, fit-over, fit-store-order, fit-store, fit-asks, fit-large, fit-sum, fit-opens)
 

@@ -11,13 +11,13 @@ ghost use Rattle.edits.specs.declared.inserting.Admission.TheVariants.{Admitted}
 use crate::extent::sum_of;
 use crate::lay::{Laid, Level, lay_items};
 use crate::moving::Move;
-use crate::raising::top_size;
+use crate::raising::top_fits;
 use crate::refused;
 use crate::resite::{Gap, resite};
 use crate::taking::places_in;
 use format::{EditAnswer, octet_at};
 use octets::{Lies, Octets, item_at};
-use state::{Filled, framed_size, held};
+use state::{Filled, held};
 use survey::{Measured, Needed, survey_inside};
 use tags::holds_items;
 use text::index_of;
@@ -120,15 +120,13 @@ fn child_behind(n: usize, number: usize, place: usize, tags: &[u8], depths: &[u8
 {
     let level = depths[number];
     let mut left = place;
-    let mut next = number + 1;
-    while next < n {
+    for next in number + 1..n {
         if stops_at(level, depths[next], tags[next], left) {
             return found_at(left, next);
         }
         left = left_after(level, depths[next], tags[next], left);
-        next = next + 1;
     }
-    found_at(left, next)
+    found_at(left, n)
 }
 
 // Only a record that holds items has such places.
@@ -279,8 +277,7 @@ fn fit(
     if stored.0 > store.len() - used {
         return Insertion::Refused(15);
     }
-    let top = top_size(parents, bodies, number, Octets(0), octets);
-    if framed_size(top.0 as u16).0 > 32_768 {
+    if !top_fits(parents, bodies, number, Octets(0), octets) {
         return Insertion::Refused(15);
     }
     let place = sum_of(sizes, 0, next).0;

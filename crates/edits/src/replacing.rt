@@ -8,7 +8,7 @@ ghost use Rattle.state.specs.Taking.{memory};
 ghost use Rattle.edits.specs.Texts.{replacement_in, is_text_at, text_fits, Sized, Settable, TextSet};
 
 use crate::moving::{Move, move_to};
-use crate::raising::{raise, top_size};
+use crate::raising::{raise, top_fits};
 use crate::refused;
 use crate::shifting::shift_starts;
 use format::{EditAnswer, octet_at};
@@ -57,14 +57,13 @@ fn text_fits(
     if used - size as usize + long.0 > room.0 {
         return false;
     }
-    let top = top_size(
+    top_fits(
         parents,
         bodies,
         parents[number] as usize,
         framed_size(size),
         framed_size(long.0 as u16),
-    );
-    framed_size(top.0 as u16).0 <= 32_768
+    )
 }
 
 // Nothing is written: 16 where memory holds no tree, 18 where there is no such text, 16 where the new one breaks a rule, 15 where it has no room.
