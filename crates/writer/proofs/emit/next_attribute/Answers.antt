@@ -4,7 +4,7 @@ use Rattle.writer.proofs.emit.next_attribute.Goals as goal
 
 pub loop-i-init : goal.loop-i-init
 loop-i-init c =
-    pass-start _ _ _ _ _ _ c.requires.3 _
+    pass-start _ _ _ _ _ _ c.requires.3
 
 pub overflow_cast-depths : goal.overflow_cast-depths
 overflow_cast-depths c =
