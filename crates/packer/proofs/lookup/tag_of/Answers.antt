@@ -17,9 +17,6 @@ overflow_add-at c = search (seek-ways, rules)
 pub bounds-table-at : goal.bounds-table-at
 bounds-table-at c = search (seek-ways, rules)
 
-pub size_of-size-requires : goal.size_of-size-requires
-size_of-size-requires c = search (seek-ways, rules)
-
 pub overflow_sub-table-in-loop-at : goal.overflow_sub-table-in-loop-at
 overflow_sub-table-in-loop-at c = search (seek-ways, rules)
 
@@ -46,7 +43,7 @@ bounds-table-at-then-same_octets c = search (seek-ways, rules)
 
 pub returns-then-same_octets : goal.returns-then-same_octets
 returns-then-same_octets c =
-    seek_found _ _ _ c.loop-at.invariant c.loop-at-test.true _ c.size_of-size.ensures.value c.if-size-table.false _ c.same_octets.ensures c.if-same_octets.true
+    seek_found _ _ _ c.loop-at.invariant c.loop-at-test.true _ c.from-size.ensures c.if-size-table.false _ c.same_octets.ensures c.if-same_octets.true
 
 pub loop-at-smaller : goal.loop-at-smaller
 loop-at-smaller c = search (seek-ways, rules)

@@ -24,12 +24,6 @@ put_entry-at-requires c = record {
       c.loop-i.invariant c.loop-i-test.true _;
 }
 
-pub overflow_add-i : goal.overflow_add-i
-overflow_add-i c = search (make-ways, rules)
-
-pub loop-i-smaller : goal.loop-i-smaller
-loop-i-smaller c = search (make-ways, rules)
-
 pub loop-i-preserved : goal.loop-i-preserved
 loop-i-preserved c =
     make-again c.args.object.now c.args.best c.args.table.now c.requires.kept c.requires.all_inside c.requires.in_bounds _ _ _ c.loop-i.invariant
