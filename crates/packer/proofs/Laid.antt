@@ -7,7 +7,7 @@ use native.Mathlib.Omega.{arith}
 use lib.Dec.{leb, ltb}
 use lib.ListN.{length, take, drop, length-append, drop_of_length-le}
 use lib.Seq.{sets, length-sets}
-use borrow.Author.Tests.{le-leb, lt-ltb, not-true, not-false}
+use borrow.Author.Tests.{le-leb, lt-ltb}
 use Rattle.std.specs.Prelude.{Option, None, Some}
 use Rattle.octets.specs.Header.{length_field}
 use Rattle.octets.specs.Puts.{put_answer, put_out, Puts}
@@ -102,7 +102,7 @@ module _ (es : Entries) (w before after : List ℕ) (at r : ℕ) (b : Bool) (f :
     pub put-tag : (n : ℕ) → t ≡ Some n → Placed (n ∷ []) before after at r → Placed (tagged es w) before after at r
     put-tag n p x = placed_same (n ∷ []) (tagged es w) before after at r (piece-tag es w l b f q t g n p) x
 
-pub ruleset piece-ways = (put_other, put_word, put-tag, not-true, not-false)
+pub ruleset piece-ways = (put_other, put_word, put-tag)
 
 -- ---- the loop of `put_text`
 
