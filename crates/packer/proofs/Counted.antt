@@ -205,55 +205,30 @@ module _ (object starts sizes : List ℕ) where
         pub count-place : j < length after
         count-place = omega (arith, v.long)
 
-        module _ (r : Bool) (e : r ≡ same_octets (at i) (at j)) where
-          pub count_fits : Fits w64 (count + cond r 1 0)
-          count_fits = go r
-            where
-              go : (b : Bool) → Fits w64 (count + cond b 1 0)
-              go true = record { fits = omega (arith, v.few, v.within, noted.few) }
-              go false = record { fits = omega (arith, v.few, v.within, noted.few) }
+        pub count_fits : Fits w64 (count + 1)
+        count_fits = record { fits = omega (arith, v.few, v.within, noted.few) }
 
-          bound : cond r 1 0 ≤ 1
-          bound = go r
-            where
-              go : (b : Bool) → cond b 1 0 ≤ 1
-              go true = omega arith
-              go false = omega arith
-
-          pub count-again : Counting before (set after j (cond r 1 (get_or after j 0))) i n (count + cond r 1 0) (j + 1)
-          unfolding uses
-          count-again = record {
-            onward = omega (arith, v.onward);
-            within = omega arith;
-            few = omega (arith, v.few, v.onward, bound);
-            long = length-set after j (cond r 1 (get_or after j 0)) ∙ v.long;
-            total =
-                let t : uses (at i) (words_from object starts sizes j (n - j)) ≡ cond r 1 0 + uses (at i) (words_from object starts sizes (j + 1) (n - (j + 1))) =
-                ap (uses (at i)) (words-next j n h) ∙ rw (← e) in
-                omega (arith, v.total);
-            marked = λ k p q. go k p q (eqb k j) refl;
-            rest = λ k p. get_or-set_other after j k (cond r 1 (get_or after j 0)) 0 (λ x. omega arith) ∙ v.rest k (omega arith);
-          }
-            where
-              go : (k : ℕ) → i ≤ k → k < j + 1 → (b : Bool) → eqb k j ≡ b → get_or (set after j (cond r 1 (get_or after j 0))) k 0 ≡ cond (same_octets (at i) (at k)) 1 (get_or before k 0)
-              go k p q true x =
-                  let y : k ≡ j = eqb-true k j x in
-                  ap (λ m. get_or (set after j (cond r 1 (get_or after j 0))) m 0) y
-                  ∙ (get_or-set_same after j (cond r 1 (get_or after j 0)) 0 count-place
-                  ∙ (ap₂ (λ b m. cond b 1 m) (e ∙ ap (λ m. same_octets (at i) (at m)) (sym y)) (v.rest j (omega arith) ∙ ap (λ m. get_or before m 0) (sym y))))
-              go k p q false x =
-                  let y = eqb-false k j x in
-                  get_or-set_other after j k (cond r 1 (get_or after j 0)) 0 y ∙ v.marked k p (omega arith)
-
-          -- the same in the words of the code
-          module _ (one : ℕ) (o : one ≡ cond r 1 0) where
-            pub turn-fits : Fits w64 (count + one)
-            turn-fits = subst (λ m. Fits w64 (count + m)) (sym o) count_fits
-
-            turn : (mark : ℕ) → mark ≡ cond r 1 (get_or after j 0) → Counting before (set after j mark) i n (count + one) (j + 1)
-            turn mark m =
-                subst (λ a. Counting before (set after j a) i n (count + one) (j + 1)) (sym m)
-                (subst (λ b. Counting before (set after j (cond r 1 (get_or after j 0))) i n (count + b) (j + 1)) (sym o) count-again)
+        count-again : true ≡ same_octets (at i) (at j) → Counting before (set after j 1) i n (count + 1) (j + 1)
+        unfolding uses
+        count-again e = record {
+          onward = omega (arith, v.onward);
+          within = omega arith;
+          few = omega (arith, v.few, v.onward);
+          long = length-set after j 1 ∙ v.long;
+          total =
+              let t : uses (at i) (words_from object starts sizes j (n - j)) ≡ 1 + uses (at i) (words_from object starts sizes (j + 1) (n - (j + 1))) =
+              ap (uses (at i)) (words-next j n h) ∙ rw (← e) in
+              omega (arith, v.total);
+          marked = λ k p q. go k p q (eqb k j) refl;
+          rest = λ k p. get_or-set_other after j k 1 0 (λ x. omega arith) ∙ v.rest k (omega arith);
+        }
+          where
+            go : (k : ℕ) → i ≤ k → k < j + 1 → (b : Bool) → eqb k j ≡ b → get_or (set after j 1) k 0 ≡ cond (same_octets (at i) (at k)) 1 (get_or before k 0)
+            go k p q true x =
+                let y : k ≡ j = eqb-true k j x in
+                ap (λ m. get_or (set after j 1) m 0) y
+                ∙ (get_or-set_same after j 1 0 count-place ∙ ap (λ b. cond b 1 (get_or before k 0)) (e ∙ ap (λ m. same_octets (at i) (at m)) (sym y)))
+            go k p q false x = let y = eqb-false k j x in get_or-set_other after j k 1 0 y ∙ v.marked k p (omega arith)
 
     -- words that differ are passed over
     pass-one : (after : List ℕ) (count j : ℕ) → Counting before after i n count j → j < n → same_octets (at i) (at j) ≡ false → Counting before after i n count (j + 1)
@@ -283,17 +258,23 @@ module _ (object starts sizes : List ℕ) where
         subst (Counting before after i n count) (let e : j + 1 + m ≡ j + suc m = omega arith in e)
         (pass_all m after count (j + 1) (pass-one after count j v (omega arith) (d j (omega arith) (omega arith))) (omega arith) (λ k p q. d k (omega arith) (omega arith)))
 
-    module _ (keys : List ℕ) (keyed : Keyed object starts sizes keys n) (after : List ℕ) (count j : ℕ) (v : Counting before after i n count j) (h : j < n)
-        (r : Bool) (e : r ≡ same_octets (at i) (at j)) (one : ℕ) (o : one ≡ cond r 1 0) (mark : ℕ) (m : mark ≡ cond r 1 (get_or after j 0)) where
-      pub count_next : (q : ℕ) → Passes keys (get_or keys i 0) (j + 1) n q → Counting before (set after j mark) i n (count + one) q
-      count_next q p =
+    module _ (keys : List ℕ) (keyed : Keyed object starts sizes keys n) (q j : ℕ) (p : Passes keys (get_or keys i 0) (j + 1) n q) where
+      pass-keyed : (after : List ℕ) (count : ℕ) → Counting before after i n count (j + 1) → Counting before after i n count q
+      pass-keyed after count v =
           let w = p.within in
           let x : j + 1 + (q - (j + 1)) ≡ q = omega (arith, p.onward) in
-          subst (Counting before (set after j mark) i n (count + one)) x
-          (pass_all (q - (j + 1)) (set after j mark) (count + one) (j + 1) (turn after count j v h r e one o mark m) (omega arith)
+          subst (Counting before after i n count) x
+          (pass_all (q - (j + 1)) after count (j + 1) v (omega arith)
           (λ k a b. sym (again-not object starts sizes keys n noted keyed i k hi (omega arith) (λ z. p.differ k a (omega arith) (sym z)))))
+
+      module _ (after : List ℕ) (count : ℕ) (v : Counting before after i n count j) (h : j < n) (after' : List ℕ) (count' : ℕ) where
+        pub count-same : true ≡ same_octets (at i) (at j) → after' ≡ set after j 1 → count' ≡ count + 1 → Counting before after' i n count' q
+        count-same e m o = rw (m, o) (pass-keyed (set after j 1) (count + 1) (count-again after count j v h e))
+
+        pub count-other : false ≡ same_octets (at i) (at j) → after' ≡ after → count' ≡ count → Counting before after' i n count' q
+        count-other e m o = rw (m, o) (pass-keyed after count (pass-one after count j v h (sym e)))
 
     pub next-less : (j q : ℕ) → j < n → (keys : List ℕ) (key : ℕ) → Passes keys key (j + 1) n q → n - q < n - j
     next-less j q h keys key p = omega (arith, p.onward, p.within)
 
-pub ruleset count-ways = (count-begin, count-done, count-place, turn-fits, count_next, next-less)
+pub ruleset count-ways = (count-begin, count-done, count-place, count_fits, count-same, count-other, next-less)

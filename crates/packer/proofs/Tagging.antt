@@ -10,10 +10,10 @@ use lib.Dec.{eqb, leb}
 use lib.ListN.{length, get_or, take, drop, length-drop}
 use lib.Seq.{drop-drop, get_or-drop}
 use borrow.Author.Tests.{lt-leb, le-leb}
+use Rattle.std.specs.Prelude.{None, Some}
 use Rattle.text.specs.Tokens.{entries, cut}
 use Rattle.format.specs.Same.{same_octets}
 use Rattle.fold.specs.Packed.{tag_of}
-use Rattle.packer.specs.declared.lookup.Tag.TheVariants.{Nothing, Is}
 use Rattle.packer.specs.Leaves.{as_tag}
 
 -- ---- the loop of `are_same`
@@ -72,11 +72,11 @@ module _ (table w : List ℕ) where
   seek-begin = record { inside = omega arith; same = refl }
 
   module _ (at : ℕ) (v : Seeks table w at) where
-    none_left : entries (drop at table) ≡ [] → Nothing ≡ as_tag (tag_of (entries table) w)
+    none_left : entries (drop at table) ≡ [] → None ≡ as_tag (tag_of (entries table) w)
     unfolding tag_of as_tag
     none_left e = rw (v.same, e)
 
-    pub seek-short : length table - at < 2 → Nothing ≡ as_tag (tag_of (entries table) w)
+    pub seek-short : length table - at < 2 → None ≡ as_tag (tag_of (entries table) w)
     seek-short h = none_left (entries-short (drop at table) (omega (arith, length-drop at table)))
 
     module _ (h : 2 ≤ length table - at) where
@@ -87,7 +87,7 @@ module _ (table w : List ℕ) where
       seek-from = omega (arith, v.inside)
 
       module _ (size : ℕ) (e : size ≡ get_or table (at + 1) 0) where
-        pub seek-past : length table - (at + 2) < size → Nothing ≡ as_tag (tag_of (entries table) w)
+        pub seek-past : length table - (at + 2) < size → None ≡ as_tag (tag_of (entries table) w)
         seek-past g =
             let l = length-drop at table in
             let o : get_or (drop at table) 1 0 ≡ size = get_or-drop at table 1 0 ∙ sym e in
@@ -112,7 +112,7 @@ module _ (table w : List ℕ) where
             unfolding tag_of
             step = v.same ∙ rw (names, q)
 
-            pub seek_found : r ≡ true → Is (get_or table at 0) ≡ as_tag (tag_of (entries table) w)
+            pub seek_found : r ≡ true → Some (get_or table at 0) ≡ as_tag (tag_of (entries table) w)
             unfolding as_tag
             seek_found y = rw (step, y)
 

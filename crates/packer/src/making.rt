@@ -54,11 +54,9 @@ pub fn make_table(object: &[u8], best: Best, table: &mut [u8]) -> usize
     let words = best.words;
     let count = best.count;
     let mut at: usize = 0;
-    let mut i: usize = 0;
-    while i < count {
+    for i in 0..count {
         let word = words[i];
         at = put_entry(object, token_at(i), word.start, word.size, table, at);
-        i += 1;
     }
     at
 }

@@ -59,36 +59,45 @@ fn month_days(year: u32, month: u32) -> u32
     31
 }
 
+// The last year that a day below 100,375 can lie in.
+const LAST_YEAR: u32 = 2132;
+
 // The year of the day so many days after 1 January 1858.
 fn year_of(days: u32) -> Part
     requires { days < 100_375 }
     ensures { YearIs days result }
 {
-    let mut year: u32 = 1858;
     let mut rest = days;
-    let mut size = year_days(year);
-    while rest >= size {
-        rest = rest - size;
-        year = year + 1;
-        size = year_days(year);
+    for year in 1858..LAST_YEAR {
+        let size = year_days(year);
+        if rest < size {
+            return Part { number: year, rest };
+        }
+        rest -= size;
     }
-    Part { number: year, rest }
+    Part {
+        number: LAST_YEAR,
+        rest,
+    }
 }
 
 fn month_of(year: u32, days: u32) -> Part
     requires { days < year_days year }
     ensures { MonthIs year days result }
 {
-    let mut month: u32 = 1;
     let mut rest = days;
-    let mut size = month_days(year, month);
-    while rest >= size {
-        rest = rest - size;
-        month = month + 1;
-        size = month_days(year, month);
+    for month in 1..12 {
+        let size = month_days(year, month);
+        if rest < size {
+            return Part {
+                number: month,
+                rest: rest + 1,
+            };
+        }
+        rest -= size;
     }
     Part {
-        number: month,
+        number: 12,
         rest: rest + 1,
     }
 }

@@ -5,11 +5,5 @@ use Rattle.xml.proofs.calendar.days_to.Goals as goal
 pub returns-then-local-lt0 : goal.returns-then-local-lt0
 returns-then-local-lt0 c = search (day-ways, rules)
 
-pub overflow_cast-result : goal.overflow_cast-result
-overflow_cast-result c = search (day-ways, rules)
-
-pub overflow_add-result : goal.overflow_add-result
-overflow_add-result c = search (day-ways, rules)
-
 pub returns : goal.returns
 returns c = search (day-ways, rules)

@@ -8,8 +8,5 @@ returns-in-Duration c = search (number-ways, rules)
 pub returns-in-ShortId : goal.returns-in-ShortId
 returns-in-ShortId c = search (number-ways, rules)
 
-pub returns-in-Enumerated : goal.returns-in-Enumerated
-returns-in-Enumerated c = search (number-ways, rules)
-
 pub returns-in-Integer : goal.returns-in-Integer
 returns-in-Integer c = search (number-ways, rules)

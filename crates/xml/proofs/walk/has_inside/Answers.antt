@@ -5,23 +5,8 @@ use Rattle.xml.proofs.walk.has_inside.Goals as goal
 pub loop-at-init : goal.loop-at-init
 loop-at-init c = search (seek-ways, rules)
 
-pub item_at-requires : goal.item_at-requires
-item_at-requires c = search (seek-ways, rules)
-
-pub enum_known-to : goal.enum_known-to
-enum_known-to c = search (seek-ways, rules)
-
-pub enum_told-1 : goal.enum_told-1
-enum_told-1 c = search (seek-ways, rules)
-
 pub returns-in_default : goal.returns-in_default
 returns-in_default c = search (seek-ways, rules)
-
-pub bounds-body-at : goal.bounds-body-at
-bounds-body-at c = search (seek-ways, rules)
-
-pub is_shown-requires : goal.is_shown-requires
-is_shown-requires c = search (seek-ways, rules)
 
 pub returns-then-is_shown : goal.returns-then-is_shown
 returns-then-is_shown c = search (seek-ways, rules)
