@@ -115,10 +115,13 @@ sixteen-at s at r e = e ∙ rw (part_to_end s (at - 2), part_to_end s (at - 1), 
 
 -- ---- the loop of `links_end`
 module _ (s : List ℕ) (at : ℕ) where
-  pub links-begin : at ≤ length s → LinkedTo s at at
-  links-begin h = record { onward = omega arith; inside = h; each = λ i p q. absurd (omega arith) }
+  pub links-begin : at ≤ length s → LinkedTo s at (at + 0)
+  links-begin h = record { onward = omega arith; inside = omega arith; each = λ i p q. absurd (omega arith) }
 
-  module _ (end : ℕ) (inv : LinkedTo s at end) (r : Bool) (y : r ≡ true) where
+  module _ (n : ℕ) (inv : LinkedTo s at (at + 16 * n)) (r : Bool) (y : r ≡ true) where
+    abbrev end : ℕ
+    end = at + 16 * n
+
     -- the sixteen may begin before the end so far
     window : (from : ℕ) → 2 ≤ from → from ≤ end → end ≤ from + 16 → from + 16 ≤ length s → r ≡ linked_at s from → LinkedTo s at (from + 16)
     window from two h g l e =
@@ -139,13 +142,15 @@ module _ (s : List ℕ) (at : ℕ) where
             let c : from + (i - from) ≡ i = omega arith in
             rw (a, b, c) at (one (i - from) (omega arith))
 
-    pub links-more : 2 ≤ at → 16 ≤ length s - end → r ≡ linked_at s end → LinkedTo s at (end + 16)
-    links-more two h e = window end (omega (arith, inv.onward)) (omega arith) (omega arith) (omega (arith, inv.inside)) e
+    pub links-more : 2 ≤ at → n < (length s - at) / 16 → r ≡ linked_at s (at + 16 * n) → LinkedTo s at (at + 16 * (n + 1))
+    links-more two h e =
+        let to : at + 16 * n + 16 ≡ at + 16 * (n + 1) = omega arith in
+        subst (λ (k : ℕ). LinkedTo s at k) to (window end (omega arith) (omega arith) (omega arith) (omega (arith, inv.inside)) e)
 
-    pub links-last : 18 ≤ length s → length s - end < 16 → r ≡ linked_at s (length s - 16) → LinkedTo s at (length s)
+    pub links-last : 18 ≤ length s → (length s - at) / 16 ≤ n → r ≡ linked_at s (length s - 16) → LinkedTo s at (length s)
     links-last l h e =
         let to : length s - 16 + 16 ≡ length s = omega arith in
-        subst (λ (n : ℕ). LinkedTo s at n) to (window (length s - 16) (omega arith) (omega arith) (omega (arith, inv.inside)) (omega arith) e)
+        subst (λ (k : ℕ). LinkedTo s at k) to (window (length s - 16) (omega arith) (omega arith) (omega (arith, inv.inside)) (omega arith) e)
 
 pub ruleset link-ways = (links-begin, links-more, links-last)
 

@@ -10,7 +10,7 @@ use lib.Bits.{bit_or, bit_and}
 use native.Mathlib.Omega.{arith}
 use borrow.Author.Tests.{eqb-true, eqb-false, ne_eqb, lt-ltb, le-ltb, ltb-true, ltb-false}
 use Rattle.octets.proofs.Tests.{cond_same}
-use Rattle.octets.proofs.Lists.{part_to_end, drop-next}
+use Rattle.octets.proofs.Lists.{drop-next}
 use Rattle.text.specs.Text.{token}
 use Rattle.text.specs.Tokens.{Entries, entries, cut, entry, or_itself, stands, expanded}
 use Rattle.text.specs.Leaves.{ahead, token_bit, place_of}
@@ -215,11 +215,11 @@ module _ (w s : List ℕ) (at : ℕ) where
   unfolding weight
   width-next h size e = ap (weight w) (drop-next s at 0 h) ∙ rw e
 
-  pub width-eight : (size : ℕ) → size ≡ weight w (take 8 (take (length s - at) (drop at s))) → weight w (drop at s) ≡ size + weight w (drop (at + 8) s)
+  pub width-eight : (size : ℕ) → size ≡ weight w (take 8 (drop at s)) → weight w (drop at s) ≡ size + weight w (drop (at + 8) s)
   width-eight size e =
       ap (weight w) (sym (take-append-drop 8 (drop at s)))
       ∙ width-append w (take 8 (drop at s)) (drop 8 (drop at s))
-      ∙ ap₂ (λ (m n : ℕ). m + n) (sym (e ∙ ap (λ q. weight w (take 8 q)) (part_to_end s at))) (ap (weight w) (drop-drop 8 at s))
+      ∙ ap₂ (λ (m n : ℕ). m + n) (sym e) (ap (weight w) (drop-drop 8 at s))
 
 -- ---- a text by such widths
 pub weight_is : (es : Entries) (w : List ℕ) → Widths 32 es w → (s : List ℕ) → weight w s ≡ length (expanded es s)
