@@ -164,7 +164,8 @@ module _ (table : List ℕ) where
             within = room table at h p e x f;
             long = length-set widths (place_of seen x.tag) x.size ∙ inv.long;
             each = λ k l.
-                known_more (entries table) (entries (drop (at + 2 + x.size) table)) x.tag (take x.size (drop 2 (drop at table))) widths seen x.size (text-length table at h p e x f) inv.long k l
+                known_more (entries table) (entries (drop (at + 2 + x.size) table)) x.tag (take x.size (drop 2 (drop at table))) widths seen x.size
+                (text-length table at h p e x f) inv.long k l
                 (subst (λ es. Known (entries table) es k (get_or widths k 0) (bit seen k)) (next-names table at h p e x f) (inv.each k l));
           }
 
