@@ -25,8 +25,7 @@ use Rattle.format.specs.Tree.{count}
 use Rattle.format.specs.Judge.{Context, is_top, is_tokens, first, late, late_before, late_after, broken, unless}
 use Rattle.format.proofs.Rules.{first_one}
 use Rattle.judge.specs.Says.{ctx, depth_of, checked, sorted, table_sort, WaitsWhen, LateSays, own_of, behind_of, broken_of, OwnIs, BehindIs, AllIs, Passed, Says, counted, EndSays}
-use Rattle.judge.specs.declared.Check.{Check}
-use Rattle.judge.specs.declared.Check.TheVariants.{Kept, Broken}
+use Rattle.std.specs.Prelude.{Result, Ok, Err, ⊤}
 use Rattle.judge.specs.declared.Progress.{Progress}
 use Rattle.judge.specs.declared.Sort.{Sort}
 use Rattle.judge.specs.declared.Sort.TheVariants.{Skip, Leaf, Table, Element}
@@ -89,7 +88,7 @@ module _ (parent stage : ℕ) (s : Sort) where
 pub ruleset due-ways = (due-skip, due-leaf, due-element, due-table)
 
 -- the late rule at an item that calls for it, and at one that doesn't
-late-when : (b w d : Bool) (part : List ℕ) (at parent base : ℕ) (T : List ℕ) (r : Check) → d ≡ (b && w) → LateSays d part at parent base T r
+late-when : (b w d : Bool) (part : List ℕ) (at parent base : ℕ) (T : List ℕ) (r : Result ⊤ Refusal) → d ≡ (b && w) → LateSays d part at parent base T r
     → (waiting : List (ℕ × List ℕ)) → WaitsWhen w parent base part at waiting → cond b (late (entries T) waiting) none ≡ checked r
 unfolding LateSays WaitsWhen late
 late-when true w d part at parent base T r e l waiting h =
@@ -156,7 +155,7 @@ module _ (parent left : ℕ) (progress : Progress) (table : List ℕ) (base at :
       pub behind-in : at < length part → at + start + size ≤ length part
       behind-in h = omega (arith, p.fits, length-drop at part)
 
-      module _ (d : Bool) (de : d ≡ (table_sort i.sort && waiting?)) (r : Check) (l : LateSays d part at parent base (take (at + start + size - (at + start)) (drop (at + start) part)) r) where
+      module _ (d : Bool) (de : d ≡ (table_sort i.sort && waiting?)) (r : Result ⊤ Refusal) (l : LateSays d part at parent base (take (at + start + size - (at + start)) (drop (at + start) part)) r) where
         behind : BehindIs parent left progress table base at part (checked r)
         unfolding BehindIs behind_of OwnIs first late_after
         behind seen waiting z w =
@@ -166,17 +165,17 @@ module _ (parent left : ℕ) (progress : Progress) (table : List ℕ) (base at :
             (first_one (cond (table_sort i.sort) (late (entries (take size (drop start (drop at part)))) waiting) none)
             ∙ late-when (table_sort i.sort) waiting? d part at parent base (take size (drop start (drop at part))) r de m waiting w)
 
-        pub behind-late : (x : Refusal) → r ≡ Broken x → BehindIs parent left progress table base at part (some x)
+        pub behind-late : (x : Refusal) → r ≡ Err x → BehindIs parent left progress table base at part (some x)
         unfolding checked
         behind-late x q = rw q at behind
 
-        pub behind-good : r ≡ Kept → Says (BehindIs parent left progress table base at part) parent progress (drop at part) i
+        pub behind-good : r ≡ Ok tt → Says (BehindIs parent left progress table base at part) parent progress (drop at part) i
         unfolding checked
         behind-good q = record { breaks = rw f (rw q at behind); passes = here.passes }
 
   -- the late rule before an item
   module _ (d : Bool) (de : d ≡ (not (attribute (get_or part at 0) || eqb (get_or part at 0) 4) && waiting?))
-      (r : Check) (l : LateSays d part at parent base (take (0 - 0) (drop 0 part)) r) where
+      (r : Result ⊤ Refusal) (l : LateSays d part at parent base (take (0 - 0) (drop 0 part)) r) where
     before : (seen : List ℕ) (waiting : List (ℕ × List ℕ)) → WaitsWhen waiting? parent base part at waiting
         → late_before (ctx parent (depth_of left) progress.stage seen (entries table) waiting) (get_or (drop at part) 0 0) ≡ checked r
     unfolding late_before
@@ -185,11 +184,11 @@ module _ (parent left : ℕ) (progress : Progress) (table : List ℕ) (base at :
         rw (← tag_at part at, swapped b none (late [] waiting), ← no-entries part)
         (late-when (not b) waiting? d part at parent base (take (0 - 0) (drop 0 part)) r de l waiting w)
 
-    pub all-late : (x : Refusal) → r ≡ Broken x → AllIs parent left progress table base at part (some x)
+    pub all-late : (x : Refusal) → r ≡ Err x → AllIs parent left progress table base at part (some x)
     unfolding AllIs first checked
     all-late x f seen waiting z w = behind-broken _ _ _ ∙ rw (before seen waiting w ∙ ap checked f)
 
-    pub all-item : r ≡ Kept → (i : Item) → Says (BehindIs parent left progress table base at part) parent progress (drop at part) i
+    pub all-item : r ≡ Ok tt → (i : Item) → Says (BehindIs parent left progress table base at part) parent progress (drop at part) i
         → Says (AllIs parent left progress table base at part) parent progress (drop at part) i
     unfolding AllIs BehindIs first checked
     all-item f i =
@@ -202,15 +201,15 @@ pub ruleset all_ways = (says-bad, all-late, all-item)
 
 -- the late rule at the end of an element
 module _ (counts : Counts) (part : List ℕ) (at parent stage base : ℕ) (d : Bool) (de : d ≡ (is_top parent && eqb stage 0))
-    (r : Check) (l : LateSays d part at parent base (take (0 - 0) (drop 0 part)) r) where
+    (r : Result ⊤ Refusal) (l : LateSays d part at parent base (take (0 - 0) (drop 0 part)) r) where
   ended : (waiting : List (ℕ × List ℕ)) → WaitsWhen (is_top parent && eqb stage 0) parent base part at waiting → late [] waiting ≡ checked r
   ended waiting w = rw (← no-entries part) (late-when true (is_top parent && eqb stage 0) d part at parent base (take (0 - 0) (drop 0 part)) r de l waiting w)
 
-  ended-late : (x : Refusal) → r ≡ Broken x → EndSays counts part at parent stage base (NotRead x)
+  ended-late : (x : Refusal) → r ≡ Err x → EndSays counts part at parent stage base (NotRead x)
   unfolding EndSays unless counted checked
   ended-late x f waiting w = rw (ended waiting w ∙ ap checked f)
 
-  ended-good : r ≡ Kept → EndSays counts part at parent stage base (Records counts)
+  ended-good : r ≡ Ok tt → EndSays counts part at parent stage base (Records counts)
   unfolding EndSays unless counted checked count
   ended-good f waiting w = rw (ended waiting w ∙ ap checked f, add-zero counts.records, add-zero counts.items)
 
@@ -220,13 +219,13 @@ module _ (counts : Counts) (part : List ℕ) (at parent stage base : ℕ) (d : B
   nothing = take (0 - 0) (drop 0 part)
 
   pub end-undue : d ≡ false → EndSays counts part at parent stage base (Records counts)
-  end-undue e = ended-good counts part at parent stage base d de Kept (late-undue d part at parent base nothing e) refl
+  end-undue e = ended-good counts part at parent stage base d de (Ok tt) (late-undue d part at parent base nothing e) refl
 
-  module _ (e : d ≡ true) (r : Check) (l : LateSays true part at parent base nothing r) where
-    pub end-late : (x : Refusal) → r ≡ Broken x → EndSays counts part at parent stage base (NotRead x)
+  module _ (e : d ≡ true) (r : Result ⊤ Refusal) (l : LateSays true part at parent base nothing r) where
+    pub end-late : (x : Refusal) → r ≡ Err x → EndSays counts part at parent stage base (NotRead x)
     end-late = ended-late counts part at parent stage base d de r (late_due d part at parent base nothing e r l)
 
-    pub end-good : r ≡ Kept → EndSays counts part at parent stage base (Records counts)
+    pub end-good : r ≡ Ok tt → EndSays counts part at parent stage base (Records counts)
     end-good = ended-good counts part at parent stage base d de r (late_due d part at parent base nothing e r l)
 
 pub ruleset end-ways = (end-undue, end-late, end-good)

@@ -26,8 +26,7 @@ use Rattle.values.specs.declared.KnownKind.{KnownKind}
 use Rattle.tags.specs.Rules.{with_bit}
 use Rattle.tags.proofs.Masks.{marked}
 use Rattle.judge.specs.Says.{ctx, depth_of, as_kind, checked, sorted, Framed, ItemSays, own_of, OwnIs, after, bad_item, good_item, Says}
-use Rattle.judge.specs.declared.Check.{Check}
-use Rattle.judge.specs.declared.Check.TheVariants.{Kept, Broken}
+use Rattle.std.specs.Prelude.{Result, Ok, Err, ⊤}
 use Rattle.judge.specs.declared.Progress.{Progress}
 use Rattle.judge.specs.declared.Sort.{Sort}
 use Rattle.judge.specs.declared.Item.{Item}
@@ -98,7 +97,7 @@ module _ (parent left : ℕ) (progress : Progress) (table : List ℕ) (place : �
           unfolding OwnIs own_of own first rule
           own-5 k x m seen waiting z = rw (m, head_in, body-in, ap (allowed parent) (sym t) ∙ sym b ∙ i, five ∙ ap not k) (ap (λ (y : ℕ). some (refusal 5 y)) whole-at)
 
-          module _ (k : v ≡ false) (w : Check) (l : ItemSays parent tag left progress place table (take (start + size - start) (drop start s)) w) where
+          module _ (k : v ≡ false) (w : Result ⊤ Refusal) (l : ItemSays parent tag left progress place table (take (start + size - start) (drop start s)) w) where
             all : R (checked w)
             unfolding OwnIs own_of own first rule ItemSays
             all seen waiting z =
@@ -106,11 +105,11 @@ module _ (parent left : ℕ) (progress : Progress) (table : List ℕ) (place : �
                 (first_one (item_rules (ctx parent (depth_of left) progress.stage seen (entries table) waiting) place (get_or s 0 0) (take size (drop start s)))
                 ∙ rw (← t) (rw (add-sub_cancel_left) at (l seen waiting z)))
 
-            pub own-bad : (r : Refusal) → w ≡ Broken r → R (some r)
+            pub own-bad : (r : Refusal) → w ≡ Err r → R (some r)
             unfolding checked
             own-bad r q = rw q at all
 
-            pub own-good : w ≡ Kept → (kd : KnownKind) → kd ≡ known_kind parent tag → (sort : Sort) → sort ≡ sorted (as_kind kd) → (next : Progress) → next ≡ after tag progress
+            pub own-good : w ≡ Ok tt → (kd : KnownKind) → kd ≡ known_kind parent tag → (sort : Sort) → sort ≡ sorted (as_kind kd) → (next : Progress) → next ≡ after tag progress
                 → (i : Item) → i ≡ good_item sort start size next → Says R parent progress s i
             unfolding checked after
             own-good q kd ke sort se next ne i ie = rw ie (record {

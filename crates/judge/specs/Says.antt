@@ -1,6 +1,6 @@
 -- What the code's values say, in the words of the crate format: contracts of the crate's own functions. The one public call is claimed by format's definitions
 -- alone (specs/Judge, specs/Calls). Rules are those of document 01, Refusal numbers.
-use Rattle.std.specs.Prelude.{◌≡◌, Bool, true, false, cond, ◌&&◌, List, [], ◌∷◌, ◌++◌, ℕ, ◌+◌, ◌-◌, ◌≤◌, eqb, length, take, drop, get_or}
+use Rattle.std.specs.Prelude.{◌≡◌, Bool, true, false, cond, ◌&&◌, List, [], ◌∷◌, ◌++◌, ℕ, ◌+◌, ◌-◌, ◌≤◌, eqb, length, take, drop, get_or, Result, Ok, Err, ⊤}
 use Rattle.std.proofs.Math.Option.{Option, none, some}
 use Rattle.octets.specs.Header.{header_size, body_size}
 use Rattle.text.specs.Tokens.{Entries, entries}
@@ -20,8 +20,6 @@ use Rattle.format.specs.Judge.Judged.{refused, accepted}
 use Rattle.values.specs.declared.KnownKind.{KnownKind}
 use Rattle.values.specs.declared.KnownKind.TheVariants.{Unknown, Known}
 use Rattle.tags.specs.Rules.{with_bit, Seen}
-use Rattle.judge.specs.declared.Check.{Check}
-use Rattle.judge.specs.declared.Check.TheVariants.{Kept, Broken}
 use Rattle.judge.specs.declared.Progress.{Progress}
 use Rattle.judge.specs.declared.Sort.{Sort}
 use Rattle.judge.specs.declared.Sort.TheVariants.{Skip, Leaf, Table, Element}
@@ -50,9 +48,9 @@ as_kind Unknown = none
 as_kind (Known k) = some k
 
 -- the first broken rule that a check found
-unfoldable pub checked : Check → Option Refusal
-checked Kept = none
-checked (Broken r) = some r
+unfoldable pub checked : Result ⊤ Refusal → Option Refusal
+checked (Ok x) = none
+checked (Err r) = some r
 
 -- what becomes of an item by its kind: an unknown one gives nothing, the table no record of its own (document 01, Records and meaning)
 unfoldable pub sorted : Option Kind → Sort
@@ -72,7 +70,7 @@ pub record Framed (s : List ℕ) (start size : ℕ) : Type 0 where
   pub in_part : start ≤ length s
 
 -- rules 6 to 13 say what a check says, whatever tags the mask stands for and whatever waits
-unfoldable pub ItemSays : (parent tag left : ℕ) (progress : Progress) (place : ℕ) (table body : List ℕ) → Check → Type 0
+unfoldable pub ItemSays : (parent tag left : ℕ) (progress : Progress) (place : ℕ) (table body : List ℕ) → Result ⊤ Refusal → Type 0
 ItemSays parent tag left progress place table body r =
     (seen : List ℕ) (waiting : List (ℕ × List ℕ)) → Seen parent progress.mask seen
     → item_rules (ctx parent (depth_of left) progress.stage seen (entries table) waiting) place tag body ≡ checked r
@@ -101,7 +99,7 @@ WaitsWhen true parent base part at ws = Waits parent base part at 0 ws
 WaitsWhen false parent base part at ws = ws ≡ []
 
 -- the late rule says what a check says, of all that waits
-unfoldable pub LateSays : Bool → (part : List ℕ) (run parent base : ℕ) (table : List ℕ) → Check → Type 0
+unfoldable pub LateSays : Bool → (part : List ℕ) (run parent base : ℕ) (table : List ℕ) → Result ⊤ Refusal → Type 0
 LateSays due part run parent base table r = (ws : List (ℕ × List ℕ)) → WaitsWhen due parent base part run ws → late (entries table) ws ≡ checked r
 
 -- each of the three, whatever tags the mask stands for and whatever waits here

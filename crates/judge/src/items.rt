@@ -7,7 +7,7 @@ ghost use Rattle.judge.specs.Says.{ctx, InForce, depth_of, table_sort, BehindIs,
 
 use crate::late::{hold_attributes, is_due_before, is_waiting, judge_late};
 use crate::rules::judge_own;
-use crate::{Check, Item, Progress, Sort, bad};
+use crate::{Item, Progress, Sort, bad};
 use format::{Counts, ReadAnswer};
 use text::{characters_of, tokens_of};
 
@@ -55,8 +55,8 @@ fn judge_item(
         let sort = item.sort;
         let due = is_due_after(sort, parent, progress.stage);
         match judge_late(due, part, at, parent, base, &part[from..to]) {
-            Check::Broken(refusal) => bad(refusal),
-            Check::Kept => item,
+            Err(refusal) => bad(refusal),
+            Ok(()) => item,
         }
     } else {
         item
@@ -81,8 +81,8 @@ fn read_item(
 {
     let due = is_due_before(parent, progress.stage, part[at]);
     match judge_late(due, part, at, parent, base, &part[0..0]) {
-        Check::Broken(refusal) => bad(refusal),
-        Check::Kept => judge_item(part, at, base, parent, left, progress, table, marks, shows),
+        Err(refusal) => bad(refusal),
+        Ok(()) => judge_item(part, at, base, parent, left, progress, table, marks, shows),
     }
 }
 
@@ -101,10 +101,10 @@ fn end_items(
 {
     if is_waiting(parent, stage) {
         match hold_attributes(part, at, parent, base, &part[0..0]) {
-            Check::Broken(refusal) => {
+            Err(refusal) => {
                 return ReadAnswer::NotRead(refusal);
             }
-            Check::Kept => {
+            Ok(()) => {
                 return ReadAnswer::Records(counts);
             }
         }

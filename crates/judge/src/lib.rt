@@ -16,13 +16,6 @@ use format::{Counts, ReadAnswer, Refusal, refuse};
 use items::read_items;
 use text::{characters_of, tokens_of};
 
-// What rules say in their order: that they are kept, or the refusal of the first that is broken.
-#[derive(Clone, Copy)]
-enum Check {
-    Kept,
-    Broken(Refusal),
-}
-
 // How far the items of one element were read: the stage of their order, and the attributes seen.
 #[derive(Clone, Copy)]
 struct Progress {

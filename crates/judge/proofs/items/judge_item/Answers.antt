@@ -11,11 +11,11 @@ overflow_add-to c = search (behind-ways, rules)
 pub slice_bounds-judge_late-end : goal.slice_bounds-judge_late-end
 slice_bounds-judge_late-end c = search (behind-ways, rules)
 
-pub returns-in-Broken : goal.returns-in-Broken
-returns-in-Broken c = search (behind-ways, rules)
+pub returns-in-Err : goal.returns-in-Err
+returns-in-Err c = search (behind-ways, rules)
 
-pub returns-in-Kept : goal.returns-in-Kept
-returns-in-Kept c = search (behind-ways, rules)
+pub returns-in-Ok : goal.returns-in-Ok
+returns-in-Ok c = search (behind-ways, rules)
 
 pub returns-else-item : goal.returns-else-item
 returns-else-item c = search (behind-ways, rules)

@@ -16,8 +16,8 @@ returns-then-not-is_allowed c = search (own-ways, not-true, rules)
 pub returns-then-trails : goal.returns-then-trails
 returns-then-trails c = search (own-ways, not-false, rules)
 
-pub returns-in-Broken : goal.returns-in-Broken
-returns-in-Broken c = says-bad _ _ _ _ _ _ c.bad-in-Broken.ensures (own-bad _ _ _ _ _ _ _ _ c.requires.framed.0 c.if-rest-start.false _ refl _ c.is_allowed.ensures (not-false _ c.if-not-is_allowed.false-raw) _ c.trails.ensures c.if-trails.false _ c.check_item.ensures _ c.in-Broken.is)
+pub returns-in-Err : goal.returns-in-Err
+returns-in-Err c = says-bad _ _ _ _ _ _ c.bad-in-Err.ensures (own-bad _ _ _ _ _ _ _ _ c.requires.framed.0 c.if-rest-start.false _ refl _ c.is_allowed.ensures (not-false _ c.if-not-is_allowed.false-raw) _ c.trails.ensures c.if-trails.false _ c.check_item.ensures _ c.in-Err.is)
 
-pub returns-in-Kept : goal.returns-in-Kept
-returns-in-Kept c = own-good _ _ _ _ _ _ _ _ c.requires.framed.0 c.if-rest-start.false _ refl _ c.is_allowed.ensures (not-false _ c.if-not-is_allowed.false-raw) _ c.trails.ensures c.if-trails.false _ c.check_item.ensures c.in-Kept.is _ c.known_kind-known.ensures _ c.sort_of.ensures _ c.progress_after.ensures _ c.good.ensures
+pub returns-in-Ok : goal.returns-in-Ok
+returns-in-Ok c = own-good _ _ _ _ _ _ _ _ c.requires.framed.0 c.if-rest-start.false _ refl _ c.is_allowed.ensures (not-false _ c.if-not-is_allowed.false-raw) _ c.trails.ensures c.if-trails.false _ c.check_item.ensures c.in-Ok.is _ c.known_kind-known.ensures _ c.sort_of.ensures _ c.progress_after.ensures _ c.good.ensures
