@@ -30,7 +30,6 @@ use Rattle.judge.specs.declared.Progress.{Progress}
 use Rattle.judge.specs.declared.Sort.{Sort}
 use Rattle.judge.specs.declared.Sort.TheVariants.{Skip, Leaf, Table, Element}
 use Rattle.judge.specs.declared.Item.{Item}
-use Rattle.judge.proofs.OwnWays.{says-bad}
 use Rattle.judge.proofs.LateWays.{body_at, tag_at, late-undue, late_due}
 
 -- the tag 4 is the token table's, and no other tag is
@@ -117,34 +116,37 @@ behind-broken c at s = go (late_before c (get_or s 0 0))
     go (some r) = refl
 
 -- what is said of an item by one reading of its rules, said by another
-says_of : (R Q : Option Refusal → Type 0) (parent : ℕ) (progress : Progress) (s : List ℕ) (i : Item) → ((o : Option Refusal) → R o → Q o) → Says R parent progress s i → Says Q parent progress s i
-says_of R Q parent progress s i f h = record { breaks = f _ h.breaks; passes = h.passes }
+says_of : (R Q : Option Refusal → Type 0) (parent : ℕ) (progress : Progress) (s : List ℕ) (r : Result Item Refusal)
+    → ((o : Option Refusal) → R o → Q o) → Says R parent progress s r → Says Q parent progress s r
+says_of R Q parent progress s (Ok i) f h = (f none h.0, h.1)
+says_of R Q parent progress s (Err r) f h = f (some r) h
 
 module _ (parent left : ℕ) (progress : Progress) (table : List ℕ) (base at : ℕ) (part : List ℕ) where
   abbrev waiting? : Bool
   waiting? = is_top parent && eqb progress.stage 0
 
   -- an item's own rules, and the late rule just after it
-  module _ (i : Item) (e : Says (OwnIs parent left progress table (base + at) (take (length part - at) (drop at part))) parent progress (take (length part - at) (drop at part)) i) where
-    here : Says (OwnIs parent left progress table (base + at) (drop at part)) parent progress (drop at part) i
+  module _ (r : Result Item Refusal)
+      (e : Says (OwnIs parent left progress table (base + at) (take (length part - at) (drop at part))) parent progress (take (length part - at) (drop at part)) r) where
+    here : Says (OwnIs parent left progress table (base + at) (drop at part)) parent progress (drop at part) r
     here = rw (← part_to_end part at) e
 
-    pub behind-bad : i.good ≡ false → Says (BehindIs parent left progress table base at part) parent progress (drop at part) i
+    pub behind-bad : (x : Refusal) → r ≡ Err x → BehindIs parent left progress table base at part (some x)
     unfolding BehindIs behind_of OwnIs first
-    behind-bad f = record {
-      breaks = rw f (λ seen waiting z w. rw ((rw f at here.breaks) seen waiting z));
-      passes = here.passes;
-    }
+    behind-bad x f seen waiting z w = rw ((rw f at here) seen waiting z)
 
-    module _ (f : i.good ≡ true) where
+    module _ (i : Item) (f : r ≡ Ok i) where
       abbrev start : ℕ
       start = i.start
 
       abbrev size : ℕ
       size = i.size
 
+      own : OwnIs parent left progress table (base + at) (drop at part) none
+      own = (rw f at here).0
+
       p : Passed parent progress (drop at part) i
-      p = here.passes f
+      p = (rw f at here).1
 
       pub behind-from : base + length part ≤ 32_768 → at < length part → Fits w64 (at + start)
       behind-from b h = omega (arith, p.fits, length-drop at part)
@@ -155,23 +157,23 @@ module _ (parent left : ℕ) (progress : Progress) (table : List ℕ) (base at :
       pub behind-in : at < length part → at + start + size ≤ length part
       behind-in h = omega (arith, p.fits, length-drop at part)
 
-      module _ (d : Bool) (de : d ≡ (table_sort i.sort && waiting?)) (r : Result ⊤ Refusal) (l : LateSays d part at parent base (take (at + start + size - (at + start)) (drop (at + start) part)) r) where
-        behind : BehindIs parent left progress table base at part (checked r)
+      module _ (d : Bool) (de : d ≡ (table_sort i.sort && waiting?))
+          (u : Result ⊤ Refusal) (l : LateSays d part at parent base (take (at + start + size - (at + start)) (drop (at + start) part)) u) where
+        behind : BehindIs parent left progress table base at part (checked u)
         unfolding BehindIs behind_of OwnIs first late_after
         behind seen waiting z w =
-            let own : OwnIs parent left progress table (base + at) (drop at part) none = rw f at here.breaks in
-            let m : LateSays d part at parent base (take size (drop start (drop at part))) r = rw (body_at part at start size) at l in
+            let m : LateSays d part at parent base (take size (drop start (drop at part))) u = rw (body_at part at start size) at l in
             rw (own seen waiting z, p.framed.is_start, p.framed.is_size, sort-four parent (get_or (drop at part) 0 0) i.sort p.sorts)
             (first_one (cond (table_sort i.sort) (late (entries (take size (drop start (drop at part)))) waiting) none)
-            ∙ late-when (table_sort i.sort) waiting? d part at parent base (take size (drop start (drop at part))) r de m waiting w)
+            ∙ late-when (table_sort i.sort) waiting? d part at parent base (take size (drop start (drop at part))) u de m waiting w)
 
-        pub behind-late : (x : Refusal) → r ≡ Err x → BehindIs parent left progress table base at part (some x)
+        pub behind-late : (x : Refusal) → u ≡ Err x → BehindIs parent left progress table base at part (some x)
         unfolding checked
         behind-late x q = rw q at behind
 
-        pub behind-good : r ≡ Ok tt → Says (BehindIs parent left progress table base at part) parent progress (drop at part) i
+        pub behind-good : u ≡ Ok tt → Says (BehindIs parent left progress table base at part) parent progress (drop at part) (Ok i)
         unfolding checked
-        behind-good q = record { breaks = rw f (rw q at behind); passes = here.passes }
+        behind-good q = (rw q at behind, p)
 
   -- the late rule before an item
   module _ (d : Bool) (de : d ≡ (not (attribute (get_or part at 0) || eqb (get_or part at 0) 4) && waiting?))
@@ -188,16 +190,14 @@ module _ (parent left : ℕ) (progress : Progress) (table : List ℕ) (base at :
     unfolding AllIs first checked
     all-late x f seen waiting z w = behind-broken _ _ _ ∙ rw (before seen waiting w ∙ ap checked f)
 
-    pub all-item : r ≡ Ok tt → (i : Item) → Says (BehindIs parent left progress table base at part) parent progress (drop at part) i
-        → Says (AllIs parent left progress table base at part) parent progress (drop at part) i
+    pub all-item : r ≡ Ok tt → (v : Result Item Refusal) → Says (BehindIs parent left progress table base at part) parent progress (drop at part) v
+        → Says (AllIs parent left progress table base at part) parent progress (drop at part) v
     unfolding AllIs BehindIs first checked
-    all-item f i =
-        says_of (BehindIs parent left progress table base at part) (AllIs parent left progress table base at part) parent progress (drop at part) i
+    all-item f v =
+        says_of (BehindIs parent left progress table base at part) (AllIs parent left progress table base at part) parent progress (drop at part) v
         (λ o h seen waiting z w. behind-broken _ _ _ ∙ rw (before seen waiting w ∙ ap checked f) (first_one _ ∙ h seen waiting z w))
 
-pub ruleset behind-ways = (says-bad, behind-bad, behind-from, behind-to, behind-in, behind-late, behind-good)
-
-pub ruleset all_ways = (says-bad, all-late, all-item)
+pub ruleset behind-ways = (behind-from, behind-to, behind-in)
 
 -- the late rule at the end of an element
 module _ (counts : Counts) (part : List ℕ) (at parent stage base : ℕ) (d : Bool) (de : d ≡ (is_top parent && eqb stage 0))

@@ -1,6 +1,6 @@
 -- An item's own rules, 2 to 13, on each way through the code's tests.
 use mathlib.Core.Path.{◌≡◌, refl, sym, ap, ◌∙◌}
-use mathlib.Core.Bool.{Bool, true, false, not, ◌&&◌, ◌||◌, false≢true}
+use mathlib.Core.Bool.{Bool, true, false, not, ◌&&◌, ◌||◌}
 use mathlib.Core.Option.{Option, some}
 use mathlib.Core.List.{List}
 use Prim.Native.Nat.{ℕ, ◌+◌, ◌-◌, ◌≤◌, ◌<◌}
@@ -25,11 +25,10 @@ use Rattle.octets.specs.declared.Header.TheVariants.{Past, Found}
 use Rattle.values.specs.declared.KnownKind.{KnownKind}
 use Rattle.tags.specs.Rules.{with_bit}
 use Rattle.tags.proofs.Masks.{marked}
-use Rattle.judge.specs.Says.{ctx, depth_of, as_kind, checked, sorted, Framed, ItemSays, own_of, OwnIs, after, bad_item, good_item, Says}
+use Rattle.judge.specs.Says.{ctx, depth_of, as_kind, checked, sorted, Framed, ItemSays, own_of, OwnIs, after, Says}
 use Rattle.std.specs.Prelude.{Result, Ok, Err, ⊤}
 use Rattle.judge.specs.declared.Progress.{Progress}
 use Rattle.judge.specs.declared.Sort.{Sort}
-use Rattle.judge.specs.declared.Item.{Item}
 use Rattle.judge.proofs.ItemWays.{kind-known}
 
 pub progress-is : (tag : ℕ) (progress : Progress) (stage mask : ℕ) → stage ≡ stage_after tag → mask ≡ with_bit progress.mask tag → record { stage = stage; mask = mask } ≡ after tag progress
@@ -50,10 +49,6 @@ not-trails p w room = go (eqb p 0) (ltb w room) refl
     go true true h = lt-leb room w (ltb-true w room h)
     go true false h = le-leb room w (ltb-false w room h)
     go false b h = refl
-
--- an item that breaks a rule says no more than which
-pub says-bad : (R : Option Refusal → Type 0) (parent : ℕ) (progress : Progress) (s : List ℕ) (i : Item) (x : Refusal) → i ≡ bad_item x → R (some x) → Says R parent progress s i
-says-bad R parent progress s i x e h = rw e (record { breaks = h; passes = λ g. absurd (false≢true g) })
 
 module _ (parent left : ℕ) (progress : Progress) (table : List ℕ) (place : ℕ) (s : List ℕ) where
   abbrev R : Option Refusal → Type 0
@@ -109,18 +104,19 @@ module _ (parent left : ℕ) (progress : Progress) (table : List ℕ) (place : �
             unfolding checked
             own-bad r q = rw q at all
 
-            pub own-good : w ≡ Ok tt → (kd : KnownKind) → kd ≡ known_kind parent tag → (sort : Sort) → sort ≡ sorted (as_kind kd) → (next : Progress) → next ≡ after tag progress
-                → (i : Item) → i ≡ good_item sort start size next → Says R parent progress s i
+            pub own-good : w ≡ Ok tt → (kd : KnownKind) → kd ≡ known_kind parent tag → (sort : Sort) → sort ≡ sorted (as_kind kd)
+                → (next : Progress) → next ≡ after tag progress
+                → Says R parent progress s (Ok (record { sort = sort; start = start; size = size; next = next }))
             unfolding checked after
-            own-good q kd ke sort se next ne i ie = rw ie (record {
-              breaks = rw q at all;
-              passes = λ g. record {
+            own-good q kd ke sort se next ne = (
+              rw q at all,
+              record {
                 framed = fr;
                 fits = own-to;
                 sorts = se ∙ ap sorted (kind-known kd parent tag ke) ∙ ap (λ (x : ℕ). sorted (known parent x)) t;
                 stages = ap (λ (p : Progress). p.stage) ne ∙ ap stage_after t;
                 seens = λ seen z. rw (ne, ← t) (marked parent progress.mask tag seen z);
-              };
-            })
+              },
+            )
 
-pub ruleset own-ways = (says-bad, own-2, own-3, own-4, own-5, own-bad, own-good, own-octet, framed)
+pub ruleset own-ways = (own-2, own-3, own-4, own-5, own-bad, own-good, own-octet, framed)

@@ -10,7 +10,7 @@ ghost use Rattle.values.specs.Calls.{known_kind};
 ghost use Rattle.tags.specs.Rules.{within_depth, has_bit};
 ghost use Rattle.judge.specs.Says.{depth_of, as_kind, sorted, bare, InForce, checked, after, ItemSays, Framed, OwnIs, Says};
 
-use crate::{Item, Progress, Sort, bad, good};
+use crate::{Item, Progress, Sort};
 use format::{Refusal, refuse};
 use octets::{Characters, Header, read_header};
 use tags::{
@@ -216,24 +216,24 @@ fn judge_framed(
     table: &[u8],
     marks: u32,
     shows: &[u8; 32],
-) -> Item
+) -> Result<Item, Refusal>
     requires framed { Framed rest.now start size × (place + length rest.now ≤ 32_768) }
     requires in_force { InForce table.now marks shows.now }
     ensures { Says (OwnIs parent left progress table.now place rest.now) parent progress rest.now result }
 {
     if rest.len() - start < size {
-        return bad(refuse(3, place));
+        return Err(refuse(3, place));
     }
     let tag = rest[0];
     if !is_allowed(parent, tag) {
-        return bad(refuse(4, place));
+        return Err(refuse(4, place));
     }
     let to = start + size;
     if trails(parent, to, rest.len()) {
-        return bad(refuse(5, place + to));
+        return Err(refuse(5, place + to));
     }
     let known = known_kind(parent, tag);
-    match check_item(
+    check_item(
         known,
         parent,
         tag,
@@ -244,10 +244,13 @@ fn judge_framed(
         marks,
         shows,
         &rest[start..to],
-    ) {
-        Err(refusal) => bad(refusal),
-        Ok(()) => good(sort_of(known), start, size, progress_after(tag, progress)),
-    }
+    )?;
+    Ok(Item {
+        sort: sort_of(known),
+        start,
+        size,
+        next: progress_after(tag, progress),
+    })
 }
 
 // Rules 2 to 13 of the first item of a part.
@@ -260,13 +263,13 @@ pub fn judge_own(
     table: &[u8],
     marks: u32,
     shows: &[u8; 32],
-) -> Item
+) -> Result<Item, Refusal>
     requires rest_bound { place + length rest.now ≤ 32_768 }
     requires in_force { InForce table.now marks shows.now }
     ensures { Says (OwnIs parent left progress table.now place rest.now) parent progress rest.now result }
 {
     match read_header(rest) {
-        Header::Past => bad(refuse(2, place)),
+        Header::Past => Err(refuse(2, place)),
         Header::Found { start, size } => judge_framed(
             rest, start, size, place, parent, left, progress, table, marks, shows,
         ),
