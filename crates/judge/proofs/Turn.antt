@@ -1,5 +1,4 @@
 -- One turn of the loop over the items of an element.
-use Rattle.std.specs.Prelude.{Result, Ok, Err}
 use mathlib.Core.Path.{◌≡◌, refl, sym, ap, ap₂, ◌∙◌}
 use mathlib.Core.Bool.{Bool, true, false, cond, ◌&&◌}
 use mathlib.Core.Option.{Option, none, some}
@@ -35,6 +34,7 @@ use Rattle.tags.specs.Rules.{Seen}
 use Rattle.tags.proofs.Masks.{none-marked}
 use Rattle.judge.specs.Says.{ctx, depth_of, sorted, table_sort, Framed, Waits, WaitsWhen, broken_of, AllIs, Passed, Says, item_more, record_more, counted, EndSays, AtMost, CountsAtMost, CountsAs}
 use Rattle.judge.specs.Says.Waits.{done, more}
+use Rattle.std.specs.Prelude.{Result, Ok, Err}
 use Rattle.judge.specs.declared.Progress.{Progress}
 use Rattle.judge.specs.declared.Sort.{Sort}
 use Rattle.judge.specs.declared.Sort.TheVariants.{Skip, Leaf, Table, Element}
@@ -217,14 +217,15 @@ module _ (part : List ℕ) (base parent left : ℕ) (before : Counts) (given : L
   end-most (Ok k) e = rw e (at_most (base + at) (base + length part) counts (omega (arith, inv.bound)) inv.few)
   end-most (Err x) e = tt
 
-  module _ (h : at < length part) (i : Item) (e : Says (AllIs parent left progress table base at part) parent progress (drop at part) i) where
+  module _ (h : at < length part)
+      (r : Result Item Refusal) (e : Says (AllIs parent left progress table base at part) parent progress (drop at part) r) where
     some_left : 0 < length (drop at part)
     some_left = omega (arith, length-drop at part)
 
-    pub is-bad : i.good ≡ false → Err i.refusal ≡ Whole
+    pub is-bad : (x : Refusal) → r ≡ Err x → Err x ≡ Whole
     unfolding AllIs unless counted
-    is-bad f =
-        let q : AllIs parent left progress table base at part (some i.refusal) = rw f at e.breaks in
+    is-bad x f =
+        let q : AllIs parent left progress table base at part (some x) = rw f at e in
         sym (inv.same ∙ ap (counted counts (headers parent (drop at part))) (read_step c (base + at) (drop at part) some_left) ∙ rw (q inv.seen inv.waiting inv.sees inv.waited))
 
     pub record-fits : base + length part ≤ 32_768 → Fits w64 (counts.records + 1)
@@ -233,7 +234,7 @@ module _ (part : List ℕ) (base parent left : ℕ) (before : Counts) (given : L
     pub item-fits : base + length part ≤ 32_768 → Fits w64 (counts.items + 1)
     item-fits b = omega (arith, inv.few.items)
 
-    module _ (f : i.good ≡ true) where
+    module _ (i : Item) (f : r ≡ Ok i) where
       abbrev sort : Sort
       sort = i.sort
 
@@ -253,11 +254,11 @@ module _ (part : List ℕ) (base parent left : ℕ) (before : Counts) (given : L
       body = take size (drop start (drop at part))
 
       p : Passed parent progress (drop at part) i
-      p = e.passes f
+      p = (rw f at e).1
 
       clean : broken_of c (base + at) (drop at part) ≡ none
       unfolding AllIs
-      clean = (rw f at e.breaks) inv.seen inv.waiting inv.sees inv.waited
+      clean = (rw f at e).0 inv.seen inv.waiting inv.sees inv.waited
 
       two : 2 ≤ start
       two = start-two (drop at part) start size p.framed

@@ -7,7 +7,7 @@ ghost use Rattle.judge.specs.Says.{ctx, InForce, depth_of, table_sort, BehindIs,
 
 use crate::late::{hold_attributes, is_due_before, is_waiting, judge_late};
 use crate::rules::judge_own;
-use crate::{Check, Item, Progress, Sort, bad};
+use crate::{Item, Progress, Sort};
 use format::{Counts, Refusal};
 use text::{characters_of, tokens_of};
 
@@ -34,7 +34,7 @@ fn judge_item(
     table: &[u8],
     marks: u32,
     shows: &[u8; 32],
-) -> Item
+) -> Result<Item, Refusal>
     requires part_bound { (base + length part.now ≤ 32_768) × (at < length part.now) }
     requires in_force { InForce table.now marks shows.now }
     ensures { Says (BehindIs parent left progress table.now base at part.now) parent progress (drop at part.now) result }
@@ -48,19 +48,12 @@ fn judge_item(
         table,
         marks,
         shows,
-    );
-    if item.good {
-        let from = at + item.start;
-        let to = from + item.size;
-        let sort = item.sort;
-        let due = is_due_after(sort, parent, progress.stage);
-        match judge_late(due, part, at, parent, base, &part[from..to]) {
-            Check::Broken(refusal) => bad(refusal),
-            Check::Kept => item,
-        }
-    } else {
-        item
-    }
+    )?;
+    let from = at + item.start;
+    let to = from + item.size;
+    let due = is_due_after(item.sort, parent, progress.stage);
+    judge_late(due, part, at, parent, base, &part[from..to])?;
+    Ok(item)
 }
 
 // All that is judged at the item at `at`: where it is neither attribute nor table, the late rule comes first, without a table.
@@ -74,16 +67,14 @@ fn read_item(
     table: &[u8],
     marks: u32,
     shows: &[u8; 32],
-) -> Item
+) -> Result<Item, Refusal>
     requires part_bound { (base + length part.now ≤ 32_768) × (at < length part.now) }
     requires in_force { InForce table.now marks shows.now }
     ensures { Says (AllIs parent left progress table.now base at part.now) parent progress (drop at part.now) result }
 {
     let due = is_due_before(parent, progress.stage, part[at]);
-    match judge_late(due, part, at, parent, base, &part[0..0]) {
-        Check::Broken(refusal) => bad(refusal),
-        Check::Kept => judge_item(part, at, base, parent, left, progress, table, marks, shows),
-    }
+    judge_late(due, part, at, parent, base, &part[0..0])?;
+    judge_item(part, at, base, parent, left, progress, table, marks, shows)
 }
 
 // The end of the items of an element: the late rule, where it still waits.
@@ -101,10 +92,10 @@ fn end_items(
 {
     if is_waiting(parent, stage) {
         match hold_attributes(part, at, parent, base, &part[0..0]) {
-            Check::Broken(refusal) => {
+            Err(refusal) => {
                 return Err(refusal);
             }
-            Check::Kept => {
+            Ok(()) => {
                 return Ok(counts);
             }
         }
@@ -138,18 +129,13 @@ pub fn read_items<'a>(
     let mut marks = marks;
     let mut shows: [u8; 32] = *shows;
     while at < part.len() {
-        let item = read_item(part, at, base, parent, left, progress, table, marks, &shows);
-        if !item.good {
-            let refusal = item.refusal;
-            return Err(refusal);
-        }
+        let item = read_item(part, at, base, parent, left, progress, table, marks, &shows)?;
         let tag = part[at];
         let from = at + item.start;
         at = from + item.size;
         progress = item.next;
         counts.items = counts.items + 1;
-        let sort = item.sort;
-        match sort {
+        match item.sort {
             Sort::Skip => {}
             Sort::Leaf => {
                 counts.records = counts.records + 1;
@@ -160,16 +146,9 @@ pub fn read_items<'a>(
                 shows = characters_of(table);
             }
             Sort::Element => {
-                match read_element(
+                counts = read_element(
                     part, from, at, base, tag, left, counts, table, marks, &shows,
-                ) {
-                    Err(refusal) => {
-                        return Err(refusal);
-                    }
-                    Ok(within) => {
-                        counts = within;
-                    }
-                }
+                )?;
             }
         }
     }

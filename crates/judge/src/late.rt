@@ -6,8 +6,7 @@ ghost use Rattle.values.specs.Table.{known, attribute};
 ghost use Rattle.format.specs.Judge.{is_top, is_text};
 ghost use Rattle.judge.specs.Says.{LateSays};
 
-use crate::Check;
-use format::refuse;
+use format::{Refusal, refuse};
 use octets::read_header;
 use tags::{holds_text, is_top};
 use text::is_covered;
@@ -48,26 +47,32 @@ fn is_settled(parent: u8, tag: u8, table: &[u8], body: &[u8]) -> bool
 
 // The attributes of a part up to `run`, held against a table. The part begins at the place `base`. Headers that don't lie in the part
 // aren't met there, since these attributes were judged before.
-pub fn hold_attributes(part: &[u8], run: usize, parent: u8, base: usize, table: &[u8]) -> Check
+pub fn hold_attributes(
+    part: &[u8],
+    run: usize,
+    parent: u8,
+    base: usize,
+    table: &[u8],
+) -> Result<(), Refusal>
     requires { (base + length part.now ≤ 32_768) × (run ≤ length part.now) }
     ensures { LateSays true part.now run parent base table.now result }
 {
     let mut at: usize = 0;
     while at < run {
         let Some(body) = read_header(&part[at..]) else {
-            return Check::Kept;
+            return Ok(());
         };
         if part.len() - at - body.start < body.size {
-            return Check::Kept;
+            return Ok(());
         }
         let from = at + body.start;
         let to = from + body.size;
         if !is_settled(parent, part[at], table, &part[from..to]) {
-            return Check::Broken(refuse(12, base + at));
+            return Err(refuse(12, base + at));
         }
         at = to;
     }
-    Check::Kept
+    Ok(())
 }
 
 // The rule where it is due. It seldom is: this stands apart from the scan, which the end of the items asks for too, so that it is small enough to be inlined.
@@ -78,12 +83,12 @@ pub fn judge_late(
     parent: u8,
     base: usize,
     table: &[u8],
-) -> Check
+) -> Result<(), Refusal>
     requires { (base + length part.now ≤ 32_768) × (run ≤ length part.now) }
     ensures { LateSays due part.now run parent base table.now result }
 {
     if due {
         return hold_attributes(part, run, parent, base, table);
     }
-    Check::Kept
+    Ok(())
 }

@@ -10,7 +10,7 @@ ghost use Rattle.values.specs.Calls.{known_kind};
 ghost use Rattle.tags.specs.Rules.{within_depth, has_bit};
 ghost use Rattle.judge.specs.Says.{depth_of, as_kind, sorted, bare, InForce, checked, after, ItemSays, Framed, OwnIs, Says};
 
-use crate::{Check, Item, Progress, Sort, bad, good};
+use crate::{Item, Progress, Sort};
 use format::{Refusal, refuse};
 use octets::{Characters, read_header};
 use tags::{
@@ -68,20 +68,20 @@ fn check_text(
     marks: u32,
     shows: &[u8; 32],
     body: &[u8],
-) -> Check
+) -> Result<(), Refusal>
     requires { InForce table.now marks shows.now }
     ensures { checked result ≡ kind_rules (bare parent (entries table.now)) place tag body.now (some HoldsText) }
 {
     match weigh(marks, shows, body, Characters(32_769)) {
-        Weighed::NoText => Check::Broken(refuse(10, place)),
+        Weighed::NoText => Err(refuse(10, place)),
         Weighed::Text { covered, shown } => {
             if !is_held(parent, tag, covered) {
-                return Check::Broken(refuse(12, place));
+                return Err(refuse(12, place));
             }
             if !is_short(parent, tag, shown) {
-                return Check::Broken(refuse(13, place));
+                return Err(refuse(13, place));
             }
-            Check::Kept
+            Ok(())
         }
     }
 }
@@ -96,25 +96,25 @@ fn check_kind(
     marks: u32,
     shows: &[u8; 32],
     body: &[u8],
-) -> Check
+) -> Result<(), Refusal>
     requires { InForce table.now marks shows.now }
     ensures { checked result ≡ kind_rules (bare parent (entries table.now)) place tag body.now (some kind) }
 {
     match kind {
-        Kind::HoldsItems => Check::Kept,
+        Kind::HoldsItems => Ok(()),
         Kind::HoldsTokens => {
             if is_table(body) {
-                return Check::Kept;
+                return Ok(());
             }
-            Check::Broken(refuse(11, place))
+            Err(refuse(11, place))
         }
         Kind::HoldsText => check_text(parent, tag, place, table, marks, shows, body),
-        Kind::HoldsPlain => Check::Kept,
+        Kind::HoldsPlain => Ok(()),
         _ => {
             if fits_kind(kind, body) {
-                return Check::Kept;
+                return Ok(());
             }
-            Check::Broken(Refusal {
+            Err(Refusal {
                 number: 9,
                 place,
                 field: wrong_field(kind, body),
@@ -133,12 +133,12 @@ fn check_body(
     marks: u32,
     shows: &[u8; 32],
     body: &[u8],
-) -> Check
+) -> Result<(), Refusal>
     requires { InForce table.now marks shows.now }
     ensures { checked result ≡ kind_rules (bare parent (entries table.now)) place tag body.now (as_kind known) }
 {
     match known {
-        KnownKind::Unknown => Check::Kept,
+        KnownKind::Unknown => Ok(()),
         KnownKind::Known(kind) => check_kind(kind, parent, tag, place, table, marks, shows, body),
     }
 }
@@ -165,19 +165,19 @@ fn check_item(
     marks: u32,
     shows: &[u8; 32],
     body: &[u8],
-) -> Check
+) -> Result<(), Refusal>
     requires known_value { known ≡ known_kind parent tag }
     requires in_force { InForce table.now marks shows.now }
     ensures { ItemSays parent tag left progress place table.now body.now result }
 {
     if latest_of(tag) < progress.stage {
-        return Check::Broken(refuse(6, place));
+        return Err(refuse(6, place));
     }
     if !has_level(tag, left) {
-        return Check::Broken(refuse(7, place));
+        return Err(refuse(7, place));
     }
     if is_twice(known, tag, progress.mask) {
-        return Check::Broken(refuse(8, place));
+        return Err(refuse(8, place));
     }
     check_body(known, parent, tag, place, table, marks, shows, body)
 }
@@ -216,24 +216,24 @@ fn judge_framed(
     table: &[u8],
     marks: u32,
     shows: &[u8; 32],
-) -> Item
+) -> Result<Item, Refusal>
     requires framed { Framed rest.now start size × (place + length rest.now ≤ 32_768) }
     requires in_force { InForce table.now marks shows.now }
     ensures { Says (OwnIs parent left progress table.now place rest.now) parent progress rest.now result }
 {
     if rest.len() - start < size {
-        return bad(refuse(3, place));
+        return Err(refuse(3, place));
     }
     let tag = rest[0];
     if !is_allowed(parent, tag) {
-        return bad(refuse(4, place));
+        return Err(refuse(4, place));
     }
     let to = start + size;
     if trails(parent, to, rest.len()) {
-        return bad(refuse(5, place + to));
+        return Err(refuse(5, place + to));
     }
     let known = known_kind(parent, tag);
-    match check_item(
+    check_item(
         known,
         parent,
         tag,
@@ -244,10 +244,13 @@ fn judge_framed(
         marks,
         shows,
         &rest[start..to],
-    ) {
-        Check::Broken(refusal) => bad(refusal),
-        Check::Kept => good(sort_of(known), start, size, progress_after(tag, progress)),
-    }
+    )?;
+    Ok(Item {
+        sort: sort_of(known),
+        start,
+        size,
+        next: progress_after(tag, progress),
+    })
 }
 
 // Rules 2 to 13 of the first item of a part.
@@ -260,13 +263,13 @@ pub fn judge_own(
     table: &[u8],
     marks: u32,
     shows: &[u8; 32],
-) -> Item
+) -> Result<Item, Refusal>
     requires rest_bound { place + length rest.now ≤ 32_768 }
     requires in_force { InForce table.now marks shows.now }
     ensures { Says (OwnIs parent left progress table.now place rest.now) parent progress rest.now result }
 {
     let Some(body) = read_header(rest) else {
-        return bad(refuse(2, place));
+        return Err(refuse(2, place));
     };
     judge_framed(
         rest, body.start, body.size, place, parent, left, progress, table, marks, shows,
