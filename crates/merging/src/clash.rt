@@ -4,22 +4,13 @@ ghost use Rattle.std.specs.Prelude.{◌≡◌};
 ghost use Rattle.text.specs.Index.{entries_by};
 ghost use Rattle.compare.specs.Walks.{children_in};
 ghost use Rattle.merging.specs.Searches.{any_child};
-ghost use Rattle.merging.specs.Clashing.{is_found, is_apart, any_apart_from, both_cdata, is_other, pair_clash, item_clash, clash_below, clash_among};
+ghost use Rattle.merging.specs.Clashing.{is_apart, any_apart_from, both_cdata, is_other, pair_clash, item_clash, clash_below, clash_among};
 
+use crate::children::{any_child, is_found};
 use crate::keys::{is_partner, merges};
 use compare::{Child, find_counted, next_child, same_attribute, same_texts};
 use merge::Services;
-use octets::Lies;
 use survey::find_item;
-
-pub fn is_found(found: Lies) -> bool
-    ensures { result ≡ is_found found }
-{
-    match found {
-        Lies::Outside => false,
-        Lies::Between { from: _, to: _ } => true,
-    }
-}
 
 // One attribute of two elements of a tag with two different values; a default is absent.
 fn is_apart(
@@ -103,25 +94,9 @@ fn has_other(
 ) -> bool
     ensures { result ≡ any_child (is_other (entries_by index_x.now table_x.now) language.now (entries_by index_y.now table_y.now)) (children_in part.now) }
 {
-    let mut i: usize = 0;
-    loop {
-        let Child::Found { at, from, to } = next_child(part, i) else {
-            return false;
-        };
-        let tag = part[at];
-        if is_other(
-            index_x,
-            table_x,
-            language,
-            tag,
-            index_y,
-            table_y,
-            &part[from..to],
-        ) {
-            return true;
-        }
-        i = to;
-    }
+    any_child(part, |tag, body| {
+        is_other(index_x, table_x, language, tag, index_y, table_y, body)
+    })
 }
 
 // An element that can have a partner and another child element: they are partners, and clash, or what is below them does, as deep as `levels` levels of

@@ -8,7 +8,8 @@ ghost use Rattle.merge.specs.Keys.{merges as can_merge, key_attribute};
 ghost use Rattle.merging.specs.Searches.{any_child, FindsChild};
 ghost use Rattle.merging.specs.Keyed.{is_bearer_of, is_foreign, has_foreign, same_bearers, same_service_in, same_key_in, is_partner};
 
-use compare::{Child, next_child, same_attribute};
+use crate::children::{any_child, find_child};
+use compare::same_attribute;
 use merge::Services;
 use octets::Lies;
 use tags::is_top;
@@ -103,25 +104,9 @@ fn has_bearer(
 ) -> bool
     ensures { result ≡ any_child (is_bearer_of (entries_by index_x.now table_x.now) bearer.now (entries_by index_y.now table_y.now)) (children_in part.now) }
 {
-    let mut i: usize = 0;
-    loop {
-        let Child::Found { at, from, to } = next_child(part, i) else {
-            return false;
-        };
-        let tag = part[at];
-        if is_bearer_of(
-            index_x,
-            table_x,
-            bearer,
-            tag,
-            index_y,
-            table_y,
-            &part[from..to],
-        ) {
-            return true;
-        }
-        i = to;
-    }
+    any_child(part, |tag, body| {
+        is_bearer_of(index_x, table_x, bearer, tag, index_y, table_y, body)
+    })
 }
 
 // A bearer whose id none of the child elements in a part has.
@@ -153,17 +138,9 @@ fn has_foreign(
 ) -> bool
     ensures { result ≡ has_foreign (entries_by index_x.now table_x.now) x.now (entries_by index_y.now table_y.now) y.now }
 {
-    let mut i: usize = 0;
-    loop {
-        let Child::Found { at, from, to } = next_child(x, i) else {
-            return false;
-        };
-        let tag = x[at];
-        if is_foreign(index_x, table_x, tag, &x[from..to], index_y, table_y, y) {
-            return true;
-        }
-        i = to;
-    }
+    any_child(x, |tag, body| {
+        is_foreign(index_x, table_x, tag, body, index_y, table_y, y)
+    })
 }
 
 // The bearers in two parts have the same ids.
@@ -258,25 +235,7 @@ pub fn find_partner(
 ) -> Lies
     ensures { FindsChild (is_partner by tag (entries_by index_x.now table_x.now) x.now (entries_by index_y.now table_y.now)) part.now start result }
 {
-    let mut i = start;
-    loop {
-        let Child::Found { at, from, to } = next_child(part, i) else {
-            return Lies::Outside;
-        };
-        let other = part[at];
-        if is_partner(
-            by,
-            tag,
-            index_x,
-            table_x,
-            x,
-            other,
-            index_y,
-            table_y,
-            &part[from..to],
-        ) {
-            return Lies::Between { from, to };
-        }
-        i = to;
-    }
+    find_child(part, start, |other, body| {
+        is_partner(by, tag, index_x, table_x, x, other, index_y, table_y, body)
+    })
 }
