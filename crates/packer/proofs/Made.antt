@@ -50,7 +50,7 @@ token-second i h g l = rw (le-ltb i 8 g, lt-ltb i 10 l) at (token-is i h)
 pub token-third : (i : ℕ) → i < 16 → 8 ≤ i → 10 ≤ i → i + 4 ≡ get_or tokens i 0
 token-third i h g l = rw (le-ltb i 8 g, le-ltb i 10 l) at (token-is i h)
 
-pub ruleset token-ways = (token-first, token-second, token-third)
+pub ruleset token_ways = (token-first, token-second, token-third)
 
 -- ---- `put_entry`
 

@@ -46,7 +46,7 @@ module _ (y : ℕ) where
   unfolding year_days
   days-common b e h = rw (sym e ∙ h)
 
-pub ruleset leap-ways = (leap-four, leap-hundred, leap-rest, days-leap, days-common)
+pub ruleset leap_ways = (leap-four, leap-hundred, leap-rest, days-leap, days-common)
 
 module _ (y m : ℕ) where
   pub february-leap : m ≡ 2 → (b : Bool) → b ≡ is_leap y → b ≡ true → 29 ≡ month_days y m
@@ -77,7 +77,7 @@ module _ (y m : ℕ) where
   unfolding month_days among
   long-month a b c d e = rw (ne_eqb m 2 a, ne_eqb m 4 b, ne_eqb m 6 c, ne_eqb m 9 d, ne_eqb m 11 e)
 
-pub ruleset month-ways = (february-leap, february, short-april, short-june, short-september, short-november, long-month)
+pub ruleset month_ways = (february-leap, february, short-april, short-june, short-september, short-november, long-month)
 
 -- ---- years
 
@@ -311,7 +311,7 @@ module _ (z : ℤ) (f : SFits w64 z) (l : LocalDay z) where
     pub days-onward : 320 + nat_abs (to_z w64 (of_z w64 z)) ≡ days_to z
     days-onward = let d = day-number in rw (d.2, d.3)
 
-pub ruleset day-ways = (day-below, day-onward, day-fits, days-fit, days-onward)
+pub ruleset day_ways = (day-below, day-onward, day-fits, days-fit, days-onward)
 
 -- ---- put_time
 
