@@ -20,7 +20,7 @@ use Rattle.xml.specs.declared.calendar.Part.{Part}
 use Rattle.xml.specs.Dates.{is_leap, year_days, month_days, year_from, month_from, date_of, days_to, local_date, padded, between, date_text, clock, time_text}
 use Rattle.xml.specs.Steps.{Puts, YearIs, MonthIs, LocalDay}
 use Rattle.xml.specs.Steps.LocalDay.{day_before, day_onward}
-use Rattle.xml.proofs.Dates.{year-size, month-size, month-some, year-here, year-later, month-here, month-later, months_days, months-year, YearFound, year-found, MonthFound, month-found, minutes-few, days-told}
+use Rattle.xml.proofs.Dates.{year-size, month-size, year-here, year-later, month-here, month-later, months_days, months-year, YearFound, year-found, MonthFound, month-found, minutes-few, days-told}
 use Rattle.xml.proofs.Putting.{then, reworded}
 
 -- ---- leap years
@@ -237,12 +237,6 @@ unfolding between clock
 clock-put emit x y z at a b to o p q r u v w =
     let rest = between 0x3A (clock (y ∷ z ∷ [])) in
     then emit (padded 2 x) (0x3A ∷ rest) at o p r a to u (then emit (0x3A ∷ []) rest a p q r b to v w)
-
-pub offset-put : (emit : Bool) (minus : Bool) (halves s at a to : ℕ) (o p q : List ℕ) → s ≡ cond minus 0x2D 0x2B → Puts emit (s ∷ []) at o p a
-    → Puts emit (between 0x3A (clock (halves / 2 ∷ halves % 2 * 30 ∷ []))) a p q to → Puts emit (cond minus 0x2D 0x2B ∷ between 0x3A (clock (halves / 2 ∷ halves % 2 * 30 ∷ []))) at o q to
-offset-put emit minus halves s at a to o p q e u v =
-    let rest = between 0x3A (clock (halves / 2 ∷ halves % 2 * 30 ∷ [])) in
-    reworded emit (s ∷ rest) (cond minus 0x2D 0x2B ∷ rest) at o q to (ap (λ x. x ∷ rest) e) (then emit (s ∷ []) rest at o p q a to u v)
 
 module _ (t : Time) (h : in_range t ≡ true) where
   few : minutes_in_range t < 1440 * 100_002
