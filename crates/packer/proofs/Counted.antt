@@ -8,7 +8,7 @@ use native.Mathlib.Omega.{arith}
 use lib.Dec.{eqb}
 use lib.ListN.{length, get_or, take, drop, set, length-set, drop_of_length-le}
 use lib.Seq.{get_or-set_same, get_or-set_other}
-use mir.Syntax.{w8, w64}
+use mir.Syntax.{w64}
 use mir.Val.{Fits}
 use borrow.Author.Tests.{eqb-true, eqb-false}
 use Rattle.octets.proofs.Lists.{length_part, drop-next}
@@ -54,13 +54,7 @@ module _ (w : List ℕ) where
     pub key_fits : Fits w64 (key * 31)
     key_fits = record { fits = omega (arith, v.low) }
 
-    pub key-octet : Fits w8 key
-    key-octet = record { fits = omega (arith, v.low) }
-
     module _ (h : i < length w) (b : ℕ) (e : b ≡ get_or w i 0) where
-      pub key-sum : b < 256 → Fits w64 (key * 31 + b)
-      key-sum l = record { fits = omega (arith, v.low) }
-
       pub key-again : Keying w ((key * 31 + b) % 251) (i + 1)
       unfolding key_from
       key-again = record {
@@ -68,26 +62,6 @@ module _ (w : List ℕ) where
         low = omega arith;
         same = ap (λ x. key_from ((key * 31 + x) % 251) (drop (i + 1) w)) e ∙ (sym (ap (key_from key) (drop-next w i 0 h)) ∙ v.same);
       }
-
-pub ruleset key-ways = (key-begin, key-done, key_fits, key-octet, key-sum, key-again)
-
--- ---- `next_keyed`
-
-module _ (keys : List ℕ) (key at n : ℕ) where
-  pub pass-begin : at ≤ n → Passes keys key at n at
-  pass-begin h = record { onward = omega arith; within = h; differ = λ k p q. absurd (omega arith) }
-
-  pub pass-again : (j : ℕ) → Passes keys key at n j → j < n → (get_or keys j 0 ≡ key → ⊥) → Passes keys key at n (j + 1)
-  pass-again j v h d = record { onward = omega (arith, v.onward); within = omega arith; differ = λ k p q. go k p q (eqb k j) refl }
-    where
-      go : (k : ℕ) → at ≤ k → k < j + 1 → (b : Bool) → eqb k j ≡ b → get_or keys k 0 ≡ key → ⊥
-      go k p q true x e = d (ap (λ m. get_or keys m 0) (sym (eqb-true k j x)) ∙ e)
-      go k p q false x e = let y = eqb-false k j x in v.differ k p (omega arith) e
-
-  pub pass-inside : (j : ℕ) → Passes keys key at n j → j < n → n ≤ length keys → j < length keys
-  pass-inside j v h l = omega arith
-
-pub ruleset pass-ways = (pass-begin, pass-again, pass-inside)
 
 -- ---- `fill_keys`
 
@@ -186,9 +160,6 @@ module _ (object starts sizes : List ℕ) where
     pub rest : (k : ℕ) → j ≤ k → get_or after k 0 ≡ get_or before k 0
 
   module _ (before : List ℕ) (i n : ℕ) (noted : Noted object starts sizes n) (hi : i < n) (room : n ≤ length before) where
-    pub count-begin : Counting before before i n 0 i
-    count-begin = record { onward = omega arith; within = omega arith; few = omega arith; long = refl; total = omega arith; marked = λ k p q. absurd (omega arith); rest = λ k p. refl }
-
     module _ (after : List ℕ) (count j : ℕ) (v : Counting before after i n count j) where
       pub count-done : n ≤ j → Counts object starts sizes before after i n count
       unfolding uses
@@ -204,9 +175,6 @@ module _ (object starts sizes : List ℕ) where
       module _ (h : j < n) where
         pub count-place : j < length after
         count-place = omega (arith, v.long)
-
-        pub count_fits : Fits w64 (count + 1)
-        count_fits = record { fits = omega (arith, v.few, v.within, noted.few) }
 
         count-again : true ≡ same_octets (at i) (at j) → Counting before (set after j 1) i n (count + 1) (j + 1)
         unfolding uses
@@ -273,8 +241,3 @@ module _ (object starts sizes : List ℕ) where
 
         pub count-other : false ≡ same_octets (at i) (at j) → after' ≡ after → count' ≡ count → Counting before after' i n count' q
         count-other e m o = rw (m, o) (pass-keyed after count (pass-one after count j v h (sym e)))
-
-    pub next-less : (j q : ℕ) → j < n → (keys : List ℕ) (key : ℕ) → Passes keys key (j + 1) n q → n - q < n - j
-    next-less j q h keys key p = omega (arith, p.onward, p.within)
-
-pub ruleset count-ways = (count-begin, count-done, count-place, count_fits, count-same, count-other, next-less)

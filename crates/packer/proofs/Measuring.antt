@@ -85,7 +85,7 @@ module _ (es : Entries) (w : List ℕ) where
           stays = ap length (or-none w)
       go true q true true (some t) = omega (arith, leb-true 4 (length w) q, ap length (or_some t w))
 
-pub ruleset size-ways = (size_word, size-tag, size-other)
+pub ruleset size_ways = (size_word, size-tag, size-other)
 
 -- ---- the loop of `folded_size`
 

@@ -10,6 +10,7 @@ use crate::laying::put_octets;
 use crate::ranking::Best;
 
 // The token octet of a number.
+#[tactic(auto, using(crate::proofs::Made::token_ways))]
 fn token_at(i: usize) -> u8
     requires { i < 16 }
     ensures { result ≡ get_or tokens i 0 }

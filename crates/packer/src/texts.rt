@@ -9,6 +9,7 @@ use crate::laying::put_octets;
 use crate::lookup::tag_of;
 use crate::pieces::{is_word_size, piece_end};
 
+#[tactic(auto, using(crate::proofs::Measuring::size_ways))]
 fn piece_size(table: &[u8], w: &[u8]) -> usize
     requires { 2 ≤ length w.now → all_letters w.now ≡ true }
     ensures { result ≡ length (tagged (entries table.now) w.now) }

@@ -20,7 +20,7 @@ use Rattle.xml.specs.declared.calendar.Part.{Part}
 use Rattle.xml.specs.Dates.{is_leap, year_days, month_days, year_from, month_from, date_of, days_to, local_date, padded, between, date_text, clock, time_text}
 use Rattle.xml.specs.Steps.{Puts, YearIs, MonthIs, LocalDay}
 use Rattle.xml.specs.Steps.LocalDay.{day_before, day_onward}
-use Rattle.xml.proofs.Dates.{year-size, month-size, month-some, year-here, year-later, month-here, month-later, months_days, months-year, YearFound, year-found, MonthFound, month-found, minutes-few, days-told}
+use Rattle.xml.proofs.Dates.{year-size, month-size, year-here, year-later, month-here, month-later, months_days, months-year, YearFound, year-found, MonthFound, month-found, minutes-few, days-told}
 use Rattle.xml.proofs.Putting.{then, reworded}
 
 -- ---- leap years
@@ -46,7 +46,7 @@ module _ (y : ℕ) where
   unfolding year_days
   days-common b e h = rw (sym e ∙ h)
 
-pub ruleset leap-ways = (leap-four, leap-hundred, leap-rest, days-leap, days-common)
+pub ruleset leap_ways = (leap-four, leap-hundred, leap-rest, days-leap, days-common)
 
 module _ (y m : ℕ) where
   pub february-leap : m ≡ 2 → (b : Bool) → b ≡ is_leap y → b ≡ true → 29 ≡ month_days y m
@@ -77,7 +77,7 @@ module _ (y m : ℕ) where
   unfolding month_days among
   long-month a b c d e = rw (ne_eqb m 2 a, ne_eqb m 4 b, ne_eqb m 6 c, ne_eqb m 9 d, ne_eqb m 11 e)
 
-pub ruleset month-ways = (february-leap, february, short-april, short-june, short-september, short-november, long-month)
+pub ruleset month_ways = (february-leap, february, short-april, short-june, short-september, short-november, long-month)
 
 -- ---- years
 
@@ -238,12 +238,6 @@ clock-put emit x y z at a b to o p q r u v w =
     let rest = between 0x3A (clock (y ∷ z ∷ [])) in
     then emit (padded 2 x) (0x3A ∷ rest) at o p r a to u (then emit (0x3A ∷ []) rest a p q r b to v w)
 
-pub offset-put : (emit : Bool) (minus : Bool) (halves s at a to : ℕ) (o p q : List ℕ) → s ≡ cond minus 0x2D 0x2B → Puts emit (s ∷ []) at o p a
-    → Puts emit (between 0x3A (clock (halves / 2 ∷ halves % 2 * 30 ∷ []))) a p q to → Puts emit (cond minus 0x2D 0x2B ∷ between 0x3A (clock (halves / 2 ∷ halves % 2 * 30 ∷ []))) at o q to
-offset-put emit minus halves s at a to o p q e u v =
-    let rest = between 0x3A (clock (halves / 2 ∷ halves % 2 * 30 ∷ [])) in
-    reworded emit (s ∷ rest) (cond minus 0x2D 0x2B ∷ rest) at o q to (ap (λ x. x ∷ rest) e) (then emit (s ∷ []) rest at o p q a to u v)
-
 module _ (t : Time) (h : in_range t ≡ true) where
   few : minutes_in_range t < 1440 * 100_002
   few = minutes-few t (bounds t h)
@@ -311,7 +305,7 @@ module _ (z : ℤ) (f : SFits w64 z) (l : LocalDay z) where
     pub days-onward : 320 + nat_abs (to_z w64 (of_z w64 z)) ≡ days_to z
     days-onward = let d = day-number in rw (d.2, d.3)
 
-pub ruleset day-ways = (day-below, day-onward, day-fits, days-fit, days-onward)
+pub ruleset day_ways = (day-below, day-onward, day-fits, days-fit, days-onward)
 
 -- ---- put_time
 

@@ -14,6 +14,7 @@ struct Part {
     rest: u32,
 }
 
+#[tactic(auto, using(crate::proofs::Dating::leap_ways))]
 fn is_leap(year: u32) -> bool
     ensures { result ≡ is_leap year }
 {
@@ -26,6 +27,7 @@ fn is_leap(year: u32) -> bool
     year % 400 == 0
 }
 
+#[tactic(auto, using(crate::proofs::Dating::leap_ways))]
 fn year_days(year: u32) -> u32
     ensures { result ≡ year_days year }
 {
@@ -35,6 +37,7 @@ fn year_days(year: u32) -> u32
     365
 }
 
+#[tactic(auto, using(crate::proofs::Dating::month_ways))]
 fn month_days(year: u32, month: u32) -> u32
     ensures { result ≡ month_days year month }
 {
@@ -124,6 +127,7 @@ fn put_date(out: &mut [u8], at: usize, days: u32, emit: bool) -> usize
 }
 
 // The days from 1 January 1858 to that of a local time. The only one below 0 is the day before day 0.
+#[tactic(auto, using(crate::proofs::Dating::day_ways))]
 fn days_to(local: Local) -> u32
     requires { LocalDay local.day }
     ensures { result ≡ days_to local.day }
