@@ -71,24 +71,45 @@ read_items-loop-at-smaller-in-Table t c =
     item-less _ _ _ _ _ _ _ _ _ _ c.loop-at.invariant.0 c.loop-at-test.true _ c.read_item.ensures _ c.in-Ok.is
 
 pub read_items-loop-at-preserved-in-Table : goal.read_items-loop-at-preserved-in-Table
-read_items-loop-at-preserved-in-Table t c =
-    (past-table _ _ _ _ _ _ _ _ _ _ c.loop-at.invariant.0 c.loop-at-test.true _ c.read_item.ensures _ c.in-Ok.is c.in-Table.is, record { marking = c.tokens_of-marks.ensures; showing = c.characters_of-shows.ensures })
+read_items-loop-at-preserved-in-Table t c = (
+  past-table _ _ _ _ _ _ _ _ _ _ c.loop-at.invariant.0 c.loop-at-test.true _ c.read_item.ensures _ c.in-Ok.is c.in-Table.is,
+  record { marking = c.tokens_of-marks.ensures; showing = c.characters_of-shows.ensures },
+)
 
 pub read_items-read_element-requires : goal.read_items-read_element-requires
-read_items-read_element-requires t c =
-    (omega (arith, c.decreases), ((omega arith, item_in _ _ _ _ _ _ _ _ _ _ c.loop-at.invariant.0 c.loop-at-test.true _ c.read_item.ensures _ c.in-Ok.is, c.requires.part_bound.0, item-few _ _ _ _ _ _ _ _ _ _ c.loop-at.invariant.0 c.loop-at-test.true _ c.read_item.ensures _ c.in-Ok.is, element-levels _ _ _ _ _ _ _ _ _ _ c.loop-at.invariant.0 c.loop-at-test.true _ c.read_item.ensures _ c.in-Ok.is c.in-Element.is, c.loop-at.invariant.0.levels), c.loop-at.invariant.1))
+read_items-read_element-requires t c = (
+  omega (arith, c.decreases),
+  (
+    (
+      omega arith,
+      item_in _ _ _ _ _ _ _ _ _ _ c.loop-at.invariant.0 c.loop-at-test.true _ c.read_item.ensures _ c.in-Ok.is,
+      c.requires.part_bound.0,
+      item-few _ _ _ _ _ _ _ _ _ _ c.loop-at.invariant.0 c.loop-at-test.true _ c.read_item.ensures _ c.in-Ok.is,
+      element-levels _ _ _ _ _ _ _ _ _ _ c.loop-at.invariant.0 c.loop-at-test.true _ c.read_item.ensures _ c.in-Ok.is c.in-Element.is,
+      c.loop-at.invariant.0.levels,
+    ),
+    c.loop-at.invariant.1,
+  ),
+)
 
 pub read_items-returns-in-NotRead : goal.read_items-returns-in-NotRead
 read_items-returns-in-NotRead t c =
-    record { value = element-bad _ _ _ _ _ _ _ _ _ _ c.loop-at.invariant.0 c.loop-at-test.true _ c.read_item.ensures _ c.in-Ok.is c.in-Element.is _ c.read_element.ensures.value _ c.in-NotRead.is; counts_at_most = tt }
+    record {
+      value = element-bad _ _ _ _ _ _ _ _ _ _ c.loop-at.invariant.0 c.loop-at-test.true _ c.read_item.ensures _ c.in-Ok.is c.in-Element.is _
+          c.read_element.ensures.value _ c.in-NotRead.is;
+      counts_at_most = tt;
+    }
 
 pub read_items-loop-at-smaller : goal.read_items-loop-at-smaller
 read_items-loop-at-smaller t c =
     item-less _ _ _ _ _ _ _ _ _ _ c.loop-at.invariant.0 c.loop-at-test.true _ c.read_item.ensures _ c.in-Ok.is
 
 pub read_items-loop-at-preserved : goal.read_items-loop-at-preserved
-read_items-loop-at-preserved t c =
-    (past-element _ _ _ _ _ _ _ _ _ _ c.loop-at.invariant.0 c.loop-at-test.true _ c.read_item.ensures _ c.in-Ok.is c.in-Element.is _ c.read_element.ensures.value _ c.in-Records.is c.read_element.ensures.counts_at_most, c.loop-at.invariant.1)
+read_items-loop-at-preserved t c = (
+  past-element _ _ _ _ _ _ _ _ _ _ c.loop-at.invariant.0 c.loop-at-test.true _ c.read_item.ensures _ c.in-Ok.is c.in-Element.is _
+      c.read_element.ensures.value _ c.in-Records.is c.read_element.ensures.counts_at_most,
+  c.loop-at.invariant.1,
+)
 
 pub read_items-end_items-requires : goal.read_items-end_items-requires
 read_items-end_items-requires t c =
