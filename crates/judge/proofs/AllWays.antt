@@ -126,7 +126,8 @@ module _ (parent left : ℕ) (progress : Progress) (table : List ℕ) (base at :
 
   -- an item's own rules, and the late rule just after it
   module _ (r : Result Item Refusal)
-      (e : Says (OwnIs parent left progress table (base + at) (take (length part - at) (drop at part))) parent progress (take (length part - at) (drop at part)) r) where
+      (e : Says (OwnIs parent left progress table (base + at) (take (length part - at) (drop at part))) parent progress
+      (take (length part - at) (drop at part)) r) where
     here : Says (OwnIs parent left progress table (base + at) (drop at part)) parent progress (drop at part) r
     here = rw (← part_to_end part at) e
 

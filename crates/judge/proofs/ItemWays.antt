@@ -182,7 +182,8 @@ pub ruleset sort-ways = (sort-unknown, sort-items, sort-table, sort-leaf)
 
 -- rules 9 to 13, and rule 8, for what the lookup answers
 module _ (known : KnownKind) where
-  pub body-unknown : (parent tag place : ℕ) (table body : List ℕ) → known ≡ Unknown → checked (Ok tt) ≡ kind_rules (bare parent (entries table)) place tag body (as_kind known)
+  pub body-unknown : (parent tag place : ℕ) (table body : List ℕ) → known ≡ Unknown
+      → checked (Ok tt) ≡ kind_rules (bare parent (entries table)) place tag body (as_kind known)
   unfolding kind_rules first rule value_rule checked is_value is_text is_tokens as_kind
   body-unknown parent tag place table body e = rw e
 
@@ -222,7 +223,8 @@ module _ (parent tag left : ℕ) (progress : Progress) (place : ℕ) (table body
       unfolding ItemSays item_rules first rule checked
       item-twice j x m seen waiting s = rw (m, le-leb progress.stage (latest tag) (rw e at h), sym f ∙ g, twice seen s ∙ j)
 
-      pub item-kind : t ≡ false → (r : Result ⊤ Refusal) → checked r ≡ kind_rules (bare parent (entries table)) place tag body (as_kind k) → ItemSays parent tag left progress place table body r
+      pub item-kind : t ≡ false → (r : Result ⊤ Refusal) → checked r ≡ kind_rules (bare parent (entries table)) place tag body (as_kind k)
+          → ItemSays parent tag left progress place table body r
       unfolding ItemSays item_rules first rule kind_rules of_top
       item-kind j r q seen waiting s =
           rw (le-leb progress.stage (latest tag) (rw e at h), sym f ∙ g, twice seen s ∙ j)

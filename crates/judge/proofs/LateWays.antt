@@ -116,7 +116,9 @@ module _ (part : List ℕ) (run parent base : ℕ) (table : List ℕ) where
   late-start = record { within = omega arith; reached = λ ws h. record { later = ws; there = h; same = refl } }
 
   module _ (at : ℕ) (inv : Scans part run parent base table at) where
-    concluded : (r : Result ⊤ Refusal) → ((ws : List (ℕ × List ℕ)) → Reached parent base part run at (entries table) ws → late (entries table) ws ≡ checked r) → LateSays true part run parent base table r
+    concluded : (r : Result ⊤ Refusal)
+        → ((ws : List (ℕ × List ℕ)) → Reached parent base part run at (entries table) ws → late (entries table) ws ≡ checked r)
+        → LateSays true part run parent base table r
     unfolding LateSays WaitsWhen
     concluded r f ws h = f ws (inv.reached ws h)
 

@@ -91,7 +91,8 @@ module _ (parent left : ℕ) (progress : Progress) (table : List ℕ) (place : �
           unfolding OwnIs own_of own first rule
           own-5 k x m seen waiting z = rw (m, head_in, body-in, ap (allowed parent) (sym t) ∙ sym b ∙ i, five ∙ ap not k) (ap (λ (y : ℕ). some (refusal 5 y)) whole-at)
 
-          module _ (k : v ≡ false) (w : Result ⊤ Refusal) (l : ItemSays parent tag left progress place table (take (start + size - start) (drop start s)) w) where
+          module _ (k : v ≡ false) (w : Result ⊤ Refusal)
+              (l : ItemSays parent tag left progress place table (take (start + size - start) (drop start s)) w) where
             all : R (checked w)
             unfolding OwnIs own_of own first rule ItemSays
             all seen waiting z =

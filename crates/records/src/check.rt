@@ -169,9 +169,9 @@ fn parent_at(parent: Parent, tag: u8, i: usize) -> Parent
 }
 
 // The records of the items in one element, from a number on: the number of the first record past them, where all of them are good. Each turn looks at
-// one record and goes on behind it, so that all turns together are as many as the records. An element below depth 16 is bad, so that the calls nest at most
-// 17 deep. A record's fields are read here, where it is known that each list has it: by `record_at` of format, which asks for nothing and so tests, an edit took 12 to
-// 20 % longer.
+// one record and goes on behind it, so that all turns together are as many as the records. An element below depth 16 is bad, so that the calls nest at
+// most 17 deep. A record's fields are read here, where it is known that each list has it: by `record_at` of format, which asks for nothing and so tests,
+// an edit took 12 to 20 % longer.
 fn check_items(
     count: usize,
     tags: &[u8],
