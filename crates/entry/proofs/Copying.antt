@@ -1,4 +1,5 @@
--- Records copied out of the lists one by one; and read_records, as what the reader leaves in the lists and what is then copied.
+-- Ok copied out of the lists one by one; and read_records, as what the reader leaves in the lists and what is then copied.
+use Rattle.std.specs.Prelude.{Result, Ok, Err}
 use mathlib.Core.Path.{◌≡◌, refl, sym, ap, ◌∙◌}
 use mathlib.Core.Bool.{Bool, true, false, cond}
 use mathlib.Core.List.{List, [], ◌++◌}
@@ -13,8 +14,6 @@ use Rattle.std.proofs.lemmas.List.{take-append-drop}
 use borrow.Author.Tests.{leb-true}
 use Rattle.octets.proofs.Lists.{sets-none, sets_last, sets-start, sets-left}
 use Rattle.format.specs.declared.Record.{Record}
-use Rattle.format.specs.declared.ReadAnswer.{ReadAnswer}
-use Rattle.format.specs.declared.ReadAnswer.TheVariants.{Records, NotRead}
 use Rattle.format.specs.Answers.{read_outcome, refusal}
 use Rattle.format.specs.Tree.{count, records_of}
 use Rattle.format.specs.Judge.{Judged, judge}
@@ -25,6 +24,8 @@ use Rattle.format.specs.Calls.{Lists, places, row, counts_of, read_answer, read_
 use Rattle.format.proofs.Lays.{tabled-more, tabled-laid}
 use Rattle.format.proofs.Tabled.{tabled-length}
 use Rattle.format.proofs.Spans.{records-count}
+use Rattle.format.specs.declared.Counts.{Counts}
+use Rattle.format.specs.declared.Refusal.{Refusal}
 use Rattle.entry.specs.Copies.{copied}
 
 pub copied_none : (l : Lists) (slice : List Record) → copied l 0 slice ≡ slice
@@ -54,7 +55,7 @@ unfolding read_answer read_records
 many-handed n h (refused r) = refl
 many-handed n h (accepted t) = go (leb (count t) n)
   where
-    go : (b : Bool) → (read_outcome (cond b (Records (counts_of h t)) (NotRead (refusal 14 0)))).count ≡ length (cond b (records_of t) [])
+    go : (b : Bool) → (read_outcome (cond b (Ok (counts_of h t)) (Err (refusal 14 0)))).count ≡ length (cond b (records_of t) [])
     go true = sym (records-count t 1 0 0)
     go false = refl
 
@@ -68,7 +69,7 @@ few-handed n (accepted t) = go (leb (count t) n) refl
     go false h = omega arith
 
 -- after the reader, with no more places than the slice has, and so many records handed out
-module _ (o : List ℕ) (slice : List Record) (l l' : Lists) (a : ReadAnswer) (c : ReadAtMostClaim o (length slice) l l' a) (many : ℕ) (e : many ≡ (read_outcome a).count) where
+module _ (o : List ℕ) (slice : List Record) (l l' : Lists) (a : Result Counts Refusal) (c : ReadAtMostClaim o (length slice) l l' a) (many : ℕ) (e : many ≡ (read_outcome a).count) where
   abbrev n : ℕ
   n = min (length slice) (places l)
 

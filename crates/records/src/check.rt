@@ -7,10 +7,10 @@ ghost use Rattle.text.specs.Text.{text};
 ghost use Rattle.text.specs.Tokens.{shown_length};
 ghost use Rattle.format.specs.Judge.{shown};
 ghost use Rattle.format.specs.Calls.{places, tree_given};
-ghost use Rattle.format.specs.Lent.{six};
+ghost use Rattle.format.specs.Lent.{shared_lists};
 ghost use Rattle.records.specs.Check.{is_given, held_as, placed_by, state_after, item_of, item_as, first_in, parent_at, walked, told};
 
-use format::{Record, kind_of, places};
+use format::{Record, Records, kind_of};
 use octets::Characters;
 use tags::{has_bit, is_allowed, is_short, is_within_depth, latest_of, stage_after, with_bit};
 use text::{Weighed, characters_of, tokens_of, weigh};
@@ -170,34 +170,29 @@ fn parent_at(parent: Parent, tag: u8, i: usize) -> Parent
 
 // The records of the items in one element, from a number on: the number of the first record past them, where all of them are good. Each turn looks at
 // one record and goes on behind it, so that all turns together are as many as the records. An element below depth 16 is bad, so that the calls nest at
-// most 17 deep. A record's fields are read here, where it is known that each list has it: by `record_at` of format, which asks for nothing and so tests,
+// most 17 deep. A record's fields are read here, where it is known that each list has it: by `Records::at` of format, which asks for nothing and so tests,
 // an edit took 12 to 20 % longer.
 fn check_items(
     count: usize,
-    tags: &[u8],
-    kinds: &[u8],
-    depths: &[u8],
-    parents: &[u16],
-    starts: &[u16],
-    sizes: &[u16],
+    records: &Records,
     octets: &[u8],
     at: usize,
     parent: Parent,
 ) -> Option<usize>
-    requires { (count ≤ places (six tags.now kinds.now depths.now parents.now starts.now sizes.now)) × (at ≤ count) × (parent.depth ≤ 17) }
-    ensures { result ≡ told (walked (six tags.now kinds.now depths.now parents.now starts.now sizes.now) count octets.now (first_in parent) parent.number at) }
+    requires { (count ≤ places (shared_lists records.now)) × (at ≤ count) × (parent.depth ≤ 17) }
+    ensures { result ≡ told (walked (shared_lists records.now) count octets.now (first_in parent) parent.number at) }
 {
     let mut i = at;
     let mut state = State { stage: 0, mask: 0 };
     // Kept: a `for` is no plainer here, since an element's own records are passed by the call inside, which alone knows how many they are.
     while i < count {
         let given = Record {
-            tag: tags[i],
-            kind: kinds[i],
-            depth: depths[i],
-            parent: parents[i],
-            start: starts[i],
-            size: sizes[i],
+            tag: records.tags[i],
+            kind: records.kinds[i],
+            depth: records.depths[i],
+            parent: records.parents[i],
+            start: records.starts[i],
+            size: records.sizes[i],
         };
         match check_record(given, octets, parent, state)? {
             Item::Past => {
@@ -208,18 +203,7 @@ fn check_items(
                 state = next;
             }
             Item::Nested(tag, next) => {
-                i = check_items(
-                    count,
-                    tags,
-                    kinds,
-                    depths,
-                    parents,
-                    starts,
-                    sizes,
-                    octets,
-                    i + 1,
-                    parent_at(parent, tag, i),
-                )?;
+                i = check_items(count, records, octets, i + 1, parent_at(parent, tag, i))?;
                 state = next;
             }
         }
@@ -228,22 +212,13 @@ fn check_items(
 }
 
 // Records in lists over lent octets are a well-formed tree: the walk from the top comes to the last of them.
-pub fn is_well_formed(
-    count: usize,
-    tags: &[u8],
-    kinds: &[u8],
-    depths: &[u8],
-    parents: &[u16],
-    starts: &[u16],
-    sizes: &[u16],
-    octets: &[u8],
-) -> bool
-    ensures { result ≡ is_given (tree_given count (six tags.now kinds.now depths.now parents.now starts.now sizes.now) octets.now) }
+pub fn is_well_formed(count: usize, records: &Records, octets: &[u8]) -> bool
+    ensures { result ≡ is_given (tree_given count (shared_lists records.now) octets.now) }
 {
     if count == 0 {
         return false;
     }
-    if count > places(tags, kinds, depths, parents, starts, sizes) {
+    if count > records.places() {
         return false;
     }
     let above = Parent {
@@ -251,7 +226,5 @@ pub fn is_well_formed(
         number: 0,
         depth: 1,
     };
-    check_items(
-        count, tags, kinds, depths, parents, starts, sizes, octets, 0, above,
-    ) == Some(count)
+    check_items(count, records, octets, 0, above) == Some(count)
 }

@@ -10,42 +10,6 @@ pub loop-i-init : goal.loop-i-init
 loop-i-init t c =
     at_first _ _ _ _ _ c.requires.1
 
-pub bounds-tags-i : goal.bounds-tags-i
-bounds-tags-i t c =
-    (listed-within _ _ _ c.loop-i-test.true c.requires.0).tags
-
-pub bounds-kinds-i : goal.bounds-kinds-i
-bounds-kinds-i t c =
-    (listed-within _ _ _ c.loop-i-test.true c.requires.0).kinds
-
-pub bounds-depths-i : goal.bounds-depths-i
-bounds-depths-i t c =
-    (listed-within _ _ _ c.loop-i-test.true c.requires.0).depths
-
-pub offset_bounds-parents-i : goal.offset_bounds-parents-i
-offset_bounds-parents-i t c =
-    let within = listed-within _ _ _ c.loop-i-test.true c.requires.0 in search (within, rules)
-
-pub bounds-parents-i : goal.bounds-parents-i
-bounds-parents-i t c =
-    (listed-within _ _ _ c.loop-i-test.true c.requires.0).parents
-
-pub offset_bounds-starts-i : goal.offset_bounds-starts-i
-offset_bounds-starts-i t c =
-    let within = listed-within _ _ _ c.loop-i-test.true c.requires.0 in search (within, rules)
-
-pub bounds-starts-i : goal.bounds-starts-i
-bounds-starts-i t c =
-    (listed-within _ _ _ c.loop-i-test.true c.requires.0).starts
-
-pub offset_bounds-sizes-i : goal.offset_bounds-sizes-i
-offset_bounds-sizes-i t c =
-    let within = listed-within _ _ _ c.loop-i-test.true c.requires.0 in search (within, rules)
-
-pub bounds-sizes-i : goal.bounds-sizes-i
-bounds-sizes-i t c =
-    (listed-within _ _ _ c.loop-i-test.true c.requires.0).sizes
-
 pub returns-in_err-check_record : goal.returns-in_err-check_record
 returns-in_err-check_record t c =
     c.from_residual.ensures ∙ turn-bad _ _ _ _ _ _ _ c.loop-i.invariant c.loop-i-test.true _ refl _ c.check_record.ensures c.in_err-check_record.was
@@ -92,3 +56,39 @@ loop-i-preserved t c =
 pub returns : goal.returns
 returns t c =
     turns-end _ _ _ _ _ _ _ c.loop-i.invariant c.loop-i-test.false
+
+pub bounds-records-i : goal.bounds-records-i
+bounds-records-i t c =
+    (listed-within _ _ _ c.loop-i-test.true c.requires.0).tags
+
+pub bounds-records-i-in-loop-i : goal.bounds-records-i-in-loop-i
+bounds-records-i-in-loop-i t c =
+    (listed-within _ _ _ c.loop-i-test.true c.requires.0).kinds
+
+pub bounds-records-i-in-loop-i-2 : goal.bounds-records-i-in-loop-i-2
+bounds-records-i-in-loop-i-2 t c =
+    (listed-within _ _ _ c.loop-i-test.true c.requires.0).depths
+
+pub offset_bounds-records-i : goal.offset_bounds-records-i
+offset_bounds-records-i t c =
+    let within = listed-within _ _ _ c.loop-i-test.true c.requires.0 in search (within, rules)
+
+pub bounds-records-i-in-loop-i-3 : goal.bounds-records-i-in-loop-i-3
+bounds-records-i-in-loop-i-3 t c =
+    (listed-within _ _ _ c.loop-i-test.true c.requires.0).parents
+
+pub offset_bounds-records-i-in-loop-i : goal.offset_bounds-records-i-in-loop-i
+offset_bounds-records-i-in-loop-i t c =
+    let within = listed-within _ _ _ c.loop-i-test.true c.requires.0 in search (within, rules)
+
+pub bounds-records-i-in-loop-i-4 : goal.bounds-records-i-in-loop-i-4
+bounds-records-i-in-loop-i-4 t c =
+    (listed-within _ _ _ c.loop-i-test.true c.requires.0).starts
+
+pub offset_bounds-records-i-in-loop-i-2 : goal.offset_bounds-records-i-in-loop-i-2
+offset_bounds-records-i-in-loop-i-2 t c =
+    let within = listed-within _ _ _ c.loop-i-test.true c.requires.0 in search (within, rules)
+
+pub bounds-records-i-in-loop-i-5 : goal.bounds-records-i-in-loop-i-5
+bounds-records-i-in-loop-i-5 t c =
+    (listed-within _ _ _ c.loop-i-test.true c.requires.0).sizes
