@@ -27,7 +27,6 @@ use Rattle.judge.specs.Says.{ctx, depth_of, checked, sorted, table_sort, WaitsWh
 use Rattle.std.specs.Prelude.{Result, Ok, Err, ⊤}
 use Rattle.judge.specs.declared.Progress.{Progress}
 use Rattle.judge.specs.declared.Sort.{Sort}
-use Rattle.judge.specs.declared.Sort.TheVariants.{Skip, Leaf, Table, Element}
 use Rattle.judge.specs.declared.Item.{Item}
 use Rattle.judge.proofs.LateWays.{body_at, tag_at, late-undue, late_due}
 
@@ -64,26 +63,6 @@ table-tokens (some (HoldsNumber n)) = refl
 
 pub sort-four : (p tag : ℕ) (s : Sort) → s ≡ sorted (known p tag) → eqb tag 4 ≡ table_sort s
 sort-four p tag s e = sym (ap table_sort e ∙ table-tokens (known p tag) ∙ tokens-four p tag)
-
--- when the late rule is due
-module _ (parent stage : ℕ) (s : Sort) where
-  pub due-skip : s ≡ Skip → false ≡ (table_sort s && (is_top parent && eqb stage 0))
-  unfolding table_sort
-  due-skip e = rw e
-
-  pub due-leaf : s ≡ Leaf → false ≡ (table_sort s && (is_top parent && eqb stage 0))
-  unfolding table_sort
-  due-leaf e = rw e
-
-  pub due-element : s ≡ Element → false ≡ (table_sort s && (is_top parent && eqb stage 0))
-  unfolding table_sort
-  due-element e = rw e
-
-  pub due-table : s ≡ Table → (b : Bool) → b ≡ (is_top parent && eqb stage 0) → b ≡ (table_sort s && (is_top parent && eqb stage 0))
-  unfolding table_sort
-  due-table e b f = rw e f
-
-pub ruleset due-ways = (due-skip, due-leaf, due-element, due-table)
 
 -- the late rule at an item that calls for it, and at one that doesn't
 late-when : (b w d : Bool) (part : List ℕ) (at parent base : ℕ) (T : List ℕ) (r : Result ⊤ Refusal) → d ≡ (b && w) → LateSays d part at parent base T r

@@ -32,10 +32,9 @@ use Rattle.tags.specs.Rules.{within_depth, has_bit, Seen}
 use Rattle.tags.proofs.Arms.{never}
 use Rattle.tags.proofs.Masks.{twice-is}
 use Rattle.tags.proofs.TagTests.{capped-shown}
-use Rattle.judge.specs.Says.{ctx, bare, InForce, depth_of, as_kind, checked, sorted, ItemSays}
+use Rattle.judge.specs.Says.{ctx, bare, InForce, depth_of, as_kind, checked, ItemSays}
 use Rattle.std.specs.Prelude.{Result, Ok, Err, ⊤}
 use Rattle.judge.specs.declared.Progress.{Progress}
-use Rattle.judge.specs.declared.Sort.TheVariants.{Skip, Leaf, Table, Element}
 
 -- what the lookup answers, in the definition's words
 pub kind-known : (k : KnownKind) (parent tag : ℕ) → k ≡ known_kind parent tag → as_kind k ≡ known parent tag
@@ -45,16 +44,6 @@ kind-known k parent tag e = ap as_kind e ∙ same (known parent tag)
     same : (o : Option Kind) → as_kind (as_known o) ≡ o
     same none = refl
     same (some k) = refl
-
--- rule 12
-module _ (parent tag : ℕ) (holds t : Bool) (e : t ≡ (attribute tag && is_top parent)) where
-  pub held-later : t ≡ true → true ≡ ((attribute tag && is_top parent) || holds)
-  held-later f = rw (sym e ∙ f)
-
-  pub held-now : t ≡ false → holds ≡ ((attribute tag && is_top parent) || holds)
-  held-now f = rw (sym e ∙ f)
-
-pub ruleset held-ways = (held-later, held-now)
 
 -- rules 10, 12 and 13
 module _ (parent tag place : ℕ) (table body : List ℕ) (marks : ℕ) (shows : List ℕ) (told : InForce table marks shows)
@@ -141,46 +130,13 @@ no_words HoldsTime h = (refl, refl)
 no_words HoldsBearer h = (refl, refl)
 no_words (HoldsNumber n) h = (refl, refl)
 
-abbrev Leaves : List ℕ
-Leaves = 2 ∷ 3 ∷ 4 ∷ 5 ∷ 6 ∷ []
-
-leaf-sort : (k : Kind) → OneOf Leaves (tag_of the_type k) → Leaf ≡ sorted (some k)
-unfolding sorted among
-leaf-sort HoldsItems h = never Leaves 0 refl h
-leaf-sort HoldsTokens h = never Leaves 1 refl h
-leaf-sort HoldsText h = refl
-leaf-sort HoldsPlain h = refl
-leaf-sort HoldsTime h = refl
-leaf-sort HoldsBearer h = refl
-leaf-sort (HoldsNumber n) h = refl
-
 pub kind-formed : (parent tag place : ℕ) (table body : List ℕ) (k : Kind) (b : Bool) → b ≡ fits k body → b ≡ true → OneOf Formed (tag_of the_type k)
     → checked (Ok tt) ≡ kind_rules (bare parent (entries table)) place tag body (some k)
 kind-formed parent tag place table body k b e f h = value-kind parent tag place table body k b e f (no_words k h).0 (no_words k h).1
 
 pub ruleset kind-ways = (kind-items, kind-plain, kind-text, kind-table, kind-no-table, kind-misfit, kind-formed)
 
-module _ (known : KnownKind) where
-  pub sort-unknown : known ≡ Unknown → Skip ≡ sorted (as_kind known)
-  unfolding sorted as_kind
-  sort-unknown e = rw e
-
-  module _ (k : Kind) (e : known ≡ Known k) where
-    pub sort-items : k ≡ HoldsItems → Element ≡ sorted (as_kind known)
-    unfolding sorted as_kind
-    sort-items f = rw (e, f)
-
-    pub sort-table : k ≡ HoldsTokens → Table ≡ sorted (as_kind known)
-    unfolding sorted as_kind
-    sort-table f = rw (e, f)
-
-    pub sort-leaf : OneOf Leaves (tag_of the_type k) → Leaf ≡ sorted (as_kind known)
-    unfolding as_kind
-    sort-leaf h = rw e (leaf-sort k h)
-
-pub ruleset sort-ways = (sort-unknown, sort-items, sort-table, sort-leaf)
-
--- rules 9 to 13, and rule 8, for what the lookup answers
+-- rules 9 to 13, for what the lookup answers
 module _ (known : KnownKind) where
   pub body-unknown : (parent tag place : ℕ) (table body : List ℕ) → known ≡ Unknown
       → checked (Ok tt) ≡ kind_rules (bare parent (entries table)) place tag body (as_kind known)
@@ -192,17 +148,7 @@ module _ (known : KnownKind) where
   unfolding as_kind
   body-known parent tag place table body k e r h = rw e h
 
-  pub twice-unknown : (mask tag : ℕ) → known ≡ Unknown → false ≡ (is_known (as_kind known) && has_bit mask tag)
-  unfolding is_known as_kind
-  twice-unknown mask tag e = rw e
-
-  pub twice-known : (mask tag : ℕ) (k : Kind) → known ≡ Known k → (b : Bool) → b ≡ has_bit mask tag → b ≡ (is_known (as_kind known) && has_bit mask tag)
-  unfolding is_known as_kind
-  twice-known mask tag k e b h = rw e h
-
 pub ruleset body-ways = (body-unknown, body-known)
-
-pub ruleset twice-ways = (twice-unknown, twice-known)
 
 -- rules 6 to 13
 module _ (parent tag left : ℕ) (progress : Progress) (place : ℕ) (table body : List ℕ) (l : ℕ) (e : l ≡ latest tag) where

@@ -28,16 +28,6 @@ use Rattle.judge.specs.Says.Waits.{done, more}
 use Rattle.std.specs.Prelude.{Result, Ok, Err, ⊤, Some, None, Option as Optional}
 use Rattle.judge.proofs.OwnWays.{framed}
 
--- one attribute
-module _ (parent tag : ℕ) (table body : List ℕ) (t : Bool) (f : t ≡ is_text (known parent tag)) where
-  pub settled-text : t ≡ true → (b : Bool) → b ≡ covered (entries table) body → b ≡ (not (is_text (known parent tag)) || covered (entries table) body)
-  settled-text g b h = rw (sym f ∙ g) h
-
-  pub settled-other : t ≡ false → true ≡ (not (is_text (known parent tag)) || covered (entries table) body)
-  settled-other g = rw (sym f ∙ g)
-
-pub ruleset settled-ways = (settled-text, settled-other)
-
 -- the late 12 over what waits of one attribute and then of the later ones
 late-waits : (T : Entries) (o : Option Kind) (at : ℕ) (body : List ℕ) (later : List (ℕ × List ℕ))
     → late T (waits o [] at body ++ later) ≡ first (rule 12 at (not (is_text o) || covered T body) ∷ late T later ∷ [])

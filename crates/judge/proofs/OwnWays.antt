@@ -22,17 +22,12 @@ use Rattle.octets.specs.Calls.{header_of, span}
 use Rattle.octets.specs.declared.Span.{Span}
 use Rattle.values.specs.Calls.{known_kind}
 use Rattle.values.specs.declared.KnownKind.{KnownKind}
-use Rattle.tags.specs.Rules.{with_bit}
 use Rattle.tags.proofs.Masks.{marked}
 use Rattle.judge.specs.Says.{ctx, depth_of, as_kind, checked, sorted, Framed, ItemSays, own_of, OwnIs, after, Says}
 use Rattle.std.specs.Prelude.{Result, Ok, Err, ⊤, Some, None, Option as Optional}
 use Rattle.judge.specs.declared.Progress.{Progress}
 use Rattle.judge.specs.declared.Sort.{Sort}
 use Rattle.judge.proofs.ItemWays.{kind-known}
-
-pub progress-is : (tag : ℕ) (progress : Progress) (stage mask : ℕ) → stage ≡ stage_after tag → mask ≡ with_bit progress.mask tag → record { stage = stage; mask = mask } ≡ after tag progress
-unfolding after
-progress-is tag progress stage mask e f = λ i. record { stage = e i; mask = f i }
 
 -- the header of a part
 pub framed : (s : List ℕ) (r : Optional Span) (start size : ℕ) → r ≡ header_of s → r ≡ Some (span start size) → Framed s start size

@@ -12,14 +12,13 @@ use format::{Counts, Refusal};
 use text::{characters_of, tokens_of};
 
 // The late rule is judged just after the table.
+#[tactic(auto, unfolding(crate::specs::Says::table_sort))]
 fn is_due_after(sort: Sort, parent: u8, stage: u8) -> bool
     ensures { result ≡ (table_sort sort && (is_top parent && eqb stage 0)) }
 {
     match sort {
-        Sort::Skip => false,
-        Sort::Leaf => false,
         Sort::Table => is_waiting(parent, stage),
-        Sort::Element => false,
+        Sort::Skip | Sort::Leaf | Sort::Element => false,
     }
 }
 

@@ -16,33 +16,21 @@ use values::is_attribute;
 pub fn is_waiting(parent: u8, stage: u8) -> bool
     ensures { result ≡ (is_top parent && eqb stage 0) }
 {
-    if is_top(parent) {
-        return stage == 0;
-    }
-    false
+    is_top(parent) && stage == 0
 }
 
 // It is judged before an item that is neither an attribute nor the table.
 pub fn is_due_before(parent: u8, stage: u8, tag: u8) -> bool
     ensures { result ≡ (not (attribute tag || eqb tag 4) && (is_top parent && eqb stage 0)) }
 {
-    if is_attribute(tag) {
-        return false;
-    }
-    if tag == 4 {
-        return false;
-    }
-    is_waiting(parent, stage)
+    !is_attribute(tag) && tag != 4 && is_waiting(parent, stage)
 }
 
 // Each token octet of an attribute has an entry, if the attribute is text.
 fn is_settled(parent: u8, tag: u8, table: &[u8], body: &[u8]) -> bool
     ensures { result ≡ (not (is_text (known parent tag)) || covered (entries table.now) body.now) }
 {
-    if holds_text(parent, tag) {
-        return is_covered(table, body);
-    }
-    true
+    !holds_text(parent, tag) || is_covered(table, body)
 }
 
 // The attributes of a part up to `run`, held against a table. The part begins at the place `base`. Headers that don't lie in the part

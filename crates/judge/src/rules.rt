@@ -23,40 +23,29 @@ use values::{Kind, KnownKind, fits_kind, is_attribute, known_kind, wrong_field};
 fn trails(parent: u8, whole: usize, room: usize) -> bool
     ensures { result ≡ (eqb parent 0 && ltb whole room) }
 {
-    if parent == 0 {
-        return whole < room;
-    }
-    false
+    parent == 0 && whole < room
 }
 
 // Rule 7 where so many levels of elements are left: while there is one, any item may stand, and at depth 17 there is none.
+#[tactic(auto, unfolding(crate::specs::Says::depth_of))]
 fn has_level(tag: u8, left: u8) -> bool
     ensures { result ≡ within_depth tag (depth_of left) }
 {
-    if left > 0 {
-        return true;
-    }
-    is_within_depth(tag, 17)
+    left > 0 || is_within_depth(tag, 17)
 }
 
 // One of the top's own attributes.
 fn is_of_top(parent: u8, tag: u8) -> bool
     ensures { result ≡ attribute tag && is_top parent }
 {
-    if is_attribute(tag) {
-        return is_top(parent);
-    }
-    false
+    is_attribute(tag) && is_top(parent)
 }
 
 // Rule 12 where it isn't late: the top's own attributes wait, and in any other text each token octet has an entry.
 fn is_held(parent: u8, tag: u8, covered: bool) -> bool
     ensures { result ≡ ((attribute tag && is_top parent) || covered) }
 {
-    if is_of_top(parent, tag) {
-        return true;
-    }
-    covered
+    is_of_top(parent, tag) || covered
 }
 
 // Rules 10, 12 and 13, for text, in one look at it. No limit of rule 13 is as large as the most that is counted.
@@ -144,6 +133,7 @@ fn check_body(
 }
 
 // Rule 8: a known attribute twice.
+#[tactic(auto, unfolding(format::specs::Judge::is_known, crate::specs::Says::as_kind))]
 fn is_twice(known: KnownKind, tag: u8, mask: u64) -> bool
     ensures { result ≡ (is_known (as_kind known) && has_bit mask tag) }
 {
@@ -182,6 +172,7 @@ fn check_item(
     check_body(known, parent, tag, place, table, marks, shows, body)
 }
 
+#[tactic(auto, unfolding(crate::specs::Says::sorted, crate::specs::Says::as_kind))]
 fn sort_of(known: KnownKind) -> Sort
     ensures { result ≡ sorted (as_kind known) }
 {
@@ -195,6 +186,7 @@ fn sort_of(known: KnownKind) -> Sort
     }
 }
 
+#[tactic(auto, unfolding(crate::specs::Says::after))]
 fn progress_after(tag: u8, progress: Progress) -> Progress
     ensures { result ≡ after tag progress }
 {
