@@ -133,30 +133,6 @@ module _ (es : Entries) (table s : List ℕ) (r : Rest) where
 
 pub ruleset open-ways = (open-begin, open-ended, open-entry, open_plain, open-again)
 
--- ---- beyond, is_over, are_over
-
-module _ (r : Rest) (n : ℕ) where
-  pub beyond-entry : r.from < r.to → record { from = r.from + n; to = r.to; at = r.at } ≡ beyond r n
-  unfolding beyond
-  beyond-entry h = rw (lt-ltb r.from r.to h)
-
-  pub beyond-text : r.to ≤ r.from → record { from = r.from; to = r.to; at = r.at + n } ≡ beyond r n
-  unfolding beyond
-  beyond-text h = rw (le-ltb r.from r.to h)
-
-pub ruleset beyond-ways = (beyond-entry, beyond-text)
-
-module _ (s : List ℕ) (r : Rest) where
-  pub over-entry : r.from < r.to → false ≡ is_over s r
-  unfolding is_over
-  over-entry h = rw (lt-ltb r.from r.to h)
-
-  pub over-text : r.to ≤ r.from → leb (length s) r.at ≡ is_over s r
-  unfolding is_over
-  over-text h = rw (le-ltb r.from r.to h)
-
-pub ruleset over-ways = (over-entry, over-text)
-
 -- ---- common
 
 module _ (a b : List ℕ) where
@@ -211,23 +187,6 @@ module _ (table s : List ℕ) (r : Rest) where
 
   text-width : r.to ≤ r.from → length (ahead table s r) ≡ length s - r.at
   text-width h = ap length (ahead-text h) ∙ length-drop r.at s
-
-  module _ (x : List ℕ) (n : ℕ) where
-    pub second-entry : r.from < r.to → Common x (between table r.from r.to) n → Common x (ahead table s r) n
-    second-entry h c = subst (λ y. Common x y n) (sym (ahead-entry h)) c
-
-    pub second-text : r.to ≤ r.from → Common x (take (length s - r.at) (drop r.at s)) n → Common x (ahead table s r) n
-    second-text h c = subst (λ y. Common x y n) (part_to_end s r.at ∙ sym (ahead-text h)) c
-
-    pub first_entry : r.from < r.to → Common (between table r.from r.to) x n → Common (ahead table s r) x n
-    first_entry h c = subst (λ y. Common y x n) (sym (ahead-entry h)) c
-
-    pub first-text : r.to ≤ r.from → Common (take (length s - r.at) (drop r.at s)) x n → Common (ahead table s r) x n
-    first-text h c = subst (λ y. Common y x n) (part_to_end s r.at ∙ sym (ahead-text h)) c
-
-pub ruleset second-ways = (second-entry, second-text)
-
-pub ruleset first-ways = (first_entry, first-text)
 
 -- octets that stand for themselves
 itself-run : (es : Entries) (n : ℕ) (s : List ℕ) → n ≤ length s → ((i : ℕ) → i < n → stands es (get_or s i 0) ≡ get_or s i 0 ∷ []) → expanded es s ≡ take n s ++ expanded es (drop n s)

@@ -39,16 +39,6 @@ use Rattle.compare.specs.Bodies.{same_body}
 use Rattle.compare.specs.Items.{counted_body, counted_of_tag, counted_lies, counted_span, is_absent, same_found, same_from, same_sets, same_text}
 use Rattle.survey.proofs.Seeking.{Sought, sought, missing, span-says, span-ordered, span-inside}
 
-pub absent-yes : (r : Lies) → r ≡ Outside → true ≡ is_absent r
-unfolding is_absent
-absent-yes r e = rw e refl
-
-pub absent-no : (r : Lies) (from to : ℕ) → r ≡ Between from to → false ≡ is_absent r
-unfolding is_absent
-absent-no r from to e = rw e refl
-
-pub ruleset absent-ways = (absent-yes, absent-no)
-
 -- ---- what is asked of every two trees
 
 -- of two trees: the first part's in an element of a tag, the second's in one of another, each at some depth and offset

@@ -6,7 +6,7 @@ use mathlib.Core.List.{List, [], ◌∷◌, ◌++◌}
 use Prim.Native.Nat.{ℕ, zero, suc, ◌+◌, ◌-◌, ◌*◌, ◌≤◌, ◌<◌}
 use native.Mathlib.Nat.{zero-add}
 use native.Mathlib.Omega.{arith}
-use lib.Dec.{eqb, leb, ltb}
+use lib.Dec.{eqb, leb}
 use lib.ListN.{length, take, drop, get_or, length-append, length-drop, drop_of_length-le}
 use lib.Seq.{sets-eq, take_at}
 use borrow.Author.Tests.{eqb-true, eq-eqb, ne_eqb, le-leb}
@@ -142,19 +142,6 @@ module _ (k : Kind) (o before after : List ℕ) (a : Put) (p : Puts (fits k o) (
         rw (done.is, s) (e ∙ ap (λ x. same_octets x o) w)
 
 pub ruleset rewritten-ways = (rewritten-bad, rewritten-none, rewritten-room, rewritten-done)
-
--- ---- is_rising
-
-module _ (last tag : ℕ) (a : Bool) (e : a ≡ attribute tag) where
-  pub rising-attribute : a ≡ true → ltb last tag ≡ is_rising last tag
-  unfolding is_rising
-  rising-attribute q = rw (sym e ∙ q)
-
-  pub rising-other : a ≡ false → true ≡ is_rising last tag
-  unfolding is_rising
-  rising-other q = rw (sym e ∙ q)
-
-pub ruleset rising-ways = (rising-attribute, rising-other)
 
 -- ---- is_own
 

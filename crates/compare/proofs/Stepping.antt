@@ -7,13 +7,13 @@ use Prim.Native.Nat.{ℕ, zero, suc, ◌+◌, ◌-◌, ◌≤◌, ◌<◌}
 use native.Mathlib.Omega.{arith}
 use lib.Dec.{eqb, ltb}
 use lib.ListN.{length, get_or}
-use borrow.Author.Tests.{eqb-true, eqb-false, eq-eqb, ne_eqb, ltb-true, ltb-false, lt-ltb, le-ltb}
+use borrow.Author.Tests.{eqb-true, eqb-false, ltb-true, ltb-false, lt-ltb}
 use Rattle.std.specs.Prelude.{Option, None, Some, Ok, Err}
 use Rattle.octets.specs.declared.Lies.{Lies}
 use Rattle.octets.specs.declared.Lies.TheVariants.{Outside, Between}
 use Rattle.octets.specs.Places.{lies_at, between}
 use Rattle.octets.proofs.Places.{lying, bounds}
-use Rattle.octets.proofs.Tests.{and_left, never}
+use Rattle.octets.proofs.Tests.{never}
 use Rattle.text.specs.Tokens.{Entries}
 use Rattle.values.specs.declared.Kind.{Kind}
 use Rattle.values.specs.declared.KnownKind.{KnownKind}
@@ -31,62 +31,7 @@ use Rattle.compare.specs.Items.{counted_body, counted_of_tag, same_found, same_f
 use Rattle.compare.specs.Steps.{attribute_at, astray, due_as, due_at, item_of}
 use Rattle.compare.proofs.Sets.{body-none, body-some, both-counted}
 
--- ---- is_due, due, item_of
-
-module _ (part : List ℕ) (at : ℕ) where
-  pub at-end : length part ≤ at → false ≡ attribute_at part at
-  unfolding attribute_at
-  at-end h = rw (le-ltb at (length part) h)
-
-  pub at_item : at < length part → (r : Bool) → r ≡ attribute (get_or part at 0) → r ≡ attribute_at part at
-  unfolding attribute_at
-  at_item h r e = e ∙ rw (lt-ltb at (length part) h)
-
-pub ruleset at-ways = (at-end, at_item)
-
-module _ (part : List ℕ) (at last : ℕ) (b : Bool) (be : b ≡ attribute_at part at) where
-  pub due-none : b ≡ false → Ok None ≡ due_at part at last
-  unfolding due_at
-  due-none q = rw (sym be ∙ q)
-
-  module _ (q : b ≡ true) where
-    pub due-begins : at < length part
-    unfolding attribute_at
-    due-begins = ltb-true at (length part) (and_left (ltb at (length part)) (attribute (get_or part at 0)) (sym be ∙ q))
-
-    pub due-low : get_or part at 0 ≤ last → Err astray ≡ due_at part at last
-    unfolding due_at
-    due-low h = rw (sym be ∙ q, le-ltb last (get_or part at 0) h)
-
-    module _ (h : last < get_or part at 0) (r : Lies) (re : r ≡ lies_at part at) where
-      due-lies : (l : Lies) → r ≡ l → due_as (get_or part at 0) l ≡ due_at part at last
-      unfolding due_at
-      due-lies l e = ap (due_as (get_or part at 0)) (sym e ∙ re) ∙ rw (sym be ∙ q, lt-ltb last (get_or part at 0) h)
-
-      pub due-outside : r ≡ Outside → Err astray ≡ due_at part at last
-      unfolding due_as
-      due-outside e = due-lies Outside e
-
-      pub due-found : (from to : ℕ) → r ≡ Between from to → Ok (Some (record { tag = get_or part at 0; from = from; to = to })) ≡ due_at part at last
-      unfolding due_as
-      due-found from to e = due-lies (Between from to) e
-
-pub ruleset due-ways = (due-none, due-begins, due-low, due-outside, due-found)
-
-module _ (part : List ℕ) (at tag : ℕ) where
-  pub of_none : length part ≤ at → Outside ≡ item_of part at tag
-  unfolding item_of
-  of_none h = rw (le-ltb at (length part) h)
-
-  pub of_other : at < length part → (get_or part at 0 ≡ tag → ⊥) → Outside ≡ item_of part at tag
-  unfolding item_of
-  of_other h d = rw (lt-ltb at (length part) h, ne_eqb (get_or part at 0) tag d)
-
-  pub of-item : at < length part → get_or part at 0 ≡ tag → (r : Lies) → r ≡ lies_at part at → r ≡ item_of part at tag
-  unfolding item_of
-  of-item h e r q = q ∙ rw (lt-ltb at (length part) h, eq-eqb (get_or part at 0) tag e)
-
-pub ruleset of-ways = (of_none, of_other, of-item)
+-- ---- due_at, item_of
 
 -- what they tell: an item of a tag lies at a place
 pub record Tagged (part : List ℕ) (at tag from to : ℕ) : Type 0 where

@@ -5,7 +5,7 @@ use mathlib.Core.List.{List, [], ◌∷◌}
 use Prim.Native.Nat.{ℕ}
 use lib.Dec.{eqb}
 use lib.Pointwise.{pointwise}
-use lib.ListN.{length, get_or}
+use lib.ListN.{length}
 use Rattle.octets.specs.Numbers.{value, digits, Octets}
 use Rattle.text.specs.Tokens.{Entries, expanded}
 use Rattle.values.specs.declared.Kind.{Kind}
@@ -28,26 +28,18 @@ use Rattle.values.proofs.Times.{time-ok}
 use Rattle.values.proofs.Bearers.{bearer-ok}
 use Rattle.values.proofs.Laws.{number-normal, time-taken, time-refused, bearer-taken, bearer-refused}
 use Rattle.format.specs.Same.{same_octets, same_value}
-use Rattle.compare.specs.Bodies.{same_body, same_standing, Tells, all_by}
+use Rattle.compare.specs.Bodies.{same_body, same_standing, Tells}
 use Rattle.format.proofs.Same.{tests_agree, value-exactly}
 
 -- ---- octets
 
--- eight tests of two octets each
-pub eight-by : (t : ℕ → ℕ → Bool) (x y : List ℕ) (a b c d e f g h : Bool)
-    → a ≡ t (get_or x 0 0) (get_or y 0 0) → b ≡ t (get_or x 1 0) (get_or y 1 0) → c ≡ t (get_or x 2 0) (get_or y 2 0) → d ≡ t (get_or x 3 0) (get_or y 3 0)
-    → e ≡ t (get_or x 4 0) (get_or y 4 0) → f ≡ t (get_or x 5 0) (get_or y 5 0) → g ≡ t (get_or x 6 0) (get_or y 6 0) → h ≡ t (get_or x 7 0) (get_or y 7 0)
-    → a && b && c && d && e && f && g && h ≡ all_by t 8 x y
-unfolding all_by
-eight-by t x y a b c d e f g h ea eb ec ed ee ef eg eh = rw (ea, eb, ec, ed, ee, ef, eg, eh)
-
 -- the library's test of two slices is that of octets
-pub octets-told : (a b : List ℕ) → pointwise eqb a b ≡ same_octets a b
+pub octets_told : (a b : List ℕ) → pointwise eqb a b ≡ same_octets a b
 unfolding same_octets
-octets-told [] [] = refl
-octets-told [] (y ∷ b) = refl
-octets-told (x ∷ a) [] = refl
-octets-told (x ∷ a) (y ∷ b) = ap (λ t. eqb x y && t) (octets-told a b)
+octets_told [] [] = refl
+octets_told [] (y ∷ b) = refl
+octets_told (x ∷ a) [] = refl
+octets_told (x ∷ a) (y ∷ b) = ap (λ t. eqb x y && t) (octets_told a b)
 
 -- ---- values
 

@@ -11,6 +11,7 @@ use crate::texts::same_texts;
 use values::{Bearer, Ensemble, Kind, TakenBearer, TakenTime, Time, fits_kind};
 
 // Octets as they stand.
+#[tactic(auto, using(crate::proofs::Telling::octets_told))]
 pub fn same_octets(a: &[u8], b: &[u8]) -> bool
     ensures { result ≡ same_octets a.now b.now }
 {

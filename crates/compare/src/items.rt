@@ -17,6 +17,7 @@ use survey::find_item;
 use tags::{Listed, listed_as};
 use values::{Kind, KnownKind, is_default, known_kind};
 
+#[tactic(auto, unfolding(crate::specs::Items::is_absent))]
 fn is_absent(found: Lies) -> bool
     ensures { result ≡ is_absent found }
 {
@@ -199,6 +200,7 @@ pub fn same_child(
     }
 }
 
+#[tactic(auto, unfolding(crate::specs::Items::is_ended))]
 fn is_end(child: Child) -> bool
     ensures { result ≡ is_ended child }
 {

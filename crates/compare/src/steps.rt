@@ -25,6 +25,7 @@ struct Due {
 pub struct Astray;
 
 // An attribute begins at a place.
+#[tactic(auto, unfolding(crate::specs::Steps::attribute_at))]
 fn is_due(part: &[u8], at: usize) -> bool
     ensures { result ≡ attribute_at part.now at }
 {
@@ -35,6 +36,7 @@ fn is_due(part: &[u8], at: usize) -> bool
 }
 
 // The attribute that begins at a place, behind one of the tag `last`. Astray: its tag isn't above that one, or it runs past the end.
+#[tactic(auto, unfolding(crate::specs::Steps::due_at, crate::specs::Steps::due_as, crate::specs::Steps::attribute_at))]
 fn due_at(part: &[u8], at: usize, last: u8) -> Result<Option<Due>, Astray>
     ensures { result ≡ due_at part.now at last }
 {
@@ -52,6 +54,7 @@ fn due_at(part: &[u8], at: usize, last: u8) -> Result<Option<Due>, Astray>
 }
 
 // Where the body of the item at a place lies, if it has a tag.
+#[tactic(auto, unfolding(crate::specs::Steps::item_of))]
 fn item_of(part: &[u8], at: usize, tag: u8) -> Lies
     ensures { result ≡ item_of part.now at tag }
 {

@@ -70,6 +70,7 @@ fn opened(index: &[usize; 32], table: &[u8], s: &[u8], rest: Rest) -> Rest
 }
 
 // A rest from a place in its next octets on, which are all of the table or all of the text.
+#[tactic(auto, unfolding(crate::specs::Texts::beyond))]
 fn beyond(r: Rest, n: usize) -> Rest
     requires n_bound { r.from + n < 2 ^ 64 }
     requires n_bound_2 { r.at + n < 2 ^ 64 }
@@ -90,6 +91,7 @@ fn beyond(r: Rest, n: usize) -> Rest
 }
 
 // Nothing is left.
+#[tactic(auto, unfolding(crate::specs::Texts::is_over))]
 fn is_over(s: &[u8], r: Rest) -> bool
     ensures { result ≡ is_over s.now r }
 {
@@ -100,6 +102,7 @@ fn is_over(s: &[u8], r: Rest) -> bool
 }
 
 // Two octets are the same and can be no token.
+#[tactic(auto, unfolding(crate::specs::Texts::shared))]
 fn is_shared(x: u8, y: u8) -> bool
     ensures { result ≡ shared x y }
 {
@@ -107,6 +110,7 @@ fn is_shared(x: u8, y: u8) -> bool
 }
 
 // The first eight octets. Nothing is decided between their tests, so that the compiler makes one comparison of all eight.
+#[tactic(auto, unfolding(crate::specs::Bodies::all_by))]
 fn are_eight_shared(a: &[u8], b: &[u8]) -> bool
     requires in_bounds { 8 ≤ length a.now }
     requires in_bounds_2 { 8 ≤ length b.now }
@@ -154,6 +158,7 @@ fn common(a: &[u8], b: &[u8]) -> usize
 }
 
 // How far a piece and what comes next in a rest are the same.
+#[tactic(auto, using(octets::proofs::Lists::part_to_end), unfolding(crate::specs::Texts::ahead))]
 fn common_with(x: &[u8], table: &[u8], s: &[u8], r: Rest) -> usize
     requires { Inside table.now s.now r }
     ensures { Common x.now (ahead table.now s.now r) result }
@@ -168,6 +173,7 @@ fn common_with(x: &[u8], table: &[u8], s: &[u8], r: Rest) -> usize
 }
 
 // How far what comes next in two rests is the same.
+#[tactic(auto, using(octets::proofs::Lists::part_to_end), unfolding(crate::specs::Texts::ahead))]
 fn common_ahead(table_a: &[u8], a: &[u8], p: Rest, table_b: &[u8], b: &[u8], q: Rest) -> usize
     requires inside { Inside table_a.now a.now p }
     requires inside_2 { Inside table_b.now b.now q }

@@ -64,7 +64,8 @@ module _ (rows anywhere : List ℕ) (listed : Bool) (parent tag : ℕ) (a : Bool
   pub sought-row : a ≡ false → (b : Bool) → b ≡ list_any (λ m. eqb m (parent * 256 + tag)) rows → (found : Bool) → found ≡ b
       → beq found listed ≡ sought_by listed rows anywhere parent tag
   unfolding sought_by in_rows
-  sought-row q b be found f = rw (f ∙ be ∙ any-among (parent * 256 + tag) rows, sym (any-among tag anywhere) ∙ sym ae ∙ q) (beq-listed (among (parent * 256 + tag) rows) listed)
+  sought-row q b be found f =
+      rw (f ∙ be ∙ any-among (parent * 256 + tag) rows, sym (any-among tag anywhere) ∙ sym ae ∙ q) (beq-listed (among (parent * 256 + tag) rows) listed)
 
 -- ---- step_of
 

@@ -1,4 +1,4 @@
-// The first known item of an object, in reading order, that a list has or that it lacks. A test can't be handed to code, so it is handed as numbers (specs/First, sought_by).
+// The first known item of an object, in reading order, that a list has or that it lacks. The test is handed as numbers (specs/First, sought_by).
 ghost use Rattle.std.specs.Prelude.{◌≡◌, ◌+◌, ◌<◌, ◌^◌, length};
 ghost use Rattle.survey.specs.First.{sought_by, sought_in};
 ghost use Rattle.survey.specs.Looks.{step_of, ItemLooked, ItemsLooked};
@@ -114,6 +114,7 @@ fn look_items(
 }
 
 // The object itself counts as an element with the tag 0, whose one item is the top at depth 1.
+// Kept: lists and a flag, no closure, since what this public call promises is `sought_by` of its lists (docs/CALLS.md), and pocket's and xml's tables are such.
 pub fn find_first(object: &[u8], rows: &[u16], anywhere: &[u16], listed: bool) -> Sought
     ensures { result ≡ sought_in (sought_by listed rows.now anywhere.now) object.now }
 {
