@@ -47,7 +47,8 @@ use Rattle.edits.proofs.Only.Ends.{nowhere, unruled, ruled as ends-ruled}
 use Rattle.edits.proofs.NewTexts.{there-is, text-above, text-below, text-sized, text-judged, text-settable, text-set, text-count}
 
 -- ---- how an edit of a text ends, by what was planned
-untreed : (i : ℕ) (o : List ℕ) (m : Memory) (z : Refusal) (answer : EditAnswer) → answer ≡ NotChanged z → Err z ≡ replacement_in none (edited_in m (replace i o) none)
+untreed : (i : ℕ) (o : List ℕ) (m : Memory) (z : Refusal) (answer : EditAnswer) → answer ≡ NotChanged z
+    → Err z ≡ replacement_in none (edited_in m (replace i o) none)
     → Leaves (edited_in m (replace i o) none) m m answer
 unfolding replacement_in edited_in left edit_answer
 untreed i o m z answer f h = let w : z ≡ refusal 16 0 = cc in record { answers = f ∙ ap NotChanged w; leaves = refl }
@@ -63,7 +64,8 @@ fitting-leaves m t u z answer f (crowded a) h = refused_as m z (refusal 14 0) an
 fitting-leaves m t u z answer f (overfull a b) h = refused_as m z (refusal 15 0) answer f (cc)
 fitting-leaves m t u z answer f (fits a b) h = let w : ◌≡◌ {A = ℕ} 0 1 = cc in absurd (omega arith)
 
-ends-leaves : (i : ℕ) (o : List ℕ) (m : Memory) (t : Items) (z : Refusal) (answer : EditAnswer) → answer ≡ NotChanged z → {j : Judged} → Ends m (replace i o) t j
+ends-leaves : (i : ℕ) (o : List ℕ) (m : Memory) (t : Items) (z : Refusal) (answer : EditAnswer) → answer ≡ NotChanged z → {j : Judged}
+    → Ends m (replace i o) t j
     → Err z ≡ replacement_in (some t) j → Leaves j m m answer
 unfolding replacement_in
 ends-leaves i o m t z answer f (nowhere a) h = refused_as m z (refusal 18 0) answer f (cc)
@@ -99,7 +101,8 @@ fitting-kept i o m t u used a b (crowded c) h = let w : ◌≡◌ {A = ℕ} 0 1 
 fitting-kept i o m t u used a b (overfull c d) h = let w : ◌≡◌ {A = ℕ} 0 1 = cc in absurd (omega arith)
 fitting-kept i o m t u used a b (fits c d) h = record { taken = cc; there = a; rules = edited-rules i o t u b }
 
-ends-kept : (i : ℕ) (o : List ℕ) (m : Memory) (t : Items) (used : ℕ) → {j : Judged} → Ends m (replace i o) t j → Ok used ≡ replacement_in (some t) j → Kept i o t used
+ends-kept : (i : ℕ) (o : List ℕ) (m : Memory) (t : Items) (used : ℕ) → {j : Judged} → Ends m (replace i o) t j → Ok used ≡ replacement_in (some t) j
+    → Kept i o t used
 unfolding replacement_in
 ends-kept i o m t used (nowhere a) h = let w : ◌≡◌ {A = ℕ} 0 1 = cc in absurd (omega arith)
 ends-kept i o m t used (unruled a b) h = let w : ◌≡◌ {A = ℕ} 0 1 = cc in absurd (omega arith)
@@ -203,7 +206,8 @@ module _ (n i : ℕ) (o : List ℕ) (m : Memory) (x : Filled) (e : x ≡ held_as
               plan-fits z = ap (λ k. Ok k) (sym tree.2) ∙ planned-as (accepted (packed new)) (judged-as ∙ rw (not-false d z))
 
 -- ---- replace_text
-module _ (n i : ℕ) (o : List ℕ) (m : Memory) (r : Result ℕ EditError) (e : planned r ≡ replacement_in (tree_held n m) (edited_in m (replace i o) (tree_held n m))) where
+module _ (n i : ℕ) (o : List ℕ) (m : Memory) (r : Result ℕ EditError)
+    (e : planned r ≡ replacement_in (tree_held n m) (edited_in m (replace i o) (tree_held n m))) where
   pub refused-leaves : (z : EditError) → r ≡ Err z → (answer : EditAnswer) → answer ≡ NotChanged (refusal_of z) → EditClaim (replace i o) n m m answer
   refused-leaves z q answer f = go (tree_held n m) (sym (ap planned q) ∙ e)
     where

@@ -22,7 +22,6 @@ use Rattle.format.specs.Writer.{onward}
 use Rattle.tags.specs.declared.Listed.{Listed}
 use Rattle.tags.specs.declared.Listed.TheVariants.{Nothing, Inside, Value}
 use Rattle.tags.specs.Listed.{listed_as}
-use Rattle.tags.proofs.Listing.{is-nothing, is-inside, is-value}
 use Rattle.survey.specs.Normal.{framed_size}
 use Rattle.survey.proofs.Parts.{framed_is}
 use Rattle.compare.specs.Normal.{is_written}
@@ -154,20 +153,14 @@ module _ (element tag start size : ℕ) (lent : List ℕ) (body : ℕ) where
 pub ruleset added-ways = (added-beyond, added-inside)
 
 -- ---- sums by depth
-module _ (tag : ℕ) (r : Listed) (e : r ≡ listed_as (known 0 tag)) (sums : List ℕ) (depth size : ℕ) where
-  pub own-nothing : r ≡ Nothing → size ≡ cond (opens tag) (nth sums (suc depth)) size
-  unfolding opens
-  own-nothing q = rw (is-nothing (known 0 tag) (sym q ∙ e)).0
+module _ (sums : List ℕ) (depth tag size : ℕ) (b : Bool) (e : b ≡ opens tag) where
+  pub own-inside : b ≡ true → (w : OctetCount) → w.0 ≡ nth sums (depth + 1) → w.0 ≡ cond (opens tag) (nth sums (suc depth)) size
+  own-inside q w we = rw (sym e ∙ q) (we ∙ ap (nth sums) (add-one depth))
 
-  pub own-inside : r ≡ Inside → (w : OctetCount) → w.0 ≡ nth sums (depth + 1) → w.0 ≡ cond (opens tag) (nth sums (suc depth)) size
-  unfolding opens
-  own-inside q w we = rw (is-inside (known 0 tag) (sym q ∙ e)).0 (we ∙ ap (nth sums) (add-one depth))
+  pub own_value : b ≡ false → size ≡ cond (opens tag) (nth sums (suc depth)) size
+  own_value q = rw (sym e ∙ q)
 
-  pub own_value : (k : Kind) → r ≡ Value k → size ≡ cond (opens tag) (nth sums (suc depth)) size
-  unfolding opens
-  own_value k q = rw (is-value (known 0 tag) k (sym q ∙ e)).shut
-
-pub ruleset own-ways = (own-nothing, own-inside, own_value)
+pub ruleset own-ways = (own-inside, own_value)
 
 -- ---- are_right
 -- what is short is itself
