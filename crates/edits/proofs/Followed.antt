@@ -1,5 +1,5 @@
 -- Numbers of parents and places in the store that follow what moves: the leaves, and the states of the loops.
-use mathlib.Core.Path.{◌≡◌, refl, sym, ap, ap₂, ◌∙◌}
+use mathlib.Core.Path.{◌≡◌, sym, ap, ap₂, ◌∙◌}
 use mathlib.Core.Bool.{Bool, true, false}
 use mathlib.Core.List.{List, ◌∷◌, map}
 use Prim.Native.Nat.{ℕ, ◌+◌, ◌-◌, ◌≤◌, ◌<◌}
@@ -56,16 +56,7 @@ module _ (from to : ℕ) where
     pub holds : sets parents i (map (shifted from to) (between parents i last)) ≡ sets before first (map (shifted from to) (between before first last))
 
   module _ (first last : ℕ) (before : List ℕ) (s : Renumbers first last from to before) where
-    pub renumbering-start : Renumbering first last before before first
-    renumbering-start = record { behind = λ k h. refl; holds = refl }
-
     module _ (parents : List ℕ) (i : ℕ) (m : Renumbering first last before parents i) where
-      pub renumbering-end : i ≡ last → parents ≡ sets before first (map (shifted from to) (between before first last))
-      renumbering-end e =
-          let none : renumbered i last parents ≡ parents =
-          ap (λ k. renumbered i k parents) (sym e) ∙ (ap (λ z. sets parents i (map (shifted from to) z)) (part_none i parents) ∙ sets-none parents i) in
-          sym none ∙ m.holds
-
       pub renumbering-next : i < last → length parents ≡ length before → (v : ℕ) → v ≡ shifted from to (get_or parents i 0)
           → Renumbering first last before (set parents i v) (i + 1)
       renumbering-next h long v e = record {
@@ -73,8 +64,8 @@ module _ (from to : ℕ) where
         holds =
             let p = part-first i last parents h (omega (arith, long, s.inside)) in
             let rest = map (shifted from to) (between parents (i + 1) last) in
-            let whole : renumbered i last parents ≡ sets parents i (shifted from to (get_or parents i 0) ∷ rest) = ap
-            (λ b. sets parents i (map (shifted from to) b)) p in
+            let whole : renumbered i last parents ≡ sets parents i (shifted from to (get_or parents i 0) ∷ rest) =
+            ap (λ b. sets parents i (map (shifted from to) b)) p in
             ap (λ z. sets (set parents i v) (i + 1) (map (shifted from to) z)) (part-later i last parents v)
             ∙ (ap (λ k. sets (set parents i v) k rest) (add-one i) ∙ (ap (λ z. sets parents i (z ∷ rest)) e ∙ (sym whole ∙ m.holds)));
       }
@@ -89,9 +80,6 @@ module _ (was is : ℕ) (tags : List ℕ) where
     pub holds : sets starts i (shifted_starts was is (between tags i last) (between starts i last)) ≡ sets before first (shifted_starts was is (between tags first last) (between before first last))
 
   module _ (first last : ℕ) (before : List ℕ) (s : Shifts first last was is tags before) where
-    pub shifting-start : Shifting first last before before first
-    shifting-start = record { behind = λ k h. refl; holds = refl }
-
     module _ (starts : List ℕ) (i : ℕ) (m : Shifting first last before starts i) where
       pub shifting-end : i ≡ last → starts ≡ sets before first (shifted_starts was is (between tags first last) (between before first last))
       unfolding shifted_starts
@@ -101,21 +89,17 @@ module _ (was is : ℕ) (tags : List ℕ) where
           ∙ (ap (λ z. sets starts i (shifted_starts was is z (between starts i i))) (part_none i tags) ∙ sets-none starts i) in
           sym none ∙ m.holds
 
-      module _ (h : i < last) where
-        pub shifting-movable : first ≤ i → Movable was is (get_or tags i 0) (get_or starts i 0)
-        shifting-movable low o = rw (m.behind i (omega arith)) (s.movable i low h o)
-
-        pub shifting-next : length starts ≡ length before → (v : ℕ) → v ≡ start_after was is (get_or tags i 0) (get_or starts i 0)
-            → Shifting first last before (set starts i v) (i + 1)
-        unfolding shifted_starts
-        shifting-next long v e = record {
-          behind = λ k q. get_or-set_other starts i k v 0 (λ z. omega arith) ∙ m.behind k (omega arith);
-          holds =
-              let t = part-first i last tags h s.tagged in
-              let p = part-first i last starts h (omega (arith, long, s.inside)) in
-              let rest = shifted_starts was is (between tags (i + 1) last) (between starts (i + 1) last) in
-              let whole : restarted i last starts ≡ sets starts i (start_after was is (get_or tags i 0) (get_or starts i 0) ∷ rest) =
-              ap₂ (λ a b. sets starts i (shifted_starts was is a b)) t p in
-              ap (λ z. sets (set starts i v) (i + 1) (shifted_starts was is (between tags (i + 1) last) z)) (part-later i last starts v)
-              ∙ (ap (λ k. sets (set starts i v) k rest) (add-one i) ∙ (ap (λ z. sets starts i (z ∷ rest)) e ∙ (sym whole ∙ m.holds)));
-        }
+      pub shifting-next : i < last → length starts ≡ length before → (v : ℕ) → v ≡ start_after was is (get_or tags i 0) (get_or starts i 0)
+          → Shifting first last before (set starts i v) (i + 1)
+      unfolding shifted_starts
+      shifting-next h long v e = record {
+        behind = λ k q. get_or-set_other starts i k v 0 (λ z. omega arith) ∙ m.behind k (omega arith);
+        holds =
+            let t = part-first i last tags h s.tagged in
+            let p = part-first i last starts h (omega (arith, long, s.inside)) in
+            let rest = shifted_starts was is (between tags (i + 1) last) (between starts (i + 1) last) in
+            let whole : restarted i last starts ≡ sets starts i (start_after was is (get_or tags i 0) (get_or starts i 0) ∷ rest) =
+            ap₂ (λ a b. sets starts i (shifted_starts was is a b)) t p in
+            ap (λ z. sets (set starts i v) (i + 1) (shifted_starts was is (between tags (i + 1) last) z)) (part-later i last starts v)
+            ∙ (ap (λ k. sets (set starts i v) k rest) (add-one i) ∙ (ap (λ z. sets starts i (z ∷ rest)) e ∙ (sym whole ∙ m.holds)));
+      }

@@ -57,7 +57,7 @@ unfolding places_in places
 sizes-long m = omega arith
 
 -- ---- fit
-module _ (n used i : ℕ) (it : Admitted) (m : Memory) (f : Fittable n used i it.next it.sizes m) (there : ℕ)
+module _ (n used i : ℕ) (it : Admitted) (m : Memory) (f : Fittable n used i it m) (there : ℕ)
     (te : there ≡ min (places m.lists) (length m.bodies)) where
   abbrev j : ℕ
   j = it.next
@@ -234,16 +234,15 @@ module _ (n i k : ℕ) (o : List ℕ) (m : Memory) (x : Filled) (e : x ≡ held_
       plan-denied z d = sym (ap (insertion_in n i k o m) (sym e ∙ q) ∙ ap (fitted_by n used i m) (sym ae ∙ d))
 
       module _ (it : Admitted) (d : a ≡ Ok it) where
-        pub plan-fit-asks : Octets m.store → Octets o → Fittable n used i it.next it.sizes m
+        pub plan-fit-asks : Octets m.store → Octets o → Fittable n used i it m
         plan-fit-asks os bo = by (admission n i k o m.lists.tags m.lists.depths) (says n i k o m in_memory.0 in_memory.1 bo) (sym ae ∙ d)
           where
-            by : (z : Result Admitted EditError) → Says n i k o m in_memory.0 in_memory.1 z → z ≡ Ok it → Fittable n used i it.next it.sizes m
+            by : (z : Result Admitted EditError) → Says n i k o m in_memory.0 in_memory.1 z → z ≡ Ok it → Fittable n used i it m
             by z (denies w f) g = never (cc)
             by z (admits j found c sizes ready) g =
                 let same : admitted j c sizes ≡ it = cc in
                 let f = can-fit n i k m in_memory.0 in_memory.1 os o bo j found c sizes ready in
-                subst (λ u. Fittable n u i it.next it.sizes m) in_memory.2
-                (subst (λ z. Fittable n (length (packed_store in_memory.0)) i z.next z.sizes m) same f)
+                subst (λ u. Fittable n u i it m) in_memory.2 (subst (λ z. Fittable n (length (packed_store in_memory.0)) i z m) same f)
 
         pub plan-fits : (r : Result Gap EditError) → r ≡ fitted_by n used i m (Ok it) → r ≡ insertion_of n i k o m
         unfolding insertion_in

@@ -344,7 +344,7 @@ module _ (n i k : ℕ) (m : Memory) (t : Items) (holds : tree_held n m ≡ some 
   unfolding places_in
   all-places = le-min (held-places n m t held-tree) held-tree.fewer
 
-  pub can-fit : Fittable n used i j sizes m
+  pub can-fit : Fittable n used i (admitted j c sizes) m
   unfolding sizes_of
   can-fit = record {
     all = all-places;

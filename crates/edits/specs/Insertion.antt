@@ -128,13 +128,13 @@ abbrev pub SmallSizes : Measured → Type 0
 SmallSizes Over = Unit {0}
 SmallSizes (Sizes stored octets) = (octets.0 ≤ 32_768) × (stored.0 ≤ 32_770)
 
-pub record Fittable (n used i j : ℕ) (sizes : Measured) (m : Memory) : Type 0 where
+pub record Fittable (n used i : ℕ) (a : Admitted) (m : Memory) : Type 0 where
   pub all : n ≤ places_in m
   pub filled : used ≤ length m.store
   pub climbs : Climbs m.lists.parents m.bodies i 0
-  pub small : SmallSizes sizes
-  pub low : j ≤ n
-  pub place : sum_of (between m.lists.sizes 0 j) ≤ 65_535
+  pub small : SmallSizes a.sizes
+  pub low : a.next ≤ n
+  pub place : sum_of (between m.lists.sizes 0 a.next) ≤ 65_535
 
 -- ---- the gap is opened, and the element laid in it
 

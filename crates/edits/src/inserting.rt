@@ -241,7 +241,7 @@ fn fit(
     bodies: &[u16],
     store: &[u8],
 ) -> Result<Gap, EditError>
-    requires { Fittable n used number admitted.next admitted.sizes (memory tags.now kinds.now depths.now parents.now starts.now sizes.now bodies.now store.now) }
+    requires { Fittable n used number admitted (memory tags.now kinds.now depths.now parents.now starts.now sizes.now bodies.now store.now) }
     ensures { result ≡ fitted_by n used number (memory tags.now kinds.now depths.now parents.now starts.now sizes.now bodies.now store.now) (Ok admitted) }
 {
     let Admitted { next, records, .. } = admitted;
