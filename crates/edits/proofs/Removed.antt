@@ -9,8 +9,8 @@ use native.Mathlib.Omega.{arith}
 use lib.Dec.{ltb}
 use lib.ListN.{length, get_or}
 use borrow.Author.Tests.{lt-ltb, le-ltb, ltb-true, ltb-false}
-use Rattle.octets.specs.declared.counts.Octets.{Octets as OctetCount}
 use Rattle.std.specs.Prelude.{Result, Ok, Err}
+use Rattle.octets.specs.declared.counts.Octets.{Octets as OctetCount}
 use Rattle.octets.specs.Counts.{as_octets}
 use Rattle.octets.specs.Numbers.{Octets}
 use Rattle.octets.specs.Places.{between}

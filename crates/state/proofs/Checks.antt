@@ -9,8 +9,9 @@ use native.Mathlib.Numerals.{add-one}
 use native.Mathlib.Omega.{arith}
 use lib.Dec.{eqb, leb}
 use lib.ListN.{length, take, drop, set}
-use Rattle.std.specs.Prelude.{Option as Maybe, Some, None}
+use lib.Seq.{set_out}
 use borrow.Author.Tests.{eq-eqb, ne_eqb, eqb-true, le-leb, lt-leb, leb-true, leb-false}
+use Rattle.std.specs.Prelude.{Option as Maybe, Some, None}
 use Rattle.octets.specs.declared.counts.Octets.{Octets as OctetCount}
 use Rattle.octets.specs.Counts.{as_octets}
 use Rattle.octets.specs.Header.{length_field}
@@ -153,6 +154,9 @@ module _ (element tag start size : ℕ) (lent : List ℕ) (body : ℕ) where
 pub ruleset added-ways = (added-beyond, added-inside)
 
 -- ---- sums by depth
+pub put-beyond : (sums : List ℕ) (d sum : ℕ) → length sums ≤ d → sums ≡ set sums d sum
+put-beyond sums d sum h = sym (set_out sums d sum h)
+
 module _ (sums : List ℕ) (depth tag size : ℕ) (b : Bool) (e : b ≡ opens tag) where
   pub own-inside : b ≡ true → (w : OctetCount) → w.0 ≡ nth sums (depth + 1) → w.0 ≡ cond (opens tag) (nth sums (suc depth)) size
   own-inside q w we = rw (sym e ∙ q) (we ∙ ap (nth sums) (add-one depth))
