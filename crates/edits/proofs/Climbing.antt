@@ -148,7 +148,8 @@ module _ (parents bodies : List ℕ) (element was is g old new : ℕ) (m : Tops 
   tops-asks = (climbs-was parents bodies g old m.climbs, m.small)
 
   -- too much at some element is too much for the top
-  pub tops-over : (grown : ℕ) → grown ≡ get_or bodies g 0 - old + new → 32_768 < grown → false ≡ leb (framed_size (get_or (raised (up_from parents element) was is bodies) 0 0)) 32_768
+  pub tops-over : (grown : ℕ) → grown ≡ get_or bodies g 0 - old + new → 32_768 < grown
+      → false ≡ leb (framed_size (get_or (raised (up_from parents element) was is bodies) 0 0)) 32_768
   tops-over grown q h =
       let a : get_or bodies g 0 - old + new ≤ all = subst (λ z. get_or bodies g 0 - old + new ≤ z) (sym m.whole) (outermost-more m.climbs new m.size) in
       sym (lt-leb (framed_size all) 32_768 (omega (arith, framed-more all)))
@@ -174,7 +175,8 @@ module _ (parents bodies : List ℕ) (element was is g old new : ℕ) (m : Tops 
     pub tops-asks-top : (old ≤ get_or bodies 0 0) × (new < 65_536)
     tops-asks-top = subst (λ k. (old ≤ get_or bodies k 0) × (new < 65_536)) at_top tops-asks
 
-    pub tops-over-top : (grown : ℕ) → grown ≡ get_or bodies 0 0 - old + new → 32_768 < grown → false ≡ leb (framed_size (get_or (raised (up_from parents element) was is bodies) 0 0)) 32_768
+    pub tops-over-top : (grown : ℕ) → grown ≡ get_or bodies 0 0 - old + new → 32_768 < grown
+        → false ≡ leb (framed_size (get_or (raised (up_from parents element) was is bodies) 0 0)) 32_768
     tops-over-top grown q h = tops-over grown (q ∙ ap (λ k. get_or bodies k 0 - old + new) (sym at_top)) h
 
     pub tops-end : (grown : ℕ) → grown ≡ get_or bodies 0 0 - old + new → (framed : OctetCount) → framed.0 ≡ framed_size grown

@@ -28,7 +28,8 @@ use Rattle.edits.specs.declared.inserting.Admitted.{Admitted}
 use Rattle.edits.specs.declared.EditError.{EditError}
 use Rattle.edits.specs.declared.EditError.TheVariants.{NoPlace, BreaksRule}
 use Rattle.edits.specs.Tree.{is_one_item}
-use Rattle.edits.specs.Insertion.{counts_at, stops_at, left_after, found_at, child_from, child_behind, child_of, tag_there, comes_between, is_element, admitted, as_admitted, admitted_at, admitted_by, admission}
+use Rattle.edits.specs.Insertion.{counts_at, stops_at, left_after, found_at, child_from, child_behind, child_of}
+use Rattle.edits.specs.Insertion.{tag_there, comes_between, is_element, admitted, as_admitted, admitted_at, admitted_by, admission}
 
 -- ---- is_child
 module _ (tag : ℕ) (a : Bool) (e : a ≡ attribute tag) where
@@ -278,7 +279,8 @@ module _ (n i k : ℕ) (o tags depths : List ℕ) (c : Option ℕ) (ce : c ≡ c
   unfolding admitted_by
   admit-nowhere q = sym (ap (admitted_by n i k o tags depths) (sym ce ∙ q))
 
-  pub admit-before : (j : ℕ) → c ≡ Some j → (depth : ℕ) → depth ≡ get_or depths i 0 → (later : ℕ) → later ≡ tag_there n j depth tags depths → (tag : ℕ) → tag ≡ get_or tags i 0
+  pub admit-before : (j : ℕ) → c ≡ Some j → (depth : ℕ) → depth ≡ get_or depths i 0 → (later : ℕ) → later ≡ tag_there n j depth tags depths → (tag : ℕ)
+      → tag ≡ get_or tags i 0
       → (r : Result Admitted EditError) → r ≡ admitted_at j k later tag depth o → r ≡ admission n i k o tags depths
   unfolding admitted_by
   admit-before j q depth d later l tag t r f =

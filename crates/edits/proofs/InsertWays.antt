@@ -38,7 +38,8 @@ use Rattle.edits.specs.Tree.Edit.{insert}
 use Rattle.edits.specs.Calls.{edited_in, EditClaim}
 use Rattle.edits.specs.Extents.{sum_of}
 use Rattle.edits.specs.Sizes.{Climbs}
-use Rattle.edits.specs.Insertion.{child_of, tag_there, admitted, admitted_at, admitted_by, admission, top_then, gap_for, opened_by, fitted_by, insertion_in, insertion_of, SmallSizes, Fittable, level_of, begun, PutsIn, PutIn}
+use Rattle.edits.specs.Insertion.{child_of, tag_there, admitted, admitted_at, admitted_by, admission, top_then, gap_for, opened_by}
+use Rattle.edits.specs.Insertion.{fitted_by, insertion_in, insertion_of, SmallSizes, Fittable, level_of, begun, PutsIn, PutIn}
 use Rattle.edits.specs.Resites.{Resited}
 use Rattle.edits.specs.declared.lay.Laid.{Laid}
 use Rattle.edits.specs.Lay.{ItemsLayable, ItemsLay}
@@ -56,7 +57,8 @@ unfolding places_in places
 sizes-long m = omega arith
 
 -- ---- fit
-module _ (n used i : ℕ) (it : Admitted) (m : Memory) (f : Fittable n used i it.next it.sizes m) (there : ℕ) (te : there ≡ min (places m.lists) (length m.bodies)) where
+module _ (n used i : ℕ) (it : Admitted) (m : Memory) (f : Fittable n used i it m) (there : ℕ)
+    (te : there ≡ min (places m.lists) (length m.bodies)) where
   abbrev j : ℕ
   j = it.next
 
@@ -157,7 +159,8 @@ module _ (n i k : ℕ) (o : List ℕ) (m : Memory) where
 
       go : (x : Maybe ℕ) → child_of n i k m.lists.tags m.lists.depths ≡ x → Says t holds (admitted_by n i k o m.lists.tags m.lists.depths x)
       go None e = denies NoPlace (rw (there-nowhere n i k m t holds o e))
-      go (Some j) e = by j e (admitted_at j k (tag_there n j (get_or m.lists.depths i 0) m.lists.tags m.lists.depths) (get_or m.lists.tags i 0) (get_or m.lists.depths i 0) o) (verdict n i k m t holds o j e bo)
+      go (Some j) e = by j e (admitted_at j k (tag_there n j (get_or m.lists.depths i 0) m.lists.tags m.lists.depths) (get_or m.lists.tags i 0)
+          (get_or m.lists.depths i 0) o) (verdict n i k m t holds o j e bo)
 
   -- an element that goes in
   pub record Going (os : Octets m.store) (bo : Octets o) (g : Gap) : Type 0 where
@@ -198,10 +201,12 @@ module _ (n i k : ℕ) (o : List ℕ) (m : Memory) where
         is = refl;
       })
 
-      by : (t : Items) (holds : tree_held n m ≡ some t) (a : Result Admitted EditError) → Says t holds a → Ends os bo (fitted_by n (length (packed_store t)) i m a)
+      by : (t : Items) (holds : tree_held n m ≡ some t) (a : Result Admitted EditError) → Says t holds a
+          → Ends os bo (fitted_by n (length (packed_store t)) i m a)
       by t holds a (denies z e) = refused-so z (ap (edited_in m (insert i k o)) holds ∙ e)
       by t holds a (admits j found c sizes ready) =
-          fit-ends t holds j found c sizes ready (fitted_by n (length (packed_store t)) i m (Ok (admitted j c sizes))) (fits n i k m t holds os o bo j found c sizes ready)
+          fit-ends t holds j found c sizes ready (fitted_by n (length (packed_store t)) i m (Ok (admitted j c sizes)))
+          (fits n i k m t holds os o bo j found c sizes ready)
 
       go : (x : Option Items) → tree_held n m ≡ x → Ends os bo (insertion_in n i k o m (held_as x))
       go none e = refused-so NoTree (ap (edited_in m (insert i k o)) e)
@@ -229,15 +234,15 @@ module _ (n i k : ℕ) (o : List ℕ) (m : Memory) (x : Filled) (e : x ≡ held_
       plan-denied z d = sym (ap (insertion_in n i k o m) (sym e ∙ q) ∙ ap (fitted_by n used i m) (sym ae ∙ d))
 
       module _ (it : Admitted) (d : a ≡ Ok it) where
-        pub plan-fit-asks : Octets m.store → Octets o → Fittable n used i it.next it.sizes m
+        pub plan-fit-asks : Octets m.store → Octets o → Fittable n used i it m
         plan-fit-asks os bo = by (admission n i k o m.lists.tags m.lists.depths) (says n i k o m in_memory.0 in_memory.1 bo) (sym ae ∙ d)
           where
-            by : (z : Result Admitted EditError) → Says n i k o m in_memory.0 in_memory.1 z → z ≡ Ok it → Fittable n used i it.next it.sizes m
+            by : (z : Result Admitted EditError) → Says n i k o m in_memory.0 in_memory.1 z → z ≡ Ok it → Fittable n used i it m
             by z (denies w f) g = never (cc)
             by z (admits j found c sizes ready) g =
                 let same : admitted j c sizes ≡ it = cc in
                 let f = can-fit n i k m in_memory.0 in_memory.1 os o bo j found c sizes ready in
-                subst (λ u. Fittable n u i it.next it.sizes m) in_memory.2 (subst (λ z. Fittable n (length (packed_store in_memory.0)) i z.next z.sizes m) same f)
+                subst (λ u. Fittable n u i it m) in_memory.2 (subst (λ z. Fittable n (length (packed_store in_memory.0)) i z m) same f)
 
         pub plan-fits : (r : Result Gap EditError) → r ≡ fitted_by n used i m (Ok it) → r ≡ insertion_of n i k o m
         unfolding insertion_in

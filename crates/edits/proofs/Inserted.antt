@@ -198,16 +198,19 @@ module _ (n i k : ℕ) (m : Memory) (t : Items) (holds : tree_held n m ≡ some 
         later : ℕ
         later = tag_there n j d tags depths
 
-        in_order : (a : Result Admitted EditError) → Judgement p d o j a → (b : Bool) → comes_between k (get_or o 0 0) later ≡ b → Verdict (cond b a (Err BreaksRule))
+        in_order : (a : Result Admitted EditError) → Judgement p d o j a → (b : Bool) → comes_between k (get_or o 0 0) later ≡ b
+            → Verdict (cond b a (Err BreaksRule))
         in_order a (denied q) true c = breaks (none-ends q)
         in_order a (denied q) false c = breaks (none-ends q)
         in_order a (admitted n₁ sizes x) b c =
             by_order b (order_is bo x.tag x.at x.body x.x x.is x.child ∙ (ap (λ z. comes_between k z later) x.first ∙ c))
           where
-            by_order : (b : Bool) → ruled at_top (change_at (holding (put_child k (item x.tag x.at x.body x.x end))) i t) ≡ b → Verdict (cond b (Ok (as_record j n₁ sizes)) (Err BreaksRule))
+            by_order : (b : Bool) → ruled at_top (change_at (holding (put_child k (item x.tag x.at x.body x.x end))) i t) ≡ b
+                → Verdict (cond b (Ok (as_record j n₁ sizes)) (Err BreaksRule))
             by_order true r = stands n₁ sizes (record { element = x; keeps = r })
             by_order false r = breaks (unruled-ends (item x.tag x.at x.body x.x end) x.is r)
 
-        go : (b : Bool) → is_element o ≡ b → Verdict (cond (b && comes_between k (get_or o 0 0) later) (as_admitted j (needed_by p (judge_inside p d o))) (Err BreaksRule))
+        go : (b : Bool) → is_element o ≡ b
+            → Verdict (cond (b && comes_between k (get_or o 0 0) later) (as_admitted j (needed_by p (judge_inside p d o))) (Err BreaksRule))
         go false q = breaks (none-ends (not-element p d o q))
         go true q = in_order (as_admitted j (needed_by p (judge_inside p d o))) (judged p d o q j) (comes_between k (get_or o 0 0) later) refl

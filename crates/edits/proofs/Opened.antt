@@ -287,7 +287,8 @@ module _ (n i k : ℕ) (m : Memory) (t : Items) (holds : tree_held n m ≡ some 
           (λ z. leb (used + sym se z) (length m.store) && leb (framed_size (top_then i (sym ae z) m)) 32_768) ∙ e in
           by b f
         where
-          by : (b : Bool) → leb (used + S) (length m.store) && leb (framed_size (top_then i A m)) 32_768 ≡ b → Fit (cond b (Ok (gap_for n used i j c s a m.lists.sizes)) (Err NoRoom))
+          by : (b : Bool) → leb (used + S) (length m.store) && leb (framed_size (top_then i A m)) 32_768 ≡ b
+              → Fit (cond b (Ok (gap_for n used i j c s a m.lists.sizes)) (Err NoRoom))
           by false f = refuses NoRoom (over q false f refl)
           by true f = goes_in s a (record {
             stored = se;
@@ -343,7 +344,7 @@ module _ (n i k : ℕ) (m : Memory) (t : Items) (holds : tree_held n m ≡ some 
   unfolding places_in
   all-places = le-min (held-places n m t held-tree) held-tree.fewer
 
-  pub can-fit : Fittable n used i j sizes m
+  pub can-fit : Fittable n used i (admitted j c sizes) m
   unfolding sizes_of
   can-fit = record {
     all = all-places;

@@ -9,8 +9,8 @@ use native.Mathlib.Omega.{arith}
 use lib.Dec.{ltb}
 use lib.ListN.{length, get_or}
 use borrow.Author.Tests.{lt-ltb, le-ltb, ltb-true, ltb-false}
-use Rattle.octets.specs.declared.counts.Octets.{Octets as OctetCount}
 use Rattle.std.specs.Prelude.{Result, Ok, Err}
+use Rattle.octets.specs.declared.counts.Octets.{Octets as OctetCount}
 use Rattle.octets.specs.Counts.{as_octets}
 use Rattle.octets.specs.Numbers.{Octets}
 use Rattle.octets.specs.Places.{between}
@@ -323,7 +323,8 @@ module _ (n i : ℕ) (m : Memory) (r : Result Gap EditError) (e : r ≡ removal_
       go (some t) h d = inside (ltb 0 i && ltb i n) refl d
         where
           inside : (b : Bool) → ltb 0 i && ltb i n ≡ b
-              → Ok g ≡ cond b (Ok (gap_of n i (length (packed_store t)) m.lists.tags m.lists.depths m.lists.parents m.lists.starts m.lists.sizes m.bodies m.store))
+              → Ok g ≡ cond b (Ok (gap_of n i (length (packed_store t)) m.lists.tags m.lists.depths m.lists.parents m.lists.starts m.lists.sizes m.bodies
+              m.store))
               (Err NoPlace) → Closing g
           inside false c d = let w : ◌≡◌ {A = ℕ} 0 1 = cc in absurd (omega arith)
           inside true c d = record {

@@ -37,7 +37,7 @@ use Rattle.edits.specs.Errors.{refusal_of, planned}
 use Rattle.edits.specs.Tree.{change_at, with_body, is_there, changed}
 use Rattle.edits.specs.Tree.Edit.{replace}
 use Rattle.edits.specs.Calls.{edited, edited_in, EditClaim}
-use Rattle.edits.specs.Texts.{replacement_in, is_text_at, text_fits, Sized, Settable, TextSet}
+use Rattle.edits.specs.Texts.{replacement_in, replacement_of, is_text_at, text_fits, Sized, Settable, TextSet}
 use Rattle.edits.proofs.Stores.{held-as}
 use Rattle.edits.proofs.CutLists.{enough}
 use Rattle.edits.proofs.Local.{is_new_text}
@@ -47,7 +47,8 @@ use Rattle.edits.proofs.Only.Ends.{nowhere, unruled, ruled as ends-ruled}
 use Rattle.edits.proofs.NewTexts.{there-is, text-above, text-below, text-sized, text-judged, text-settable, text-set, text-count}
 
 -- ---- how an edit of a text ends, by what was planned
-untreed : (i : ℕ) (o : List ℕ) (m : Memory) (z : Refusal) (answer : EditAnswer) → answer ≡ NotChanged z → Err z ≡ replacement_in none (edited_in m (replace i o) none)
+untreed : (i : ℕ) (o : List ℕ) (m : Memory) (z : Refusal) (answer : EditAnswer) → answer ≡ NotChanged z
+    → Err z ≡ replacement_in none (edited_in m (replace i o) none)
     → Leaves (edited_in m (replace i o) none) m m answer
 unfolding replacement_in edited_in left edit_answer
 untreed i o m z answer f h = let w : z ≡ refusal 16 0 = cc in record { answers = f ∙ ap NotChanged w; leaves = refl }
@@ -63,7 +64,8 @@ fitting-leaves m t u z answer f (crowded a) h = refused_as m z (refusal 14 0) an
 fitting-leaves m t u z answer f (overfull a b) h = refused_as m z (refusal 15 0) answer f (cc)
 fitting-leaves m t u z answer f (fits a b) h = let w : ◌≡◌ {A = ℕ} 0 1 = cc in absurd (omega arith)
 
-ends-leaves : (i : ℕ) (o : List ℕ) (m : Memory) (t : Items) (z : Refusal) (answer : EditAnswer) → answer ≡ NotChanged z → {j : Judged} → Ends m (replace i o) t j
+ends-leaves : (i : ℕ) (o : List ℕ) (m : Memory) (t : Items) (z : Refusal) (answer : EditAnswer) → answer ≡ NotChanged z → {j : Judged}
+    → Ends m (replace i o) t j
     → Err z ≡ replacement_in (some t) j → Leaves j m m answer
 unfolding replacement_in
 ends-leaves i o m t z answer f (nowhere a) h = refused_as m z (refusal 18 0) answer f (cc)
@@ -99,7 +101,8 @@ fitting-kept i o m t u used a b (crowded c) h = let w : ◌≡◌ {A = ℕ} 0 1 
 fitting-kept i o m t u used a b (overfull c d) h = let w : ◌≡◌ {A = ℕ} 0 1 = cc in absurd (omega arith)
 fitting-kept i o m t u used a b (fits c d) h = record { taken = cc; there = a; rules = edited-rules i o t u b }
 
-ends-kept : (i : ℕ) (o : List ℕ) (m : Memory) (t : Items) (used : ℕ) → {j : Judged} → Ends m (replace i o) t j → Ok used ≡ replacement_in (some t) j → Kept i o t used
+ends-kept : (i : ℕ) (o : List ℕ) (m : Memory) (t : Items) (used : ℕ) → {j : Judged} → Ends m (replace i o) t j → Ok used ≡ replacement_in (some t) j
+    → Kept i o t used
 unfolding replacement_in
 ends-kept i o m t used (nowhere a) h = let w : ◌≡◌ {A = ℕ} 0 1 = cc in absurd (omega arith)
 ends-kept i o m t used (unruled a b) h = let w : ◌≡◌ {A = ℕ} 0 1 = cc in absurd (omega arith)
@@ -133,10 +136,7 @@ unfolding is_text_at
 plan-number n i tags parents b e z = ltb-true i n (and_right (ltb 0 i) (ltb i n) (and_left (ltb 0 i && ltb i n) _ (sym e ∙ not-false b z)))
 
 module _ (n i : ℕ) (o : List ℕ) (m : Memory) (x : Filled) (e : x ≡ held_as (tree_held n m)) where
-  abbrev plan : Result ℕ Refusal
-  plan = replacement_in (tree_held n m) (edited_in m (replace i o) (tree_held n m))
-
-  pub plan-apart : x ≡ Apart → Err (refusal 16 0) ≡ replacement_in (tree_held n m) (edited_in m (replace i o) (tree_held n m))
+  pub plan-apart : x ≡ Apart → Err (refusal 16 0) ≡ replacement_of n i o m
   unfolding held_as replacement_in
   plan-apart q = go (tree_held n m) (sym q ∙ e)
     where
@@ -151,14 +151,14 @@ module _ (n i : ℕ) (o : List ℕ) (m : Memory) (x : Filled) (e : x ≡ held_as
     abbrev t : Items
     t = tree.0
 
-    planned-as : (j : Judged) → edited_in m (replace i o) (some t) ≡ j → replacement_in (some t) j ≡ plan
+    planned-as : (j : Judged) → edited_in m (replace i o) (some t) ≡ j → replacement_in (some t) j ≡ replacement_of n i o m
     planned-as j h = sym (ap (λ a. replacement_in a (edited_in m (replace i o) a)) tree.1 ∙ ap (replacement_in (some t)) h)
 
     module _ (b : Bool) (be : b ≡ is_text_at n i m.lists.tags m.lists.parents) where
       there-as : is_there (replace i o) t ≡ b
       there-as = there-is n i o m t tree.1 ∙ sym be
 
-      pub plan-nowhere : not b ≡ true → Err (refusal 18 0) ≡ replacement_in (tree_held n m) (edited_in m (replace i o) (tree_held n m))
+      pub plan-nowhere : not b ≡ true → Err (refusal 18 0) ≡ replacement_of n i o m
       unfolding replacement_in edited_in rule unless
       plan-nowhere z = planned-as (refused (refusal 18 0)) (rw (there-as ∙ not-true b z))
 
@@ -177,7 +177,7 @@ module _ (n i : ℕ) (o : List ℕ) (m : Memory) (x : Filled) (e : x ≡ held_as
               text-ruled n m t (held n m t tree.1) i (text-above n i o m t tree.1 os ot there) (text-below n i o m t tree.1 os ot there) o there
               ∙ sym (ce ∙ ap (λ z. text false o && shown z (get_or m.lists.tags i 0) (shown_length [] o)) ge)
 
-          pub plan-unruled : not c ≡ true → Err (refusal 16 0) ≡ replacement_in (tree_held n m) (edited_in m (replace i o) (tree_held n m))
+          pub plan-unruled : not c ≡ true → Err (refusal 16 0) ≡ replacement_of n i o m
           unfolding replacement_in edited_in rule unless settled edited kept changed
           plan-unruled z = planned-as (refused (refusal 16 0)) (rw (there, rules-as ∙ not-true c z))
 
@@ -194,16 +194,17 @@ module _ (n i : ℕ) (o : List ℕ) (m : Memory) (x : Filled) (e : x ≡ held_as
                   text-judged n i o m t tree.1 os ot there rules d
                   (ap (λ z. text_fits i (length o) z (length m.store) m.lists.parents m.lists.sizes m.bodies) tree.2 ∙ sym de)
 
-              pub plan-full : not d ≡ true → Err (refusal 15 0) ≡ replacement_in (tree_held n m) (edited_in m (replace i o) (tree_held n m))
+              pub plan-full : not d ≡ true → Err (refusal 15 0) ≡ replacement_of n i o m
               unfolding replacement_in
               plan-full z = planned-as (refused (refusal 15 0)) (judged-as ∙ rw (not-true d z))
 
-              pub plan-fits : not d ≡ false → Ok used ≡ replacement_in (tree_held n m) (edited_in m (replace i o) (tree_held n m))
+              pub plan-fits : not d ≡ false → Ok used ≡ replacement_of n i o m
               unfolding replacement_in
               plan-fits z = ap (λ k. Ok k) (sym tree.2) ∙ planned-as (accepted (packed new)) (judged-as ∙ rw (not-false d z))
 
 -- ---- replace_text
-module _ (n i : ℕ) (o : List ℕ) (m : Memory) (r : Result ℕ EditError) (e : planned r ≡ replacement_in (tree_held n m) (edited_in m (replace i o) (tree_held n m))) where
+module _ (n i : ℕ) (o : List ℕ) (m : Memory) (r : Result ℕ EditError)
+    (e : planned r ≡ replacement_of n i o m) where
   pub refused-leaves : (z : EditError) → r ≡ Err z → (answer : EditAnswer) → answer ≡ NotChanged (refusal_of z) → EditClaim (replace i o) n m m answer
   refused-leaves z q answer f = go (tree_held n m) (sym (ap planned q) ∙ e)
     where

@@ -1,6 +1,7 @@
 -- Putting an element in, by the lists of memory that holds a tree: before which record it comes, whether it may stand there, what it needs, and the gap that is opened
 -- for it. Who reads the request has to believe none of this.
-use Rattle.std.specs.Prelude.{Bool, cond, not, ◌&&◌, ◌||◌, List, [], ◌∷◌, ℕ, zero, suc, ◌+◌, ◌-◌, ◌≤◌, ◌<◌, eqb, leb, ltb, length, get_or, Option, Some, None, Result, Ok, Err}
+use Rattle.std.specs.Prelude.{Bool, cond, not, ◌&&◌, ◌||◌, List, [], ◌∷◌, ℕ, zero, suc, ◌+◌, ◌-◌}
+use Rattle.std.specs.Prelude.{◌≤◌, ◌<◌, eqb, leb, ltb, length, get_or, Option, Some, None, Result, Ok, Err}
 use Rattle.octets.specs.Counts.{as_octets}
 use Rattle.octets.specs.Places.{between}
 use Rattle.values.specs.Table.{attribute}
@@ -80,7 +81,8 @@ as_admitted j (Takes zero sizes) = Err BreaksRule
 as_admitted j (Takes (suc c) sizes) = Ok (admitted j (suc c) sizes)
 
 unfoldable pub admitted_at : (j k later tag depth : ℕ) → List ℕ → Result Admitted EditError
-admitted_at j k later tag depth o = cond (is_element o && comes_between k (get_or o 0 0) later) (as_admitted j (needed_by tag (judge_inside tag depth o))) (Err BreaksRule)
+admitted_at j k later tag depth o = cond (is_element o && comes_between k (get_or o 0 0) later) (as_admitted j (needed_by tag (judge_inside tag depth o)))
+    (Err BreaksRule)
 
 unfoldable pub admitted_by : (n i k : ℕ) → List ℕ → (tags depths : List ℕ) → Option ℕ → Result Admitted EditError
 admitted_by n i k o tags depths None = Err NoPlace
@@ -126,13 +128,13 @@ abbrev pub SmallSizes : Measured → Type 0
 SmallSizes Over = Unit {0}
 SmallSizes (Sizes stored octets) = (octets.0 ≤ 32_768) × (stored.0 ≤ 32_770)
 
-pub record Fittable (n used i j : ℕ) (sizes : Measured) (m : Memory) : Type 0 where
+pub record Fittable (n used i : ℕ) (a : Admitted) (m : Memory) : Type 0 where
   pub all : n ≤ places_in m
   pub filled : used ≤ length m.store
   pub climbs : Climbs m.lists.parents m.bodies i 0
-  pub small : SmallSizes sizes
-  pub low : j ≤ n
-  pub place : sum_of (between m.lists.sizes 0 j) ≤ 65_535
+  pub small : SmallSizes a.sizes
+  pub low : a.next ≤ n
+  pub place : sum_of (between m.lists.sizes 0 a.next) ≤ 65_535
 
 -- ---- the gap is opened, and the element laid in it
 

@@ -10,8 +10,10 @@ use Rattle.format.specs.Answers.{refusal}
 use Rattle.format.specs.Tree.{Items}
 use Rattle.format.specs.Judge.{Judged, is_text}
 use Rattle.format.specs.Judge.Judged.{refused, accepted}
-use Rattle.format.specs.State.{packed_store}
+use Rattle.format.specs.State.{Memory, packed_store, tree_held}
 use Rattle.survey.specs.Normal.{framed_size}
+use Rattle.edits.specs.Tree.Edit.{replace}
+use Rattle.edits.specs.Calls.{edited_in}
 use Rattle.edits.specs.Sites.{shifted_starts}
 use Rattle.edits.specs.Sizes.{raised, up_from, Climbs}
 use Rattle.edits.specs.Moves.{Shifts}
@@ -21,6 +23,9 @@ unfoldable pub replacement_in : Option Items → Judged → Result ℕ Refusal
 replacement_in none j = Err (refusal 16 0)
 replacement_in (some t) (refused r) = Err r
 replacement_in (some t) (accepted u) = Ok (length (packed_store t))
+
+abbrev pub replacement_of : (n i : ℕ) → List ℕ → Memory → Result ℕ Refusal
+replacement_of n i o m = replacement_in (tree_held n m) (edited_in m (replace i o) (tree_held n m))
 
 -- record i of n is a text below the top: its tag and that of its parent's record tell
 unfoldable pub is_text_at : (n i : ℕ) → (tags parents : List ℕ) → Bool

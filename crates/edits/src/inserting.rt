@@ -95,7 +95,8 @@ fn found_at(left: usize, number: usize) -> Option<usize>
     None
 }
 
-// Before which record a child element comes: the element's next, or the first behind it. The records behind that of an element are looked at until `place` child elements of it are passed.
+// Before which record a child element comes: the element's next, or the first behind it. The records behind that of an element are looked at until `place`
+// child elements of it are passed.
 fn child_behind(n: usize, number: usize, place: usize, tags: &[u8], depths: &[u8]) -> Option<usize>
     requires { (number < n) × (n ≤ length tags.now) × (n ≤ length depths.now) }
     ensures { result ≡ child_behind n number place tags.now depths.now }
@@ -240,7 +241,7 @@ fn fit(
     bodies: &[u16],
     store: &[u8],
 ) -> Result<Gap, EditError>
-    requires { Fittable n used number admitted.next admitted.sizes (memory tags.now kinds.now depths.now parents.now starts.now sizes.now bodies.now store.now) }
+    requires { Fittable n used number admitted (memory tags.now kinds.now depths.now parents.now starts.now sizes.now bodies.now store.now) }
     ensures { result ≡ fitted_by n used number (memory tags.now kinds.now depths.now parents.now starts.now sizes.now bodies.now store.now) (Ok admitted) }
 {
     let Admitted { next, records, .. } = admitted;

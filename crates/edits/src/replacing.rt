@@ -1,12 +1,11 @@
 // `replace_text`: a text of a tree in lent memory becomes another one.
 ghost use Rattle.std.specs.Prelude.{◌≡◌, ◌+◌, ◌≤◌, ◌<◌, length, set};
 ghost use Rattle.std.proofs.lemmas.List.Edits.{sets};
-ghost use Rattle.format.specs.State.{tree_held};
 ghost use Rattle.edits.specs.Tree.Edit.{replace};
-ghost use Rattle.edits.specs.Calls.{edited_in, EditClaim};
+ghost use Rattle.edits.specs.Calls.{EditClaim};
 ghost use Rattle.state.specs.Taking.{memory};
 ghost use Rattle.edits.specs.Errors.{planned};
-ghost use Rattle.edits.specs.Texts.{replacement_in, is_text_at, text_fits, Sized, Settable, TextSet};
+ghost use Rattle.edits.specs.Texts.{replacement_of, is_text_at, text_fits, Sized, Settable, TextSet};
 
 use crate::moving::{Move, move_to};
 use crate::raising::{raise, top_fits};
@@ -74,7 +73,7 @@ fn plan_text(
     bodies: &[u16],
     store: &[u8],
 ) -> Result<usize, EditError>
-    ensures { planned result ≡ replacement_in (tree_held n (memory tags.now kinds.now depths.now parents.now starts.now sizes.now bodies.now store.now)) (edited_in (memory tags.now kinds.now depths.now parents.now starts.now sizes.now bodies.now store.now) (replace number text.now) (tree_held n (memory tags.now kinds.now depths.now parents.now starts.now sizes.now bodies.now store.now))) }
+    ensures { planned result ≡ replacement_of n number text.now (memory tags.now kinds.now depths.now parents.now starts.now sizes.now bodies.now store.now) }
 {
     let Filled::Upto(used) = held(
         n, tags, kinds, depths, parents, starts, sizes, bodies, store,

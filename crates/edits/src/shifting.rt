@@ -6,7 +6,7 @@ ghost use Rattle.edits.specs.Sites.{shifted, start_after, shifted_starts};
 ghost use Rattle.edits.specs.Moves.{carried, Renumbers, CarriesParents, Movable, Shifts, CarriesStarts};
 
 use crate::moving::{Move, move_to};
-use tags::{Listed, listed_as};
+use tags::holds_items;
 
 // The number of a parent, where the records from `from` on are those from `to` on.
 fn next_parent(parent: u16, from: usize, to: usize) -> u16
@@ -42,11 +42,10 @@ fn next_start(tag: u8, start: u16, was: usize, is: usize) -> u16
     requires { Movable was is tag start }
     ensures { result ≡ start_after was is tag start }
 {
-    match listed_as(0, tag) {
-        Listed::Nothing => move_start(start, was, is),
-        Listed::Inside => start,
-        Listed::Value(_) => move_start(start, was, is),
+    if holds_items(tag) {
+        return start;
     }
+    move_start(start, was, is)
 }
 
 // The starts of the records from one number up to another.

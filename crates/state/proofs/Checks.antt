@@ -9,8 +9,9 @@ use native.Mathlib.Numerals.{add-one}
 use native.Mathlib.Omega.{arith}
 use lib.Dec.{eqb, leb}
 use lib.ListN.{length, take, drop, set}
-use Rattle.std.specs.Prelude.{Option as Maybe, Some, None}
+use lib.Seq.{set_out}
 use borrow.Author.Tests.{eq-eqb, ne_eqb, eqb-true, le-leb, lt-leb, leb-true, leb-false}
+use Rattle.std.specs.Prelude.{Option as Maybe, Some, None}
 use Rattle.octets.specs.declared.counts.Octets.{Octets as OctetCount}
 use Rattle.octets.specs.Counts.{as_octets}
 use Rattle.octets.specs.Header.{length_field}
@@ -22,7 +23,6 @@ use Rattle.format.specs.Writer.{onward}
 use Rattle.tags.specs.declared.Listed.{Listed}
 use Rattle.tags.specs.declared.Listed.TheVariants.{Nothing, Inside, Value}
 use Rattle.tags.specs.Listed.{listed_as}
-use Rattle.tags.proofs.Listing.{is-nothing, is-inside, is-value}
 use Rattle.survey.specs.Normal.{framed_size}
 use Rattle.survey.proofs.Parts.{framed_is}
 use Rattle.compare.specs.Normal.{is_written}
@@ -154,20 +154,17 @@ module _ (element tag start size : ℕ) (lent : List ℕ) (body : ℕ) where
 pub ruleset added-ways = (added-beyond, added-inside)
 
 -- ---- sums by depth
-module _ (tag : ℕ) (r : Listed) (e : r ≡ listed_as (known 0 tag)) (sums : List ℕ) (depth size : ℕ) where
-  pub own-nothing : r ≡ Nothing → size ≡ cond (opens tag) (nth sums (suc depth)) size
-  unfolding opens
-  own-nothing q = rw (is-nothing (known 0 tag) (sym q ∙ e)).0
+pub put-beyond : (sums : List ℕ) (d sum : ℕ) → length sums ≤ d → sums ≡ set sums d sum
+put-beyond sums d sum h = sym (set_out sums d sum h)
 
-  pub own-inside : r ≡ Inside → (w : OctetCount) → w.0 ≡ nth sums (depth + 1) → w.0 ≡ cond (opens tag) (nth sums (suc depth)) size
-  unfolding opens
-  own-inside q w we = rw (is-inside (known 0 tag) (sym q ∙ e)).0 (we ∙ ap (nth sums) (add-one depth))
+module _ (sums : List ℕ) (depth tag size : ℕ) (b : Bool) (e : b ≡ opens tag) where
+  pub own-inside : b ≡ true → (w : OctetCount) → w.0 ≡ nth sums (depth + 1) → w.0 ≡ cond (opens tag) (nth sums (suc depth)) size
+  own-inside q w we = rw (sym e ∙ q) (we ∙ ap (nth sums) (add-one depth))
 
-  pub own_value : (k : Kind) → r ≡ Value k → size ≡ cond (opens tag) (nth sums (suc depth)) size
-  unfolding opens
-  own_value k q = rw (is-value (known 0 tag) k (sym q ∙ e)).shut
+  pub own_value : b ≡ false → size ≡ cond (opens tag) (nth sums (suc depth)) size
+  own_value q = rw (sym e ∙ q)
 
-pub ruleset own-ways = (own-nothing, own-inside, own_value)
+pub ruleset own-ways = (own-inside, own_value)
 
 -- ---- are_right
 -- what is short is itself

@@ -1,6 +1,7 @@
 -- Whether records lie as a packed tree leaves them with all sizes right, record by record: what the code looks at. That it says of the records' tree what `in_order`
 -- asks is proved (proofs/Order, proofs/SizesHeld), so of all this only `held_as` has to be believed.
-use Rattle.std.specs.Prelude.{Bool, true, cond, ◌&&◌, List, ℕ, zero, suc, ◌+◌, eqb, leb, length, take, drop, get_or, set, replicate, Option as Maybe, Some, None}
+use Rattle.std.specs.Prelude.{Bool, true, cond, ◌&&◌, List, ℕ, zero, suc, ◌+◌, eqb}
+use Rattle.std.specs.Prelude.{leb, length, take, drop, get_or, set, replicate, Option as Maybe, Some, None}
 use Rattle.std.proofs.Math.Option.{Option, none, some}
 use Rattle.octets.specs.declared.counts.Octets.{Octets as OctetCount}
 use Rattle.octets.specs.Counts.{as_octets}

@@ -14,7 +14,7 @@ use crate::Filled;
 use compare::is_own;
 use format::octet_at;
 use octets::{Octets, header_size};
-use tags::{Listed, listed_as};
+use tags::{Listed, holds_items, listed_as};
 use values::{Kind, is_default};
 
 // A value, where the store is filled up to `at`.
@@ -118,11 +118,10 @@ fn sum_at(sums: &[usize], depth: usize) -> Octets
 fn own_size(sums: &[usize], depth: u8, tag: u8, size: u16) -> Octets
     ensures { result.0 ≡ cond (opens tag) (nth sums.now (suc depth)) size }
 {
-    match listed_as(0, tag) {
-        Listed::Nothing => Octets(size as usize),
-        Listed::Inside => sum_at(sums, depth as usize + 1),
-        Listed::Value(_) => Octets(size as usize),
+    if holds_items(tag) {
+        return sum_at(sums, depth as usize + 1);
     }
+    Octets(size as usize)
 }
 
 // The sum at a depth with one part more, where an object may have so many octets.

@@ -13,7 +13,8 @@ pub admit-requires : goal.admit-requires
 admit-requires c = plan-asks _ _ _ c.held.ensures _ c.in-Upto.is
 
 pub fit-requires : goal.fit-requires
-fit-requires c = plan-fit-asks _ _ _ _ _ _ c.held.ensures _ c.in-Upto.is _ c.admit.ensures _ c.in_ok-admitted.was (λ i. omega (arith, c.type_inv.store i)) (λ i. omega (arith, c.type_inv.element i))
+fit-requires c = plan-fit-asks _ _ _ _ _ _ c.held.ensures _ c.in-Upto.is _ c.admit.ensures _ c.in_ok-admitted.was (λ i. omega (arith, c.type_inv.store i))
+    (λ i. omega (arith, c.type_inv.element i))
 
 pub returns-in_err-admitted : goal.returns-in_err-admitted
 returns-in_err-admitted c =

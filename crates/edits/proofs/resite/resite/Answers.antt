@@ -29,4 +29,5 @@ pub move_to-requires-6 : goal.move_to-requires-6
 move_to-requires-6 c = bodies-carry _ _ c.requires _ c.raise.ensures
 
 pub returns : goal.returns
-returns c = resited _ _ c.requires _ _ _ _ _ _ _ _ _ c.raise.ensures c.move_to.ensures c.move_to-2.ensures c.move_to-3.ensures c.move_to-4.ensures c.carry_parents.ensures c.carry_starts.ensures c.move_to-5.ensures c.move_to-6.ensures
+returns c = resited _ _ c.requires _ _ _ _ _ _ _ _ _ c.raise.ensures c.move_to.ensures c.move_to-2.ensures c.move_to-3.ensures c.move_to-4.ensures
+    c.carry_parents.ensures c.carry_starts.ensures c.move_to-5.ensures c.move_to-6.ensures
