@@ -18,61 +18,37 @@ use tags::is_top;
 fn is_of_service(tag: u8) -> bool
     ensures { result ≡ (eqb tag 0x26 || eqb tag 0x28 || eqb tag 0x29) }
 {
-    if tag == 0x26 {
-        return true;
-    }
-    if tag == 0x28 {
-        return true;
-    }
-    tag == 0x29
+    matches!(tag, 0x26 | 0x28 | 0x29)
 }
 
 // schedule, programme.
 fn is_of_schedule(tag: u8) -> bool
     ensures { result ≡ (eqb tag 0x21 || eqb tag 0x1C) }
 {
-    if tag == 0x21 {
-        return true;
-    }
-    tag == 0x1C
+    matches!(tag, 0x21 | 0x1C)
 }
 
 // programmeGroups, programmeGroup.
 fn is_of_groups(tag: u8) -> bool
     ensures { result ≡ (eqb tag 0x20 || eqb tag 0x23) }
 {
-    if tag == 0x20 {
-        return true;
-    }
-    tag == 0x23
+    matches!(tag, 0x20 | 0x23)
 }
 
 // An element that can have a partner.
 pub fn merges(tag: u8) -> bool
     ensures { result ≡ can_merge tag }
 {
-    if is_top(tag) {
-        return true;
-    }
-    if is_of_service(tag) {
-        return true;
-    }
-    if is_of_schedule(tag) {
-        return true;
-    }
-    is_of_groups(tag)
+    is_top(tag) || is_of_service(tag) || is_of_schedule(tag) || is_of_groups(tag)
 }
 
 fn key_attribute(tag: u8) -> u8
     ensures { result ≡ key_attribute tag }
 {
-    if tag == 0x1C {
-        return 0x81;
+    match tag {
+        0x1C | 0x23 => 0x81,
+        _ => 0x80,
     }
-    if tag == 0x23 {
-        return 0x81;
-    }
-    0x80
 }
 
 // A bearer with the id of this one, given by its body.

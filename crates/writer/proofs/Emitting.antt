@@ -10,7 +10,7 @@ use lib.ListN.{length, take, drop, get_or}
 use borrow.Author.Tests.{eqb-true, le-ltb, eq-eqb, ne_eqb}
 use Rattle.std.specs.Prelude.{Option, None, Some}
 use Rattle.octets.specs.Header.{length_field, framed}
-use Rattle.octets.proofs.Left.{lays-none, lays-append, lays-length}
+use Rattle.octets.proofs.Left.{lays-none, lays-append}
 use Rattle.octets.specs.Puts.{Lays}
 use Rattle.values.specs.Table.{attribute}
 use Rattle.values.proofs.Known.{high-attribute}
@@ -102,9 +102,6 @@ module _ (p n : ℕ) (tags depths starts sizes lent : List ℕ) (at depth : ℕ)
   }
 
   module _ (to : ℕ) (before room : List ℕ) (stop : ℕ) (next : Option Lowest) (inv : Risen to before room stop next) where
-    pub risen-length : length room ≡ length before
-    risen-length = lays-length inv.done to before room stop inv.lays
-
     pub risen-end : next ≡ None → Lays (attribute_octets p inside) to before room stop
     unfolding rising
     risen-end h =
@@ -121,9 +118,6 @@ module _ (p n : ℕ) (tags depths starts sizes lent : List ℕ) (at depth : ℕ)
 
       pub risen-high : (0x80 ≤ a.tag) × (a.tag < 0x87)
       risen-high = (omega (arith, inv.high, limit-tag), found.most)
-
-      pub risen-less : (b : Option Lowest) → FindsLowest n tags depths at depth (a.tag + 1) b → 0x87 - limit_of b < 0x87 - limit_of next
-      risen-less b f = omega (arith, f.from, limit-tag, found.most)
 
     module _ (o : Ordered p inside) (a : Lowest) (is : next ≡ Some a) where
       abbrev one : List ℕ
@@ -202,14 +196,7 @@ pub record Written (stored : Bool) (l : Lists) (n : ℕ) (lent : List ℕ) (p de
   pub left : later l n lent p depth at ≡ done ++ later l n lent p depth i
   pub same : (items_from l n lent depth at).1 ≡ (items_from l n lent depth i).1
 
-pub written_start : (stored : Bool) (l : Lists) (n : ℕ) (lent : List ℕ) (p depth at to : ℕ) (room : List ℕ) → Ordered p (items_from l n lent depth at).0 → at ≤ n
-    → (stored ≡ true → AsLaid p (items_from l n lent depth at).0) → Written stored l n lent p depth at to room room at to
-written_start stored l n lent p depth at to room o h s = record { low = omega arith; high = h; ordered = o; stands = s; done = []; lays = lays-none to room; left = refl; same = refl }
-
 module _ (stored : Bool) (l : Lists) (n : ℕ) (lent : List ℕ) (p depth at to : ℕ) (before room : List ℕ) (i stop : ℕ) (inv : Written stored l n lent p depth at to before room i stop) where
-  pub written-length : length room ≡ length before
-  written-length = lays-length inv.done to before room stop inv.lays
-
   ended : here (row l) n depth i ≡ false → Emits (items_from l n lent depth at) p to before room (record { end = stop; next = i })
   unfolding later_octets
   ended e =

@@ -7,7 +7,7 @@ use Prim.Native.Nat.{ℕ, ◌+◌, ◌≤◌, ◌<◌}
 use native.Mathlib.Omega.{arith}
 use lib.Dec.{eqb, leb, ltb}
 use lib.ListN.{get_or}
-use Rattle.std.proofs.lemmas.Option.{none-some, same_Some}
+use Rattle.std.proofs.lemmas.Option.{same_Some}
 use borrow.Author.Tests.{eqb-true, eq-eqb, ne_eqb, lt-ltb, le-ltb, lt-leb, le-leb, ltb-true, ltb-false, leb-true, leb-false}
 use Rattle.std.specs.Prelude.{Option, None, Some}
 use Rattle.octets.specs.Header.{framed}
@@ -65,14 +65,6 @@ module _ (n : ℕ) (tags depths : List ℕ) (at depth least : ℕ) where
     pub same : (t : ℕ) → least ≤ t → t < limit_of a → (starts sizes lent : List ℕ) (s : Spot) → ruled s (items_at starts sizes lent at) ≡ true
         → find t (items_at starts sizes lent at) ≡ find t (items_at starts sizes lent i)
     pub kept : (starts sizes lent : List ℕ) (s : Spot) → ruled s (items_at starts sizes lent at) ≡ true → (u : Spot) × (ruled u (items_at starts sizes lent i) ≡ true)
-
-  pub pass-start : least ≤ 0x87 → Passed None at
-  pass-start h = record {
-    from = h;
-    stands = λ found q. absurd (none-some found q);
-    same = λ t x y a b o s z. refl;
-    kept = λ a b o s z. (s, z);
-  }
 
   module _ (a : Option Lowest) (i : ℕ) (inv : Passed a i) where
     limit-most : limit_of a ≤ 0x87

@@ -8,7 +8,7 @@ use native.Mathlib.Nat.{add-sub_cancel_left}
 use native.Mathlib.Numerals.{add-one}
 use lib.Dec.{eqb, leb}
 use lib.ListN.{length, take, drop, get_or, set, length-take}
-use lib.Seq.{sets, length-sets}
+use lib.Seq.{sets}
 use borrow.Author.Tests.{lt-leb, le-leb, leb-false, leb-true, eq-eqb, ne_eqb}
 use mir.Syntax.{w16, w64}
 use mir.Val.{Fits}
@@ -164,10 +164,6 @@ own_behind l i size xs ys =
     ap (λ j. sets (set l i size) j (xs ++ ys)) (sym (add-one i))
     ∙ (sym (sets-append (set l i size) (i + 1) xs ys) ∙ ap (λ o. sets o (i + 1 + length xs) ys) (sym (set-sets l (i + 1) xs i size (omega arith))))
 
--- stores change no length
-stood-length : (before bodies : List ℕ) (at i : ℕ) (xs ys : List ℕ) → sets before at xs ≡ sets bodies i ys → length bodies ≡ length before
-stood-length before bodies at i xs ys e = sym (length-sets bodies i ys) ∙ (ap length (sym e) ∙ length-sets before at xs)
-
 -- the loop's invariant: the size so far with the size from record i on is the size of all, both end at one record, and what is left keeps the rules. Its sizes of
 -- bodies, stored in the list from record i on, leave what all of them leave
 pub record Sums (l : Lists) (n : ℕ) (lent : List ℕ) (at depth p : ℕ) (before bodies : List ℕ) (i total : ℕ) : Type 0 where
@@ -188,19 +184,11 @@ pub record Added (l : Lists) (n : ℕ) (lent : List ℕ) (at depth p : ℕ) (bef
   pub same : next l n lent depth at ≡ next l n lent depth j
   pub stands : sets before at (own l n lent p depth at) ≡ sets bodies j (own l n lent p depth j)
 
-pub sums-start : (l : Lists) (n : ℕ) (lent : List ℕ) (at depth p : ℕ) (bodies : List ℕ) → at ≤ n → Ordered p (items_from l n lent depth at).0
-    → Sums l n lent at depth p bodies bodies at 0
-sums-start l n lent at depth p bodies h o =
-    record { low = omega arith; high = h; small = omega arith; ordered = o; added = omega arith; same = refl; stands = refl }
-
 -- a sum that no object may have leaves nothing to say of the list
 sizes-over : (l : Lists) (n : ℕ) (lent : List ℕ) (at depth p : ℕ) (before bodies : List ℕ) → 32_768 < sum l n lent p depth at → Sizes n l lent p depth at before bodies None
 sizes-over l n lent at depth p before bodies h = record { answers = over-is _ _ h; stands = λ q. absurd (omega (arith, h, q)) }
 
 module _ (l : Lists) (n : ℕ) (lent : List ℕ) (at depth p : ℕ) (before bodies : List ℕ) (i total : ℕ) (inv : Sums l n lent at depth p before bodies i total) where
-  pub sums-length : length bodies ≡ length before
-  sums-length = stood-length before bodies at i (own l n lent p depth at) (own l n lent p depth i) inv.stands
-
   ended : here (row l) n depth i ≡ false → Sizes n l lent p depth at before bodies (Some (extent total i))
   unfolding normal_size body_sizes
   ended e =
@@ -364,9 +352,6 @@ module _ (l : Lists) (n : ℕ) (lent : List ℕ) (at depth p : ℕ) (before bodi
               })
 
   module _ (bodies' : List ℕ) (j t : ℕ) (a : Added l n lent at depth p before bodies' i j t) where
-    pub added-length : length bodies' ≡ length before
-    added-length = stood-length before bodies' at j (own l n lent p depth at) (own l n lent p depth j) a.stands
-
     pub added-over : 32_768 < t → Sizes n l lent p depth at before bodies' None
     added-over h = sizes-over l n lent at depth p before bodies' (omega (arith, a.added, h))
 
