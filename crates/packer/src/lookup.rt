@@ -10,18 +10,17 @@ use compare::same_octets;
 pub fn tag_of(table: &[u8], w: &[u8]) -> Option<u8>
     ensures { result ≡ as_tag (tag_of (entries table.now) w.now) }
 {
-    let mut at: usize = 0;
-    while table.len() - at >= 2 {
-        let from = at + 2;
-        let size = usize::from(table[at + 1]);
-        if size > table.len() - from {
+    let mut rest = table;
+    while let [tag, size, more @ ..] = rest {
+        let size = usize::from(*size);
+        if size > more.len() {
             return None;
         }
-        let to = from + size;
-        if same_octets(&table[from..to], w) {
-            return Some(table[at]);
+        let (text, behind) = more.split_at(size);
+        if same_octets(text, w) {
+            return Some(*tag);
         }
-        at = to;
+        rest = behind;
     }
     None
 }

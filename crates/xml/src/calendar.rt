@@ -18,48 +18,26 @@ struct Part {
 fn is_leap(year: u32) -> bool
     ensures { result ≡ is_leap year }
 {
-    if year % 4 != 0 {
-        return false;
-    }
-    if year % 100 != 0 {
-        return true;
-    }
-    year % 400 == 0
+    year % 4 == 0 && (year % 100 != 0 || year % 400 == 0)
 }
 
 #[tactic(auto, using(crate::proofs::Dating::leap_ways))]
 fn year_days(year: u32) -> u32
     ensures { result ≡ year_days year }
 {
-    if is_leap(year) {
-        return 366;
-    }
-    365
+    if is_leap(year) { 366 } else { 365 }
 }
 
 #[tactic(auto, using(crate::proofs::Dating::month_ways))]
 fn month_days(year: u32, month: u32) -> u32
     ensures { result ≡ month_days year month }
 {
-    if month == 2 {
-        if is_leap(year) {
-            return 29;
-        }
-        return 28;
+    match month {
+        2 if is_leap(year) => 29,
+        2 => 28,
+        4 | 6 | 9 | 11 => 30,
+        _ => 31,
     }
-    if month == 4 {
-        return 30;
-    }
-    if month == 6 {
-        return 30;
-    }
-    if month == 9 {
-        return 30;
-    }
-    if month == 11 {
-        return 30;
-    }
-    31
 }
 
 // The last year that a day below 100,375 can lie in.
@@ -150,10 +128,7 @@ fn put_clock(out: &mut [u8], at: usize, hour: u32, minute: u32, second: u32, emi
 fn sign(minus: bool) -> u8
     ensures { result ≡ cond minus 0x2D 0x2B }
 {
-    if minus {
-        return 0x2D;
-    }
-    0x2B
+    if minus { 0x2D } else { 0x2B }
 }
 
 fn put_offset(out: &mut [u8], at: usize, minus: bool, halves: u32, emit: bool) -> usize
