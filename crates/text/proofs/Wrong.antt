@@ -1,7 +1,7 @@
 -- Wrong answers of each public call, each refuted at a closed input by what its contract says.
 use Rattle.std.specs.Prelude.{Ok, Err}
 use mathlib.Core.Path.{◌≡◌, sym, ◌∙◌, ap}
-use mathlib.Core.Bool.{true, false, false≢true}
+use mathlib.Core.Bool.{Bool, true, false, false≢true}
 use mathlib.Core.List.{List, [], ◌∷◌}
 use Prim.Native.Nat.{ℕ, ◌^◌, min}
 use native.Mathlib.Omega.{arith}
@@ -16,9 +16,9 @@ use Rattle.text.specs.Tokens.{entries, cut, filled, is_table, entry, or_itself, 
 use Rattle.text.specs.Leaves.{replaced_by}
 use Rattle.text.specs.Index.{start_of, longest, Indexes, usable, place_at, place_by, with_place, entries_below, entries_by}
 use Rattle.text.specs.Found.{found}
-use Rattle.text.specs.Weighing.{tags, Marks, Widths, Shows, marked, covered_by, width_at, weight, shown_at, shown_by, weighed_by}
+use Rattle.text.specs.Weighing.{tags, Marks, Widths, Shows, marked, covered_by, width_at, weight, shown_at, shown_by, covered_shown, weighed_by}
 use Rattle.text.specs.declared.Weighed.{Weighed}
-use Rattle.text.specs.declared.Weighed.TheVariants.{NoText, Text}
+use Rattle.std.specs.Prelude.{Option, Some, None}
 
 -- one entry: the token 0x01 for the three octets ABC
 abbrev abc : List ℕ
@@ -121,29 +121,34 @@ unfolding starts stands token layout among entries cut entry or_itself
 count-of-octets w e h = let z : ◌≡◌ {A = ℕ} 2 1 = sym e ∙ h.each 0x01 (omega arith) in omega arith
 
 -- how many characters an answer of `weigh` says are shown
-abbrev shown_in : Weighed → ℕ
-shown_in NoText = 0
-shown_in (Text c n) = n.0
+abbrev shown_in : Option Weighed → ℕ
+shown_in None = 0
+shown_in (Some x) = x.shown.0
+
+-- and whether each token has an entry
+abbrev covered_in : Option Weighed → Bool
+covered_in None = false
+covered_in (Some x) = x.covered
 
 -- weigh: an overlong form is text; a token counts as one character; octets are counted; a token without a mark passes; the count does not stop at the most that is
 -- asked for
-pub weighed-overlong : Text true (as_characters 1) ≡ weighed_by 0 [] (0xC0 ∷ 0x80 ∷ []) (as_characters 9) → ⊥
+pub weighed-overlong : Some (covered_shown true (as_characters 1)) ≡ weighed_by 0 [] (0xC0 ∷ 0x80 ∷ []) (as_characters 9) → ⊥
 unfolding weighed_by text utf8 goes_on character
 weighed-overlong h = never (cc)
 
-pub weighed-unexpanded : Text true (as_characters 2) ≡ weighed_by (2 ^ 0x01) (1 ∷ 3 ∷ []) (0x01 ∷ 0x44 ∷ []) (as_characters 9) → ⊥
+pub weighed-unexpanded : Some (covered_shown true (as_characters 2)) ≡ weighed_by (2 ^ 0x01) (1 ∷ 3 ∷ []) (0x01 ∷ 0x44 ∷ []) (as_characters 9) → ⊥
 unfolding weighed_by text utf8 single layout among token covered_by marked shown_by shown_at
 weighed-unexpanded h = let z : ◌≡◌ {A = ℕ} 2 4 = ap shown_in h in omega arith
 
-pub weighed-octets : Text true (as_characters 2) ≡ weighed_by 0 [] (0xC3 ∷ 0xA9 ∷ []) (as_characters 9) → ⊥
+pub weighed-octets : Some (covered_shown true (as_characters 2)) ≡ weighed_by 0 [] (0xC3 ∷ 0xA9 ∷ []) (as_characters 9) → ⊥
 unfolding weighed_by text utf8 goes_on character layout among token covered_by marked shown_by shown_at
 weighed-octets h = let z : ◌≡◌ {A = ℕ} 2 1 = ap shown_in h in omega arith
 
-pub weighed-bare : Text true (as_characters 1) ≡ weighed_by 0 (1 ∷ 1 ∷ []) (0x01 ∷ []) (as_characters 9) → ⊥
+pub weighed-bare : Some (covered_shown true (as_characters 1)) ≡ weighed_by 0 (1 ∷ 1 ∷ []) (0x01 ∷ []) (as_characters 9) → ⊥
 unfolding weighed_by text utf8 single layout among token covered_by marked shown_by shown_at
-weighed-bare h = let z : true ≡ false = cc in false≢true (sym z)
+weighed-bare h = false≢true (sym (ap covered_in h))
 
-pub weighed-on : Text true (as_characters 2) ≡ weighed_by 0 [] (0x41 ∷ 0x42 ∷ []) (as_characters 1) → ⊥
+pub weighed-on : Some (covered_shown true (as_characters 2)) ≡ weighed_by 0 [] (0x41 ∷ 0x42 ∷ []) (as_characters 1) → ⊥
 unfolding weighed_by text utf8 single layout among token covered_by marked shown_by shown_at
 weighed-on h = let z : ◌≡◌ {A = ℕ} 2 1 = ap shown_in h in omega arith
 
