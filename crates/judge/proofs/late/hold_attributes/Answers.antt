@@ -4,7 +4,8 @@ use Rattle.judge.proofs.late.hold_attributes.Goals as goal
 
 pub returns-else-is_settled : goal.returns-else-is_settled
 returns-else-is_settled c =
-    late-found _ _ _ _ _ _ c.loop-at.invariant c.loop-at-test.true _ c.read_header.ensures _ _ c.in-Found.is c.if-part-at.false _ c.is_settled.ensures c.if-is_settled.false _ c.refuse.ensures
+    late-found _ _ _ _ _ _ c.loop-at.invariant c.loop-at-test.true _ c.read_header.ensures _ _ c.in-Found.is
+    c.if-part-at.false _ c.is_settled.ensures c.if-is_settled.false _ c.refuse.ensures
 
 pub overflow_sub-part-in-Found : goal.overflow_sub-part-in-Found
 overflow_sub-part-in-Found c = search (late_ways, rules)
