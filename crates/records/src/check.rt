@@ -10,11 +10,11 @@ ghost use Rattle.format.specs.Calls.{places, tree_given};
 ghost use Rattle.format.specs.Lent.{shared_lists};
 ghost use Rattle.records.specs.Check.{is_given, held_as, placed_by, state_after, item_of, item_as, first_in, parent_at, walked, told};
 
-use format::{Record, Records, kind_of};
+use format::{Record, Records, Refusal, kind_of};
 use octets::Characters;
 use tags::{has_bit, is_allowed, is_short, is_within_depth, latest_of, stage_after, with_bit};
 use text::{Weighed, characters_of, tokens_of, weigh};
-use values::{Kind, KnownKind, fits_kind, known_kind};
+use values::{Kind, fits_kind, known_kind};
 
 // The element whose items are looked at: its tag (0 above the top), the number of its record, and the depth of the items in it.
 #[derive(Clone, Copy)]
@@ -58,8 +58,8 @@ pub fn is_text_kept(parent: u8, tag: u8, body: &[u8]) -> bool
     let marks = tokens_of(none);
     let shows = characters_of(none);
     match weigh(marks, &shows, body, Characters(32_769)) {
-        Weighed::NoText => false,
-        Weighed::Text { covered, shown } => covered && is_short(parent, tag, shown),
+        None => false,
+        Some(Weighed { covered, shown }) => covered && is_short(parent, tag, shown),
     }
 }
 
@@ -82,8 +82,8 @@ fn check_body(parent: u8, tag: u8, body: &[u8]) -> Option<Held>
     ensures { result ≡ held_as parent tag body.now (known parent tag) }
 {
     match known_kind(parent, tag) {
-        KnownKind::Unknown => None,
-        KnownKind::Known(kind) => check_kind(kind, parent, tag, body),
+        None => None,
+        Some(kind) => check_kind(kind, parent, tag, body),
     }
 }
 
