@@ -1,4 +1,4 @@
--- The ways through the program's functions that aren't arithmetic alone: where octets first differ, a normal form and an XML within their room, items that lie in a part.
+-- The ways through the program's functions that aren't arithmetic alone: where octets first differ, what is handed out within its room, items of a part.
 use mathlib.Core.Path.{◌≡◌, refl, ap}
 use mathlib.Core.List.{List, []}
 use Prim.Native.Nat.{ℕ, suc, ◌+◌, ◌-◌, ◌^◌, ◌≤◌, ◌<◌, min}
@@ -17,8 +17,6 @@ use Rattle.octets.specs.declared.Lies.TheVariants.{Between}
 use Rattle.octets.specs.Places.{lies_at}
 use Rattle.octets.proofs.Lists.{drop-next, length_part}
 use Rattle.octets.proofs.Places.{Lying, lying, bounds, nearer}
-use Rattle.io.specs.Counts.{IsPrefixLen}
-use Rattle.io.proofs.Counting.{prefix_len_of_le}
 use Rattle.format.specs.declared.WriteAnswer.{WriteAnswer}
 use Rattle.format.specs.declared.WriteAnswer.TheVariants.{Octets, NotWritten}
 use Rattle.format.specs.Answers.{write_outcome, refusal}
@@ -72,13 +70,16 @@ module _ (a b : List ℕ) (i : ℕ) (v : Shared a b i) where
     pub shared-differ : (get_or a i 0 ≡ get_or b i 0 → ⊥) → i ≡ common a b
     unfolding common
     shared-differ n =
-        let none : common (drop i a) (drop i b) ≡ 0 = rw (drop-next a i 0 h, drop-next b i 0 g, ne_eqb (get_or a i 0) (get_or b i 0) n) in
+        let parted = ne_eqb (get_or a i 0) (get_or b i 0) n in
+        let none : common (drop i a) (drop i b) ≡ 0 = rw (drop-next a i 0 h, drop-next b i 0 g, parted) in
         omega (arith, v.rest)
 
     pub shared-again : get_or a i 0 ≡ get_or b i 0 → Shared a b (i + 1)
     unfolding common
     shared-again e =
-        let next : common (drop i a) (drop i b) ≡ suc (common (drop (i + 1) a) (drop (i + 1) b)) = rw (drop-next a i 0 h, drop-next b i 0 g, eq-eqb (get_or a i 0) (get_or b i 0) e) in
+        let alike = eq-eqb (get_or a i 0) (get_or b i 0) e in
+        let rest = suc (common (drop (i + 1) a) (drop (i + 1) b)) in
+        let next : common (drop i a) (drop i b) ≡ rest = rw (drop-next a i 0 h, drop-next b i 0 g, alike) in
         record { first = omega arith; second = omega arith; rest = omega (arith, v.rest) }
 
 pub ruleset shared-ways = (shared-begin, shared-end, shared-differ, shared-again)
@@ -105,7 +106,8 @@ pack-within o room room' answer c e = omega (arith, ap (λ a. (write_outcome a).
     few none = omega arith
     few (some p) = go (leb (length p) (min (length room) 32_768)) refl
       where
-        go : (b : Bool) → leb (length p) (min (length room) 32_768) ≡ b → (write_outcome (cond b (Octets (size_of p)) (NotWritten (refusal 15 0)))).count ≤ length room
+        go : (b : Bool) → leb (length p) (min (length room) 32_768) ≡ b
+            → (write_outcome (cond b (Octets (size_of p)) (NotWritten (refusal 15 0)))).count ≤ length room
         go true h = omega (arith, leb-true (length p) (min (length room) 32_768) h)
         go false h = omega arith
 
@@ -123,11 +125,12 @@ state-within n m room room' answer c e = omega (arith, ap (λ a. (write_outcome 
         go true h = omega (arith, leb-true (length (encode (means [] t))) (min (length room) 32_768) h)
         go false h = omega arith
 
-pub merged-within : (by : Services) (basic advanced : List ℕ) (m m' : Memory) (room room' : List ℕ) (answer : MergeAnswer) → MergeClaim by basic advanced m m' room room' answer
-    → length room' ≡ length room → (records : ℕ) (size : OctetCount) → answer ≡ Merged records size → IsPrefixLen size.0 room'
+pub merged-within : (by : Services) (basic advanced : List ℕ) (m m' : Memory) (room room' : List ℕ) (answer : MergeAnswer)
+    → MergeClaim by basic advanced m m' room room' answer → length room' ≡ length room
+    → (records : ℕ) (size : OctetCount) → answer ≡ Merged records size → size.0 ≤ length room'
 merged-within by basic advanced m m' room room' answer c e records size q =
     let inside = merge-size by basic advanced (places_in m) (size_of m.store) room room answer (record { answers = c.answers; leaves = refl }) records size q in
-    prefix_len_of_le size.0 room' (omega (arith, e, inside))
+    omega (arith, e, inside)
 
 -- ---- items in a part
 

@@ -1,7 +1,6 @@
 // Two objects merged (request 2026-10), a Basic and an Advanced one: the normal form of what they become is written to a file.
-ghost use Rattle.std.specs.Prelude.{◌≡◌, ℕ, ◌≤◌};
+ghost use Rattle.std.specs.Prelude.{◌≡◌, ℕ, ◌≤◌, length};
 ghost use Rattle.octets.specs.declared.counts.Octets.{Octets as OctetCount};
-ghost use Rattle.io.specs.Counts.{IsPrefixLen};
 ghost use Rattle.merge.specs.declared.MergeAnswer.TheVariants.{Merged};
 
 use crate::files::{argument, file_argument, load, save};
@@ -23,7 +22,7 @@ pub fn basic_argument(by: Services) -> usize
 // What two objects are merged into, in a lent room. There are places for all records of both, and the store of a normal form is no larger than it, so that
 // only a result above the limit of an object is refused for its size.
 fn merged_form(by: Services, basic: &[u8], advanced: &[u8], lent: &mut [u8]) -> MergeAnswer
-    ensures { (records : ℕ) (size : OctetCount) → result ≡ Merged records size → IsPrefixLen size.0 lent.new }
+    ensures { (records : ℕ) (size : OctetCount) → result ≡ Merged records size → size.0 ≤ length lent.new }
 {
     let mut tags = [0u8; TREE_PLACES];
     let mut kinds = [0u8; TREE_PLACES];
