@@ -29,7 +29,7 @@ use Rattle.state.specs.declared.Filled.TheVariants.{Apart, Upto}
 use Rattle.state.specs.Order.{held_as}
 use Rattle.state.specs.Taking.{left}
 use Rattle.edits.specs.declared.resite.Gap.{Gap}
-use Rattle.std.specs.Prelude.{Option as Maybe, Some, None, Result, Ok, Err}
+use Rattle.std.specs.Prelude.{Option as Optional, Some, None, Result, Ok, Err}
 use Rattle.edits.specs.declared.inserting.Admitted.{Admitted}
 use Rattle.edits.specs.declared.EditError.{EditError}
 use Rattle.edits.specs.declared.EditError.TheVariants.{NoTree, NoPlace, BreaksRule, NoRecords, NoRoom}
@@ -157,7 +157,7 @@ module _ (n i k : ℕ) (o : List ℕ) (m : Memory) where
       by j found a (breaks e) = denies BreaksRule e
       by j found a (stands c sizes r) = admits j found c sizes r
 
-      go : (x : Maybe ℕ) → child_of n i k m.lists.tags m.lists.depths ≡ x → Says t holds (admitted_by n i k o m.lists.tags m.lists.depths x)
+      go : (x : Optional ℕ) → child_of n i k m.lists.tags m.lists.depths ≡ x → Says t holds (admitted_by n i k o m.lists.tags m.lists.depths x)
       go None e = denies NoPlace (rw (there-nowhere n i k m t holds o e))
       go (Some j) e = by j e (admitted_at j k (tag_there n j (get_or m.lists.depths i 0) m.lists.tags m.lists.depths) (get_or m.lists.tags i 0)
           (get_or m.lists.depths i 0) o) (verdict n i k m t holds o j e bo)

@@ -11,7 +11,7 @@ use lib.Dec.{eqb, leb}
 use lib.ListN.{length, take, drop, set}
 use lib.Seq.{set_out}
 use borrow.Author.Tests.{eq-eqb, ne_eqb, eqb-true, le-leb, lt-leb, leb-true, leb-false}
-use Rattle.std.specs.Prelude.{Option as Maybe, Some, None}
+use Rattle.std.specs.Prelude.{Option as Optional, Some, None}
 use Rattle.octets.specs.declared.counts.Octets.{Octets as OctetCount}
 use Rattle.octets.specs.Counts.{as_octets}
 use Rattle.octets.specs.Header.{length_field}
@@ -213,7 +213,7 @@ module _ (tags depths parents starts sizes bodies lent : List ℕ) (n : ℕ) whe
 
       module _ (q : nth bodies (i - 1) ≡ o.0) (g : ℕ) (ge : g ≡ nth tags (nth parents (i - 1)))
           (part : OctetCount) (pe : part.0 ≡ added_by g (nth tags (i - 1)) (nth starts (i - 1)) (nth sizes (i - 1)) lent (nth bodies (i - 1)))
-          (r : Maybe OctetCount) (re : r ≡ short (nth sums (nth depths (i - 1)) + part.0)) where
+          (r : Optional OctetCount) (re : r ≡ short (nth sums (nth depths (i - 1)) + part.0)) where
         sum-is : r ≡ short sum
         sum-is =
             re ∙ ap (λ z. short (nth sums (nth depths (i - 1)) + z)) (pe
