@@ -1,6 +1,6 @@
 use Rattle.std.proofs.Common.{rules, arith}
 use Rattle.compare.proofs.Comparing.{found-ways}
-use Rattle.merging.proofs.Searching.{seek-begin, seek-ended, seek_found, seek-again}
+use Rattle.merging.proofs.Searching.{seek-ended, seek_found, seek-again}
 use Rattle.merging.proofs.children.find_child.Goals as goal
 
 pub returns-in_default : goal.returns-in_default
