@@ -8,8 +8,8 @@ returns-then-tag-ne1 c = search (text-ways, rules)
 pub returns-then-covered : goal.returns-then-covered
 returns-then-covered c = search (text-ways, rules)
 
-pub returns-in-NoText : goal.returns-in-NoText
-returns-in-NoText c = search (text-ways, rules)
+pub returns-in-None : goal.returns-in-None
+returns-in-None c = search (text-ways, rules)
 
 pub returns-else-covered : goal.returns-else-covered
 returns-else-covered c = search (text-ways, rules)
