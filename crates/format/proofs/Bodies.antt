@@ -1,4 +1,5 @@
 -- The bodies in what is written: none is longer than all of it, so none needs a length of 24 bits (change request 2026-08).
+use Rattle.std.specs.Prelude.{Ok, Err}
 use mathlib.Core.Path.{◌≡◌, refl, sym}
 use mathlib.Core.Bool.{Bool, true, false, cond, ◌&&◌}
 use mathlib.Core.Option.{Option, none, some}
@@ -14,7 +15,6 @@ use Rattle.octets.specs.Header.{framed}
 use Rattle.octets.proofs.Answers.{framed-length}
 use Rattle.octets.proofs.Tests.{and_right, chosen, never}
 use Rattle.values.specs.Values.{Value, octets_of}
-use Rattle.format.specs.declared.WriteAnswer.TheVariants.{Octets, NotWritten}
 use Rattle.format.specs.Answers.{refusal}
 use Rattle.format.specs.Tree.{Items, count}
 use Rattle.format.specs.Judge.{Judged}
@@ -70,7 +70,7 @@ unfolding roomy
 roomy-bodies room m h = bodies 32_768 m (omega (arith, leb-true (length (encode m)) (min room.0 32_768) h, min-le_right room.0 32_768))
 
 -- whatever is written, of records as they came or of a tree that was edited, is the normal form of a tree without such bodies: the calls' claims say `write_answer`
-pub written-bodies : (room : OctetCount) (o : Option Items) (size : OctetCount) → write_answer room o ≡ Octets size → (t : Items) × (o ≡ some t) × Bodies 32_768 (means [] t)
+pub written-bodies : (room : OctetCount) (o : Option Items) (size : OctetCount) → write_answer room o ≡ Ok size → (t : Items) × (o ≡ some t) × Bodies 32_768 (means [] t)
 unfolding write_answer
 written-bodies room none size h = never (cc h)
 written-bodies room (some t) size h =
@@ -84,16 +84,16 @@ fits-room lent t h =
     let room = roomy lent.room (normal_of t) in
     and_right stores room (and_right (leb (count t) lent.records) (stores && room) h)
 
-misfit-no : (lent : Lent) (t : Items) (size : OctetCount) → Octets size ≡ misfit lent t → ⊥
+misfit-no : (lent : Lent) (t : Items) (size : OctetCount) → Ok size ≡ misfit lent t → ⊥
 unfolding misfit
 misfit-no lent t size = go (leb (count t) lent.records)
   where
-    go : (b : Bool) → Octets size ≡ cond b (NotWritten (refusal 15 0)) (NotWritten (refusal 14 0)) → ⊥
+    go : (b : Bool) → Ok size ≡ cond b (Err (refusal 15 0)) (Err (refusal 14 0)) → ⊥
     go true h = never (cc h)
     go false h = never (cc h)
 
 -- and so is what normalise writes
-pub normal-bodies : (lent : Lent) (j : Judged) (size : OctetCount) → normal_answer lent j ≡ Octets size → (t : Items) × (j ≡ accepted t) × Bodies 32_768 (meaning_of t)
+pub normal-bodies : (lent : Lent) (j : Judged) (size : OctetCount) → normal_answer lent j ≡ Ok size → (t : Items) × (j ≡ accepted t) × Bodies 32_768 (meaning_of t)
 unfolding normal_answer
 normal-bodies lent (refused r) size h = never (cc h)
 normal-bodies lent (accepted t) size h =

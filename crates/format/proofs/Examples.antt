@@ -1,4 +1,5 @@
 -- What the answers' numbers are, and what they are not: wrong outcomes and wrong counts, refuted by computation.
+use Rattle.std.specs.Prelude.{Ok, Err}
 use mathlib.Core.Path.{◌≡◌, refl, ap}
 use mathlib.Core.Bool.{false}
 use mathlib.Core.List.{List, [], ◌∷◌}
@@ -8,32 +9,29 @@ use Rattle.octets.specs.Counts.{as_octets}
 use Rattle.octets.specs.Numbers.{value}
 use Rattle.octets.specs.Header.{header_size, body_size}
 use Rattle.values.specs.Table.{rows, kind_in, known, attribute}
-use Rattle.format.specs.declared.ReadAnswer.TheVariants.{Records, NotRead}
-use Rattle.format.specs.declared.EditAnswer.TheVariants.{HasRecords, NotChanged}
-use Rattle.format.specs.declared.WriteAnswer.TheVariants.{Octets, NotWritten}
-use Rattle.format.specs.declared.SameAnswer.TheVariants.{FirstRefused, SecondRefused}
 use Rattle.format.specs.Answers.{refusal, wrong_value, read_outcome, edit_outcome, write_outcome, same_outcome}
 use Rattle.format.specs.Judge.{is_items}
 use Rattle.format.specs.Headers.{headers_in, headers_of}
+use Rattle.format.specs.declared.SameRefusal.TheVariants.{First, Second}
 
 -- after a refusal both counts are 0, and where there is none so are number, place and field
-pub read-outcomes : (read_outcome (NotRead (refusal 13 412)) ≡ record { number = 13; place = 412; field = 0; count = 0; items = 0 })
-    × (read_outcome (NotRead (wrong_value 412 3)) ≡ record { number = 9; place = 412; field = 3; count = 0; items = 0 })
-    × (read_outcome (Records (record { records = 7; items = 9 })) ≡ record { number = 0; place = 0; field = 0; count = 7; items = 9 })
+pub read-outcomes : (read_outcome (Err (refusal 13 412)) ≡ record { number = 13; place = 412; field = 0; count = 0; items = 0 })
+    × (read_outcome (Err (wrong_value 412 3)) ≡ record { number = 9; place = 412; field = 3; count = 0; items = 0 })
+    × (read_outcome (Ok (record { records = 7; items = 9 })) ≡ record { number = 0; place = 0; field = 0; count = 7; items = 9 })
 read-outcomes = (refl, refl, refl)
 
-pub edit-outcomes : (edit_outcome (NotChanged (refusal 18 0)) ≡ record { number = 18; place = 0; field = 0; count = 0; items = 0 })
-    × (edit_outcome (HasRecords 7) ≡ record { number = 0; place = 0; field = 0; count = 7; items = 0 })
+pub edit-outcomes : (edit_outcome (Err (refusal 18 0)) ≡ record { number = 18; place = 0; field = 0; count = 0; items = 0 })
+    × (edit_outcome (Ok 7) ≡ record { number = 0; place = 0; field = 0; count = 7; items = 0 })
 edit-outcomes = (refl, refl)
 
-pub write-outcomes : (write_outcome (NotWritten (refusal 15 0)) ≡ record { number = 15; place = 0; field = 0; count = 0; items = 0 })
-    × (write_outcome (Octets (as_octets 6)) ≡ record { number = 0; place = 0; field = 0; count = 6; items = 0 })
+pub write-outcomes : (write_outcome (Err (refusal 15 0)) ≡ record { number = 15; place = 0; field = 0; count = 0; items = 0 })
+    × (write_outcome (Ok (as_octets 6)) ≡ record { number = 0; place = 0; field = 0; count = 6; items = 0 })
 write-outcomes = (refl, refl)
 
 -- which object was refused is told, its field too, and a refusal is not told as two meanings
-pub same-outcomes : (same_outcome (SecondRefused (refusal 2 0)) ≡ same_outcome (FirstRefused (refusal 2 0)) → ⊥)
-    × (same_outcome (SecondRefused (refusal 2 0)) ≡ record { same = false; which = 0; number = 0; place = 0; field = 0 } → ⊥)
-    × (same_outcome (FirstRefused (wrong_value 2 3)) ≡ same_outcome (FirstRefused (refusal 9 2)) → ⊥)
+pub same-outcomes : (same_outcome (Err (Second (refusal 2 0))) ≡ same_outcome (Err (First (refusal 2 0))) → ⊥)
+    × (same_outcome (Err (Second (refusal 2 0))) ≡ record { same = false; which = 0; number = 0; place = 0; field = 0 } → ⊥)
+    × (same_outcome (Err (First (wrong_value 2 3))) ≡ same_outcome (Err (First (refusal 9 2))) → ⊥)
 same-outcomes = (
   (λ e. let z : ◌≡◌ {A = ℕ} 2 1 = ap (λ x. x.which) e in omega arith),
   (λ e. let z : ◌≡◌ {A = ℕ} 2 0 = ap (λ x. x.number) e in omega arith),

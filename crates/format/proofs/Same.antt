@@ -1,5 +1,6 @@
--- The tests of specs/Same say equality: of octets, of values of one kind, of attributes as sets, of well-formed meanings; and so what `same` and `is_normal` answer
+-- The tests of specs/(Ok true) say equality: of octets, of values of one kind, of attributes as sets, of well-formed meanings; and so what `same` and `is_normal` answer
 -- of accepted objects.
+use Rattle.std.specs.Prelude.{Ok}
 use mathlib.Core.Path.{◌≡◌, refl, sym, ap, ap₂, ◌∙◌, subst, fun_ext}
 use mathlib.Core.Bool.{Bool, true, false, cond, ◌&&◌, false≢true}
 use mathlib.Core.Logic.{◌↔◌}
@@ -17,7 +18,6 @@ use Rattle.values.specs.Table.{attribute}
 use Rattle.values.specs.Values.{Value, meant, octets_of}
 use Rattle.values.specs.Proper.{Proper}
 use Rattle.values.proofs.Values.{proper-means}
-use Rattle.format.specs.declared.SameAnswer.TheVariants.{Same, Different}
 use Rattle.format.specs.Tree.{Items}
 use Rattle.format.specs.Judge.{Judged, judge}
 use Rattle.format.specs.Judge.Judged.{refused, accepted}
@@ -221,23 +221,23 @@ objects-exactly o p t u os ps h g =
 
 -- so two accepted objects are the same exactly when they mean the same, and different exactly when they don't
 module _ (o p : List ℕ) (t u : Items) (os : Octets o) (ps : Octets p) (x : judge o ≡ accepted t) (y : judge p ≡ accepted u) where
-  told : same_answer (judge o) (judge p) ≡ cond (same_meaning (meaning_of t) (meaning_of u)) Same Different
+  told : same_answer (judge o) (judge p) ≡ cond (same_meaning (meaning_of t) (meaning_of u)) (Ok true) (Ok false)
   unfolding same_answer
   told = ap₂ same_answer x y
 
-  pub same-exactly : same_answer (judge o) (judge p) ≡ Same ↔ meaning_of t ≡ meaning_of u
+  pub same-exactly : same_answer (judge o) (judge p) ≡ (Ok true) ↔ meaning_of t ≡ meaning_of u
   same-exactly = (
     (λ h. (objects-exactly o p t u os ps x y).0 (chosen (same_meaning (meaning_of t) (meaning_of u)) (sym h ∙ told) (λ z. never (cc))).0),
     (λ e. told ∙ rw ((objects-exactly o p t u os ps x y).1 e)),
   )
 
-  pub different-exactly : same_answer (judge o) (judge p) ≡ Different ↔ (meaning_of t ≡ meaning_of u → ⊥)
+  pub different-exactly : same_answer (judge o) (judge p) ≡ (Ok false) ↔ (meaning_of t ≡ meaning_of u → ⊥)
   different-exactly = (
-    (λ h e. let z : Different ≡ Same = sym h ∙ same-exactly.1 e in never (cc)),
+    (λ h e. let z : (Ok false) ≡ (Ok true) = sym h ∙ same-exactly.1 e in never (cc)),
     (λ d. go (same_meaning (meaning_of t) (meaning_of u)) refl d),
   )
     where
-      go : (b : Bool) → same_meaning (meaning_of t) (meaning_of u) ≡ b → (meaning_of t ≡ meaning_of u → ⊥) → same_answer (judge o) (judge p) ≡ Different
+      go : (b : Bool) → same_meaning (meaning_of t) (meaning_of u) ≡ b → (meaning_of t ≡ meaning_of u → ⊥) → same_answer (judge o) (judge p) ≡ Ok false
       go true h d = absurd (d ((objects-exactly o p t u os ps x y).0 h))
       go false h d = told ∙ rw h
 

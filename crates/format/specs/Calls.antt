@@ -1,18 +1,12 @@
--- What each public call on objects and records answers, and what each lent list then holds (document 01, Records and meaning, Refusal numbers). On a refusal that is
+-- What each public call on objects and records answers, and what each lent list then holds (document 01, Ok and meaning, Refusal numbers). On a refusal that is
 -- what it held before; on success what is handed out is laid over it. The calls that compare are lent nothing: specs/Same has their answers.
-use Rattle.std.specs.Prelude.{◌≡◌, Bool, cond, ◌&&◌, List, [], ◌∷◌, ◌++◌, ℕ, suc, ◌+◌, min, leb, ltb, length, take, drop, get_or, set}
+use Rattle.std.specs.Prelude.{◌≡◌, Bool, cond, ◌&&◌, List, [], ◌∷◌, ◌++◌, ℕ, suc, ◌+◌, min, leb, ltb, length, take, drop, get_or, set, Result, Ok, Err}
 use Rattle.std.proofs.Math.Option.{Option, none, some}
-use Rattle.octets.specs.declared.counts.Octets.{Octets as OctetCount}
+use Rattle.octets.specs.declared.counts.Octets.{Octets as OctetCount, Octets}
 use Rattle.octets.specs.Counts.{as_octets, size_of, octets_within}
 use Rattle.format.specs.declared.Record.{Record}
-use Rattle.format.specs.declared.Span.{Span}
+use Rattle.octets.specs.declared.Span.{Span}
 use Rattle.format.specs.declared.Counts.{Counts}
-use Rattle.format.specs.declared.ReadAnswer.{ReadAnswer}
-use Rattle.format.specs.declared.ReadAnswer.TheVariants.{Records, NotRead}
-use Rattle.format.specs.declared.EditAnswer.{EditAnswer}
-use Rattle.format.specs.declared.EditAnswer.TheVariants.{HasRecords, NotChanged}
-use Rattle.format.specs.declared.WriteAnswer.{WriteAnswer}
-use Rattle.format.specs.declared.WriteAnswer.TheVariants.{Octets, NotWritten}
 use Rattle.format.specs.Answers.{refusal}
 use Rattle.format.specs.Tree.{Items, count, records_of}
 use Rattle.format.specs.Judge.{Judged, judge}
@@ -21,6 +15,7 @@ use Rattle.format.specs.Headers.{headers_of}
 use Rattle.format.specs.Meaning.{means, encode, normal_of}
 use Rattle.format.specs.Writer.{rebuilt}
 use Rattle.format.specs.Loaded.{store_of}
+use Rattle.format.specs.declared.Refusal.{Refusal}
 
 -- the record list as the core keeps it: a list of numbers for each field
 pub record Lists : Type 0 where
@@ -59,36 +54,36 @@ abbrev pub counts_of : (headers : ℕ) → Items → Counts
 counts_of h t = record { records = count t; items = h }
 
 -- judging alone, with no list lent, octets with so many headers: the refusal of the judgement, else what is counted
-unfoldable pub judge_answer : (headers : ℕ) → Judged → ReadAnswer
-judge_answer h (refused r) = NotRead r
-judge_answer h (accepted t) = Records (counts_of h t)
+unfoldable pub judge_answer : (headers : ℕ) → Judged → Result Counts Refusal
+judge_answer h (refused r) = Err r
+judge_answer h (accepted t) = Ok (counts_of h t)
 
 -- taking in and editing, by what they come to: the refusal, else how many records the tree has that memory then holds
-unfoldable pub edit_answer : Judged → EditAnswer
-edit_answer (refused r) = NotChanged r
-edit_answer (accepted t) = HasRecords (count t)
+unfoldable pub edit_answer : Judged → Result ℕ Refusal
+edit_answer (refused r) = Err r
+edit_answer (accepted t) = Ok (count t)
 
 -- read: the refusal of the judgement, else 14 where there are fewer places than records, else the records
-unfoldable pub read_answer : (places headers : ℕ) → Judged → ReadAnswer
-read_answer n h (refused r) = NotRead r
-read_answer n h (accepted t) = cond (leb (count t) n) (Records (counts_of h t)) (NotRead (refusal 14 0))
+unfoldable pub read_answer : (places headers : ℕ) → Judged → Result Counts Refusal
+read_answer n h (refused r) = Err r
+read_answer n h (accepted t) = cond (leb (count t) n) (Ok (counts_of h t)) (Err (refusal 14 0))
 
 -- the records that are handed out
 unfoldable pub read_records : ℕ → Judged → List Record
 read_records n (refused r) = []
 read_records n (accepted t) = cond (leb (count t) n) (records_of t) []
 
-pub record ReadClaim (object : List ℕ) (before after : Lists) (answer : ReadAnswer) : Type 0 where
+pub record ReadClaim (object : List ℕ) (before after : Lists) (answer : Result Counts Refusal) : Type 0 where
   pub answers : answer ≡ read_answer (places before) (headers_of object) (judge object)
   pub leaves : after ≡ lay 0 (read_records (places before) (judge object)) before
 
 -- read_at_most: the same with no more places than the caller says
-pub record ReadAtMostClaim (object : List ℕ) (most : ℕ) (before after : Lists) (answer : ReadAnswer) : Type 0 where
+pub record ReadAtMostClaim (object : List ℕ) (most : ℕ) (before after : Lists) (answer : Result Counts Refusal) : Type 0 where
   pub answers : answer ≡ read_answer (min most (places before)) (headers_of object) (judge object)
   pub leaves : after ≡ lay 0 (read_records (min most (places before)) (judge object)) before
 
 -- read_records: the same with a slice of records too, whose length counts among the places; the records stand in it before what lay behind them
-pub record ReadRecordsClaim (object : List ℕ) (before after : Lists) (slice slice' : List Record) (answer : ReadAnswer) : Type 0 where
+pub record ReadRecordsClaim (object : List ℕ) (before after : Lists) (slice slice' : List Record) (answer : Result Counts Refusal) : Type 0 where
   pub answers : answer ≡ read_answer (min (length slice) (places before)) (headers_of object) (judge object)
   pub leaves : after ≡ lay 0 (read_records (min (length slice) (places before)) (judge object)) before
   pub fills : slice' ≡ read_records (min (length slice) (places before)) (judge object) ++ drop (length (read_records (min (length slice) (places before)) (judge object))) slice
@@ -111,9 +106,9 @@ roomy room o = octets_within (size_of o) (as_octets (min room.0 32_768))
 unfoldable pub tree_given : ℕ → Lists → List ℕ → Option Items
 tree_given n l lent = cond (leb n (places l)) (rebuilt (row l) n lent) none
 
-unfoldable pub write_answer : OctetCount → Option Items → WriteAnswer
-write_answer room none = NotWritten (refusal 16 0)
-write_answer room (some t) = cond (roomy room (encode (means [] t))) (Octets (size_of (encode (means [] t)))) (NotWritten (refusal 15 0))
+unfoldable pub write_answer : OctetCount → Option Items → Result Octets Refusal
+write_answer room none = Err (refusal 16 0)
+write_answer room (some t) = cond (roomy room (encode (means [] t))) (Ok (size_of (encode (means [] t)))) (Err (refusal 15 0))
 
 unfoldable pub write_octets : OctetCount → Option Items → List ℕ
 write_octets room none = []
@@ -133,13 +128,13 @@ unfoldable pub fits_lent : Lent → Items → Bool
 fits_lent lent t = leb (count t) lent.records && stored_within lent t
 
 -- 14 where the places don't suffice, 15 where the store or the room doesn't
-unfoldable pub misfit : Lent → Items → WriteAnswer
-misfit lent t = cond (leb (count t) lent.records) (NotWritten (refusal 15 0)) (NotWritten (refusal 14 0))
+unfoldable pub misfit : Lent → Items → Result Octets Refusal
+misfit lent t = cond (leb (count t) lent.records) (Err (refusal 15 0)) (Err (refusal 14 0))
 
 -- normalise: the refusal of the judgement, else 14, else 15, else the octets of the normal form
-unfoldable pub normal_answer : Lent → Judged → WriteAnswer
-normal_answer lent (refused r) = NotWritten r
-normal_answer lent (accepted t) = cond (fits_lent lent t) (Octets (size_of (normal_of t))) (misfit lent t)
+unfoldable pub normal_answer : Lent → Judged → Result Octets Refusal
+normal_answer lent (refused r) = Err r
+normal_answer lent (accepted t) = cond (fits_lent lent t) (Ok (size_of (normal_of t))) (misfit lent t)
 
 -- what a judgement hands out where it accepts an object that fits, and nothing otherwise
 unfoldable pub handed : {A : Type 0} → Lent → (Items → List A) → Judged → List A

@@ -1,9 +1,18 @@
 -- Six lent slices of numbers as the one record of lists that the claims speak of.
 use Rattle.std.specs.Prelude.{List, ℕ, ◌<◌, length}
+use Rattle.format.specs.declared.lent.Records.{Records}
+use Rattle.format.specs.declared.lent.RecordsMut.{RecordsMut}
 use Rattle.format.specs.Calls.{Lists}
 
 abbrev pub six : (tags kinds depths parents starts sizes : List ℕ) → Lists
 six tags kinds depths parents starts sizes = record { tags = tags; kinds = kinds; depths = depths; parents = parents; starts = starts; sizes = sizes }
+
+-- those of a struct of references to them: to read in, and to write in
+abbrev pub shared_lists : Records → Lists
+shared_lists r = six r.tags.now r.kinds.now r.depths.now r.parents.now r.starts.now r.sizes.now
+
+abbrev pub lent_lists : RecordsMut → Lists
+lent_lists r = six r.tags.now r.kinds.now r.depths.now r.parents.now r.starts.now r.sizes.now
 
 -- a number that each list has a place for
 pub record Within (i : ℕ) (l : Lists) : Type 0 where

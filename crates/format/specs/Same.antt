@@ -1,15 +1,15 @@
 -- Whether two objects mean the same, and whether an object is its own normal form (document 01, Records and meaning). A meaning has its attributes as a function,
 -- so that two of them are equal is no test by itself: the test goes by their structure. It says equality of every two meanings that objects have, however long
--- their normal forms are (proofs/Same), so no accepted object is refused here.
-use Rattle.std.specs.Prelude.{Bool, true, false, cond, ◌&&◌, List, [], ◌∷◌, ℕ, zero, suc, eqb}
+-- their normal forms are (proofs/(Ok true)), so no accepted object is refused here.
+use Rattle.std.specs.Prelude.{Bool, true, false, cond, ◌&&◌, List, [], ◌∷◌, ℕ, zero, suc, eqb, Result, Ok, Err}
 use Rattle.std.proofs.Math.Option.{Option, none, some}
 use Rattle.values.specs.Values.{Value, octets_of}
-use Rattle.format.specs.declared.SameAnswer.{SameAnswer}
-use Rattle.format.specs.declared.SameAnswer.TheVariants.{Same, Different, FirstRefused, SecondRefused}
 use Rattle.format.specs.Judge.{Judged, judge}
 use Rattle.format.specs.Judge.Judged.{refused, accepted}
 use Rattle.format.specs.Meaning.{Meaning, meaning_of, normal_of}
 use Rattle.format.specs.Meaning.Meaning.{nothing, element, leaf}
+use Rattle.format.specs.declared.SameRefusal.{SameRefusal}
+use Rattle.format.specs.declared.SameRefusal.TheVariants.{First, Second}
 
 -- as many octets, each the same
 unfoldable pub same_octets : List ℕ → List ℕ → Bool
@@ -18,7 +18,7 @@ same_octets [] (b ∷ bs) = false
 same_octets (a ∷ more) [] = false
 same_octets (a ∷ more) (b ∷ bs) = eqb a b && same_octets more bs
 
--- two values of one kind, by their normal octets: a value has one normal form, so this is equality (proofs/Same, value-exactly)
+-- two values of one kind, by their normal octets: a value has one normal form, so this is equality (proofs/(Ok true), value-exactly)
 unfoldable pub same_value : Value → Value → Bool
 same_value v w = same_octets (octets_of v) (octets_of w)
 
@@ -48,10 +48,10 @@ same_meaning (leaf tag o after) (element tag' f children cdata after') = false
 same_meaning (leaf tag o after) (leaf tag' o' after') = eqb tag tag' && same_octets o o' && same_meaning after after'
 
 -- same: 1 to 13 of the first object, then of the second, then whether they mean the same. Nothing is lent, so there is no 14 and no 15
-unfoldable pub same_answer : (first second : Judged) → SameAnswer
-same_answer (refused r) second = FirstRefused r
-same_answer (accepted t) (refused r) = SecondRefused r
-same_answer (accepted t) (accepted u) = cond (same_meaning (meaning_of t) (meaning_of u)) Same Different
+unfoldable pub same_answer : (first second : Judged) → Result Bool SameRefusal
+same_answer (refused r) second = Err (First r)
+same_answer (accepted t) (refused r) = Err (Second r)
+same_answer (accepted t) (accepted u) = cond (same_meaning (meaning_of t) (meaning_of u)) (Ok true) (Ok false)
 
 -- a judged object is accepted, and its normal form is these octets
 unfoldable pub has_normal : List ℕ → Judged → Bool

@@ -1,13 +1,15 @@
 // What the calls of the library share: records, refusals, counts, and the answers as enums. The rules are in specs/, the theorems in proofs/.
 #![tactic(auto)]
 
-ghost use Rattle.std.specs.Prelude.{◌≡◌, min, get_or};
+ghost use Rattle.std.specs.Prelude.{◌≡◌};
 ghost use Rattle.format.specs.Tree.{kind_of};
-ghost use Rattle.format.specs.Answers.{refusal, read_outcome, edit_outcome, write_outcome, same_outcome};
-ghost use Rattle.format.specs.Calls.{places, row, put_whole};
-ghost use Rattle.format.specs.Lent.{six};
+ghost use Rattle.format.specs.Answers.{refusal, read_outcome, edit_outcome, write_outcome, of_refused, same_outcome};
 
+mod lent;
+
+pub use lent::{Records, RecordsMut, at_or};
 use octets::Octets;
+pub use octets::Span;
 use values::is_attribute;
 
 // One known item: its tag, its kind (0 an element, 1 an attribute, 2 CDATA), its depth, the number of its parent's record, and where its body
@@ -20,99 +22,6 @@ pub struct Record {
     pub parent: u16,
     pub start: u16,
     pub size: u16,
-}
-
-// What a list has at a place, 0 where it has no such place.
-pub fn octet_at(list: &[u8], i: usize) -> u8
-    ensures { result ≡ get_or list.now i 0 }
-{
-    if i < list.len() {
-        return list[i];
-    }
-    0
-}
-
-fn number_at(list: &[u16], i: usize) -> u16
-    ensures { result ≡ get_or list.now i 0 }
-{
-    if i < list.len() {
-        return list[i];
-    }
-    0
-}
-
-pub fn least(a: usize, b: usize) -> usize
-    ensures { result ≡ min a b }
-{
-    if a < b { a } else { b }
-}
-
-// How many records the lists have places for.
-pub fn places(
-    tags: &[u8],
-    kinds: &[u8],
-    depths: &[u8],
-    parents: &[u16],
-    starts: &[u16],
-    sizes: &[u16],
-) -> usize
-    ensures { result ≡ places (six tags.now kinds.now depths.now parents.now starts.now sizes.now) }
-{
-    least(
-        tags.len(),
-        least(
-            kinds.len(),
-            least(
-                depths.len(),
-                least(parents.len(), least(starts.len(), sizes.len())),
-            ),
-        ),
-    )
-}
-
-// A record into the lists, at its number, whole or not at all: where one of them has no such place, none is stored to.
-pub fn put_record(
-    tags: &mut [u8],
-    kinds: &mut [u8],
-    depths: &mut [u8],
-    parents: &mut [u16],
-    starts: &mut [u16],
-    sizes: &mut [u16],
-    i: usize,
-    r: Record,
-)
-    ensures { six tags.new kinds.new depths.new parents.new starts.new sizes.new ≡ put_whole i r (six tags.old kinds.old depths.old parents.old starts.old sizes.old) }
-{
-    if i < places(tags, kinds, depths, parents, starts, sizes) {
-        tags[i] = r.tag;
-        kinds[i] = r.kind;
-        depths[i] = r.depth;
-        parents[i] = r.parent;
-        starts[i] = r.start;
-        sizes[i] = r.size;
-    }
-}
-
-// The record of a number, from the lists.
-pub fn record_at(
-    tags: &[u8],
-    kinds: &[u8],
-    depths: &[u8],
-    parents: &[u16],
-    starts: &[u16],
-    sizes: &[u16],
-    i: usize,
-) -> Record
-    ensures { result ≡ row (six tags.now kinds.now depths.now parents.now starts.now sizes.now) i }
-{
-    Record {
-        tag: octet_at(tags, i),
-        kind: octet_at(kinds, i),
-        depth: octet_at(depths, i),
-        parent: number_at(parents, i),
-        start: number_at(starts, i),
-        size: number_at(sizes, i),
-    }
 }
 
 // The kind that the record of a tag shows.
@@ -152,42 +61,11 @@ pub struct Counts {
     pub items: usize,
 }
 
-// The answer of reading: what was handed out, or why nothing was.
+// Which of two objects that were to be compared is refused, the first before the second, and why.
 #[derive(Clone, Copy)]
-pub enum ReadAnswer {
-    Records(Counts),
-    NotRead(Refusal),
-}
-
-// The answer of taking in and of editing: how many records memory has then, or why nothing was changed. In memory every item has a record, so that items are no
-// count of their own (docs/DECISIONS.md).
-#[derive(Clone, Copy)]
-pub enum EditAnswer {
-    HasRecords(usize),
-    NotChanged(Refusal),
-}
-
-// The answer of writing and of normalising: how many octets were handed out, or why none were.
-#[derive(Clone, Copy)]
-pub enum WriteAnswer {
-    Octets(Octets),
-    NotWritten(Refusal),
-}
-
-// The answer of comparing two objects.
-#[derive(Clone, Copy)]
-pub enum SameAnswer {
-    Same,
-    Different,
-    FirstRefused(Refusal),
-    SecondRefused(Refusal),
-}
-
-// A part of an object: where it begins and how many octets it has.
-#[derive(Clone, Copy)]
-pub struct Span {
-    pub start: usize,
-    pub size: usize,
+pub enum SameRefusal {
+    First(Refusal),
+    Second(Refusal),
 }
 
 // Document 01's numbers for an answer: the refusal's number, 0 where there is none, its place and field, the count, of records or of octets, and
@@ -211,108 +89,97 @@ pub struct SameOutcome {
     pub field: u8,
 }
 
-impl ReadAnswer {
-    pub fn outcome(self) -> Outcome
-        ensures { result ≡ read_outcome self }
-    {
-        match self {
-            ReadAnswer::Records(counts) => Outcome {
+// An answer in these numbers: of reading, what was handed out; of taking in and of editing, how many records memory has then (every item has one there, so that
+// items are no count of their own: docs/DECISIONS.md); of writing and of normalising, how many octets were handed out. Or else why nothing was.
+impl From<Result<Counts, Refusal>> for Outcome {
+    ghost from_gives = { λ answer outcome. outcome ≡ read_outcome answer };
+
+    fn from(answer: Result<Counts, Refusal>) -> Outcome {
+        match answer {
+            Ok(counts) => Outcome {
                 number: 0,
                 place: 0,
                 field: 0,
                 count: counts.records,
                 items: counts.items,
             },
-            ReadAnswer::NotRead(refusal) => Outcome {
-                number: refusal.number,
-                place: refusal.place,
-                field: refusal.field,
-                count: 0,
-                items: 0,
-            },
+            Err(refusal) => refused(refusal),
         }
     }
 }
 
-impl EditAnswer {
-    pub fn outcome(self) -> Outcome
-        ensures { result ≡ edit_outcome self }
-    {
-        match self {
-            EditAnswer::HasRecords(count) => Outcome {
-                number: 0,
-                place: 0,
-                field: 0,
-                count,
-                items: 0,
-            },
-            EditAnswer::NotChanged(refusal) => Outcome {
-                number: refusal.number,
-                place: refusal.place,
-                field: refusal.field,
-                count: 0,
-                items: 0,
-            },
+impl From<Result<usize, Refusal>> for Outcome {
+    ghost from_gives = { λ answer outcome. outcome ≡ edit_outcome answer };
+
+    fn from(answer: Result<usize, Refusal>) -> Outcome {
+        match answer {
+            Ok(count) => counted(count),
+            Err(refusal) => refused(refusal),
         }
     }
 }
 
-impl WriteAnswer {
-    pub fn outcome(self) -> Outcome
-        ensures { result ≡ write_outcome self }
-    {
-        match self {
-            WriteAnswer::Octets(size) => Outcome {
-                number: 0,
-                place: 0,
-                field: 0,
-                count: size.0,
-                items: 0,
-            },
-            WriteAnswer::NotWritten(refusal) => Outcome {
-                number: refusal.number,
-                place: refusal.place,
-                field: refusal.field,
-                count: 0,
-                items: 0,
-            },
+impl From<Result<Octets, Refusal>> for Outcome {
+    ghost from_gives = { λ answer outcome. outcome ≡ write_outcome answer };
+
+    fn from(answer: Result<Octets, Refusal>) -> Outcome {
+        match answer {
+            Ok(size) => counted(size.0),
+            Err(refusal) => refused(refusal),
         }
     }
 }
 
-impl SameAnswer {
-    pub fn outcome(self) -> SameOutcome
-        ensures { result ≡ same_outcome self }
-    {
-        match self {
-            SameAnswer::Same => SameOutcome {
-                same: true,
+fn counted(count: usize) -> Outcome
+    ensures { result ≡ edit_outcome (Ok count) }
+{
+    Outcome {
+        number: 0,
+        place: 0,
+        field: 0,
+        count,
+        items: 0,
+    }
+}
+
+fn refused(refusal: Refusal) -> Outcome
+    ensures { result ≡ edit_outcome (Err refusal) }
+{
+    Outcome {
+        number: refusal.number,
+        place: refusal.place,
+        field: refusal.field,
+        count: 0,
+        items: 0,
+    }
+}
+
+impl From<Result<bool, SameRefusal>> for SameOutcome {
+    ghost from_gives = { λ answer outcome. outcome ≡ same_outcome answer };
+
+    fn from(answer: Result<bool, SameRefusal>) -> SameOutcome {
+        match answer {
+            Ok(same) => SameOutcome {
+                same,
                 which: 0,
                 number: 0,
                 place: 0,
                 field: 0,
             },
-            SameAnswer::Different => SameOutcome {
-                same: false,
-                which: 0,
-                number: 0,
-                place: 0,
-                field: 0,
-            },
-            SameAnswer::FirstRefused(refusal) => SameOutcome {
-                same: false,
-                which: 1,
-                number: refusal.number,
-                place: refusal.place,
-                field: refusal.field,
-            },
-            SameAnswer::SecondRefused(refusal) => SameOutcome {
-                same: false,
-                which: 2,
-                number: refusal.number,
-                place: refusal.place,
-                field: refusal.field,
-            },
+            Err(SameRefusal::First(refusal)) => of_refused(1, refusal),
+            Err(SameRefusal::Second(refusal)) => of_refused(2, refusal),
         }
+    }
+}
+
+fn of_refused(which: u8, refusal: Refusal) -> SameOutcome
+    ensures { result ≡ of_refused which refusal }
+{
+    SameOutcome {
+        same: false,
+        which,
+        number: refusal.number,
+        place: refusal.place,
+        field: refusal.field,
     }
 }

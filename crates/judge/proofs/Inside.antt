@@ -1,4 +1,5 @@
 -- The ways through `judge_inside` and `judge`. The code counts levels down and has none left below depth 16, where rule 7 refuses an element however deep it is.
+use Rattle.std.specs.Prelude.{Result, Ok, Err}
 use mathlib.Core.Path.{◌≡◌, refl, sym, ap₂, ◌∙◌}
 use mathlib.Core.Bool.{Bool, true, false}
 use mathlib.Core.Option.{Option}
@@ -13,8 +14,6 @@ use Rattle.text.specs.Tokens.{Entries, entries}
 use Rattle.values.specs.declared.Kind.{Kind}
 use Rattle.values.specs.Table.{known}
 use Rattle.format.specs.declared.Refusal.{Refusal}
-use Rattle.format.specs.declared.ReadAnswer.{ReadAnswer}
-use Rattle.format.specs.declared.ReadAnswer.TheVariants.{Records, NotRead}
 use Rattle.format.specs.Answers.{refusal}
 use Rattle.format.specs.Tree.{Items}
 use Rattle.format.specs.Tree.Items.{item}
@@ -23,6 +22,7 @@ use Rattle.format.specs.Judge.Judged.{refused, accepted}
 use Rattle.format.specs.Headers.{headers, headers_of}
 use Rattle.format.specs.Calls.{judge_answer}
 use Rattle.format.proofs.Rules.{unless-accepted}
+use Rattle.format.specs.declared.Counts.{Counts}
 use Rattle.judge.specs.Says.{ctx, depth_of, counted}
 use Rattle.judge.specs.Inside.{beginning, judge_inside}
 use Rattle.judge.proofs.AllWays.{no-entries}
@@ -77,13 +77,13 @@ inside-read element depth o t h = unless-accepted (rule 1 0 (leb (length o) 32_7
 from_nothing : (h : ℕ) (a : Judged) → counted (record { records = 0; items = 0 }) h a ≡ judge_answer h a
 unfolding counted judge_answer
 from_nothing h (refused r) = refl
-from_nothing h (accepted t) = ap₂ (λ (x y : ℕ). Records (record { records = x; items = y })) (omega arith) (omega arith)
+from_nothing h (accepted t) = ap₂ (λ (x y : ℕ). Ok (record { records = x; items = y })) (omega arith) (omega arith)
 
-pub inside-large : (element depth : ℕ) (o : List ℕ) → 32_768 < length o → (x : Refusal) → x ≡ refusal 1 0 → NotRead x ≡ judge_answer (headers element o) (judge_inside element depth o)
+pub inside-large : (element depth : ℕ) (o : List ℕ) → 32_768 < length o → (x : Refusal) → x ≡ refusal 1 0 → Err x ≡ judge_answer (headers element o) (judge_inside element depth o)
 unfolding judge_inside unless rule judge_answer
 inside-large element depth o h x m = rw (m, lt-leb (length o) 32_768 h)
 
-pub inside-items : (element depth : ℕ) (o : List ℕ) (left : ℕ) (v : ReadAnswer) → length o ≤ 32_768 → left ≡ 16 - depth
+pub inside-items : (element depth : ℕ) (o : List ℕ) (left : ℕ) (v : Result Counts Refusal) → length o ≤ 32_768 → left ≡ 16 - depth
     → v ≡ counted (record { records = 0; items = 0 }) (headers element o) (read (ctx element (depth_of left) 0 [] (entries (take (0 - 0) (drop 0 o))) []) 0 o) → v ≡ judge_answer (headers element o) (judge_inside element depth o)
 unfolding judge_inside unless rule
 inside-items element depth o left v h l e =
@@ -93,11 +93,11 @@ pub ruleset inside-ways = (inside-large, inside-items)
 
 -- ---- the object
 
-pub judge-empty : (o : List ℕ) → length o ≡ 0 → (x : Refusal) → x ≡ refusal 1 0 → NotRead x ≡ judge_answer (headers_of o) (judge o)
+pub judge-empty : (o : List ℕ) → length o ≡ 0 → (x : Refusal) → x ≡ refusal 1 0 → Err x ≡ judge_answer (headers_of o) (judge o)
 unfolding judge unless rule judge_answer
 judge-empty o h x m = rw (m, h)
 
-pub judge-whole : (o : List ℕ) (v : ReadAnswer) → (length o ≡ 0 → ⊥) → v ≡ judge_answer (headers_of o) (judge_inside 0 0 o) → v ≡ judge_answer (headers_of o) (judge o)
+pub judge-whole : (o : List ℕ) (v : Result Counts Refusal) → (length o ≡ 0 → ⊥) → v ≡ judge_answer (headers_of o) (judge_inside 0 0 o) → v ≡ judge_answer (headers_of o) (judge o)
 unfolding judge_inside beginning judge outermost
 judge-whole o v z e = e ∙ sym (rw (le-leb 1 (length o) (omega arith)) refl)
 

@@ -32,11 +32,9 @@ use Rattle.tags.specs.Rules.{within_depth, has_bit, Seen}
 use Rattle.tags.proofs.Arms.{never}
 use Rattle.tags.proofs.Masks.{twice-is}
 use Rattle.tags.proofs.TagTests.{capped-shown}
-use Rattle.judge.specs.Says.{ctx, bare, InForce, depth_of, as_kind, checked, sorted, ItemSays}
-use Rattle.judge.specs.declared.Check.{Check}
-use Rattle.judge.specs.declared.Check.TheVariants.{Kept, Broken}
+use Rattle.judge.specs.Says.{ctx, bare, InForce, depth_of, as_kind, checked, ItemSays}
+use Rattle.std.specs.Prelude.{Result, Ok, Err, ⊤}
 use Rattle.judge.specs.declared.Progress.{Progress}
-use Rattle.judge.specs.declared.Sort.TheVariants.{Skip, Leaf, Table, Element}
 
 -- what the lookup answers, in the definition's words
 pub kind-known : (k : KnownKind) (parent tag : ℕ) → k ≡ known_kind parent tag → as_kind k ≡ known parent tag
@@ -47,23 +45,13 @@ kind-known k parent tag e = ap as_kind e ∙ same (known parent tag)
     same none = refl
     same (some k) = refl
 
--- rule 12
-module _ (parent tag : ℕ) (holds t : Bool) (e : t ≡ (attribute tag && is_top parent)) where
-  pub held-later : t ≡ true → true ≡ ((attribute tag && is_top parent) || holds)
-  held-later f = rw (sym e ∙ f)
-
-  pub held-now : t ≡ false → holds ≡ ((attribute tag && is_top parent) || holds)
-  held-now f = rw (sym e ∙ f)
-
-pub ruleset held-ways = (held-later, held-now)
-
 -- rules 10, 12 and 13
 module _ (parent tag place : ℕ) (table body : List ℕ) (marks : ℕ) (shows : List ℕ) (told : InForce table marks shows)
     (r : Weighed) (e : r ≡ weighed_by marks shows body (as_characters 32_769)) where
   abbrev Ruled : Option Refusal
   Ruled = kind_rules (bare parent (entries table)) place tag body (some HoldsText)
 
-  pub text-bad : r ≡ NoText → (x : Refusal) → x ≡ refusal 10 place → checked (Broken x) ≡ Ruled
+  pub text-bad : r ≡ NoText → (x : Refusal) → x ≡ refusal 10 place → checked (Err x) ≡ Ruled
   unfolding kind_rules first rule value_rule checked is_value is_text is_tokens fits
   text-bad f x m = rw (m, weighed-none (entries table) marks shows told.marking told.showing body (as_characters 32_769) r e f)
 
@@ -75,7 +63,7 @@ module _ (parent tag place : ℕ) (table body : List ℕ) (marks : ℕ) (shows :
     is_held =
         ap (λ b. (attribute tag && is_top parent) || b) (sym (weighed-covered (entries table) marks shows told.marking told.showing body (as_characters 32_769) r e holds count f)) ∙ sym g
 
-    pub text-uncovered : t ≡ false → (x : Refusal) → x ≡ refusal 12 place → checked (Broken x) ≡ Ruled
+    pub text-uncovered : t ≡ false → (x : Refusal) → x ≡ refusal 12 place → checked (Err x) ≡ Ruled
     unfolding kind_rules first rule value_rule checked is_value is_text is_tokens fits of_top
     text-uncovered h x m = rw (m, is-text, is_held ∙ h)
 
@@ -85,11 +73,11 @@ module _ (parent tag place : ℕ) (table body : List ℕ) (marks : ℕ) (shows :
           sym (capped-shown parent tag (shown_length (entries table) body))
           ∙ ap (shown parent tag) (sym (weighed-shown (entries table) marks shows told.marking told.showing body (as_characters 32_769) r e holds count f)) ∙ sym i
 
-      pub text-long : u ≡ false → (x : Refusal) → x ≡ refusal 13 place → checked (Broken x) ≡ Ruled
+      pub text-long : u ≡ false → (x : Refusal) → x ≡ refusal 13 place → checked (Err x) ≡ Ruled
       unfolding kind_rules first rule value_rule checked is_value is_text is_tokens fits of_top
       text-long j x m = rw (m, is-text, is_held ∙ h, is-shown ∙ j)
 
-      pub text-good : u ≡ true → checked Kept ≡ Ruled
+      pub text-good : u ≡ true → checked (Ok tt) ≡ Ruled
       unfolding kind_rules first rule value_rule checked is_value is_text is_tokens fits of_top
       text-good j = rw (is-text, is_held ∙ h, is-shown ∙ j)
 
@@ -100,31 +88,31 @@ module _ (parent tag place : ℕ) (table body : List ℕ) (k : Kind) where
   abbrev Kinds : Option Kind → Option Refusal
   Kinds = kind_rules (bare parent (entries table)) place tag body
 
-  pub kind-items : k ≡ HoldsItems → checked Kept ≡ Kinds (some k)
+  pub kind-items : k ≡ HoldsItems → checked (Ok tt) ≡ Kinds (some k)
   unfolding kind_rules first rule value_rule checked is_value is_text is_tokens fits
   kind-items q = rw q
 
-  pub kind-plain : k ≡ HoldsPlain → checked Kept ≡ Kinds (some k)
+  pub kind-plain : k ≡ HoldsPlain → checked (Ok tt) ≡ Kinds (some k)
   unfolding kind_rules first rule value_rule checked is_value is_text is_tokens fits
   kind-plain q = rw q
 
-  pub kind-text : k ≡ HoldsText → (r : Check) → checked r ≡ Kinds (some HoldsText) → checked r ≡ Kinds (some k)
+  pub kind-text : k ≡ HoldsText → (r : Result ⊤ Refusal) → checked r ≡ Kinds (some HoldsText) → checked r ≡ Kinds (some k)
   kind-text q r h = rw q h
 
-  pub kind-table : k ≡ HoldsTokens → (t : Bool) → t ≡ is_table body → t ≡ true → checked Kept ≡ Kinds (some k)
+  pub kind-table : k ≡ HoldsTokens → (t : Bool) → t ≡ is_table body → t ≡ true → checked (Ok tt) ≡ Kinds (some k)
   unfolding kind_rules first rule value_rule checked is_value is_text is_tokens fits
   kind-table q t g h = rw (q, sym g ∙ h)
 
-  pub kind-no-table : k ≡ HoldsTokens → (t : Bool) → t ≡ is_table body → t ≡ false → (x : Refusal) → x ≡ refusal 11 place → checked (Broken x) ≡ Kinds (some k)
+  pub kind-no-table : k ≡ HoldsTokens → (t : Bool) → t ≡ is_table body → t ≡ false → (x : Refusal) → x ≡ refusal 11 place → checked (Err x) ≡ Kinds (some k)
   unfolding kind_rules first rule value_rule checked is_value is_text is_tokens fits
   kind-no-table q t g h x m = rw (m, q, sym g ∙ h)
 
   module _ (b : Bool) (e : b ≡ fits k body) where
-    pub kind-misfit : b ≡ false → (n : ℕ) → n ≡ wrong_field k body → checked (Broken (wrong_value place n)) ≡ Kinds (some k)
+    pub kind-misfit : b ≡ false → (n : ℕ) → n ≡ wrong_field k body → checked (Err (wrong_value place n)) ≡ Kinds (some k)
     unfolding kind_rules first value_rule checked is_value wrong_in
     kind-misfit f n q = rw (sym e ∙ f, q)
 
-    value-kind : b ≡ true → is_text (some k) ≡ false → is_tokens (some k) ≡ false → checked Kept ≡ Kinds (some k)
+    value-kind : b ≡ true → is_text (some k) ≡ false → is_tokens (some k) ≡ false → checked (Ok tt) ≡ Kinds (some k)
     unfolding kind_rules first rule value_rule checked is_value
     value-kind f x y = rw (sym e ∙ f, x, y)
 
@@ -142,76 +130,34 @@ no_words HoldsTime h = (refl, refl)
 no_words HoldsBearer h = (refl, refl)
 no_words (HoldsNumber n) h = (refl, refl)
 
-abbrev Leaves : List ℕ
-Leaves = 2 ∷ 3 ∷ 4 ∷ 5 ∷ 6 ∷ []
-
-leaf-sort : (k : Kind) → OneOf Leaves (tag_of the_type k) → Leaf ≡ sorted (some k)
-unfolding sorted among
-leaf-sort HoldsItems h = never Leaves 0 refl h
-leaf-sort HoldsTokens h = never Leaves 1 refl h
-leaf-sort HoldsText h = refl
-leaf-sort HoldsPlain h = refl
-leaf-sort HoldsTime h = refl
-leaf-sort HoldsBearer h = refl
-leaf-sort (HoldsNumber n) h = refl
-
 pub kind-formed : (parent tag place : ℕ) (table body : List ℕ) (k : Kind) (b : Bool) → b ≡ fits k body → b ≡ true → OneOf Formed (tag_of the_type k)
-    → checked Kept ≡ kind_rules (bare parent (entries table)) place tag body (some k)
+    → checked (Ok tt) ≡ kind_rules (bare parent (entries table)) place tag body (some k)
 kind-formed parent tag place table body k b e f h = value-kind parent tag place table body k b e f (no_words k h).0 (no_words k h).1
 
 pub ruleset kind-ways = (kind-items, kind-plain, kind-text, kind-table, kind-no-table, kind-misfit, kind-formed)
 
+-- rules 9 to 13, for what the lookup answers
 module _ (known : KnownKind) where
-  pub sort-unknown : known ≡ Unknown → Skip ≡ sorted (as_kind known)
-  unfolding sorted as_kind
-  sort-unknown e = rw e
-
-  module _ (k : Kind) (e : known ≡ Known k) where
-    pub sort-items : k ≡ HoldsItems → Element ≡ sorted (as_kind known)
-    unfolding sorted as_kind
-    sort-items f = rw (e, f)
-
-    pub sort-table : k ≡ HoldsTokens → Table ≡ sorted (as_kind known)
-    unfolding sorted as_kind
-    sort-table f = rw (e, f)
-
-    pub sort-leaf : OneOf Leaves (tag_of the_type k) → Leaf ≡ sorted (as_kind known)
-    unfolding as_kind
-    sort-leaf h = rw e (leaf-sort k h)
-
-pub ruleset sort-ways = (sort-unknown, sort-items, sort-table, sort-leaf)
-
--- rules 9 to 13, and rule 8, for what the lookup answers
-module _ (known : KnownKind) where
-  pub body-unknown : (parent tag place : ℕ) (table body : List ℕ) → known ≡ Unknown → checked Kept ≡ kind_rules (bare parent (entries table)) place tag body (as_kind known)
+  pub body-unknown : (parent tag place : ℕ) (table body : List ℕ) → known ≡ Unknown
+      → checked (Ok tt) ≡ kind_rules (bare parent (entries table)) place tag body (as_kind known)
   unfolding kind_rules first rule value_rule checked is_value is_text is_tokens as_kind
   body-unknown parent tag place table body e = rw e
 
-  pub body-known : (parent tag place : ℕ) (table body : List ℕ) (k : Kind) → known ≡ Known k → (r : Check)
+  pub body-known : (parent tag place : ℕ) (table body : List ℕ) (k : Kind) → known ≡ Known k → (r : Result ⊤ Refusal)
       → checked r ≡ kind_rules (bare parent (entries table)) place tag body (some k) → checked r ≡ kind_rules (bare parent (entries table)) place tag body (as_kind known)
   unfolding as_kind
   body-known parent tag place table body k e r h = rw e h
 
-  pub twice-unknown : (mask tag : ℕ) → known ≡ Unknown → false ≡ (is_known (as_kind known) && has_bit mask tag)
-  unfolding is_known as_kind
-  twice-unknown mask tag e = rw e
-
-  pub twice-known : (mask tag : ℕ) (k : Kind) → known ≡ Known k → (b : Bool) → b ≡ has_bit mask tag → b ≡ (is_known (as_kind known) && has_bit mask tag)
-  unfolding is_known as_kind
-  twice-known mask tag k e b h = rw e h
-
 pub ruleset body-ways = (body-unknown, body-known)
-
-pub ruleset twice-ways = (twice-unknown, twice-known)
 
 -- rules 6 to 13
 module _ (parent tag left : ℕ) (progress : Progress) (place : ℕ) (table body : List ℕ) (l : ℕ) (e : l ≡ latest tag) where
-  pub item-late : l < progress.stage → (x : Refusal) → x ≡ refusal 6 place → ItemSays parent tag left progress place table body (Broken x)
+  pub item-late : l < progress.stage → (x : Refusal) → x ≡ refusal 6 place → ItemSays parent tag left progress place table body (Err x)
   unfolding ItemSays item_rules first rule checked
   item-late h x m seen waiting s = rw (m, lt-leb progress.stage (latest tag) (rw e at h))
 
   module _ (h : progress.stage ≤ l) (d : Bool) (f : d ≡ within_depth tag (depth_of left)) where
-    pub item-deep : d ≡ false → (x : Refusal) → x ≡ refusal 7 place → ItemSays parent tag left progress place table body (Broken x)
+    pub item-deep : d ≡ false → (x : Refusal) → x ≡ refusal 7 place → ItemSays parent tag left progress place table body (Err x)
     unfolding ItemSays item_rules first rule checked
     item-deep g x m seen waiting s = rw (m, le-leb progress.stage (latest tag) (rw e at h), sym f ∙ g)
 
@@ -219,11 +165,12 @@ module _ (parent tag left : ℕ) (progress : Progress) (place : ℕ) (table body
       twice : (seen : List ℕ) → Seen parent progress.mask seen → (attribute tag && is_known (known parent tag) && among tag seen) ≡ t
       twice seen s = twice-is parent progress.mask tag seen s ∙ ap (λ (o : Option Kind). is_known o && has_bit progress.mask tag) (sym (kind-known k parent tag ke)) ∙ sym i
 
-      pub item-twice : t ≡ true → (x : Refusal) → x ≡ refusal 8 place → ItemSays parent tag left progress place table body (Broken x)
+      pub item-twice : t ≡ true → (x : Refusal) → x ≡ refusal 8 place → ItemSays parent tag left progress place table body (Err x)
       unfolding ItemSays item_rules first rule checked
       item-twice j x m seen waiting s = rw (m, le-leb progress.stage (latest tag) (rw e at h), sym f ∙ g, twice seen s ∙ j)
 
-      pub item-kind : t ≡ false → (r : Check) → checked r ≡ kind_rules (bare parent (entries table)) place tag body (as_kind k) → ItemSays parent tag left progress place table body r
+      pub item-kind : t ≡ false → (r : Result ⊤ Refusal) → checked r ≡ kind_rules (bare parent (entries table)) place tag body (as_kind k)
+          → ItemSays parent tag left progress place table body r
       unfolding ItemSays item_rules first rule kind_rules of_top
       item-kind j r q seen waiting s =
           rw (le-leb progress.stage (latest tag) (rw e at h), sym f ∙ g, twice seen s ∙ j)

@@ -21,24 +21,12 @@ use Rattle.format.specs.declared.Refusal.{Refusal}
 use Rattle.format.specs.Answers.{refusal}
 use Rattle.format.specs.Judge.{is_text, rule, first, late, waits}
 use Rattle.format.proofs.Rules.{first_one}
-use Rattle.octets.specs.Calls.{header_of}
-use Rattle.octets.specs.declared.Header.{Header}
-use Rattle.octets.specs.declared.Header.TheVariants.{Past, Found}
+use Rattle.octets.specs.Calls.{header_of, span}
+use Rattle.octets.specs.declared.Span.{Span}
 use Rattle.judge.specs.Says.{checked, Framed, Waits, WaitsWhen, LateSays}
 use Rattle.judge.specs.Says.Waits.{done, more}
-use Rattle.judge.specs.declared.Check.{Check}
-use Rattle.judge.specs.declared.Check.TheVariants.{Kept, Broken}
+use Rattle.std.specs.Prelude.{Result, Ok, Err, ⊤, Some, None, Option as Optional}
 use Rattle.judge.proofs.OwnWays.{framed}
-
--- one attribute
-module _ (parent tag : ℕ) (table body : List ℕ) (t : Bool) (f : t ≡ is_text (known parent tag)) where
-  pub settled-text : t ≡ true → (b : Bool) → b ≡ covered (entries table) body → b ≡ (not (is_text (known parent tag)) || covered (entries table) body)
-  settled-text g b h = rw (sym f ∙ g) h
-
-  pub settled-other : t ≡ false → true ≡ (not (is_text (known parent tag)) || covered (entries table) body)
-  settled-other g = rw (sym f ∙ g)
-
-pub ruleset settled-ways = (settled-text, settled-other)
 
 -- the late 12 over what waits of one attribute and then of the later ones
 late-waits : (T : Entries) (o : Option Kind) (at : ℕ) (body : List ℕ) (later : List (ℕ × List ℕ))
@@ -103,11 +91,11 @@ body_at part at start size = rw add-sub_cancel_left (simp drop-drop)
 
 -- the rule is due or isn't
 module _ (due : Bool) (part : List ℕ) (run parent base : ℕ) (table : List ℕ) where
-  pub late-undue : due ≡ false → LateSays due part run parent base table Kept
+  pub late-undue : due ≡ false → LateSays due part run parent base table (Ok tt)
   unfolding LateSays WaitsWhen late checked
   late-undue e = rw e (λ ws h. rw h)
 
-  pub late_due : due ≡ true → (r : Check) → LateSays true part run parent base table r → LateSays due part run parent base table r
+  pub late_due : due ≡ true → (r : Result ⊤ Refusal) → LateSays true part run parent base table r → LateSays due part run parent base table r
   late_due e r h = rw e h
 
 pub ruleset due-ways = (late-undue, late_due)
@@ -118,22 +106,24 @@ module _ (part : List ℕ) (run parent base : ℕ) (table : List ℕ) where
   late-start = record { within = omega arith; reached = λ ws h. record { later = ws; there = h; same = refl } }
 
   module _ (at : ℕ) (inv : Scans part run parent base table at) where
-    concluded : (r : Check) → ((ws : List (ℕ × List ℕ)) → Reached parent base part run at (entries table) ws → late (entries table) ws ≡ checked r) → LateSays true part run parent base table r
+    concluded : (r : Result ⊤ Refusal)
+        → ((ws : List (ℕ × List ℕ)) → Reached parent base part run at (entries table) ws → late (entries table) ws ≡ checked r)
+        → LateSays true part run parent base table r
     unfolding LateSays WaitsWhen
     concluded r f ws h = f ws (inv.reached ws h)
 
-    pub late-end : run ≤ at → LateSays true part run parent base table Kept
+    pub late-end : run ≤ at → LateSays true part run parent base table (Ok tt)
     unfolding late checked
-    late-end h = concluded Kept (λ ws q. q.same ∙ ap (late (entries table)) (at-stop parent base part run at q.later q.there h))
+    late-end h = concluded (Ok tt) (λ ws q. q.same ∙ ap (late (entries table)) (at-stop parent base part run at q.later q.there h))
 
-    module _ (h : at < run) (r : Header) (e : r ≡ header_of (take (length part - at) (drop at part))) where
+    module _ (h : at < run) (r : Optional Span) (e : r ≡ header_of (take (length part - at) (drop at part))) where
       here : r ≡ header_of (drop at part)
       here = rw (← part_to_end part at) e
 
-      pub late-past : r ≡ Past → LateSays true part run parent base table Kept
-      late-past f = concluded Kept (λ ws q. absurd (omega (arith, in-front parent base part run at q.later q.there h, header-past (drop at part) r here f)))
+      pub late-past : r ≡ None → LateSays true part run parent base table (Ok tt)
+      late-past f = concluded (Ok tt) (λ ws q. absurd (omega (arith, in-front parent base part run at q.later q.there h, header-past (drop at part) r here f)))
 
-      module _ (start size : ℕ) (f : r ≡ Found start size) where
+      module _ (start size : ℕ) (f : r ≡ Some (span start size)) where
         fr : Framed (drop at part) start size
         fr = framed (drop at part) r start size here f
 
@@ -143,8 +133,8 @@ module _ (part : List ℕ) (run parent base : ℕ) (table : List ℕ) where
         pub late-head : start ≤ length part - at
         late-head = let g : Framed (drop at part) start size = fr in omega (arith, length-drop at part)
 
-        pub late-short : length part - at - start < size → LateSays true part run parent base table Kept
-        late-short l = concluded Kept (λ ws q. let n : Next parent base part run at q.later start size = nx q.later q.there in absurd (omega arith))
+        pub late-short : length part - at - start < size → LateSays true part run parent base table (Ok tt)
+        late-short l = concluded (Ok tt) (λ ws q. let n : Next parent base part run at q.later start size = nx q.later q.there in absurd (omega arith))
 
         module _ (l : size ≤ length part - at - start) where
           pub late-from : base + length part ≤ 32_768 → Fits w64 (at + start)
@@ -170,9 +160,9 @@ module _ (part : List ℕ) (run parent base : ℕ) (table : List ℕ) where
                 ∙ late-waits (entries table) (known parent (get_or (drop at part) 0 0)) (base + at) (take size (drop start (drop at part))) (nx q.later q.there).later
                 ∙ ap (λ (x : Bool). first (rule 12 (base + at) x ∷ late (entries table) (nx q.later q.there).later ∷ [])) tested
 
-            pub late-found : b ≡ false → (x : Refusal) → x ≡ refusal 12 (base + at) → LateSays true part run parent base table (Broken x)
+            pub late-found : b ≡ false → (x : Refusal) → x ≡ refusal 12 (base + at) → LateSays true part run parent base table (Err x)
             unfolding first rule checked
-            late-found i x m = concluded (Broken x) (λ ws q. stepped ws q ∙ rw (i, m))
+            late-found i x m = concluded (Err x) (λ ws q. stepped ws q ∙ rw (i, m))
 
             pub late-next : b ≡ true → Scans part run parent base table (at + start + size)
             unfolding first rule

@@ -1,4 +1,3 @@
-pub mod TagTests
 pub mod ItemWays
 pub mod OwnWays
 pub mod LateWays

@@ -1,6 +1,6 @@
 -- An item's own rules, 2 to 13, on each way through the code's tests.
 use mathlib.Core.Path.{◌≡◌, refl, sym, ap, ◌∙◌}
-use mathlib.Core.Bool.{Bool, true, false, not, ◌&&◌, ◌||◌, false≢true}
+use mathlib.Core.Bool.{Bool, true, false, not, ◌&&◌, ◌||◌}
 use mathlib.Core.Option.{Option, some}
 use mathlib.Core.List.{List}
 use Prim.Native.Nat.{ℕ, ◌+◌, ◌-◌, ◌≤◌, ◌<◌}
@@ -18,27 +18,19 @@ use Rattle.format.specs.declared.Refusal.{Refusal}
 use Rattle.format.specs.Answers.{refusal}
 use Rattle.format.specs.Judge.{allowed, stage_after, rule, first, item_rules, own}
 use Rattle.format.proofs.Rules.{first_one}
-use Rattle.octets.specs.Calls.{header_of}
+use Rattle.octets.specs.Calls.{header_of, span}
+use Rattle.octets.specs.declared.Span.{Span}
 use Rattle.values.specs.Calls.{known_kind}
-use Rattle.octets.specs.declared.Header.{Header}
-use Rattle.octets.specs.declared.Header.TheVariants.{Past, Found}
 use Rattle.values.specs.declared.KnownKind.{KnownKind}
-use Rattle.tags.specs.Rules.{with_bit}
 use Rattle.tags.proofs.Masks.{marked}
-use Rattle.judge.specs.Says.{ctx, depth_of, as_kind, checked, sorted, Framed, ItemSays, own_of, OwnIs, after, bad_item, good_item, Says}
-use Rattle.judge.specs.declared.Check.{Check}
-use Rattle.judge.specs.declared.Check.TheVariants.{Kept, Broken}
+use Rattle.judge.specs.Says.{ctx, depth_of, as_kind, checked, sorted, Framed, ItemSays, own_of, OwnIs, after, Says}
+use Rattle.std.specs.Prelude.{Result, Ok, Err, ⊤, Some, None, Option as Optional}
 use Rattle.judge.specs.declared.Progress.{Progress}
 use Rattle.judge.specs.declared.Sort.{Sort}
-use Rattle.judge.specs.declared.Item.{Item}
 use Rattle.judge.proofs.ItemWays.{kind-known}
 
-pub progress-is : (tag : ℕ) (progress : Progress) (stage mask : ℕ) → stage ≡ stage_after tag → mask ≡ with_bit progress.mask tag → record { stage = stage; mask = mask } ≡ after tag progress
-unfolding after
-progress-is tag progress stage mask e f = λ i. record { stage = e i; mask = f i }
-
 -- the header of a part
-pub framed : (s : List ℕ) (r : Header) (start size : ℕ) → r ≡ header_of s → r ≡ Found start size → Framed s start size
+pub framed : (s : List ℕ) (r : Optional Span) (start size : ℕ) → r ≡ header_of s → r ≡ Some (span start size) → Framed s start size
 framed s r start size e f = let h = header-found s r e start size f in record { is_start = sym h.header; is_size = sym h.body; in_part = omega arith }
 
 pub start-two : (s : List ℕ) (start size : ℕ) → Framed s start size → 2 ≤ start
@@ -52,15 +44,11 @@ not-trails p w room = go (eqb p 0) (ltb w room) refl
     go true false h = le-leb room w (ltb-false w room h)
     go false b h = refl
 
--- an item that breaks a rule says no more than which
-pub says-bad : (R : Option Refusal → Type 0) (parent : ℕ) (progress : Progress) (s : List ℕ) (i : Item) (x : Refusal) → i ≡ bad_item x → R (some x) → Says R parent progress s i
-says-bad R parent progress s i x e h = rw e (record { breaks = h; passes = λ g. absurd (false≢true g) })
-
 module _ (parent left : ℕ) (progress : Progress) (table : List ℕ) (place : ℕ) (s : List ℕ) where
   abbrev R : Option Refusal → Type 0
   R = OwnIs parent left progress table place s
 
-  pub own-2 : (r : Header) → r ≡ header_of s → r ≡ Past → (x : Refusal) → x ≡ refusal 2 place → R (some x)
+  pub own-2 : (r : Optional Span) → r ≡ header_of s → r ≡ None → (x : Refusal) → x ≡ refusal 2 place → R (some x)
   unfolding OwnIs own_of own first rule
   own-2 r e f x m seen waiting z = rw (m, lt-leb (header_size s) (length s) (header-past s r e f))
 
@@ -98,7 +86,8 @@ module _ (parent left : ℕ) (progress : Progress) (table : List ℕ) (place : �
           unfolding OwnIs own_of own first rule
           own-5 k x m seen waiting z = rw (m, head_in, body-in, ap (allowed parent) (sym t) ∙ sym b ∙ i, five ∙ ap not k) (ap (λ (y : ℕ). some (refusal 5 y)) whole-at)
 
-          module _ (k : v ≡ false) (w : Check) (l : ItemSays parent tag left progress place table (take (start + size - start) (drop start s)) w) where
+          module _ (k : v ≡ false) (w : Result ⊤ Refusal)
+              (l : ItemSays parent tag left progress place table (take (start + size - start) (drop start s)) w) where
             all : R (checked w)
             unfolding OwnIs own_of own first rule ItemSays
             all seen waiting z =
@@ -106,22 +95,23 @@ module _ (parent left : ℕ) (progress : Progress) (table : List ℕ) (place : �
                 (first_one (item_rules (ctx parent (depth_of left) progress.stage seen (entries table) waiting) place (get_or s 0 0) (take size (drop start s)))
                 ∙ rw (← t) (rw (add-sub_cancel_left) at (l seen waiting z)))
 
-            pub own-bad : (r : Refusal) → w ≡ Broken r → R (some r)
+            pub own-bad : (r : Refusal) → w ≡ Err r → R (some r)
             unfolding checked
             own-bad r q = rw q at all
 
-            pub own-good : w ≡ Kept → (kd : KnownKind) → kd ≡ known_kind parent tag → (sort : Sort) → sort ≡ sorted (as_kind kd) → (next : Progress) → next ≡ after tag progress
-                → (i : Item) → i ≡ good_item sort start size next → Says R parent progress s i
+            pub own-good : w ≡ Ok tt → (kd : KnownKind) → kd ≡ known_kind parent tag → (sort : Sort) → sort ≡ sorted (as_kind kd)
+                → (next : Progress) → next ≡ after tag progress
+                → Says R parent progress s (Ok (record { sort = sort; start = start; size = size; next = next }))
             unfolding checked after
-            own-good q kd ke sort se next ne i ie = rw ie (record {
-              breaks = rw q at all;
-              passes = λ g. record {
+            own-good q kd ke sort se next ne = (
+              rw q at all,
+              record {
                 framed = fr;
                 fits = own-to;
                 sorts = se ∙ ap sorted (kind-known kd parent tag ke) ∙ ap (λ (x : ℕ). sorted (known parent x)) t;
                 stages = ap (λ (p : Progress). p.stage) ne ∙ ap stage_after t;
                 seens = λ seen z. rw (ne, ← t) (marked parent progress.mask tag seen z);
-              };
-            })
+              },
+            )
 
-pub ruleset own-ways = (says-bad, own-2, own-3, own-4, own-5, own-bad, own-good, own-octet, framed)
+pub ruleset own-ways = (own-2, own-3, own-4, own-5, own-bad, own-good, own-octet, framed)

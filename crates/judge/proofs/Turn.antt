@@ -20,8 +20,6 @@ use Rattle.values.specs.Table.{known, attribute}
 use Rattle.values.proofs.Known.{ElementTag, items-tag, items-no-attribute, known-anywhere}
 use Rattle.format.specs.declared.Refusal.{Refusal}
 use Rattle.format.specs.declared.Counts.{Counts}
-use Rattle.format.specs.declared.ReadAnswer.{ReadAnswer}
-use Rattle.format.specs.declared.ReadAnswer.TheVariants.{Records, NotRead}
 use Rattle.format.specs.Tree.{count}
 use Rattle.format.specs.Tree.Items.{end, item}
 use Rattle.format.specs.Judge.{Judged, Context, is_top, is_items, is_known, of_top, latest, stage_after, waits, unless, by_kind, followed, joined, within, next, read}
@@ -36,6 +34,7 @@ use Rattle.tags.specs.Rules.{Seen}
 use Rattle.tags.proofs.Masks.{none-marked}
 use Rattle.judge.specs.Says.{ctx, depth_of, sorted, table_sort, Framed, Waits, WaitsWhen, broken_of, AllIs, Passed, Says, item_more, record_more, counted, EndSays, AtMost, CountsAtMost, CountsAs}
 use Rattle.judge.specs.Says.Waits.{done, more}
+use Rattle.std.specs.Prelude.{Result, Ok, Err}
 use Rattle.judge.specs.declared.Progress.{Progress}
 use Rattle.judge.specs.declared.Sort.{Sort}
 use Rattle.judge.specs.declared.Sort.TheVariants.{Skip, Leaf, Table, Element}
@@ -134,8 +133,8 @@ sorted-as (some HoldsBearer) = record { items = refl; isknown = refl }
 sorted-as (some (HoldsNumber n)) = record { items = refl; isknown = refl }
 
 -- counting: an item that is passed over, one that is listed, the table, and an element, each with its own header before those of what is inside and behind it
-same-counts : (a b c d : ℕ) → a ≡ b → c ≡ d → ◌≡◌ {A = ReadAnswer} (Records (record { records = a; items = c })) (Records (record { records = b; items = d }))
-same-counts a b c d e f = ap₂ (λ (x y : ℕ). Records (record { records = x; items = y })) e f
+same-counts : (a b c d : ℕ) → a ≡ b → c ≡ d → ◌≡◌ {A = (Result Counts Refusal)} (Ok (record { records = a; items = c })) (Ok (record { records = b; items = d }))
+same-counts a b c d e f = ap₂ (λ (x y : ℕ). Ok (record { records = x; items = y })) e f
 
 counted_skip : (n : Counts) (h : ℕ) (a : Judged) → counted n (suc (0 + h)) a ≡ counted (item_more n) h a
 unfolding counted
@@ -152,9 +151,9 @@ unfolding counted followed count
 counted-table n h tag at body (refused r) e = refl
 counted-table n h tag at body (accepted t) e = rw e (same-counts _ _ _ _ (omega arith) (omega arith))
 
-unfoldable onward : ReadAnswer → (Counts → ReadAnswer) → ReadAnswer
-onward (Records m) f = f m
-onward (NotRead r) f = NotRead r
+unfoldable onward : Result Counts Refusal → (Counts → Result Counts Refusal) → Result Counts Refusal
+onward (Ok m) f = f m
+onward (Err r) f = Err r
 
 counted-element : (n : Counts) (k h tag at : ℕ) (body : List ℕ) (i a : Judged) → eqb tag 4 ≡ false
     → counted n (suc (k + h)) (joined (item tag at body) i a) ≡ onward (counted (record_more (item_more n)) k i) (λ m. counted m h a)
@@ -198,7 +197,7 @@ level-down left h l = omega arith
 
 module _ (part : List ℕ) (base parent left : ℕ) (before : Counts) (given : List ℕ) (at : ℕ) (progress : Progress) (counts : Counts) (table : List ℕ)
     (inv : Holds part base parent left before given at progress counts table) where
-  abbrev Whole : ReadAnswer
+  abbrev Whole : Result Counts Refusal
   Whole = counted before (headers parent part) (read (ctx parent (depth_of left) 0 [] (entries given) []) base part)
 
   abbrev c : Context
@@ -207,25 +206,26 @@ module _ (part : List ℕ) (base parent left : ℕ) (before : Counts) (given : L
   pub end-in : at ≤ length part
   end-in = inv.bound
 
-  pub end-all : length part ≤ at → (r : ReadAnswer) → EndSays counts part at parent progress.stage base r → r ≡ Whole
+  pub end-all : length part ≤ at → (r : Result Counts Refusal) → EndSays counts part at parent progress.stage base r → r ≡ Whole
   unfolding EndSays
   end-all h r e =
       e inv.waiting inv.waited
       ∙ sym (inv.same ∙ ap (λ (s : List ℕ). counted counts (headers parent s) (read c (base + at) s)) (drop_of_length-le part h)
       ∙ ap₂ (counted counts) (headers-end parent) (read-end c (base + at)))
 
-  pub end-most : (r : ReadAnswer) → CountsAs counts r → CountsAtMost (base + length part) r
-  end-most (Records k) e = rw e (at_most (base + at) (base + length part) counts (omega (arith, inv.bound)) inv.few)
-  end-most (NotRead x) e = tt
+  pub end-most : (r : Result Counts Refusal) → CountsAs counts r → CountsAtMost (base + length part) r
+  end-most (Ok k) e = rw e (at_most (base + at) (base + length part) counts (omega (arith, inv.bound)) inv.few)
+  end-most (Err x) e = tt
 
-  module _ (h : at < length part) (i : Item) (e : Says (AllIs parent left progress table base at part) parent progress (drop at part) i) where
+  module _ (h : at < length part)
+      (r : Result Item Refusal) (e : Says (AllIs parent left progress table base at part) parent progress (drop at part) r) where
     some_left : 0 < length (drop at part)
     some_left = omega (arith, length-drop at part)
 
-    pub is-bad : i.good ≡ false → NotRead i.refusal ≡ Whole
+    pub is-bad : (x : Refusal) → r ≡ Err x → Err x ≡ Whole
     unfolding AllIs unless counted
-    is-bad f =
-        let q : AllIs parent left progress table base at part (some i.refusal) = rw f at e.breaks in
+    is-bad x f =
+        let q : AllIs parent left progress table base at part (some x) = rw f at e in
         sym (inv.same ∙ ap (counted counts (headers parent (drop at part))) (read_step c (base + at) (drop at part) some_left) ∙ rw (q inv.seen inv.waiting inv.sees inv.waited))
 
     pub record-fits : base + length part ≤ 32_768 → Fits w64 (counts.records + 1)
@@ -234,7 +234,7 @@ module _ (part : List ℕ) (base parent left : ℕ) (before : Counts) (given : L
     pub item-fits : base + length part ≤ 32_768 → Fits w64 (counts.items + 1)
     item-fits b = omega (arith, inv.few.items)
 
-    module _ (f : i.good ≡ true) where
+    module _ (i : Item) (f : r ≡ Ok i) where
       abbrev sort : Sort
       sort = i.sort
 
@@ -254,11 +254,11 @@ module _ (part : List ℕ) (base parent left : ℕ) (before : Counts) (given : L
       body = take size (drop start (drop at part))
 
       p : Passed parent progress (drop at part) i
-      p = e.passes f
+      p = (rw f at e).1
 
       clean : broken_of c (base + at) (drop at part) ≡ none
       unfolding AllIs
-      clean = (rw f at e.breaks) inv.seen inv.waiting inv.sees inv.waited
+      clean = (rw f at e).0 inv.seen inv.waiting inv.sees inv.waited
 
       two : 2 ≤ start
       two = start-two (drop at part) start size p.framed
@@ -375,7 +375,7 @@ module _ (part : List ℕ) (base parent left : ℕ) (before : Counts) (given : L
         unfolding depth_of
         element-levels = omega (arith, leb-true (depth_of left) 16 shallow)
 
-        module _ (v : ReadAnswer)
+        module _ (v : Result Counts Refusal)
             (ve : v ≡ counted (record_more (item_more counts)) (headers (get_or part at 0) (take (at + start + size - (at + start)) (drop (at + start) part))) (read (ctx (get_or part at 0) (depth_of (left - 1)) 0 [] (entries table) []) (base + (at + start)) (take (at + start + size - (at + start)) (drop (at + start) part)))) where
           body-read : counted (record_more (item_more counts)) (headers tag body) Inside ≡ v
           unfolding within
@@ -385,14 +385,14 @@ module _ (part : List ℕ) (base parent left : ℕ) (before : Counts) (given : L
           unfolding element_sort table_sort
           turn-element = turn ∙ rw q (counted-element counts (headers tag body) LaterHeaders tag (base + at + start) body Inside _ is-element.not_table ∙ rw body-read)
 
-          pub element-bad : (r : Refusal) → v ≡ NotRead r → NotRead r ≡ Whole
+          pub element-bad : (r : Refusal) → v ≡ Err r → Err r ≡ Whole
           unfolding onward
           element-bad r g = sym (turn-element ∙ rw g)
 
-          pub past-element : (m : Counts) → v ≡ Records m → CountsAtMost (base + (at + start + size)) v → Holds part base parent left before given (at + start + size) nx m table
+          pub past-element : (m : Counts) → v ≡ Ok m → CountsAtMost (base + (at + start + size)) v → Holds part base parent left before given (at + start + size) nx m table
           unfolding onward
           past-element m g b = behind m table (rw g at b) (turn-element ∙ rw g)
 
-pub part-most : (part : List ℕ) (base from to : ℕ) (v : ReadAnswer) → from ≤ to → to ≤ length part → CountsAtMost (base + from + length (take (to - from) (drop from part))) v → CountsAtMost (base + to) v
-part-most part base from to (Records n) h g b = at_most _ _ n (omega (arith, length-take (to - from) (drop from part), length-drop from part)) b
-part-most part base from to (NotRead r) h g b = tt
+pub part-most : (part : List ℕ) (base from to : ℕ) (v : Result Counts Refusal) → from ≤ to → to ≤ length part → CountsAtMost (base + from + length (take (to - from) (drop from part))) v → CountsAtMost (base + to) v
+part-most part base from to (Ok n) h g b = at_most _ _ n (omega (arith, length-take (to - from) (drop from part), length-drop from part)) b
+part-most part base from to (Err r) h g b = tt

@@ -1,6 +1,6 @@
 -- What the code's values say, in the words of the crate format: contracts of the crate's own functions. The one public call is claimed by format's definitions
 -- alone (specs/Judge, specs/Calls). Rules are those of document 01, Refusal numbers.
-use Rattle.std.specs.Prelude.{◌≡◌, Bool, true, false, cond, ◌&&◌, List, [], ◌∷◌, ◌++◌, ℕ, ◌+◌, ◌-◌, ◌≤◌, eqb, length, take, drop, get_or}
+use Rattle.std.specs.Prelude.{◌≡◌, Bool, true, false, ◌&&◌, List, [], ◌∷◌, ◌++◌, ℕ, ◌+◌, ◌-◌, ◌≤◌, eqb, length, take, drop, get_or, Result, Ok, Err, ⊤}
 use Rattle.std.proofs.Math.Option.{Option, none, some}
 use Rattle.octets.specs.Header.{header_size, body_size}
 use Rattle.text.specs.Tokens.{Entries, entries}
@@ -10,9 +10,6 @@ use Rattle.values.specs.declared.Kind.TheVariants.{HoldsItems, HoldsTokens, Hold
 use Rattle.values.specs.Table.{known}
 use Rattle.format.specs.declared.Refusal.{Refusal}
 use Rattle.format.specs.declared.Counts.{Counts}
-use Rattle.format.specs.declared.ReadAnswer.{ReadAnswer}
-use Rattle.format.specs.declared.ReadAnswer.TheVariants.{Records, NotRead}
-use Rattle.format.specs.Answers.{refusal}
 use Rattle.format.specs.Tree.{count}
 use Rattle.format.specs.Tree.Items.{end}
 use Rattle.format.specs.Judge.{Judged, Context, is_top, first, item_rules, own, broken, late, late_after, waits, stage_after, unless}
@@ -20,8 +17,6 @@ use Rattle.format.specs.Judge.Judged.{refused, accepted}
 use Rattle.values.specs.declared.KnownKind.{KnownKind}
 use Rattle.values.specs.declared.KnownKind.TheVariants.{Unknown, Known}
 use Rattle.tags.specs.Rules.{with_bit, Seen}
-use Rattle.judge.specs.declared.Check.{Check}
-use Rattle.judge.specs.declared.Check.TheVariants.{Kept, Broken}
 use Rattle.judge.specs.declared.Progress.{Progress}
 use Rattle.judge.specs.declared.Sort.{Sort}
 use Rattle.judge.specs.declared.Sort.TheVariants.{Skip, Leaf, Table, Element}
@@ -50,11 +45,11 @@ as_kind Unknown = none
 as_kind (Known k) = some k
 
 -- the first broken rule that a check found
-unfoldable pub checked : Check → Option Refusal
-checked Kept = none
-checked (Broken r) = some r
+unfoldable pub checked : Result ⊤ Refusal → Option Refusal
+checked (Ok x) = none
+checked (Err r) = some r
 
--- what becomes of an item by its kind: an unknown one gives nothing, the table no record of its own (document 01, Records and meaning)
+-- what becomes of an item by its kind: an unknown one gives nothing, the table no record of its own (document 01, Ok and meaning)
 unfoldable pub sorted : Option Kind → Sort
 sorted none = Skip
 sorted (some HoldsItems) = Element
@@ -72,7 +67,7 @@ pub record Framed (s : List ℕ) (start size : ℕ) : Type 0 where
   pub in_part : start ≤ length s
 
 -- rules 6 to 13 say what a check says, whatever tags the mask stands for and whatever waits
-unfoldable pub ItemSays : (parent tag left : ℕ) (progress : Progress) (place : ℕ) (table body : List ℕ) → Check → Type 0
+unfoldable pub ItemSays : (parent tag left : ℕ) (progress : Progress) (place : ℕ) (table body : List ℕ) → Result ⊤ Refusal → Type 0
 ItemSays parent tag left progress place table body r =
     (seen : List ℕ) (waiting : List (ℕ × List ℕ)) → Seen parent progress.mask seen
     → item_rules (ctx parent (depth_of left) progress.stage seen (entries table) waiting) place tag body ≡ checked r
@@ -101,7 +96,7 @@ WaitsWhen true parent base part at ws = Waits parent base part at 0 ws
 WaitsWhen false parent base part at ws = ws ≡ []
 
 -- the late rule says what a check says, of all that waits
-unfoldable pub LateSays : Bool → (part : List ℕ) (run parent base : ℕ) (table : List ℕ) → Check → Type 0
+unfoldable pub LateSays : Bool → (part : List ℕ) (run parent base : ℕ) (table : List ℕ) → Result ⊤ Refusal → Type 0
 LateSays due part run parent base table r = (ws : List (ℕ × List ℕ)) → WaitsWhen due parent base part run ws → late (entries table) ws ≡ checked r
 
 -- each of the three, whatever tags the mask stands for and whatever waits here
@@ -124,17 +119,6 @@ AllIs parent left progress table base at part o =
 unfoldable pub after : ℕ → Progress → Progress
 after tag progress = record { stage = stage_after tag; mask = with_bit progress.mask tag }
 
--- an item that breaks a rule, and one that breaks none, each with nothing where only the other has something to tell
-abbrev pub bad_item : Refusal → Item
-bad_item r = record { good = false; refusal = r; sort = Skip; start = 0; size = 0; next = record { stage = 0; mask = 0 } }
-
-abbrev pub good_item : (sort : Sort) (start size : ℕ) (next : Progress) → Item
-good_item sort start size next = record { good = true; refusal = refusal 0 0; sort = sort; start = start; size = size; next = next }
-
--- what an item breaks
-abbrev pub broken_by : Item → Option Refusal
-broken_by i = cond i.good none (some i.refusal)
-
 -- an item that breaks no rule: it lies in its part, its sort is that of its kind, and the next progress is told
 pub record Passed (parent : ℕ) (progress : Progress) (s : List ℕ) (i : Item) : Type 0 where
   pub framed : Framed s i.start i.size
@@ -143,10 +127,10 @@ pub record Passed (parent : ℕ) (progress : Progress) (s : List ℕ) (i : Item)
   pub stages : i.next.stage ≡ stage_after (get_or s 0 0)
   pub seens : (seen : List ℕ) → Seen parent progress.mask seen → Seen parent i.next.mask (get_or s 0 0 ∷ seen)
 
--- what an item says, where `R o` says that o is what is broken
-pub record Says (R : Option Refusal → Type 0) (parent : ℕ) (progress : Progress) (s : List ℕ) (i : Item) : Type 0 where
-  pub breaks : R (broken_by i)
-  pub passes : i.good ≡ true → Passed parent progress s i
+-- what judging an item says, where `R o` says that o is what is broken
+abbrev pub Says : (R : Option Refusal → Type 0) (parent : ℕ) (progress : Progress) (s : List ℕ) → Result Item Refusal → Type 0
+Says R parent progress s (Err r) = R (some r)
+Says R parent progress s (Ok i) = R none × Passed parent progress s i
 
 -- the late 12 is judged just after an item where that is the table
 unfoldable pub table_sort : Sort → Bool
@@ -163,12 +147,12 @@ abbrev pub record_more : Counts → Counts
 record_more n = record { records = n.records + 1; items = n.items }
 
 -- what judging items with so many headers answers where so much was counted before them
-unfoldable pub counted : Counts → (headers : ℕ) → Judged → ReadAnswer
-counted before h (refused r) = NotRead r
-counted before h (accepted t) = Records (record { records = before.records + count t; items = before.items + h })
+unfoldable pub counted : Counts → (headers : ℕ) → Judged → Result Counts Refusal
+counted before h (refused r) = Err r
+counted before h (accepted t) = Ok (record { records = before.records + count t; items = before.items + h })
 
 -- the end of an element's items, at a place: what still waits is judged without a table
-unfoldable pub EndSays : (counts : Counts) (part : List ℕ) (at parent stage base : ℕ) → ReadAnswer → Type 0
+unfoldable pub EndSays : (counts : Counts) (part : List ℕ) (at parent stage base : ℕ) → Result Counts Refusal → Type 0
 EndSays counts part at parent stage base r =
     (waiting : List (ℕ × List ℕ)) → WaitsWhen (is_top parent && eqb stage 0) parent base part at waiting → r ≡ counted counts 0 (unless (late [] waiting) (accepted end))
 
@@ -177,11 +161,11 @@ pub record AtMost (m : ℕ) (counts : Counts) : Type 0 where
   pub records : counts.records ≤ m
   pub items : counts.items ≤ m
 
-abbrev pub CountsAtMost : ℕ → ReadAnswer → Type 0
-CountsAtMost m (Records counts) = AtMost m counts
-CountsAtMost m (NotRead r) = Unit {0}
+abbrev pub CountsAtMost : ℕ → Result Counts Refusal → Type 0
+CountsAtMost m (Ok counts) = AtMost m counts
+CountsAtMost m (Err r) = Unit {0}
 
 -- an answer counts what was counted before, and no more
-abbrev pub CountsAs : Counts → ReadAnswer → Type 0
-CountsAs before (Records counts) = counts ≡ before
-CountsAs before (NotRead r) = Unit {0}
+abbrev pub CountsAs : Counts → Result Counts Refusal → Type 0
+CountsAs before (Ok counts) = counts ≡ before
+CountsAs before (Err r) = Unit {0}

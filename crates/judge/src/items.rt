@@ -7,19 +7,18 @@ ghost use Rattle.judge.specs.Says.{ctx, InForce, depth_of, table_sort, BehindIs,
 
 use crate::late::{hold_attributes, is_due_before, is_waiting, judge_late};
 use crate::rules::judge_own;
-use crate::{Check, Item, Progress, Sort, bad};
-use format::{Counts, ReadAnswer};
+use crate::{Item, Progress, Sort};
+use format::{Counts, Refusal};
 use text::{characters_of, tokens_of};
 
 // The late rule is judged just after the table.
+#[tactic(auto, unfolding(crate::specs::Says::table_sort))]
 fn is_due_after(sort: Sort, parent: u8, stage: u8) -> bool
     ensures { result ≡ (table_sort sort && (is_top parent && eqb stage 0)) }
 {
     match sort {
-        Sort::Skip => false,
-        Sort::Leaf => false,
         Sort::Table => is_waiting(parent, stage),
-        Sort::Element => false,
+        Sort::Skip | Sort::Leaf | Sort::Element => false,
     }
 }
 
@@ -34,7 +33,7 @@ fn judge_item(
     table: &[u8],
     marks: u32,
     shows: &[u8; 32],
-) -> Item
+) -> Result<Item, Refusal>
     requires part_bound { (base + length part.now ≤ 32_768) × (at < length part.now) }
     requires in_force { InForce table.now marks shows.now }
     ensures { Says (BehindIs parent left progress table.now base at part.now) parent progress (drop at part.now) result }
@@ -48,19 +47,12 @@ fn judge_item(
         table,
         marks,
         shows,
-    );
-    if item.good {
-        let from = at + item.start;
-        let to = from + item.size;
-        let sort = item.sort;
-        let due = is_due_after(sort, parent, progress.stage);
-        match judge_late(due, part, at, parent, base, &part[from..to]) {
-            Check::Broken(refusal) => bad(refusal),
-            Check::Kept => item,
-        }
-    } else {
-        item
-    }
+    )?;
+    let from = at + item.start;
+    let to = from + item.size;
+    let due = is_due_after(item.sort, parent, progress.stage);
+    judge_late(due, part, at, parent, base, &part[from..to])?;
+    Ok(item)
 }
 
 // All that is judged at the item at `at`: where it is neither attribute nor table, the late rule comes first, without a table.
@@ -74,16 +66,14 @@ fn read_item(
     table: &[u8],
     marks: u32,
     shows: &[u8; 32],
-) -> Item
+) -> Result<Item, Refusal>
     requires part_bound { (base + length part.now ≤ 32_768) × (at < length part.now) }
     requires in_force { InForce table.now marks shows.now }
     ensures { Says (AllIs parent left progress table.now base at part.now) parent progress (drop at part.now) result }
 {
     let due = is_due_before(parent, progress.stage, part[at]);
-    match judge_late(due, part, at, parent, base, &part[0..0]) {
-        Check::Broken(refusal) => bad(refusal),
-        Check::Kept => judge_item(part, at, base, parent, left, progress, table, marks, shows),
-    }
+    judge_late(due, part, at, parent, base, &part[0..0])?;
+    judge_item(part, at, base, parent, left, progress, table, marks, shows)
 }
 
 // The end of the items of an element: the late rule, where it still waits.
@@ -94,22 +84,22 @@ fn end_items(
     parent: u8,
     stage: u8,
     base: usize,
-) -> ReadAnswer
+) -> Result<Counts, Refusal>
     requires { (base + length part.now ≤ 32_768) × (at ≤ length part.now) }
     ensures end_says { EndSays counts part.now at parent stage base result }
     ensures counts_as { CountsAs counts result }
 {
     if is_waiting(parent, stage) {
         match hold_attributes(part, at, parent, base, &part[0..0]) {
-            Check::Broken(refusal) => {
-                return ReadAnswer::NotRead(refusal);
+            Err(refusal) => {
+                return Err(refusal);
             }
-            Check::Kept => {
-                return ReadAnswer::Records(counts);
+            Ok(()) => {
+                return Ok(counts);
             }
         }
     }
-    ReadAnswer::Records(counts)
+    Ok(counts)
 }
 
 // The items of a part, which begins at the place `base` of the object and is the body of an element with the tag `parent`, or the object (0).
@@ -125,7 +115,7 @@ pub fn read_items<'a>(
     table: &'a [u8],
     marks: u32,
     shows: &[u8; 32],
-) -> ReadAnswer
+) -> Result<Counts, Refusal>
     requires part_bound { (base + length part.now ≤ 32_768) × AtMost base counts × (left ≤ 16) }
     requires in_force { InForce table.now marks shows.now }
     ensures value { result ≡ counted counts (headers parent part.now) (read (ctx parent (depth_of left) 0 [] (entries table.now) []) base part.now) }
@@ -138,18 +128,13 @@ pub fn read_items<'a>(
     let mut marks = marks;
     let mut shows: [u8; 32] = *shows;
     while at < part.len() {
-        let item = read_item(part, at, base, parent, left, progress, table, marks, &shows);
-        if !item.good {
-            let refusal = item.refusal;
-            return ReadAnswer::NotRead(refusal);
-        }
+        let item = read_item(part, at, base, parent, left, progress, table, marks, &shows)?;
         let tag = part[at];
         let from = at + item.start;
         at = from + item.size;
         progress = item.next;
         counts.items = counts.items + 1;
-        let sort = item.sort;
-        match sort {
+        match item.sort {
             Sort::Skip => {}
             Sort::Leaf => {
                 counts.records = counts.records + 1;
@@ -160,16 +145,9 @@ pub fn read_items<'a>(
                 shows = characters_of(table);
             }
             Sort::Element => {
-                match read_element(
+                counts = read_element(
                     part, from, at, base, tag, left, counts, table, marks, &shows,
-                ) {
-                    ReadAnswer::NotRead(refusal) => {
-                        return ReadAnswer::NotRead(refusal);
-                    }
-                    ReadAnswer::Records(within) => {
-                        counts = within;
-                    }
-                }
+                )?;
             }
         }
     }
@@ -190,7 +168,7 @@ fn read_element<'a>(
     table: &'a [u8],
     marks: u32,
     shows: &[u8; 32],
-) -> ReadAnswer
+) -> Result<Counts, Refusal>
     requires from_le_to { (from ≤ to) × (to ≤ length part.now) × (base + length part.now ≤ 32_768) × AtMost (base + from) (record_more counts) × (0 < left) × (left ≤ 16) }
     requires in_force { InForce table.now marks shows.now }
     ensures value { result ≡ counted (record_more counts) (headers tag (take (to - from) (drop from part.now))) (read (ctx tag (depth_of (left - 1)) 0 [] (entries table.now) []) (base + from) (take (to - from) (drop from part.now))) }

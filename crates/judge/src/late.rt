@@ -6,9 +6,8 @@ ghost use Rattle.values.specs.Table.{known, attribute};
 ghost use Rattle.format.specs.Judge.{is_top, is_text};
 ghost use Rattle.judge.specs.Says.{LateSays};
 
-use crate::Check;
-use format::refuse;
-use octets::{Header, read_header};
+use format::{Refusal, refuse};
+use octets::read_header;
 use tags::{holds_text, is_top};
 use text::is_covered;
 use values::is_attribute;
@@ -17,62 +16,51 @@ use values::is_attribute;
 pub fn is_waiting(parent: u8, stage: u8) -> bool
     ensures { result ≡ (is_top parent && eqb stage 0) }
 {
-    if is_top(parent) {
-        return stage == 0;
-    }
-    false
+    is_top(parent) && stage == 0
 }
 
 // It is judged before an item that is neither an attribute nor the table.
 pub fn is_due_before(parent: u8, stage: u8, tag: u8) -> bool
     ensures { result ≡ (not (attribute tag || eqb tag 4) && (is_top parent && eqb stage 0)) }
 {
-    if is_attribute(tag) {
-        return false;
-    }
-    if tag == 4 {
-        return false;
-    }
-    is_waiting(parent, stage)
+    !is_attribute(tag) && tag != 4 && is_waiting(parent, stage)
 }
 
 // Each token octet of an attribute has an entry, if the attribute is text.
 fn is_settled(parent: u8, tag: u8, table: &[u8], body: &[u8]) -> bool
     ensures { result ≡ (not (is_text (known parent tag)) || covered (entries table.now) body.now) }
 {
-    if holds_text(parent, tag) {
-        return is_covered(table, body);
-    }
-    true
+    !holds_text(parent, tag) || is_covered(table, body)
 }
 
 // The attributes of a part up to `run`, held against a table. The part begins at the place `base`. Headers that don't lie in the part
 // aren't met there, since these attributes were judged before.
-pub fn hold_attributes(part: &[u8], run: usize, parent: u8, base: usize, table: &[u8]) -> Check
+pub fn hold_attributes(
+    part: &[u8],
+    run: usize,
+    parent: u8,
+    base: usize,
+    table: &[u8],
+) -> Result<(), Refusal>
     requires { (base + length part.now ≤ 32_768) × (run ≤ length part.now) }
     ensures { LateSays true part.now run parent base table.now result }
 {
     let mut at: usize = 0;
     while at < run {
-        match read_header(&part[at..]) {
-            Header::Past => {
-                return Check::Kept;
-            }
-            Header::Found { start, size } => {
-                if part.len() - at - start < size {
-                    return Check::Kept;
-                }
-                let from = at + start;
-                let to = from + size;
-                if is_settled(parent, part[at], table, &part[from..to]) {
-                    at = to;
-                } else {
-                    return Check::Broken(refuse(12, base + at));
-                }
-            }
+        let Some(body) = read_header(&part[at..]) else {
+            return Ok(());
+        };
+        if part.len() - at - body.start < body.size {
+            return Ok(());
         }
+        let from = at + body.start;
+        let to = from + body.size;
+        if !is_settled(parent, part[at], table, &part[from..to]) {
+            return Err(refuse(12, base + at));
+        }
+        at = to;
     }
-    Check::Kept
+    Ok(())
 }
 
 // The rule where it is due. It seldom is: this stands apart from the scan, which the end of the items asks for too, so that it is small enough to be inlined.
@@ -83,12 +71,12 @@ pub fn judge_late(
     parent: u8,
     base: usize,
     table: &[u8],
-) -> Check
+) -> Result<(), Refusal>
     requires { (base + length part.now ≤ 32_768) × (run ≤ length part.now) }
     ensures { LateSays due part.now run parent base table.now result }
 {
     if due {
         return hold_attributes(part, run, parent, base, table);
     }
-    Check::Kept
+    Ok(())
 }

@@ -6,22 +6,14 @@ ghost use Rattle.format.specs.Judge.{judge};
 ghost use Rattle.format.specs.Headers.{headers, headers_of};
 ghost use Rattle.format.specs.Calls.{judge_answer};
 ghost use Rattle.judge.specs.Inside.{judge_inside};
-ghost use Rattle.judge.specs.Says.{bad_item, good_item};
 
 mod items;
 mod late;
 mod rules;
 
-use format::{Counts, ReadAnswer, Refusal, refuse};
+use format::{Counts, Refusal, refuse};
 use items::read_items;
 use text::{characters_of, tokens_of};
-
-// What rules say in their order: that they are kept, or the refusal of the first that is broken.
-#[derive(Clone, Copy)]
-enum Check {
-    Kept,
-    Broken(Refusal),
-}
 
 // How far the items of one element were read: the stage of their order, and the attributes seen.
 #[derive(Clone, Copy)]
@@ -39,48 +31,13 @@ enum Sort {
     Element,
 }
 
-// An item, judged without what is inside it. A good one has its sort, where its body begins, how large that is, and how far its element was read after it; any
-// other has its refusal. It is no enum of the two: compiled code would lay that in memory, whatever is in it, and read it back.
+// A good item, judged without what is inside it: its sort, where its body begins, how large that is, and how far its element was read after it.
 #[derive(Clone, Copy)]
 struct Item {
-    good: bool,
-    refusal: Refusal,
     sort: Sort,
     start: usize,
     size: usize,
     next: Progress,
-}
-
-// An item that breaks a rule.
-fn bad(refusal: Refusal) -> Item
-    ensures { result ≡ bad_item refusal }
-{
-    Item {
-        good: false,
-        refusal,
-        sort: Sort::Skip,
-        start: 0,
-        size: 0,
-        next: Progress { stage: 0, mask: 0 },
-    }
-}
-
-// An item that breaks none.
-fn good(sort: Sort, start: usize, size: usize, next: Progress) -> Item
-    ensures { result ≡ good_item sort start size next }
-{
-    Item {
-        good: true,
-        refusal: Refusal {
-            number: 0,
-            place: 0,
-            field: 0,
-        },
-        sort,
-        start,
-        size,
-        next,
-    }
 }
 
 // How many levels of elements may begin in an element of a depth.
@@ -95,11 +52,11 @@ pub fn levels_in(depth: u8) -> u8
 
 // Items of an element of a tag and a depth, judged by themselves, where no token table is in force: the refusal of document 01's table, with its place and field,
 // or how many records they have and how many items were judged. Nothing is written.
-pub fn judge_inside(element: u8, depth: u8, octets: &[u8]) -> ReadAnswer
+pub fn judge_inside(element: u8, depth: u8, octets: &[u8]) -> Result<Counts, Refusal>
     ensures { result ≡ judge_answer (headers element octets.now) (judge_inside element depth octets.now) }
 {
     if octets.len() > 32_768 {
-        return ReadAnswer::NotRead(refuse(1, 0));
+        return Err(refuse(1, 0));
     }
     let none = &octets[0..0];
     let marks = tokens_of(none);
@@ -121,11 +78,11 @@ pub fn judge_inside(element: u8, depth: u8, octets: &[u8]) -> ReadAnswer
 }
 
 // The whole judgement of an object, which counts as an element with the tag 0 and the depth 0, whose one item is the top.
-pub fn judge(object: &[u8]) -> ReadAnswer
+pub fn judge(object: &[u8]) -> Result<Counts, Refusal>
     ensures { result ≡ judge_answer (headers_of object.now) (judge object.now) }
 {
     if object.len() == 0 {
-        return ReadAnswer::NotRead(refuse(1, 0));
+        return Err(refuse(1, 0));
     }
     judge_inside(0, 0, object)
 }

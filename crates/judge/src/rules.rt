@@ -10,9 +10,9 @@ ghost use Rattle.values.specs.Calls.{known_kind};
 ghost use Rattle.tags.specs.Rules.{within_depth, has_bit};
 ghost use Rattle.judge.specs.Says.{depth_of, as_kind, sorted, bare, InForce, checked, after, ItemSays, Framed, OwnIs, Says};
 
-use crate::{Check, Item, Progress, Sort, bad, good};
+use crate::{Item, Progress, Sort};
 use format::{Refusal, refuse};
-use octets::{Characters, Header, read_header};
+use octets::{Characters, read_header};
 use tags::{
     has_bit, is_allowed, is_short, is_top, is_within_depth, latest_of, stage_after, with_bit,
 };
@@ -23,40 +23,29 @@ use values::{Kind, KnownKind, fits_kind, is_attribute, known_kind, wrong_field};
 fn trails(parent: u8, whole: usize, room: usize) -> bool
     ensures { result ≡ (eqb parent 0 && ltb whole room) }
 {
-    if parent == 0 {
-        return whole < room;
-    }
-    false
+    parent == 0 && whole < room
 }
 
 // Rule 7 where so many levels of elements are left: while there is one, any item may stand, and at depth 17 there is none.
+#[tactic(auto, unfolding(crate::specs::Says::depth_of))]
 fn has_level(tag: u8, left: u8) -> bool
     ensures { result ≡ within_depth tag (depth_of left) }
 {
-    if left > 0 {
-        return true;
-    }
-    is_within_depth(tag, 17)
+    left > 0 || is_within_depth(tag, 17)
 }
 
 // One of the top's own attributes.
 fn is_of_top(parent: u8, tag: u8) -> bool
     ensures { result ≡ attribute tag && is_top parent }
 {
-    if is_attribute(tag) {
-        return is_top(parent);
-    }
-    false
+    is_attribute(tag) && is_top(parent)
 }
 
 // Rule 12 where it isn't late: the top's own attributes wait, and in any other text each token octet has an entry.
 fn is_held(parent: u8, tag: u8, covered: bool) -> bool
     ensures { result ≡ ((attribute tag && is_top parent) || covered) }
 {
-    if is_of_top(parent, tag) {
-        return true;
-    }
-    covered
+    is_of_top(parent, tag) || covered
 }
 
 // Rules 10, 12 and 13, for text, in one look at it. No limit of rule 13 is as large as the most that is counted.
@@ -68,20 +57,20 @@ fn check_text(
     marks: u32,
     shows: &[u8; 32],
     body: &[u8],
-) -> Check
+) -> Result<(), Refusal>
     requires { InForce table.now marks shows.now }
     ensures { checked result ≡ kind_rules (bare parent (entries table.now)) place tag body.now (some HoldsText) }
 {
     match weigh(marks, shows, body, Characters(32_769)) {
-        Weighed::NoText => Check::Broken(refuse(10, place)),
+        Weighed::NoText => Err(refuse(10, place)),
         Weighed::Text { covered, shown } => {
             if !is_held(parent, tag, covered) {
-                return Check::Broken(refuse(12, place));
+                return Err(refuse(12, place));
             }
             if !is_short(parent, tag, shown) {
-                return Check::Broken(refuse(13, place));
+                return Err(refuse(13, place));
             }
-            Check::Kept
+            Ok(())
         }
     }
 }
@@ -96,25 +85,25 @@ fn check_kind(
     marks: u32,
     shows: &[u8; 32],
     body: &[u8],
-) -> Check
+) -> Result<(), Refusal>
     requires { InForce table.now marks shows.now }
     ensures { checked result ≡ kind_rules (bare parent (entries table.now)) place tag body.now (some kind) }
 {
     match kind {
-        Kind::HoldsItems => Check::Kept,
+        Kind::HoldsItems => Ok(()),
         Kind::HoldsTokens => {
             if is_table(body) {
-                return Check::Kept;
+                return Ok(());
             }
-            Check::Broken(refuse(11, place))
+            Err(refuse(11, place))
         }
         Kind::HoldsText => check_text(parent, tag, place, table, marks, shows, body),
-        Kind::HoldsPlain => Check::Kept,
+        Kind::HoldsPlain => Ok(()),
         _ => {
             if fits_kind(kind, body) {
-                return Check::Kept;
+                return Ok(());
             }
-            Check::Broken(Refusal {
+            Err(Refusal {
                 number: 9,
                 place,
                 field: wrong_field(kind, body),
@@ -133,17 +122,18 @@ fn check_body(
     marks: u32,
     shows: &[u8; 32],
     body: &[u8],
-) -> Check
+) -> Result<(), Refusal>
     requires { InForce table.now marks shows.now }
     ensures { checked result ≡ kind_rules (bare parent (entries table.now)) place tag body.now (as_kind known) }
 {
     match known {
-        KnownKind::Unknown => Check::Kept,
+        KnownKind::Unknown => Ok(()),
         KnownKind::Known(kind) => check_kind(kind, parent, tag, place, table, marks, shows, body),
     }
 }
 
 // Rule 8: a known attribute twice.
+#[tactic(auto, unfolding(format::specs::Judge::is_known, crate::specs::Says::as_kind))]
 fn is_twice(known: KnownKind, tag: u8, mask: u64) -> bool
     ensures { result ≡ (is_known (as_kind known) && has_bit mask tag) }
 {
@@ -165,23 +155,24 @@ fn check_item(
     marks: u32,
     shows: &[u8; 32],
     body: &[u8],
-) -> Check
+) -> Result<(), Refusal>
     requires known_value { known ≡ known_kind parent tag }
     requires in_force { InForce table.now marks shows.now }
     ensures { ItemSays parent tag left progress place table.now body.now result }
 {
     if latest_of(tag) < progress.stage {
-        return Check::Broken(refuse(6, place));
+        return Err(refuse(6, place));
     }
     if !has_level(tag, left) {
-        return Check::Broken(refuse(7, place));
+        return Err(refuse(7, place));
     }
     if is_twice(known, tag, progress.mask) {
-        return Check::Broken(refuse(8, place));
+        return Err(refuse(8, place));
     }
     check_body(known, parent, tag, place, table, marks, shows, body)
 }
 
+#[tactic(auto, unfolding(crate::specs::Says::sorted, crate::specs::Says::as_kind))]
 fn sort_of(known: KnownKind) -> Sort
     ensures { result ≡ sorted (as_kind known) }
 {
@@ -195,6 +186,7 @@ fn sort_of(known: KnownKind) -> Sort
     }
 }
 
+#[tactic(auto, unfolding(crate::specs::Says::after))]
 fn progress_after(tag: u8, progress: Progress) -> Progress
     ensures { result ≡ after tag progress }
 {
@@ -216,24 +208,24 @@ fn judge_framed(
     table: &[u8],
     marks: u32,
     shows: &[u8; 32],
-) -> Item
+) -> Result<Item, Refusal>
     requires framed { Framed rest.now start size × (place + length rest.now ≤ 32_768) }
     requires in_force { InForce table.now marks shows.now }
     ensures { Says (OwnIs parent left progress table.now place rest.now) parent progress rest.now result }
 {
     if rest.len() - start < size {
-        return bad(refuse(3, place));
+        return Err(refuse(3, place));
     }
     let tag = rest[0];
     if !is_allowed(parent, tag) {
-        return bad(refuse(4, place));
+        return Err(refuse(4, place));
     }
     let to = start + size;
     if trails(parent, to, rest.len()) {
-        return bad(refuse(5, place + to));
+        return Err(refuse(5, place + to));
     }
     let known = known_kind(parent, tag);
-    match check_item(
+    check_item(
         known,
         parent,
         tag,
@@ -244,10 +236,13 @@ fn judge_framed(
         marks,
         shows,
         &rest[start..to],
-    ) {
-        Check::Broken(refusal) => bad(refusal),
-        Check::Kept => good(sort_of(known), start, size, progress_after(tag, progress)),
-    }
+    )?;
+    Ok(Item {
+        sort: sort_of(known),
+        start,
+        size,
+        next: progress_after(tag, progress),
+    })
 }
 
 // Rules 2 to 13 of the first item of a part.
@@ -260,15 +255,15 @@ pub fn judge_own(
     table: &[u8],
     marks: u32,
     shows: &[u8; 32],
-) -> Item
+) -> Result<Item, Refusal>
     requires rest_bound { place + length rest.now ≤ 32_768 }
     requires in_force { InForce table.now marks shows.now }
     ensures { Says (OwnIs parent left progress table.now place rest.now) parent progress rest.now result }
 {
-    match read_header(rest) {
-        Header::Past => bad(refuse(2, place)),
-        Header::Found { start, size } => judge_framed(
-            rest, start, size, place, parent, left, progress, table, marks, shows,
-        ),
-    }
+    let Some(body) = read_header(rest) else {
+        return Err(refuse(2, place));
+    };
+    judge_framed(
+        rest, body.start, body.size, place, parent, left, progress, table, marks, shows,
+    )
 }

@@ -12,7 +12,7 @@ use Rattle.survey.specs.Places.{body_by}
 use Rattle.compare.specs.declared.walks.Child.{Child}
 use Rattle.compare.specs.declared.walks.Child.TheVariants.{End, Found}
 use Rattle.compare.specs.Walks.{children_in, ChildFound, Children}
-use Rattle.merging.specs.Searches.{any_child, first_child, FindsChild}
+use Rattle.merging.specs.Searches.{any_child, first_child, FindsChild, is_found}
 
 -- ---- where a child was found
 
@@ -102,10 +102,10 @@ first_any f (p ∷ ps) = go (f p.0 p.1) (first_any f ps)
     go false ih = ih
 
 module _ (f : ℕ → List ℕ → Bool) (part : List ℕ) (start : ℕ) (r : Lies) (s : FindsChild f part start r) where
-  pub none_found : r ≡ Outside → any_child f (children_in (drop start part)) ≡ false
-  unfolding body_by is_there
-  none_found q = sym (first_any f (children_in (drop start part))) ∙ ap is_there (sym s.body ∙ ap (body_by part) q)
-
-  pub one_found : (from to : ℕ) → r ≡ Between from to → any_child f (children_in (drop start part)) ≡ true
-  unfolding body_by is_there
-  one_found from to q = sym (first_any f (children_in (drop start part))) ∙ ap is_there (sym s.body ∙ ap (body_by part) q)
+  pub found-any : is_found r ≡ any_child f (children_in (drop start part))
+  unfolding is_found is_there body_by
+  found-any = go r ∙ (ap is_there s.body ∙ first_any f (children_in (drop start part)))
+    where
+      go : (l : Lies) → is_found l ≡ is_there (body_by part l)
+      go Outside = refl
+      go (Between from to) = refl

@@ -4,7 +4,7 @@ ghost use Rattle.text.specs.Index.{entries_by};
 ghost use Rattle.merging.specs.Among.{language_in};
 ghost use Rattle.merging.specs.Roles.{stays_in, is_put, partner_body, partner_in};
 
-use crate::clash::is_found;
+use crate::children::is_found;
 use crate::equal::{has_equal, has_language};
 use crate::keys::{find_partner, merges};
 use merge::Services;

@@ -166,12 +166,10 @@ pub fn put_attributes(
     ensures { AttributesPut emit parent index_a.now table_a.now a.now index_b.now table_b.now b.now needs out.old out.new result }
 {
     let mut done = keep(needs);
-    let mut tag: u8 = 0x80;
-    while tag < 0x87 {
+    for tag in 0x80..0x87 {
         done = put_either(
             out, done, parent, tag, index_a, table_a, a, index_b, table_b, b, emit,
         );
-        tag = tag + 1;
     }
     done
 }

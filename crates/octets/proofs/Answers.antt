@@ -1,5 +1,7 @@
 -- What the answers of the calls say to a caller that matches on them. Those of the calls that put octets are in Puts.
-use mathlib.Core.Path.{◌≡◌, refl, sym, ◌∙◌}
+use Rattle.std.specs.Prelude.{Option, Some, None}
+use Rattle.octets.specs.Calls.{span}
+use mathlib.Core.Path.{◌≡◌, refl, sym, ap, ◌∙◌}
 use mathlib.Core.Bool.{Bool, true, false, cond}
 use mathlib.Core.List.{List, [], ◌∷◌, ◌++◌}
 use Prim.Native.Nat.{ℕ, suc, ◌+◌, ◌≤◌, ◌<◌, ◌^◌}
@@ -10,7 +12,7 @@ use borrow.Author.Tests.{leb-true, leb-false, le-leb, eqb-false}
 use Rattle.octets.specs.Numbers.{digits, Octets}
 use Rattle.octets.specs.Header.{header_size, body_size, length_field, framed}
 use Rattle.octets.specs.Calls.{header_of}
-use Rattle.octets.specs.declared.Header.{Header}
+use Rattle.octets.specs.declared.Span.{Span}
 use Rattle.octets.proofs.Tests.{chosen, not_chosen, never}
 use Rattle.octets.proofs.Numbers.{length_digits, octets-none, octets-cons, octets-append, octets-digits}
 
@@ -21,13 +23,14 @@ pub record HeaderFound (part : List ℕ) (start size : ℕ) : Type 0 where
   pub inside : header_size part ≤ length part
 
 module _ (part : List ℕ) where
-  pub header-found : (r : Header) → r ≡ header_of part → (start size : ℕ) → r ≡ Header.Found start size → HeaderFound part start size
+  pub header-found : (r : Option Span) → r ≡ header_of part → (start size : ℕ) → r ≡ Some (span start size) → HeaderFound part start size
   unfolding header_of
   header-found r e start size q =
       let w = chosen (leb (header_size part) (length part)) (sym q ∙ e) (λ z. never (cc)) in
-      record { header = cc w.1; body = cc w.1; inside = leb-true (header_size part) (length part) w.0 }
+      let z : span start size ≡ span (header_size part) (body_size part) = cc w.1 in
+      record { header = ap (λ s. s.start) z; body = ap (λ s. s.size) z; inside = leb-true (header_size part) (length part) w.0 }
 
-  pub header-past : (r : Header) → r ≡ header_of part → r ≡ Header.Past → length part < header_size part
+  pub header-past : (r : Option Span) → r ≡ header_of part → r ≡ None → length part < header_size part
   unfolding header_of
   header-past r e q = leb-false (header_size part) (length part) (not_chosen (leb (header_size part) (length part)) (sym q ∙ e) (λ z. never (cc))).0
 

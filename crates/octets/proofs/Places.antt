@@ -1,4 +1,7 @@
 -- Where the items of a part lie: the ways through item_at, and what its answer says.
+use Rattle.std.specs.Prelude.{Option, Some, None}
+use Rattle.octets.specs.Places.{from_to}
+use Rattle.octets.specs.Calls.{span}
 use mathlib.Core.Path.{◌≡◌, refl, sym, ap, ◌∙◌}
 use mathlib.Core.Bool.{Bool, true, false, cond}
 use mathlib.Core.List.{List}
@@ -11,10 +14,8 @@ use lib.Seq.{drop-drop, get_or-drop}
 use borrow.Author.Tests.{leb-true, le-leb, lt-leb}
 use Rattle.octets.specs.Numbers.{Octets}
 use Rattle.octets.specs.Header.{header_size, body_size}
-use Rattle.octets.specs.declared.Header.{Header}
-use Rattle.octets.specs.declared.Header.TheVariants.{Past, Found}
+use Rattle.octets.specs.declared.Span.{Span}
 use Rattle.octets.specs.declared.Lies.{Lies}
-use Rattle.octets.specs.declared.Lies.TheVariants.{Outside, Between}
 use Rattle.octets.specs.Calls.{header_of}
 use Rattle.octets.specs.Places.{is_whole, lies_in, lies_at, first_body, after_first, between}
 use Rattle.octets.proofs.Lists.{part_to_end}
@@ -24,35 +25,35 @@ use Rattle.octets.proofs.Frames.{header-two}
 
 -- ---- the ways through item_at
 
-pub lies-behind : (part : List ℕ) (at : ℕ) → length part < at → Outside ≡ lies_at part at
+pub lies-behind : (part : List ℕ) (at : ℕ) → length part < at → None ≡ lies_at part at
 unfolding lies_at lies_in
 lies-behind part at h =
     let s = drop at part in
     rw (lt-leb (header_size s + body_size s) (length s) (omega (arith, header-two s, length-drop at part)))
 
-module _ (part : List ℕ) (at : ℕ) (h : at ≤ length part) (r : Header) (e : r ≡ header_of (take (length part - at) (drop at part))) where
+module _ (part : List ℕ) (at : ℕ) (h : at ≤ length part) (r : Option Span) (e : r ≡ header_of (take (length part - at) (drop at part))) where
   abbrev s : List ℕ
   s = drop at part
 
   here : r ≡ header_of s
   here = e ∙ ap header_of (part_to_end part at)
 
-  pub lies-past : r ≡ Past → Outside ≡ lies_at part at
+  pub lies-past : r ≡ None → None ≡ lies_at part at
   unfolding lies_at lies_in
   lies-past q = rw (lt-leb (header_size s + body_size s) (length s) (omega (arith, header-past s r here q)))
 
-  module _ (start size : ℕ) (q : r ≡ Found start size) where
+  module _ (start size : ℕ) (q : r ≡ Some (span start size)) where
     headed : HeaderFound s start size
     headed = header-found s r here start size q
 
     pub from-inside : at + start ≤ length part
     from-inside = let k = headed in omega (arith, length-drop at part)
 
-    pub lies-outside : length part - (at + start) < size → Outside ≡ lies_at part at
+    pub lies-outside : length part - (at + start) < size → None ≡ lies_at part at
     unfolding lies_at lies_in
     lies-outside l = let k = headed in rw (lt-leb (header_size s + body_size s) (length s) (omega (arith, length-drop at part)))
 
-    pub lies-between : size ≤ length part - (at + start) → Between (at + start) (at + start + size) ≡ lies_at part at
+    pub lies-between : size ≤ length part - (at + start) → Some (from_to (at + start) (at + start + size)) ≡ lies_at part at
     unfolding lies_at lies_in
     lies-between l =
         let k = headed in
@@ -66,26 +67,28 @@ pub record Lying (part : List ℕ) (at from to : ℕ) : Type 0 where
   pub ends : to ≡ at + header_size (drop at part) + body_size (drop at part)
   pub inside : header_size (drop at part) + body_size (drop at part) ≤ length (drop at part)
 
-module _ (part : List ℕ) (at : ℕ) (r : Lies) (e : r ≡ lies_at part at) where
-  pub lying : (from to : ℕ) → r ≡ Between from to → Lying part at from to
+module _ (part : List ℕ) (at : ℕ) (r : Option Lies) (e : r ≡ lies_at part at) where
+  pub lying : (from to : ℕ) → r ≡ Some (from_to from to) → Lying part at from to
   unfolding lies_at lies_in
   lying from to q = go (leb (header_size s + body_size s) (length s)) refl (sym q ∙ e)
     where
       s : List ℕ
       s = drop at part
 
-      go : (b : Bool) → leb (header_size s + body_size s) (length s) ≡ b → Between from to ≡ cond b (Between (at + header_size s) (at + header_size s + body_size s)) Outside → Lying part at from to
-      go true f p = record { begins = cc; ends = cc; inside = leb-true (header_size s + body_size s) (length s) f }
+      go : (b : Bool) → leb (header_size s + body_size s) (length s) ≡ b → Some (from_to from to) ≡ cond b (Some (from_to (at + header_size s) (at + header_size s + body_size s))) None → Lying part at from to
+      go true f p =
+          let z : from_to from to ≡ from_to (at + header_size s) (at + header_size s + body_size s) = cc p in
+          record { begins = ap (λ b. b.from) z; ends = ap (λ b. b.to) z; inside = leb-true (header_size s + body_size s) (length s) f }
       go false f p = let z : ◌≡◌ {A = ℕ} 0 1 = cc in absurd (omega arith)
 
-  pub not-whole : r ≡ Outside → is_whole (drop at part) ≡ false
+  pub not-whole : r ≡ None → is_whole (drop at part) ≡ false
   unfolding lies_at lies_in
   not-whole q = go (is_whole s) (sym q ∙ e)
     where
       s : List ℕ
       s = drop at part
 
-      go : (b : Bool) → Outside ≡ cond b (Between (at + header_size s) (at + header_size s + body_size s)) Outside → b ≡ false
+      go : (b : Bool) → None ≡ cond b (Some (from_to (at + header_size s) (at + header_size s + body_size s))) None → b ≡ false
       go true p = let z : ◌≡◌ {A = ℕ} 0 1 = cc in absurd (omega arith)
       go false p = refl
 

@@ -1,5 +1,6 @@
 -- Octets put into a lent slice: what a call has to show for the claim, and what an answer says to whoever matches on it. The crates above cite this for every
 -- call that puts.
+use Rattle.std.specs.Prelude.{Result, Ok, Err}
 use mathlib.Core.Path.{◌≡◌, refl, sym, ap, ◌∙◌}
 use mathlib.Core.Bool.{Bool, true, false}
 use mathlib.Core.List.{List}
@@ -14,25 +15,26 @@ use borrow.Author.Tests.{le-leb, lt-leb, leb-true, leb-false, not-true, not-fals
 use Rattle.octets.specs.Counts.{as_octets}
 use Rattle.octets.specs.declared.counts.Octets.{Octets}
 use Rattle.octets.specs.Puts.{put_answer, put_out, Puts, Lays}
-use Rattle.octets.specs.declared.Put.{Put}
+use Rattle.octets.specs.declared.PutError.{PutError}
+use Rattle.octets.specs.declared.PutError.TheVariants.{NoRoom, Invalid}
 use Rattle.octets.proofs.Tests.{never}
 
 -- ---- what a call has to show
 module _ (valid : Bool) (octets : List ℕ) (at : ℕ) (before : List ℕ) where
-  pub puts-invalid : valid ≡ false → Puts valid octets at before before Put.Invalid
+  pub puts-invalid : valid ≡ false → Puts valid octets at before before (Err Invalid)
   unfolding put_answer put_out
   puts-invalid h = record { answers = rw h; leaves = rw h }
 
   module _ (h : valid ≡ true) where
-    pub puts_none : length before < at + length octets → Puts valid octets at before before Put.NoRoom
+    pub puts_none : length before < at + length octets → Puts valid octets at before before (Err NoRoom)
     unfolding put_answer put_out
     puts_none k = let e : leb (at + length octets) (length before) ≡ false = lt-leb (at + length octets) (length before) k in record { answers = rw (h, e); leaves = rw (h, e) }
 
-    pub puts-done : (after : List ℕ) (end : ℕ) → at + length octets ≤ length before → after ≡ sets before at octets → end ≡ at + length octets → Puts valid octets at before after (Put.Done end)
+    pub puts-done : (after : List ℕ) (end : ℕ) → at + length octets ≤ length before → after ≡ sets before at octets → end ≡ at + length octets → Puts valid octets at before after (Ok end)
     unfolding put_answer put_out
     puts-done after end k p q =
         let e : leb (at + length octets) (length before) ≡ true = le-leb (at + length octets) (length before) k in
-        record { answers = rw (h, e) (ap Put.Done q); leaves = rw (h, e) p }
+        record { answers = rw (h, e) (ap Ok q); leaves = rw (h, e) p }
 
 -- ---- the ways through a call that asks for room first
 module _ (room at size : ℕ) where
@@ -64,16 +66,16 @@ module _ (valid : Bool) (octets : List ℕ) (at : ℕ) (before : List ℕ) (size
     pub asked-room : at + length octets ≤ length before
     asked-room = omega (arith, s, room_in (length before) at size b k q)
 
-    pub asked-done : valid ≡ true → (after : List ℕ) → after ≡ sets before at octets → Puts valid octets at before after (Put.Done (at + size))
+    pub asked-done : valid ≡ true → (after : List ℕ) → after ≡ sets before at octets → Puts valid octets at before after (Ok (at + size))
     asked-done h after p = puts-done valid octets at before h after (at + size) asked-room p (ap (λ n. at + n) s)
 
-  pub asked-none : valid ≡ true → b ≡ false → Puts valid octets at before before Put.NoRoom
+  pub asked-none : valid ≡ true → b ≡ false → Puts valid octets at before before (Err NoRoom)
   asked-none h q = puts_none valid octets at before h (omega (arith, s, leb-false (at + size) (length before) (sym k ∙ q)))
 
 pub ruleset asked-ways = (counted, room_fits, asked-room, asked-done, asked-none, not-true, not-false)
 
 -- what holds of octets holds of the same octets
-pub puts-same : (valid valid' : Bool) (octets octets' : List ℕ) → valid ≡ valid' → octets ≡ octets' → (at : ℕ) (before after : List ℕ) (answer : Put)
+pub puts-same : (valid valid' : Bool) (octets octets' : List ℕ) → valid ≡ valid' → octets ≡ octets' → (at : ℕ) (before after : List ℕ) (answer : Result ℕ PutError)
     → Puts valid octets at before after answer → Puts valid' octets' at before after answer
 puts-same valid valid' octets octets' e f at before after answer p = rw (sym e, sym f) p
 
@@ -84,23 +86,23 @@ pub record PutDone (valid : Bool) (octets : List ℕ) (at : ℕ) (before after :
   pub inside : at + length octets ≤ length before
   pub laid : after ≡ sets before at octets
 
-module _ (valid : Bool) (octets : List ℕ) (at : ℕ) (before after : List ℕ) (answer : Put) (p : Puts valid octets at before after answer) where
-  pub put-done : (end : ℕ) → answer ≡ Put.Done end → PutDone valid octets at before after end
+module _ (valid : Bool) (octets : List ℕ) (at : ℕ) (before after : List ℕ) (answer : Result ℕ PutError) (p : Puts valid octets at before after answer) where
+  pub put-done : (end : ℕ) → answer ≡ Ok end → PutDone valid octets at before after end
   unfolding put_answer put_out
   put-done end q = go valid (leb (at + length octets) (length before)) refl refl
     where
       go : (a b : Bool) → valid ≡ a → leb (at + length octets) (length before) ≡ b → PutDone valid octets at before after end
       go true true f g =
-          let r : Put.Done end ≡ Put.Done (at + length octets) = sym q ∙ rw (f, g) at p.answers in
+          let r : Ok end ≡ Ok (at + length octets) = sym q ∙ rw (f, g) at p.answers in
           record { is = f; place = cc; inside = leb-true (at + length octets) (length before) g; laid = rw (f, g) at p.leaves }
       go true false f g = never (cc (rw (f, g) at p.answers))
       go false b f g = never (cc (rw f at p.answers))
 
   -- the place behind the octets lies in the slice
-  pub put-within : (end : ℕ) → answer ≡ Put.Done end → end ≤ length after
+  pub put-within : (end : ℕ) → answer ≡ Ok end → end ≤ length after
   put-within end q = let d = put-done end q in omega (arith, d.place, d.inside, ap length d.laid ∙ length-sets before at octets)
 
-  pub put-no-room : answer ≡ Put.NoRoom → (valid ≡ true) × (length before < at + length octets) × (after ≡ before)
+  pub put-no-room : answer ≡ (Err NoRoom) → (valid ≡ true) × (length before < at + length octets) × (after ≡ before)
   unfolding put_answer put_out
   put-no-room q = go valid (leb (at + length octets) (length before)) refl refl
     where
@@ -109,7 +111,7 @@ module _ (valid : Bool) (octets : List ℕ) (at : ℕ) (before after : List ℕ)
       go true false f g = (f, leb-false (at + length octets) (length before) g, rw (f, g) at p.leaves)
       go false b f g = never (cc (rw f at p.answers))
 
-  pub put-invalid : answer ≡ Put.Invalid → (valid ≡ false) × (after ≡ before)
+  pub put-invalid : answer ≡ (Err Invalid) → (valid ≡ false) × (after ≡ before)
   unfolding put_answer put_out
   put-invalid q = go valid (leb (at + length octets) (length before)) refl refl
     where
@@ -118,20 +120,20 @@ module _ (valid : Bool) (octets : List ℕ) (at : ℕ) (before after : List ℕ)
       go true false f g = never (cc (rw (f, g) at p.answers))
       go false b f g = (f, rw f at p.leaves)
 
-  pub put-laid : (end : ℕ) → answer ≡ Put.Done end → Lays octets at before after end
+  pub put-laid : (end : ℕ) → answer ≡ Ok end → Lays octets at before after end
   put-laid end q = let d = put-done end q in record { leaves = d.laid; ends = d.place }
 
   -- where there are such octets and the room suffices, they are put
-  pub put-there : {A : Type 0} → valid ≡ true → answer ≡ Put.Invalid → A
+  pub put-there : {A : Type 0} → valid ≡ true → answer ≡ (Err Invalid) → A
   put-there e q = never (cc (put-invalid q).0)
 
-  pub put-room : {A : Type 0} → at + length octets ≤ length before → answer ≡ Put.NoRoom → A
+  pub put-room : {A : Type 0} → at + length octets ≤ length before → answer ≡ (Err NoRoom) → A
   put-room h q = absurd (omega (arith, (put-no-room q).1))
 
-  pub laid-room : at + length octets ≤ length before → answer ≡ Put.NoRoom → Lays octets at before after at
+  pub laid-room : at + length octets ≤ length before → answer ≡ (Err NoRoom) → Lays octets at before after at
   laid-room h q = put-room h q
 
-  pub laid-there : valid ≡ true → answer ≡ Put.Invalid → Lays octets at before after at
+  pub laid-there : valid ≡ true → answer ≡ (Err Invalid) → Lays octets at before after at
   laid-there e q = put-there e q
 
 pub ruleset laid-ways = (put-laid, laid-room, laid-there)

@@ -1,4 +1,6 @@
 -- The ways through the calls that read: numbers and headers.
+use Rattle.std.specs.Prelude.{Some, None}
+use Rattle.octets.specs.Calls.{span}
 use mathlib.Core.Path.{◌≡◌, refl, sym, ap, subst, ◌∙◌}
 use mathlib.Core.Bool.{Bool, true, false, cond}
 use mathlib.Core.List.{List, [], ◌∷◌}
@@ -16,8 +18,7 @@ use borrow.Author.Tests.{le-leb, lt-leb, eq-eqb, ne_eqb}
 use Rattle.octets.specs.Numbers.{value}
 use Rattle.octets.specs.Header.{header_size, body_size}
 use Rattle.octets.specs.Calls.{header_of, number_of}
-use Rattle.octets.specs.declared.Header.{Header}
-use Rattle.octets.specs.declared.Number.{Number}
+use Rattle.octets.specs.declared.Span.{Span}
 use Rattle.octets.proofs.Lists.{take_next}
 use Rattle.octets.proofs.Numbers.{value-append}
 
@@ -64,50 +65,50 @@ module _ (s : List ℕ) where
 pub ruleset value-ways = (value-begin, value-done, value_room, value-again)
 
 module _ (s : List ℕ) where
-  pub number-long : 4 < length s → Number.TooLong ≡ number_of s
+  pub number-long : 4 < length s → None ≡ number_of s
   unfolding number_of
   number-long h = rw (lt-leb (length s) 4 h)
 
-  pub number_is : (n : ℕ) → length s ≤ 4 → n ≡ value s → Number.Is n ≡ number_of s
+  pub number_is : (n : ℕ) → length s ≤ 4 → n ≡ value s → Some n ≡ number_of s
   unfolding number_of
-  number_is n h e = rw (le-leb (length s) 4 h) (ap Number.Is e)
+  number_is n h e = rw (le-leb (length s) 4 h) (ap Some e)
 
 pub ruleset number-ways = (number-long, number_is)
 
 module _ (s : List ℕ) where
-  pub past-tag : length s < 2 → Header.Past ≡ header_of s
+  pub past-tag : length s < 2 → None ≡ header_of s
   unfolding header_of header_size
   past-tag h = go (eqb (get_or s 1 0) 0xFE) (eqb (get_or s 1 0) 0xFF)
     where
-      go : (p q : Bool) → Header.Past ≡ cond (leb (cond p 4 (cond q 5 2)) (length s)) (Header.Found (cond p 4 (cond q 5 2)) (body_size s)) Header.Past
+      go : (p q : Bool) → None ≡ cond (leb (cond p 4 (cond q 5 2)) (length s)) (Some (span (cond p 4 (cond q 5 2)) (body_size s))) None
       go true q = rw (lt-leb 4 (length s) (omega arith))
       go false true = rw (lt-leb 5 (length s) (omega arith))
       go false false = rw (lt-leb 2 (length s) h)
 
   module _ (h : 2 ≤ length s) where
-    pub found-one : (n : ℕ) → n ≡ get_or s 1 0 → get_or s 1 0 < 0xFE → Header.Found 2 n ≡ header_of s
+    pub found-one : (n : ℕ) → n ≡ get_or s 1 0 → get_or s 1 0 < 0xFE → Some (span 2 n) ≡ header_of s
     unfolding header_of header_size body_size
     found-one n e g = rw (e, ne_eqb (get_or s 1 0) 0xFE (λ q. omega arith), ne_eqb (get_or s 1 0) 0xFF (λ q. omega arith), le-leb 2 (length s) h)
 
     module _ (g : get_or s 1 0 ≡ 0xFE) where
-      pub past_two : length s < 4 → Header.Past ≡ header_of s
+      pub past_two : length s < 4 → None ≡ header_of s
       unfolding header_of header_size
       past_two k = rw (eq-eqb (get_or s 1 0) 0xFE g, lt-leb 4 (length s) k)
 
-      pub found-two : 4 ≤ length s → (n : ℕ) → n ≡ value (take 2 (drop 2 s)) → Header.Found 4 n ≡ header_of s
+      pub found-two : 4 ≤ length s → (n : ℕ) → n ≡ value (take 2 (drop 2 s)) → Some (span 4 n) ≡ header_of s
       unfolding header_of header_size body_size
-      found-two k n e = rw (eq-eqb (get_or s 1 0) 0xFE g, le-leb 4 (length s) k) (ap (Header.Found 4) e)
+      found-two k n e = rw (eq-eqb (get_or s 1 0) 0xFE g, le-leb 4 (length s) k) (ap (λ n. Some (span 4 n)) e)
 
     module _ (l : 0xFE ≤ get_or s 1 0) (g : get_or s 1 0 ≡ 0xFE → ⊥) (b : get_or s 1 0 < 256) where
       is_last : get_or s 1 0 ≡ 0xFF
       is_last = omega arith
 
-      pub past_three : length s < 5 → Header.Past ≡ header_of s
+      pub past_three : length s < 5 → None ≡ header_of s
       unfolding header_of header_size
       past_three k = rw (ne_eqb (get_or s 1 0) 0xFE g, eq-eqb (get_or s 1 0) 0xFF is_last, lt-leb 5 (length s) k)
 
-      pub found-three : 5 ≤ length s → (n : ℕ) → n ≡ value (take 3 (drop 2 s)) → Header.Found 5 n ≡ header_of s
+      pub found-three : 5 ≤ length s → (n : ℕ) → n ≡ value (take 3 (drop 2 s)) → Some (span 5 n) ≡ header_of s
       unfolding header_of header_size body_size
-      found-three k n e = rw (ne_eqb (get_or s 1 0) 0xFE g, eq-eqb (get_or s 1 0) 0xFF is_last, le-leb 5 (length s) k) (ap (Header.Found 5) e)
+      found-three k n e = rw (ne_eqb (get_or s 1 0) 0xFE g, eq-eqb (get_or s 1 0) 0xFF is_last, le-leb 5 (length s) k) (ap (λ n. Some (span 5 n)) e)
 
 pub ruleset header-ways = (past-tag, found-one, past_two, found-two, past_three, found-three)

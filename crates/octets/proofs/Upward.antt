@@ -9,9 +9,10 @@ use lib.Dec.{leb}
 use lib.ListN.{length, take, get_or, set}
 use lib.Seq.{sets, length-sets}
 use borrow.Author.Tests.{le-leb, lt-leb}
+use Rattle.std.specs.List.{copy_within}
 use Rattle.octets.specs.Places.{between, moved_up}
 use Rattle.octets.proofs.Tests.{cond_same}
-use Rattle.octets.proofs.Lists.{set-sets, sets_same, get_d_sets_before, drop-next}
+use Rattle.octets.proofs.Lists.{set-sets, sets_same, get_d_sets_before, drop-next, copy_within-sets}
 use Rattle.octets.proofs.Puts.{room_in}
 
 -- ---- the part between two places: where they are one, and its first element
@@ -78,7 +79,10 @@ module _ (l : List ℕ) (from end by : ℕ) where
     unfolding moved_up
     moved q after e = rw (le-leb from end h, sym k ∙ q) e
 
-pub ruleset moved-ways = (unmoved, no_part, no_place, moved, room_in)
+    pub moved_within : b ≡ true → (after : List ℕ) → after ≡ copy_within l from end (from + by) → after ≡ moved_up l from end by
+    moved_within q after e = moved q after (e ∙ copy_within-sets l from end (from + by) (omega (arith, room_in (length l) end by b k q)) (omega (arith, room_in (length l) end by b k q)))
+
+pub ruleset moved-ways = (unmoved, no_part, no_place, moved_within, room_in)
 
 -- where there is a place for all
 pub moves-up : (l : List ℕ) (from end by : ℕ) → from ≤ end → end + by ≤ length l → moved_up l from end by ≡ sets l (from + by) (between l from end)

@@ -63,34 +63,38 @@ module _ (n place : ℕ) where
 pub ruleset digit-ways = (digit-fits, digit-is)
 
 -- ---- a number stored from its first octet on: what is left are the digits of its low octets
-pub record Storing (out₀ : List ℕ) (at width n : ℕ) (out : List ℕ) (to left : ℕ) : Type 0 where
-  pub few : left ≤ 4
-  pub rest : Left (digits width n) at out₀ (digits left (n % 256 ^ left)) out to
+pub record Storing (out₀ : List ℕ) (at width n : ℕ) (out : List ℕ) (i : ℕ) : Type 0 where
+  pub few : width ≤ 4
+  pub rest : Left (digits width n) at out₀ (digits (width - i) (n % 256 ^ (width - i))) out (at + i)
 
 module _ (out₀ : List ℕ) (at width n : ℕ) where
-  pub store-begin : width ≤ 4 → n < 256 ^ width → at + width ≤ length out₀ → Storing out₀ at width n out₀ at width
-  store-begin h g r = record { few = h; rest = rw (mod-eq_of_lt g) (left-begin (digits width n) at out₀ (rw length_digits r)) }
+  pub store-begin : width ≤ 4 → n < 256 ^ width → at + width ≤ length out₀ → Storing out₀ at width n out₀ 0
+  store-begin h g r =
+      let w : width - 0 ≡ width = omega arith in
+      record { few = h; rest = rw (w, add-zero, mod-eq_of_lt g) (left-begin (digits width n) at out₀ (rw length_digits r)) }
 
-  pub store-done : (out : List ℕ) (to left : ℕ) → Storing out₀ at width n out to left → left ≤ 0 → out ≡ sets out₀ at (digits width n)
+  pub store-done : (out : List ℕ) (i : ℕ) → Storing out₀ at width n out i → width ≤ i → out ≡ sets out₀ at (digits width n)
   unfolding digits
-  store-done out to zero v h = v.rest.same
-  store-done out to (suc left) v h = absurd (omega arith)
+  store-done out i v h = let w : width - i ≡ 0 = omega arith in (rw w at v.rest).same
 
-  module _ (out : List ℕ) (to left : ℕ) (v : Storing out₀ at width n out to left) (h : 0 < left) where
-    next : Left (digits width n) at out₀ (n / 256 ^ (left - 1) % 256 ∷ digits (left - 1) (n % 256 ^ (left - 1))) out to
-    next = let p : left ≡ suc (left - 1) = omega arith in rw (p, digits_more (left - 1) n) at v.rest
+  module _ (out : List ℕ) (i : ℕ) (v : Storing out₀ at width n out i) (h : i < width) where
+    next : Left (digits width n) at out₀ (n / 256 ^ (width - 1 - i) % 256 ∷ digits (width - 1 - i) (n % 256 ^ (width - 1 - i))) out (at + i)
+    next = let p : width - i ≡ suc (width - 1 - i) = omega arith in rw (p, digits_more (width - 1 - i) n) at v.rest
 
-    pub store-place : left - 1 < 4
+    pub store-place : width - 1 - i < 4
     store-place = omega (arith, v.few)
 
-    pub store_in : to < length out
+    pub store_in : at + i < length out
     store_in = omega (arith, next.room)
 
-    pub store-fits : length out₀ < 2 ^ 64 → Fits w64 (to + 1)
+    pub store-fits : length out₀ < 2 ^ 64 → Fits w64 (at + i)
     store-fits l = record { fits = omega (arith, next.room, next.long) }
 
-    pub store-again : (b : ℕ) → b ≡ n / 256 ^ (left - 1) % 256 → Storing out₀ at width n (set out to b) (to + 1) (left - 1)
-    store-again b e = record { few = omega (arith, v.few); rest = rw e (left_one (digits width n) at out₀ (n / 256 ^ (left - 1) % 256) (digits (left - 1) (n % 256 ^ (left - 1))) out to next) }
+    pub store-again : (b : ℕ) → b ≡ n / 256 ^ (width - 1 - i) % 256 → Storing out₀ at width n (set out (at + i) b) (i + 1)
+    store-again b e =
+        let w : width - (i + 1) ≡ width - 1 - i = omega arith in
+        let t : at + (i + 1) ≡ at + i + 1 = omega arith in
+        record { few = v.few; rest = rw (e, w, t) (left_one (digits width n) at out₀ (n / 256 ^ (width - 1 - i) % 256) (digits (width - 1 - i) (n % 256 ^ (width - 1 - i))) out (at + i) next) }
 
 pub ruleset store-ways = (store-begin, store-done, store-again, store-place, store_in, store-fits)
 

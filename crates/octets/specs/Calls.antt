@@ -1,20 +1,22 @@
 -- What the calls of this crate answer. What those that put octets leave in a lent slice is said in Puts.
-use Rattle.std.specs.Prelude.{◌≡◌, Bool, cond, ◌&&◌, List, [], ◌∷◌, ◌++◌, ℕ, ◌^◌, ◌<◌, leb, ltb, length}
+use Rattle.std.specs.Prelude.{◌≡◌, Bool, cond, ◌&&◌, List, [], ◌∷◌, ◌++◌, ℕ, ◌^◌, ◌<◌, leb, ltb, length, Option, None, Some}
 use Rattle.octets.specs.Numbers.{value, digits}
 use Rattle.octets.specs.Header.{header_size, body_size, length_field}
-use Rattle.octets.specs.declared.Header.{Header}
-use Rattle.octets.specs.declared.Header.TheVariants.{Past, Found}
-use Rattle.octets.specs.declared.Number.{Number}
+use Rattle.octets.specs.declared.Span.{Span}
 use Rattle.octets.specs.declared.LengthForm.{LengthForm}
 use Rattle.octets.specs.declared.LengthForm.TheVariants.{One, Two}
 
--- the header with which a part begins, or that the part ends within it (document 01, Framing, and 2 of the refusal numbers)
-unfoldable pub header_of : List ℕ → Header
-header_of part = cond (leb (header_size part) (length part)) (Found (header_size part) (body_size part)) Past
+-- a part of so many octets that begins at a place
+abbrev pub span : (start size : ℕ) → Span
+span start size = record { start = start; size = size }
 
--- the number that at most four octets write
-unfoldable pub number_of : List ℕ → Number
-number_of s = cond (leb (length s) 4) (Number.Is (value s)) Number.TooLong
+-- the span of the body of the item with which a part begins, unless the part ends within the header (document 01, Framing, and 2 of the refusal numbers)
+unfoldable pub header_of : List ℕ → Option Span
+header_of part = cond (leb (header_size part) (length part)) (Some (span (header_size part) (body_size part))) None
+
+-- the number that octets write, of which there are at most four
+unfoldable pub number_of : List ℕ → Option ℕ
+number_of s = cond (leb (length s) 4) (Some (value s)) None
 
 -- a number has octets of this width: four at most, and enough of them
 unfoldable pub fits_width : (width n : ℕ) → Bool

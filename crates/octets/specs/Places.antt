@@ -1,20 +1,23 @@
 -- Where an item lies in octets (document 01, Framing). Told of all octets, also of such as are no accepted object; that the items of an accepted one lie in it is
 -- proved (reader/proofs/Opening).
-use Rattle.std.specs.Prelude.{Bool, cond, ◌&&◌, List, ℕ, ◌+◌, ◌-◌, leb, length, take, drop}
+use Rattle.std.specs.Prelude.{Bool, cond, ◌&&◌, List, ℕ, ◌+◌, ◌-◌, leb, length, take, drop, Option, None, Some}
 use Rattle.std.proofs.lemmas.List.Edits.{sets}
 use Rattle.octets.specs.Header.{header_size, body_size}
 use Rattle.octets.specs.declared.Lies.{Lies}
-use Rattle.octets.specs.declared.Lies.TheVariants.{Outside, Between}
 
 -- the item with which octets begin doesn't run past their end
 abbrev pub is_whole : List ℕ → Bool
 is_whole s = leb (header_size s + body_size s) (length s)
 
--- where the body of the item lies that begins at a place of a part, unless it runs past the part's end
-unfoldable pub lies_in : ℕ → List ℕ → Lies
-lies_in at s = cond (is_whole s) (Between (at + header_size s) (at + header_size s + body_size s)) Outside
+-- what lies between two places
+abbrev pub from_to : (from to : ℕ) → Lies
+from_to from to = record { from = from; to = to }
 
-unfoldable pub lies_at : List ℕ → ℕ → Lies
+-- where the body of the item lies that begins at a place of a part, unless it runs past the part's end
+unfoldable pub lies_in : ℕ → List ℕ → Option Lies
+lies_in at s = cond (is_whole s) (Some (from_to (at + header_size s) (at + header_size s + body_size s))) None
+
+unfoldable pub lies_at : List ℕ → ℕ → Option Lies
 lies_at part at = lies_in at (drop at part)
 
 -- the body of the first item, and the octets after it

@@ -2,24 +2,24 @@
 ghost use Rattle.std.specs.Prelude.{◌≡◌};
 ghost use Rattle.octets.specs.Places.{lies_at};
 
-use crate::{Header, Lies, read_header};
+use crate::{Lies, read_header};
 
 // The item that begins at a place of a part. None begins behind its end.
-pub fn item_at(part: &[u8], at: usize) -> Lies
+pub fn item_at(part: &[u8], at: usize) -> Option<Lies>
     ensures { result ≡ lies_at part.now at }
 {
     if at > part.len() {
-        return Lies::Outside;
+        return None;
     }
-    let Header::Found { start, size } = read_header(&part[at..]) else {
-        return Lies::Outside;
+    let Some(body) = read_header(&part[at..]) else {
+        return None;
     };
-    let from = at + start;
-    if size > part.len() - from {
-        return Lies::Outside;
+    let from = at + body.start;
+    if body.size > part.len() - from {
+        return None;
     }
-    Lies::Between {
+    Some(Lies {
         from,
-        to: from + size,
-    }
+        to: from + body.size,
+    })
 }

@@ -1,6 +1,6 @@
 // Numbers in octets, the most significant first, and the header of an item: its tag and the length of its body in one of three forms (document 01, Framing).
 // Readers and writers above take headers, numbers and plain octets through the public calls alone. None asks anything of its arguments. A call that puts
-// octets leaves the lent ones as they were unless it answers Done.
+// octets leaves the lent ones as they were unless it answers Ok.
 #![tactic(auto)]
 
 ghost use Rattle.std.specs.Prelude.{◌≡◌, true, ◌∷◌, suc, ◌+◌, ◌*◌, ◌/◌, ◌%◌, ◌^◌, ◌≤◌, ◌<◌, leb, ltb, length};
@@ -19,33 +19,24 @@ pub use counts::{Characters, Octets};
 pub use items::item_at;
 pub use moving::move_up;
 
-// The header with which a part begins. Found: the span of the body, which begins behind the tag and the length and may run past the part. Past: the part ends
-// within the header.
+// A part of octets: where it begins and how many octets it has.
 #[derive(Clone, Copy)]
-pub enum Header {
-    Past,
-    Found { start: usize, size: usize },
+pub struct Span {
+    pub start: usize,
+    pub size: usize,
 }
 
-// Where the body of an item lies, if it lies in the part.
+// The same by the places between which it lies, as the body of an item lies in its part.
 #[derive(Clone, Copy)]
-pub enum Lies {
-    Outside,
-    Between { from: usize, to: usize },
+pub struct Lies {
+    pub from: usize,
+    pub to: usize,
 }
 
-// The number that octets write. TooLong: there are more than four.
+// Why octets were not put into a lent slice, by a call of this crate or of one above it, which else answers the place behind the last of them. Invalid: what is to
+// be written has no such octets, whatever the room. Neither wrote.
 #[derive(Clone, Copy)]
-pub enum Number {
-    Is(u32),
-    TooLong,
-}
-
-// Octets put into a lent slice, by a call of this crate or of one above it. Done: the place behind the last of them. Invalid: what is to be written has no such
-// octets, whatever the room. Done alone wrote.
-#[derive(Clone, Copy)]
-pub enum Put {
-    Done(usize),
+pub enum PutError {
     NoRoom,
     Invalid,
 }
@@ -57,39 +48,41 @@ enum LengthForm {
     Two,
 }
 
-// The header of the item with which a part begins. Looks at the octets of the length alone: at most four.
-pub fn read_header(part: &[u8]) -> Header
+// The span of the body of the item with which a part begins: it begins behind the tag and the length, and may run past the part. None: the part ends within the
+// header. Looks at the octets of the length alone: at most four.
+pub fn read_header(part: &[u8]) -> Option<Span>
     ensures { result ≡ header_of part.now }
 {
     if part.len() < 2 {
-        return Header::Past;
+        return None;
     }
     let first = part[1];
     if first < 0xFE {
         let size = first as usize;
-        return Header::Found { start: 2, size };
+        return Some(Span { start: 2, size });
     }
     if first == 0xFE {
         if part.len() < 4 {
-            return Header::Past;
+            return None;
         }
         let size = value_of(&part[2..4]) as usize;
-        return Header::Found { start: 4, size };
+        return Some(Span { start: 4, size });
     }
     if part.len() < 5 {
-        return Header::Past;
+        return None;
     }
     let size = value_of(&part[2..5]) as usize;
-    Header::Found { start: 5, size }
+    Some(Span { start: 5, size })
 }
 
-pub fn read_number(s: &[u8]) -> Number
+// The number that octets write, if there are at most four.
+pub fn read_number(s: &[u8]) -> Option<u32>
     ensures { result ≡ number_of s.now }
 {
     if s.len() > 4 {
-        return Number::TooLong;
+        return None;
     }
-    Number::Is(value_of(s))
+    Some(value_of(s))
 }
 
 fn value_of(s: &[u8]) -> u32
@@ -97,10 +90,8 @@ fn value_of(s: &[u8]) -> u32
     ensures { result ≡ value s.now }
 {
     let mut n: u32 = 0;
-    let mut i: usize = 0;
-    while i < s.len() {
-        n = joined(n, s[i]);
-        i = i + 1;
+    for b in s {
+        n = joined(n, *b);
     }
     n
 }
@@ -135,19 +126,19 @@ pub fn header_size(n: Octets) -> Octets
 }
 
 // The header of a body of n octets, put at a place. Invalid: n is 65,536 or more, a length that has no form here.
-pub fn write_header(out: &mut [u8], at: usize, tag: u8, n: Octets) -> Put
+pub fn write_header(out: &mut [u8], at: usize, tag: u8, n: Octets) -> Result<usize, PutError>
     ensures { Puts (ltb n.0 (256 ^ 2)) (tag ∷ length_field n.0) at out.old out.new result }
 {
     if n.0 > 0xFFFF {
-        return Put::Invalid;
+        return Err(PutError::Invalid);
     }
     let size = header_size(n);
     if !has_room(Octets(out.len()), at, size) {
-        return Put::NoRoom;
+        return Err(PutError::NoRoom);
     }
     out[at] = tag;
     store_length(out, at + 1, n);
-    Put::Done(at + size.0)
+    Ok(at + size.0)
 }
 
 fn store_length(out: &mut [u8], at: usize, n: Octets)
@@ -167,17 +158,17 @@ fn store_length(out: &mut [u8], at: usize, n: Octets)
 }
 
 // A number in so many octets, put at a place. Invalid: there are more than four, or too few for the number.
-pub fn put_number(out: &mut [u8], at: usize, width: Octets, n: u32) -> Put
+pub fn put_number(out: &mut [u8], at: usize, width: Octets, n: u32) -> Result<usize, PutError>
     ensures { Puts (fits_width width.0 n) (digits width.0 n) at out.old out.new result }
 {
     if !fits_width(width, n) {
-        return Put::Invalid;
+        return Err(PutError::Invalid);
     }
     if !has_room(Octets(out.len()), at, width) {
-        return Put::NoRoom;
+        return Err(PutError::NoRoom);
     }
     store_number(out, at, width, n);
-    Put::Done(at + width.0)
+    Ok(at + width.0)
 }
 
 fn fits_width(width: Octets, n: u32) -> bool
@@ -195,12 +186,8 @@ fn store_number(out: &mut [u8], at: usize, width: Octets, n: u32)
     requires width_in_bounds { at + width.0 ≤ length out.old }
     ensures { out.new ≡ sets out.old at (digits width.0 n) }
 {
-    let mut to = at;
-    let mut left = width.0;
-    while 0 < left {
-        left = left - 1;
-        out[to] = digit(n, left);
-        to = to + 1;
+    for i in 0..width.0 {
+        out[at + i] = digit(n, width.0 - 1 - i);
     }
 }
 
@@ -213,26 +200,16 @@ fn digit(n: u32, place: usize) -> u8
 }
 
 // Octets as they stand, put at a place.
-pub fn copy_into(out: &mut [u8], at: usize, s: &[u8]) -> Put
+pub fn copy_into(out: &mut [u8], at: usize, s: &[u8]) -> Result<usize, PutError>
     ensures { Puts true s.now at out.old out.new result }
 {
     let size = Octets(s.len());
     if !has_room(Octets(out.len()), at, size) {
-        return Put::NoRoom;
+        return Err(PutError::NoRoom);
     }
-    copy(out, at, s);
-    Put::Done(at + size.0)
-}
-
-fn copy(out: &mut [u8], at: usize, s: &[u8])
-    requires { at + length s.now ≤ length out.old }
-    ensures { out.new ≡ sets out.old at s.now }
-{
-    let mut i: usize = 0;
-    while i < s.len() {
-        out[at + i] = s[i];
-        i = i + 1;
-    }
+    let end = at + size.0;
+    out[at..end].copy_from_slice(s);
+    Ok(end)
 }
 
 // Whether so many octets, put at a place, lie within the room. No sum is made before it is known to fit. Calls that put octets, here and above, ask this before

@@ -51,6 +51,7 @@ impl GateAnswer {
     }
 }
 
+#[tactic(auto, unfolding(crate::specs::Gate::gate_of, crate::specs::Gate::gate_answer))]
 pub fn gate(object: &[u8], subject: DataType) -> GateAnswer
     ensures { result ≡ gate_of subject object.now }
 {
@@ -62,6 +63,7 @@ pub fn gate(object: &[u8], subject: DataType) -> GateAnswer
 }
 
 // The data type that a caller names by number: 0 SI, 1 PI, 2 GI.
+#[tactic(auto, unfolding(crate::specs::Table::data_type))]
 pub fn data_type(number: u8) -> DataType
     ensures { result ≡ data_type number }
 {

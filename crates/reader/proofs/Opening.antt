@@ -1,5 +1,6 @@
 -- What it says of a part that it is accepted: its first item lies in it, what is inside the item and what comes after it are accepted too, and the tree is the
 -- item's share and then the later items.
+use Rattle.std.specs.Prelude.{None, Option as Optional}
 use mathlib.Core.Path.{◌≡◌, refl, sym, ◌∙◌}
 use mathlib.Core.Bool.{Bool, true, false, cond, ◌||◌}
 use mathlib.Core.Option.{Option, none}
@@ -11,11 +12,10 @@ use lib.Dec.{eqb, leb}
 use lib.ListN.{length, drop, get_or, length-drop}
 use borrow.Author.Tests.{leb-true, leb-false}
 use Rattle.octets.specs.Header.{header_size, body_size}
-use Rattle.octets.specs.declared.Lies.{Lies}
-use Rattle.octets.specs.declared.Lies.TheVariants.{Outside}
 use Rattle.octets.specs.Places.{lies_at, first_body, after_first, between}
 use Rattle.octets.proofs.Places.{Lying, not-whole, body_is, later-is, tag-is}
 use Rattle.octets.proofs.Tests.{never}
+use Rattle.octets.specs.declared.Lies.{Lies}
 use Rattle.values.specs.Table.{known, attribute}
 use Rattle.values.proofs.Known.{items-no-attribute, items-tag, known-anywhere}
 use Rattle.format.specs.declared.Refusal.{Refusal}
@@ -132,7 +132,7 @@ module _ (parent depth base : ℕ) (s : List ℕ) (t : Items) (h : 0 < length s)
   opened = rw (sym a.is_element, sym a.is_depth) (opened_in a.context base s t h a.reads).1
 
 -- it lies where item_at says
-pub lies-inside : (part : List ℕ) (at : ℕ) (r : Lies) → r ≡ lies_at part at → at < length part → r ≡ Outside
+pub lies-inside : (part : List ℕ) (at : ℕ) (r : Optional Lies) → r ≡ lies_at part at → at < length part → r ≡ None
     → (parent depth base : ℕ) (t : Items) → Accepts parent depth base (drop at part) t → ⊥
 lies-inside part at r e l q parent depth base t a =
     let s = drop at part in

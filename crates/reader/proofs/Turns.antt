@@ -1,4 +1,5 @@
 -- The ways through fill_item and fill_items.
+use Rattle.std.specs.Prelude.{Option, Some, None}
 use mathlib.Core.Bool.{true}
 use mathlib.Core.Path.{◌≡◌, refl, sym, ap, ◌∙◌}
 use mathlib.Core.List.{List}
@@ -9,11 +10,10 @@ use native.Mathlib.Omega.{arith}
 use lib.ListN.{length, drop, get_or, drop_of_length-le}
 use mir.Syntax.{w8, w64}
 use mir.Val.{Fits}
-use Rattle.octets.specs.declared.Lies.{Lies}
-use Rattle.octets.specs.declared.Lies.TheVariants.{Outside, Between}
-use Rattle.octets.specs.Places.{lies_at, between}
+use Rattle.octets.specs.Places.{lies_at, between, from_to}
 use Rattle.octets.proofs.Lists.{length_part}
 use Rattle.octets.proofs.Places.{Lying, lying, bounds, to_inside}
+use Rattle.octets.specs.declared.Lies.{Lies}
 use Rattle.values.specs.declared.Kind.{Kind}
 use Rattle.values.specs.Table.{known}
 use Rattle.format.specs.declared.Record.{Record}
@@ -159,11 +159,11 @@ module _ (place : Place) (part : List ℕ) (before : Lists) (next at : ℕ) (l :
       let e : g.rest ≡ end = opened-end place.element place.depth (place.offset + at) g.rest (rw (drop_of_length-le part h) at g.accepts) in
       record { laid = sym (g.laid ∙ ap (λ x. lay next (records place.depth place.number next x) l) e); many = sym (g.many ∙ ap (λ x. next + count x) e ∙ add-zero next) }
 
-  module _ (h : at < length part) (r : Lies) (e : r ≡ lies_at part at) where
-    pub no_item : r ≡ Outside → Fills place part before l next
+  module _ (h : at < length part) (r : Option Lies) (e : r ≡ lies_at part at) where
+    pub no_item : r ≡ None → Fills place part before l next
     no_item q = absurd (lies-inside part at r e h q place.element place.depth (place.offset + at) sure.rest sure.accepts)
 
-    module _ (from to : ℕ) (q : r ≡ Between from to) where
+    module _ (from to : ℕ) (q : r ≡ Some (from_to from to)) where
       pub here : Lying part at from to
       here = lying part at r e from to q
 

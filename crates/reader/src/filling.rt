@@ -2,11 +2,11 @@
 // item's body lies, and `listed_as` what is written of it.
 ghost use Rattle.std.specs.Prelude.{◌≡◌};
 ghost use Rattle.format.specs.Tree.{record_of};
-ghost use Rattle.format.specs.Lent.{six};
+ghost use Rattle.format.specs.Lent.{lent_lists};
 ghost use Rattle.reader.specs.Filling.{Narrow, Fillable, Fills, ItemFillable, ItemFills};
 
-use format::{Record, kind_of, put_record};
-use octets::{Lies, item_at};
+use format::{Record, RecordsMut, kind_of};
+use octets::item_at;
 use tags::{Listed, listed_as};
 
 // Where reading stands: the element whose items are read (its tag and the number of its record), the depth of these items, an offset
@@ -42,31 +42,21 @@ fn record_of(tag: u8, body: &[u8], place: Place) -> Record
 
 // The records of one item, whose body begins at the place's offset, and the number behind them.
 #[cycle(fill_item_fill_items)]
-fn fill_item(
-    tag: u8,
-    body: &[u8],
-    place: Place,
-    tags: &mut [u8],
-    kinds: &mut [u8],
-    depths: &mut [u8],
-    parents: &mut [u16],
-    starts: &mut [u16],
-    sizes: &mut [u16],
-) -> usize
-    requires { ItemFillable place tag body.now (six tags.old kinds.old depths.old parents.old starts.old sizes.old) }
-    ensures { ItemFills place tag body.now (six tags.old kinds.old depths.old parents.old starts.old sizes.old) (six tags.new kinds.new depths.new parents.new starts.new sizes.new) result }
+fn fill_item(tag: u8, body: &[u8], place: Place, records: &mut RecordsMut) -> usize
+    requires { ItemFillable place tag body.now (lent_lists records.old) }
+    ensures { ItemFills place tag body.now (lent_lists records.old) (lent_lists records.new) result }
 {
     let n = place.next;
     match listed_as(place.element, tag) {
         Listed::Nothing => n,
         Listed::Value(_) => {
             let record = record_of(tag, body, place);
-            put_record(tags, kinds, depths, parents, starts, sizes, n, record);
+            records.put(n, record);
             n + 1
         }
         Listed::Inside => {
             let record = record_of(tag, body, place);
-            put_record(tags, kinds, depths, parents, starts, sizes, n, record);
+            records.put(n, record);
             let inner = Place {
                 element: tag,
                 number: n,
@@ -74,43 +64,34 @@ fn fill_item(
                 offset: place.offset,
                 next: n + 1,
             };
-            fill_items(body, inner, tags, kinds, depths, parents, starts, sizes)
+            fill_items(body, inner, records)
         }
     }
 }
 
 // The records of the items in a part, which begins at the place's offset, and the number behind them.
 #[cycle(fill_item_fill_items)]
-pub fn fill_items(
-    part: &[u8],
-    place: Place,
-    tags: &mut [u8],
-    kinds: &mut [u8],
-    depths: &mut [u8],
-    parents: &mut [u16],
-    starts: &mut [u16],
-    sizes: &mut [u16],
-) -> usize
-    requires { Fillable place part.now (six tags.old kinds.old depths.old parents.old starts.old sizes.old) }
-    ensures { Fills place part.now (six tags.old kinds.old depths.old parents.old starts.old sizes.old) (six tags.new kinds.new depths.new parents.new starts.new sizes.new) result }
+pub fn fill_items(part: &[u8], place: Place, records: &mut RecordsMut) -> usize
+    requires { Fillable place part.now (lent_lists records.old) }
+    ensures { Fills place part.now (lent_lists records.old) (lent_lists records.new) result }
 {
     let mut next = place.next;
     let mut at: usize = 0;
     while at < part.len() {
-        let Lies::Between { from, to } = item_at(part, at) else {
+        let Some(lies) = item_at(part, at) else {
             return next;
         };
         let item = Place {
             element: place.element,
             number: place.number,
             depth: place.depth,
-            offset: place.offset + from,
+            offset: place.offset + lies.from,
             next,
         };
         let tag = part[at];
-        let body = &part[from..to];
-        next = fill_item(tag, body, item, tags, kinds, depths, parents, starts, sizes);
-        at = to;
+        let body = &part[lies.from..lies.to];
+        next = fill_item(tag, body, item, records);
+        at = lies.to;
     }
     next
 }

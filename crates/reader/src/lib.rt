@@ -3,65 +3,40 @@
 
 ghost use Rattle.std.specs.Prelude.{◌≡◌};
 ghost use Rattle.format.specs.Calls.{ReadClaim, ReadAtMostClaim, span_of, body_at};
-ghost use Rattle.format.specs.Lent.{six};
+ghost use Rattle.format.specs.Lent.{lent_lists};
 
 mod filling;
 
 use filling::{Place, fill_items};
-use format::{ReadAnswer, Span, least, places, refuse};
+use format::{Counts, RecordsMut, Refusal, Span, refuse};
 use judge::judge;
 
 // The records of an object in reading order, the first at number 0, into no more places than the caller says. Nothing is written before
-// the whole object is accepted and each record is known to have a place, in the shortest list too. The lists are lent for one lifetime, so
-// that a caller that is proved by hand hands over one.
-pub fn read_at_most<'o, 'l>(
-    object: &'o [u8],
-    most: usize,
-    tags: &'l mut [u8],
-    kinds: &'l mut [u8],
-    depths: &'l mut [u8],
-    parents: &'l mut [u16],
-    starts: &'l mut [u16],
-    sizes: &'l mut [u16],
-) -> ReadAnswer
-    ensures { ReadAtMostClaim object.now most (six tags.old kinds.old depths.old parents.old starts.old sizes.old) (six tags.new kinds.new depths.new parents.new starts.new sizes.new) result }
+// the whole object is accepted and each record is known to have a place, in the shortest list too.
+pub fn read_at_most(object: &[u8], most: usize, records: &mut RecordsMut) -> Result<Counts, Refusal>
+    ensures { ReadAtMostClaim object.now most (lent_lists records.old) (lent_lists records.new) result }
 {
-    let answer = judge(object);
-    match answer {
-        ReadAnswer::NotRead(refusal) => ReadAnswer::NotRead(refusal),
-        ReadAnswer::Records(counts) => {
-            let many = counts.records;
-            let there = places(tags, kinds, depths, parents, starts, sizes);
-            if least(most, there) < many {
-                return ReadAnswer::NotRead(refuse(14, 0));
-            }
-            let top = Place {
-                element: 0,
-                number: 0,
-                depth: 1,
-                offset: 0,
-                next: 0,
-            };
-            fill_items(object, top, tags, kinds, depths, parents, starts, sizes);
-            ReadAnswer::Records(counts)
-        }
+    let counts = judge(object)?;
+    if most.min(records.places()) < counts.records {
+        return Err(refuse(14, 0));
     }
+    let top = Place {
+        element: 0,
+        number: 0,
+        depth: 1,
+        offset: 0,
+        next: 0,
+    };
+    fill_items(object, top, records);
+    Ok(counts)
 }
 
 // The same into as many places as the lists have. The tags' list has no fewer places than the shortest, so its length sets no limit.
-pub fn read(
-    object: &[u8],
-    tags: &mut [u8],
-    kinds: &mut [u8],
-    depths: &mut [u8],
-    parents: &mut [u16],
-    starts: &mut [u16],
-    sizes: &mut [u16],
-) -> ReadAnswer
-    ensures { ReadClaim object.now (six tags.old kinds.old depths.old parents.old starts.old sizes.old) (six tags.new kinds.new depths.new parents.new starts.new sizes.new) result }
+pub fn read(object: &[u8], records: &mut RecordsMut) -> Result<Counts, Refusal>
+    ensures { ReadClaim object.now (lent_lists records.old) (lent_lists records.new) result }
 {
-    let most = tags.len();
-    read_at_most(object, most, tags, kinds, depths, parents, starts, sizes)
+    let most = records.tags.len();
+    read_at_most(object, most, records)
 }
 
 // Where the body of a record lies, or the part of length 0 at the object's start where the lists have no such record or the object no such part.

@@ -1,10 +1,13 @@
 -- The body of a record, one law for each way through the code.
 use Prim.Native.Nat.{ℕ, min}
 use mathlib.Core.Path.{◌≡◌, refl, sym, ap, ◌∙◌}
-use mathlib.Core.Bool.{Bool, true, false, ◌&&◌, and-true as and_yes, false≢true}
-use mathlib.Core.Option.{Option, none, some}
+use mathlib.Core.Bool.{Bool, true, false, cond, ◌&&◌, and-true as and_yes, false≢true}
+use mathlib.Core.Option.{Option as Maybe, none, some}
+use mathlib.Core.Logic.{◌⊎◌, ⊎_elim}
 use mathlib.Core.List.{List, []}
 use lib.ListN.{take}
+use Rattle.std.specs.Prelude.{Option, None, Some}
+use Rattle.std.specs.Bool.{then_some}
 use Rattle.text.specs.Text.{text}
 use Rattle.text.specs.Tokens.{entries, cut, shown_length, covered}
 use Rattle.text.specs.Weighing.{tags, Marks, Shows, weighed_by}
@@ -24,21 +27,11 @@ use Rattle.format.specs.Judge.{is_known, is_items, is_tokens, is_text, is_value,
 use Rattle.format.specs.Writer.{body_keeps}
 use Rattle.tags.proofs.TagTests.{capped-shown, short-other}
 use Rattle.values.specs.Calls.{as_known, known_kind}
-use Rattle.records.specs.Check.{octets_if, held_as}
+use Rattle.records.specs.Check.{held_as}
 use Rattle.values.specs.declared.KnownKind.{KnownKind}
 use Rattle.values.specs.declared.KnownKind.TheVariants.{Unknown, Known}
 use Rattle.records.specs.declared.check.Held.{Held}
-use Rattle.records.specs.declared.check.Held.TheVariants.{Broken, Octets, Inner}
-
-pub octets-good : (b : Bool) → b ≡ true → Octets ≡ octets_if b
-unfolding octets_if
-octets-good b e = rw e
-
-pub octets-bad : (b : Bool) → b ≡ false → Broken ≡ octets_if b
-unfolding octets_if
-octets-bad b e = rw e
-
-pub ruleset octets-ways = (octets-good, octets-bad)
+use Rattle.records.specs.declared.check.Held.TheVariants.{Octets, Inner}
 
 -- there is no token table: an empty part has no entries
 pub no-entries : (o : List ℕ) → entries (take 0 o) ≡ []
@@ -80,54 +73,51 @@ text-other parent tag body h b e = e ∙ sym (ap (λ c. text false body && c) (s
 
 pub ruleset text-ways = (text-none, text-tokens, text-bare, text-other)
 
+some-if : (b : Bool) → cond b (Some Octets) None ≡ then_some b Octets
+some-if true = refl
+some-if false = refl
+
 module _ (parent tag : ℕ) (body : List ℕ) where
   -- a value keeps the rules where it is one
-  held-value : (k : Kind) → is_items (some k) ≡ false → is_tokens (some k) ≡ false → is_text (some k) ≡ false → held_as parent tag body (some k) ≡ octets_if (fits k body)
-  unfolding held_as body_keeps is_known is_value octets_if
-  held-value k i t x = rw (i, t, x, and_yes (fits k body))
+  held-value : (k : Kind) → is_items (some k) ≡ false → is_tokens (some k) ≡ false → is_text (some k) ≡ false
+      → held_as parent tag body (some k) ≡ then_some (fits k body) Octets
+  unfolding held_as body_keeps is_known is_value
+  held-value k i t x = rw (i, t, x, and_yes (fits k body)) (some-if (fits k body))
 
   module _ (k : Kind) where
-    pub kind-items : k ≡ HoldsItems → Inner ≡ held_as parent tag body (some k)
+    pub kind-items : k ≡ HoldsItems → Some Inner ≡ held_as parent tag body (some k)
     unfolding held_as body_keeps is_known is_items is_tokens is_text is_value fits
     kind-items e = rw e
 
-    pub kind-tokens : k ≡ HoldsTokens → Broken ≡ held_as parent tag body (some k)
+    pub kind-tokens : k ≡ HoldsTokens → None ≡ held_as parent tag body (some k)
     unfolding held_as body_keeps is_known is_items is_tokens is_text is_value fits
     kind-tokens e = rw e
 
-    pub kind-plain : k ≡ HoldsPlain → Octets ≡ held_as parent tag body (some k)
+    pub kind-plain : k ≡ HoldsPlain → Some Octets ≡ held_as parent tag body (some k)
     unfolding held_as body_keeps is_known is_items is_tokens is_text is_value fits
     kind-plain e = rw e
 
-    module _ (b : Bool) (h : Held) (he : h ≡ octets_if b) where
+    module _ (b : Bool) (h : Option Held) (he : h ≡ then_some b Octets) where
       pub kind-text : b ≡ text false body && shown parent tag (shown_length [] body) → k ≡ HoldsText → h ≡ held_as parent tag body (some k)
-      unfolding held_as body_keeps is_known is_items is_tokens is_text is_value fits octets_if
-      kind-text f e = rw e (he ∙ ap octets_if f)
+      unfolding held_as body_keeps is_known is_items is_tokens is_text is_value fits
+      kind-text f e = rw e (he ∙ ap (λ c. then_some c Octets) f ∙ sym (some-if (text false body && shown parent tag (shown_length [] body))))
 
       module _ (f : b ≡ fits k body) where
         value-is : is_items (some k) ≡ false → is_tokens (some k) ≡ false → is_text (some k) ≡ false → h ≡ held_as parent tag body (some k)
-        value-is i t x = he ∙ (ap octets_if f ∙ sym (held-value k i t x))
+        value-is i t x = he ∙ (ap (λ c. then_some c Octets) f ∙ sym (held-value k i t x))
 
-        pub kind-time : k ≡ HoldsTime → h ≡ held_as parent tag body (some k)
+        pub kind-value : (k ≡ HoldsTime) ⊎ ((k ≡ HoldsBearer) ⊎ ((n : NumberKind) × (k ≡ HoldsNumber n))) → h ≡ held_as parent tag body (some k)
         unfolding is_items is_tokens is_text
-        kind-time e = value-is (rw e) (rw e) (rw e)
+        kind-value = ⊎_elim (λ e. value-is (rw e) (rw e) (rw e)) (⊎_elim (λ e. value-is (rw e) (rw e) (rw e)) (λ e. value-is (rw e.1) (rw e.1) (rw e.1)))
 
-        pub kind-bearer : k ≡ HoldsBearer → h ≡ held_as parent tag body (some k)
-        unfolding is_items is_tokens is_text
-        kind-bearer e = value-is (rw e) (rw e) (rw e)
-
-        pub kind-number : (n : NumberKind) → k ≡ HoldsNumber n → h ≡ held_as parent tag body (some k)
-        unfolding is_items is_tokens is_text
-        kind-number n e = value-is (rw e) (rw e) (rw e)
-
-pub ruleset kind-ways = (kind-items, kind-tokens, kind-plain, kind-text, kind-time, kind-bearer, kind-number)
+pub ruleset kind-ways = (kind-items, kind-tokens, kind-plain, kind-text, kind-value)
 
 -- the kind that an answer of the table stands for
-as_option : KnownKind → Option Kind
+as_option : KnownKind → Maybe Kind
 as_option Unknown = none
 as_option (Known k) = some k
 
-known-back : (o : Option Kind) → as_option (as_known o) ≡ o
+known-back : (o : Maybe Kind) → as_option (as_known o) ≡ o
 unfolding as_option as_known
 known-back none = refl
 known-back (some k) = refl
@@ -137,11 +127,11 @@ unfolding known_kind
 known_is parent tag x y e f = ap as_option (sym f ∙ e) ∙ known-back (known parent tag)
 
 module _ (parent tag : ℕ) (body : List ℕ) (x : KnownKind) (e : x ≡ known_kind parent tag) where
-  pub body-unknown : x ≡ Unknown → Broken ≡ held_as parent tag body (known parent tag)
+  pub body-unknown : x ≡ Unknown → None ≡ held_as parent tag body (known parent tag)
   unfolding held_as body_keeps is_known as_option
   body-unknown f = rw (sym (known_is parent tag x Unknown e f))
 
-  pub body-known : (k : Kind) (h : Held) → h ≡ held_as parent tag body (some k) → x ≡ Known k → h ≡ held_as parent tag body (known parent tag)
+  pub body-known : (k : Kind) (h : Option Held) → h ≡ held_as parent tag body (some k) → x ≡ Known k → h ≡ held_as parent tag body (known parent tag)
   unfolding as_option
   body-known k h g f = g ∙ ap (held_as parent tag body) (known_is parent tag x (Known k) e f)
 

@@ -2,19 +2,18 @@
 use Prim.Native.Nat.{ℕ, suc, ◌≤◌, ◌<◌}
 use mathlib.Core.Path.{◌≡◌, refl, sym, ap, ◌∙◌}
 use mathlib.Core.List.{List}
-use mathlib.Core.Option.{Option, none, some}
+use mathlib.Core.Option.{Option as Maybe, none, some}
 use mathlib.Core.Bool.{Bool, true, false, cond, ◌&&◌, and-false}
 use lib.Dec.{eqb, leb}
 use native.Mathlib.Omega.{arith}
 use borrow.Author.Tests.{lt-ltb, lt-leb, le-leb}
+use Rattle.std.specs.Prelude.{Option, Some}
+use Rattle.std.specs.Option.{option_eq}
 use Rattle.format.specs.Writer.{at_top, walk, tree, to_end, rebuilt}
 use Rattle.format.specs.Calls.{Lists, row, places, tree_given}
 use Rattle.format.proofs.Walk.{whole-walk}
 use Rattle.records.specs.Check.{is_given, first_in, walked, told}
 use Rattle.records.specs.declared.check.Parent.{Parent}
-use Rattle.records.specs.declared.check.Reached.{Reached}
-use Rattle.records.specs.declared.check.Reached.TheVariants.{Ill, Next}
-use Rattle.records.proofs.Turns.{told-next, told-ill}
 
 -- above the top
 abbrev above : Parent
@@ -30,7 +29,7 @@ given_is n l lent = go (leb n (places l)) (to_end n (walk (suc n) (row l) n lent
     go true false = refl
     go false b = refl
 
-end-zero : (o : Option ℕ) → to_end 0 o ≡ false
+end-zero : (o : Maybe ℕ) → to_end 0 o ≡ false
 unfolding to_end
 end-zero none = refl
 end-zero (some j) = refl
@@ -43,16 +42,17 @@ module _ (n : ℕ) (l : Lists) (lent : List ℕ) where
     pub given-beyond : k < n → false ≡ is_given (tree_given n l lent)
     given-beyond f = rw (given_is n l lent, lt-leb n (places l) (omega (arith, e)))
 
-    module _ (f : n ≤ k) (v : Reached) (ve : v ≡ told (walked l n lent (first_in above) 0 0)) where
+    module _ (f : n ≤ k) (v : Option ℕ) (ve : v ≡ told (walked l n lent (first_in above) 0 0)) where
       listed : leb n (places l) ≡ true
       listed = le-leb n (places l) (omega (arith, e))
 
-      pub given-ill : v ≡ Ill → false ≡ is_given (tree_given n l lent)
-      unfolding to_end
-      given-ill q = rw (given_is n l lent, listed, told-ill (walked l n lent (first_in above) 0 0) (sym q ∙ ve))
+      -- the number of records is where the walk ends, if it does
+      ended : (o : Maybe ℕ) → (n ≡ 0 → ⊥) → option_eq eqb (told o) (Some n) ≡ to_end n o
+      unfolding told to_end
+      ended none z = refl
+      ended (some j) z = rw (lt-ltb 0 n (omega arith))
 
-      pub given-next : (j : ℕ) → v ≡ Next j → (n ≡ 0 → ⊥) → eqb j n ≡ is_given (tree_given n l lent)
-      unfolding to_end
-      given-next j q z = rw (given_is n l lent, listed, told-next (walked l n lent (first_in above) 0 0) j (sym q ∙ ve), lt-ltb 0 n (omega arith))
+      pub given-end : (n ≡ 0 → ⊥) → option_eq eqb v (Some n) ≡ is_given (tree_given n l lent)
+      given-end z = rw (given_is n l lent, listed, ve) (ended (walked l n lent (first_in above) 0 0) z)
 
-pub ruleset given-ways = (given-none, given-beyond, given-ill, given-next)
+pub ruleset given-ways = (given-none, given-beyond, given-end)

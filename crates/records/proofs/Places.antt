@@ -10,8 +10,8 @@ use Rattle.records.specs.Check.{placed_by, state_after, item_of}
 use Rattle.records.specs.declared.check.Parent.{Parent}
 use Rattle.records.specs.declared.check.State.{State}
 use Rattle.records.specs.declared.check.Held.{Held}
-use Rattle.records.specs.declared.check.Held.TheVariants.{Broken, Octets, Inner}
-use Rattle.records.specs.declared.check.Item.TheVariants.{Bad, Single, Nested}
+use Rattle.records.specs.declared.check.Held.TheVariants.{Octets, Inner}
+use Rattle.records.specs.declared.check.Item.TheVariants.{Single, Nested}
 
 -- four tests of which the last three are known
 second-false : (a b : Bool) → false ≡ a && false && b && true
@@ -63,10 +63,6 @@ module _ (p : Parent) (s : State) (tag mask : ℕ) (e : mask ≡ with_bit s.mask
 pub ruleset state-ways = (after-top, after-inner)
 
 module _ (h : Held) (tag : ℕ) (s : State) where
-  pub item-broken : h ≡ Broken → Bad ≡ item_of h tag s
-  unfolding item_of
-  item-broken e = rw e
-
   pub item-octets : h ≡ Octets → Single s ≡ item_of h tag s
   unfolding item_of
   item-octets e = rw e
@@ -75,4 +71,4 @@ module _ (h : Held) (tag : ℕ) (s : State) where
   unfolding item_of
   item-inner e = rw e
 
-pub ruleset item-ways = (item-broken, item-octets, item-inner)
+pub ruleset item-ways = (item-octets, item-inner)

@@ -2,13 +2,15 @@
 use Prim.Native.Nat.{ℕ, suc, ◌+◌, ◌-◌, ◌≤◌, ◌<◌}
 use mathlib.Core.Path.{◌≡◌, refl, sym, ap, subst, ◌∙◌}
 use mathlib.Core.List.{List, [], ◌∷◌}
-use mathlib.Core.Option.{Option, none, some}
+use mathlib.Core.Option.{Option as Maybe, none, some}
 use mathlib.Core.Bool.{Bool, true, false, cond, not, ◌&&◌, ◌||◌, and-false}
 use lib.Dec.{eqb, leb}
 use lib.ListN.{length}
 use native.Mathlib.Numerals.{add-one}
 use native.Mathlib.Omega.{arith}
 use borrow.Author.Tests.{leb-true}
+use Rattle.std.specs.Prelude.{Option, None, Some, option_map}
+use Rattle.std.proofs.lemmas.Option.{none-some, same_Some}
 use Rattle.octets.proofs.Tests.{and_left}
 use Rattle.values.specs.declared.Kind.{Kind}
 use Rattle.values.specs.Table.{known}
@@ -30,13 +32,11 @@ use Rattle.tags.proofs.Masks.{marked, none-marked}
 use Rattle.records.specs.Check.{held_as, placed_by, state_after, item_of, tied, item_as, first_in, parent_at, walked, told}
 use Rattle.records.specs.declared.check.Parent.{Parent}
 use Rattle.records.specs.declared.check.State.{State}
-use Rattle.records.specs.declared.check.Held.TheVariants.{Broken, Octets, Inner}
+use Rattle.records.specs.declared.check.Held.TheVariants.{Octets, Inner}
 use Rattle.records.specs.declared.check.Item.{Item}
-use Rattle.records.specs.declared.check.Item.TheVariants.{Past, Bad, Single, Nested}
-use Rattle.records.specs.declared.check.Reached.{Reached}
-use Rattle.records.specs.declared.check.Reached.TheVariants.{Ill, Next}
+use Rattle.records.specs.declared.check.Item.TheVariants.{Past, Single, Nested}
 
-kept-known : (p tag : ℕ) (body : List ℕ) (k : Option Kind) → body_keeps p tag body k ≡ true → is_known k ≡ true
+kept-known : (p tag : ℕ) (body : List ℕ) (k : Maybe Kind) → body_keeps p tag body k ≡ true → is_known k ≡ true
 unfolding body_keeps
 kept-known p tag body k h =
     and_left (is_known k) (not (is_tokens k))
@@ -63,11 +63,11 @@ module _ (p : Parent) (s : State) (lent : List ℕ) (r : Record) (seen : List �
       go true e = rw (e, m r.tag (kept-known p.tag r.tag (body_in lent r) (known p.tag r.tag) e))
       go false e = rw (e, and-false (placed (spot_of p s seen) r.tag), and-false (placed_by p s r.tag))
 
-  Says : Item → Type 0
-  Says Past = eqb r.depth p.depth ≡ false
-  Says Bad = (eqb r.depth p.depth ≡ true) × (good (spot_of p s seen) p.number lent r ≡ false)
-  Says (Single t) = (eqb r.depth p.depth ≡ true) × (good (spot_of p s seen) p.number lent r ≡ true) × (opens r.tag ≡ false) × (t ≡ state_after p s r.tag)
-  Says (Nested tag t) =
+  Says : Option Item → Type 0
+  Says (Some Past) = eqb r.depth p.depth ≡ false
+  Says None = (eqb r.depth p.depth ≡ true) × (good (spot_of p s seen) p.number lent r ≡ false)
+  Says (Some (Single t)) = (eqb r.depth p.depth ≡ true) × (good (spot_of p s seen) p.number lent r ≡ true) × (opens r.tag ≡ false) × (t ≡ state_after p s r.tag)
+  Says (Some (Nested tag t)) =
       (eqb r.depth p.depth ≡ true) × (good (spot_of p s seen) p.number lent r ≡ true) × (opens r.tag ≡ true) × (tag ≡ r.tag) × (t ≡ state_after p s r.tag)
 
   says : Says (item_as p s lent r)
@@ -75,7 +75,8 @@ module _ (p : Parent) (s : State) (lent : List ℕ) (r : Record) (seen : List �
   says = go (eqb r.depth p.depth) firm (placed_by p s r.tag) kept (is_items (known p.tag r.tag)) refl good-same (items-opens p.tag r.tag)
     where
       go : (a f q b c : Bool) → eqb r.depth p.depth ≡ a → good (spot_of p s seen) p.number lent r ≡ f && (q && b) → c ≡ opens r.tag
-          → Says (cond a (cond (f && q) (item_of (cond b (cond c Inner Octets) Broken) r.tag (state_after p s r.tag)) Bad) Past)
+          → Says (cond a (cond (f && q) (option_map (λ h. item_of h r.tag (state_after p s r.tag))
+          (cond b (Some (cond c Inner Octets)) None)) None) (Some Past))
       go false f q b c e g o = e
       go true false q b c e g o = (e, g)
       go true true false b c e g o = (e, g)
@@ -92,15 +93,15 @@ shallow s p lent r g o =
     leb-true s.depth 16 (rw (e.not_attribute, e.not_cdata) at (placed-parts s r.tag place).deep)
 
 -- what an answer tells of the walk
-pub told-next : (o : Option ℕ) (j : ℕ) → Next j ≡ told o → o ≡ some j
+pub told-next : (o : Maybe ℕ) (j : ℕ) → Some j ≡ told o → o ≡ some j
 unfolding told
-told-next none j e = let z : ◌≡◌ {A = ℕ} 0 1 = cc in absurd (omega arith)
-told-next (some i) j e = let z : j ≡ i = cc in ap some (sym z)
+told-next none j e = absurd (none-some j (sym e))
+told-next (some i) j e = ap some (sym (same_Some j i e))
 
-pub told-ill : (o : Option ℕ) → Ill ≡ told o → o ≡ none
+pub told-ill : (o : Maybe ℕ) → None ≡ told o → o ≡ none
 unfolding told
 told-ill none e = refl
-told-ill (some i) e = let z : ◌≡◌ {A = ℕ} 0 1 = cc in absurd (omega arith)
+told-ill (some i) e = absurd (none-some i e)
 
 -- the loop's invariant: the walk from the first record of the element goes on from here, with the tags between as bits
 pub record Holds (l : Lists) (n : ℕ) (lent : List ℕ) (at : ℕ) (p : Parent) (i : ℕ) (s : State) : Type 0 where
@@ -114,41 +115,41 @@ pub at_first : (l : Lists) (n : ℕ) (lent : List ℕ) (at : ℕ) (p : Parent) �
 at_first l n lent at p h = record { low = omega arith; high = h; seen = []; sees = none-marked p.tag; same = refl }
 
 -- the walk over what is inside record i, and the walk that goes on behind that
-abbrev inner : Lists → ℕ → List ℕ → Parent → (tag i : ℕ) → Option ℕ
+abbrev inner : Lists → ℕ → List ℕ → Parent → (tag i : ℕ) → Maybe ℕ
 inner l n lent p tag i = walked l n lent (first_in (parent_at p tag i)) i (i + 1)
 
-abbrev beside : Lists → ℕ → List ℕ → Parent → State → List ℕ → ℕ → Option ℕ
+abbrev beside : Lists → ℕ → List ℕ → Parent → State → List ℕ → ℕ → Maybe ℕ
 beside l n lent p u seen j = walked l n lent (spot_of p u seen) p.number j
 
 module _ (l : Lists) (n : ℕ) (lent : List ℕ) (at : ℕ) (p : Parent) (i : ℕ) (s : State) (inv : Holds l n lent at p i s) where
   spot : Spot
   spot = spot_of p s inv.seen
 
-  stops : here (row l) n p.depth i ≡ false → Next i ≡ told (walked l n lent (first_in p) p.number at)
+  stops : here (row l) n p.depth i ≡ false → Some i ≡ told (walked l n lent (first_in p) p.number at)
   unfolding told walked spot
   stops e = sym (ap told (inv.same ∙ at-stop (row l) n lent spot p.number i e))
 
-  pub turns-end : n ≤ i → Next i ≡ told (walked l n lent (first_in p) p.number at)
+  pub turns-end : n ≤ i → Some i ≡ told (walked l n lent (first_in p) p.number at)
   turns-end h = stops (here_end (row l) n p.depth i h)
 
-  module _ (lt : i < n) (r : Record) (re : r ≡ row l i) (x : Item) (xe : x ≡ item_as p s lent r) where
-    told-so : (y : Item) → x ≡ y → Says p s lent (row l i) inv.seen inv.sees y
+  module _ (lt : i < n) (r : Record) (re : r ≡ row l i) (x : Option Item) (xe : x ≡ item_as p s lent r) where
+    told-so : (y : Option Item) → x ≡ y → Says p s lent (row l i) inv.seen inv.sees y
     told-so y f = subst (Says p s lent (row l i) inv.seen inv.sees) (ap (item_as p s lent) (sym re) ∙ (sym xe ∙ f)) (says p s lent (row l i) inv.seen inv.sees)
 
-    pub turn-past : x ≡ Past → Next i ≡ told (walked l n lent (first_in p) p.number at)
+    pub turn-past : x ≡ Some Past → Some i ≡ told (walked l n lent (first_in p) p.number at)
     unfolding Says
-    turn-past f = stops (here-not (row l) n p.depth i (told-so Past f))
+    turn-past f = stops (here-not (row l) n p.depth i (told-so (Some Past) f))
 
-    pub turn-bad : x ≡ Bad → Ill ≡ told (walked l n lent (first_in p) p.number at)
+    pub turn-bad : x ≡ None → None ≡ told (walked l n lent (first_in p) p.number at)
     unfolding Says told walked spot
     turn-bad f =
-        let t = told-so Bad f in
+        let t = told-so None f in
         sym (ap told (inv.same ∙ at-bad (row l) n lent spot p.number i (here-is (row l) n p.depth i lt t.0) t.1))
 
-    pub turn-single : (u : State) → x ≡ Single u → Holds l n lent at p (i + 1) u
+    pub turn-single : (u : State) → x ≡ Some (Single u) → Holds l n lent at p (i + 1) u
     unfolding Says walked spot past state_after
     turn-single u f =
-        let t = told-so (Single u) f in
+        let t = told-so (Some (Single u)) f in
         let k = inv.low in
         let tag = (row l i).tag in
         let e : walked l n lent (first_in p) p.number at ≡ walked l n lent (spot_of p (state_after p s tag) (tag ∷ inv.seen)) p.number (suc i) =
@@ -161,25 +162,26 @@ module _ (l : Lists) (n : ℕ) (lent : List ℕ) (at : ℕ) (p : Parent) (i : �
           same = rw (t.3, add-one i) e;
         }
 
-    pub nested-shallow : (tag : ℕ) (u : State) → x ≡ Nested tag u → p.depth ≤ 16
+    pub nested-shallow : (tag : ℕ) (u : State) → x ≡ Some (Nested tag u) → p.depth ≤ 16
     unfolding Says
-    nested-shallow tag u f = let t = told-so (Nested tag u) f in shallow (spot_of p s inv.seen) p.number lent (row l i) t.1 t.2
+    nested-shallow tag u f = let t = told-so (Some (Nested tag u)) f in shallow (spot_of p s inv.seen) p.number lent (row l i) t.1 t.2
 
-    module _ (tag : ℕ) (u : State) (f : x ≡ Nested tag u) (o : Parent) (oe : o ≡ parent_at p tag i) (v : Reached) (w : v ≡ told (walked l n lent (first_in o) o.number (i + 1))) where
+    module _ (tag : ℕ) (u : State) (f : x ≡ Some (Nested tag u)) (o : Parent) (oe : o ≡ parent_at p tag i)
+        (v : Option ℕ) (w : v ≡ told (walked l n lent (first_in o) o.number (i + 1))) where
       ve : v ≡ told (inner l n lent p tag i)
       ve = w ∙ ap (λ y. told (walked l n lent (first_in y) y.number (i + 1))) oe
 
       nested : walked l n lent (first_in p) p.number at ≡ onward (inner l n lent p tag i) (beside l n lent p u (tag ∷ inv.seen))
       unfolding Says walked spot past state_after below
       nested =
-          let t = told-so (Nested tag u) f in
+          let t = told-so (Some (Nested tag u)) f in
           inv.same ∙ at_nested (row l) n lent spot p.number i (here-is (row l) n p.depth i lt t.0) t.1 t.2 ∙ rw (t.3, t.4, add-one i, add-one p.depth) refl
 
-      pub turn-ill : v ≡ Ill → Ill ≡ told (walked l n lent (first_in p) p.number at)
+      pub turn-ill : v ≡ None → None ≡ told (walked l n lent (first_in p) p.number at)
       unfolding told onward
       turn-ill q = sym (ap told (nested ∙ ap (λ o. onward o (beside l n lent p u (tag ∷ inv.seen))) (told-ill (inner l n lent p tag i) (sym q ∙ ve))))
 
-      module _ (j : ℕ) (q : v ≡ Next j) where
+      module _ (j : ℕ) (q : v ≡ Some j) where
         inner-some : inner l n lent p tag i ≡ some j
         inner-some = told-next (inner l n lent p tag i) j (sym q ∙ ve)
 
@@ -193,7 +195,7 @@ module _ (l : Lists) (n : ℕ) (lent : List ℕ) (at : ℕ) (p : Parent) (i : �
         pub turn-nested : Holds l n lent at p j u
         unfolding Says onward state_after
         turn-nested =
-            let t = told-so (Nested tag u) f in
+            let t = told-so (Some (Nested tag u)) f in
             let b = between in
             let k = inv.low in
             record {

@@ -7,10 +7,10 @@ ghost use Rattle.text.specs.Text.{text};
 ghost use Rattle.text.specs.Tokens.{shown_length};
 ghost use Rattle.format.specs.Judge.{shown};
 ghost use Rattle.format.specs.Calls.{places, tree_given};
-ghost use Rattle.format.specs.Lent.{six};
-ghost use Rattle.records.specs.Check.{is_given, octets_if, held_as, placed_by, state_after, item_of, item_as, first_in, parent_at, walked, told};
+ghost use Rattle.format.specs.Lent.{shared_lists};
+ghost use Rattle.records.specs.Check.{is_given, held_as, placed_by, state_after, item_of, item_as, first_in, parent_at, walked, told};
 
-use format::{Record, kind_of, places};
+use format::{Record, Records, kind_of};
 use octets::Characters;
 use tags::{has_bit, is_allowed, is_short, is_within_depth, latest_of, stage_after, with_bit};
 use text::{Weighed, characters_of, tokens_of, weigh};
@@ -31,39 +31,23 @@ pub struct State {
     pub mask: u64,
 }
 
-// What a body holds: octets, or items, which have records of their own; or it breaks a rule.
+// What a body holds that keeps its rules: octets, or items, which have records of their own.
 #[derive(Clone, Copy)]
 pub enum Held {
-    Broken,
     Octets,
     Inner,
 }
 
-// What a record is among the items of an element: past the last of them; bad; or an item without or with items inside it, with what it
-// leaves behind.
+// What a good record is among the items of an element: past the last of them, or an item without or with items inside it, with what it leaves behind.
 #[derive(Clone, Copy)]
 pub enum Item {
     Past,
-    Bad,
     Single(State),
     Nested(u8, State),
 }
 
-// Where the items of an element end: the number of the first record past them. Ill: a record is bad.
-#[derive(Clone, Copy)]
-pub enum Reached {
-    Ill,
-    Next(usize),
-}
-
-fn octets_if(good: bool) -> Held
-    ensures { result ≡ octets_if good }
-{
-    if good { Held::Octets } else { Held::Broken }
-}
-
-// Rules 10, 12 and 13 where there is no token table: a token octet is a fault of the text. CDATA alone may have a limit, and so it alone is weighed; no limit is
-// as large as the most that is counted.
+// Rules 10, 12 and 13 where there is no token table: a token octet is a fault of the text. CDATA alone may have a limit, and so it alone is weighed; no limit
+// is as large as the most that is counted.
 pub fn is_text_kept(parent: u8, tag: u8, body: &[u8]) -> bool
     ensures { result ≡ (text false body.now && shown parent tag (shown_length [] body.now)) }
 {
@@ -84,26 +68,26 @@ pub fn is_text_kept(parent: u8, tag: u8, body: &[u8]) -> bool
     }
 }
 
-fn check_kind(kind: Kind, parent: u8, tag: u8, body: &[u8]) -> Held
+fn check_kind(kind: Kind, parent: u8, tag: u8, body: &[u8]) -> Option<Held>
     ensures { result ≡ held_as parent tag body.now (some kind) }
 {
     match kind {
-        Kind::HoldsItems => Held::Inner,
-        Kind::HoldsTokens => Held::Broken,
-        Kind::HoldsText => octets_if(is_text_kept(parent, tag, body)),
-        Kind::HoldsPlain => Held::Octets,
-        Kind::HoldsTime => octets_if(fits_kind(kind, body)),
-        Kind::HoldsBearer => octets_if(fits_kind(kind, body)),
-        Kind::HoldsNumber(_) => octets_if(fits_kind(kind, body)),
+        Kind::HoldsItems => Some(Held::Inner),
+        Kind::HoldsTokens => None,
+        Kind::HoldsText => is_text_kept(parent, tag, body).then_some(Held::Octets),
+        Kind::HoldsPlain => Some(Held::Octets),
+        Kind::HoldsTime | Kind::HoldsBearer | Kind::HoldsNumber(_) => {
+            fits_kind(kind, body).then_some(Held::Octets)
+        }
     }
 }
 
 // Rules 9 to 13; an unknown item and the token table break them.
-fn check_body(parent: u8, tag: u8, body: &[u8]) -> Held
+fn check_body(parent: u8, tag: u8, body: &[u8]) -> Option<Held>
     ensures { result ≡ held_as parent tag body.now (known parent tag) }
 {
     match known_kind(parent, tag) {
-        KnownKind::Unknown => Held::Broken,
+        KnownKind::Unknown => None,
         KnownKind::Known(kind) => check_kind(kind, parent, tag, body),
     }
 }
@@ -141,36 +125,35 @@ fn item_of(held: Held, tag: u8, state: State) -> Item
     ensures { result ≡ item_of held tag state }
 {
     match held {
-        Held::Broken => Item::Bad,
         Held::Octets => Item::Single(state),
         Held::Inner => Item::Nested(tag, state),
     }
 }
 
-// A record among the items of an element. A body's part may overlap others: it need only lie inside the lent octets.
-fn check_record(given: Record, octets: &[u8], parent: Parent, state: State) -> Item
+// A record among the items of an element, where it is good. A body's part may overlap others: it need only lie inside the lent octets.
+fn check_record(given: Record, octets: &[u8], parent: Parent, state: State) -> Option<Item>
     ensures { result ≡ item_as parent state octets.now given }
 {
     let tag = given.tag;
     if given.depth != parent.depth {
-        return Item::Past;
+        return Some(Item::Past);
     }
     if given.kind != kind_of(tag) {
-        return Item::Bad;
+        return None;
     }
     if given.parent as usize != parent.number {
-        return Item::Bad;
+        return None;
     }
     let start = given.start as usize;
     let end = start + given.size as usize;
     if end > octets.len() {
-        return Item::Bad;
+        return None;
     }
-    if is_placed(parent, state, tag) {
-        let held = check_body(parent.tag, tag, &octets[start..end]);
-        return item_of(held, tag, state_after(parent, state, tag));
+    if !is_placed(parent, state, tag) {
+        return None;
     }
-    Item::Bad
+    let held = check_body(parent.tag, tag, &octets[start..end])?;
+    Some(item_of(held, tag, state_after(parent, state, tag)))
 }
 
 // Record `i`, of a tag, as the element around its own items, where it stands among those of another.
@@ -185,86 +168,57 @@ fn parent_at(parent: Parent, tag: u8, i: usize) -> Parent
     }
 }
 
-// The records of the items in one element, from a number on. Each turn looks at one record and goes on behind it, so that all turns
-// together are as many as the records. An element below depth 16 is bad, so that the calls nest at most 17 deep. A record's fields are read here, where it is
-// known that each list has it: by `record_at` of format, which asks for nothing and so tests, an edit took 12 to 20 % longer.
+// The records of the items in one element, from a number on: the number of the first record past them, where all of them are good. Each turn looks at
+// one record and goes on behind it, so that all turns together are as many as the records. An element below depth 16 is bad, so that the calls nest at
+// most 17 deep. A record's fields are read here, where it is known that each list has it: by `Records::at` of format, which asks for nothing and so tests,
+// an edit took 12 to 20 % longer.
 fn check_items(
     count: usize,
-    tags: &[u8],
-    kinds: &[u8],
-    depths: &[u8],
-    parents: &[u16],
-    starts: &[u16],
-    sizes: &[u16],
+    records: &Records,
     octets: &[u8],
     at: usize,
     parent: Parent,
-) -> Reached
-    requires { (count ≤ places (six tags.now kinds.now depths.now parents.now starts.now sizes.now)) × (at ≤ count) × (parent.depth ≤ 17) }
-    ensures { result ≡ told (walked (six tags.now kinds.now depths.now parents.now starts.now sizes.now) count octets.now (first_in parent) parent.number at) }
+) -> Option<usize>
+    requires { (count ≤ places (shared_lists records.now)) × (at ≤ count) × (parent.depth ≤ 17) }
+    ensures { result ≡ told (walked (shared_lists records.now) count octets.now (first_in parent) parent.number at) }
 {
     let mut i = at;
     let mut state = State { stage: 0, mask: 0 };
+    // Kept: a `for` is no plainer here, since an element's own records are passed by the call inside, which alone knows how many they are.
     while i < count {
         let given = Record {
-            tag: tags[i],
-            kind: kinds[i],
-            depth: depths[i],
-            parent: parents[i],
-            start: starts[i],
-            size: sizes[i],
+            tag: records.tags[i],
+            kind: records.kinds[i],
+            depth: records.depths[i],
+            parent: records.parents[i],
+            start: records.starts[i],
+            size: records.sizes[i],
         };
-        match check_record(given, octets, parent, state) {
+        match check_record(given, octets, parent, state)? {
             Item::Past => {
-                return Reached::Next(i);
-            }
-            Item::Bad => {
-                return Reached::Ill;
+                return Some(i);
             }
             Item::Single(next) => {
                 i = i + 1;
                 state = next;
             }
             Item::Nested(tag, next) => {
-                let Reached::Next(end) = check_items(
-                    count,
-                    tags,
-                    kinds,
-                    depths,
-                    parents,
-                    starts,
-                    sizes,
-                    octets,
-                    i + 1,
-                    parent_at(parent, tag, i),
-                ) else {
-                    return Reached::Ill;
-                };
-                i = end;
+                i = check_items(count, records, octets, i + 1, parent_at(parent, tag, i))?;
                 state = next;
             }
         }
     }
-    Reached::Next(i)
+    Some(i)
 }
 
 // Records in lists over lent octets are a well-formed tree: the walk from the top comes to the last of them.
-pub fn is_well_formed(
-    count: usize,
-    tags: &[u8],
-    kinds: &[u8],
-    depths: &[u8],
-    parents: &[u16],
-    starts: &[u16],
-    sizes: &[u16],
-    octets: &[u8],
-) -> bool
-    ensures { result ≡ is_given (tree_given count (six tags.now kinds.now depths.now parents.now starts.now sizes.now) octets.now) }
+pub fn is_well_formed(count: usize, records: &Records, octets: &[u8]) -> bool
+    ensures { result ≡ is_given (tree_given count (shared_lists records.now) octets.now) }
 {
     if count == 0 {
         return false;
     }
-    if count > places(tags, kinds, depths, parents, starts, sizes) {
+    if count > records.places() {
         return false;
     }
     let above = Parent {
@@ -272,10 +226,5 @@ pub fn is_well_formed(
         number: 0,
         depth: 1,
     };
-    match check_items(
-        count, tags, kinds, depths, parents, starts, sizes, octets, 0, above,
-    ) {
-        Reached::Ill => false,
-        Reached::Next(end) => end == count,
-    }
+    check_items(count, records, octets, 0, above) == Some(count)
 }

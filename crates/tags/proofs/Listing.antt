@@ -103,20 +103,27 @@ is-value (some HoldsBearer) v h = record { is = cc; shut = refl; no_table = refl
 is-value (some (HoldsNumber n)) v h = record { is = cc; shut = refl; no_table = refl }
 
 -- ---- holds_items
-module _ (tag : ℕ) (r : Listed) (e : r ≡ listed_as (known 0 tag)) where
-  pub holds-nothing : r ≡ Nothing → false ≡ opens tag
-  unfolding opens
-  holds-nothing q = sym (is-nothing (known 0 tag) (sym q ∙ e)).0
+pub is_not_inside : (k : Option Kind) → (listed_as k ≡ Inside → ⊥) → is_items k ≡ false
+unfolding listed_as is_items
+is_not_inside none h = refl
+is_not_inside (some HoldsItems) h = absurd (h refl)
+is_not_inside (some HoldsTokens) h = refl
+is_not_inside (some HoldsText) h = refl
+is_not_inside (some HoldsPlain) h = refl
+is_not_inside (some HoldsTime) h = refl
+is_not_inside (some HoldsBearer) h = refl
+is_not_inside (some (HoldsNumber n)) h = refl
 
+module _ (tag : ℕ) (r : Listed) (e : r ≡ listed_as (known 0 tag)) where
   pub holds-inside : r ≡ Inside → true ≡ opens tag
   unfolding opens
   holds-inside q = rw (is-inside (known 0 tag) (sym q ∙ e)).0
 
-  pub holds-value : (k : Kind) → r ≡ Value k → false ≡ opens tag
+  pub holds-other : (r ≡ Inside → ⊥) → false ≡ opens tag
   unfolding opens
-  holds-value k q = sym (is-value (known 0 tag) k (sym q ∙ e)).shut
+  holds-other q = sym (is_not_inside (known 0 tag) (λ p. q (e ∙ p)))
 
-pub ruleset holds-ways = (holds-nothing, holds-inside, holds-value)
+pub ruleset holds-ways = (holds-inside, holds-other)
 
 -- ---- holds_text
 module _ (p tag : ℕ) (r : KnownKind) (e : r ≡ known_kind p tag) where

@@ -19,39 +19,16 @@ use Rattle.values.proofs.Known.{row-holds, attribute-high}
 use Rattle.format.specs.Judge.{is_known}
 use Rattle.tags.specs.Rules.{has_bit, with_bit, Seen}
 
-one_shifted : (k : ℕ) → k < 64 → 1 * 2 ^ k % 2 ^ 64 ≡ 2 ^ k
+pub one_shifted : (k : ℕ) → k < 64 → 1 * 2 ^ k % 2 ^ 64 ≡ 2 ^ k
 one_shifted k h = shl_exact 1 k 64 (omega arith) (omega arith) ∙ one-mul (2 ^ k)
 
-module _ (mask tag : ℕ) where
-  pub bit_below : tag < 0x80 → false ≡ has_bit mask tag
-  unfolding has_bit
-  bit_below h = rw (lt-leb 0x80 tag h)
+bit_below : (mask tag : ℕ) → tag < 0x80 → false ≡ has_bit mask tag
+unfolding has_bit
+bit_below mask tag h = rw (lt-leb 0x80 tag h)
 
-  pub with-below : tag < 0x80 → mask ≡ with_bit mask tag
-  unfolding with_bit
-  with-below h = rw (lt-leb 0x80 tag h)
-
-  module _ (a : 0x80 ≤ tag) where
-    pub bit-above : 0xBF < tag → false ≡ has_bit mask tag
-    unfolding has_bit
-    bit-above h = rw (le-leb 0x80 tag a, lt-leb tag 0xBF h)
-
-    pub with-above : 0xBF < tag → mask ≡ with_bit mask tag
-    unfolding with_bit
-    with-above h = rw (le-leb 0x80 tag a, lt-leb tag 0xBF h)
-
-    module _ (b : tag ≤ 0xBF) where
-      pub bit_is : eqb (bit_and (mask / 2 ^ (tag - 0x80)) 1) 1 ≡ has_bit mask tag
-      unfolding has_bit
-      bit_is = rw (le-leb 0x80 tag a, le-leb tag 0xBF b) (bit_test mask (tag - 0x80))
-
-      pub with-is : bit_or mask (1 * 2 ^ (tag - 0x80) % 2 ^ 64) ≡ with_bit mask tag
-      unfolding with_bit
-      with-is = rw (le-leb 0x80 tag a, le-leb tag 0xBF b, one_shifted (tag - 0x80) (omega arith))
-
-pub ruleset bit-ways = (bit_below, bit-above, bit_is)
-
-pub ruleset with-ways = (with-below, with-above, with-is)
+pub bit_is : (mask tag : ℕ) → 0x80 ≤ tag → tag ≤ 0xBF → eqb (bit_and (mask / 2 ^ (tag - 0x80)) 1) 1 ≡ has_bit mask tag
+unfolding has_bit
+bit_is mask tag a b = rw (le-leb 0x80 tag a, le-leb tag 0xBF b) (bit_test mask (tag - 0x80))
 
 -- no known item has a tag above the mask's
 known-low : (p tag : ℕ) → is_known (known p tag) ≡ true → tag ≤ 0xBF

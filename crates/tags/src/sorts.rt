@@ -31,11 +31,7 @@ pub fn listed_as(parent: u8, tag: u8) -> Listed
 pub fn holds_items(tag: u8) -> bool
     ensures { result ≡ opens tag }
 {
-    match listed_as(0, tag) {
-        Listed::Nothing => false,
-        Listed::Inside => true,
-        Listed::Value(_) => false,
-    }
+    matches!(listed_as(0, tag), Listed::Inside)
 }
 
 // An item whose body is text.

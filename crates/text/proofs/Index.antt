@@ -1,5 +1,6 @@
 -- The index of a token table: how `index_of` makes it, which entries any index tells of a table, and that those of the table's own index are as good as the
 -- table's.
+use Rattle.std.specs.Prelude.{Result}
 use Prim.Native.Nat.{ℕ, zero, suc, ◌+◌, ◌-◌, ◌*◌, ◌/◌, ◌^◌, ◌≤◌, ◌<◌, max}
 use mathlib.Core.Path.{◌≡◌, refl, sym, ap, ap₂, subst, ◌∙◌}
 use mathlib.Core.List.{List, [], ◌∷◌, ◌++◌}
@@ -14,9 +15,9 @@ use mir.Val.{Fits}
 use mir.Syntax.{w64}
 use borrow.Author.Tests.{eqb-true, eqb-false, eq-eqb, ne_eqb, leb-true, le-leb, lt-leb, ltb-true, ltb-false, lt-ltb, le-ltb}
 use Rattle.octets.specs.Puts.{Puts}
-use Rattle.octets.specs.declared.Put.{Put}
 use Rattle.octets.proofs.Puts.{puts-same}
 use Rattle.octets.proofs.Tests.{and_left, and_right}
+use Rattle.octets.specs.declared.PutError.{PutError}
 use Rattle.text.specs.Text.{token}
 use Rattle.text.specs.Tokens.{Entries, entries, cut, entry, or_itself, stands, expanded, expanded_size}
 use Rattle.text.specs.Found.{found, found_in, Inside}
@@ -24,8 +25,8 @@ use Rattle.text.specs.Leaves.{ahead, replaced_by}
 use Rattle.text.specs.Index.{start_of, longest, Indexes, noted, usable, place_at, place_by, with_place, entries_below, entries_by, Bounds}
 use Rattle.text.specs.declared.expanding.Found.{Found}
 use Rattle.text.specs.declared.expanding.Found.TheVariants.{At, Nothing}
-use Rattle.text.specs.declared.tables.Piece.{Piece}
-use Rattle.text.specs.declared.tables.Piece.TheVariants.{Past, Entry}
+use Rattle.std.specs.Prelude.{Option, Some, None}
+use Rattle.text.specs.declared.tables.Entry.{Entry}
 use Rattle.text.proofs.Sequences.{token-facts, token-bit}
 use Rattle.text.proofs.Entries.{named, inside, no_more, room, next-names, text-length, next_fits, next-fits-2}
 
@@ -178,11 +179,17 @@ module _ (table : List ℕ) where
     unfolding entries cut
     index-done h = none_left (ap entries (drop_of_length-le table h))
 
-    module _ (h : at < length table) (p : Piece) (e : p ≡ ahead (entries (take (length table - at) (drop at table)))) where
-      pub index-past : p ≡ Past → Indexes (entries table) index
+    module _ (h : at < length table) (p : Option Entry) (e : p ≡ ahead (entries (take (length table - at) (drop at table)))) where
+      pub index-past : p ≡ None → Indexes (entries table) index
       index-past f = none_left (no_more table at h p e f)
 
-      module _ (t n : ℕ) (f : p ≡ Entry t n) where
+      module _ (x : Entry) (f : p ≡ Some x) where
+        abbrev t : ℕ
+        t = x.tag
+
+        abbrev n : ℕ
+        n = x.size
+
         abbrev text : List ℕ
         text = take n (drop 2 (drop at table))
 
@@ -193,7 +200,7 @@ module _ (table : List ℕ) where
         next = noted index t (at + 2)
 
         size : length text ≡ n
-        size = text-length table at h p e t n f
+        size = text-length table at h p e x f
 
         first-kept : get_or next 0 0 ≡ get_or index 0 0
         first-kept = note-keeps index t (at + 2) 0 (go (token t) refl)
@@ -210,20 +217,20 @@ module _ (table : List ℕ) where
         next-widest =
             max-three (get_or next 0 0) n (longest left)
             ∙ ap₂ (λ (a b : ℕ). max a (max b (longest left))) first-kept (sym size)
-            ∙ ap (λ es. max (get_or index 0 0) (longest es)) (sym (next-names table at h p e t n f)) ∙ inv.widest
+            ∙ ap (λ es. max (get_or index 0 0) (longest es)) (sym (next-names table at h p e x f)) ∙ inv.widest
 
         next-each : (k : ℕ) → 0 < k → k < 32 → or_later (get_or next k 0) (later (at + 2 + n) left k) ≡ start_of (replaced_by (entries table) k)
         next-each k g l =
             ap (λ (m : ℕ). or_later (get_or next k 0) (later (at + 2 + m) left k)) (sym size)
             ∙ note_step index inv.long t text left at k l
-            ∙ ap (λ es. or_later (get_or index k 0) (later at es k)) (sym (next-names table at h p e t n f)) ∙ inv.each k g l
+            ∙ ap (λ es. or_later (get_or index k 0) (later at es k)) (sym (next-names table at h p e x f)) ∙ inv.each k g l
 
-        pub index-again : (x : List ℕ) → x ≡ noted index t (at + 2) → (m : ℕ) → m ≡ max (get_or x 0 0) n → Indexing table (set x 0 m) (at + 2 + n)
-        index-again x q m z =
+        pub index-again : (o : List ℕ) → o ≡ noted index t (at + 2) → (m : ℕ) → m ≡ max (get_or o 0 0) n → Indexing table (set o 0 m) (at + 2 + n)
+        index-again o q m z =
             rw (z, q)
             (let stored : get_or (set next 0 (max (get_or next 0 0) n)) 0 0 ≡ max (get_or next 0 0) n = get_or-set_same next 0 (max (get_or next 0 0) n) 0 (omega (arith, next-long)) in
             record {
-              within = room table at h p e t n f;
+              within = room table at h p e x f;
               long = length-set next 0 (max (get_or next 0 0) n) ∙ next-long;
               some = omega (arith, stored, le-max_left (get_or next 0 0) n, first-kept, inv.some);
               widest = ap (λ (a : ℕ). max a (longest left)) stored ∙ next-widest;
@@ -525,7 +532,7 @@ module _ (table index : List ℕ) (made : Indexes (entries table) index) where
   indexed-expanded (b ∷ s) = ap₂ (λ p q. p ++ q) (stands-own b) (indexed-expanded s)
 
   -- so what `expand` answers by that index is what it says of the table
-  pub indexed-claim : (s out out' : List ℕ) (at : ℕ) (answer : Put) → Puts true (expanded (entries_by index table) s) at out out' answer
+  pub indexed-claim : (s out out' : List ℕ) (at : ℕ) (answer : Result ℕ PutError) → Puts true (expanded (entries_by index table) s) at out out' answer
       → Puts true (expanded (entries table) s) at out out' answer
   indexed-claim s out out' at answer c =
       puts-same true true (expanded (entries_by index table) s) (expanded (entries table) s) refl (indexed-expanded s) at out out' answer c

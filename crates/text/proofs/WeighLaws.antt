@@ -22,9 +22,9 @@ use Rattle.text.specs.Text.{layout, token, single, text}
 use Rattle.text.specs.Tokens.{Entries, entry, present, covers, covered, shown_length}
 use Rattle.text.specs.Leaves.{token_bit, all_marked, Steps}
 use Rattle.text.specs.Runs.{within, all_within, PlainTo}
-use Rattle.text.specs.Weighing.{bit, tags, Marks, Widths, Shows, marked, covered_by, shown_at, shown_by, weighed_by}
+use Rattle.text.specs.Weighing.{bit, tags, Marks, Widths, Shows, marked, covered_by, shown_at, shown_by, covered_shown, weighed_by}
 use Rattle.text.specs.declared.Weighed.{Weighed}
-use Rattle.text.specs.declared.Weighed.TheVariants.{NoText, Text}
+use Rattle.std.specs.Prelude.{Option, Some, None}
 use Rattle.text.proofs.Words.{high-octet}
 use Rattle.text.proofs.Masks.{mark-one, kept-within, within-kept}
 use Rattle.text.proofs.Sequences.{one-yes, one-no}
@@ -182,14 +182,14 @@ module _ (marks : ℕ) (w s : List ℕ) (lim : Characters) where
     in-text : Holds true s at
     in-text = record { within = inv.within; same = inv.same }
 
-    pub weigh-done : length s ≤ at → (r : Weighed) → r ≡ Text (all_marked marks used) shown → r ≡ weighed_by marks w s lim
+    pub weigh-done : length s ≤ at → (r : Weighed) → r ≡ covered_shown (all_marked marks used) shown → Some r ≡ weighed_by marks w s lim
     unfolding weighed_by covered_by shown_by
     weigh-done h r e =
         let none = drop_of_length-le s h in
         let c : covered_by marks s ≡ all_marked marks used = inv.covering ∙ ap (λ q. all_marked marks used && covered_by marks q) none ∙ and_yes (all_marked marks used) in
         let k : min lim.0 (shown_by w s) ≡ shown.0 =
         inv.weighing ∙ ap (λ q. min lim.0 (shown.0 + shown_by w q)) none ∙ ap (min lim.0) (add-zero shown.0) ∙ min-eq_right inv.short in
-        e ∙ rw (← check_done true s at in-text h, c, k)
+        ap Some e ∙ rw (← check_done true s at in-text h, c, k)
 
   module _ (at used : ℕ) (shown : Characters) (inv : Weighing marks w s lim.0 at used shown.0) (from : ℕ) (run : PlainTo s at from) where
     weigh-behind : (before : ℕ) → before ≡ min lim.0 (shown.0 + (from - at)) → before ≤ lim.0 → Weighing marks w s lim.0 from used before
@@ -211,15 +211,15 @@ module _ (marks : ℕ) (w s : List ℕ) (lim : Characters) where
         }
 
     pub weigh-end : from ≡ length s → (before : Characters) → before.0 ≡ min lim.0 (shown.0 + (from - at)) → before.0 ≤ lim.0
-        → (r : Weighed) → r ≡ Text (all_marked marks used) before → r ≡ weighed_by marks w s lim
+        → (r : Weighed) → r ≡ covered_shown (all_marked marks used) before → Some r ≡ weighed_by marks w s lim
     weigh-end q before e g r f = weigh-done from used before (weigh-behind before.0 e g) (omega arith) r f
 
-    pub weigh-stop : (n : ℕ) → Steps true (take (length s - from) (drop from s)) n → n ≡ 0 → NoText ≡ weighed_by marks w s lim
+    pub weigh-stop : (n : ℕ) → Steps true (take (length s - from) (drop from s)) n → n ≡ 0 → None ≡ weighed_by marks w s lim
     unfolding weighed_by
     weigh-stop n step z = rw (← check-stop true s at from (in-text at used shown inv) (plain-passed true s at from run) n step z)
 
     module _ (q : from ≡ length s → ⊥) where
-      pub weigh-zero : get_or s from 0 ≡ 0 → NoText ≡ weighed_by marks w s lim
+      pub weigh-zero : get_or s from 0 ≡ 0 → None ≡ weighed_by marks w s lim
       weigh-zero e = weigh-stop 0 (zero-step s at from run q (omega arith) e) refl
 
       -- a character behind a run: the octets of both count at once
@@ -283,25 +283,28 @@ covered-by-is es marks m (b ∷ s) =
 
 -- ---- what the answer of `weigh` tells, by the marks and counts of a table
 module _ (es : Entries) (marks : ℕ) (w : List ℕ) (m : Marks marks (tags es)) (k : Shows 32 es w) (s : List ℕ) (most : Characters)
-    (r : Weighed) (e : r ≡ weighed_by marks w s most) where
-  pub weighed-none : r ≡ NoText → text true s ≡ false
+    (r : Option Weighed) (e : r ≡ weighed_by marks w s most) where
+  pub weighed-none : r ≡ None → text true s ≡ false
   unfolding weighed_by
   weighed-none q = (not_chosen (text true s) (sym q ∙ e) (λ z. never (cc))).0
 
-  module _ (c : Bool) (n : Characters) (q : r ≡ Text c n) where
-    found : (text true s ≡ true) × (Text c n ≡ Text (covered_by marks s) (as_characters (min most.0 (shown_by w s))))
+  module _ (x : Weighed) (q : r ≡ Some x) where
+    found : (text true s ≡ true) × (Some x ≡ Some (covered_shown (covered_by marks s) (as_characters (min most.0 (shown_by w s)))))
     unfolding weighed_by
     found = chosen (text true s) (sym q ∙ e) (λ z. never (cc))
 
     pub weighed-text : text true s ≡ true
     weighed-text = found.0
 
-    pub weighed-covered : c ≡ covered es s
-    weighed-covered = let h = found.1 in let z : c ≡ covered_by marks s = cc in z ∙ covered-by-is es marks m s
+    told : x ≡ covered_shown (covered_by marks s) (as_characters (min most.0 (shown_by w s)))
+    told = cc found.1
 
-    pub weighed-shown : n ≡ as_characters (min most.0 (shown_length es s).0)
+    pub weighed-covered : x.covered ≡ covered es s
+    weighed-covered = ap (λ (v : Weighed). v.covered) told ∙ covered-by-is es marks m s
+
+    pub weighed-shown : x.shown ≡ as_characters (min most.0 (shown_length es s).0)
     unfolding shown_length
-    weighed-shown = let h = found.1 in let z : n ≡ as_characters (min most.0 (shown_by w s)) = cc in z ∙ ap (λ m. as_characters (min most.0 m)) (shown-is es w k s)
+    weighed-shown = ap (λ (v : Weighed). v.shown) told ∙ ap (λ m. as_characters (min most.0 m)) (shown-is es w k s)
 
 -- ---- only one answer
 pub marks-one : (m k : ℕ) (octets : List ℕ) → Marks m octets → Marks k octets → m ≡ k

@@ -1,6 +1,7 @@
 -- Wrong answers of each public call, each refuted at a closed input by what its contract says.
+use Rattle.std.specs.Prelude.{Ok, Err}
 use mathlib.Core.Path.{◌≡◌, sym, ◌∙◌, ap}
-use mathlib.Core.Bool.{true, false, false≢true}
+use mathlib.Core.Bool.{Bool, true, false, false≢true}
 use mathlib.Core.List.{List, [], ◌∷◌}
 use Prim.Native.Nat.{ℕ, ◌^◌, min}
 use native.Mathlib.Omega.{arith}
@@ -8,16 +9,16 @@ use lib.ListN.{get_or, replicate}
 use Rattle.octets.specs.Counts.{as_octets, as_characters}
 use Rattle.octets.specs.Numbers.{among}
 use Rattle.octets.specs.Puts.{put_answer, put_out, Puts}
-use Rattle.octets.specs.declared.Put.TheVariants.{Done, NoRoom}
 use Rattle.octets.proofs.Tests.{never}
+use Rattle.octets.specs.declared.PutError.TheVariants.{NoRoom}
 use Rattle.text.specs.Text.{layout, token, character, single, goes_on, utf8, text}
 use Rattle.text.specs.Tokens.{entries, cut, filled, is_table, entry, or_itself, stands, expanded, present, covers, covered, starts}
 use Rattle.text.specs.Leaves.{replaced_by}
 use Rattle.text.specs.Index.{start_of, longest, Indexes, usable, place_at, place_by, with_place, entries_below, entries_by}
 use Rattle.text.specs.Found.{found}
-use Rattle.text.specs.Weighing.{tags, Marks, Widths, Shows, marked, covered_by, width_at, weight, shown_at, shown_by, weighed_by}
+use Rattle.text.specs.Weighing.{tags, Marks, Widths, Shows, marked, covered_by, width_at, weight, shown_at, shown_by, covered_shown, weighed_by}
 use Rattle.text.specs.declared.Weighed.{Weighed}
-use Rattle.text.specs.declared.Weighed.TheVariants.{NoText, Text}
+use Rattle.std.specs.Prelude.{Option, Some, None}
 
 -- one entry: the token 0x01 for the three octets ABC
 abbrev abc : List ℕ
@@ -120,29 +121,34 @@ unfolding starts stands token layout among entries cut entry or_itself
 count-of-octets w e h = let z : ◌≡◌ {A = ℕ} 2 1 = sym e ∙ h.each 0x01 (omega arith) in omega arith
 
 -- how many characters an answer of `weigh` says are shown
-abbrev shown_in : Weighed → ℕ
-shown_in NoText = 0
-shown_in (Text c n) = n.0
+abbrev shown_in : Option Weighed → ℕ
+shown_in None = 0
+shown_in (Some x) = x.shown.0
+
+-- and whether each token has an entry
+abbrev covered_in : Option Weighed → Bool
+covered_in None = false
+covered_in (Some x) = x.covered
 
 -- weigh: an overlong form is text; a token counts as one character; octets are counted; a token without a mark passes; the count does not stop at the most that is
 -- asked for
-pub weighed-overlong : Text true (as_characters 1) ≡ weighed_by 0 [] (0xC0 ∷ 0x80 ∷ []) (as_characters 9) → ⊥
+pub weighed-overlong : Some (covered_shown true (as_characters 1)) ≡ weighed_by 0 [] (0xC0 ∷ 0x80 ∷ []) (as_characters 9) → ⊥
 unfolding weighed_by text utf8 goes_on character
 weighed-overlong h = never (cc)
 
-pub weighed-unexpanded : Text true (as_characters 2) ≡ weighed_by (2 ^ 0x01) (1 ∷ 3 ∷ []) (0x01 ∷ 0x44 ∷ []) (as_characters 9) → ⊥
+pub weighed-unexpanded : Some (covered_shown true (as_characters 2)) ≡ weighed_by (2 ^ 0x01) (1 ∷ 3 ∷ []) (0x01 ∷ 0x44 ∷ []) (as_characters 9) → ⊥
 unfolding weighed_by text utf8 single layout among token covered_by marked shown_by shown_at
 weighed-unexpanded h = let z : ◌≡◌ {A = ℕ} 2 4 = ap shown_in h in omega arith
 
-pub weighed-octets : Text true (as_characters 2) ≡ weighed_by 0 [] (0xC3 ∷ 0xA9 ∷ []) (as_characters 9) → ⊥
+pub weighed-octets : Some (covered_shown true (as_characters 2)) ≡ weighed_by 0 [] (0xC3 ∷ 0xA9 ∷ []) (as_characters 9) → ⊥
 unfolding weighed_by text utf8 goes_on character layout among token covered_by marked shown_by shown_at
 weighed-octets h = let z : ◌≡◌ {A = ℕ} 2 1 = ap shown_in h in omega arith
 
-pub weighed-bare : Text true (as_characters 1) ≡ weighed_by 0 (1 ∷ 1 ∷ []) (0x01 ∷ []) (as_characters 9) → ⊥
+pub weighed-bare : Some (covered_shown true (as_characters 1)) ≡ weighed_by 0 (1 ∷ 1 ∷ []) (0x01 ∷ []) (as_characters 9) → ⊥
 unfolding weighed_by text utf8 single layout among token covered_by marked shown_by shown_at
-weighed-bare h = let z : true ≡ false = cc in false≢true (sym z)
+weighed-bare h = false≢true (sym (ap covered_in h))
 
-pub weighed-on : Text true (as_characters 2) ≡ weighed_by 0 [] (0x41 ∷ 0x42 ∷ []) (as_characters 1) → ⊥
+pub weighed-on : Some (covered_shown true (as_characters 2)) ≡ weighed_by 0 [] (0x41 ∷ 0x42 ∷ []) (as_characters 1) → ⊥
 unfolding weighed_by text utf8 single layout among token covered_by marked shown_by shown_at
 weighed-on h = let z : ◌≡◌ {A = ℕ} 2 1 = ap shown_in h in omega arith
 
@@ -170,18 +176,18 @@ size-runs-on h = let z : ◌≡◌ {A = ℕ} 4 3 = ap (λ n. n.0) h in omega ari
 
 -- expand: a room of just the size is refused; what fits is written there and no more is told than its size; what doesn't fit is written in part; by an index
 -- that tells of no entry, one is taken from the table
-pub room-refused : (after : List ℕ) → Puts true (expanded (entries_by abc_index abc) (0x01 ∷ [])) 0 (0 ∷ 0 ∷ 0 ∷ []) after NoRoom → ⊥
+pub room-refused : (after : List ℕ) → Puts true (expanded (entries_by abc_index abc) (0x01 ∷ [])) 0 (0 ∷ 0 ∷ 0 ∷ []) after (Err NoRoom) → ⊥
 unfolding put_answer expanded stands token layout among entry or_itself entries_by entries_below with_place place_by place_at usable
 room-refused after h = let e = h.answers in never (cc)
 
-pub size-told : (after : List ℕ) → Puts true (expanded (entries_by abc_index abc) (0x01 ∷ [])) 1 (0 ∷ 0 ∷ 0 ∷ 0 ∷ []) after (Done 3) → ⊥
+pub size-told : (after : List ℕ) → Puts true (expanded (entries_by abc_index abc) (0x01 ∷ [])) 1 (0 ∷ 0 ∷ 0 ∷ 0 ∷ []) after (Ok 3) → ⊥
 unfolding put_answer expanded stands token layout among entry or_itself entries_by entries_below with_place place_by place_at usable
 size-told after h = let e = h.answers in let z : ◌≡◌ {A = ℕ} 3 4 = cc in omega arith
 
-pub part-written : Puts true (expanded (entries_by abc_index abc) (0x01 ∷ [])) 0 (0 ∷ 0 ∷ []) (0x41 ∷ 0x42 ∷ []) NoRoom → ⊥
+pub part-written : Puts true (expanded (entries_by abc_index abc) (0x01 ∷ [])) 0 (0 ∷ 0 ∷ []) (0x41 ∷ 0x42 ∷ []) (Err NoRoom) → ⊥
 unfolding put_out expanded stands token layout among entry or_itself entries_by entries_below with_place place_by place_at usable
 part-written h = let e = h.leaves in let z : ◌≡◌ {A = ℕ} 0x41 0 = cc in omega arith
 
-pub index-unasked : (after : List ℕ) → Puts true (expanded (entries_by (replicate 32 0) abc) (0x01 ∷ [])) 0 (0 ∷ 0 ∷ 0 ∷ []) after (Done 3) → ⊥
+pub index-unasked : (after : List ℕ) → Puts true (expanded (entries_by (replicate 32 0) abc) (0x01 ∷ [])) 0 (0 ∷ 0 ∷ 0 ∷ []) after (Ok 3) → ⊥
 unfolding put_answer expanded stands token layout among entry or_itself entries_by entries_below with_place place_by place_at usable
 index-unasked after h = let e = h.answers in let z : ◌≡◌ {A = ℕ} 3 1 = cc in omega arith

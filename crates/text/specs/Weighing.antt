@@ -1,13 +1,13 @@
 -- A token table gone through once, and a text looked at once by what was found there: whether it is text (rule 10), whether each of its tokens has an entry
 -- (rule 12), and how many characters are shown of it (rule 13). By the marks of a table and what its tokens show that is what the definitions say (proofs/WeighLaws).
-use Rattle.std.specs.Prelude.{◌≡◌, Bool, true, cond, not, ◌&&◌, ◌||◌, List, [], ◌∷◌, ℕ, ◌+◌, ◌/◌, ◌%◌, ◌^◌, ◌<◌, min, eqb, ltb, length, get_or}
+use Rattle.std.specs.Prelude.{◌≡◌, Bool, true, cond, not, ◌&&◌, ◌||◌, List, [], ◌∷◌, length, get_or, Option, Some, None}
+use Rattle.std.specs.Prelude.{ℕ, ◌+◌, ◌/◌, ◌%◌, ◌^◌, ◌<◌, min, eqb, ltb}
 use Rattle.octets.specs.declared.counts.Characters.{Characters}
 use Rattle.octets.specs.Counts.{as_characters}
 use Rattle.octets.specs.Numbers.{among}
 use Rattle.text.specs.Text.{token, text}
 use Rattle.text.specs.Tokens.{Entries, stands, starts}
 use Rattle.text.specs.declared.Weighed.{Weighed}
-use Rattle.text.specs.declared.Weighed.TheVariants.{NoText, Text}
 
 -- the bit of a number in a mask
 abbrev pub bit : ℕ → ℕ → Bool
@@ -58,6 +58,9 @@ unfoldable pub shown_by : List ℕ → List ℕ → ℕ
 shown_by shows [] = 0
 shown_by shows (b ∷ bs) = shown_at shows b + shown_by shows bs
 
+abbrev pub covered_shown : Bool → Characters → Weighed
+covered_shown covered shown = record { covered = covered; shown = shown }
+
 -- weigh: a text by the marks of a table and what its tokens show, what is shown of it counted up to a most
-unfoldable pub weighed_by : ℕ → List ℕ → List ℕ → Characters → Weighed
-weighed_by marks shows s most = cond (text true s) (Text (covered_by marks s) (as_characters (min most.0 (shown_by shows s)))) NoText
+unfoldable pub weighed_by : ℕ → List ℕ → List ℕ → Characters → Option Weighed
+weighed_by marks shows s most = cond (text true s) (Some (covered_shown (covered_by marks s) (as_characters (min most.0 (shown_by shows s))))) None

@@ -17,9 +17,9 @@ pub use shown::characters_of;
 pub use tables::{index_of, is_table, tokens_of, widths_of};
 pub use weighing::weigh;
 
-// A text looked at once: no text (rule 10); or text, whether each of its tokens has an entry (rule 12), and how many characters are shown of it (rule 13).
+// A text looked at once: whether each of its tokens has an entry (rule 12), and how many characters are shown of it (rule 13).
 #[derive(Clone, Copy)]
-pub enum Weighed {
-    NoText,
-    Text { covered: bool, shown: Characters },
+pub struct Weighed {
+    pub covered: bool,
+    pub shown: Characters,
 }

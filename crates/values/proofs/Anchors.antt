@@ -5,9 +5,9 @@ use mathlib.Core.Bool.{true, false}
 use mathlib.Core.List.{[], ◌∷◌}
 use lib.IntN.{pos, sub_ℕ}
 use Rattle.octets.specs.Numbers.{value, digits}
-use Rattle.values.specs.declared.Ensemble.TheVariants.{Absent, Present}
+use Rattle.std.specs.Prelude.{Some, None}
 use Rattle.values.specs.Times.{bits, long_flag, offset_flag, offset_octet, time_of, in_range, is_time, wrong_part, wrong_time, local_minutes, local_of}
-use Rattle.values.specs.Bearers.{ensemble_bit, ensemble_octets, bearer_octets}
+use Rattle.values.specs.Bearers.{ecc_eid, ensemble_bit, ensemble_octets, bearer_octets}
 
 -- minus 0 is 0 (document 01, P14)
 pub minus-zero : time_of (0x30 ∷ 0xD4 ∷ 0x10 ∷ 0x00 ∷ 0x20 ∷ []) ≡ record { day = 50_000; hour = 0; minute = 0; second = 0; minus = false; halves = 0 }
@@ -45,7 +45,8 @@ unfolding local_minutes local_of
 days-after = refl
 
 -- a 16-bit service id and the 32-bit one of the same number are written apart
-pub widths : (bearer_octets (record { ensemble = Absent; long = false; sid = 0xC123; scids = 5 }) ≡ 0x05 ∷ 0xC1 ∷ 0x23 ∷ [])
-    × (bearer_octets (record { ensemble = Present 0xE1 0xC185; long = true; sid = 0xC123; scids = 5 }) ≡ 0x55 ∷ 0xE1 ∷ 0xC1 ∷ 0x85 ∷ 0x00 ∷ 0x00 ∷ 0xC1 ∷ 0x23 ∷ [])
+pub widths : (bearer_octets (record { ensemble = None; long = false; sid = 0xC123; scids = 5 }) ≡ 0x05 ∷ 0xC1 ∷ 0x23 ∷ [])
+    × (bearer_octets (record { ensemble = Some (ecc_eid 0xE1 0xC185); long = true; sid = 0xC123; scids = 5 })
+    ≡ 0x55 ∷ 0xE1 ∷ 0xC1 ∷ 0x85 ∷ 0x00 ∷ 0x00 ∷ 0xC1 ∷ 0x23 ∷ [])
 unfolding digits ensemble_bit ensemble_octets bearer_octets
 widths = (refl, refl)

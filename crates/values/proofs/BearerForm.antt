@@ -15,10 +15,9 @@ use Rattle.octets.specs.Numbers.{value, digits}
 use Rattle.octets.proofs.Tests.{and_left, and_right, and-true}
 use Rattle.octets.proofs.Lists.{sets-append}
 use Rattle.values.specs.declared.Ensemble.{Ensemble}
-use Rattle.values.specs.declared.Ensemble.TheVariants.{Absent, Present}
+use Rattle.std.specs.Prelude.{Option, Some, None}
 use Rattle.values.specs.declared.Bearer.{Bearer}
-use Rattle.values.specs.declared.TakenBearer.TheVariants.{Good, Bad}
-use Rattle.values.specs.Bearers.{ensemble_flag, long_sid_flag, ensemble_of, bearer_of, is_bearer, ensemble_bit, ensemble_octets, bearer_octets}
+use Rattle.values.specs.Bearers.{ecc_eid, ensemble_flag, long_sid_flag, ensemble_of, bearer_of, is_bearer, ensemble_bit, ensemble_octets, bearer_octets}
 use Rattle.values.specs.Calls.{taken_bearer, bearer_in_range}
 use Rattle.values.specs.Proper.{BearerOk, SidOk}
 use Rattle.values.proofs.Laws.{bearer-size}
@@ -45,16 +44,16 @@ module _ (b : Bearer) where
 pub ruleset valid-ways = (valid-scids, valid-long, valid-wide, valid-short)
 
 -- ensembles
-module _ (e : Ensemble) where
-  pub absent-size : e ≡ Absent → 0 ≡ length (ensemble_octets e)
+module _ (e : Option Ensemble) where
+  pub absent-size : e ≡ None → 0 ≡ length (ensemble_octets e)
   unfolding ensemble_octets
   absent-size p = rw p refl
 
-  pub absent-bit : e ≡ Absent → 0 ≡ ensemble_bit e
+  pub absent-bit : e ≡ None → 0 ≡ ensemble_bit e
   unfolding ensemble_bit
   absent-bit p = rw p refl
 
-  module _ (ecc eid : ℕ) (p : e ≡ Present ecc eid) where
+  module _ (x : Ensemble) (p : e ≡ Some x) where
     pub present-size : 3 ≡ length (ensemble_octets e)
     unfolding ensemble_octets digits
     present-size = rw p refl
@@ -64,7 +63,7 @@ module _ (e : Ensemble) where
     present-bit = rw p refl
 
 -- the first octet
-pub first-octet : (e : Ensemble) (l : Bool) (s p q r : ℕ) → s < 16 → p * 64 ≡ ensemble_bit e → p < 2 → q * 16 ≡ cond l 16 0 → q < 2
+pub first-octet : (e : Option Ensemble) (l : Bool) (s p q r : ℕ) → s < 16 → p * 64 ≡ ensemble_bit e → p < 2 → q * 16 ≡ cond l 16 0 → q < 2
     → r ≡ bit_or (bit_or (p * 2 ^ 6 % 2 ^ 32) (q * 2 ^ 4 % 2 ^ 32)) s % 256 → r ≡ ensemble_bit e + cond l 16 0 + s
 first-octet e l s p q r h pe pl qe ql f =
     let one : bit_or (p * 2 ^ 6 % 2 ^ 32) (q * 2 ^ 4 % 2 ^ 32) ≡ (p * 4 + q) * 2 ^ 4 =
@@ -81,27 +80,27 @@ module _ (b : Bearer) (m : ℕ) (e : m ≡ length (ensemble_octets b.ensemble)) 
   size-short l = ap as_octets (omega (arith, e, bearer-size b, ap {B = ℕ} (λ x. cond x 4 2) l))
 
 -- an ensemble written
-module _ (e : Ensemble) (out : List ℕ) (at : ℕ) where
-  pub absent-end : e ≡ Absent → at ≡ at + length (ensemble_octets e)
+module _ (e : Option Ensemble) (out : List ℕ) (at : ℕ) where
+  pub absent-end : e ≡ None → at ≡ at + length (ensemble_octets e)
   absent-end p = omega (arith, absent-size e p)
 
-  pub absent-out : e ≡ Absent → out ≡ sets out at (ensemble_octets e)
+  pub absent-out : e ≡ None → out ≡ sets out at (ensemble_octets e)
   unfolding ensemble_octets
   absent-out p = rw p refl
 
-  module _ (ecc eid : ℕ) (p : e ≡ Present ecc eid) where
+  module _ (x : Ensemble) (p : e ≡ Some x) where
     pub present-room : at + length (ensemble_octets e) ≤ length out → at < length out
-    present-room h = omega (arith, present-size e ecc eid p)
+    present-room h = omega (arith, present-size e x p)
 
-    pub present-rest : at + length (ensemble_octets e) ≤ length out → at + 1 + 2 ≤ length (set out at ecc)
-    present-rest h = simp length-set (omega (arith, present-size e ecc eid p))
+    pub present-rest : at + length (ensemble_octets e) ≤ length out → at + 1 + 2 ≤ length (set out at x.ecc)
+    present-rest h = simp length-set (omega (arith, present-size e x p))
 
     pub present-end : at + 3 ≡ at + length (ensemble_octets e)
-    present-end = omega (arith, present-size e ecc eid p)
+    present-end = omega (arith, present-size e x p)
 
-    pub present-out : (after : List ℕ) → after ≡ sets (set out at ecc) (at + 1) (digits 2 eid) → after ≡ sets out at (ensemble_octets e)
+    pub present-out : (after : List ℕ) → after ≡ sets (set out at x.ecc) (at + 1) (digits 2 x.eid) → after ≡ sets out at (ensemble_octets e)
     unfolding ensemble_octets
-    present-out after z = rw p (z ∙ ap (λ k. sets (set out at ecc) k (digits 2 eid)) (omega arith))
+    present-out after z = rw p (z ∙ ap (λ k. sets (set out at x.ecc) k (digits 2 x.eid)) (omega arith))
 
 pub ruleset ensemble-puts = (absent-end, absent-out, present-end, present-out)
 
@@ -164,16 +163,16 @@ module _ (b : Bearer) (out : List ℕ) (at : ℕ) (h : at + length (bearer_octet
           ∙ ap₂ (λ n x. sets (set out at x) n (E ++ D)) (omega arith) f
 
 -- a bearer taken from octets
-pub taken-short : (s : List ℕ) → length s < 3 → Bad ≡ taken_bearer s
+pub taken-short : (s : List ℕ) → length s < 3 → None ≡ taken_bearer s
 unfolding taken_bearer is_bearer
 taken-short s h = rw (ne_eqb (length s) (3 + 3 * ensemble_flag s + 2 * long_sid_flag s) (λ e. omega arith)) refl
 
-pub no-ensemble : (s : List ℕ) (present : ℕ) → present ≡ 0 → Absent ≡ cond (eqb present 1) (Present (get_or s 1 0) (value (take 2 (drop 2 s)))) Absent
+pub no-ensemble : (s : List ℕ) (present : ℕ) → present ≡ 0 → None ≡ cond (eqb present 1) (Some (ecc_eid (get_or s 1 0) (value (take 2 (drop 2 s))))) None
 no-ensemble s present e = rw e refl
 
 pub some-ensemble : (s : List ℕ) (present eid : ℕ) → present < 2 → (present ≡ 0 → ⊥) → eid ≡ value (take 2 (drop 2 s))
-    → Present (get_or s 1 0) eid ≡ cond (eqb present 1) (Present (get_or s 1 0) (value (take 2 (drop 2 s)))) Absent
-some-ensemble s present eid h e f = let one : present ≡ 1 = omega arith in rw one (ap (Present (get_or s 1 0)) f)
+    → Some (ecc_eid (get_or s 1 0) eid) ≡ cond (eqb present 1) (Some (ecc_eid (get_or s 1 0) (value (take 2 (drop 2 s))))) None
+some-ensemble s present eid h e f = let one : present ≡ 1 = omega arith in rw one (ap (λ i. Some (ecc_eid (get_or s 1 0) i)) f)
 
 module _ (s : List ℕ) (present long : ℕ) (h : length s ≡ 3 + 3 * present + 2 * long) where
   pub sid-two : (r : ℕ) → long ≡ 0 → r ≡ value (take 2 (drop (1 + 3 * present) s)) → r ≡ value (drop (1 + 3 * present) s)
@@ -194,21 +193,21 @@ module _ (s : List ℕ) where
   unfolding long_sid_flag
   long-flag = and_mask (first / 2 ^ 4) 1
 
-  pub taken-size : (length s ≡ 3 + 3 * bit_and (first / 2 ^ 6) 1 + 2 * bit_and (first / 2 ^ 4) 1 → ⊥) → Bad ≡ taken_bearer s
+  pub taken-size : (length s ≡ 3 + 3 * bit_and (first / 2 ^ 6) 1 + 2 * bit_and (first / 2 ^ 4) 1 → ⊥) → None ≡ taken_bearer s
   unfolding taken_bearer is_bearer
   taken-size g = rw (ne_eqb (length s) (3 + 3 * ensemble_flag s + 2 * long_sid_flag s) (λ q. g (q ∙ ap₂ (λ x y. 3 + 3 * x + 2 * y) (sym ensemble-flag) (sym long-flag)))) refl
 
-  pub taken-good : (m : Ensemble) (sid scids : ℕ) → length s ≡ 3 + 3 * bit_and (first / 2 ^ 6) 1 + 2 * bit_and (first / 2 ^ 4) 1
-      → m ≡ cond (eqb (bit_and (first / 2 ^ 6) 1) 1) (Present (get_or s 1 0) (value (take 2 (drop 2 s)))) Absent
+  pub taken-good : (m : Option Ensemble) (sid scids : ℕ) → length s ≡ 3 + 3 * bit_and (first / 2 ^ 6) 1 + 2 * bit_and (first / 2 ^ 4) 1
+      → m ≡ cond (eqb (bit_and (first / 2 ^ 6) 1) 1) (Some (ecc_eid (get_or s 1 0) (value (take 2 (drop 2 s))))) None
       → sid ≡ value (drop (1 + 3 * bit_and (first / 2 ^ 6) 1) s) → scids ≡ bit_and first 15 % 256
-      → Good (record { ensemble = m; long = eqb (bit_and (first / 2 ^ 4) 1) 1; sid = sid; scids = scids }) ≡ taken_bearer s
+      → Some (record { ensemble = m; long = eqb (bit_and (first / 2 ^ 4) 1) 1; sid = sid; scids = scids }) ≡ taken_bearer s
   unfolding taken_bearer is_bearer bearer_of ensemble_of
   taken-good m sid scids h p q r =
       let z : eqb (length s) (3 + 3 * ensemble_flag s + 2 * long_sid_flag s) ≡ true =
       eq-eqb (length s) (3 + 3 * ensemble_flag s + 2 * long_sid_flag s) (h ∙ ap₂ (λ x y. 3 + 3 * x + 2 * y) ensemble-flag long-flag) in
       let low : scids ≡ first % 16 = r ∙ ap (λ n. n % 256) (and_mask first 4) ∙ omega arith in
-      rw z (λ i. Good (record {
-        ensemble = (p ∙ ap (λ n. cond (eqb n 1) (Present (get_or s 1 0) (value (take 2 (drop 2 s)))) Absent) ensemble-flag) i;
+      rw z (λ i. Some (record {
+        ensemble = (p ∙ ap (λ n. cond (eqb n 1) (Some (ecc_eid (get_or s 1 0) (value (take 2 (drop 2 s))))) None) ensemble-flag) i;
         long = eqb (long-flag i) 1;
         sid = (q ∙ ap (λ n. value (drop (1 + 3 * n) s)) ensemble-flag) i;
         scids = low i;

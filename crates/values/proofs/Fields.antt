@@ -2,17 +2,19 @@
 use mathlib.Core.Path.{◌≡◌, refl, sym, ◌∙◌}
 use mathlib.Core.Bool.{Bool, true, false, cond, ◌&&◌}
 use mathlib.Core.List.{List}
-use Prim.Native.Nat.{ℕ, ◌+◌, ◌*◌, ◌%◌, ◌≤◌, ◌<◌}
+use Prim.Native.Nat.{ℕ, zero, suc, ◌+◌, ◌*◌, ◌%◌, ◌≤◌, ◌<◌}
 use native.Mathlib.Nat.{mod-lt}
 use native.Mathlib.Omega.{arith}
 use lib.Dec.{eqb, leb}
 use lib.ListN.{length}
-use borrow.Author.Tests.{le-leb, lt-leb, eqb-true}
+use borrow.Author.Tests.{le-leb, lt-leb, eqb-true, eqb-false}
+use Rattle.std.specs.Prelude.{Ok, Err}
 use Rattle.values.specs.declared.Time.{Time}
+use Rattle.values.specs.declared.TimeError.TheVariants.{Date, Hours, Minutes, Seconds}
 use Rattle.values.specs.declared.Kind.{Kind}
 use Rattle.values.specs.declared.Kind.TheVariants.{HoldsItems, HoldsTokens, HoldsText, HoldsPlain, HoldsTime, HoldsBearer, HoldsNumber}
 use Rattle.values.specs.declared.NumberKind.{NumberKind}
-use Rattle.values.specs.Times.{long_flag, offset_flag, offset_octet, time_of, in_range, is_time, wrong_part, wrong_time}
+use Rattle.values.specs.Times.{long_flag, offset_flag, offset_octet, time_of, in_range, is_time, wrong_part, wrong_time, error_of, number_of, checked}
 use Rattle.values.specs.Values.{wrong_field}
 
 -- the half hours of a time that is read are always in range
@@ -55,32 +57,47 @@ field-few (HoldsNumber n) o = omega arith
 pub field-good : (o : List ℕ) → is_time o ≡ true → 0 ≡ wrong_time o
 field-good o h = sym (eqb-true (wrong_time o) 0 (sym (field-none o) ∙ h))
 
--- ---- `wrong`
+-- the number of a field that is told is the field's own
+number-back : (n : ℕ) → (n ≡ 0 → ⊥) → n ≤ 5 → number_of (error_of n) ≡ n
+unfolding error_of
+number-back zero f h = absurd (f refl)
+number-back (suc zero) f h = refl
+number-back (suc (suc zero)) f h = refl
+number-back (suc (suc (suc zero))) f h = refl
+number-back (suc (suc (suc (suc zero)))) f h = refl
+number-back (suc (suc (suc (suc (suc zero))))) f h = refl
+number-back (suc (suc (suc (suc (suc (suc n)))))) f h = absurd (omega arith)
+
+pub field-back : (o : List ℕ) → is_time o ≡ false → number_of (error_of (wrong_time o)) ≡ wrong_time o
+unfolding wrong_field
+field-back o h = number-back (wrong_time o) (eqb-false (wrong_time o) 0 (sym (field-none o) ∙ h)) (field-few HoldsTime o)
+
+-- ---- `checked`
 module _ (t : Time) where
-  pub wrong-day : 99_999 < t.day → 2 ≡ wrong_part t
-  unfolding wrong_part
-  wrong-day h = rw (lt-leb t.day 99_999 h)
+  pub checked-day : 99_999 < t.day → Err Date ≡ checked t
+  unfolding checked error_of wrong_part
+  checked-day h = rw (lt-leb t.day 99_999 h)
 
   module _ (a : t.day ≤ 99_999) where
-    pub wrong-hour : 23 < t.hour → 3 ≡ wrong_part t
-    unfolding wrong_part
-    wrong-hour h = rw (le-leb t.day 99_999 a, lt-leb t.hour 23 h)
+    pub checked-hour : 23 < t.hour → Err Hours ≡ checked t
+    unfolding checked error_of wrong_part
+    checked-hour h = rw (le-leb t.day 99_999 a, lt-leb t.hour 23 h)
 
     module _ (b : t.hour ≤ 23) where
-      pub wrong-minute : 59 < t.minute → 4 ≡ wrong_part t
-      unfolding wrong_part
-      wrong-minute h = rw (le-leb t.day 99_999 a, le-leb t.hour 23 b, lt-leb t.minute 59 h)
+      pub checked-minute : 59 < t.minute → Err Minutes ≡ checked t
+      unfolding checked error_of wrong_part
+      checked-minute h = rw (le-leb t.day 99_999 a, le-leb t.hour 23 b, lt-leb t.minute 59 h)
 
       module _ (c : t.minute ≤ 59) where
-        pub wrong_second : 59 < t.second → 5 ≡ wrong_part t
-        unfolding wrong_part
-        wrong_second h = rw (le-leb t.day 99_999 a, le-leb t.hour 23 b, le-leb t.minute 59 c, lt-leb t.second 59 h)
+        pub checked_second : 59 < t.second → Err Seconds ≡ checked t
+        unfolding checked error_of wrong_part
+        checked_second h = rw (le-leb t.day 99_999 a, le-leb t.hour 23 b, le-leb t.minute 59 c, lt-leb t.second 59 h)
 
-        pub wrong-none : t.second ≤ 59 → 0 ≡ wrong_part t
-        unfolding wrong_part
-        wrong-none h = rw (le-leb t.day 99_999 a, le-leb t.hour 23 b, le-leb t.minute 59 c, le-leb t.second 59 h)
+        pub checked-all : t.second ≤ 59 → Ok t ≡ checked t
+        unfolding checked wrong_part
+        checked-all h = rw (le-leb t.day 99_999 a, le-leb t.hour 23 b, le-leb t.minute 59 c, le-leb t.second 59 h)
 
-pub ruleset wrong-ways = (wrong-day, wrong-hour, wrong-minute, wrong_second, wrong-none)
+pub ruleset checked-ways = (checked-day, checked-hour, checked-minute, checked_second, checked-all)
 
 -- ---- `wrong_field`
 module _ (k : Kind) (o : List ℕ) where

@@ -1,7 +1,7 @@
 -- What callers of this crate cite: what an answer says of the octets, and what normal octets are.
 use mathlib.Core.Path.{◌≡◌, refl, sym, ap, ◌∙◌}
 use mathlib.Core.Bool.{Bool, true, false, cond, false≢true, and-false, and-true as and_yes}
-use mathlib.Core.Option.{Option, none, some}
+use mathlib.Core.Option.{Option as Maybe, none, some}
 use mathlib.Core.List.{List, []}
 use Prim.Native.Nat.{ℕ, suc, ◌+◌, ◌*◌, ◌/◌, ◌%◌, ◌^◌, ◌≤◌, ◌<◌}
 use native.Mathlib.Nat.{mod-lt, zero-mul}
@@ -18,44 +18,39 @@ use Rattle.text.proofs.Words.{expanded-empty}
 use Rattle.values.specs.declared.Kind.{Kind}
 use Rattle.values.specs.declared.Kind.TheVariants.{HoldsItems, HoldsTokens, HoldsText, HoldsPlain, HoldsTime, HoldsBearer, HoldsNumber}
 use Rattle.values.specs.declared.NumberKind.{NumberKind}
-use Rattle.values.specs.declared.KnownKind.{KnownKind}
-use Rattle.values.specs.declared.KnownKind.TheVariants.{Unknown, Known}
+use Rattle.std.specs.Prelude.{Option, Some, None, Result, Ok, Err}
 use Rattle.values.specs.declared.Time.{Time}
-use Rattle.values.specs.declared.Ensemble.TheVariants.{Absent, Present}
+use Rattle.values.specs.declared.TimeError.{TimeError}
 use Rattle.values.specs.declared.Bearer.{Bearer}
-use Rattle.values.specs.declared.TakenTime.{TakenTime}
-use Rattle.values.specs.declared.TakenTime.TheVariants as of_time
-use Rattle.values.specs.declared.TakenBearer.{TakenBearer}
-use Rattle.values.specs.declared.TakenBearer.TheVariants as of_bearer
-use Rattle.values.specs.declared.NormalSize.{NormalSize}
-use Rattle.values.specs.declared.NormalSize.TheVariants as sized
 use Rattle.values.specs.Table.{known}
-use Rattle.values.specs.Times.{bits, long_flag, offset_flag, offset_octet, time_of, in_range, is_time, wrong_time, canonical, sign, time_octets}
-use Rattle.values.specs.Bearers.{ensemble_flag, long_sid_flag, ensemble_of, bearer_of, is_bearer, ensemble_octets, bearer_octets}
+use Rattle.values.specs.Times.{bits, long_flag, offset_flag, offset_octet, time_of, in_range}
+use Rattle.values.specs.Times.{is_time, wrong_time, error_of, number_of, canonical, sign, time_octets}
+use Rattle.values.specs.Bearers.{ecc_eid, ensemble_flag, long_sid_flag, ensemble_of, bearer_of, is_bearer, ensemble_octets, bearer_octets}
 use Rattle.values.specs.Values.{width, fits, meant, octets_of}
 use Rattle.values.specs.Values.Value.{octets, number, time, bearer}
 use Rattle.values.specs.Proper.{TimeOk, BearerOk}
 use Rattle.values.specs.Calls.{as_known, known_kind, taken_time, taken_bearer, normal_octets, normal_size}
+use Rattle.values.proofs.Fields.{field-back}
 use Rattle.values.proofs.Times.{time-means, time-fits, time-ok, time-size, sign_le}
 use Rattle.values.proofs.Bearers.{bearer-means, bearer-fits, bearer-ok}
 
 -- what a lookup's answer says of the kind, and of the table
-pub as-known : (o : Option Kind) (k : Kind) → as_known o ≡ Known k → o ≡ some k
+pub as-known : (o : Maybe Kind) (k : Kind) → as_known o ≡ Some k → o ≡ some k
 unfolding as_known
 as-known none k q = never (cc)
 as-known (some l) k q = cc
 
-pub as-unknown : (o : Option Kind) → as_known o ≡ Unknown → o ≡ none
+pub as-unknown : (o : Maybe Kind) → as_known o ≡ None → o ≡ none
 unfolding as_known
 as-unknown none q = refl
 as-unknown (some l) q = never (cc)
 
-module _ (parent tag : ℕ) (r : KnownKind) (e : r ≡ known_kind parent tag) where
-  pub known-kind : (k : Kind) → r ≡ Known k → known parent tag ≡ some k
+module _ (parent tag : ℕ) (r : Option Kind) (e : r ≡ known_kind parent tag) where
+  pub known-kind : (k : Kind) → r ≡ Some k → known parent tag ≡ some k
   unfolding known_kind
   known-kind k g = as-known (known parent tag) k (sym e ∙ g)
 
-  pub unknown-kind : r ≡ Unknown → known parent tag ≡ none
+  pub unknown-kind : r ≡ None → known parent tag ≡ none
   unfolding known_kind
   unknown-kind g = as-unknown (known parent tag) (sym e ∙ g)
 
@@ -64,33 +59,33 @@ pub record TimeTaken (s : List ℕ) (t : Time) : Type 0 where
   pub fit : is_time s ≡ true
   pub means : t ≡ time_of s
 
-module _ (s : List ℕ) (r : TakenTime) (e : r ≡ taken_time s) where
-  pub time-taken : (t : Time) → r ≡ of_time.Good t → TimeTaken s t
+module _ (s : List ℕ) (r : Result Time TimeError) (e : r ≡ taken_time s) where
+  pub time-taken : (t : Time) → r ≡ Ok t → TimeTaken s t
   unfolding taken_time
   time-taken t g = let w = chosen (is_time s) (sym g ∙ e) (λ q. never (cc)) in record { fit = w.0; means = cc w.1 }
 
-  module _ (n : ℕ) (g : r ≡ of_time.Bad n) where
-    refused : (is_time s ≡ false) × (of_time.Bad n ≡ of_time.Bad (wrong_time s))
+  module _ (x : TimeError) (g : r ≡ Err x) where
+    refused : (is_time s ≡ false) × (r ≡ Err (error_of (wrong_time s)))
     unfolding taken_time
-    refused = not_chosen (is_time s) (sym g ∙ e) (λ q. never (cc))
+    refused = let w = not_chosen (is_time s) (sym g ∙ e) (λ q. never (cc)) in (w.0, g ∙ w.1)
 
     pub time-refused : is_time s ≡ false
     time-refused = refused.0
 
-    pub time-wrong : n ≡ wrong_time s
-    time-wrong = cc refused.1
+    pub time-wrong : (n : ℕ) → n ≡ number_of x → n ≡ wrong_time s
+    time-wrong n q = let k : x ≡ error_of (wrong_time s) = cc refused.1 in q ∙ ap number_of k ∙ field-back s time-refused
 
 -- the same of bearers
 pub record BearerTaken (s : List ℕ) (b : Bearer) : Type 0 where
   pub fit : is_bearer s ≡ true
   pub means : b ≡ bearer_of s
 
-module _ (s : List ℕ) (r : TakenBearer) (e : r ≡ taken_bearer s) where
-  pub bearer-taken : (b : Bearer) → r ≡ of_bearer.Good b → BearerTaken s b
+module _ (s : List ℕ) (r : Option Bearer) (e : r ≡ taken_bearer s) where
+  pub bearer-taken : (b : Bearer) → r ≡ Some b → BearerTaken s b
   unfolding taken_bearer
   bearer-taken b g = let w = chosen (is_bearer s) (sym g ∙ e) (λ q. never (cc)) in record { fit = w.0; means = cc w.1 }
 
-  pub bearer-refused : r ≡ of_bearer.Bad → is_bearer s ≡ false
+  pub bearer-refused : r ≡ None → is_bearer s ≡ false
   unfolding taken_bearer
   bearer-refused g = (not_chosen (is_bearer s) (sym g ∙ e) (λ q. never (cc))).0
 
@@ -107,27 +102,27 @@ pub canonical-ok : (t : Time) → in_range t ≡ true → TimeOk (canonical t)
 unfolding canonical in_range
 canonical-ok t h = record { range = h; minus = λ e. rw (eq-eqb t.halves 0 e) (and-false t.minus) }
 
-pub time-round : (t : Time) → in_range t ≡ true → taken_time (time_octets t) ≡ of_time.Good (canonical t)
+pub time-round : (t : Time) → in_range t ≡ true → taken_time (time_octets t) ≡ Ok (canonical t)
 unfolding taken_time
 time-round t h =
     let ok = canonical-ok t h in
-    ap taken_time (sym (canonical-octets t)) ∙ rw (time-fits (canonical t) ok) (ap of_time.Good (time-means (canonical t) ok))
+    ap taken_time (sym (canonical-octets t)) ∙ rw (time-fits (canonical t) ok) (ap Ok (time-means (canonical t) ok))
 
-pub bearer-round : (b : Bearer) → BearerOk b → taken_bearer (bearer_octets b) ≡ of_bearer.Good b
+pub bearer-round : (b : Bearer) → BearerOk b → taken_bearer (bearer_octets b) ≡ Some b
 unfolding taken_bearer
-bearer-round b ok = rw (bearer-fits b ok) (ap of_bearer.Good (bearer-means b ok))
+bearer-round b ok = rw (bearer-fits b ok) (ap Some (bearer-means b ok))
 
 -- what the answer on a normal size says of the octets
 pub record Sized (k : Kind) (s : List ℕ) (n : ℕ) : Type 0 where
   pub fit : fits k s ≡ true
   pub size : n ≡ length (normal_octets k s)
 
-module _ (k : Kind) (s : List ℕ) (r : NormalSize) (e : r ≡ normal_size k s) where
-  pub normal-sized : (n : OctetCount) → r ≡ sized.Octets n → Sized k s n.0
+module _ (k : Kind) (s : List ℕ) (r : Option OctetCount) (e : r ≡ normal_size k s) where
+  pub normal-sized : (n : OctetCount) → r ≡ Some n → Sized k s n.0
   unfolding normal_size
   normal-sized n g = let w = chosen (fits k s) (sym g ∙ e) (λ q. never (cc)) in record { fit = w.0; size = cc w.1 }
 
-  pub not-sized : r ≡ sized.NoValue → fits k s ≡ false
+  pub not-sized : r ≡ None → fits k s ≡ false
   unfolding normal_size
   not-sized g = (not_chosen (fits k s) (sym g ∙ e) (λ q. never (cc))).0
 
@@ -238,7 +233,8 @@ bearer-shorter o f =
     let n = eqb-true (length o) (3 + 3 * ensemble_flag o + 2 * long_sid_flag o) f in
     omega (arith, n, bearer-size (bearer_of o), middle (eqb (ensemble_flag o) 1) refl, width-le (eqb (long_sid_flag o) 1) refl)
   where
-    middle : (b : Bool) → eqb (ensemble_flag o) 1 ≡ b → length (ensemble_octets (cond b (Present (get_or o 1 0) (value (take 2 (drop 2 o)))) Absent)) ≤ 3 * ensemble_flag o
+    middle : (b : Bool) → eqb (ensemble_flag o) 1 ≡ b
+        → length (ensemble_octets (cond b (Some (ecc_eid (get_or o 1 0) (value (take 2 (drop 2 o))))) None)) ≤ 3 * ensemble_flag o
     middle true e = omega (arith, eqb-true (ensemble_flag o) 1 e)
     middle false e = omega arith
 

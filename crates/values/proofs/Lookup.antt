@@ -1,7 +1,7 @@
 -- The table in code against the rows of the definition: the rows made of its pairs, the arms, the digits, and the lookup.
 use mathlib.Core.Path.{◌≡◌, refl, sym, ap, ap₂, ◌∙◌}
 use mathlib.Core.Bool.{Bool, true, false, cond, ◌&&◌, ◌||◌, false≢true}
-use mathlib.Core.Option.{Option, none, some}
+use mathlib.Core.Option.{Option as Maybe, none, some}
 use mathlib.Core.List.{List, [], ◌∷◌}
 use Prim.Native.Nat.{ℕ, zero, suc, zero-le, ◌+◌, ◌-◌, ◌*◌, ◌/◌, ◌%◌, ◌^◌, ◌≤◌, ◌<◌}
 use native.Mathlib.Nat.{div-div-eq-div-mul, pow-succ'}
@@ -19,15 +19,14 @@ use Rattle.octets.proofs.Tests.{and_left, and_right}
 use Rattle.values.specs.declared.Kind.{Kind}
 use Rattle.values.specs.declared.Kind.TheVariants.{HoldsItems, HoldsTokens, HoldsText, HoldsPlain, HoldsTime, HoldsBearer, HoldsNumber}
 use Rattle.values.specs.declared.NumberKind.TheVariants.{Duration, ShortId, Enumerated, Integer}
-use Rattle.values.specs.declared.KnownKind.{KnownKind}
-use Rattle.values.specs.declared.KnownKind.TheVariants.{Unknown}
+use Rattle.std.specs.Prelude.{Option, None}
 use Rattle.values.specs.Table.{rows, kind_in, known, attribute}
 use Rattle.values.specs.Index.{code_of, answers, known_by, attribute_codes, codes_of, packed_row, packed_rows, digit_of, with_digits, row_of}
 use Rattle.values.specs.Calls.{as_known, known_kind}
 use Rattle.values.proofs.Known.{every, row-holds}
 
 -- codes
-known-code : (o : Option Kind) → known_by (code_of o) ≡ as_known o
+known-code : (o : Maybe Kind) → known_by (code_of o) ≡ as_known o
 unfolding known_by answers code_of as_known
 known-code none = refl
 known-code (some HoldsItems) = refl
@@ -41,7 +40,7 @@ known-code (some (HoldsNumber ShortId)) = refl
 known-code (some (HoldsNumber Enumerated)) = refl
 known-code (some (HoldsNumber Integer)) = refl
 
-code-small : (o : Option Kind) → code_of o < 16
+code-small : (o : Maybe Kind) → code_of o < 16
 unfolding code_of
 code-small none = omega arith
 code-small (some HoldsItems) = omega arith
@@ -59,16 +58,16 @@ pub code_is : (code n : ℕ) → code ≡ n → known_by n ≡ known_by code
 code_is code n e = ap known_by (sym e)
 
 pub code-last : (code : ℕ) → (code ≡ 1 → ⊥) → (code ≡ 2 → ⊥) → (code ≡ 3 → ⊥) → (code ≡ 4 → ⊥) → (code ≡ 5 → ⊥) → (code ≡ 6 → ⊥) → (code ≡ 7 → ⊥)
-    → (code ≡ 8 → ⊥) → (code ≡ 9 → ⊥) → (code ≡ 10 → ⊥) → Unknown ≡ known_by code
+    → (code ≡ 8 → ⊥) → (code ≡ 9 → ⊥) → (code ≡ 10 → ⊥) → None ≡ known_by code
 unfolding known_by answers
 code-last code n1 n2 n3 n4 n5 n6 n7 n8 n9 n10 = go (eqb code 0) refl
   where
     past : (code ≡ 0 → ⊥) → 11 ≤ code
     past n0 = above code (above code (above code (above code (above code (above code (above code (above code (above code (above code (above code zero-le n0) n1) n2) n3) n4) n5) n6) n7) n8) n9) n10
 
-    go : (b : Bool) → eqb code 0 ≡ b → Unknown ≡ known_by code
+    go : (b : Bool) → eqb code 0 ≡ b → None ≡ known_by code
     go true e = code_is code 0 (eqb-true code 0 e)
-    go false e = sym (get_or-eq_default answers Unknown {n = code} (past (eqb-false code 0 e)))
+    go false e = sym (get_or-eq_default answers None {n = code} (past (eqb-false code 0 e)))
 
 -- the place of a pair's digit
 pub place-small : (n : ℕ) → 4 * bit_and n 7 < 32
@@ -154,7 +153,7 @@ in-no-arm N (a ∷ l) x h =
 no_kind : (P : ℕ → ℕ → Kind → Bool) (e tag : ℕ) → every P rows ≡ true → ((k : Kind) → P e tag k ≡ false) → kind_in e tag rows ≡ none
 no_kind P e tag q f = go (kind_in e tag rows) refl
   where
-    go : (o : Option Kind) → kind_in e tag rows ≡ o → o ≡ none
+    go : (o : Maybe Kind) → kind_in e tag rows ≡ o → o ≡ none
     go none h = refl
     go (some k) h = absurd (false≢true (sym (f k) ∙ row-holds P e tag k rows q h))
 
@@ -251,6 +250,6 @@ module _ (parent tag : ℕ) (b : Bool) (a : b ≡ attribute tag) where
 
 pub ruleset code-ways = (code-beyond, code-attribute, code-own, place-above)
 
-pub look : (parent tag code : ℕ) (r : KnownKind) → code ≡ code_of (known parent tag) → r ≡ known_by code → r ≡ known_kind parent tag
+pub look : (parent tag code : ℕ) (r : Option Kind) → code ≡ code_of (known parent tag) → r ≡ known_by code → r ≡ known_kind parent tag
 unfolding known_kind
 look parent tag code r e k = k ∙ ap known_by e ∙ known-code (known parent tag)

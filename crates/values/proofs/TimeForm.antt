@@ -22,10 +22,14 @@ use Rattle.octets.proofs.Numbers.{length_digits}
 use Rattle.octets.proofs.Lists.{sets-append}
 use Rattle.values.specs.declared.Time.{Time}
 use Rattle.values.specs.declared.Local.{Local}
-use Rattle.values.specs.declared.TakenTime.TheVariants.{Good, Bad}
-use Rattle.values.specs.Times.{bits, long_flag, offset_flag, offset_octet, time_of, in_range, is_time, canonical, sign, time_octets, local_minutes, local_of, wrong_part, wrong_time}
+use Rattle.std.specs.Prelude.{Result, Err}
+use Rattle.values.specs.declared.TimeError.{TimeError}
+use Rattle.values.specs.declared.TimeError.TheVariants.{Length}
+use Rattle.values.specs.Times.{bits, long_flag, offset_flag, offset_octet, time_of, in_range, is_time}
+use Rattle.values.specs.Times.{canonical, sign, time_octets, local_minutes, local_of, error_of, checked, wrong_time}
 use Rattle.values.specs.Layout.{first_bits, second_octets, offset_octets}
 use Rattle.values.specs.Calls.{taken_time}
+use Rattle.values.proofs.Fields.{field-none}
 use Rattle.values.proofs.Times.{bounds, sign_le}
 
 -- a flag times a value
@@ -136,8 +140,8 @@ module _ (t : Time) where
 pub ruleset canonical-ways = (canonical-same, canonical-zero)
 
 -- a time taken from octets
-pub taken-short : (s : List ℕ) → length s < 4 → Bad 1 ≡ taken_time s
-unfolding taken_time is_time wrong_time
+pub taken-short : (s : List ℕ) → length s < 4 → Err Length ≡ taken_time s
+unfolding taken_time is_time wrong_time error_of
 taken-short s h = rw (ne_eqb (length s) (4 + 2 * long_flag s + offset_flag s) (λ e. omega arith)) refl
 
 module _ (s : List ℕ) (w : ℕ) (e : w ≡ value (take 4 s)) where
@@ -153,8 +157,8 @@ module _ (s : List ℕ) (w : ℕ) (e : w ≡ value (take 4 s)) where
   unfolding offset_flag
   offset-flag = flag 12
 
-  pub taken-size : (length s ≡ 4 + 2 * bit_and (w / 2 ^ 11) 1 + bit_and (w / 2 ^ 12) 1 → ⊥) → Bad 1 ≡ taken_time s
-  unfolding taken_time is_time wrong_time
+  pub taken-size : (length s ≡ 4 + 2 * bit_and (w / 2 ^ 11) 1 + bit_and (w / 2 ^ 12) 1 → ⊥) → Err Length ≡ taken_time s
+  unfolding taken_time is_time wrong_time error_of
   taken-size g = rw (ne_eqb (length s) (4 + 2 * long_flag s + offset_flag s) (λ q. g (q ∙ ap₂ (λ x y. 4 + 2 * x + y) (sym long-flag) (sym offset-flag)))) refl
 
   module _ (second offset : ℕ) (minus : Bool)
@@ -179,19 +183,14 @@ module _ (s : List ℕ) (w : ℕ) (e : w ≡ value (take 4 s)) where
       halves = (and_mask offset 5 ∙ ap (λ n. n % 32) offset-is) i;
     }
 
-    module _ (h : length s ≡ 4 + 2 * bit_and (w / 2 ^ 11) 1 + bit_and (w / 2 ^ 12) 1) (r : Bool) (v : r ≡ in_range made) where
-      size_is : eqb (length s) (4 + 2 * long_flag s + offset_flag s) ≡ true
-      size_is = eq-eqb (length s) (4 + 2 * long_flag s + offset_flag s) (h ∙ ap₂ (λ x y. 4 + 2 * x + y) long-flag offset-flag)
+    pub taken-right : length s ≡ 4 + 2 * bit_and (w / 2 ^ 11) 1 + bit_and (w / 2 ^ 12) 1 → (r : Result Time TimeError) → r ≡ checked made → r ≡ taken_time s
+    unfolding taken_time checked wrong_time
+    taken-right h r q =
+        let size : eqb (length s) (4 + 2 * long_flag s + offset_flag s) ≡ true =
+        eq-eqb (length s) (4 + 2 * long_flag s + offset_flag s) (h ∙ ap₂ (λ x y. 4 + 2 * x + y) long-flag offset-flag) in
+        rw (field-none s, size) (q ∙ ap checked made-is)
 
-      pub taken-good : r ≡ true → Good made ≡ taken_time s
-      unfolding taken_time is_time
-      taken-good y = rw (size_is, ap in_range (sym made-is) ∙ sym v ∙ y) (ap Good made-is)
-
-      pub taken-bad : r ≡ false → (n : ℕ) → n ≡ wrong_part made → Bad n ≡ taken_time s
-      unfolding taken_time is_time wrong_time
-      taken-bad y n q = rw (size_is, ap in_range (sym made-is) ∙ sym v ∙ y) (ap Bad (q ∙ ap wrong_part made-is))
-
-pub ruleset take-ways = (taken-short, taken-size, taken-good, taken-bad)
+pub ruleset take-ways = (taken-short, taken-size, taken-right)
 
 -- local time
 module _ (t : Time) where

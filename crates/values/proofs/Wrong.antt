@@ -9,22 +9,20 @@ use lib.ListN.{length, get_or}
 use Rattle.octets.specs.Counts.{as_octets, size_of}
 use Rattle.octets.specs.Numbers.{value, digits}
 use Rattle.octets.specs.Puts.{put_answer, put_out, Puts}
-use Rattle.octets.specs.declared.Put.TheVariants.{Done, NoRoom}
 use Rattle.octets.proofs.Tests.{never}
 use Rattle.values.specs.declared.Kind.TheVariants.{HoldsText, HoldsPlain, HoldsTime, HoldsBearer, HoldsNumber}
 use Rattle.values.specs.declared.NumberKind.TheVariants.{Duration, ShortId, Integer}
-use Rattle.values.specs.declared.KnownKind.TheVariants.{Known}
+use Rattle.std.specs.Prelude.{Option, Some, None, Result, Ok, Err}
+use Rattle.octets.specs.declared.counts.Octets.{Octets}
+use Rattle.octets.specs.declared.PutError.TheVariants.{NoRoom}
 use Rattle.values.specs.declared.Time.{Time}
-use Rattle.values.specs.declared.Ensemble.TheVariants.{Absent, Present}
-use Rattle.values.specs.declared.TakenTime.{TakenTime}
-use Rattle.values.specs.declared.TakenTime.TheVariants as of_time
-use Rattle.values.specs.declared.TakenBearer.{TakenBearer}
-use Rattle.values.specs.declared.TakenBearer.TheVariants as of_bearer
-use Rattle.values.specs.declared.NormalSize.{NormalSize}
-use Rattle.values.specs.declared.NormalSize.TheVariants.{Octets, NoValue}
+use Rattle.values.specs.declared.TimeError.{TimeError}
+use Rattle.values.specs.declared.TimeError.TheVariants.{Date, Minutes}
+use Rattle.values.specs.declared.Bearer.{Bearer}
 use Rattle.values.specs.Table.{rows, kind_in, known, attribute, defaults, default_in}
-use Rattle.values.specs.Times.{bits, long_flag, offset_flag, offset_octet, time_of, in_range, is_time, wrong_part, wrong_time, canonical, sign, time_octets, local_minutes, local_of}
-use Rattle.values.specs.Bearers.{ensemble_flag, long_sid_flag, ensemble_of, bearer_of, is_bearer, ensemble_bit, ensemble_octets, bearer_octets}
+use Rattle.values.specs.Times.{bits, long_flag, offset_flag, offset_octet, time_of, in_range, is_time}
+use Rattle.values.specs.Times.{wrong_part, wrong_time, error_of, canonical, sign, time_octets, local_minutes, local_of}
+use Rattle.values.specs.Bearers.{ecc_eid, ensemble_flag, long_sid_flag, ensemble_of, bearer_of, is_bearer, ensemble_bit, ensemble_octets, bearer_octets}
 use Rattle.values.specs.Values.{width, fits, wrong_field, meant, octets_of}
 use Rattle.values.specs.Calls.{as_known, known_kind, taken_time, taken_bearer, bearer_in_range, normal_octets, normal_size, default_octets}
 
@@ -38,11 +36,11 @@ unfolding attribute
 attribute-from-0x7f h = false≢true h
 
 -- `known_kind`: a pair that annex E marks as not used; the void element 0x05; an attribute looked up without its element
-pub unused-pair-known : known_kind 0x28 0x81 ≡ Known (HoldsNumber Integer) → ⊥
+pub unused-pair-known : known_kind 0x28 0x81 ≡ Some (HoldsNumber Integer) → ⊥
 unfolding known_kind as_known known attribute kind_in rows
 unused-pair-known h = never (cc)
 
-pub void-element-known : known_kind 0x03 0x05 ≡ Known HoldsText → ⊥
+pub void-element-known : known_kind 0x03 0x05 ≡ Some HoldsText → ⊥
 unfolding known_kind as_known known attribute kind_in rows
 void-element-known h = never (cc)
 
@@ -68,37 +66,39 @@ on-air-kept h = true≢false h
 abbrev at : ℕ → ℕ → Time
 at day second = record { day = day; hour = 0; minute = 0; second = second; minus = false; halves = 0 }
 
-abbrev minus_of : TakenTime → Bool
-minus_of (of_time.Good t) = t.minus
-minus_of (of_time.Bad n) = false
+abbrev minus_of : Result Time TimeError → Bool
+minus_of (Ok t) = t.minus
+minus_of (Err x) = false
 
-pub minus-zero-kept : taken_time (0x30 ∷ 0xD4 ∷ 0x10 ∷ 0x00 ∷ 0x20 ∷ []) ≡ of_time.Good (record { day = 50_000; hour = 0; minute = 0; second = 0; minus = true; halves = 0 }) → ⊥
+pub minus-zero-kept : taken_time (0x30 ∷ 0xD4 ∷ 0x10 ∷ 0x00 ∷ 0x20 ∷ [])
+    ≡ Ok (record { day = 50_000; hour = 0; minute = 0; second = 0; minus = true; halves = 0 }) → ⊥
 unfolding taken_time is_time in_range time_of bits long_flag offset_flag offset_octet value
 minus-zero-kept h = false≢true (ap minus_of h)
 
-pub late-date-taken : taken_time (0x61 ∷ 0xA8 ∷ 0x00 ∷ 0x00 ∷ []) ≡ of_time.Good (at 100_000 0) → ⊥
+pub late-date-taken : taken_time (0x61 ∷ 0xA8 ∷ 0x00 ∷ 0x00 ∷ []) ≡ Ok (at 100_000 0) → ⊥
 unfolding taken_time is_time in_range time_of bits long_flag offset_flag offset_octet value
 late-date-taken h = never (cc)
 
-pub short-time-seconds : taken_time (0x30 ∷ 0xD4 ∷ 0x10 ∷ 0x00 ∷ 0x1F ∷ []) ≡ of_time.Good (record { day = 50_000; hour = 0; minute = 0; second = 7; minus = false; halves = 31 }) → ⊥
+pub short-time-seconds : taken_time (0x30 ∷ 0xD4 ∷ 0x10 ∷ 0x00 ∷ 0x1F ∷ [])
+    ≡ Ok (record { day = 50_000; hour = 0; minute = 0; second = 7; minus = false; halves = 31 }) → ⊥
 unfolding taken_time is_time in_range time_of bits long_flag offset_flag offset_octet value
 short-time-seconds h = let z : ◌≡◌ {A = ℕ} 0 7 = cc in omega arith
 
-pub reserved-bit-dated : (n : ℕ) → taken_time (0xB0 ∷ 0xD4 ∷ 0x00 ∷ 0x00 ∷ []) ≡ of_time.Bad n → ⊥
+pub reserved-bit-dated : (x : TimeError) → taken_time (0xB0 ∷ 0xD4 ∷ 0x00 ∷ 0x00 ∷ []) ≡ Err x → ⊥
 unfolding taken_time is_time in_range time_of bits long_flag offset_flag offset_octet value
-reserved-bit-dated n h = never (cc)
+reserved-bit-dated x h = never (cc)
 
-pub spare-octet-taken : taken_time (0x30 ∷ 0xD4 ∷ 0x00 ∷ 0x00 ∷ 0x00 ∷ []) ≡ of_time.Good (at 50_000 0) → ⊥
+pub spare-octet-taken : taken_time (0x30 ∷ 0xD4 ∷ 0x00 ∷ 0x00 ∷ 0x00 ∷ []) ≡ Ok (at 50_000 0) → ⊥
 unfolding taken_time is_time in_range time_of bits long_flag offset_flag offset_octet value
 spare-octet-taken h = never (cc)
 
-pub length-passed-over : taken_time (0x61 ∷ 0xA8 ∷ 0x00 ∷ 0x00 ∷ 0x00 ∷ []) ≡ of_time.Bad 2 → ⊥
-unfolding taken_time is_time in_range time_of wrong_part wrong_time bits long_flag offset_flag offset_octet value
-length-passed-over h = let z : ◌≡◌ {A = ℕ} 1 2 = cc in omega arith
+pub length-passed-over : taken_time (0x61 ∷ 0xA8 ∷ 0x00 ∷ 0x00 ∷ 0x00 ∷ []) ≡ Err Date → ⊥
+unfolding taken_time is_time in_range time_of wrong_part wrong_time error_of bits long_flag offset_flag offset_octet value
+length-passed-over h = never (cc)
 
-pub last-field-told : taken_time (0x30 ∷ 0xD4 ∷ 0x06 ∷ 0x3C ∷ []) ≡ of_time.Bad 4 → ⊥
-unfolding taken_time is_time in_range time_of wrong_part wrong_time bits long_flag offset_flag offset_octet value
-last-field-told h = let z : ◌≡◌ {A = ℕ} 3 4 = cc in omega arith
+pub last-field-told : taken_time (0x30 ∷ 0xD4 ∷ 0x06 ∷ 0x3C ∷ []) ≡ Err Minutes → ⊥
+unfolding taken_time is_time in_range time_of wrong_part wrong_time error_of bits long_flag offset_flag offset_octet value
+last-field-told h = never (cc)
 
 -- `Time::valid`: date 100,000; second 60; 32 half hours; the last date refused
 pub late-date-valid : in_range (at 100_000 0) ≡ true → ⊥
@@ -153,59 +153,61 @@ zero-offset-counted h = omega (arith, ap (λ n. n.0) h)
 abbrev five : List ℕ
 five = 1 ∷ 2 ∷ 3 ∷ 4 ∷ 5 ∷ []
 
-pub time-past-room : (after : List ℕ) → Puts (in_range (at 50_000 0)) (time_octets (at 50_000 0)) 2 five after (Done 6) → ⊥
+pub time-past-room : (after : List ℕ) → Puts (in_range (at 50_000 0)) (time_octets (at 50_000 0)) 2 five after (Ok 6) → ⊥
 unfolding put_answer in_range time_octets digits sign
 time-past-room after p = let h = p.answers in never (cc)
 
-pub time-part-written : Puts (in_range (at 50_000 0)) (time_octets (at 50_000 0)) 2 five (1 ∷ 2 ∷ 0x30 ∷ 0xD4 ∷ 0x00 ∷ []) NoRoom → ⊥
+pub time-part-written : Puts (in_range (at 50_000 0)) (time_octets (at 50_000 0)) 2 five (1 ∷ 2 ∷ 0x30 ∷ 0xD4 ∷ 0x00 ∷ []) (Err NoRoom) → ⊥
 unfolding put_out in_range time_octets digits sign
 time-part-written p = let z : ◌≡◌ {A = ℕ} 0x30 3 = ap (λ l. get_or l 2 0) p.leaves in omega arith
 
-pub late-date-written : (after : List ℕ) → Puts (in_range (at 100_000 0)) (time_octets (at 100_000 0)) 0 five after (Done 4) → ⊥
+pub late-date-written : (after : List ℕ) → Puts (in_range (at 100_000 0)) (time_octets (at 100_000 0)) 0 five after (Ok 4) → ⊥
 unfolding put_answer in_range
 late-date-written after p = let h = p.answers in never (cc)
 
 -- `Bearer::take`: a 16-bit service id as a 32-bit one; reserved bits refused; a spare octet ignored
-abbrev long_of : TakenBearer → Bool
-long_of (of_bearer.Good b) = b.long
-long_of of_bearer.Bad = false
+abbrev long_of : Option Bearer → Bool
+long_of (Some b) = b.long
+long_of None = false
 
-pub short-sid-long : taken_bearer (0x05 ∷ 0xC1 ∷ 0x23 ∷ []) ≡ of_bearer.Good (record { ensemble = Absent; long = true; sid = 0xC123; scids = 5 }) → ⊥
+pub short-sid-long : taken_bearer (0x05 ∷ 0xC1 ∷ 0x23 ∷ []) ≡ Some (record { ensemble = None; long = true; sid = 0xC123; scids = 5 }) → ⊥
 unfolding taken_bearer is_bearer bearer_of ensemble_of ensemble_flag long_sid_flag value
 short-sid-long h = false≢true (ap long_of h)
 
-pub reserved-bits-refused : taken_bearer (0xA5 ∷ 0xC1 ∷ 0x23 ∷ []) ≡ of_bearer.Bad → ⊥
+pub reserved-bits-refused : taken_bearer (0xA5 ∷ 0xC1 ∷ 0x23 ∷ []) ≡ None → ⊥
 unfolding taken_bearer is_bearer bearer_of ensemble_of ensemble_flag long_sid_flag value
 reserved-bits-refused h = never (cc)
 
-pub spare-bearer-octet : taken_bearer (0x05 ∷ 0xC1 ∷ 0x23 ∷ 0x00 ∷ []) ≡ of_bearer.Good (record { ensemble = Absent; long = false; sid = 0xC123; scids = 5 }) → ⊥
+pub spare-bearer-octet : taken_bearer (0x05 ∷ 0xC1 ∷ 0x23 ∷ 0x00 ∷ []) ≡ Some (record { ensemble = None; long = false; sid = 0xC123; scids = 5 }) → ⊥
 unfolding taken_bearer is_bearer bearer_of ensemble_of ensemble_flag long_sid_flag value
 spare-bearer-octet h = never (cc)
 
 -- `Bearer::valid`: SCIdS of five bits; a 17-bit service id as a short one
-pub scids-16-valid : bearer_in_range (record { ensemble = Absent; long = false; sid = 1; scids = 16 }) ≡ true → ⊥
+pub scids-16-valid : bearer_in_range (record { ensemble = None; long = false; sid = 1; scids = 16 }) ≡ true → ⊥
 unfolding bearer_in_range
 scids-16-valid h = false≢true h
 
-pub wide-sid-valid : bearer_in_range (record { ensemble = Absent; long = false; sid = 0x1_0000; scids = 0 }) ≡ true → ⊥
+pub wide-sid-valid : bearer_in_range (record { ensemble = None; long = false; sid = 0x1_0000; scids = 0 }) ≡ true → ⊥
 unfolding bearer_in_range
 wide-sid-valid h = false≢true h
 
 -- `Bearer::size`: a long service id counted as a short one; the ensemble left out
-pub long-sid-short : size_of (bearer_octets (record { ensemble = Absent; long = true; sid = 1; scids = 0 })) ≡ as_octets 3 → ⊥
+pub long-sid-short : size_of (bearer_octets (record { ensemble = None; long = true; sid = 1; scids = 0 })) ≡ as_octets 3 → ⊥
 unfolding bearer_octets ensemble_bit ensemble_octets digits
 long-sid-short h = omega (arith, ap (λ n. n.0) h)
 
-pub ensemble-not-counted : size_of (bearer_octets (record { ensemble = Present 0xE1 0xC185; long = false; sid = 1; scids = 0 })) ≡ as_octets 3 → ⊥
+pub ensemble-not-counted : size_of (bearer_octets (record { ensemble = Some (ecc_eid 0xE1 0xC185); long = false; sid = 1; scids = 0 })) ≡ as_octets 3 → ⊥
 unfolding bearer_octets ensemble_bit ensemble_octets digits
 ensemble-not-counted h = omega (arith, ap (λ n. n.0) h)
 
 -- `Bearer::put`: a 16-bit service id written as the 32-bit one of the same number; the octets before the place changed
-pub widths-confused : bearer_octets (record { ensemble = Absent; long = false; sid = 0xC123; scids = 5 }) ≡ bearer_octets (record { ensemble = Absent; long = true; sid = 0xC123; scids = 5 }) → ⊥
+pub widths-confused : bearer_octets (record { ensemble = None; long = false; sid = 0xC123; scids = 5 })
+    ≡ bearer_octets (record { ensemble = None; long = true; sid = 0xC123; scids = 5 }) → ⊥
 unfolding bearer_octets ensemble_bit ensemble_octets digits
 widths-confused h = let z : ◌≡◌ {A = ℕ} 0x05 0x15 = ap (λ l. get_or l 0 0) h in omega arith
 
-pub bearer-from-start : Puts true (bearer_octets (record { ensemble = Absent; long = false; sid = 0xC123; scids = 5 })) 2 five (0x05 ∷ 0xC1 ∷ 0x23 ∷ 4 ∷ 5 ∷ []) (Done 5) → ⊥
+pub bearer-from-start : Puts true (bearer_octets (record { ensemble = None; long = false; sid = 0xC123; scids = 5 }))
+    2 five (0x05 ∷ 0xC1 ∷ 0x23 ∷ 4 ∷ 5 ∷ []) (Ok 5) → ⊥
 unfolding put_out bearer_octets ensemble_bit ensemble_octets digits
 bearer-from-start p = let z : ◌≡◌ {A = ℕ} 0x05 1 = ap (λ l. get_or l 0 0) p.leaves in omega arith
 
@@ -223,9 +225,9 @@ unfolding fits
 empty-plain-refused h = true≢false h
 
 -- the size that an answer of `normal_size` tells
-abbrev size_in : NormalSize → ℕ
-size_in (Octets n) = n.0
-size_in NoValue = 0
+abbrev size_in : Option Octets → ℕ
+size_in (Some n) = n.0
+size_in None = 0
 
 -- `wrong_field`: a duration whose octets would be a time of a late date; a time without its field
 pub field-of-duration : wrong_field (HoldsNumber Duration) (0x61 ∷ 0xA8 ∷ 0x00 ∷ 0x00 ∷ []) ≡ 2 → ⊥
@@ -237,11 +239,11 @@ unfolding wrong_field wrong_time wrong_part time_of bits long_flag offset_flag o
 field-left-out h = let z : ◌≡◌ {A = ℕ} 2 0 = h in omega arith
 
 -- `normal_size`: the octet of minus 0 counted; the size of octets that are no value
-pub minus-zero-counted : normal_size HoldsTime (0x30 ∷ 0xD4 ∷ 0x10 ∷ 0x00 ∷ 0x20 ∷ []) ≡ Octets (as_octets 5) → ⊥
+pub minus-zero-counted : normal_size HoldsTime (0x30 ∷ 0xD4 ∷ 0x10 ∷ 0x00 ∷ 0x20 ∷ []) ≡ Some (as_octets 5) → ⊥
 unfolding normal_size normal_octets fits meant octets_of is_time in_range time_of bits long_flag offset_flag offset_octet value time_octets digits sign
 minus-zero-counted h = let z : ◌≡◌ {A = ℕ} 4 5 = ap size_in h in omega arith
 
-pub no-value-sized : normal_size (HoldsNumber Duration) (0x3C ∷ []) ≡ Octets (as_octets 2) → ⊥
+pub no-value-sized : normal_size (HoldsNumber Duration) (0x3C ∷ []) ≡ Some (as_octets 2) → ⊥
 unfolding normal_size fits width
 no-value-sized h = never (cc)
 
@@ -254,6 +256,8 @@ pub zero-seconds-kept : length (normal_octets HoldsTime (0x30 ∷ 0xD4 ∷ 0x08 
 unfolding normal_octets meant octets_of time_of bits long_flag offset_flag offset_octet value time_octets digits sign
 zero-seconds-kept h = omega arith
 
-pub no-value-written : (after : List ℕ) → Puts (fits (HoldsNumber Duration) (0x3C ∷ [])) (normal_octets (HoldsNumber Duration) (0x3C ∷ [])) 0 five after (Done 2) → ⊥
+pub no-value-written : (after : List ℕ) → Puts (fits (HoldsNumber Duration) (0x3C ∷ [])) (normal_octets (HoldsNumber Duration) (0x3C ∷ [])) 0 five after (Ok 2) →
+    (after : List ℕ) → Puts (fits (HoldsNumber Duration) (0x3C ∷ [])) (normal_octets (HoldsNumber Duration) (0x3C ∷ []))
+    0 five after (Ok 2) → ⊥
 unfolding put_answer fits width
 no-value-written after p = let h = p.answers in never (cc)

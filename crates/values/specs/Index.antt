@@ -1,16 +1,14 @@
 -- The table as code keeps it: each row one number; and, made of these, for each element one number, with a digit for the element itself and one for each attribute in it.
-use Rattle.std.specs.Prelude.{List, [], ◌∷◌, map, ℕ, zero, suc, ◌+◌, ◌-◌, ◌*◌, ◌/◌, ◌%◌, ◌^◌, get_or}
-use Rattle.std.proofs.Math.Option.{Option, none, some}
+use Rattle.std.specs.Prelude.{List, [], ◌∷◌, map, ℕ, zero, suc, ◌+◌, ◌-◌, ◌*◌, ◌/◌, ◌%◌, ◌^◌, get_or, Option, Some, None}
+use Rattle.std.proofs.Math.Option.{Option as Maybe, none, some}
 use Rattle.std.specs.Int.Bits.{bit_and, bit_or}
 use Rattle.values.specs.declared.Kind.{Kind}
 use Rattle.values.specs.declared.Kind.TheVariants.{HoldsItems, HoldsTokens, HoldsText, HoldsPlain, HoldsTime, HoldsBearer, HoldsNumber}
 use Rattle.values.specs.declared.NumberKind.TheVariants.{Duration, ShortId, Enumerated, Integer}
-use Rattle.values.specs.declared.KnownKind.{KnownKind}
-use Rattle.values.specs.declared.KnownKind.TheVariants.{Unknown, Known}
 use Rattle.values.specs.Table.{rows, kind_in}
 
 -- the code of a kind (document 01, Framing and Expected forms: a constant table of pairs, each with a kind code), and 0 where there is none
-unfoldable pub code_of : Option Kind → ℕ
+unfoldable pub code_of : Maybe Kind → ℕ
 code_of none = 0
 code_of (some HoldsItems) = 1
 code_of (some HoldsTokens) = 2
@@ -24,13 +22,13 @@ code_of (some (HoldsNumber Enumerated)) = 9
 code_of (some (HoldsNumber Integer)) = 10
 
 -- the answers of a lookup in the order of their codes, and the answer of a code
-unfoldable pub answers : List KnownKind
+unfoldable pub answers : List (Option Kind)
 answers =
-    Unknown ∷ Known HoldsItems ∷ Known HoldsTokens ∷ Known HoldsText ∷ Known HoldsPlain ∷ Known HoldsTime ∷ Known HoldsBearer
-    ∷ Known (HoldsNumber Duration) ∷ Known (HoldsNumber ShortId) ∷ Known (HoldsNumber Enumerated) ∷ Known (HoldsNumber Integer) ∷ []
+    None ∷ Some HoldsItems ∷ Some HoldsTokens ∷ Some HoldsText ∷ Some HoldsPlain ∷ Some HoldsTime ∷ Some HoldsBearer
+    ∷ Some (HoldsNumber Duration) ∷ Some (HoldsNumber ShortId) ∷ Some (HoldsNumber Enumerated) ∷ Some (HoldsNumber Integer) ∷ []
 
-unfoldable pub known_by : ℕ → KnownKind
-known_by code = get_or answers code Unknown
+unfoldable pub known_by : ℕ → Option Kind
+known_by code = get_or answers code None
 
 -- the codes of so many attributes in an element, from a tag on, as digits to the base 16, the lowest first
 unfoldable pub attribute_codes : ℕ → ℕ → ℕ → ℕ

@@ -1,12 +1,11 @@
 -- The values that an attribute can have, by kind: what the well-formed meanings are made of.
-use Rattle.std.specs.Prelude.{◌≡◌, Bool, true, false, List, ℕ, ◌^◌, ◌<◌}
+use Rattle.std.specs.Prelude.{◌≡◌, Bool, true, false, List, ℕ, ◌^◌, ◌<◌, Option, Some, None}
 use Rattle.text.specs.Text.{text}
 use Rattle.values.specs.declared.Kind.{Kind}
 use Rattle.values.specs.declared.Kind.TheVariants.{HoldsText, HoldsPlain, HoldsTime, HoldsBearer, HoldsNumber}
 use Rattle.values.specs.declared.NumberKind.{NumberKind}
 use Rattle.values.specs.declared.Time.{Time}
 use Rattle.values.specs.declared.Ensemble.{Ensemble}
-use Rattle.values.specs.declared.Ensemble.TheVariants.{Absent, Present}
 use Rattle.values.specs.declared.Bearer.{Bearer}
 use Rattle.values.specs.Times.{in_range}
 use Rattle.values.specs.Values.{Value, width}
@@ -17,9 +16,9 @@ pub record TimeOk (t : Time) : Type 0 where
   pub range : in_range t ≡ true
   pub minus : t.halves ≡ 0 → t.minus ≡ false
 
-abbrev pub EnsembleOk : Ensemble → Type 0
-EnsembleOk Absent = Unit {0}
-EnsembleOk (Present ecc eid) = (ecc < 256) × (eid < 256 ^ 2)
+abbrev pub EnsembleOk : Option Ensemble → Type 0
+EnsembleOk None = Unit {0}
+EnsembleOk (Some e) = (e.ecc < 256) × (e.eid < 256 ^ 2)
 
 abbrev pub SidOk : Bool → ℕ → Type 0
 SidOk true sid = sid < 256 ^ 4

@@ -1,8 +1,10 @@
 -- Times (document 01, Values: Time; 002, clause 4.7.4).
-use Rattle.std.specs.Prelude.{Bool, cond, not, ◌&&◌, List, [], ◌∷◌, ◌++◌, ℕ, ◌+◌, ◌-◌, ◌*◌, ◌/◌, ◌%◌, ◌^◌, eqb, leb, length, take, get_or}
+use Rattle.std.specs.Prelude.{Bool, cond, not, ◌&&◌, List, [], ◌∷◌, ◌++◌, ℕ, ◌+◌, ◌-◌, ◌*◌, ◌/◌, ◌%◌, ◌^◌, eqb, leb, length, take, get_or, Result, Ok, Err}
 use Rattle.std.proofs.Math.IntN.{sub_ℕ}
 use Rattle.octets.specs.Numbers.{value, digits}
 use Rattle.values.specs.declared.Time.{Time}
+use Rattle.values.specs.declared.TimeError.{TimeError}
+use Rattle.values.specs.declared.TimeError.TheVariants.{Length, Date, Hours, Minutes, Seconds}
 use Rattle.values.specs.declared.Local.{Local}
 
 -- of the first 32 bits, as many as the width says, above as many as the first number says. From the most significant: reserved 1, date 17, reserved 1, flag of
@@ -49,6 +51,21 @@ wrong_part t = cond (leb t.day 99_999) (cond (leb t.hour 23) (cond (leb t.minute
 -- range. It is 0 exactly where rule 9 holds (proofs/Fields, `field-none`)
 unfoldable pub wrong_time : List ℕ → ℕ
 wrong_time o = cond (eqb (length o) (4 + 2 * long_flag o + offset_flag o)) (wrong_part (time_of o)) 1
+
+-- a field by its number, and its number again
+unfoldable pub error_of : ℕ → TimeError
+error_of number = get_or (Length ∷ Length ∷ Date ∷ Hours ∷ Minutes ∷ []) number Seconds
+
+abbrev pub number_of : TimeError → ℕ
+number_of Length = 1
+number_of Date = 2
+number_of Hours = 3
+number_of Minutes = 4
+number_of Seconds = 5
+
+-- a time whose fields but the offset are in range, or else the lowest that isn't
+unfoldable pub checked : Time → Result Time TimeError
+checked t = cond (eqb (wrong_part t) 0) (Ok t) (Err (error_of (wrong_part t)))
 
 -- the time of the same meaning that reading octets gives: no minus at offset 0
 unfoldable pub canonical : Time → Time

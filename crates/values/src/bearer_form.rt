@@ -1,35 +1,34 @@
 // DAB bearers in octets: the fields taken apart and put together by shifts and masks.
-ghost use Rattle.std.specs.Prelude.{◌≡◌, true, cond, ◌||◌, ◌+◌, ◌*◌, ◌≤◌, ◌<◌, eqb, leb, length, take, drop, get_or};
+ghost use Rattle.std.specs.Prelude.{◌≡◌, true, cond, ◌||◌, ◌+◌, ◌*◌, ◌≤◌, ◌<◌, eqb, leb, length, take, drop, get_or, Some, None};
 ghost use Rattle.std.proofs.lemmas.List.Edits.{sets};
 ghost use Rattle.octets.specs.Counts.{size_of};
 ghost use Rattle.octets.specs.Numbers.{value, digits};
 ghost use Rattle.octets.specs.Puts.{Puts};
-ghost use Rattle.values.specs.declared.Ensemble.TheVariants.{Absent, Present};
-ghost use Rattle.values.specs.Bearers.{ensemble_bit, ensemble_octets, bearer_octets};
+ghost use Rattle.values.specs.Bearers.{ecc_eid, ensemble_bit, ensemble_octets, bearer_octets};
 ghost use Rattle.values.specs.Calls.{taken_bearer, bearer_in_range};
 
 use crate::numbers::{four_at, low, put_four, put_two, two_at};
-use crate::{Bearer, Ensemble, TakenBearer};
-use octets::{Octets, Put, has_room};
+use crate::{Bearer, Ensemble};
+use octets::{Octets, PutError, has_room};
 
 impl Bearer {
     // The bearer that octets hold: of exactly the size that the two flags say.
-    pub fn take(s: &[u8]) -> TakenBearer
+    pub fn take(s: &[u8]) -> Option<Bearer>
         ensures { result ≡ taken_bearer s.now }
     {
         if s.len() < 3 {
-            return TakenBearer::Bad;
+            return None;
         }
         let first = s[0] as u32;
         let present = (first >> 6) & 0x1;
         let long = (first >> 4) & 0x1;
         let size = (3 + 3 * present + 2 * long) as usize;
         if s.len() != size {
-            return TakenBearer::Bad;
+            return None;
         }
         let ensemble = ensemble_at(s, present);
         let sid = sid_at(s, present, long);
-        TakenBearer::Good(Bearer {
+        Some(Bearer {
             ensemble,
             long: long == 1,
             sid,
@@ -68,18 +67,18 @@ impl Bearer {
     }
 
     // The normal octets, written from a place on.
-    pub fn put(self, out: &mut [u8], at: usize) -> Put
+    pub fn put(self, out: &mut [u8], at: usize) -> Result<usize, PutError>
         ensures { Puts (bearer_in_range self) (bearer_octets self) at out.old out.new result }
     {
         if !self.valid() {
-            return Put::Invalid;
+            return Err(PutError::Invalid);
         }
         let size = self.size();
         if !has_room(Octets(out.len()), at, size) {
-            return Put::NoRoom;
+            return Err(PutError::NoRoom);
         }
         self.store(out, at);
-        Put::Done(at + size.0)
+        Ok(at + size.0)
     }
 
     fn store(self, out: &mut [u8], at: usize)
@@ -95,20 +94,17 @@ impl Bearer {
 }
 
 // ECC 8 and EId 16, where the flag says that they follow.
-fn ensemble_at(s: &[u8], present: u32) -> Ensemble
+fn ensemble_at(s: &[u8], present: u32) -> Option<Ensemble>
     requires present_bound { present < 2 }
     requires present_in_bounds { 3 + 3 * present ≤ length s.now }
-    ensures { result ≡ cond (eqb present 1) (Present (get_or s.now 1 0) (value (take 2 (drop 2 s.now)))) Absent }
+    ensures { result ≡ cond (eqb present 1) (Some (ecc_eid (get_or s.now 1 0) (value (take 2 (drop 2 s.now))))) None }
 {
     if present == 0 {
-        return Ensemble::Absent;
+        return None;
     }
     let ecc = s[1];
-    let eid = two_at(s, 2);
-    Ensemble::Present {
-        ecc,
-        eid: eid as u16,
-    }
+    let eid = two_at(s, 2) as u16;
+    Some(Ensemble { ecc, eid })
 }
 
 // The service id of 16 or 32 bits, which fills the rest.
@@ -124,23 +120,23 @@ fn sid_at(s: &[u8], present: u32, long: u32) -> u32
     four_at(s, at)
 }
 
-fn ensemble_size(ensemble: Ensemble) -> Octets
+fn ensemble_size(ensemble: Option<Ensemble>) -> Octets
     ensures result_value { result.0 ≡ length (ensemble_octets ensemble) }
     ensures result_bound { result.0 ≤ 3 }
 {
     match ensemble {
-        Ensemble::Absent => Octets(0),
-        Ensemble::Present { ecc: _, eid: _ } => Octets(3),
+        None => Octets(0),
+        Some(_) => Octets(3),
     }
 }
 
-fn ensemble_flag(ensemble: Ensemble) -> u32
+fn ensemble_flag(ensemble: Option<Ensemble>) -> u32
     ensures result_value { result * 64 ≡ ensemble_bit ensemble }
     ensures upper_bound { result < 2 }
 {
     match ensemble {
-        Ensemble::Absent => 0,
-        Ensemble::Present { ecc: _, eid: _ } => 1,
+        None => 0,
+        Some(_) => 1,
     }
 }
 
@@ -155,7 +151,7 @@ fn long_flag(long: bool) -> u32
 }
 
 // Reserved 1, flag of the ensemble 1, reserved 1, flag of a 32-bit service id 1, SCIdS 4.
-fn first_octet(ensemble: Ensemble, long: bool, scids: u8) -> u8
+fn first_octet(ensemble: Option<Ensemble>, long: bool, scids: u8) -> u8
     requires { scids < 16 }
     ensures { result ≡ ensemble_bit ensemble + cond long 16 0 + scids }
 {
@@ -163,19 +159,17 @@ fn first_octet(ensemble: Ensemble, long: bool, scids: u8) -> u8
 }
 
 // ECC and EId, where there is an ensemble; the answer is where they end.
-fn put_ensemble(ensemble: Ensemble, out: &mut [u8], at: usize) -> usize
+fn put_ensemble(ensemble: Option<Ensemble>, out: &mut [u8], at: usize) -> usize
     requires { at + length (ensemble_octets ensemble) ≤ length out.old }
     ensures value { result ≡ at + length (ensemble_octets ensemble) }
     ensures out_after { out.new ≡ sets out.old at (ensemble_octets ensemble) }
 {
-    match ensemble {
-        Ensemble::Absent => at,
-        Ensemble::Present { ecc, eid } => {
-            out[at] = ecc;
-            put_two(eid as u32, out, at + 1);
-            at + 3
-        }
-    }
+    let Some(named) = ensemble else {
+        return at;
+    };
+    out[at] = named.ecc;
+    put_two(named.eid as u32, out, at + 1);
+    at + 3
 }
 
 fn put_sid(long: bool, sid: u32, out: &mut [u8], at: usize)

@@ -2,6 +2,9 @@
 // and put them together. No call has a `requires`: octets that are no value, a time out of range or a room too small get an answer.
 #![tactic(auto)]
 
+ghost use Rattle.std.specs.Prelude.{◌≡◌};
+ghost use Rattle.values.specs.Times.{number_of};
+
 mod bearer_form;
 mod defaults;
 mod numbers;
@@ -10,7 +13,6 @@ mod time_form;
 mod value_form;
 
 pub use defaults::is_default;
-use octets::Octets;
 pub use table::{is_attribute, known_kind};
 pub use value_form::{fits_kind, normal_size, put_normal, wrong_field};
 
@@ -36,7 +38,7 @@ pub enum Kind {
 }
 
 // A point in time, UTC, with the offset of local time in half hours.
-#[derive(Clone, Copy)]
+#[derive(Clone, Copy, PartialEq, Eq)]
 pub struct Time {
     pub day: u32,
     pub hour: u32,
@@ -55,46 +57,42 @@ pub struct Local {
     pub second: u32,
 }
 
-// The ensemble of a bearer, where it names one.
-#[derive(Clone, Copy)]
-pub enum Ensemble {
-    Absent,
-    Present { ecc: u8, eid: u16 },
+// The ensemble that a bearer names.
+#[derive(Clone, Copy, PartialEq, Eq)]
+pub struct Ensemble {
+    pub ecc: u8,
+    pub eid: u16,
 }
 
 // A DAB bearer. `long` tells a 32-bit service id from a 16-bit one, which it never equals.
-#[derive(Clone, Copy)]
+#[derive(Clone, Copy, PartialEq, Eq)]
 pub struct Bearer {
-    pub ensemble: Ensemble,
+    pub ensemble: Option<Ensemble>,
     pub long: bool,
     pub sid: u32,
     pub scids: u8,
 }
 
-// What the table of pairs says of an item: not known, or what its body holds.
-#[derive(Clone, Copy)]
-pub enum KnownKind {
-    Unknown,
-    Known(Kind),
+// The field of octets that is wrong, so that they are no time. Its number goes with refusal 9.
+#[derive(Clone, Copy, PartialEq, Eq)]
+pub enum TimeError {
+    Length,
+    Date,
+    Hours,
+    Minutes,
+    Seconds,
 }
 
-// The time that octets hold, if they hold one, or else the field of them that is wrong: 1 length, 2 date, 3 hours, 4 minutes, 5 seconds.
-#[derive(Clone, Copy)]
-pub enum TakenTime {
-    Good(Time),
-    Bad(u8),
-}
+impl From<TimeError> for u8 {
+    ghost from_gives = { λ error number. number ≡ number_of error };
 
-// The bearer that octets hold, if they hold one.
-#[derive(Clone, Copy)]
-pub enum TakenBearer {
-    Good(Bearer),
-    Bad,
-}
-
-// The size in normal form of octets that are a value of their kind.
-#[derive(Clone, Copy)]
-pub enum NormalSize {
-    Octets(Octets),
-    NoValue,
+    fn from(error: TimeError) -> u8 {
+        match error {
+            TimeError::Length => 1,
+            TimeError::Date => 2,
+            TimeError::Hours => 3,
+            TimeError::Minutes => 4,
+            TimeError::Seconds => 5,
+        }
+    }
 }

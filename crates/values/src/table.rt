@@ -4,7 +4,7 @@ ghost use Rattle.values.specs.Table.{attribute, known};
 ghost use Rattle.values.specs.Index.{code_of, codes_of, known_by, packed_rows, digit_of, row_of};
 ghost use Rattle.values.specs.Calls.{known_kind};
 
-use crate::{Kind, KnownKind, NumberKind};
+use crate::{Kind, NumberKind};
 
 // The constant table of known items, a number an entry: an octet of element, one of tag, one of kind code. CDATA and the elements of annex D stand under 0, since
 // they are known in any element, and behind each element its attributes of annex E under its tag.
@@ -139,10 +139,8 @@ fn row_of(pairs: &[u32; 113], from: usize, to: usize) -> u32
     ensures { result ≡ row_of pairs.now from to }
 {
     let mut codes = pairs[from] & 0xF;
-    let mut i = from + 1;
-    while i < to {
-        codes = codes | digit_of(pairs[i]);
-        i = i + 1;
+    for i in from + 1..to {
+        codes |= digit_of(pairs[i]);
     }
     codes
 }
@@ -212,21 +210,21 @@ fn code_at(codes: u32, place: u32) -> u32
     (codes >> (4 * place)) & 0xF
 }
 
-fn kind_by(code: u32) -> KnownKind
+fn kind_by(code: u32) -> Option<Kind>
     ensures { result ≡ known_by code }
 {
     match code {
-        1 => KnownKind::Known(Kind::HoldsItems),
-        2 => KnownKind::Known(Kind::HoldsTokens),
-        3 => KnownKind::Known(Kind::HoldsText),
-        4 => KnownKind::Known(Kind::HoldsPlain),
-        5 => KnownKind::Known(Kind::HoldsTime),
-        6 => KnownKind::Known(Kind::HoldsBearer),
-        7 => KnownKind::Known(Kind::HoldsNumber(NumberKind::Duration)),
-        8 => KnownKind::Known(Kind::HoldsNumber(NumberKind::ShortId)),
-        9 => KnownKind::Known(Kind::HoldsNumber(NumberKind::Enumerated)),
-        10 => KnownKind::Known(Kind::HoldsNumber(NumberKind::Integer)),
-        _ => KnownKind::Unknown,
+        1 => Some(Kind::HoldsItems),
+        2 => Some(Kind::HoldsTokens),
+        3 => Some(Kind::HoldsText),
+        4 => Some(Kind::HoldsPlain),
+        5 => Some(Kind::HoldsTime),
+        6 => Some(Kind::HoldsBearer),
+        7 => Some(Kind::HoldsNumber(NumberKind::Duration)),
+        8 => Some(Kind::HoldsNumber(NumberKind::ShortId)),
+        9 => Some(Kind::HoldsNumber(NumberKind::Enumerated)),
+        10 => Some(Kind::HoldsNumber(NumberKind::Integer)),
+        _ => None,
     }
 }
 
@@ -252,7 +250,7 @@ fn code_of(parent: u8, tag: u8) -> u32
     code_at(codes_of(tag), 0)
 }
 
-pub fn known_kind(parent: u8, tag: u8) -> KnownKind
+pub fn known_kind(parent: u8, tag: u8) -> Option<Kind>
     ensures { result ≡ known_kind parent tag }
 {
     kind_by(code_of(parent, tag))

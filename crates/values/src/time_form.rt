@@ -3,28 +3,28 @@ ghost use Rattle.std.specs.Prelude.{◌≡◌, true, not, ◌&&◌, ◌+◌, ◌
 ghost use Rattle.std.proofs.lemmas.List.Edits.{sets};
 ghost use Rattle.octets.specs.Counts.{size_of};
 ghost use Rattle.octets.specs.Puts.{Puts};
-ghost use Rattle.values.specs.Times.{in_range, wrong_part, canonical, sign, time_octets, local_minutes, local_of};
+ghost use Rattle.values.specs.Times.{in_range, checked, canonical, sign, time_octets, local_minutes, local_of};
 ghost use Rattle.values.specs.Layout.{first_bits, second_octets, offset_octets};
 ghost use Rattle.values.specs.Calls.{taken_time};
 
 use crate::numbers::{four_at, low, put_four};
-use crate::{Local, TakenTime, Time};
-use octets::{Octets, Put, has_room};
+use crate::{Local, Time, TimeError};
+use octets::{Octets, PutError, has_room};
 
 impl Time {
     // The time that octets hold: of exactly the size that the two flags say, and in range.
-    pub fn take(s: &[u8]) -> TakenTime
+    pub fn take(s: &[u8]) -> Result<Time, TimeError>
         ensures { result ≡ taken_time s.now }
     {
         if s.len() < 4 {
-            return TakenTime::Bad(1);
+            return Err(TimeError::Length);
         }
         let w = four_at(s, 0);
         let moved = (w >> 12) & 0x1;
         let long = (w >> 11) & 0x1;
         let size = (4 + 2 * long + moved) as usize;
         if s.len() != size {
-            return TakenTime::Bad(1);
+            return Err(TimeError::Length);
         }
         let second = second_at(s, long);
         let offset = offset_at(s, long, moved);
@@ -37,26 +37,26 @@ impl Time {
             minus,
             halves: offset & 0x1F,
         };
-        if t.valid() {
-            return TakenTime::Good(t);
-        }
-        TakenTime::Bad(t.wrong())
+        t.checked()
     }
 
-    // The number of the lowest field that is out of range: 2 date, 3 hours, 4 minutes, 5 seconds; 0 where none is.
-    fn wrong(self) -> u8
-        ensures { result ≡ wrong_part self }
+    // The time, or else the lowest of its fields that is out of range, whatever its offset is.
+    fn checked(self) -> Result<Time, TimeError>
+        ensures { result ≡ checked self }
     {
         if self.day > 99_999 {
-            return 2;
+            return Err(TimeError::Date);
         }
         if self.hour > 23 {
-            return 3;
+            return Err(TimeError::Hours);
         }
         if self.minute > 59 {
-            return 4;
+            return Err(TimeError::Minutes);
         }
-        if self.second > 59 { 5 } else { 0 }
+        if self.second > 59 {
+            return Err(TimeError::Seconds);
+        }
+        Ok(self)
     }
 
     // Date 0 to 99,999, hours to 23, minutes and seconds to 59, half hours to 31.
@@ -142,18 +142,18 @@ impl Time {
     }
 
     // The normal octets, written from a place on.
-    pub fn put(self, out: &mut [u8], at: usize) -> Put
+    pub fn put(self, out: &mut [u8], at: usize) -> Result<usize, PutError>
         ensures { Puts (in_range self) (time_octets self) at out.old out.new result }
     {
         if !self.valid() {
-            return Put::Invalid;
+            return Err(PutError::Invalid);
         }
         let size = self.size();
         if !has_room(Octets(out.len()), at, size) {
-            return Put::NoRoom;
+            return Err(PutError::NoRoom);
         }
         self.store(out, at);
-        Put::Done(at + size.0)
+        Ok(at + size.0)
     }
 
     fn store(self, out: &mut [u8], at: usize)

@@ -7,8 +7,8 @@ ghost use Rattle.values.specs.Bearers.{is_bearer};
 ghost use Rattle.values.specs.Values.{width, fits, wrong_field};
 ghost use Rattle.values.specs.Calls.{normal_octets, normal_size};
 
-use crate::{Bearer, Kind, NormalSize, NumberKind, TakenBearer, TakenTime, Time};
-use octets::{Octets, Put, copy_into};
+use crate::{Bearer, Kind, NumberKind, Time};
+use octets::{Octets, PutError, copy_into};
 
 // Rule 9: whether octets are a value of their kind. Text, tokens, items and plain octets always are.
 pub fn fits_kind(kind: Kind, s: &[u8]) -> bool
@@ -44,20 +44,20 @@ fn time_field(s: &[u8]) -> u8
     ensures { result ≡ wrong_time s.now }
 {
     match Time::take(s) {
-        TakenTime::Good(_) => 0,
-        TakenTime::Bad(field) => field,
+        Ok(_) => 0,
+        Err(error) => u8::from(error),
     }
 }
 
 // How many octets the normal form of a value has.
-pub fn normal_size(kind: Kind, s: &[u8]) -> NormalSize
+pub fn normal_size(kind: Kind, s: &[u8]) -> Option<Octets>
     ensures { result ≡ normal_size kind s.now }
 {
     match kind {
-        Kind::HoldsItems => NormalSize::Octets(Octets(s.len())),
-        Kind::HoldsTokens => NormalSize::Octets(Octets(s.len())),
-        Kind::HoldsText => NormalSize::Octets(Octets(s.len())),
-        Kind::HoldsPlain => NormalSize::Octets(Octets(s.len())),
+        Kind::HoldsItems => Some(Octets(s.len())),
+        Kind::HoldsTokens => Some(Octets(s.len())),
+        Kind::HoldsText => Some(Octets(s.len())),
+        Kind::HoldsPlain => Some(Octets(s.len())),
         Kind::HoldsTime => time_size(s),
         Kind::HoldsBearer => bearer_size(s),
         Kind::HoldsNumber(n) => number_size(n, s),
@@ -65,7 +65,7 @@ pub fn normal_size(kind: Kind, s: &[u8]) -> NormalSize
 }
 
 // The normal octets of a value, written from a place on.
-pub fn put_normal(kind: Kind, s: &[u8], out: &mut [u8], at: usize) -> Put
+pub fn put_normal(kind: Kind, s: &[u8], out: &mut [u8], at: usize) -> Result<usize, PutError>
     ensures { Puts (fits kind s.now) (normal_octets kind s.now) at out.old out.new result }
 {
     match kind {
@@ -83,8 +83,8 @@ fn is_time(s: &[u8]) -> bool
     ensures { result ≡ is_time s.now }
 {
     match Time::take(s) {
-        TakenTime::Good(_) => true,
-        TakenTime::Bad(_) => false,
+        Ok(_) => true,
+        Err(_) => false,
     }
 }
 
@@ -92,8 +92,8 @@ fn is_bearer(s: &[u8]) -> bool
     ensures { result ≡ is_bearer s.now }
 {
     match Bearer::take(s) {
-        TakenBearer::Good(_) => true,
-        TakenBearer::Bad => false,
+        Some(_) => true,
+        None => false,
     }
 }
 
@@ -115,57 +115,57 @@ fn has_width(n: NumberKind, s: &[u8]) -> bool
     s.len() == width_of(n).0
 }
 
-fn time_size(s: &[u8]) -> NormalSize
+fn time_size(s: &[u8]) -> Option<Octets>
     ensures { result ≡ normal_size HoldsTime s.now }
 {
     match Time::take(s) {
-        TakenTime::Good(t) => NormalSize::Octets(t.size()),
-        TakenTime::Bad(_) => NormalSize::NoValue,
+        Ok(t) => Some(t.size()),
+        Err(_) => None,
     }
 }
 
-fn bearer_size(s: &[u8]) -> NormalSize
+fn bearer_size(s: &[u8]) -> Option<Octets>
     ensures { result ≡ normal_size HoldsBearer s.now }
 {
     match Bearer::take(s) {
-        TakenBearer::Good(b) => NormalSize::Octets(b.size()),
-        TakenBearer::Bad => NormalSize::NoValue,
+        Some(b) => Some(b.size()),
+        None => None,
     }
 }
 
-fn number_size(n: NumberKind, s: &[u8]) -> NormalSize
+fn number_size(n: NumberKind, s: &[u8]) -> Option<Octets>
     ensures { result ≡ normal_size (HoldsNumber n) s.now }
 {
     if has_width(n, s) {
-        return NormalSize::Octets(Octets(s.len()));
+        return Some(Octets(s.len()));
     }
-    NormalSize::NoValue
+    None
 }
 
-fn put_time(s: &[u8], out: &mut [u8], at: usize) -> Put
+fn put_time(s: &[u8], out: &mut [u8], at: usize) -> Result<usize, PutError>
     ensures { Puts (fits HoldsTime s.now) (normal_octets HoldsTime s.now) at out.old out.new result }
 {
     match Time::take(s) {
-        TakenTime::Good(t) => t.put(out, at),
-        TakenTime::Bad(_) => Put::Invalid,
+        Ok(t) => t.put(out, at),
+        Err(_) => Err(PutError::Invalid),
     }
 }
 
-fn put_bearer(s: &[u8], out: &mut [u8], at: usize) -> Put
+fn put_bearer(s: &[u8], out: &mut [u8], at: usize) -> Result<usize, PutError>
     ensures { Puts (fits HoldsBearer s.now) (normal_octets HoldsBearer s.now) at out.old out.new result }
 {
     match Bearer::take(s) {
-        TakenBearer::Good(b) => b.put(out, at),
-        TakenBearer::Bad => Put::Invalid,
+        Some(b) => b.put(out, at),
+        None => Err(PutError::Invalid),
     }
 }
 
 // The octets of a number of the right width are its normal octets.
-fn put_number(n: NumberKind, s: &[u8], out: &mut [u8], at: usize) -> Put
+fn put_number(n: NumberKind, s: &[u8], out: &mut [u8], at: usize) -> Result<usize, PutError>
     ensures { Puts (fits (HoldsNumber n) s.now) (normal_octets (HoldsNumber n) s.now) at out.old out.new result }
 {
     if has_width(n, s) {
         return copy_into(out, at, s);
     }
-    Put::Invalid
+    Err(PutError::Invalid)
 }

@@ -1,12 +1,9 @@
-use Rattle.std.proofs.Common.{◌-◌, ◌≡◌, ◌≤◌}
-use Rattle.format.specs.Lent.{six}
+use Rattle.std.proofs.Common.{◌≡◌}
+use Rattle.format.specs.Lent.{shared_lists}
 use Rattle.entry.specs.Copies.{copied}
 use Rattle.entry.proofs.copy_records.Given as goal
 
 -- so many records are copied
 abbrev pub invariant-loop-i : goal.invariant-loop-i
 invariant-loop-i l =
-    (l.i ≤ l.many) × (l.records ≡ copied (six l.tags l.kinds l.depths l.parents l.starts l.sizes) l.i l.initial.records)
-
-abbrev pub decreases-loop-i : goal.decreases-loop-i
-decreases-loop-i l = l.many - l.i
+    l.record-items ≡ copied (shared_lists l.lists) l.i l.initial.record-items

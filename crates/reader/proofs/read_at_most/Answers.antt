@@ -1,18 +1,20 @@
+use Rattle.std.proofs.lemmas.Result.{err_from_is_err_and}
 use Rattle.reader.proofs.Reading.{read-refused, read-full, read-can, read-filled}
 use Rattle.reader.proofs.read_at_most.Goals as goal
 
-pub returns-then-least-many : goal.returns-then-least-many
-returns-then-least-many c =
-    read-full _ _ _ _ c.judge-answer.ensures _ c.in-Records.is _ _ c.places-there.ensures c.least.ensures c.if-least-many.true _ c.refuse.ensures
+pub returns-in_err-counts : goal.returns-in_err-counts
+returns-in_err-counts c =
+    let p = err_from_is_err_and c.from_residual.result c.from_residual.ensures.1 in
+    rw (p.1, p.2) (read-refused _ _ _ _ c.judge.ensures _ c.in_err-counts.was)
+
+pub returns-then-min-counts : goal.returns-then-min-counts
+returns-then-min-counts c =
+    read-full _ _ _ _ c.judge.ensures _ c.in_ok-counts.was _ _ c.places.ensures c.min.ensures c.if-min-counts.true _ c.refuse.ensures
 
 pub fill_items-requires : goal.fill_items-requires
 fill_items-requires c =
-    read-can _ _ _ _ c.judge-answer.ensures _ c.in-Records.is _ _ c.places-there.ensures c.least.ensures c.if-least-many.false
+    read-can _ _ _ _ c.judge.ensures _ c.in_ok-counts.was _ _ c.places.ensures c.min.ensures c.if-min-counts.false
 
-pub returns-in-NotRead : goal.returns-in-NotRead
-returns-in-NotRead c =
-    read-refused _ _ _ _ c.judge-answer.ensures _ c.in-NotRead.is
-
-pub returns-else-least-many : goal.returns-else-least-many
-returns-else-least-many c =
-    read-filled _ _ _ _ c.judge-answer.ensures _ c.in-Records.is _ _ c.places-there.ensures c.least.ensures c.if-least-many.false _ _ c.fill_items.ensures
+pub returns : goal.returns
+returns c =
+    read-filled _ _ _ _ c.judge.ensures _ c.in_ok-counts.was _ _ c.places.ensures c.min.ensures c.if-min-counts.false _ _ c.fill_items.ensures

@@ -1,6 +1,6 @@
+use Rattle.std.proofs.lemmas.Result.{err_from_is_err_and}
 use native.Mathlib.Omega.{arith}
 use lib.ListN.{length-take, length-drop}
-use borrow.Author.Tests.{not-true, not-false}
 use borrow.Author.Rules.{rules}
 use Rattle.judge.proofs.Turn.{at-start, end-in, end-all, end-most, is-bad, item-fits, record-fits, item_in, item_from, item-to, item-less, item-few, past_skip, past-leaf, past-table, element-levels, element-bad, past-element, part-most}
 use Rattle.judge.proofs.items.+read_element_read_items.Goals as goal
@@ -19,13 +19,9 @@ read_element-returns t c = search (part-most, rules)
 pub read_items-loop-at-init : goal.read_items-loop-at-init
 read_items-loop-at-init t c = search (at-start, rules)
 
-pub read_items-read_item-item-requires : goal.read_items-read_item-item-requires
-read_items-read_item-item-requires t c =
+pub read_items-read_item-requires : goal.read_items-read_item-requires
+read_items-read_item-requires t c =
     record { part_bound = (c.requires.part_bound.0, c.loop-at-test.true); in_force = c.loop-at.invariant.1 }
-
-pub read_items-returns-then-not-item : goal.read_items-returns-then-not-item
-read_items-returns-then-not-item t c =
-    record { value = is-bad _ _ _ _ _ _ _ _ _ _ c.loop-at.invariant.0 c.loop-at-test.true _ c.read_item-item.ensures (not-true _ c.if-not-item.true); counts_at_most = tt }
 
 pub read_items-bounds-part-at : goal.read_items-bounds-part-at
 read_items-bounds-part-at t c =
@@ -33,63 +29,59 @@ read_items-bounds-part-at t c =
 
 pub read_items-overflow_add-from : goal.read_items-overflow_add-from
 read_items-overflow_add-from t c =
-    item_from _ _ _ _ _ _ _ _ _ _ c.loop-at.invariant.0 c.loop-at-test.true _ c.read_item-item.ensures (not-false _ c.if-not-item.false) c.requires.part_bound.0
+    item_from _ _ _ _ _ _ _ _ _ _ c.loop-at.invariant.0 c.loop-at-test.true _ c.read_item.ensures _ c.in_ok-item.was c.requires.part_bound.0
 
 pub read_items-overflow_add-at : goal.read_items-overflow_add-at
 read_items-overflow_add-at t c =
-    item-to _ _ _ _ _ _ _ _ _ _ c.loop-at.invariant.0 c.loop-at-test.true _ c.read_item-item.ensures (not-false _ c.if-not-item.false) c.requires.part_bound.0
+    item-to _ _ _ _ _ _ _ _ _ _ c.loop-at.invariant.0 c.loop-at-test.true _ c.read_item.ensures _ c.in_ok-item.was c.requires.part_bound.0
 
 pub read_items-overflow_add-counts : goal.read_items-overflow_add-counts
 read_items-overflow_add-counts t c =
-    item-fits _ _ _ _ _ _ _ _ _ _ c.loop-at.invariant.0 c.loop-at-test.true _ c.read_item-item.ensures c.requires.part_bound.0
+    item-fits _ _ _ _ _ _ _ _ _ _ c.loop-at.invariant.0 c.loop-at-test.true _ c.read_item.ensures c.requires.part_bound.0
 
 pub read_items-loop-at-smaller-in-Skip : goal.read_items-loop-at-smaller-in-Skip
 read_items-loop-at-smaller-in-Skip t c =
-    item-less _ _ _ _ _ _ _ _ _ _ c.loop-at.invariant.0 c.loop-at-test.true _ c.read_item-item.ensures (not-false _ c.if-not-item.false)
+    item-less _ _ _ _ _ _ _ _ _ _ c.loop-at.invariant.0 c.loop-at-test.true _ c.read_item.ensures _ c.in_ok-item.was
 
 pub read_items-loop-at-preserved-in-Skip : goal.read_items-loop-at-preserved-in-Skip
 read_items-loop-at-preserved-in-Skip t c =
-    (past_skip _ _ _ _ _ _ _ _ _ _ c.loop-at.invariant.0 c.loop-at-test.true _ c.read_item-item.ensures (not-false _ c.if-not-item.false) c.in-Skip.is, c.loop-at.invariant.1)
+    (past_skip _ _ _ _ _ _ _ _ _ _ c.loop-at.invariant.0 c.loop-at-test.true _ c.read_item.ensures _ c.in_ok-item.was c.in-Skip.is, c.loop-at.invariant.1)
 
 pub read_items-overflow_add-counts-in-Leaf : goal.read_items-overflow_add-counts-in-Leaf
 read_items-overflow_add-counts-in-Leaf t c =
-    record-fits _ _ _ _ _ _ _ _ _ _ c.loop-at.invariant.0 c.loop-at-test.true _ c.read_item-item.ensures c.requires.part_bound.0
+    record-fits _ _ _ _ _ _ _ _ _ _ c.loop-at.invariant.0 c.loop-at-test.true _ c.read_item.ensures c.requires.part_bound.0
 
 pub read_items-loop-at-smaller-in-Leaf : goal.read_items-loop-at-smaller-in-Leaf
 read_items-loop-at-smaller-in-Leaf t c =
-    item-less _ _ _ _ _ _ _ _ _ _ c.loop-at.invariant.0 c.loop-at-test.true _ c.read_item-item.ensures (not-false _ c.if-not-item.false)
+    item-less _ _ _ _ _ _ _ _ _ _ c.loop-at.invariant.0 c.loop-at-test.true _ c.read_item.ensures _ c.in_ok-item.was
 
 pub read_items-loop-at-preserved-in-Leaf : goal.read_items-loop-at-preserved-in-Leaf
 read_items-loop-at-preserved-in-Leaf t c =
-    (past-leaf _ _ _ _ _ _ _ _ _ _ c.loop-at.invariant.0 c.loop-at-test.true _ c.read_item-item.ensures (not-false _ c.if-not-item.false) c.in-Leaf.is, c.loop-at.invariant.1)
+    (past-leaf _ _ _ _ _ _ _ _ _ _ c.loop-at.invariant.0 c.loop-at-test.true _ c.read_item.ensures _ c.in_ok-item.was c.in-Leaf.is, c.loop-at.invariant.1)
 
 pub read_items-slice_bounds-table-end : goal.read_items-slice_bounds-table-end
 read_items-slice_bounds-table-end t c =
-    item_in _ _ _ _ _ _ _ _ _ _ c.loop-at.invariant.0 c.loop-at-test.true _ c.read_item-item.ensures (not-false _ c.if-not-item.false)
+    item_in _ _ _ _ _ _ _ _ _ _ c.loop-at.invariant.0 c.loop-at-test.true _ c.read_item.ensures _ c.in_ok-item.was
 
 pub read_items-loop-at-smaller-in-Table : goal.read_items-loop-at-smaller-in-Table
 read_items-loop-at-smaller-in-Table t c =
-    item-less _ _ _ _ _ _ _ _ _ _ c.loop-at.invariant.0 c.loop-at-test.true _ c.read_item-item.ensures (not-false _ c.if-not-item.false)
+    item-less _ _ _ _ _ _ _ _ _ _ c.loop-at.invariant.0 c.loop-at-test.true _ c.read_item.ensures _ c.in_ok-item.was
 
 pub read_items-loop-at-preserved-in-Table : goal.read_items-loop-at-preserved-in-Table
 read_items-loop-at-preserved-in-Table t c =
-    (past-table _ _ _ _ _ _ _ _ _ _ c.loop-at.invariant.0 c.loop-at-test.true _ c.read_item-item.ensures (not-false _ c.if-not-item.false) c.in-Table.is, record { marking = c.tokens_of-marks.ensures; showing = c.characters_of-shows.ensures })
+    (past-table _ _ _ _ _ _ _ _ _ _ c.loop-at.invariant.0 c.loop-at-test.true _ c.read_item.ensures _ c.in_ok-item.was c.in-Table.is, record { marking = c.tokens_of-marks.ensures; showing = c.characters_of-shows.ensures })
 
 pub read_items-read_element-requires : goal.read_items-read_element-requires
 read_items-read_element-requires t c =
-    (omega (arith, c.decreases), ((omega arith, item_in _ _ _ _ _ _ _ _ _ _ c.loop-at.invariant.0 c.loop-at-test.true _ c.read_item-item.ensures (not-false _ c.if-not-item.false), c.requires.part_bound.0, item-few _ _ _ _ _ _ _ _ _ _ c.loop-at.invariant.0 c.loop-at-test.true _ c.read_item-item.ensures (not-false _ c.if-not-item.false), element-levels _ _ _ _ _ _ _ _ _ _ c.loop-at.invariant.0 c.loop-at-test.true _ c.read_item-item.ensures (not-false _ c.if-not-item.false) c.in-Element.is, c.loop-at.invariant.0.levels), c.loop-at.invariant.1))
-
-pub read_items-returns-in-NotRead : goal.read_items-returns-in-NotRead
-read_items-returns-in-NotRead t c =
-    record { value = element-bad _ _ _ _ _ _ _ _ _ _ c.loop-at.invariant.0 c.loop-at-test.true _ c.read_item-item.ensures (not-false _ c.if-not-item.false) c.in-Element.is _ c.read_element.ensures.value _ c.in-NotRead.is; counts_at_most = tt }
+    (omega (arith, c.decreases), ((omega arith, item_in _ _ _ _ _ _ _ _ _ _ c.loop-at.invariant.0 c.loop-at-test.true _ c.read_item.ensures _ c.in_ok-item.was, c.requires.part_bound.0, item-few _ _ _ _ _ _ _ _ _ _ c.loop-at.invariant.0 c.loop-at-test.true _ c.read_item.ensures _ c.in_ok-item.was, element-levels _ _ _ _ _ _ _ _ _ _ c.loop-at.invariant.0 c.loop-at-test.true _ c.read_item.ensures _ c.in_ok-item.was c.in-Element.is, c.loop-at.invariant.0.levels), c.loop-at.invariant.1))
 
 pub read_items-loop-at-smaller : goal.read_items-loop-at-smaller
 read_items-loop-at-smaller t c =
-    item-less _ _ _ _ _ _ _ _ _ _ c.loop-at.invariant.0 c.loop-at-test.true _ c.read_item-item.ensures (not-false _ c.if-not-item.false)
+    item-less _ _ _ _ _ _ _ _ _ _ c.loop-at.invariant.0 c.loop-at-test.true _ c.read_item.ensures _ c.in_ok-item.was
 
 pub read_items-loop-at-preserved : goal.read_items-loop-at-preserved
 read_items-loop-at-preserved t c =
-    (past-element _ _ _ _ _ _ _ _ _ _ c.loop-at.invariant.0 c.loop-at-test.true _ c.read_item-item.ensures (not-false _ c.if-not-item.false) c.in-Element.is _ c.read_element.ensures.value _ c.in-Records.is c.read_element.ensures.counts_at_most, c.loop-at.invariant.1)
+    (past-element _ _ _ _ _ _ _ _ _ _ c.loop-at.invariant.0 c.loop-at-test.true _ c.read_item.ensures _ c.in_ok-item.was c.in-Element.is _ c.read_element.ensures.value _ c.in_ok-counts-in-Element.was c.read_element.ensures.counts_at_most, c.loop-at.invariant.1)
 
 pub read_items-end_items-requires : goal.read_items-end_items-requires
 read_items-end_items-requires t c =
@@ -98,3 +90,16 @@ read_items-end_items-requires t c =
 pub read_items-returns : goal.read_items-returns
 read_items-returns t c =
     record { value = end-all _ _ _ _ _ _ _ _ _ _ c.loop-at.invariant.0 c.loop-at-test.false _ c.end_items.ensures.end_says; counts_at_most = end-most _ _ _ _ _ _ _ _ _ _ c.loop-at.invariant.0 c.end_items.result c.end_items.ensures.counts_as }
+
+pub read_items-returns-in_err-item : goal.read_items-returns-in_err-item
+read_items-returns-in_err-item t c =
+    let p = err_from_is_err_and c.from_residual.result c.from_residual.ensures.1 in
+    record { value = rw (p.1, p.2) (is-bad _ _ _ _ _ _ _ _ _ _ c.loop-at.invariant.0 c.loop-at-test.true _ c.read_item.ensures _ c.in_err-item.was); counts_at_most = rw p.1 tt }
+
+pub read_items-returns-in_err-counts-in-Element : goal.read_items-returns-in_err-counts-in-Element
+read_items-returns-in_err-counts-in-Element t c =
+    let p = err_from_is_err_and c.from_residual-in_err-counts-in-Element.result c.from_residual-in_err-counts-in-Element.ensures.1 in
+    record {
+      value = rw (p.1, p.2) (element-bad _ _ _ _ _ _ _ _ _ _ c.loop-at.invariant.0 c.loop-at-test.true _ c.read_item.ensures _ c.in_ok-item.was c.in-Element.is _ c.read_element.ensures.value _ c.in_err-counts-in-Element.was);
+      counts_at_most = rw p.1 tt;
+    }

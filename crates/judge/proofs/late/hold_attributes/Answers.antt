@@ -1,4 +1,4 @@
-use Rattle.judge.proofs.LateWays.{late-found, late-ways}
+use Rattle.judge.proofs.LateWays.{late-head, late-found, late-ways}
 use borrow.Author.Rules.{rules}
 use Rattle.judge.proofs.late.hold_attributes.Goals as goal
 
@@ -16,24 +16,6 @@ slice_bounds-read_header-end c = search (late-ways, rules)
 
 pub read_header-requires : goal.read_header-requires
 read_header-requires c = search (late-ways, rules)
-
-pub enum_told-1 : goal.enum_told-1
-enum_told-1 c = search (late-ways, rules)
-
-pub returns-in-Past : goal.returns-in-Past
-returns-in-Past c = search (late-ways, rules)
-
-pub enum_known-start : goal.enum_known-start
-enum_known-start c = search (late-ways, rules)
-
-pub overflow_sub-part : goal.overflow_sub-part
-overflow_sub-part c = search (late-ways, rules)
-
-pub overflow_sub-part-in-Found : goal.overflow_sub-part-in-Found
-overflow_sub-part-in-Found c = search (late-ways, rules)
-
-pub returns-then-part-at : goal.returns-then-part-at
-returns-then-part-at c = search (late-ways, rules)
 
 pub overflow_add-from : goal.overflow_add-from
 overflow_add-from c = search (late-ways, rules)
@@ -65,9 +47,18 @@ loop-at-preserved c = search (late-ways, rules)
 pub overflow_add-base : goal.overflow_add-base
 overflow_add-base c = search (late-ways, rules)
 
-pub returns-else-is_settled : goal.returns-else-is_settled
-returns-else-is_settled c =
-    late-found _ _ _ _ _ _ c.loop-at.invariant c.loop-at-test.true _ c.read_header.ensures _ _ c.in-Found.is c.if-part-at.false _ c.is_settled.ensures c.if-is_settled.false _ c.refuse.ensures
-
 pub returns : goal.returns
 returns c = search (late-ways, rules)
+
+pub returns-in_default : goal.returns-in_default
+returns-in_default c = search (late-ways, rules)
+
+pub overflow_sub-part-in-loop-at : goal.overflow_sub-part-in-loop-at
+overflow_sub-part-in-loop-at c = late-head _ _ _ _ _ _ c.loop-at.invariant c.loop-at-test.true _ c.read_header.ensures _ _ c.in-Some.is
+
+pub returns-then-part-at : goal.returns-then-part-at
+returns-then-part-at c = search (late-ways, rules)
+
+pub returns-then-not-is_settled : goal.returns-then-not-is_settled
+returns-then-not-is_settled c =
+    late-found _ _ _ _ _ _ c.loop-at.invariant c.loop-at-test.true _ c.read_header.ensures _ _ c.in-Some.is c.if-part-at.false _ c.is_settled.ensures c.if-not-is_settled.true _ c.refuse.ensures

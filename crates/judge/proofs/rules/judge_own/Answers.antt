@@ -5,5 +5,5 @@ use Rattle.judge.proofs.rules.judge_own.Goals as goal
 pub judge_framed-requires : goal.judge_framed-requires
 judge_framed-requires c = search (own-ways, rules)
 
-pub returns-in-Past : goal.returns-in-Past
-returns-in-Past c = search (own-ways, rules)
+pub returns-in_default : goal.returns-in_default
+returns-in_default c = search (own-ways, rules)

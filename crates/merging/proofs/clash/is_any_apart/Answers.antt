@@ -11,12 +11,6 @@ is_apart-requires c = search (near-ways, rules)
 pub returns-then-is_apart : goal.returns-then-is_apart
 returns-then-is_apart c = search (near-ways, rules)
 
-pub overflow_add-key : goal.overflow_add-key
-overflow_add-key c = search (near-ways, rules)
-
-pub loop-key-smaller : goal.loop-key-smaller
-loop-key-smaller c = search (near-ways, rules)
-
 pub loop-key-preserved : goal.loop-key-preserved
 loop-key-preserved c = search (near-ways, rules)
 

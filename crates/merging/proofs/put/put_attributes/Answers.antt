@@ -11,12 +11,6 @@ loop-tag-init c = search (rise-ways, rules)
 pub put_either-done-requires : goal.put_either-done-requires
 put_either-done-requires c = search (rise-ways, rules)
 
-pub overflow_add-tag : goal.overflow_add-tag
-overflow_add-tag c = search (rise-ways, rules)
-
-pub loop-tag-smaller : goal.loop-tag-smaller
-loop-tag-smaller c = search (rise-ways, rules)
-
 pub loop-tag-preserved : goal.loop-tag-preserved
 loop-tag-preserved c = search (rise-ways, rules)
 

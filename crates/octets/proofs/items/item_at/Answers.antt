@@ -12,20 +12,20 @@ returns-in_default c =
 
 pub overflow_add-from : goal.overflow_add-from
 overflow_add-from c =
-    omega (arith, from-inside c.args.part.now c.args.at c.if-at-part.false c.read_header.result c.read_header.ensures c.in-Found.start c.in-Found.size c.in-Found.is)
+    omega (arith, from-inside c.args.part.now c.args.at c.if-at-part.false c.read_header.result c.read_header.ensures c.in-Some.body.start c.in-Some.body.size c.in-Some.is)
 
 pub overflow_sub-part : goal.overflow_sub-part
 overflow_sub-part c =
-    from-inside c.args.part.now c.args.at c.if-at-part.false c.read_header.result c.read_header.ensures c.in-Found.start c.in-Found.size c.in-Found.is
+    from-inside c.args.part.now c.args.at c.if-at-part.false c.read_header.result c.read_header.ensures c.in-Some.body.start c.in-Some.body.size c.in-Some.is
 
-pub returns-then-size-part : goal.returns-then-size-part
-returns-then-size-part c =
-    lies-outside _ _ c.if-at-part.false _ c.read_header.ensures _ _ c.in-Found.is c.if-size-part.true
+pub returns-then-body-part : goal.returns-then-body-part
+returns-then-body-part c =
+    lies-outside _ _ c.if-at-part.false _ c.read_header.ensures _ _ c.in-Some.is c.if-body-part.true
 
 pub overflow_add-result : goal.overflow_add-result
 overflow_add-result c =
-    omega (arith, from-inside c.args.part.now c.args.at c.if-at-part.false c.read_header.result c.read_header.ensures c.in-Found.start c.in-Found.size c.in-Found.is, c.if-size-part.false)
+    omega (arith, from-inside c.args.part.now c.args.at c.if-at-part.false c.read_header.result c.read_header.ensures c.in-Some.body.start c.in-Some.body.size c.in-Some.is, c.if-body-part.false)
 
 pub returns : goal.returns
 returns c =
-    lies-between _ _ c.if-at-part.false _ c.read_header.ensures _ _ c.in-Found.is c.if-size-part.false
+    lies-between _ _ c.if-at-part.false _ c.read_header.ensures _ _ c.in-Some.is c.if-body-part.false

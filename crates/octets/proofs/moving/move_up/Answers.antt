@@ -8,9 +8,6 @@ returns-then-by-eq0 c = search (moved-ways, rules)
 pub returns-then-from-end : goal.returns-then-from-end
 returns-then-from-end c = search (moved-ways, rules)
 
-pub shift_up-requires : goal.shift_up-requires
-shift_up-requires c = search (moved-ways, rules)
-
 pub returns-then-has_room : goal.returns-then-has_room
 returns-then-has_room c = search (moved-ways, rules)
 

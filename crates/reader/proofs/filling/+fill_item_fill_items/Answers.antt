@@ -26,7 +26,7 @@ fill_item-overflow_add-inner-in-Inside t c =
 
 pub fill_item-fill_items-requires : goal.fill_item-fill_items-requires
 fill_item-fill_items-requires t c =
-    (omega (arith, c.decreases, both-deep _ _ _ _ c.requires _ c.listed_as.ensures c.in-Inside.is), both-can _ _ _ _ c.requires _ c.listed_as.ensures c.in-Inside.is _ c.record_of-record-in-Inside.ensures _ c.put_record-in-Inside.ensures)
+    (omega (arith, c.decreases, both-deep _ _ _ _ c.requires _ c.listed_as.ensures c.in-Inside.is), both-can _ _ _ _ c.requires _ c.listed_as.ensures c.in-Inside.is _ c.record_of-record-in-Inside.ensures _ c.put-in-Inside.ensures)
 
 pub fill_item-returns-in-Nothing : goal.fill_item-returns-in-Nothing
 fill_item-returns-in-Nothing t c =
@@ -34,87 +34,15 @@ fill_item-returns-in-Nothing t c =
 
 pub fill_item-returns-in-Value : goal.fill_item-returns-in-Value
 fill_item-returns-in-Value t c =
-    item-alone _ _ _ _ c.requires _ c.listed_as.ensures _ c.in-Value.is _ c.record_of-record.ensures _ c.put_record.ensures
-
-pub fill_item-shape_of-tags-in-Value : goal.fill_item-shape_of-tags-in-Value
-fill_item-shape_of-tags-in-Value t c =
-    (item-same _ _ _ _ c.requires _ _ (fill_item-returns-in-Value t c)).tags
-
-pub fill_item-shape_of-kinds-in-Value : goal.fill_item-shape_of-kinds-in-Value
-fill_item-shape_of-kinds-in-Value t c =
-    (item-same _ _ _ _ c.requires _ _ (fill_item-returns-in-Value t c)).kinds
-
-pub fill_item-shape_of-depths-in-Value : goal.fill_item-shape_of-depths-in-Value
-fill_item-shape_of-depths-in-Value t c =
-    (item-same _ _ _ _ c.requires _ _ (fill_item-returns-in-Value t c)).depths
-
-pub fill_item-shape_of-parents-in-Value : goal.fill_item-shape_of-parents-in-Value
-fill_item-shape_of-parents-in-Value t c =
-    (item-same _ _ _ _ c.requires _ _ (fill_item-returns-in-Value t c)).parents
-
-pub fill_item-shape_of-starts-in-Value : goal.fill_item-shape_of-starts-in-Value
-fill_item-shape_of-starts-in-Value t c =
-    (item-same _ _ _ _ c.requires _ _ (fill_item-returns-in-Value t c)).starts
-
-pub fill_item-shape_of-sizes-in-Value : goal.fill_item-shape_of-sizes-in-Value
-fill_item-shape_of-sizes-in-Value t c =
-    (item-same _ _ _ _ c.requires _ _ (fill_item-returns-in-Value t c)).sizes
+    item-alone _ _ _ _ c.requires _ c.listed_as.ensures _ c.in-Value.is _ c.record_of-record.ensures _ c.put.ensures
 
 pub fill_item-returns-in-Inside : goal.fill_item-returns-in-Inside
 fill_item-returns-in-Inside t c =
-    item-both _ _ _ _ c.requires _ c.listed_as.ensures c.in-Inside.is _ c.record_of-record-in-Inside.ensures _ c.put_record-in-Inside.ensures _ _ c.fill_items.ensures
-
-pub fill_item-shape_of-tags-in-Inside : goal.fill_item-shape_of-tags-in-Inside
-fill_item-shape_of-tags-in-Inside t c =
-    (item-same _ _ _ _ c.requires _ _ (fill_item-returns-in-Inside t c)).tags
-
-pub fill_item-shape_of-kinds-in-Inside : goal.fill_item-shape_of-kinds-in-Inside
-fill_item-shape_of-kinds-in-Inside t c =
-    (item-same _ _ _ _ c.requires _ _ (fill_item-returns-in-Inside t c)).kinds
-
-pub fill_item-shape_of-depths-in-Inside : goal.fill_item-shape_of-depths-in-Inside
-fill_item-shape_of-depths-in-Inside t c =
-    (item-same _ _ _ _ c.requires _ _ (fill_item-returns-in-Inside t c)).depths
-
-pub fill_item-shape_of-parents-in-Inside : goal.fill_item-shape_of-parents-in-Inside
-fill_item-shape_of-parents-in-Inside t c =
-    (item-same _ _ _ _ c.requires _ _ (fill_item-returns-in-Inside t c)).parents
-
-pub fill_item-shape_of-starts-in-Inside : goal.fill_item-shape_of-starts-in-Inside
-fill_item-shape_of-starts-in-Inside t c =
-    (item-same _ _ _ _ c.requires _ _ (fill_item-returns-in-Inside t c)).starts
-
-pub fill_item-shape_of-sizes-in-Inside : goal.fill_item-shape_of-sizes-in-Inside
-fill_item-shape_of-sizes-in-Inside t c =
-    (item-same _ _ _ _ c.requires _ _ (fill_item-returns-in-Inside t c)).sizes
+    item-both _ _ _ _ c.requires _ c.listed_as.ensures c.in-Inside.is _ c.record_of-record-in-Inside.ensures _ c.put-in-Inside.ensures _ _ c.fill_items.ensures
 
 pub fill_items-loop-at-init : goal.fill_items-loop-at-init
 fill_items-loop-at-init t c =
     begin _ _ _ c.requires
-
-pub fill_items-shape_of-tags-in_default : goal.fill_items-shape_of-tags-in_default
-fill_items-shape_of-tags-in_default t c =
-    (kept _ _ _ _ _ _ c.loop-at.invariant).tags
-
-pub fill_items-shape_of-kinds-in_default : goal.fill_items-shape_of-kinds-in_default
-fill_items-shape_of-kinds-in_default t c =
-    (kept _ _ _ _ _ _ c.loop-at.invariant).kinds
-
-pub fill_items-shape_of-depths-in_default : goal.fill_items-shape_of-depths-in_default
-fill_items-shape_of-depths-in_default t c =
-    (kept _ _ _ _ _ _ c.loop-at.invariant).depths
-
-pub fill_items-shape_of-parents-in_default : goal.fill_items-shape_of-parents-in_default
-fill_items-shape_of-parents-in_default t c =
-    (kept _ _ _ _ _ _ c.loop-at.invariant).parents
-
-pub fill_items-shape_of-starts-in_default : goal.fill_items-shape_of-starts-in_default
-fill_items-shape_of-starts-in_default t c =
-    (kept _ _ _ _ _ _ c.loop-at.invariant).starts
-
-pub fill_items-shape_of-sizes-in_default : goal.fill_items-shape_of-sizes-in_default
-fill_items-shape_of-sizes-in_default t c =
-    (kept _ _ _ _ _ _ c.loop-at.invariant).sizes
 
 pub fill_items-returns-in_default : goal.fill_items-returns-in_default
 fill_items-returns-in_default t c =
@@ -122,7 +50,7 @@ fill_items-returns-in_default t c =
 
 pub fill_items-overflow_add-item : goal.fill_items-overflow_add-item
 fill_items-overflow_add-item t c =
-    offset-fits _ _ _ _ _ _ c.loop-at.invariant c.loop-at-test.true _ c.item_at.ensures _ _ c.in-Between.is
+    offset-fits _ _ _ _ _ _ c.loop-at.invariant c.loop-at-test.true _ c.item_at.ensures _ _ c.in-Some.is
 
 pub fill_items-bounds-part-at : goal.fill_items-bounds-part-at
 fill_items-bounds-part-at t c =
@@ -130,51 +58,27 @@ fill_items-bounds-part-at t c =
 
 pub fill_items-slice_bounds-body-count : goal.fill_items-slice_bounds-body-count
 fill_items-slice_bounds-body-count t c =
-    ordered (here _ _ _ _ _ _ c.loop-at.invariant c.loop-at-test.true _ c.item_at.ensures _ _ c.in-Between.is) c.loop-at.invariant.inside
+    ordered (here _ _ _ _ _ _ c.loop-at.invariant c.loop-at-test.true _ c.item_at.ensures _ _ c.in-Some.is) c.loop-at.invariant.inside
 
 pub fill_items-slice_bounds-body-start : goal.fill_items-slice_bounds-body-start
 fill_items-slice_bounds-body-start t c =
-    ordered (here _ _ _ _ _ _ c.loop-at.invariant c.loop-at-test.true _ c.item_at.ensures _ _ c.in-Between.is) c.loop-at.invariant.inside
+    ordered (here _ _ _ _ _ _ c.loop-at.invariant c.loop-at-test.true _ c.item_at.ensures _ _ c.in-Some.is) c.loop-at.invariant.inside
 
 pub fill_items-slice_bounds-body-end : goal.fill_items-slice_bounds-body-end
 fill_items-slice_bounds-body-end t c =
-    to_inside (here _ _ _ _ _ _ c.loop-at.invariant c.loop-at-test.true _ c.item_at.ensures _ _ c.in-Between.is) c.loop-at.invariant.inside
+    to_inside (here _ _ _ _ _ _ c.loop-at.invariant c.loop-at-test.true _ c.item_at.ensures _ _ c.in-Some.is) c.loop-at.invariant.inside
 
 pub fill_items-fill_item-next-requires : goal.fill_items-fill_item-next-requires
 fill_items-fill_item-next-requires t c =
-    (omega (arith, c.decreases), item-can _ _ _ _ _ _ c.loop-at.invariant c.loop-at-test.true _ c.item_at.ensures _ _ c.in-Between.is)
+    (omega (arith, c.decreases), item-can _ _ _ _ _ _ c.loop-at.invariant c.loop-at-test.true _ c.item_at.ensures _ _ c.in-Some.is)
 
 pub fill_items-loop-at-smaller : goal.fill_items-loop-at-smaller
 fill_items-loop-at-smaller t c =
-    omega (arith, nearer (here _ _ _ _ _ _ c.loop-at.invariant c.loop-at-test.true _ c.item_at.ensures _ _ c.in-Between.is) c.loop-at.invariant.inside)
+    omega (arith, nearer (here _ _ _ _ _ _ c.loop-at.invariant c.loop-at-test.true _ c.item_at.ensures _ _ c.in-Some.is) c.loop-at.invariant.inside)
 
 pub fill_items-loop-at-preserved : goal.fill_items-loop-at-preserved
 fill_items-loop-at-preserved t c =
-    again _ _ _ _ _ _ c.loop-at.invariant c.loop-at-test.true _ c.item_at.ensures _ _ c.in-Between.is _ _ c.fill_item-next.ensures
-
-pub fill_items-shape_of-tags : goal.fill_items-shape_of-tags
-fill_items-shape_of-tags t c =
-    (kept _ _ _ _ _ _ c.loop-at.invariant).tags
-
-pub fill_items-shape_of-kinds : goal.fill_items-shape_of-kinds
-fill_items-shape_of-kinds t c =
-    (kept _ _ _ _ _ _ c.loop-at.invariant).kinds
-
-pub fill_items-shape_of-depths : goal.fill_items-shape_of-depths
-fill_items-shape_of-depths t c =
-    (kept _ _ _ _ _ _ c.loop-at.invariant).depths
-
-pub fill_items-shape_of-parents : goal.fill_items-shape_of-parents
-fill_items-shape_of-parents t c =
-    (kept _ _ _ _ _ _ c.loop-at.invariant).parents
-
-pub fill_items-shape_of-starts : goal.fill_items-shape_of-starts
-fill_items-shape_of-starts t c =
-    (kept _ _ _ _ _ _ c.loop-at.invariant).starts
-
-pub fill_items-shape_of-sizes : goal.fill_items-shape_of-sizes
-fill_items-shape_of-sizes t c =
-    (kept _ _ _ _ _ _ c.loop-at.invariant).sizes
+    again _ _ _ _ _ _ c.loop-at.invariant c.loop-at-test.true _ c.item_at.ensures _ _ c.in-Some.is _ _ c.fill_item-next.ensures
 
 pub fill_items-returns : goal.fill_items-returns
 fill_items-returns t c =

@@ -1,4 +1,5 @@
 use Prim.Native.Nat.{◌-◌}
+use Rattle.format.specs.Lent.{shared_lists}
 use Rattle.records.proofs.Turns.{Holds}
 use Rattle.records.proofs.check.+check_items.Given as goal
 
@@ -8,8 +9,7 @@ decreases-check_items l =
 
 abbrev pub invariant-loop-i : goal.invariant-loop-i
 invariant-loop-i l =
-    Holds (record { tags = l.tags; kinds = l.kinds; depths = l.depths; parents = l.parents; starts = l.starts; sizes = l.sizes }) l.count l.octets l.at
-    l.parent l.i l.state
+    Holds (shared_lists l.records) l.count l.octets l.at l.parent l.i l.state
 
 abbrev pub decreases-loop-i : goal.decreases-loop-i
 decreases-loop-i l =

@@ -16,9 +16,3 @@ returns-in-HoldsPlain c = search (kind-ways, rules)
 
 pub returns-in-HoldsTime : goal.returns-in-HoldsTime
 returns-in-HoldsTime c = search (kind-ways, rules)
-
-pub returns-in-HoldsBearer : goal.returns-in-HoldsBearer
-returns-in-HoldsBearer c = search (kind-ways, rules)
-
-pub returns-in-HoldsNumber : goal.returns-in-HoldsNumber
-returns-in-HoldsNumber c = search (kind-ways, rules)

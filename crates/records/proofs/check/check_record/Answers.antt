@@ -1,4 +1,5 @@
 use Rattle.records.proofs.Records.{record-ways}
+use borrow.Author.Tests.{not-true, not-false}
 use borrow.Author.Rules.{rules}
 use Rattle.records.proofs.check.check_record.Goals as goal
 
@@ -14,8 +15,11 @@ returns-then-given-parent-2 c = search (record-ways, rules)
 pub returns-then-end-octets : goal.returns-then-end-octets
 returns-then-end-octets c = search (record-ways, rules)
 
-pub returns-then-is_placed : goal.returns-then-is_placed
-returns-then-is_placed c = search (record-ways, rules)
+pub returns-then-not-is_placed : goal.returns-then-not-is_placed
+returns-then-not-is_placed c = search (record-ways, not-true, rules)
+
+pub returns-in_err-held : goal.returns-in_err-held
+returns-in_err-held c = search (record-ways, not-false, rules)
 
 pub returns : goal.returns
-returns c = search (record-ways, rules)
+returns c = search (record-ways, not-false, rules)

@@ -1,4 +1,5 @@
-use Rattle.records.proofs.Given.{given-ways}
+use mathlib.Core.Path.{◌∙◌}
+use Rattle.records.proofs.Given.{given-end, given-ways}
 use native.Mathlib.Omega.{arith}
 use borrow.Author.Rules.{rules}
 use Rattle.records.proofs.check.is_well_formed.Goals as goal
@@ -13,8 +14,5 @@ pub check_items-requires : goal.check_items-requires
 check_items-requires c =
     (omega (arith, c.places.ensures), omega arith, omega arith)
 
-pub returns-in-Ill : goal.returns-in-Ill
-returns-in-Ill c = search (given-ways, rules)
-
-pub returns-in-Next : goal.returns-in-Next
-returns-in-Next c = search (given-ways, rules)
+pub returns : goal.returns
+returns c = c.eq.ensures ∙ given-end _ _ _ _ c.places.ensures c.if-count-places.false _ c.check_items.ensures c.if-count-eq0.false

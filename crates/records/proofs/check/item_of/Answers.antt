@@ -2,9 +2,6 @@ use Rattle.records.proofs.Places.{item-ways}
 use borrow.Author.Rules.{rules}
 use Rattle.records.proofs.check.item_of.Goals as goal
 
-pub returns-in-Broken : goal.returns-in-Broken
-returns-in-Broken c = search (item-ways, rules)
-
 pub returns-in-Octets : goal.returns-in-Octets
 returns-in-Octets c = search (item-ways, rules)
 

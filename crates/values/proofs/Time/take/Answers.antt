@@ -27,8 +27,5 @@ second_at-second-requires c = record { long_bound = flag-less c.four_at-w.result
 pub offset_at-offset-requires : goal.offset_at-offset-requires
 offset_at-offset-requires c = record { long_bound = (flag-less c.four_at-w.result 11, flag-less c.four_at-w.result 12); moved_in_bounds = omega arith }
 
-pub returns-then-valid : goal.returns-then-valid
-returns-then-valid c = search (take-ways, rules)
-
 pub returns : goal.returns
 returns c = search (take-ways, rules)

@@ -10,11 +10,11 @@ pub put_two-requires : goal.put_two-requires
 put_two-requires c =
     record { n_bound = search rules; at_in_bounds = search (present-rest, rules) }
 
-pub returns-in-Absent : goal.returns-in-Absent
-returns-in-Absent c = search (ensemble-puts, present-room, rules)
+pub returns-in_default : goal.returns-in_default
+returns-in_default c = search (ensemble-puts, present-room, rules)
 
 pub shape_of-out : goal.shape_of-out
 shape_of-out c = search (stored-length, rules)
 
-pub returns-in-Present : goal.returns-in-Present
-returns-in-Present c = search (ensemble-puts, present-room, rules)
+pub returns : goal.returns
+returns c = search (ensemble-puts, present-room, rules)

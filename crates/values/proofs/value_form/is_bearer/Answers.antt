@@ -2,8 +2,8 @@ use Rattle.values.proofs.ValueForm.{bearer-ways}
 use borrow.Author.Rules.{rules}
 use Rattle.values.proofs.value_form.is_bearer.Goals as goal
 
-pub returns-in-Good : goal.returns-in-Good
-returns-in-Good c = search (bearer-ways, rules)
+pub returns-in-Some : goal.returns-in-Some
+returns-in-Some c = search (bearer-ways, rules)
 
-pub returns-in-Bad : goal.returns-in-Bad
-returns-in-Bad c = search (bearer-ways, rules)
+pub returns-in-None : goal.returns-in-None
+returns-in-None c = search (bearer-ways, rules)

@@ -2,8 +2,8 @@ use Rattle.values.proofs.ValueForm.{time-ways}
 use borrow.Author.Rules.{rules}
 use Rattle.values.proofs.value_form.is_time.Goals as goal
 
-pub returns-in-Good : goal.returns-in-Good
-returns-in-Good c = search (time-ways, rules)
+pub returns-in-Ok : goal.returns-in-Ok
+returns-in-Ok c = search (time-ways, rules)
 
-pub returns-in-Bad : goal.returns-in-Bad
-returns-in-Bad c = search (time-ways, rules)
+pub returns-in-Err : goal.returns-in-Err
+returns-in-Err c = search (time-ways, rules)
