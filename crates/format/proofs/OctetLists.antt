@@ -1,4 +1,5 @@
 -- Lists whose numbers are octets: valid text, the normal octets of a value.
+use Rattle.std.specs.Prelude.{Option, Some, None}
 use mathlib.Core.Path.{◌≡◌, refl}
 use mathlib.Core.Bool.{Bool, true, false, cond, false≢true}
 use mathlib.Core.List.{List, [], ◌∷◌, ◌++◌}
@@ -14,14 +15,13 @@ use Rattle.values.specs.declared.Kind.{Kind}
 use Rattle.values.specs.declared.Kind.TheVariants.{HoldsPlain}
 use Rattle.values.specs.declared.Time.{Time}
 use Rattle.values.specs.declared.Bearer.{Bearer}
-use Rattle.values.specs.declared.Ensemble.{Ensemble}
-use Rattle.values.specs.declared.Ensemble.TheVariants.{Absent, Present}
 use Rattle.values.specs.Times.{in_range, sign, time_octets}
 use Rattle.values.specs.Bearers.{ensemble_bit, ensemble_octets, bearer_octets}
 use Rattle.values.specs.Values.{Value, octets_of, width}
 use Rattle.values.specs.Proper.{Proper, BearerOk, EnsembleOk, SidOk}
 use Rattle.values.specs.Proper.Proper.{words, plain, counted, timed, carried}
 use Rattle.values.proofs.Times.{bounds, sign_le}
+use Rattle.values.specs.declared.Ensemble.{Ensemble}
 
 -- ---- text: each octet of a character is one
 
@@ -71,15 +71,15 @@ bearer-octets b ok =
     first : ℕ
     first = ensemble_bit b.ensemble + cond b.long 16 0 + b.scids
 
-    small : (e : Ensemble) (l : Bool) → ensemble_bit e + cond l 16 0 + b.scids < 256
-    small Absent true = omega (arith, ok.scids)
-    small Absent false = omega (arith, ok.scids)
-    small (Present ecc eid) true = omega (arith, ok.scids)
-    small (Present ecc eid) false = omega (arith, ok.scids)
+    small : (e : Option Ensemble) (l : Bool) → ensemble_bit e + cond l 16 0 + b.scids < 256
+    small None true = omega (arith, ok.scids)
+    small None false = omega (arith, ok.scids)
+    small (Some e) true = omega (arith, ok.scids)
+    small (Some e) false = omega (arith, ok.scids)
 
-    ensemble : (e : Ensemble) → EnsembleOk e → Octets (ensemble_octets e)
-    ensemble Absent q = octets-none
-    ensemble (Present ecc eid) q = octets-cons ecc (digits 2 eid) q.0 (octets-digits 2 eid q.1)
+    ensemble : (e : Option Ensemble) → EnsembleOk e → Octets (ensemble_octets e)
+    ensemble None q = octets-none
+    ensemble (Some e) q = octets-cons e.ecc (digits 2 e.eid) q.0 (octets-digits 2 e.eid q.1)
 
     sid : (l : Bool) → SidOk l b.sid → Octets (digits (cond l 4 2) b.sid)
     sid true q = octets-digits 4 b.sid q

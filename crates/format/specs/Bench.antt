@@ -1,10 +1,9 @@
 -- The bench cases P1 to P14 of document 01 as one table, and the records of its listing.
-use Rattle.std.specs.Prelude.{Bool, true, false, List, [], ◌∷◌, ℕ, zero, suc}
+use Rattle.std.specs.Prelude.{Bool, true, false, List, [], ◌∷◌, ℕ, zero, suc, Result, Ok, Err}
 use Rattle.values.specs.declared.Time.{Time}
-use Rattle.values.specs.declared.TakenTime.{TakenTime}
-use Rattle.values.specs.declared.TakenTime.TheVariants.{Good, Bad}
 use Rattle.values.specs.Times.{time_octets}
 use Rattle.values.specs.Calls.{taken_time}
+use Rattle.values.specs.declared.TimeError.{TimeError}
 use Rattle.format.specs.declared.Record.{Record}
 use Rattle.format.specs.declared.Refusal.{Refusal}
 use Rattle.format.specs.Answers.{refusal, wrong_value}
@@ -24,9 +23,9 @@ unfoldable pub reported : Judged → Outcome
 reported (refused r) = refuses r
 reported (accepted t) = normally (count t) (normal_of t)
 
-unfoldable pub reported_time : TakenTime → Outcome
-reported_time (Good t) = timed t (time_octets t)
-reported_time (Bad field) = no_time
+unfoldable pub reported_time : Result Time TimeError → Outcome
+reported_time (Ok t) = timed t (time_octets t)
+reported_time (Err field) = no_time
 
 -- what the definitions say of an object (true), or of octets taken as a time (false): both say whether it is accepted
 unfoldable pub outcome : Bool → List ℕ → Outcome

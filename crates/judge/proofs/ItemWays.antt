@@ -12,10 +12,9 @@ use Rattle.octets.specs.declared.counts.Characters.{Characters}
 use Rattle.octets.specs.Counts.{as_characters}
 use Rattle.text.specs.Text.{text}
 use Rattle.text.specs.Tokens.{entries, is_table, covered, shown_length}
-use Rattle.text.specs.Weighing.{weighed_by}
-use Rattle.text.specs.declared.Weighed.{Weighed}
-use Rattle.text.specs.declared.Weighed.TheVariants.{NoText, Text}
+use Rattle.text.specs.Weighing.{weighed_by, covered_shown}
 use Rattle.text.proofs.WeighLaws.{weighed-none, weighed-text, weighed-covered, weighed-shown}
+use Rattle.text.specs.declared.Weighed.{Weighed}
 use Rattle.values.specs.declared.Kind.{Kind}
 use Rattle.values.specs.contracts.Kind.{the_type}
 use Rattle.values.specs.declared.Kind.TheVariants.{HoldsItems, HoldsTokens, HoldsText, HoldsPlain, HoldsTime, HoldsBearer, HoldsNumber}
@@ -26,18 +25,16 @@ use Rattle.format.specs.Answers.{refusal, wrong_value}
 use Rattle.format.specs.Judge.{is_top, is_known, is_text, is_tokens, is_value, wrong_in, latest, shown, of_top, rule, value_rule, first, kind_rules, item_rules}
 use Rattle.format.proofs.Rules.{first_one}
 use Rattle.values.specs.Calls.{as_known, known_kind}
-use Rattle.values.specs.declared.KnownKind.{KnownKind}
-use Rattle.values.specs.declared.KnownKind.TheVariants.{Unknown, Known}
 use Rattle.tags.specs.Rules.{within_depth, has_bit, Seen}
 use Rattle.tags.proofs.Arms.{never}
 use Rattle.tags.proofs.Masks.{twice-is}
 use Rattle.tags.proofs.TagTests.{capped-shown}
 use Rattle.judge.specs.Says.{ctx, bare, InForce, depth_of, as_kind, checked, ItemSays}
-use Rattle.std.specs.Prelude.{Result, Ok, Err, ⊤}
+use Rattle.std.specs.Prelude.{Result, Ok, Err, ⊤, Some, None, Option as Optional}
 use Rattle.judge.specs.declared.Progress.{Progress}
 
 -- what the lookup answers, in the definition's words
-pub kind-known : (k : KnownKind) (parent tag : ℕ) → k ≡ known_kind parent tag → as_kind k ≡ known parent tag
+pub kind-known : (k : Optional Kind) (parent tag : ℕ) → k ≡ known_kind parent tag → as_kind k ≡ known parent tag
 unfolding known_kind as_kind as_known
 kind-known k parent tag e = ap as_kind e ∙ same (known parent tag)
   where
@@ -47,21 +44,21 @@ kind-known k parent tag e = ap as_kind e ∙ same (known parent tag)
 
 -- rules 10, 12 and 13
 module _ (parent tag place : ℕ) (table body : List ℕ) (marks : ℕ) (shows : List ℕ) (told : InForce table marks shows)
-    (r : Weighed) (e : r ≡ weighed_by marks shows body (as_characters 32_769)) where
+    (r : Optional Weighed) (e : r ≡ weighed_by marks shows body (as_characters 32_769)) where
   abbrev Ruled : Option Refusal
   Ruled = kind_rules (bare parent (entries table)) place tag body (some HoldsText)
 
-  pub text-bad : r ≡ NoText → (x : Refusal) → x ≡ refusal 10 place → checked (Err x) ≡ Ruled
+  pub text-bad : r ≡ None → (x : Refusal) → x ≡ refusal 10 place → checked (Err x) ≡ Ruled
   unfolding kind_rules first rule value_rule checked is_value is_text is_tokens fits
   text-bad f x m = rw (m, weighed-none (entries table) marks shows told.marking told.showing body (as_characters 32_769) r e f)
 
-  module _ (holds : Bool) (count : Characters) (f : r ≡ Text holds count) (t : Bool) (g : t ≡ ((attribute tag && is_top parent) || holds)) where
+  module _ (holds : Bool) (count : Characters) (f : r ≡ Some (covered_shown holds count)) (t : Bool) (g : t ≡ ((attribute tag && is_top parent) || holds)) where
     is-text : text true body ≡ true
-    is-text = weighed-text (entries table) marks shows told.marking told.showing body (as_characters 32_769) r e holds count f
+    is-text = weighed-text (entries table) marks shows told.marking told.showing body (as_characters 32_769) r e (covered_shown holds count) f
 
     is_held : ((attribute tag && is_top parent) || covered (entries table) body) ≡ t
     is_held =
-        ap (λ b. (attribute tag && is_top parent) || b) (sym (weighed-covered (entries table) marks shows told.marking told.showing body (as_characters 32_769) r e holds count f)) ∙ sym g
+        ap (λ b. (attribute tag && is_top parent) || b) (sym (weighed-covered (entries table) marks shows told.marking told.showing body (as_characters 32_769) r e (covered_shown holds count) f)) ∙ sym g
 
     pub text-uncovered : t ≡ false → (x : Refusal) → x ≡ refusal 12 place → checked (Err x) ≡ Ruled
     unfolding kind_rules first rule value_rule checked is_value is_text is_tokens fits of_top
@@ -71,7 +68,7 @@ module _ (parent tag place : ℕ) (table body : List ℕ) (marks : ℕ) (shows :
       is-shown : shown parent tag (shown_length (entries table) body) ≡ u
       is-shown =
           sym (capped-shown parent tag (shown_length (entries table) body))
-          ∙ ap (shown parent tag) (sym (weighed-shown (entries table) marks shows told.marking told.showing body (as_characters 32_769) r e holds count f)) ∙ sym i
+          ∙ ap (shown parent tag) (sym (weighed-shown (entries table) marks shows told.marking told.showing body (as_characters 32_769) r e (covered_shown holds count) f)) ∙ sym i
 
       pub text-long : u ≡ false → (x : Refusal) → x ≡ refusal 13 place → checked (Err x) ≡ Ruled
       unfolding kind_rules first rule value_rule checked is_value is_text is_tokens fits of_top
@@ -137,13 +134,13 @@ kind-formed parent tag place table body k b e f h = value-kind parent tag place 
 pub ruleset kind-ways = (kind-items, kind-plain, kind-text, kind-table, kind-no-table, kind-misfit, kind-formed)
 
 -- rules 9 to 13, for what the lookup answers
-module _ (known : KnownKind) where
-  pub body-unknown : (parent tag place : ℕ) (table body : List ℕ) → known ≡ Unknown
+module _ (known : Optional Kind) where
+  pub body-unknown : (parent tag place : ℕ) (table body : List ℕ) → known ≡ None
       → checked (Ok tt) ≡ kind_rules (bare parent (entries table)) place tag body (as_kind known)
   unfolding kind_rules first rule value_rule checked is_value is_text is_tokens as_kind
   body-unknown parent tag place table body e = rw e
 
-  pub body-known : (parent tag place : ℕ) (table body : List ℕ) (k : Kind) → known ≡ Known k → (r : Result ⊤ Refusal)
+  pub body-known : (parent tag place : ℕ) (table body : List ℕ) (k : Kind) → known ≡ Some k → (r : Result ⊤ Refusal)
       → checked r ≡ kind_rules (bare parent (entries table)) place tag body (some k) → checked r ≡ kind_rules (bare parent (entries table)) place tag body (as_kind known)
   unfolding as_kind
   body-known parent tag place table body k e r h = rw e h
@@ -161,7 +158,7 @@ module _ (parent tag left : ℕ) (progress : Progress) (place : ℕ) (table body
     unfolding ItemSays item_rules first rule checked
     item-deep g x m seen waiting s = rw (m, le-leb progress.stage (latest tag) (rw e at h), sym f ∙ g)
 
-    module _ (g : d ≡ true) (k : KnownKind) (ke : k ≡ known_kind parent tag) (t : Bool) (i : t ≡ (is_known (as_kind k) && has_bit progress.mask tag)) where
+    module _ (g : d ≡ true) (k : Optional Kind) (ke : k ≡ known_kind parent tag) (t : Bool) (i : t ≡ (is_known (as_kind k) && has_bit progress.mask tag)) where
       twice : (seen : List ℕ) → Seen parent progress.mask seen → (attribute tag && is_known (known parent tag) && among tag seen) ≡ t
       twice seen s = twice-is parent progress.mask tag seen s ∙ ap (λ (o : Option Kind). is_known o && has_bit progress.mask tag) (sym (kind-known k parent tag ke)) ∙ sym i
 

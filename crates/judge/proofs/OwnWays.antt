@@ -21,7 +21,7 @@ use Rattle.format.proofs.Rules.{first_one}
 use Rattle.octets.specs.Calls.{header_of, span}
 use Rattle.octets.specs.declared.Span.{Span}
 use Rattle.values.specs.Calls.{known_kind}
-use Rattle.values.specs.declared.KnownKind.{KnownKind}
+use Rattle.values.specs.declared.Kind.{Kind}
 use Rattle.tags.proofs.Masks.{marked}
 use Rattle.judge.specs.Says.{ctx, depth_of, as_kind, checked, sorted, Framed, ItemSays, own_of, OwnIs, after, Says}
 use Rattle.std.specs.Prelude.{Result, Ok, Err, ⊤, Some, None, Option as Optional}
@@ -99,7 +99,7 @@ module _ (parent left : ℕ) (progress : Progress) (table : List ℕ) (place : �
             unfolding checked
             own-bad r q = rw q at all
 
-            pub own-good : w ≡ Ok tt → (kd : KnownKind) → kd ≡ known_kind parent tag → (sort : Sort) → sort ≡ sorted (as_kind kd)
+            pub own-good : w ≡ Ok tt → (kd : Optional Kind) → kd ≡ known_kind parent tag → (sort : Sort) → sort ≡ sorted (as_kind kd)
                 → (next : Progress) → next ≡ after tag progress
                 → Says R parent progress s (Ok (record { sort = sort; start = start; size = size; next = next }))
             unfolding checked after

@@ -1,6 +1,6 @@
 -- What the code's values say, in the words of the crate format: contracts of the crate's own functions. The one public call is claimed by format's definitions
 -- alone (specs/Judge, specs/Calls). Rules are those of document 01, Refusal numbers.
-use Rattle.std.specs.Prelude.{◌≡◌, Bool, true, false, ◌&&◌, List, [], ◌∷◌, ◌++◌, ℕ, ◌+◌, ◌-◌, ◌≤◌, eqb, length, take, drop, get_or, Result, Ok, Err, ⊤}
+use Rattle.std.specs.Prelude.{◌≡◌, Bool, true, false, ◌&&◌, List, [], ◌∷◌, ◌++◌, ℕ, ◌+◌, ◌-◌, ◌≤◌, eqb, length, take, drop, get_or, Result, Ok, Err, ⊤, Some, None, Option as Optional}
 use Rattle.std.proofs.Math.Option.{Option, none, some}
 use Rattle.octets.specs.Header.{header_size, body_size}
 use Rattle.text.specs.Tokens.{Entries, entries}
@@ -14,8 +14,6 @@ use Rattle.format.specs.Tree.{count}
 use Rattle.format.specs.Tree.Items.{end}
 use Rattle.format.specs.Judge.{Judged, Context, is_top, first, item_rules, own, broken, late, late_after, waits, stage_after, unless}
 use Rattle.format.specs.Judge.Judged.{refused, accepted}
-use Rattle.values.specs.declared.KnownKind.{KnownKind}
-use Rattle.values.specs.declared.KnownKind.TheVariants.{Unknown, Known}
 use Rattle.tags.specs.Rules.{with_bit, Seen}
 use Rattle.judge.specs.declared.Progress.{Progress}
 use Rattle.judge.specs.declared.Sort.{Sort}
@@ -40,9 +38,9 @@ unfoldable pub depth_of : ℕ → ℕ
 depth_of left = 17 - left
 
 -- what the lookup's answer says in the definition's words
-unfoldable pub as_kind : KnownKind → Option Kind
-as_kind Unknown = none
-as_kind (Known k) = some k
+unfoldable pub as_kind : Optional Kind → Option Kind
+as_kind None = none
+as_kind (Some k) = some k
 
 -- the first broken rule that a check found
 unfoldable pub checked : Result ⊤ Refusal → Option Refusal

@@ -16,8 +16,8 @@ use octets::{Characters, read_header};
 use tags::{
     has_bit, is_allowed, is_short, is_top, is_within_depth, latest_of, stage_after, with_bit,
 };
-use text::{Weighed, is_table, weigh};
-use values::{Kind, KnownKind, fits_kind, is_attribute, known_kind, wrong_field};
+use text::{is_table, weigh};
+use values::{Kind, fits_kind, is_attribute, known_kind, wrong_field};
 
 // Rule 5: octets after the top.
 fn trails(parent: u8, whole: usize, room: usize) -> bool
@@ -61,18 +61,16 @@ fn check_text(
     requires { InForce table.now marks shows.now }
     ensures { checked result ≡ kind_rules (bare parent (entries table.now)) place tag body.now (some HoldsText) }
 {
-    match weigh(marks, shows, body, Characters(32_769)) {
-        Weighed::NoText => Err(refuse(10, place)),
-        Weighed::Text { covered, shown } => {
-            if !is_held(parent, tag, covered) {
-                return Err(refuse(12, place));
-            }
-            if !is_short(parent, tag, shown) {
-                return Err(refuse(13, place));
-            }
-            Ok(())
-        }
+    let Some(weighed) = weigh(marks, shows, body, Characters(32_769)) else {
+        return Err(refuse(10, place));
+    };
+    if !is_held(parent, tag, weighed.covered) {
+        return Err(refuse(12, place));
     }
+    if !is_short(parent, tag, weighed.shown) {
+        return Err(refuse(13, place));
+    }
+    Ok(())
 }
 
 // Rules 9 to 13, for a kind. Items, tokens, text and plain octets are always values of their kind, so rule 9 is asked of the others alone.
@@ -114,7 +112,7 @@ fn check_kind(
 
 // Rules 9 to 13: an unknown item isn't looked into.
 fn check_body(
-    known: KnownKind,
+    known: Option<Kind>,
     parent: u8,
     tag: u8,
     place: usize,
@@ -127,25 +125,25 @@ fn check_body(
     ensures { checked result ≡ kind_rules (bare parent (entries table.now)) place tag body.now (as_kind known) }
 {
     match known {
-        KnownKind::Unknown => Ok(()),
-        KnownKind::Known(kind) => check_kind(kind, parent, tag, place, table, marks, shows, body),
+        None => Ok(()),
+        Some(kind) => check_kind(kind, parent, tag, place, table, marks, shows, body),
     }
 }
 
 // Rule 8: a known attribute twice.
 #[tactic(auto, unfolding(format::specs::Judge::is_known, crate::specs::Says::as_kind))]
-fn is_twice(known: KnownKind, tag: u8, mask: u64) -> bool
+fn is_twice(known: Option<Kind>, tag: u8, mask: u64) -> bool
     ensures { result ≡ (is_known (as_kind known) && has_bit mask tag) }
 {
     match known {
-        KnownKind::Unknown => false,
-        KnownKind::Known(_) => has_bit(mask, tag),
+        None => false,
+        Some(_) => has_bit(mask, tag),
     }
 }
 
 // Rules 6 to 13.
 fn check_item(
-    known: KnownKind,
+    known: Option<Kind>,
     parent: u8,
     tag: u8,
     left: u8,
@@ -173,12 +171,12 @@ fn check_item(
 }
 
 #[tactic(auto, unfolding(crate::specs::Says::sorted, crate::specs::Says::as_kind))]
-fn sort_of(known: KnownKind) -> Sort
+fn sort_of(known: Option<Kind>) -> Sort
     ensures { result ≡ sorted (as_kind known) }
 {
     match known {
-        KnownKind::Unknown => Sort::Skip,
-        KnownKind::Known(kind) => match kind {
+        None => Sort::Skip,
+        Some(kind) => match kind {
             Kind::HoldsItems => Sort::Element,
             Kind::HoldsTokens => Sort::Table,
             _ => Sort::Leaf,

@@ -59,12 +59,7 @@ pub fn is_text_kept(parent: u8, tag: u8, body: &[u8]) -> bool
     let shows = characters_of(none);
     match weigh(marks, &shows, body, Characters(32_769)) {
         Weighed::NoText => false,
-        Weighed::Text { covered, shown } => {
-            if covered {
-                return is_short(parent, tag, shown);
-            }
-            false
-        }
+        Weighed::Text { covered, shown } => covered && is_short(parent, tag, shown),
     }
 }
 
@@ -93,21 +88,17 @@ fn check_body(parent: u8, tag: u8, body: &[u8]) -> Option<Held>
 }
 
 // Rules 4, 6, 7 and 8.
+#[tactic(auto, unfolding(crate::specs::Check::placed_by))]
 fn is_placed(parent: Parent, state: State, tag: u8) -> bool
     ensures { result ≡ placed_by parent state tag }
 {
-    if has_bit(state.mask, tag) {
-        return false;
-    }
-    if state.stage > latest_of(tag) {
-        return false;
-    }
-    if is_within_depth(tag, parent.depth) {
-        return is_allowed(parent.tag, tag);
-    }
-    false
+    is_allowed(parent.tag, tag)
+        && state.stage <= latest_of(tag)
+        && is_within_depth(tag, parent.depth)
+        && !has_bit(state.mask, tag)
 }
 
+#[tactic(auto, unfolding(crate::specs::Check::state_after))]
 fn state_after(parent: Parent, state: State, tag: u8) -> State
     ensures { result ≡ state_after parent state tag }
 {
@@ -121,6 +112,7 @@ fn state_after(parent: Parent, state: State, tag: u8) -> State
     }
 }
 
+#[tactic(auto, unfolding(crate::specs::Check::item_of))]
 fn item_of(held: Held, tag: u8, state: State) -> Item
     ensures { result ≡ item_of held tag state }
 {

@@ -1,4 +1,5 @@
 -- What is listed of an item, and what its body holds: the ways through the code, and what the answers say of the kind.
+use Rattle.std.specs.Prelude.{Some, None, Option as Optional}
 use mathlib.Core.Path.{◌≡◌, refl, sym, ap, ◌∙◌}
 use mathlib.Core.Bool.{true, false}
 use mathlib.Core.Option.{Option, none, some}
@@ -9,8 +10,6 @@ use Rattle.octets.proofs.Tests.{never}
 use Rattle.values.specs.declared.Kind.{Kind}
 use Rattle.values.specs.declared.Kind.TheVariants.{HoldsItems, HoldsTokens, HoldsText, HoldsPlain, HoldsTime, HoldsBearer, HoldsNumber}
 use Rattle.values.specs.declared.NumberKind.{NumberKind}
-use Rattle.values.specs.declared.KnownKind.{KnownKind}
-use Rattle.values.specs.declared.KnownKind.TheVariants.{Unknown, Known}
 use Rattle.values.specs.Table.{known}
 use Rattle.values.specs.Calls.{known_kind}
 use Rattle.values.specs.contracts.Kind.{the_type}
@@ -23,12 +22,12 @@ use Rattle.tags.specs.Listed.{listed_as}
 use Rattle.tags.proofs.Arms.{Untexted, not-text}
 
 -- ---- listed_as
-module _ (p tag : ℕ) (r : KnownKind) (e : r ≡ known_kind p tag) where
-  pub listed-unknown : r ≡ Unknown → Nothing ≡ listed_as (known p tag)
+module _ (p tag : ℕ) (r : Optional Kind) (e : r ≡ known_kind p tag) where
+  pub listed-unknown : r ≡ None → Nothing ≡ listed_as (known p tag)
   unfolding listed_as
   listed-unknown q = rw (unknown-kind p tag r e q)
 
-  module _ (k : Kind) (q : r ≡ Known k) where
+  module _ (k : Kind) (q : r ≡ Some k) where
     kind-is : known p tag ≡ some k
     kind-is = known-kind p tag r e k q
 
@@ -126,12 +125,12 @@ module _ (tag : ℕ) (r : Listed) (e : r ≡ listed_as (known 0 tag)) where
 pub ruleset holds-ways = (holds-inside, holds-other)
 
 -- ---- holds_text
-module _ (p tag : ℕ) (r : KnownKind) (e : r ≡ known_kind p tag) where
-  pub text-unknown : r ≡ Unknown → false ≡ is_text (known p tag)
+module _ (p tag : ℕ) (r : Optional Kind) (e : r ≡ known_kind p tag) where
+  pub text-unknown : r ≡ None → false ≡ is_text (known p tag)
   unfolding is_text
   text-unknown q = rw (unknown-kind p tag r e q)
 
-  module _ (k : Kind) (q : r ≡ Known k) where
+  module _ (k : Kind) (q : r ≡ Some k) where
     pub text-is : k ≡ HoldsText → true ≡ is_text (known p tag)
     unfolding is_text
     text-is w = rw (known-kind p tag r e k q, w)

@@ -6,7 +6,7 @@ ghost use Rattle.format.specs.Meaning.{opens};
 ghost use Rattle.tags.specs.Listed.{listed_as};
 
 use crate::Listed;
-use values::{Kind, KnownKind, known_kind};
+use values::{Kind, known_kind};
 
 // An unknown item and the token table have no record. Whoever walks over the items of an object, to fill records, to measure, to lay, to compare or to show
 // them, asks this one call.
@@ -14,8 +14,8 @@ pub fn listed_as(parent: u8, tag: u8) -> Listed
     ensures { result ≡ listed_as (known parent tag) }
 {
     match known_kind(parent, tag) {
-        KnownKind::Unknown => Listed::Nothing,
-        KnownKind::Known(kind) => match kind {
+        None => Listed::Nothing,
+        Some(kind) => match kind {
             Kind::HoldsItems => Listed::Inside,
             Kind::HoldsTokens => Listed::Nothing,
             Kind::HoldsText => Listed::Value(kind),
@@ -39,8 +39,8 @@ pub fn holds_text(parent: u8, tag: u8) -> bool
     ensures { result ≡ is_text (known parent tag) }
 {
     match known_kind(parent, tag) {
-        KnownKind::Unknown => false,
-        KnownKind::Known(kind) => match kind {
+        None => false,
+        Some(kind) => match kind {
             Kind::HoldsText => true,
             _ => false,
         },

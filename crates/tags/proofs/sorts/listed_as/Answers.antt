@@ -2,8 +2,8 @@ use Rattle.tags.proofs.Listing.{listed-ways}
 use borrow.Author.Rules.{rules}
 use Rattle.tags.proofs.sorts.listed_as.Goals as goal
 
-pub returns-in-Unknown : goal.returns-in-Unknown
-returns-in-Unknown c = search (listed-ways, rules)
+pub returns-in-None : goal.returns-in-None
+returns-in-None c = search (listed-ways, rules)
 
 pub returns-in-HoldsItems : goal.returns-in-HoldsItems
 returns-in-HoldsItems c = search (listed-ways, rules)
