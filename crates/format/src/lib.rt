@@ -3,7 +3,7 @@
 
 ghost use Rattle.std.specs.Prelude.{◌≡◌};
 ghost use Rattle.format.specs.Tree.{kind_of};
-ghost use Rattle.format.specs.Answers.{refusal, read_outcome, edit_outcome, write_outcome, of_refused, same_outcome};
+ghost use Rattle.format.specs.Answers.{refusal, read_outcome, edit_outcome, write_outcome, check_outcome, of_refused, same_outcome};
 
 mod lent;
 
@@ -125,6 +125,18 @@ impl From<Result<Octets, Refusal>> for Outcome {
     fn from(answer: Result<Octets, Refusal>) -> Outcome {
         match answer {
             Ok(size) => counted(size.0),
+            Err(refusal) => refused(refusal),
+        }
+    }
+}
+
+// Of a check, which hands nothing out.
+impl From<Result<(), Refusal>> for Outcome {
+    ghost from_gives = { λ answer outcome. outcome ≡ check_outcome answer };
+
+    fn from(answer: Result<(), Refusal>) -> Outcome {
+        match answer {
+            Ok(()) => counted(0),
             Err(refusal) => refused(refusal),
         }
     }
