@@ -98,7 +98,7 @@ module _ (due : Bool) (part : List ℕ) (run parent base : ℕ) (table : List �
   pub late_due : due ≡ true → (r : Result ⊤ Refusal) → LateSays true part run parent base table r → LateSays due part run parent base table r
   late_due e r h = rw e h
 
-pub ruleset due-ways = (late-undue, late_due)
+pub ruleset due_ways = (late-undue, late_due)
 
 -- the scan
 module _ (part : List ℕ) (run parent base : ℕ) (table : List ℕ) where
@@ -176,4 +176,4 @@ module _ (part : List ℕ) (run parent base : ℕ) (table : List ℕ) where
                   };
             }
 
-pub ruleset late-ways = (late-start, late-end, late-past, late-head, late-short, late-from, late-to, late-in, late-less, late-found, late-next)
+pub ruleset late_ways = (late-start, late-end, late-past, late-head, late-short, late-from, late-to, late-in, late-less, late-found, late-next)

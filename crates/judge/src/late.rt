@@ -64,6 +64,7 @@ pub fn hold_attributes(
 }
 
 // The rule where it is due. It seldom is: this stands apart from the scan, which the end of the items asks for too, so that it is small enough to be inlined.
+#[tactic(auto, using(crate::proofs::LateWays::due_ways))]
 pub fn judge_late(
     due: bool,
     part: &[u8],

@@ -10,12 +10,11 @@ use Rattle.std.specs.Prelude.{Option, None, Some}
 use Rattle.std.specs.Bool.{then_some}
 use Rattle.text.specs.Text.{text}
 use Rattle.text.specs.Tokens.{entries, cut, shown_length, covered}
-use Rattle.text.specs.Weighing.{tags, Marks, Shows, weighed_by}
-use Rattle.text.specs.declared.Weighed.{Weighed}
-use Rattle.text.specs.declared.Weighed.TheVariants.{NoText, Text}
+use Rattle.text.specs.Weighing.{tags, Marks, Shows, weighed_by, covered_shown}
 use Rattle.text.proofs.Words.{plain-text, plain-text-covered}
 use Rattle.text.proofs.Expansion.{text-plain}
 use Rattle.text.proofs.WeighLaws.{weighed-none, weighed-text, weighed-covered, weighed-shown}
+use Rattle.text.specs.declared.Weighed.{Weighed}
 use Rattle.octets.specs.Counts.{as_characters}
 use Rattle.octets.specs.declared.counts.Characters.{Characters}
 use Rattle.values.specs.declared.NumberKind.{NumberKind}
@@ -28,8 +27,6 @@ use Rattle.format.specs.Writer.{body_keeps}
 use Rattle.tags.proofs.TagTests.{capped-shown, short-other}
 use Rattle.values.specs.Calls.{as_known, known_kind}
 use Rattle.records.specs.Check.{held_as}
-use Rattle.values.specs.declared.KnownKind.{KnownKind}
-use Rattle.values.specs.declared.KnownKind.TheVariants.{Unknown, Known}
 use Rattle.records.specs.declared.check.Held.{Held}
 use Rattle.records.specs.declared.check.Held.TheVariants.{Octets, Inner}
 
@@ -39,7 +36,7 @@ unfolding entries cut
 no-entries o = refl
 
 module _ (parent tag : ℕ) (body o : List ℕ) (marks : ℕ) (m : Marks marks (tags (entries (take 0 o)))) (shows : List ℕ) (k : Shows 32 (entries (take 0 o)) shows)
-    (r : Weighed) (e : r ≡ weighed_by marks shows body (as_characters 32_769)) where
+    (r : Option Weighed) (e : r ≡ weighed_by marks shows body (as_characters 32_769)) where
   abbrev Kept : Bool
   Kept = text false body && shown parent tag (shown_length [] body)
 
@@ -50,21 +47,21 @@ module _ (parent tag : ℕ) (body o : List ℕ) (marks : ℕ) (m : Marks marks (
       go true q = absurd (n q)
       go false q = refl
 
-  pub text-none : r ≡ NoText → false ≡ Kept
+  pub text-none : r ≡ None → false ≡ Kept
   text-none f = no_text (λ q. false≢true (sym (weighed-none (entries (take 0 o)) marks shows m k body (as_characters 32_769) r e f) ∙ plain-text body q))
 
-  module _ (c : Bool) (n : Characters) (f : r ≡ Text c n) where
+  module _ (c : Bool) (n : Characters) (f : r ≡ Some (covered_shown c n)) where
     covers : c ≡ covered [] body
-    covers = weighed-covered (entries (take 0 o)) marks shows m k body (as_characters 32_769) r e c n f ∙ ap (λ es. covered es body) (no-entries o)
+    covers = weighed-covered (entries (take 0 o)) marks shows m k body (as_characters 32_769) r e (covered_shown c n) f ∙ ap (λ es. covered es body) (no-entries o)
 
     pub text-tokens : c ≡ false → false ≡ Kept
     text-tokens g = no_text (λ q. false≢true (sym g ∙ covers ∙ plain-text-covered body q))
 
     pub text-bare : c ≡ true → (b : Bool) → b ≡ shown parent tag n → b ≡ Kept
     text-bare g b h =
-        let t : text false body ≡ true = text-plain body (weighed-text (entries (take 0 o)) marks shows m k body (as_characters 32_769) r e c n f) (sym covers ∙ g) in
+        let t : text false body ≡ true = text-plain body (weighed-text (entries (take 0 o)) marks shows m k body (as_characters 32_769) r e (covered_shown c n) f) (sym covers ∙ g) in
         let s : n ≡ as_characters (min 32_769 (shown_length [] body).0) =
-        weighed-shown (entries (take 0 o)) marks shows m k body (as_characters 32_769) r e c n f ∙ ap (λ es. as_characters (min 32_769 (shown_length es body).0)) (no-entries o) in
+        weighed-shown (entries (take 0 o)) marks shows m k body (as_characters 32_769) r e (covered_shown c n) f ∙ ap (λ es. as_characters (min 32_769 (shown_length es body).0)) (no-entries o) in
         rw t (h ∙ ap (shown parent tag) s ∙ capped-shown parent tag (shown_length [] body))
 
 -- only CDATA may have a limit
@@ -113,26 +110,26 @@ module _ (parent tag : ℕ) (body : List ℕ) where
 pub ruleset kind-ways = (kind-items, kind-tokens, kind-plain, kind-text, kind-value)
 
 -- the kind that an answer of the table stands for
-as_option : KnownKind → Maybe Kind
-as_option Unknown = none
-as_option (Known k) = some k
+as_option : Option Kind → Maybe Kind
+as_option None = none
+as_option (Some k) = some k
 
 known-back : (o : Maybe Kind) → as_option (as_known o) ≡ o
 unfolding as_option as_known
 known-back none = refl
 known-back (some k) = refl
 
-known_is : (parent tag : ℕ) (x y : KnownKind) → x ≡ known_kind parent tag → x ≡ y → as_option y ≡ known parent tag
+known_is : (parent tag : ℕ) (x y : Option Kind) → x ≡ known_kind parent tag → x ≡ y → as_option y ≡ known parent tag
 unfolding known_kind
 known_is parent tag x y e f = ap as_option (sym f ∙ e) ∙ known-back (known parent tag)
 
-module _ (parent tag : ℕ) (body : List ℕ) (x : KnownKind) (e : x ≡ known_kind parent tag) where
-  pub body-unknown : x ≡ Unknown → None ≡ held_as parent tag body (known parent tag)
+module _ (parent tag : ℕ) (body : List ℕ) (x : Option Kind) (e : x ≡ known_kind parent tag) where
+  pub body-unknown : x ≡ None → None ≡ held_as parent tag body (known parent tag)
   unfolding held_as body_keeps is_known as_option
-  body-unknown f = rw (sym (known_is parent tag x Unknown e f))
+  body-unknown f = rw (sym (known_is parent tag x None e f))
 
-  pub body-known : (k : Kind) (h : Option Held) → h ≡ held_as parent tag body (some k) → x ≡ Known k → h ≡ held_as parent tag body (known parent tag)
+  pub body-known : (k : Kind) (h : Option Held) → h ≡ held_as parent tag body (some k) → x ≡ Some k → h ≡ held_as parent tag body (known parent tag)
   unfolding as_option
-  body-known k h g f = g ∙ ap (held_as parent tag body) (known_is parent tag x (Known k) e f)
+  body-known k h g f = g ∙ ap (held_as parent tag body) (known_is parent tag x (Some k) e f)
 
 pub ruleset body-ways = (body-unknown, body-known)

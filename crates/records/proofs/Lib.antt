@@ -1,5 +1,4 @@
 pub mod Bodies
-pub mod Places
 pub mod Records
 pub mod Turns
 pub mod Given

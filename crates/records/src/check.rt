@@ -10,11 +10,11 @@ ghost use Rattle.format.specs.Calls.{places, tree_given};
 ghost use Rattle.format.specs.Lent.{shared_lists};
 ghost use Rattle.records.specs.Check.{is_given, held_as, placed_by, state_after, item_of, item_as, first_in, parent_at, walked, told};
 
-use format::{Record, Records, kind_of};
+use format::{Record, Records, Refusal, kind_of};
 use octets::Characters;
 use tags::{has_bit, is_allowed, is_short, is_within_depth, latest_of, stage_after, with_bit};
-use text::{Weighed, characters_of, tokens_of, weigh};
-use values::{Kind, KnownKind, fits_kind, known_kind};
+use text::{characters_of, tokens_of, weigh};
+use values::{Kind, fits_kind, known_kind};
 
 // The element whose items are looked at: its tag (0 above the top), the number of its record, and the depth of the items in it.
 #[derive(Clone, Copy)]
@@ -25,6 +25,7 @@ pub struct Parent {
 }
 
 // What the items so far left behind in their element: the stage of its order, and the bits of its attributes.
+// Kept: the stage is a number, since rule 6 compares it, and what tags promises of stages is said of numbers (`latest_of`, `stage_after`).
 #[derive(Clone, Copy)]
 pub struct State {
     pub stage: u8,
@@ -57,15 +58,10 @@ pub fn is_text_kept(parent: u8, tag: u8, body: &[u8]) -> bool
     let none = &body[0..0];
     let marks = tokens_of(none);
     let shows = characters_of(none);
-    match weigh(marks, &shows, body, Characters(32_769)) {
-        Weighed::NoText => false,
-        Weighed::Text { covered, shown } => {
-            if covered {
-                return is_short(parent, tag, shown);
-            }
-            false
-        }
-    }
+    let Some(weighed) = weigh(marks, &shows, body, Characters(32_769)) else {
+        return false;
+    };
+    weighed.covered && is_short(parent, tag, weighed.shown)
 }
 
 fn check_kind(kind: Kind, parent: u8, tag: u8, body: &[u8]) -> Option<Held>
@@ -87,27 +83,23 @@ fn check_body(parent: u8, tag: u8, body: &[u8]) -> Option<Held>
     ensures { result ≡ held_as parent tag body.now (known parent tag) }
 {
     match known_kind(parent, tag) {
-        KnownKind::Unknown => None,
-        KnownKind::Known(kind) => check_kind(kind, parent, tag, body),
+        None => None,
+        Some(kind) => check_kind(kind, parent, tag, body),
     }
 }
 
 // Rules 4, 6, 7 and 8.
+#[tactic(auto, unfolding(crate::specs::Check::placed_by))]
 fn is_placed(parent: Parent, state: State, tag: u8) -> bool
     ensures { result ≡ placed_by parent state tag }
 {
-    if has_bit(state.mask, tag) {
-        return false;
-    }
-    if state.stage > latest_of(tag) {
-        return false;
-    }
-    if is_within_depth(tag, parent.depth) {
-        return is_allowed(parent.tag, tag);
-    }
-    false
+    is_allowed(parent.tag, tag)
+        && state.stage <= latest_of(tag)
+        && is_within_depth(tag, parent.depth)
+        && !has_bit(state.mask, tag)
 }
 
+#[tactic(auto, unfolding(crate::specs::Check::state_after))]
 fn state_after(parent: Parent, state: State, tag: u8) -> State
     ensures { result ≡ state_after parent state tag }
 {
@@ -121,6 +113,7 @@ fn state_after(parent: Parent, state: State, tag: u8) -> State
     }
 }
 
+#[tactic(auto, unfolding(crate::specs::Check::item_of))]
 fn item_of(held: Held, tag: u8, state: State) -> Item
     ensures { result ≡ item_of held tag state }
 {

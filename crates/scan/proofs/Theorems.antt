@@ -1,4 +1,5 @@
 -- The theorems that specs/Theorems states.
+use Rattle.std.specs.Prelude.{Ok, Err}
 use mathlib.Core.Path.{◌≡◌, refl, sym, ap, ◌∙◌}
 use mathlib.Core.Bool.{Bool, true, false, cond, ◌&&◌}
 use mathlib.Core.List.{List, [], ◌∷◌}
@@ -9,7 +10,6 @@ use lib.ListN.{length}
 use borrow.Author.Tests.{leb-true, leb-false, le-leb, ne_eqb}
 use Rattle.octets.proofs.Tests.{and_right, never}
 use Rattle.format.specs.declared.Refusal.{Refusal}
-use Rattle.format.specs.declared.ReadAnswer.TheVariants.{Records, NotRead}
 use Rattle.format.specs.Answers.{refusal}
 use Rattle.format.specs.Tree.{Items, count}
 use Rattle.format.specs.Judge.{Judged, judge, rule, unless, read, outermost}
@@ -52,7 +52,7 @@ judged-refusal : (o : List ℕ) (r : Refusal) → judge o ≡ refused r → OfOb
 judged-refusal [] r h = empty-refusal r h
 judged-refusal (b ∷ o) r h = let i = refusal-inside (b ∷ o) r (omega arith) h in record { least = i.least; most = i.most }
 
-answer-refused : (h : ℕ) (j : Judged) (r : Refusal) → judge_answer h j ≡ NotRead r → j ≡ refused r
+answer-refused : (h : ℕ) (j : Judged) (r : Refusal) → judge_answer h j ≡ Err r → j ≡ refused r
 unfolding judge_answer
 answer-refused h (refused q) r e = cc
 answer-refused h (accepted t) r e = never cc
@@ -66,21 +66,21 @@ unfolding judge_answer read_answer changed
 changes n h (refused r) f = let i = f r refl in rw (ne_eqb r.number 14 (λ e. omega (arith, i.most)))
 changes n h (accepted t) f = go (leb (count t) n)
   where
-    go : (b : Bool) → Records (counts_of h t) ≡ changed (Records (counts_of h t)) (cond b (Records (counts_of h t)) (NotRead (refusal 14 0)))
+    go : (b : Bool) → Ok (counts_of h t) ≡ changed (Ok (counts_of h t)) (cond b (Ok (counts_of h t)) (Err (refusal 14 0)))
     go true = refl
     go false = refl
 
 pub scan-changes : ScanChanges
 scan-changes object n = changes n (headers_of object) (judge object) (judged-refusal object)
 
-fourteen : (n : ℕ) (object : List ℕ) (j : Judged) → judge object ≡ j → (r : Refusal) → read_answer n (headers_of object) j ≡ NotRead r → r.number ≡ 14 → Fourteen n object r
+fourteen : (n : ℕ) (object : List ℕ) (j : Judged) → judge object ≡ j → (r : Refusal) → read_answer n (headers_of object) j ≡ Err r → r.number ≡ 14 → Fourteen n object r
 unfolding read_answer judge_answer
 fourteen n object (refused q) g r h e =
     let same : q.number ≡ r.number = cc in
     absurd (omega (arith, (judged-refusal object q g).most))
 fourteen n object (accepted t) g r h e = go (leb (count t) n) refl h
   where
-    go : (b : Bool) → leb (count t) n ≡ b → cond b (Records (counts_of (headers_of object) t)) (NotRead (refusal 14 0)) ≡ NotRead r → Fourteen n object r
+    go : (b : Bool) → leb (count t) n ≡ b → cond b (Ok (counts_of (headers_of object) t)) (Err (refusal 14 0)) ≡ Err r → Fourteen n object r
     go true f q = never cc
     go false f q =
         record {
@@ -97,13 +97,13 @@ fourteen n object (accepted t) g r h e = go (leb (count t) n) refl h
 pub fourteen-means : FourteenMeans
 fourteen-means object n r h e = fourteen n object (judge object) refl r h e
 
-stays : (n h : ℕ) (j : Judged) → ((r : Refusal) → read_answer n h j ≡ NotRead r → r.number ≡ 14 → ⊥) → judge_answer h j ≡ read_answer n h j
+stays : (n h : ℕ) (j : Judged) → ((r : Refusal) → read_answer n h j ≡ Err r → r.number ≡ 14 → ⊥) → judge_answer h j ≡ read_answer n h j
 unfolding read_answer judge_answer
 stays n h (refused r) f = refl
 stays n h (accepted t) f = fits (leb (count t) n) (f (refusal 14 0))
   where
-    fits : (b : Bool) → (cond b (Records (counts_of h t)) (NotRead (refusal 14 0)) ≡ NotRead (refusal 14 0) → ◌≡◌ {A = ℕ} 14 14 → ⊥)
-        → Records (counts_of h t) ≡ cond b (Records (counts_of h t)) (NotRead (refusal 14 0))
+    fits : (b : Bool) → (cond b (Ok (counts_of h t)) (Err (refusal 14 0)) ≡ Err (refusal 14 0) → ◌≡◌ {A = ℕ} 14 14 → ⊥)
+        → Ok (counts_of h t) ≡ cond b (Ok (counts_of h t)) (Err (refusal 14 0))
     fits true g = refl
     fits false g = absurd (g refl refl)
 
