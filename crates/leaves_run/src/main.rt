@@ -5,12 +5,11 @@
 // and `text`; here every function is safe and ends.
 #![tactic(auto)]
 
-use octets::Put;
-use std::fmt;
+use octets::PutError;
 use std::fmt::{Display, Formatter};
-use std::io::Result;
+use std::{fmt, io};
 use streams::read_full;
-use values::{Bearer, Ensemble, Kind, KnownKind, NumberKind, TakenBearer, TakenTime, Time};
+use values::{Bearer, Ensemble, Kind, NumberKind, Time};
 
 // More than all questions together have.
 const INPUT: usize = 131_072;
@@ -33,11 +32,10 @@ impl<'a> Display for Hex<'a> {
 }
 
 // What was put at the start of a room.
-fn put_in(room: &[u8], put: Put) -> Hex<'_> {
+fn put_in(room: &[u8], put: Result<usize, PutError>) -> Hex<'_> {
     match put {
-        Put::Done(end) => Hex(room.get(..end).unwrap_or(&[])),
-        Put::NoRoom => Hex(&[]),
-        Put::Invalid => Hex(&[]),
+        Ok(end) => Hex(room.get(..end).unwrap_or(&[])),
+        Err(_) => Hex(&[]),
     }
 }
 
@@ -61,13 +59,10 @@ fn known_kind(s: &[u8]) -> Option<Kind> {
     let [element, tag] = s else {
         return None;
     };
-    match values::known_kind(*element, *tag) {
-        KnownKind::Unknown => None,
-        KnownKind::Known(kind) => Some(kind),
-    }
+    values::known_kind(*element, *tag)
 }
 
-fn answer_kind(rt: &HostRuntime, s: &[u8]) -> Result<()> {
+fn answer_kind(rt: &HostRuntime, s: &[u8]) -> io::Result<()> {
     print!(rt; "kind {}", known_kind(s).map_or("unknown", kind_word))
 }
 
@@ -78,7 +73,7 @@ fn yes_or_no(yes: bool) -> &'static str {
 }
 
 // Whether the octets behind an element and a tag are the default of that attribute.
-fn answer_default(rt: &HostRuntime, s: &[u8]) -> Result<()> {
+fn answer_default(rt: &HostRuntime, s: &[u8]) -> io::Result<()> {
     let is_default = match s {
         [element, tag, body @ ..] => values::is_default(*element, *tag, body),
         _ => false,
@@ -87,7 +82,7 @@ fn answer_default(rt: &HostRuntime, s: &[u8]) -> Result<()> {
 }
 
 // The first octet says whether token octets may stand in the text.
-fn answer_text(rt: &HostRuntime, s: &[u8]) -> Result<()> {
+fn answer_text(rt: &HostRuntime, s: &[u8]) -> io::Result<()> {
     let is_text = match s {
         [tokens, text @ ..] => text::check(text, *tokens != 0),
         [] => false,
@@ -97,7 +92,7 @@ fn answer_text(rt: &HostRuntime, s: &[u8]) -> Result<()> {
 
 // ---- T and O
 
-fn say_time(rt: &HostRuntime, time: Time) -> Result<()> {
+fn say_time(rt: &HostRuntime, time: Time) -> io::Result<()> {
     let sense = if time.minus { "minus" } else { "plus" };
     let mut room = [0u8; OCTETS];
     let put = time.canonical().put(&mut room, 0);
@@ -113,14 +108,14 @@ fn say_time(rt: &HostRuntime, time: Time) -> Result<()> {
 }
 
 // Of octets that are no time, the field that is wrong, by its number.
-fn answer_time(rt: &HostRuntime, s: &[u8]) -> Result<()> {
+fn answer_time(rt: &HostRuntime, s: &[u8]) -> io::Result<()> {
     match Time::take(s) {
-        TakenTime::Good(time) => say_time(rt, time),
-        TakenTime::Bad(field) => print!(rt; "time bad {field}"),
+        Ok(time) => say_time(rt, time),
+        Err(error) => print!(rt; "time bad {}", u8::from(error)),
     }
 }
 
-fn say_local(rt: &HostRuntime, time: Time) -> Result<()> {
+fn say_local(rt: &HostRuntime, time: Time) -> io::Result<()> {
     let local = time.local();
     print!(rt;
         "local {} {} {} {}",
@@ -128,30 +123,30 @@ fn say_local(rt: &HostRuntime, time: Time) -> Result<()> {
     )
 }
 
-fn answer_local(rt: &HostRuntime, s: &[u8]) -> Result<()> {
+fn answer_local(rt: &HostRuntime, s: &[u8]) -> io::Result<()> {
     match Time::take(s) {
-        TakenTime::Good(time) => say_local(rt, time),
-        TakenTime::Bad(_) => print!(rt; "local none"),
+        Ok(time) => say_local(rt, time),
+        Err(_) => print!(rt; "local none"),
     }
 }
 
 // ---- B
 
-fn say_ensemble(rt: &HostRuntime, ensemble: Ensemble) -> Result<()> {
+fn say_ensemble(rt: &HostRuntime, ensemble: Option<Ensemble>) -> io::Result<()> {
     match ensemble {
-        Ensemble::Absent => Ok(()),
-        Ensemble::Present { ecc, eid } => print!(rt; " {ecc:02x} {eid:04x}"),
+        None => Ok(()),
+        Some(ensemble) => print!(rt; " {:02x} {:04x}", ensemble.ecc, ensemble.eid),
     }
 }
 
-fn say_sid(rt: &HostRuntime, long: bool, sid: u32) -> Result<()> {
+fn say_sid(rt: &HostRuntime, long: bool, sid: u32) -> io::Result<()> {
     if long {
         return print!(rt; " sid {sid:08x}");
     }
     print!(rt; " sid {sid:04x}")
 }
 
-fn say_bearer(rt: &HostRuntime, bearer: Bearer) -> Result<()> {
+fn say_bearer(rt: &HostRuntime, bearer: Bearer) -> io::Result<()> {
     let mut room = [0u8; OCTETS];
     let put = bearer.put(&mut room, 0);
     print!(rt; "bearer")?;
@@ -160,16 +155,16 @@ fn say_bearer(rt: &HostRuntime, bearer: Bearer) -> Result<()> {
     print!(rt; " scids {} normal {}", bearer.scids, put_in(&room, put))
 }
 
-fn answer_bearer(rt: &HostRuntime, s: &[u8]) -> Result<()> {
+fn answer_bearer(rt: &HostRuntime, s: &[u8]) -> io::Result<()> {
     match Bearer::take(s) {
-        TakenBearer::Good(bearer) => say_bearer(rt, bearer),
-        TakenBearer::Bad => print!(rt; "bearer none"),
+        Some(bearer) => say_bearer(rt, bearer),
+        None => print!(rt; "bearer none"),
     }
 }
 
 // ---- the questions
 
-fn answer(rt: &HostRuntime, letter: u8, s: &[u8]) -> Result<()> {
+fn answer(rt: &HostRuntime, letter: u8, s: &[u8]) -> io::Result<()> {
     match letter {
         b'K' => answer_kind(rt, s)?,
         b'D' => answer_default(rt, s)?,
@@ -183,7 +178,7 @@ fn answer(rt: &HostRuntime, letter: u8, s: &[u8]) -> Result<()> {
 }
 
 // Up to the end of the input, or to a question that it cuts short.
-fn run(rt: &HostRuntime, input: &[u8]) -> Result<()> {
+fn run(rt: &HostRuntime, input: &[u8]) -> io::Result<()> {
     let mut left = input;
     while let [letter, size, behind @ ..] = left {
         let Some((body, next)) = behind.split_at_checked(*size as usize) else {

@@ -1,5 +1,6 @@
 -- An example recording and every cut of it, computed: an object with two records, one with a size of 0, one whose body is cut, and the first again. The same
 -- lines come from the second program.
+use Rattle.std.specs.Prelude.{Err}
 use mathlib.Core.Path.{◌≡◌, refl}
 use mathlib.Core.Bool.{true, false}
 use mathlib.Core.List.{List, [], ◌∷◌, map}
@@ -11,7 +12,6 @@ use Rattle.format.specs.Calls.{read_answer}
 use Rattle.format.specs.Same.{same_octets}
 use Rattle.show.specs.Digits.{tens, decimal}
 use Rattle.show.specs.Lines.{ascii, line}
-use Rattle.recording.specs.declared.Opened.{Opened}
 use Rattle.recording.specs.declared.Next.{Next}
 use Rattle.recording.specs.Recording.{mark, announced, whole, stopped, preceded, walk, objects_at, refused_with, recording_of}
 use Rattle.recording.specs.Lines.{ok_line, placed, bad_line, answer_line, file_line, answer_lines, end_line, listing, replay, by_read}
@@ -72,7 +72,7 @@ lines-told = refl
 
 -- ---- another mark, another version, and one that says 1 the other way round
 pub marks : map open_of ((0x53 ∷ 0x50 ∷ 0x51 ∷ 0x00 ∷ 0x01 ∷ []) ∷ (0x53 ∷ 0x50 ∷ 0x52 ∷ 0x00 ∷ 0x02 ∷ []) ∷ (0x53 ∷ 0x50 ∷ 0x52 ∷ 0x01 ∷ 0x00 ∷ []) ∷ (0x53 ∷ 0x50 ∷ 0x51 ∷ 0x00 ∷ []) ∷ [])
-    ≡ Opened.Refused (refusal 23 0) ∷ Opened.Refused (refusal 23 0) ∷ Opened.Refused (refusal 23 0) ∷ Opened.Refused (refusal 24 0) ∷ []
+    ≡ Err (refusal 23 0) ∷ Err (refusal 23 0) ∷ Err (refusal 23 0) ∷ Err (refusal 24 0) ∷ []
 unfolding open_of mark same_octets
 marks = refl
 

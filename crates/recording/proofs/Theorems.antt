@@ -1,4 +1,5 @@
 -- The theorems that specs/Theorems states, of whole recordings and their listings. Those of windows are in Windows.
+use Rattle.std.specs.Prelude.{Result, Ok, Err}
 use mathlib.Core.Path.{◌≡◌, refl, sym, ap, ap₂, subst, ◌∙◌}
 use mathlib.Core.Bool.{Bool, true, false, cond}
 use mathlib.Core.Option.{Option, none}
@@ -11,11 +12,10 @@ use lib.Seq.{take-take, take_all, take_at, drop_at}
 use borrow.Author.Tests.{ltb-true, ltb-false, lt-ltb, le-ltb, le-leb, lt-leb, eq-eqb}
 use Rattle.octets.proofs.Numbers.{octets-drop}
 use Rattle.format.specs.declared.Refusal.{Refusal}
-use Rattle.format.specs.declared.ReadAnswer.{ReadAnswer}
 use Rattle.format.specs.Answers.{refusal}
 use Rattle.format.specs.Same.{same_octets}
 use Rattle.format.proofs.Same.{same-octets}
-use Rattle.recording.specs.declared.Opened.{Opened}
+use Rattle.format.specs.declared.Counts.{Counts}
 use Rattle.recording.specs.Recording.{mark, run, recorded, Recording, objects_at, refused_with, recording_of}
 use Rattle.recording.specs.Lines.{answer_line, answer_lines, end_line, listing}
 use Rattle.recording.specs.Calls.{open_of}
@@ -153,7 +153,8 @@ cut-between o k e =
 starts-next : (a b c : List ℕ) → Starts b c → Starts (a ++ b) (a ++ c)
 starts-next a b c s = record { rest = s.rest; is = ap (λ (x : List ℕ). a ++ x) s.is ∙ sym (append_assoc a b s.rest) }
 
-lines_start : (answer : List ℕ → ReadAnswer) (bs : List (List ℕ)) (i room : ℕ) → Starts (answer_lines i (map answer (whole_in room bs))) (answer_lines i (map answer bs))
+lines_start : (answer : List ℕ → Result Counts Refusal) (bs : List (List ℕ)) (i room : ℕ)
+    → Starts (answer_lines i (map answer (whole_in room bs))) (answer_lines i (map answer bs))
 unfolding whole_in answer_lines
 lines_start answer [] i room = record { rest = []; is = refl }
 lines_start answer (b ∷ bs) i room = go (leb (2 + length b) room) (lines_start answer bs (suc i) (room - (2 + length b)))
@@ -183,7 +184,7 @@ open-tells o = go (ltb (length o) 5) (same_octets (take 5 o) mark)
   where
     go : (a b : Bool)
         → cond a (refused_with 24) (cond b (objects_at 5 (drop 5 o)) (refused_with 23))
-        ≡ begun o (cond a (Opened.Refused (refusal 24 0)) (cond b (Opened.Begins 5) (Opened.Refused (refusal 23 0))))
+        ≡ begun o (cond a (Err (refusal 24 0)) (cond b (Ok 5) (Err (refusal 23 0))))
     go true b = refl
     go false true = refl
     go false false = refl
@@ -201,17 +202,17 @@ five-suffice o n h = go (ltb (length o) 5) refl
 
 -- ---- a program that goes by windows
 module _ (o : List ℕ) (n : ℕ) (h : 5 ≤ n) where
-  opened-as : (a : Opened) → open_of (take n o) ≡ a → recording_of o ≡ begun o a
+  opened-as : (a : Result ℕ Refusal) → open_of (take n o) ≡ a → recording_of o ≡ begun o a
   opened-as a e = open-tells o ∙ ap (begun o) (sym (five-suffice o n h) ∙ e)
 
 pub windows-replay : WindowsReplay
 unfolding begun
 windows-replay answer o n h at e held rest q r g =
-    ap (listing answer) (windows-tell at held rest r g ∙ ap (objects_at at) q ∙ sym (opened-as o n h (Opened.Begins at) e))
+    ap (listing answer) (windows-tell at held rest r g ∙ ap (objects_at at) q ∙ sym (opened-as o n h (Ok at) e))
 
 pub refused-replay : RefusedReplay
 unfolding begun listing answer_lines end_line
-refused-replay answer o n h r e = sym (ap (listing answer) (opened-as o n h (Opened.Refused r) e))
+refused-replay answer o n h r e = sym (ap (listing answer) (opened-as o n h (Err r) e))
 
 pub one-listing : OneListing
 one-listing at held rest held' rest' e r r' g g' = windows-tell at held rest r g ∙ ap (objects_at at) e ∙ sym (windows-tell at held' rest' r' g')

@@ -1,4 +1,5 @@
 -- The ways through the code.
+use Rattle.std.specs.Prelude.{Ok, Err}
 use mathlib.Core.Path.{◌≡◌, refl, sym, ap, ◌∙◌}
 use mathlib.Core.Bool.{Bool, true, false, not}
 use mathlib.Core.List.{List, [], ◌∷◌}
@@ -15,7 +16,6 @@ use Rattle.format.specs.declared.Refusal.{Refusal}
 use Rattle.format.specs.Answers.{refusal}
 use Rattle.format.specs.Same.{same_octets}
 use Rattle.format.proofs.Same.{same-octets, octets-same}
-use Rattle.recording.specs.declared.Opened.{Opened}
 use Rattle.recording.specs.declared.Next.{Next}
 use Rattle.recording.specs.Recording.{mark, announced}
 use Rattle.recording.specs.Calls.{open_of, short_of, step_of}
@@ -23,18 +23,18 @@ use Rattle.recording.proofs.Walk.{fits_whole, short-part}
 
 -- ---- open
 module _ (o : List ℕ) where
-  pub open-short : length o < 5 → (r : Refusal) → r ≡ refusal 24 0 → Opened.Refused r ≡ open_of o
+  pub open-short : length o < 5 → (r : Refusal) → r ≡ refusal 24 0 → Err r ≡ open_of o
   unfolding open_of
-  open-short h r e = ap Opened.Refused e ∙ rw (lt-ltb (length o) 5 h)
+  open-short h r e = ap Err e ∙ rw (lt-ltb (length o) 5 h)
 
   module _ (h : 5 ≤ length o) (m : Bool) (e : m ≡ starts_with eqb o (0x53 ∷ 0x50 ∷ 0x52 ∷ 0x00 ∷ 0x01 ∷ [])) where
-    pub open-marked : m ≡ true → Opened.Begins 5 ≡ open_of o
+    pub open-marked : m ≡ true → Ok 5 ≡ open_of o
     unfolding open_of mark
     open-marked q = rw (le-ltb (length o) 5 h, ← same_text mark (take 5 o) (sym q ∙ e), octets-same mark)
 
-    pub open-other : m ≡ false → (r : Refusal) → r ≡ refusal 23 0 → Opened.Refused r ≡ open_of o
+    pub open-other : m ≡ false → (r : Refusal) → r ≡ refusal 23 0 → Err r ≡ open_of o
     unfolding open_of mark
-    open-other q r z = ap Opened.Refused z ∙ rw (le-ltb (length o) 5 h, other (same_octets (take 5 o) mark) refl)
+    open-other q r z = ap Err z ∙ rw (le-ltb (length o) 5 h, other (same_octets (take 5 o) mark) refl)
       where
         other : (b : Bool) → same_octets (take 5 o) mark ≡ b → same_octets (take 5 o) mark ≡ false
         other true k = absurd (other_text mark (take 5 o) (sym q ∙ e) (sym (same-octets (take 5 o) mark k)))

@@ -1,4 +1,5 @@
 -- The ways through the code that makes lines.
+use Rattle.std.specs.Prelude.{Result, Ok, Err}
 use mathlib.Core.Path.{◌≡◌, refl, ap, ◌∙◌}
 use mathlib.Core.Bool.{true}
 use mathlib.Core.List.{List, [], ◌∷◌, ◌++◌}
@@ -9,14 +10,13 @@ use mir.Syntax.{w64}
 use mir.Val.{Fits}
 use borrow.Author.Tests.{ne_eqb}
 use Rattle.octets.specs.Puts.{Puts, Lays}
-use Rattle.octets.specs.declared.Put.{Put}
 use Rattle.octets.proofs.Lists.{part-of-sets}
 use Rattle.octets.proofs.Left.{lays-length}
 use Rattle.octets.proofs.Puts.{put-laid, put-room, put-there}
+use Rattle.octets.specs.declared.PutError.{PutError}
+use Rattle.octets.specs.declared.PutError.TheVariants.{NoRoom, Invalid}
 use Rattle.format.specs.declared.Refusal.{Refusal}
 use Rattle.format.specs.declared.Counts.{Counts}
-use Rattle.format.specs.declared.ReadAnswer.{ReadAnswer}
-use Rattle.format.specs.declared.ReadAnswer.TheVariants.{Records, NotRead}
 use Rattle.show.specs.Digits.{decimal}
 use Rattle.show.specs.Lines.{line}
 use Rattle.show.proofs.Digits.{decimal-few}
@@ -24,11 +24,12 @@ use Rattle.show.proofs.Writing.{word_room, word_in, word_end, word-done}
 use Rattle.recording.specs.Lines.{ok_line, placed, bad_line, answer_line}
 
 -- ---- a word with the character behind it, put where both are known to fit
-module _ (w : List ℕ) (b at : ℕ) (out : List ℕ) (h : at + length w + 1 ≤ length out) (out' : List ℕ) (answer : Put) (p : Puts true w at out out' answer) where
+module _ (w : List ℕ) (b at : ℕ) (out : List ℕ) (h : at + length w + 1 ≤ length out) (out' : List ℕ)
+    (answer : Result ℕ PutError) (p : Puts true w at out out' answer) where
   room : at + length (w ++ (b ∷ [])) ≤ length out
   room = omega (arith, length-append w (b ∷ []))
 
-  module _ (end : ℕ) (q : answer ≡ Put.Done end) where
+  module _ (end : ℕ) (q : answer ≡ Ok end) where
     laid : Lays w at out out' end
     laid = put-laid true w at out out' answer p end q
 
@@ -45,28 +46,27 @@ module _ (w : List ℕ) (b at : ℕ) (out : List ℕ) (h : at + length w + 1 ≤
     put-ends = omega (arith, laid.ends)
 
   -- nothing else is answered
-  module _ (to : ℕ) where
-    pub put-none : answer ≡ Put.NoRoom → Lays (w ++ (b ∷ [])) at out out' to
-    put-none q = put-room true w at out out' answer p (word_room w b at out room) q
+  none-else : {A : Type 0} (e : PutError) → answer ≡ Err e → A
+  none-else NoRoom q = put-room true w at out out' answer p (word_room w b at out room) q
+  none-else Invalid q = put-there true w at out out' answer p refl q
 
-    pub put-none-ends : answer ≡ Put.NoRoom → to ≡ at + length w + 1
-    put-none-ends q = put-room true w at out out' answer p (word_room w b at out room) q
+  module _ (to : ℕ) (e : PutError) (q : answer ≡ Err e) where
+    pub put-none : Lays (w ++ (b ∷ [])) at out out' to
+    put-none = none-else e q
 
-    pub put-not : answer ≡ Put.Invalid → Lays (w ++ (b ∷ [])) at out out' to
-    put-not q = put-there true w at out out' answer p refl q
-
-    pub put-not-ends : answer ≡ Put.Invalid → to ≡ at + length w + 1
-    put-not-ends q = put-there true w at out out' answer p refl q
+    pub put-none-ends : to ≡ at + length w + 1
+    put-none-ends = none-else e q
 
 few : (n : ℕ) → n < 2 ^ 64 → length (decimal n) ≤ 20
 few n h = decimal-few 19 n (omega arith)
 
 -- a number, of which only is known that it has at most 20 digits
-module _ (n b at : ℕ) (s : n < 2 ^ 64) (out : List ℕ) (h : at + 21 ≤ length out) (out' : List ℕ) (answer : Put) (p : Puts true (decimal n) at out out' answer) where
+module _ (n b at : ℕ) (s : n < 2 ^ 64) (out : List ℕ) (h : at + 21 ≤ length out) (out' : List ℕ) (answer : Result ℕ PutError)
+    (p : Puts true (decimal n) at out out' answer) where
   enough : at + length (decimal n) + 1 ≤ length out
   enough = omega (arith, few n s)
 
-  module _ (end : ℕ) (q : answer ≡ Put.Done end) where
+  module _ (end : ℕ) (q : answer ≡ Ok end) where
     pub number_in : end < length out'
     number_in = put_in (decimal n) b at out enough out' answer p end q
 
@@ -79,15 +79,12 @@ module _ (n b at : ℕ) (s : n < 2 ^ 64) (out : List ℕ) (h : at + 21 ≤ lengt
     pub number-ends : end + 1 ≤ at + 21
     number-ends = omega (arith, few n s, put-ends (decimal n) b at out enough out' answer p end q)
 
-  pub number-none : answer ≡ Put.NoRoom → Lays (decimal n ++ (b ∷ [])) at out out' at
-  number-none q = put-none (decimal n) b at out enough out' answer p at q
+  pub number-none : (e : PutError) → answer ≡ Err e → Lays (decimal n ++ (b ∷ [])) at out out' at
+  number-none e q = put-none (decimal n) b at out enough out' answer p at e q
 
-  pub number-not : answer ≡ Put.Invalid → Lays (decimal n ++ (b ∷ [])) at out out' at
-  number-not q = put-not (decimal n) b at out enough out' answer p at q
+pub ruleset word-ways = (put_in, put-fits, put_word, put-ends, put-none, put-none-ends)
 
-pub ruleset word-ways = (put_in, put-fits, put_word, put-ends, put-none, put-none-ends, put-not, put-not-ends)
-
-pub ruleset number-ways = (number_in, number_fits, number_word, number-ends, number-none, number-not)
+pub ruleset number-ways = (number_in, number_fits, number_word, number-ends, number-none)
 
 -- behind the place of a 9 stands the field, and of any other refusal the place is the end
 module _ (r : Refusal) where
@@ -110,12 +107,12 @@ module _ (r : Refusal) where
 pub ruleset place-ways = (place-more, place-last)
 
 -- ---- an answer's line
-module _ (number : ℕ) (answer : ReadAnswer) (out out' : List ℕ) (end : ℕ) where
-  pub answer_ok : (counts : Counts) → answer ≡ Records counts → Lays (ok_line number counts.records) 0 out out' end → Lays (answer_line number answer) 0 out out' end
+module _ (number : ℕ) (answer : Result Counts Refusal) (out out' : List ℕ) (end : ℕ) where
+  pub answer_ok : (counts : Counts) → answer ≡ Ok counts → Lays (ok_line number counts.records) 0 out out' end → Lays (answer_line number answer) 0 out out' end
   unfolding answer_line
   answer_ok counts e k = rw e k
 
-  pub answer-bad : (r : Refusal) → answer ≡ NotRead r → Lays (bad_line number r) 0 out out' end → Lays (answer_line number answer) 0 out out' end
+  pub answer-bad : (r : Refusal) → answer ≡ Err r → Lays (bad_line number r) 0 out out' end → Lays (answer_line number answer) 0 out out' end
   unfolding answer_line
   answer-bad r e k = rw e k
 
@@ -127,6 +124,6 @@ line-is text before after end w h =
     let e : end ≡ length text = omega (arith, w.ends) in
     ap (λ n. take n after) e ∙ ap (take (length text)) w.leaves ∙ part-of-sets before 0 text (omega (arith, lays-length text 0 before after end w))
 
-pub line-put : (text before after : List ℕ) (end : ℕ) → Lays text 0 before after end → end ≤ length after → (at : ℕ) (out out' : List ℕ) (r : Put)
+pub line-put : (text before after : List ℕ) (end : ℕ) → Lays text 0 before after end → end ≤ length after → (at : ℕ) (out out' : List ℕ) (r : Result ℕ PutError)
     → Puts true (take end after) at out out' r → Puts true text at out out' r
 line-put text before after end w h at out out' r p = rw (line-is text before after end w h) at p

@@ -1,11 +1,10 @@
 -- What is proved of recordings and of their listings (change request 2026-12).
-use Rattle.std.specs.Prelude.{◌≡◌, Bool, true, false, cond, List, [], ◌∷◌, ◌++◌, map, ℕ, ◌+◌, ◌-◌, ◌^◌, ◌≤◌, ◌<◌, eqb, leb, length, take, drop}
+use Rattle.std.specs.Prelude.{◌≡◌, Bool, true, false, cond, List, [], ◌∷◌, ◌++◌, map, ℕ, ◌+◌, ◌-◌, ◌^◌, ◌≤◌, ◌<◌, eqb, leb, length, take, drop, Result, Ok, Err}
 use Rattle.std.proofs.Math.Option.{Option, none, some}
 use Rattle.octets.specs.Numbers.{Octets}
 use Rattle.format.specs.declared.Refusal.{Refusal}
-use Rattle.format.specs.declared.ReadAnswer.{ReadAnswer}
 use Rattle.format.specs.Answers.{refusal}
-use Rattle.recording.specs.declared.Opened.{Opened}
+use Rattle.format.specs.declared.Counts.{Counts}
 use Rattle.recording.specs.declared.Next.{Next}
 use Rattle.recording.specs.Recording.{mark, recorded, Recording, preceded, objects_at, recording_of}
 use Rattle.recording.specs.Lines.{file_line, answer_lines, listing, replay}
@@ -63,21 +62,21 @@ pub record Starts (short full : List ℕ) : Type 0 where
 
 abbrev pub CutLists : Type 0
 CutLists =
-    (answer : List ℕ → ReadAnswer) (octets : List ℕ) (n : ℕ) → 5 ≤ n
+    (answer : List ℕ → Result Counts Refusal) (octets : List ℕ) (n : ℕ) → 5 ≤ n
     → Starts (answer_lines 1 (map answer (recording_of (take n octets)).objects)) (answer_lines 1 (map answer (recording_of octets).objects))
 
 -- the listing is the objects' own lines, one behind the other
 abbrev pub LinesJoin : Type 0
 LinesJoin =
-    (answer : List ℕ → ReadAnswer) (number : ℕ) (first second : List (List ℕ))
+    (answer : List ℕ → Result Counts Refusal) (number : ℕ) (first second : List (List ℕ))
     → answer_lines number (map answer (first ++ second)) ≡ answer_lines number (map answer first) ++ answer_lines (number + length first) (map answer second)
 
 -- ---- going over a recording by windows
 
 -- open says how a recording begins, and five octets suffice
-unfoldable pub begun : List ℕ → Opened → Recording
-begun octets (Opened.Begins at) = objects_at at (drop at octets)
-begun octets (Opened.Refused r) = record { objects = []; ends = some r }
+unfoldable pub begun : List ℕ → Result ℕ Refusal → Recording
+begun octets (Ok at) = objects_at at (drop at octets)
+begun octets (Err r) = record { objects = []; ends = some r }
 
 abbrev pub OpenTells : Type 0
 OpenTells = (octets : List ℕ) → recording_of octets ≡ begun octets (open_of octets)
@@ -103,12 +102,14 @@ WindowsTell = (at : ℕ) (held rest : List ℕ) (r : Recording) → Goes at held
 -- one line is that
 abbrev pub WindowsReplay : Type 0
 WindowsReplay =
-    (answer : List ℕ → ReadAnswer) (octets : List ℕ) (n : ℕ) → 5 ≤ n → (at : ℕ) → open_of (take n octets) ≡ Opened.Begins at
+    (answer : List ℕ → Result Counts Refusal) (octets : List ℕ) (n : ℕ) → 5 ≤ n → (at : ℕ) → open_of (take n octets) ≡ Ok at
     → (held rest : List ℕ) → held ++ rest ≡ drop at octets → (r : Recording) → Goes at held rest r
     → listing answer r ≡ replay answer octets
 
 abbrev pub RefusedReplay : Type 0
-RefusedReplay = (answer : List ℕ → ReadAnswer) (octets : List ℕ) (n : ℕ) → 5 ≤ n → (r : Refusal) → open_of (take n octets) ≡ Opened.Refused r → file_line r ≡ replay answer octets
+RefusedReplay =
+    (answer : List ℕ → Result Counts Refusal) (octets : List ℕ) (n : ℕ) → 5 ≤ n → (r : Refusal) → open_of (take n octets) ≡ Err r
+    → file_line r ≡ replay answer octets
 
 -- so there is only one listing: two programs that hold what they will of the same octets find the same
 abbrev pub OneListing : Type 0

@@ -11,13 +11,6 @@ mod lines;
 
 pub use lines::{put_answer, put_file};
 
-// How a recording begins: with its first object's size at a place, or with a refusal.
-#[derive(Clone, Copy)]
-pub enum Opened {
-    Begins(usize),
-    Refused(Refusal),
-}
-
 // What stands at a place of a window. Object: a whole one, with its start in the window and its size; the next stands just behind it. More: the window
 // doesn't hold a whole one, and more may follow it. End: nothing is left. Cut: the recording is cut inside a size or an object.
 #[derive(Clone, Copy)]
@@ -28,17 +21,17 @@ pub enum Next {
     Cut,
 }
 
-// The mark and the version. Whoever reads a file piece by piece calls this when it has five octets, or all.
-pub fn open(octets: &[u8]) -> Opened
+// The mark and the version: the place of the first object's size, or a refusal. Whoever reads a file piece by piece calls this when it has five octets, or all.
+pub fn open(octets: &[u8]) -> Result<usize, Refusal>
     ensures { result ≡ open_of octets.now }
 {
     if octets.len() < 5 {
-        return Opened::Refused(refuse(24, 0));
+        return Err(refuse(24, 0));
     }
     if octets.starts_with(b"SPR\x00\x01") {
-        return Opened::Begins(5);
+        return Ok(5);
     }
-    Opened::Refused(refuse(23, 0))
+    Err(refuse(23, 0))
 }
 
 // What stands at a place of a window; `last` says that nothing follows the window in the file. A window of 65,537 octets always holds a whole object, if one is

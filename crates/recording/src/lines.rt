@@ -5,8 +5,8 @@ ghost use Rattle.show.specs.Digits.{decimal};
 ghost use Rattle.show.specs.Lines.{line};
 ghost use Rattle.recording.specs.Lines.{ok_line, placed, bad_line, answer_line, file_line};
 
-use format::{ReadAnswer, Refusal};
-use octets::{Put, copy_into};
+use format::{Counts, Refusal};
+use octets::{PutError, copy_into};
 use show::{put_bytes, put_decimal};
 
 // No line is longer: four numbers of at most 20 digits, each with the character behind it.
@@ -24,12 +24,11 @@ fn number_word(room: &mut [u8], at: usize, n: usize, behind: u8) -> usize
     ensures upper_bound { result ≤ at + 21 }
 {
     match put_decimal(room, at, n) {
-        Put::Done(end) => {
+        Ok(end) => {
             room[end] = behind;
             end + 1
         }
-        Put::NoRoom => at,
-        Put::Invalid => at,
+        Err(_) => at,
     }
 }
 
@@ -39,12 +38,11 @@ fn octets_word(room: &mut [u8], at: usize, s: &[u8], behind: u8) -> usize
     ensures value { result ≡ at + length s.now + 1 }
 {
     match put_bytes(room, at, s) {
-        Put::Done(end) => {
+        Ok(end) => {
             room[end] = behind;
             end + 1
         }
-        Put::NoRoom => at,
-        Put::Invalid => at,
+        Err(_) => at,
     }
 }
 
@@ -81,13 +79,13 @@ fn lay_bad(room: &mut [u8; LONGEST], number: usize, r: Refusal) -> usize
     lay_place(room, place, r)
 }
 
-fn lay_answer(room: &mut [u8; LONGEST], number: usize, answer: ReadAnswer) -> usize
+fn lay_answer(room: &mut [u8; LONGEST], number: usize, answer: Result<Counts, Refusal>) -> usize
     ensures lays { Lays (answer_line number answer) 0 room.old room.new result }
     ensures upper_bound { result ≤ length room.new }
 {
     match answer {
-        ReadAnswer::Records(counts) => lay_ok(room, number, counts.records),
-        ReadAnswer::NotRead(refusal) => lay_bad(room, number, refusal),
+        Ok(counts) => lay_ok(room, number, counts.records),
+        Err(refusal) => lay_bad(room, number, refusal),
     }
 }
 
@@ -101,7 +99,12 @@ fn lay_file(room: &mut [u8; LONGEST], r: Refusal) -> usize
 }
 
 // The line of an object, by its number in the recording and its answer.
-pub fn put_answer(out: &mut [u8], at: usize, number: usize, answer: ReadAnswer) -> Put
+pub fn put_answer(
+    out: &mut [u8],
+    at: usize,
+    number: usize,
+    answer: Result<Counts, Refusal>,
+) -> Result<usize, PutError>
     ensures { Puts true (answer_line number answer) at out.old out.new result }
 {
     let mut line = [0u8; LONGEST];
@@ -110,7 +113,7 @@ pub fn put_answer(out: &mut [u8], at: usize, number: usize, answer: ReadAnswer) 
 }
 
 // The last line of a replay whose recording is refused.
-pub fn put_file(out: &mut [u8], at: usize, r: Refusal) -> Put
+pub fn put_file(out: &mut [u8], at: usize, r: Refusal) -> Result<usize, PutError>
     ensures { Puts true (file_line r) at out.old out.new result }
 {
     let mut line = [0u8; LONGEST];

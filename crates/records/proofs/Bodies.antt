@@ -52,16 +52,16 @@ module _ (parent tag : ℕ) (body o : List ℕ) (marks : ℕ) (m : Marks marks (
 
   module _ (c : Bool) (n : Characters) (f : r ≡ Some (covered_shown c n)) where
     covers : c ≡ covered [] body
-    covers = weighed-covered (entries (take 0 o)) marks shows m k body (as_characters 32_769) r e c n f ∙ ap (λ es. covered es body) (no-entries o)
+    covers = weighed-covered (entries (take 0 o)) marks shows m k body (as_characters 32_769) r e (covered_shown c n) f ∙ ap (λ es. covered es body) (no-entries o)
 
     pub text-tokens : c ≡ false → false ≡ Kept
     text-tokens g = no_text (λ q. false≢true (sym g ∙ covers ∙ plain-text-covered body q))
 
     pub text-bare : c ≡ true → (b : Bool) → b ≡ shown parent tag n → b ≡ Kept
     text-bare g b h =
-        let t : text false body ≡ true = text-plain body (weighed-text (entries (take 0 o)) marks shows m k body (as_characters 32_769) r e c n f) (sym covers ∙ g) in
+        let t : text false body ≡ true = text-plain body (weighed-text (entries (take 0 o)) marks shows m k body (as_characters 32_769) r e (covered_shown c n) f) (sym covers ∙ g) in
         let s : n ≡ as_characters (min 32_769 (shown_length [] body).0) =
-        weighed-shown (entries (take 0 o)) marks shows m k body (as_characters 32_769) r e c n f ∙ ap (λ es. as_characters (min 32_769 (shown_length es body).0)) (no-entries o) in
+        weighed-shown (entries (take 0 o)) marks shows m k body (as_characters 32_769) r e (covered_shown c n) f ∙ ap (λ es. as_characters (min 32_769 (shown_length es body).0)) (no-entries o) in
         rw t (h ∙ ap (shown parent tag) s ∙ capped-shown parent tag (shown_length [] body))
 
 -- only CDATA may have a limit

@@ -13,7 +13,7 @@ ghost use Rattle.records.specs.Check.{is_given, held_as, placed_by, state_after,
 use format::{Record, Records, Refusal, kind_of};
 use octets::Characters;
 use tags::{has_bit, is_allowed, is_short, is_within_depth, latest_of, stage_after, with_bit};
-use text::{Weighed, characters_of, tokens_of, weigh};
+use text::{characters_of, tokens_of, weigh};
 use values::{Kind, fits_kind, known_kind};
 
 // The element whose items are looked at: its tag (0 above the top), the number of its record, and the depth of the items in it.
@@ -25,6 +25,7 @@ pub struct Parent {
 }
 
 // What the items so far left behind in their element: the stage of its order, and the bits of its attributes.
+// Kept: the stage is a number, since rule 6 compares it, and what tags promises of stages is said of numbers (`latest_of`, `stage_after`).
 #[derive(Clone, Copy)]
 pub struct State {
     pub stage: u8,
@@ -57,10 +58,10 @@ pub fn is_text_kept(parent: u8, tag: u8, body: &[u8]) -> bool
     let none = &body[0..0];
     let marks = tokens_of(none);
     let shows = characters_of(none);
-    match weigh(marks, &shows, body, Characters(32_769)) {
-        None => false,
-        Some(Weighed { covered, shown }) => covered && is_short(parent, tag, shown),
-    }
+    let Some(weighed) = weigh(marks, &shows, body, Characters(32_769)) else {
+        return false;
+    };
+    weighed.covered && is_short(parent, tag, weighed.shown)
 }
 
 fn check_kind(kind: Kind, parent: u8, tag: u8, body: &[u8]) -> Option<Held>

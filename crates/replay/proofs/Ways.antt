@@ -1,10 +1,11 @@
 -- What step and open find lies in the window.
+use Rattle.std.specs.Prelude.{Result, Ok, Err}
 use Rattle.std.proofs.Common.{◌≡◌, ℕ, ◌+◌, ◌≤◌, Bool, true, false, cond, ltb, List, length, take, sym, refl, ◌∙◌, arith, ltb-false}
 use Rattle.octets.proofs.Tests.{never}
 use Rattle.format.specs.Answers.{refusal}
 use Rattle.format.specs.Same.{same_octets}
+use Rattle.format.specs.declared.Refusal.{Refusal}
 use Rattle.recording.specs.declared.Next.{Next}
-use Rattle.recording.specs.declared.Opened.{Opened}
 use Rattle.recording.specs.Recording.{mark}
 use Rattle.recording.specs.Calls.{open_of, step_of}
 use Rattle.recording.proofs.Windows.{step-at}
@@ -18,12 +19,12 @@ object_lies window last r start size e q =
     omega arith
 
 -- as many octets as stand before the first size of a recording that open begins
-pub begins_within : (octets : List ℕ) (r : Opened) (at : ℕ) → r ≡ open_of octets → r ≡ Opened.Begins at → at ≤ length octets
+pub begins_within : (octets : List ℕ) (r : Result ℕ Refusal) (at : ℕ) → r ≡ open_of octets → r ≡ Ok at → at ≤ length octets
 unfolding open_of
 begins_within octets r at e q = go (ltb (length octets) 5) (same_octets (take 5 octets) mark) refl (sym e ∙ q)
   where
     go : (short marked : Bool) → ltb (length octets) 5 ≡ short
-        → cond short (Opened.Refused (refusal 24 0)) (cond marked (Opened.Begins 5) (Opened.Refused (refusal 23 0))) ≡ Opened.Begins at → at ≤ length octets
+        → cond short (Err (refusal 24 0)) (cond marked (Ok 5) (Err (refusal 23 0))) ≡ Ok at → at ≤ length octets
     go true marked s q = never cc
     go false true s q = let z : 5 ≡ at = cc in omega (arith, ltb-false (length octets) 5 s)
     go false false s q = never cc

@@ -1,8 +1,7 @@
 // The lines, put into the output, which is written out where it has no room for another.
 ghost use Rattle.std.specs.Prelude.{◌≤◌, length};
 
-use format::{ReadAnswer, Refusal};
-use octets::Put;
+use format::{Counts, Refusal};
 
 // So much is written at once.
 const OUTPUT: usize = 65_536;
@@ -37,16 +36,16 @@ impl Lines {
         }
     }
 
-    pub fn say_answer(&mut self, rt: &HostRuntime, number: usize, answer: ReadAnswer) {
+    pub fn say_answer(&mut self, rt: &HostRuntime, number: usize, answer: Result<Counts, Refusal>) {
         self.make_room(rt);
-        if let Put::Done(end) = recording::put_answer(&mut self.octets, self.used, number, answer) {
+        if let Ok(end) = recording::put_answer(&mut self.octets, self.used, number, answer) {
             self.used = end;
         }
     }
 
     pub fn say_file(&mut self, rt: &HostRuntime, refusal: Refusal) {
         self.make_room(rt);
-        if let Put::Done(end) = recording::put_file(&mut self.octets, self.used, refusal) {
+        if let Ok(end) = recording::put_file(&mut self.octets, self.used, refusal) {
             self.used = end;
         }
     }

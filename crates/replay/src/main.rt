@@ -8,7 +8,7 @@ mod stream;
 use crate::lines::Lines;
 use crate::stream::Stream;
 use format::refuse;
-use recording::{Next, Opened, open, step};
+use recording::{Next, open, step};
 use scan::scan;
 
 // Nothing says that the input ends, so the turns are counted. Where no whole object is left and something is, the recording is cut there, unless that only
@@ -42,11 +42,11 @@ fn list_all(rt: &HostRuntime, stream: &mut Stream, lines: &mut Lines) {
 fn replay(rt: &HostRuntime, stream: &mut Stream, lines: &mut Lines) {
     stream.fetch(rt);
     match open(stream.window()) {
-        Opened::Begins(at) => {
+        Ok(at) => {
             stream.pass(at);
             list_all(rt, stream, lines);
         }
-        Opened::Refused(refusal) => {
+        Err(refusal) => {
             if !stream.has_failed() {
                 lines.say_file(rt, refusal);
             }

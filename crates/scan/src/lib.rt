@@ -7,7 +7,7 @@ ghost use Rattle.format.specs.Judge.{judge};
 ghost use Rattle.format.specs.Headers.{headers_of};
 ghost use Rattle.format.specs.Calls.{judge_answer};
 
-use format::ReadAnswer;
+use format::{Counts, Refusal};
 
 // The answer of `read` lent lists long enough, for every object (specs/Theorems, ScansAsRead). Nothing is written, and refusal 14 never comes (ScanRefuses).
 pub fn scan(object: &[u8]) -> Result<Counts, Refusal>

@@ -1,4 +1,5 @@
 -- The lines by computation: document 01's listing whole (Bench cases), and answers that no call of this crate may give.
+use Rattle.std.specs.Prelude.{Result, Ok, Err}
 use mathlib.Core.Path.{◌≡◌, refl, ap}
 use mathlib.Core.Bool.{true}
 use mathlib.Core.List.{List, [], ◌∷◌, ◌++◌}
@@ -6,7 +7,8 @@ use Prim.Native.Nat.{ℕ}
 use native.Mathlib.Omega.{arith}
 use lib.ListN.{get_or}
 use Rattle.octets.specs.Puts.{put_answer, put_out, Puts}
-use Rattle.octets.specs.declared.Put.{Put}
+use Rattle.octets.specs.declared.PutError.{PutError}
+use Rattle.octets.specs.declared.PutError.TheVariants.{NoRoom, Invalid}
 use Rattle.format.specs.Answers.{refusal, wrong_value}
 use Rattle.format.specs.declared.Record.{Record}
 use Rattle.show.specs.Digits.{tens, decimal, hex_digit, two_digits, hex_lower, hex_upper}
@@ -40,34 +42,34 @@ refused-value = refl
 zeros : List ℕ
 zeros = 0 ∷ 0 ∷ 0 ∷ []
 
-number-reversed : Puts true (decimal 10) 0 zeros (48 ∷ 49 ∷ 0 ∷ []) (Put.Done 2) → ⊥
+number-reversed : Puts true (decimal 10) 0 zeros (48 ∷ 49 ∷ 0 ∷ []) (Ok 2) → ⊥
 unfolding zeros put_answer put_out decimal tens
 number-reversed p = let z : ◌≡◌ {A = ℕ} 48 49 = ap (λ o. get_or o 0 0) p.leaves in omega arith
 
-number-padded : Puts true (decimal 7) 0 zeros (48 ∷ 55 ∷ 0 ∷ []) (Put.Done 2) → ⊥
+number-padded : Puts true (decimal 7) 0 zeros (48 ∷ 55 ∷ 0 ∷ []) (Ok 2) → ⊥
 unfolding zeros put_answer put_out decimal tens
 number-padded p = let z : ◌≡◌ {A = ℕ} 48 55 = ap (λ o. get_or o 0 0) p.leaves in omega arith
 
 -- what has no room leaves the slice alone, and says so
-number_cut : Puts true (decimal 1000) 0 zeros (49 ∷ 48 ∷ 48 ∷ []) Put.NoRoom → ⊥
+number_cut : Puts true (decimal 1000) 0 zeros (49 ∷ 48 ∷ 48 ∷ []) (Err NoRoom) → ⊥
 unfolding zeros put_answer put_out decimal tens
 number_cut p = let z : ◌≡◌ {A = ℕ} 49 0 = ap (λ o. get_or o 0 0) p.leaves in omega arith
 
-end_of : Put → ℕ
-end_of (Put.Done n) = n
-end_of Put.NoRoom = 0
-end_of Put.Invalid = 0
+end_of : Result ℕ PutError → ℕ
+end_of (Ok n) = n
+end_of (Err NoRoom) = 0
+end_of (Err Invalid) = 0
 
-number-claimed : Puts true (decimal 1000) 0 zeros zeros (Put.Done 4) → ⊥
+number-claimed : Puts true (decimal 1000) 0 zeros zeros (Ok 4) → ⊥
 unfolding zeros put_answer put_out decimal tens end_of
 number-claimed p = let z : ◌≡◌ {A = ℕ} 4 0 = ap end_of p.answers in omega arith
 
 -- octets have lower-case letters, and a tag upper-case ones
-octets-upper : Puts true (hex_lower (0xAB ∷ [])) 0 zeros (65 ∷ 66 ∷ 0 ∷ []) (Put.Done 2) → ⊥
+octets-upper : Puts true (hex_lower (0xAB ∷ [])) 0 zeros (65 ∷ 66 ∷ 0 ∷ []) (Ok 2) → ⊥
 unfolding zeros put_answer put_out hex_lower two_digits hex_digit
 octets-upper p = let z : ◌≡◌ {A = ℕ} 65 97 = ap (λ o. get_or o 0 0) p.leaves in omega arith
 
-tag-swapped : Puts true (hex_upper 0x1C) 0 zeros (67 ∷ 49 ∷ 0 ∷ []) (Put.Done 2) → ⊥
+tag-swapped : Puts true (hex_upper 0x1C) 0 zeros (67 ∷ 49 ∷ 0 ∷ []) (Ok 2) → ⊥
 unfolding zeros put_answer put_out two_digits hex_digit
 tag-swapped p = let z : ◌≡◌ {A = ℕ} 67 49 = ap (λ o. get_or o 0 0) p.leaves in omega arith
 

@@ -1,4 +1,6 @@
 -- The ways through the calls: what is left of a text while it is stored, digits from the last one on, words, and the answers.
+use Rattle.std.specs.Prelude.{Result, Ok, Err}
+use Rattle.std.specs.Result.{result_unwrap_or}
 use mathlib.Core.Path.{◌≡◌, refl, sym, ap, ◌∙◌}
 use mathlib.Core.Bool.{Bool, true, false}
 use mathlib.Core.List.{List, [], ◌∷◌, ◌++◌, append-nil}
@@ -13,10 +15,11 @@ use mir.Val.{Fits}
 use borrow.Author.Tests.{ltb-true, ltb-false, lt-ltb, le-ltb, ne_eqb, not-true, not-false}
 use Rattle.show.specs.Digits.{decimal, hex_digit, two_digits, hex_lower, hex_upper}
 use Rattle.octets.specs.Puts.{Puts, Lays}
-use Rattle.octets.specs.declared.Put.{Put}
 use Rattle.octets.proofs.Lists.{set-sets, drop-next}
 use Rattle.octets.proofs.Left.{lays-length, lays-append, Left, left-begin, left-done, left_one, left-room, left-more}
-use Rattle.octets.proofs.Puts.{puts-done, asked-none, asked-room}
+use Rattle.octets.proofs.Puts.{puts-done, put-laid, put-room, put-there, asked-none, asked-room}
+use Rattle.octets.specs.declared.PutError.{PutError}
+use Rattle.octets.specs.declared.PutError.TheVariants.{NoRoom, Invalid}
 use Rattle.format.specs.declared.Record.{Record}
 use Rattle.format.specs.declared.Refusal.{Refusal}
 use Rattle.show.specs.Lines.{ascii, line, kind_name, record_line, records_line, field_of, refusal_line, field_reasons, field_reason, reasons, refusal_words}
@@ -26,8 +29,19 @@ use Rattle.show.proofs.Digits.{decimal-one, decimal-more, length_more, decimal-s
 -- ---- the answers
 
 pub put-done : (text : List ℕ) (at : ℕ) (out : List ℕ) (size : ℕ) → size ≡ length text → (b : Bool) → b ≡ leb (at + size) (length out) → b ≡ true → (out' : List ℕ) (end : ℕ)
-    → Lays text at out out' end → Puts true text at out out' (Put.Done end)
+    → Lays text at out out' end → Puts true text at out out' (Ok end)
 put-done text at out size s b k q out' end w = puts-done true text at out refl out' end (asked-room true text at out size s b k q) w.leaves w.ends
+
+-- octets that are known to fit are put, and no other answer is left
+module _ (octets : List ℕ) (at : ℕ) (out : List ℕ) (h : at + length octets ≤ length out) (out' : List ℕ) (answer : Result ℕ PutError)
+    (p : Puts true octets at out out' answer) where
+  pub put-known : (to : ℕ) → to ≡ result_unwrap_or answer at → Lays octets at out out' to
+  put-known to e = go answer refl
+    where
+      go : (r : Result ℕ PutError) → answer ≡ r → Lays octets at out out' to
+      go (Ok end) q = rw (e, q) (put-laid true octets at out out' answer p end q)
+      go (Err NoRoom) q = put-room true octets at out out' answer p h q
+      go (Err Invalid) q = put-there true octets at out out' answer p refl q
 
 pub ruleset put-ways = (asked-none, asked-room, put-done, not-true, not-false)
 
@@ -251,7 +265,7 @@ module _ (text given : List ℕ) (e : text ≡ given) (at : ℕ) (out : List ℕ
   pub lays-same : (b : ℕ) (out' : List ℕ) (to : ℕ) → Lays (given ++ (b ∷ [])) at out out' to → Lays (text ++ (b ∷ [])) at out out' to
   lays-same b out' to w = rw e w
 
-  pub puts-same : (out' : List ℕ) (r : Put) → Puts true given at out out' r → Puts true text at out out' r
+  pub puts-same : (out' : List ℕ) (r : Result ℕ PutError) → Puts true given at out out' r → Puts true text at out out' r
   puts-same out' r p = rw e p
 
 -- ---- a line word by word
@@ -386,7 +400,8 @@ pub ruleset refusal-size-ways = (refusal-field-length, refusal-length)
 
 -- ---- a refusal in words, by its number, and 9 by its field
 
-pub words_same : (words : ℕ → List ℕ) (n k : ℕ) → n ≡ k → (at : ℕ) (out out' : List ℕ) (r : Put) → Puts true (words k) at out out' r → Puts true (words n) at out out' r
+pub words_same : (words : ℕ → List ℕ) (n k : ℕ) → n ≡ k → (at : ℕ) (out out' : List ℕ) (r : Result ℕ PutError)
+    → Puts true (words k) at out out' r → Puts true (words n) at out out' r
 words_same words n k e at out out' r p = rw e p
 
 pub words-other : (field n : ℕ) → 25 ≤ n → refusal_words field n ≡ ascii "no such refusal"

@@ -11,7 +11,7 @@ ghost use Rattle.show.specs.Lines.{ascii, line, kind_name, header_line, record_l
 ghost use Rattle.show.specs.Storing.{Few};
 
 use format::{Record, Refusal};
-use octets::{Octets, Put, copy_into, has_room};
+use octets::{Octets, PutError, copy_into, has_room};
 
 const UPPER: u8 = b'A';
 
@@ -27,11 +27,7 @@ fn store_octets(out: &mut [u8], at: usize, s: &[u8]) -> usize
     requires { at + length s.now ≤ length out.old }
     ensures { Lays s.now at out.old out.new result }
 {
-    match copy_into(out, at, s) {
-        Put::Done(end) => end,
-        Put::NoRoom => at,
-        Put::Invalid => at,
-    }
+    copy_into(out, at, s).unwrap_or(at)
 }
 
 // At most 20 digits, so the sum of a few sizes is a small number.
@@ -157,49 +153,49 @@ fn kind_size(kind: u8) -> Octets
 
 // ---- numbers and octets
 
-pub fn put_bytes(out: &mut [u8], at: usize, s: &[u8]) -> Put
+pub fn put_bytes(out: &mut [u8], at: usize, s: &[u8]) -> Result<usize, PutError>
     ensures { Puts true s.now at out.old out.new result }
 {
     copy_into(out, at, s)
 }
 
-pub fn put_decimal(out: &mut [u8], at: usize, n: usize) -> Put
+pub fn put_decimal(out: &mut [u8], at: usize, n: usize) -> Result<usize, PutError>
     ensures { Puts true (decimal n) at out.old out.new result }
 {
     if !has_room(Octets(out.len()), at, decimal_size(n)) {
-        return Put::NoRoom;
+        return Err(PutError::NoRoom);
     }
-    Put::Done(store_decimal(out, at, n))
+    Ok(store_decimal(out, at, n))
 }
 
-pub fn put_hex(out: &mut [u8], at: usize, s: &[u8]) -> Put
+pub fn put_hex(out: &mut [u8], at: usize, s: &[u8]) -> Result<usize, PutError>
     ensures { Puts true (hex_lower s.now) at out.old out.new result }
 {
     let size = 2 * s.len();
     if !has_room(Octets(out.len()), at, Octets(size)) {
-        return Put::NoRoom;
+        return Err(PutError::NoRoom);
     }
-    Put::Done(store_all_hex(out, at, s))
+    Ok(store_all_hex(out, at, s))
 }
 
-pub fn put_hex_upper(out: &mut [u8], at: usize, b: u8) -> Put
+pub fn put_hex_upper(out: &mut [u8], at: usize, b: u8) -> Result<usize, PutError>
     ensures { Puts true (hex_upper b) at out.old out.new result }
 {
     if !has_room(Octets(out.len()), at, Octets(2)) {
-        return Put::NoRoom;
+        return Err(PutError::NoRoom);
     }
-    Put::Done(store_hex(out, at, UPPER, b))
+    Ok(store_hex(out, at, UPPER, b))
 }
 
 // ---- lines
 
-pub fn put_header(out: &mut [u8], at: usize) -> Put
+pub fn put_header(out: &mut [u8], at: usize) -> Result<usize, PutError>
     ensures { Puts true header_line at out.old out.new result }
 {
     put_bytes(out, at, b"depth tag kind offset length\n")
 }
 
-pub fn put_touched(out: &mut [u8], at: usize) -> Put
+pub fn put_touched(out: &mut [u8], at: usize) -> Result<usize, PutError>
     ensures { Puts true touched_line at out.old out.new result }
 {
     put_bytes(out, at, b"touched\n")
@@ -227,13 +223,13 @@ fn store_record(out: &mut [u8], at: usize, r: Record) -> usize
     number_word(out, size, r.size as usize, NEWLINE)
 }
 
-pub fn put_record_line(out: &mut [u8], at: usize, r: Record) -> Put
+pub fn put_record_line(out: &mut [u8], at: usize, r: Record) -> Result<usize, PutError>
     ensures { Puts true (record_line r) at out.old out.new result }
 {
     if !has_room(Octets(out.len()), at, record_size(r)) {
-        return Put::NoRoom;
+        return Err(PutError::NoRoom);
     }
-    Put::Done(store_record(out, at, r))
+    Ok(store_record(out, at, r))
 }
 
 fn store_records(out: &mut [u8], at: usize, n: usize) -> usize
@@ -244,14 +240,14 @@ fn store_records(out: &mut [u8], at: usize, n: usize) -> usize
     number_word(out, to, n, NEWLINE)
 }
 
-pub fn put_records(out: &mut [u8], at: usize, n: usize) -> Put
+pub fn put_records(out: &mut [u8], at: usize, n: usize) -> Result<usize, PutError>
     ensures { Puts true (records_line n) at out.old out.new result }
 {
     let size = 9 + decimal_size(n).0;
     if !has_room(Octets(out.len()), at, Octets(size)) {
-        return Put::NoRoom;
+        return Err(PutError::NoRoom);
     }
-    Put::Done(store_records(out, at, n))
+    Ok(store_records(out, at, n))
 }
 
 // The place ends the line of all refusals but 9, where the field comes behind it.
@@ -292,19 +288,19 @@ fn refusal_size(r: Refusal) -> Octets
     Octets(all)
 }
 
-pub fn put_refusal(out: &mut [u8], at: usize, r: Refusal) -> Put
+pub fn put_refusal(out: &mut [u8], at: usize, r: Refusal) -> Result<usize, PutError>
     ensures { Puts true (refusal_line r) at out.old out.new result }
 {
     if !has_room(Octets(out.len()), at, refusal_size(r)) {
-        return Put::NoRoom;
+        return Err(PutError::NoRoom);
     }
-    Put::Done(store_refusal(out, at, r))
+    Ok(store_refusal(out, at, r))
 }
 
 // ---- a refusal in words
 
 // Refusal 9, by the field that goes with it.
-fn put_field_words(out: &mut [u8], at: usize, field: u8) -> Put
+fn put_field_words(out: &mut [u8], at: usize, field: u8) -> Result<usize, PutError>
     ensures { Puts true (ascii (field_reason field)) at out.old out.new result }
 {
     match field {
@@ -318,7 +314,12 @@ fn put_field_words(out: &mut [u8], at: usize, field: u8) -> Put
     }
 }
 
-pub fn put_refusal_words(out: &mut [u8], at: usize, number: u8, field: u8) -> Put
+pub fn put_refusal_words(
+    out: &mut [u8],
+    at: usize,
+    number: u8,
+    field: u8,
+) -> Result<usize, PutError>
     ensures { Puts true (refusal_words field number) at out.old out.new result }
 {
     match number {

@@ -1,12 +1,8 @@
-use Rattle.octets.proofs.Puts.{laid-ways}
-use borrow.Author.Rules.{rules}
+use Rattle.show.proofs.Writing.{put-known}
 use Rattle.show.proofs.store_octets.Goals as goal
 
-pub returns-in-Done : goal.returns-in-Done
-returns-in-Done c = search (laid-ways, rules)
-
-pub returns-in-NoRoom : goal.returns-in-NoRoom
-returns-in-NoRoom c = search (laid-ways, rules)
-
-pub returns-in-Invalid : goal.returns-in-Invalid
-returns-in-Invalid c = search (laid-ways, rules)
+-- src/lib.rt:26:1
+pub returns : goal.returns
+returns c =
+    put-known c.args.s.now c.args.at c.args.out.now c.requires c.copy_into.new.out c.copy_into.result c.copy_into.ensures c.unwrap_or.result
+    c.unwrap_or.ensures

@@ -2,8 +2,8 @@ use Rattle.recording.proofs.Writing.{answer-ways}
 use borrow.Author.Rules.{rules}
 use Rattle.recording.proofs.lines.lay_answer.Goals as goal
 
-pub returns-in-Records : goal.returns-in-Records
-returns-in-Records c = search (answer-ways, rules)
+pub returns-in-Ok : goal.returns-in-Ok
+returns-in-Ok c = search (answer-ways, rules)
 
-pub returns-in-NotRead : goal.returns-in-NotRead
-returns-in-NotRead c = search (answer-ways, rules)
+pub returns-in-Err : goal.returns-in-Err
+returns-in-Err c = search (answer-ways, rules)

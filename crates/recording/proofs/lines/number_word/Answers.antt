@@ -14,26 +14,14 @@ bounds-room-end c = search (number-ways, rules)
 pub overflow_add-result : goal.overflow_add-result
 overflow_add-result c = search (number-ways, rules)
 
-pub enum_told-1 : goal.enum_told-1
-enum_told-1 c = search (number-ways, rules)
+pub shape_of-room-in-Ok : goal.shape_of-room-in-Ok
+shape_of-room-in-Ok c = search (number-ways, rules)
 
-pub enum_told-in-Invalid : goal.enum_told-in-Invalid
-enum_told-in-Invalid c = search (number-ways, rules)
+pub returns-in-Ok : goal.returns-in-Ok
+returns-in-Ok c = search (number-ways, rules)
 
-pub shape_of-room-in-Done : goal.shape_of-room-in-Done
-shape_of-room-in-Done c = search (number-ways, rules)
+pub shape_of-room-in-Err : goal.shape_of-room-in-Err
+shape_of-room-in-Err c = search (number-ways, rules)
 
-pub returns-in-Done : goal.returns-in-Done
-returns-in-Done c = search (number-ways, rules)
-
-pub shape_of-room-in-NoRoom : goal.shape_of-room-in-NoRoom
-shape_of-room-in-NoRoom c = search (number-ways, rules)
-
-pub returns-in-NoRoom : goal.returns-in-NoRoom
-returns-in-NoRoom c = search (number-ways, rules)
-
-pub shape_of-room-in-Invalid : goal.shape_of-room-in-Invalid
-shape_of-room-in-Invalid c = search (number-ways, rules)
-
-pub returns-in-Invalid : goal.returns-in-Invalid
-returns-in-Invalid c = search (number-ways, rules)
+pub returns-in-Err : goal.returns-in-Err
+returns-in-Err c = search (number-ways, rules)

@@ -5,11 +5,11 @@ use Rattle.records.proofs.check.is_text_kept.Goals as goal
 pub returns-then-tag-ne1 : goal.returns-then-tag-ne1
 returns-then-tag-ne1 c = search (text-ways, rules)
 
-pub returns-then-covered : goal.returns-then-covered
-returns-then-covered c = search (text-ways, rules)
+pub returns-then-weighed : goal.returns-then-weighed
+returns-then-weighed c = search (text-ways, rules)
 
-pub returns-in-None : goal.returns-in-None
-returns-in-None c = search (text-ways, rules)
+pub returns-in_default : goal.returns-in_default
+returns-in_default c = search (text-ways, rules)
 
-pub returns-else-covered : goal.returns-else-covered
-returns-else-covered c = search (text-ways, rules)
+pub returns-else-weighed : goal.returns-else-weighed
+returns-else-weighed c = search (text-ways, rules)
