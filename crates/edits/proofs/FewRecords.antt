@@ -23,7 +23,7 @@ use Rattle.format.proofs.Fine.{placed-parts}
 use Rattle.format.proofs.Defaults.{default-attribute}
 use Rattle.format.proofs.Tabled.{count-item}
 use Rattle.survey.specs.Normal.{framed_size, normal_size}
-use Rattle.survey.proofs.Sizes.{size-whole}
+use Rattle.survey.proofs.NormalSizes.{size-whole}
 use Rattle.state.specs.Order.{item_adds}
 use Rattle.state.proofs.BodySizes.{body_size, size-open, size-item, open-counts}
 

@@ -19,12 +19,11 @@ use Rattle.format.specs.Writer.{is_end}
 use Rattle.format.proofs.Induction.{Cases, accepted-all}
 use Rattle.format.proofs.Tabled.{count-item}
 use Rattle.judge.specs.Inside.{beginning, judge_inside}
-use Rattle.survey.specs.declared.measure.Measured.{Measured}
-use Rattle.survey.specs.declared.Needed.TheVariants.{Takes}
 use Rattle.survey.specs.Measure.{measured_in}
-use Rattle.survey.specs.Survey.{needed_by}
+use Rattle.survey.specs.Survey.{needed_by, records_sizes}
+use Rattle.survey.specs.declared.measure.Sizes.{Sizes}
 use Rattle.edits.specs.Tree.{first_tag, without, is_one_item, first_element, element_of}
-use Rattle.std.specs.Prelude.{Result, Ok, Err}
+use Rattle.std.specs.Prelude.{Result, Ok, Err, Option}
 use Rattle.edits.specs.declared.inserting.Admitted.{Admitted}
 use Rattle.edits.specs.declared.EditError.{EditError}
 use Rattle.edits.specs.declared.EditError.TheVariants.{BreaksRule}
@@ -81,7 +80,7 @@ module _ (p d : ℕ) (o : List ℕ) where
       go true w k = first w k (read c 0 o) refl
 
   -- an element that is accepted and known
-  pub record Accepted (n : ℕ) (sizes : Measured) : Type 0 where
+  pub record Accepted (n : ℕ) (sizes : Option Sizes) : Type 0 where
     pub tag : ℕ
     pub at : ℕ
     pub body : List ℕ
@@ -94,7 +93,7 @@ module _ (p d : ℕ) (o : List ℕ) where
 
   pub data Judgement (j : ℕ) : Result Admitted EditError → Type 0 where
     denied : element_of c o ≡ none → Judgement j (Err BreaksRule)
-    admitted : (n : ℕ) (sizes : Measured) → Accepted n sizes → Judgement j (Ok (as_record j n sizes))
+    admitted : (n : ℕ) (sizes : Option Sizes) → Accepted n sizes → Judgement j (Ok (as_record j n sizes))
 
   pub judged : is_element o ≡ true → (j : ℕ) → Judgement j (as_admitted j (needed_by p (judge_inside p d o)))
   unfolding is_element element_of first_element needed_by as_admitted first_tag is_end count without
@@ -107,7 +106,7 @@ module _ (p d : ℕ) (o : List ℕ) where
       element-is z q = rw w (ap first_element q)
 
       counted : (tag at : ℕ) (body : List ℕ) (x y : Items) → read c 0 o ≡ accepted (item tag at body x y) → (n : ℕ) → n ≡ count (item tag at body x y)
-          → Judgement j (as_admitted j (Takes n (measured_in p (item tag at body x y))))
+          → Judgement j (as_admitted j (Ok (records_sizes n (measured_in p (item tag at body x y)))))
       counted tag at body x y q zero e =
           let f : tag ≡ get_or o 0 0 = eqb-true tag (get_or o 0 0) (one-headed c o (item tag at body x y) w q) in
           let k : is_child tag ≡ true = ap is_child f ∙ and_right (is_one_item o) (is_child (get_or o 0 0)) h in

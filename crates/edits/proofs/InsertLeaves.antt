@@ -10,20 +10,18 @@ use lib.ListN.{length, get_or}
 use borrow.Author.Tests.{not-true, not-false, eq-eqb, ne_eqb, leb-false, le-leb, lt-leb, lt-ltb, le-ltb}
 use Rattle.std.specs.Prelude.{Option, Some, None, Result, Ok, Err}
 use Rattle.octets.specs.Header.{header_size, body_size}
-use Rattle.octets.specs.declared.Lies.{Lies}
-use Rattle.octets.specs.declared.Lies.TheVariants.{Outside, Between}
-use Rattle.octets.specs.Places.{between, lies_at, lies_in}
+use Rattle.octets.specs.Places.{between, lies_at, lies_in, from_to}
 use Rattle.octets.proofs.Places.{lying}
 use Rattle.octets.proofs.Tests.{never, cond_same}
 use Rattle.octets.proofs.Upward.{part_none, part-first}
+use Rattle.octets.specs.declared.Lies.{Lies}
 use Rattle.values.specs.Table.{attribute}
 use Rattle.format.specs.Meaning.{opens, is_child}
 use Rattle.format.specs.declared.Refusal.{Refusal}
 use Rattle.judge.specs.Inside.{judge_inside}
-use Rattle.survey.specs.declared.measure.Measured.{Measured}
-use Rattle.survey.specs.declared.Needed.{Needed}
-use Rattle.survey.specs.declared.Needed.TheVariants.{Refused as Broken, Takes}
-use Rattle.survey.specs.Survey.{needed_by}
+use Rattle.survey.specs.Survey.{needed_by, records_sizes}
+use Rattle.survey.specs.declared.measure.Sizes.{Sizes}
+use Rattle.survey.specs.declared.Needs.{Needs}
 use Rattle.edits.specs.declared.inserting.Admitted.{Admitted}
 use Rattle.edits.specs.declared.EditError.{EditError}
 use Rattle.edits.specs.declared.EditError.TheVariants.{NoPlace, BreaksRule}
@@ -205,16 +203,16 @@ module _ (o : List ℕ) where
   unfolding is_one_item
   one-large h = sym (ap (λ b. eqb (header_size o + body_size o) (length o) && b) (lt-leb (length o) 32_768 h) ∙ and-false (eqb (header_size o + body_size o) (length o)))
 
-  module _ (h : length o ≤ 32_768) (r : Lies) (e : r ≡ lies_at o 0) where
-    pub one_outside : r ≡ Outside → false ≡ is_one_item o
+  module _ (h : length o ≤ 32_768) (r : Option Lies) (e : r ≡ lies_at o 0) where
+    pub one_outside : r ≡ None → false ≡ is_one_item o
     unfolding is_one_item lies_at lies_in
     one_outside q = go (leb (header_size o + body_size o) (length o)) refl (sym q ∙ e)
       where
-        go : (b : Bool) → leb (header_size o + body_size o) (length o) ≡ b → Outside ≡ cond b (Between (0 + header_size o) (0 + header_size o + body_size o)) Outside → false ≡ is_one_item o
+        go : (b : Bool) → leb (header_size o + body_size o) (length o) ≡ b → None ≡ cond b (Some (from_to (0 + header_size o) (0 + header_size o + body_size o))) None → false ≡ is_one_item o
         go true f p = never (cc)
         go false f p = rw (ne_eqb (header_size o + body_size o) (length o) (λ z. omega (arith, leb-false (header_size o + body_size o) (length o) f)))
 
-    pub one-between : (from to : ℕ) → r ≡ Between from to → eqb to (length o) ≡ is_one_item o
+    pub one-between : (from to : ℕ) → r ≡ Some (from_to from to) → eqb to (length o) ≡ is_one_item o
     unfolding is_one_item
     one-between from to q =
         let l = lying o 0 r e from to q in
@@ -249,25 +247,25 @@ module _ (j k later tag depth : ℕ) (o : List ℕ) (a : Bool) (ae : a ≡ is_el
     unfolding admitted_at
     admits-order z = rw (sym ae ∙ not-false a q, ap (λ x. comes_between k x later) (sym oe) ∙ (sym be ∙ not-true b z))
 
-    module _ (z : not b ≡ false) (r : Needed) (re : r ≡ needed_by tag (judge_inside tag depth o)) where
+    module _ (z : not b ≡ false) (r : Result Needs Refusal) (re : r ≡ needed_by tag (judge_inside tag depth o)) where
       by-needs : as_admitted j r ≡ admitted_at j k later tag depth o
       unfolding admitted_at
       by-needs = rw (sym ae ∙ not-false a q, ap (λ x. comes_between k x later) (sym oe) ∙ (sym be ∙ not-false b z)) (ap (as_admitted j) re)
 
-      pub admits-broken : (x : Refusal) → r ≡ Broken x → Err BreaksRule ≡ admitted_at j k later tag depth o
+      pub admits-broken : (x : Refusal) → r ≡ Err x → Err BreaksRule ≡ admitted_at j k later tag depth o
       unfolding as_admitted
       admits-broken x f = sym (ap (as_admitted j) f) ∙ by-needs
 
-      module _ (c : ℕ) (m : Measured) (f : r ≡ Takes c m) where
+      module _ (c : ℕ) (m : Option Sizes) (f : r ≡ Ok (records_sizes c m)) where
         pub admits-unknown : c ≡ 0 → Err BreaksRule ≡ admitted_at j k later tag depth o
         unfolding as_admitted
-        admits-unknown y = sym (ap (λ n. as_admitted j (Takes n m)) y) ∙ (sym (ap (as_admitted j) f) ∙ by-needs)
+        admits-unknown y = sym (ap (λ n. as_admitted j (Ok (records_sizes n m))) y) ∙ (sym (ap (as_admitted j) f) ∙ by-needs)
 
         pub admits-it : (c ≡ 0 → ⊥) → Ok (admitted j c m) ≡ admitted_at j k later tag depth o
         unfolding as_admitted
         admits-it y = known-one c y ∙ (sym (ap (as_admitted j) f) ∙ by-needs)
           where
-            known-one : (n : ℕ) → (n ≡ 0 → ⊥) → Ok (admitted j n m) ≡ as_admitted j (Takes n m)
+            known-one : (n : ℕ) → (n ≡ 0 → ⊥) → Ok (admitted j n m) ≡ as_admitted j (Ok (records_sizes n m))
             known-one zero z = absurd (z refl)
             known-one (suc n) z = refl
 

@@ -19,7 +19,7 @@ use Rattle.format.proofs.Tabled.{count-item}
 use Rattle.format.proofs.Written.{Bytes, ruled-told}
 use Rattle.format.proofs.Defaults.{own_defaults, own-none, own-few}
 use Rattle.survey.specs.Normal.{framed_size, normal_size}
-use Rattle.survey.proofs.Sizes.{size-whole}
+use Rattle.survey.proofs.NormalSizes.{size-whole}
 use Rattle.state.specs.Order.{item_adds}
 use Rattle.state.proofs.BodySizes.{body_size, size-open, size-item, open-counts}
 use Rattle.edits.specs.Sites.{Site, inner, beyond, records_at, Swapped}

@@ -14,22 +14,19 @@ use Rattle.octets.specs.Numbers.{Octets}
 use Rattle.octets.specs.Places.{between}
 use Rattle.text.specs.Tokens.{entries}
 use Rattle.judge.proofs.AllWays.{no-entries}
-use Rattle.format.specs.declared.EditAnswer.{EditAnswer}
-use Rattle.format.specs.declared.EditAnswer.TheVariants.{HasRecords, NotChanged}
 use Rattle.format.specs.Tree.{Items}
 use Rattle.format.specs.Judge.{rule, unless}
 use Rattle.format.specs.Judge.Judged.{refused, accepted}
 use Rattle.format.specs.Calls.{places, edit_answer}
 use Rattle.format.specs.State.{Memory, places_in, packed_store, tree_held}
-use Rattle.survey.specs.declared.measure.Measured.{Measured}
-use Rattle.survey.specs.declared.measure.Measured.TheVariants.{Over, Sizes}
+use Rattle.format.specs.declared.Refusal.{Refusal}
 use Rattle.survey.specs.Normal.{framed_size}
-use Rattle.state.specs.declared.Filled.{Filled}
-use Rattle.state.specs.declared.Filled.TheVariants.{Apart, Upto}
+use Rattle.survey.specs.declared.measure.Sizes.{Sizes}
+use Rattle.survey.specs.Sizes.{store_octets}
 use Rattle.state.specs.Order.{held_as}
 use Rattle.state.specs.Taking.{left}
 use Rattle.edits.specs.declared.resite.Gap.{Gap}
-use Rattle.std.specs.Prelude.{Option as Maybe, Some, None, Result, Ok, Err}
+use Rattle.std.specs.Prelude.{Option as Optional, Some, None, Result, Ok, Err}
 use Rattle.edits.specs.declared.inserting.Admitted.{Admitted}
 use Rattle.edits.specs.declared.EditError.{EditError}
 use Rattle.edits.specs.declared.EditError.TheVariants.{NoTree, NoPlace, BreaksRule, NoRecords, NoRoom}
@@ -84,11 +81,11 @@ module _ (n used i : ℕ) (it : Admitted) (m : Memory) (f : Fittable n used i it
     pub fit_next : j + c ≤ there
     fit_next = omega (arith, fit-order, f.low)
 
-    pub fit-over : it.sizes ≡ Over → Err NoRoom ≡ fitted_by n used i m (Ok it)
+    pub fit-over : it.sizes ≡ None → Err NoRoom ≡ fitted_by n used i m (Ok it)
     unfolding opened_by
     fit-over q = sym (ap (opened_by n used i j c m) q) ∙ by-sizes
 
-    module _ (s a : OctetCount) (q : it.sizes ≡ Sizes s a) where
+    module _ (s a : OctetCount) (q : it.sizes ≡ Some (store_octets s a)) where
       pub fit-store-order : used ≤ length m.store
       fit-store-order = f.filled
 
@@ -147,7 +144,7 @@ module _ (n i k : ℕ) (o : List ℕ) (m : Memory) where
   -- what is said of the octets, in a tree that memory holds
   data Says (t : Items) (holds : tree_held n m ≡ some t) : Result Admitted EditError → Type 0 where
     denies : (z : EditError) → edited_in m (insert i k o) (some t) ≡ refused (refusal_of z) → Says t holds (Err z)
-    admits : (j : ℕ) (found : Found j) (c : ℕ) (sizes : Measured) → Ready n i k m t holds o j found c sizes → Says t holds (Ok (admitted j c sizes))
+    admits : (j : ℕ) (found : Found j) (c : ℕ) (sizes : Optional Sizes) → Ready n i k m t holds o j found c sizes → Says t holds (Ok (admitted j c sizes))
 
   says : (t : Items) (holds : tree_held n m ≡ some t) → Octets o → Says t holds (admission n i k o m.lists.tags m.lists.depths)
   unfolding admitted_by edited_in rule unless
@@ -157,7 +154,7 @@ module _ (n i k : ℕ) (o : List ℕ) (m : Memory) where
       by j found a (breaks e) = denies BreaksRule e
       by j found a (stands c sizes r) = admits j found c sizes r
 
-      go : (x : Maybe ℕ) → child_of n i k m.lists.tags m.lists.depths ≡ x → Says t holds (admitted_by n i k o m.lists.tags m.lists.depths x)
+      go : (x : Optional ℕ) → child_of n i k m.lists.tags m.lists.depths ≡ x → Says t holds (admitted_by n i k o m.lists.tags m.lists.depths x)
       go None e = denies NoPlace (rw (there-nowhere n i k m t holds o e))
       go (Some j) e = by j e (admitted_at j k (tag_there n j (get_or m.lists.depths i 0) m.lists.tags m.lists.depths) (get_or m.lists.tags i 0)
           (get_or m.lists.depths i 0) o) (verdict n i k m t holds o j e bo)
@@ -169,7 +166,7 @@ module _ (n i k : ℕ) (o : List ℕ) (m : Memory) where
     pub next : ℕ
     pub found : Found next
     pub records : ℕ
-    pub sizes : Measured
+    pub sizes : Optional Sizes
     pub ready : Ready n i k m tree holds o next found records sizes
     pub stored : ℕ
     pub octets : ℕ
@@ -184,7 +181,7 @@ module _ (n i k : ℕ) (o : List ℕ) (m : Memory) where
   unfolding insertion_in held_as fitted_by edited_in
   insertion-ends os bo = go (tree_held n m) refl
     where
-      fit-ends : (t : Items) (holds : tree_held n m ≡ some t) (j : ℕ) (found : Found j) (c : ℕ) (sizes : Measured) (ready : Ready n i k m t holds o j found c sizes)
+      fit-ends : (t : Items) (holds : tree_held n m ≡ some t) (j : ℕ) (found : Found j) (c : ℕ) (sizes : Optional Sizes) (ready : Ready n i k m t holds o j found c sizes)
           → (x : Result Gap EditError) → Fit n i k m t holds os o bo j found c sizes ready x → Ends os bo x
       fit-ends t holds j found c sizes ready x (refuses z e) = refused-so z (ap (edited_in m (insert i k o)) holds ∙ e)
       fit-ends t holds j found c sizes ready x (goes_in s a r) = going (gap_for n (length (packed_store t)) i j c s a m.lists.sizes) (record {
@@ -213,18 +210,18 @@ module _ (n i k : ℕ) (o : List ℕ) (m : Memory) where
       go (some t) e = by t e (admission n i k o m.lists.tags m.lists.depths) (says t e bo)
 
 -- ---- plan
-pub plan-asks : (n : ℕ) (m : Memory) (x : Filled) → x ≡ held_as (tree_held n m) → (used : ℕ) → x ≡ Upto used → (n ≤ length m.lists.tags) × (n ≤ length m.lists.depths)
+pub plan-asks : (n : ℕ) (m : Memory) (x : Optional ℕ) → x ≡ held_as (tree_held n m) → (used : ℕ) → x ≡ Some used → (n ≤ length m.lists.tags) × (n ≤ length m.lists.depths)
 plan-asks n m x e used q =
     let w = held-as (tree_held n m) used (sym e ∙ q) in
     let k = enough n m w.0 (held n m w.0 w.1) in
     (k.tags, k.depths)
 
-module _ (n i k : ℕ) (o : List ℕ) (m : Memory) (x : Filled) (e : x ≡ held_as (tree_held n m)) where
-  pub plan-none : x ≡ Apart → Err NoTree ≡ insertion_of n i k o m
+module _ (n i k : ℕ) (o : List ℕ) (m : Memory) (x : Optional ℕ) (e : x ≡ held_as (tree_held n m)) where
+  pub plan-none : x ≡ None → Err NoTree ≡ insertion_of n i k o m
   unfolding insertion_in
   plan-none q = sym (ap (insertion_in n i k o m) (sym e ∙ q))
 
-  module _ (used : ℕ) (q : x ≡ Upto used) where
+  module _ (used : ℕ) (q : x ≡ Some used) where
     in_memory : (t : Items) × (tree_held n m ≡ some t) × (length (packed_store t) ≡ used)
     in_memory = held-as (tree_held n m) used (sym e ∙ q)
 
@@ -258,7 +255,7 @@ module _ (g : Gap) (i : ℕ) (o : List ℕ) (m : Memory) where
 
 -- ---- insert
 module _ (n i k : ℕ) (o : List ℕ) (m : Memory) (os : Octets m.store) (bo : Octets o) (r : Result Gap EditError) (e : r ≡ insertion_of n i k o m) where
-  pub refused-leaves : (z : EditError) → r ≡ Err z → (answer : EditAnswer) → answer ≡ NotChanged (refusal_of z) → EditClaim (insert i k o) n m m answer
+  pub refused-leaves : (z : EditError) → r ≡ Err z → (answer : Result ℕ Refusal) → answer ≡ Err (refusal_of z) → EditClaim (insert i k o) n m m answer
   unfolding left edit_answer
   refused-leaves z q answer f = by (insertion_of n i k o m) (insertion-ends n i k o m os bo) (sym e ∙ q)
     where
@@ -266,7 +263,7 @@ module _ (n i k : ℕ) (o : List ℕ) (m : Memory) (os : Octets m.store) (bo : O
       by y (going g w) d = never (cc)
       by y (refused-so u w) d =
           let v : u ≡ z = cc in
-          record { answers = f ∙ (ap (λ j. NotChanged (refusal_of j)) (sym v) ∙ sym (ap edit_answer w)); leaves = sym (ap (λ j. left j m) w) }
+          record { answers = f ∙ (ap (λ j. Err (refusal_of j)) (sym v) ∙ sym (ap edit_answer w)); leaves = sym (ap (λ j. left j m) w) }
 
   module _ (g : Gap) (q : r ≡ Ok g) where
     goes : Going n i k o m os bo g
@@ -292,7 +289,7 @@ module _ (n i k : ℕ) (o : List ℕ) (m : Memory) (os : Octets m.store) (bo : O
         put-asks n i k m w.tree w.holds os o bo w.next w.found w.records w.sizes w.ready w.stored w.octets w.room in
         subst (λ z. PutsIn z i o m) (sym w.is) asked
 
-    pub opens-leaves : (m' : Memory) → PutIn g i o m m' → EditClaim (insert i k o) n m m' (HasRecords (n + (g.records.to - g.records.from)))
+    pub opens-leaves : (m' : Memory) → PutIn g i o m m' → EditClaim (insert i k o) n m m' (Ok (n + (g.records.to - g.records.from)))
     unfolding gap_for left edit_answer
     opens-leaves m' p =
         let w = goes in
@@ -302,4 +299,4 @@ module _ (n i k : ℕ) (o : List ℕ) (m : Memory) (os : Octets m.store) (bo : O
         let c : g.records.to - g.records.from ≡ w.records = ap (λ z. z.records.to - z.records.from) w.is ∙ omega arith in
         let many = count-then n i k m w.tree w.holds os o bo w.next w.found w.records w.sizes w.ready in
         let all : n + (g.records.to - g.records.from) ≡ _ = ap (λ z. n + z) c ∙ sym many in
-        record { answers = ap HasRecords all ∙ sym (ap edit_answer ends); leaves = tree ∙ sym (ap (λ z. left z m) ends) }
+        record { answers = ap Ok all ∙ sym (ap edit_answer ends); leaves = tree ∙ sym (ap (λ z. left z m) ends) }

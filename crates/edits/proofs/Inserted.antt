@@ -21,11 +21,11 @@ use Rattle.format.specs.Writer.{at_top, ruled}
 use Rattle.format.specs.Calls.{roomy}
 use Rattle.format.specs.State.{Memory, places_in, packed, packed_store, kept, tree_held}
 use Rattle.judge.specs.Inside.{beginning, judge_inside}
-use Rattle.survey.specs.declared.measure.Measured.{Measured}
 use Rattle.survey.specs.Survey.{needed_by}
+use Rattle.survey.specs.declared.measure.Sizes.{Sizes}
 use Rattle.state.specs.Taking.{overflow, settled}
 use Rattle.state.proofs.HeldTree.{Held, held}
-use Rattle.std.specs.Prelude.{Some, None, Result, Ok, Err}
+use Rattle.std.specs.Prelude.{Some, None, Result, Ok, Err, Option}
 use Rattle.edits.specs.declared.inserting.Admitted.{Admitted}
 use Rattle.edits.specs.declared.EditError.{EditError}
 use Rattle.edits.specs.declared.EditError.TheVariants.{BreaksRule}
@@ -177,13 +177,13 @@ module _ (n i k : ℕ) (m : Memory) (t : Items) (holds : tree_held n m ≡ some 
         e₀ = e
 
     -- what is said of the octets there
-    pub record Ready (c : ℕ) (sizes : Measured) : Type 0 where
+    pub record Ready (c : ℕ) (sizes : Option Sizes) : Type 0 where
       pub element : Accepted (get_or tags i 0) (get_or depths i 0) o c sizes
       pub keeps : ruled at_top (change_at (holding (put_child k (item element.tag element.at element.body element.x end))) i t) ≡ true
 
     pub data Verdict : Result Admitted EditError → Type 0 where
       breaks : edited_in m (insert i k o) (some t) ≡ refused (refusal 16 0) → Verdict (Err BreaksRule)
-      stands : (c : ℕ) (sizes : Measured) → Ready c sizes → Verdict (Ok (as_record j c sizes))
+      stands : (c : ℕ) (sizes : Option Sizes) → Ready c sizes → Verdict (Ok (as_record j c sizes))
 
     pub verdict : Octets o → Verdict (admitted_at j k (tag_there n j (get_or depths i 0) tags depths) (get_or tags i 0) (get_or depths i 0) o)
     unfolding admitted_at

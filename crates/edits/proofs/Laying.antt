@@ -1,4 +1,5 @@
 -- The ways through the functions that lay a loaded tree.
+use Rattle.std.specs.Prelude.{Option, Some, None}
 use mathlib.Core.Path.{◌≡◌, refl, sym, ap, ◌∙◌, subst}
 use mathlib.Core.Bool.{Bool, true, false, cond}
 use mathlib.Core.Option.{some}
@@ -14,12 +15,11 @@ use borrow.Author.Tests.{le-leb}
 use mir.Syntax.{w8, w64}
 use mir.Val.{Fits}
 use Rattle.octets.specs.declared.counts.Octets.{Octets as OctetCount}
-use Rattle.octets.specs.declared.Lies.{Lies}
-use Rattle.octets.specs.declared.Lies.TheVariants.{Outside, Between}
 use Rattle.octets.specs.Counts.{as_octets}
-use Rattle.octets.specs.Places.{lies_at}
+use Rattle.octets.specs.Places.{lies_at, from_to}
 use Rattle.octets.proofs.Lists.{sets-none, set-sets, part-of-sets}
 use Rattle.octets.proofs.Places.{Lying, lying, to_inside}
+use Rattle.octets.specs.declared.Lies.{Lies}
 use Rattle.text.specs.Tokens.{Entries, entries}
 use Rattle.values.specs.declared.Kind.{Kind}
 use Rattle.values.specs.Table.{known}
@@ -407,11 +407,11 @@ module _ (T : Entries) (level : Level) (before : Laid) (part : List ℕ) (m₀ :
         adds = sym (g.adds ∙ ap (λ x. done.body.0 + added_in element (loaded_at T level done x)) e ∙ add-zero done.body.0);
       }
 
-  module _ (h : at < length part) (r : Lies) (re : r ≡ lies_at part at) where
-    pub no_item : r ≡ Outside → ItemsLay T level before part m₀ m done
+  module _ (h : at < length part) (r : Option Lies) (re : r ≡ lies_at part at) where
+    pub no_item : r ≡ None → ItemsLay T level before part m₀ m done
     no_item q = absurd (lies-inside part at r re h q element level.depth (inv.can.offset + at) sure.rest sure.accepts)
 
-    module _ (from to : ℕ) (q : r ≡ Between from to) where
+    module _ (from to : ℕ) (q : r ≡ Some (from_to from to)) where
       pub here : Lying part at from to
       here = lying part at r re from to q
 

@@ -1,5 +1,6 @@
 -- Wrong answers of `take_in`, refuted by computing its claim at one object: a top, a schedule in it, a programme in that, and the programme's recommendation "no", which is
 -- its default (request 2026-05).
+use Rattle.std.specs.Prelude.{Result, Ok, Err}
 use mathlib.Core.Path.{◌≡◌, refl, ap, ◌∙◌}
 use mathlib.Core.List.{List, [], ◌∷◌}
 use Prim.Native.Nat.{ℕ}
@@ -11,8 +12,6 @@ use Rattle.octets.specs.Header.{header_size, body_size, length_field, framed}
 use Rattle.values.specs.Table.{rows, kind_in, known, attribute, defaults, default_in}
 use Rattle.values.specs.Values.{width, fits, meant, octets_of, is_default}
 use Rattle.values.specs.Calls.{default_octets}
-use Rattle.format.specs.declared.EditAnswer.{EditAnswer}
-use Rattle.format.specs.declared.EditAnswer.TheVariants.{HasRecords, NotChanged}
 use Rattle.format.specs.Answers.{refusal}
 use Rattle.format.specs.Tree.{Items, count, find, kind_of, records}
 use Rattle.format.specs.Tree.Items.{end, item}
@@ -22,6 +21,7 @@ use Rattle.format.specs.Meaning.{table_in, opens, is_child, value_in, counted, a
 use Rattle.format.specs.Loaded.{stored, store_in, loaded_in}
 use Rattle.format.specs.Calls.{places, lay, roomy, edit_answer}
 use Rattle.format.specs.State.{Memory, places_in, normal_body, body_sizes, lay_tree}
+use Rattle.format.specs.declared.Refusal.{Refusal}
 use Rattle.state.specs.Taking.{overflow, settled, taken_in, left, TakeInClaim}
 
 abbrev object : List ℕ
@@ -65,29 +65,29 @@ unfolding among value digits header_size body_size length_field framed rows kind
 computed = record { taken = refl; laid = refl; over = refl; crowded = refl }
 
 -- what memory is left with
-leaves : (m' : Memory) (a : EditAnswer) → TakeInClaim object (as_octets 6) (blank nines) m' a → m' ≡ filled (4 ∷ 2 ∷ 0 ∷ 1 ∷ []) (1 ∷ 9 ∷ [])
+leaves : (m' : Memory) (a : Result ℕ Refusal) → TakeInClaim object (as_octets 6) (blank nines) m' a → m' ≡ filled (4 ∷ 2 ∷ 0 ∷ 1 ∷ []) (1 ∷ 9 ∷ [])
 unfolding left
 leaves m' a c = c.leaves ∙ (ap (λ j. left j (blank nines)) computed.taken ∙ computed.laid)
 
 -- a default counted in the sizes of the elements around it
-pub default-summed : (a : EditAnswer) → TakeInClaim object (as_octets 6) (blank nines) (filled (7 ∷ 5 ∷ 3 ∷ 1 ∷ []) (1 ∷ 9 ∷ [])) a → ⊥
+pub default-summed : (a : Result ℕ Refusal) → TakeInClaim object (as_octets 6) (blank nines) (filled (7 ∷ 5 ∷ 3 ∷ 1 ∷ []) (1 ∷ 9 ∷ [])) a → ⊥
 default-summed a c = let z : ◌≡◌ {A = ℕ} 7 4 = ap (λ m. get_or m.bodies 0 0) (leaves _ a c) in omega arith
 
 -- the sizes of bodies as they were
-pub sizes-left : (a : EditAnswer) → TakeInClaim object (as_octets 6) (blank nines) (filled nines (1 ∷ 9 ∷ [])) a → ⊥
+pub sizes-left : (a : Result ℕ Refusal) → TakeInClaim object (as_octets 6) (blank nines) (filled nines (1 ∷ 9 ∷ [])) a → ⊥
 sizes-left a c = let z : ◌≡◌ {A = ℕ} 9 4 = ap (λ m. get_or m.bodies 0 0) (leaves _ a c) in omega arith
 
-abbrev number_of : EditAnswer → ℕ
-number_of (HasRecords n) = 0
-number_of (NotChanged r) = r.number
+abbrev number_of : Result ℕ Refusal → ℕ
+number_of (Ok n) = 0
+number_of (Err r) = r.number
 
 -- a normal form for which the caller has no room
-pub room-passed : (m' : Memory) → TakeInClaim object (as_octets 5) (blank nines) m' (HasRecords 4) → ⊥
+pub room-passed : (m' : Memory) → TakeInClaim object (as_octets 5) (blank nines) m' (Ok 4) → ⊥
 unfolding edit_answer
 room-passed m' c = let z : ◌≡◌ {A = ℕ} 0 15 = ap number_of (c.answers ∙ ap edit_answer computed.over) in omega arith
 
 -- memory that is laid over before 15
-pub laid-before-15 : (a : EditAnswer) → TakeInClaim object (as_octets 5) (blank nines) (filled (4 ∷ 2 ∷ 0 ∷ 1 ∷ []) (1 ∷ 9 ∷ [])) a → ⊥
+pub laid-before-15 : (a : Result ℕ Refusal) → TakeInClaim object (as_octets 5) (blank nines) (filled (4 ∷ 2 ∷ 0 ∷ 1 ∷ []) (1 ∷ 9 ∷ [])) a → ⊥
 unfolding left
 laid-before-15 a c =
     let e = c.leaves ∙ ap (λ j. left j (blank nines)) computed.over in
@@ -95,6 +95,6 @@ laid-before-15 a c =
     omega arith
 
 -- the list of the sizes of bodies not counted among the places
-pub sizes-uncounted : (m' : Memory) → TakeInClaim object (as_octets 6) (blank (9 ∷ 9 ∷ 9 ∷ [])) m' (HasRecords 4) → ⊥
+pub sizes-uncounted : (m' : Memory) → TakeInClaim object (as_octets 6) (blank (9 ∷ 9 ∷ 9 ∷ [])) m' (Ok 4) → ⊥
 unfolding edit_answer
 sizes-uncounted m' c = let z : ◌≡◌ {A = ℕ} 0 14 = ap number_of (c.answers ∙ ap edit_answer computed.crowded) in omega arith

@@ -37,18 +37,17 @@ use Rattle.format.proofs.Defaults.{own-few}
 use Rattle.format.proofs.Loading.{loaded-keeps}
 use Rattle.text.proofs.Expansion.{sound_empty}
 use Rattle.judge.specs.Inside.{beginning}
-use Rattle.survey.specs.declared.measure.Measured.{Measured}
-use Rattle.survey.specs.declared.measure.Measured.TheVariants.{Over, Sizes}
 use Rattle.survey.specs.Normal.{framed_size, normal_size}
-use Rattle.survey.specs.Sizes.{sizes_of}
+use Rattle.survey.specs.Sizes.{sizes_of, store_octets}
 use Rattle.survey.specs.Measure.{measured_in}
-use Rattle.survey.proofs.Sizes.{size-whole}
+use Rattle.survey.proofs.NormalSizes.{size-whole}
+use Rattle.survey.specs.declared.measure.Sizes.{Sizes}
 use Rattle.reader.specs.Filling.{Accepts}
 use Rattle.state.proofs.HeldTree.{Held, sizes-count}
 use Rattle.state.proofs.Packed.{loaded-again}
 use Rattle.state.proofs.SizesHeld.{own-packed}
 use Rattle.state.proofs.BodySizes.{body_size, size-item}
-use Rattle.std.specs.Prelude.{Some, Result, Ok, Err}
+use Rattle.std.specs.Prelude.{Some, Result, Ok, Err, Option, None}
 use Rattle.edits.specs.declared.EditError.{EditError}
 use Rattle.edits.specs.declared.EditError.TheVariants.{NoRecords, NoRoom}
 use Rattle.edits.specs.Errors.{refusal_of}
@@ -84,7 +83,7 @@ use Rattle.edits.proofs.InsertSizes.{few-records, part-less, records-low, low-at
 use Rattle.edits.proofs.Inserted.{settles, before-is, K, rules, counted, there-before, inside_is, ruled-ends, Ready}
 
 module _ (n i k : ℕ) (m : Memory) (t : Items) (holds : tree_held n m ≡ some t) (os : Octets m.store) (o : List ℕ) (bo : Octets o) (j : ℕ)
-    (found : child_of n i k m.lists.tags m.lists.depths ≡ Some j) (c : ℕ) (sizes : Measured) (ready : Ready n i k m t holds o j found c sizes) where
+    (found : child_of n i k m.lists.tags m.lists.depths ≡ Some j) (c : ℕ) (sizes : Option Sizes) (ready : Ready n i k m t holds o j found c sizes) where
   abbrev p : ℕ
   p = get_or m.lists.tags i 0
 
@@ -299,13 +298,13 @@ module _ (n i k : ℕ) (m : Memory) (t : Items) (holds : tree_held n m ≡ some 
             is = ends ∙ rw (q, f);
           })
 
-      measured : leb (n + c) (places_in m) ≡ true → (z : Measured) → z ≡ cond (leb A 32_768) (Sizes (as_octets S) (as_octets A)) Over → Fit (opened_by n used i j c m z)
-      measured q Over e =
+      measured : leb (n + c) (places_in m) ≡ true → (z : Option Sizes) → z ≡ cond (leb A 32_768) (Some (store_octets (as_octets S) (as_octets A))) None → Fit (opened_by n used i j c m z)
+      measured q None e =
           let w = not_chosen (leb A 32_768) e (λ y. never (cc)) in
           let f : leb (used + S) (length m.store) && leb (framed_size (top_then i A m)) 32_768 ≡ false =
           ap (λ b. leb (used + S) (length m.store) && b) (too_large (leb-false A 32_768 w.0)) ∙ and-false (leb (used + S) (length m.store)) in
           refuses NoRoom (over q false f refl)
-      measured q (Sizes s a) e =
+      measured q (Some (store_octets s a)) e =
           let w = chosen (leb A 32_768) e (λ y. never (cc)) in
           let u = w.1 in
           let se : s ≡ as_octets S = cc in
@@ -355,9 +354,9 @@ module _ (n i k : ℕ) (m : Memory) (t : Items) (holds : tree_held n m ≡ some 
     place = omega (arith, place_is, place-low, used-short);
   }
     where
-      small : (z : Measured) → z ≡ sizes_of (length (store_in [] p element)) (normal_size p element) → SmallSizes z
-      small Over e = tt
-      small (Sizes s a) e =
+      small : (z : Option Sizes) → z ≡ sizes_of (length (store_in [] p element)) (normal_size p element) → SmallSizes z
+      small None e = tt
+      small (Some (store_octets s a)) e =
           let w = chosen (leb (normal_size p element) 32_768) e (λ y. never (cc)) in
           let u = w.1 in
           let se : s ≡ as_octets (length (store_in [] p element)) = cc in

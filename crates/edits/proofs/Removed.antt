@@ -9,14 +9,12 @@ use native.Mathlib.Omega.{arith}
 use lib.Dec.{ltb}
 use lib.ListN.{length, get_or}
 use borrow.Author.Tests.{lt-ltb, le-ltb, ltb-true, ltb-false}
-use Rattle.std.specs.Prelude.{Result, Ok, Err}
+use Rattle.std.specs.Prelude.{Result, Ok, Err, Some, None, Option as Optional}
 use Rattle.octets.specs.declared.counts.Octets.{Octets as OctetCount}
 use Rattle.octets.specs.Counts.{as_octets}
 use Rattle.octets.specs.Numbers.{Octets}
 use Rattle.octets.specs.Places.{between}
 use Rattle.octets.proofs.Tests.{and_left, and_right, and-true}
-use Rattle.format.specs.declared.EditAnswer.{EditAnswer}
-use Rattle.format.specs.declared.EditAnswer.TheVariants.{HasRecords, NotChanged}
 use Rattle.format.specs.Tree.{Items, count}
 use Rattle.format.specs.Judge.{rule, unless}
 use Rattle.format.specs.Judge.Judged.{accepted}
@@ -27,8 +25,7 @@ use Rattle.format.specs.State.{Memory, places_in, packed, packed_store, lay_tree
 use Rattle.format.proofs.Kept.{ruled-parts}
 use Rattle.format.proofs.Written.{Bytes, located-bytes}
 use Rattle.format.proofs.Tabled.{count-item}
-use Rattle.state.specs.declared.Filled.{Filled}
-use Rattle.state.specs.declared.Filled.TheVariants.{Apart, Upto}
+use Rattle.format.specs.declared.Refusal.{Refusal}
 use Rattle.state.specs.Order.{nth, held_as, added_by}
 use Rattle.state.specs.Taking.{left, Leaves}
 use Rattle.state.proofs.HeldTree.{Held, held, sizes-count}
@@ -248,24 +245,24 @@ module _ (n i : ℕ) (m : Memory) (t : Items) (holds : tree_held n m ≡ some t)
         let u = count-item after.tag after.at after.body after.x after.y p.0 in
         omega (arith, packed-count less less-bytes rules, counted, many, after.number, site-fits n m t k after.swapped site-above)
 
-    pub gap-leaves : (m' : Memory) → Resited g m m' → EditClaim (remove i) n m m' (HasRecords (n - (g.records.from - i)))
+    pub gap-leaves : (m' : Memory) → Resited g m m' → EditClaim (remove i) n m m' (Ok (n - (g.records.from - i)))
     unfolding left edit_answer
     gap-leaves m' r =
         let j : edited_in m (remove i) (tree_held n m) ≡ accepted (packed less) = ap (edited_in m (remove i)) holds ∙ remove-leaves n m t holds os i there in
         let c = closed n used (length (encode (means [] less))) m (lay_tree (packed less) m) m' h gone after.holds sizes-many (subst (λ z. Resited z m m') (e ∙ gap-site) r) in
         record {
-          answers = ap HasRecords (sym left-records) ∙ sym (ap edit_answer j);
+          answers = ap Ok (sym left-records) ∙ sym (ap edit_answer j);
           leaves = c ∙ sym (ap (λ x. left x m) j);
         }
 
 -- ---- plan
-module _ (n i : ℕ) (m : Memory) (x : Filled) (e : x ≡ held_as (tree_held n m)) where
-  pub plan-none : x ≡ Apart → Err NoTree ≡ removal_of n i m
+module _ (n i : ℕ) (m : Memory) (x : Optional ℕ) (e : x ≡ held_as (tree_held n m)) where
+  pub plan-none : x ≡ None → Err NoTree ≡ removal_of n i m
   unfolding removal_in
   plan-none q = sym (ap (removal_in n i m) (sym e ∙ q))
 
-  module _ (used : ℕ) (q : x ≡ Upto used) where
-    as-held : held_as (tree_held n m) ≡ Upto used
+  module _ (used : ℕ) (q : x ≡ Some used) where
+    as-held : held_as (tree_held n m) ≡ Some used
     as-held = sym e ∙ q
 
     pub plan-top : i ≡ 0 → Err NoPlace ≡ removal_of n i m
@@ -290,7 +287,7 @@ module _ (n i : ℕ) (m : Memory) (x : Filled) (e : x ≡ held_as (tree_held n m
 
 -- ---- remove
 module _ (n i : ℕ) (m : Memory) (r : Result Gap EditError) (e : r ≡ removal_of n i m) where
-  pub refused-leaves : (z : EditError) → r ≡ Err z → (answer : EditAnswer) → answer ≡ NotChanged (refusal_of z) → EditClaim (remove i) n m m answer
+  pub refused-leaves : (z : EditError) → r ≡ Err z → (answer : Result ℕ Refusal) → answer ≡ Err (refusal_of z) → EditClaim (remove i) n m m answer
   unfolding held_as removal_in edited_in is_there unless rule left edit_answer
   refused-leaves z q answer f = go (tree_held n m) refl (sym q ∙ e)
     where
@@ -300,10 +297,10 @@ module _ (n i : ℕ) (m : Memory) (r : Result Gap EditError) (e : r ≡ removal_
       outside t h g false c d =
           let n-is : count t ≡ n = held-count n m t h in
           let w : z ≡ NoPlace = cc in
-          rw (n-is, c) (record { answers = f ∙ ap (λ j. NotChanged (refusal_of j)) w; leaves = refl })
+          rw (n-is, c) (record { answers = f ∙ ap (λ j. Err (refusal_of j)) w; leaves = refl })
 
       go : (o : Option Items) → tree_held n m ≡ o → Err z ≡ removal_in n i m (held_as o) → Leaves (edited_in m (remove i) o) m m answer
-      go none h d = let w : z ≡ NoTree = cc in record { answers = f ∙ ap (λ j. NotChanged (refusal_of j)) w; leaves = refl }
+      go none h d = let w : z ≡ NoTree = cc in record { answers = f ∙ ap (λ j. Err (refusal_of j)) w; leaves = refl }
       go (some t) h d = outside t h _ (ltb 0 i && ltb i n) refl d
 
   -- a gap is closed in a tree that memory holds, below its top
@@ -342,5 +339,5 @@ module _ (n i : ℕ) (m : Memory) (r : Result Gap EditError) (e : r ≡ removal_
     pub closes-order : (i ≤ g.records.from) × (g.records.from - i ≤ n)
     closes-order = let c = closing g q in gap-order n i m c.tree c.holds os c.above c.number g c.is
 
-    pub closes-leaves : (m' : Memory) → Resited g m m' → EditClaim (remove i) n m m' (HasRecords (n - (g.records.from - i)))
+    pub closes-leaves : (m' : Memory) → Resited g m m' → EditClaim (remove i) n m m' (Ok (n - (g.records.from - i)))
     closes-leaves m' w = let c = closing g q in gap-leaves n i m c.tree c.holds os c.above c.number g c.is m' w

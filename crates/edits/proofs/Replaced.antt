@@ -8,15 +8,13 @@ use native.Mathlib.Omega.{arith}
 use lib.Dec.{ltb}
 use lib.ListN.{length, get_or}
 use borrow.Author.Tests.{ltb-true, not-true, not-false}
-use Rattle.std.specs.Prelude.{Result, Ok, Err}
+use Rattle.std.specs.Prelude.{Result, Ok, Err, Some, None, Option as Optional}
 use Rattle.octets.specs.Counts.{as_octets}
 use Rattle.octets.specs.Numbers.{Octets}
 use Rattle.octets.proofs.Tests.{and_left, and_right}
 use Rattle.text.specs.Text.{text}
 use Rattle.text.specs.Tokens.{shown_length}
 use Rattle.format.specs.declared.Refusal.{Refusal}
-use Rattle.format.specs.declared.EditAnswer.{EditAnswer}
-use Rattle.format.specs.declared.EditAnswer.TheVariants.{HasRecords, NotChanged}
 use Rattle.format.specs.Answers.{refusal}
 use Rattle.format.specs.Tree.{Items}
 use Rattle.format.specs.Judge.{Judged, rule, unless, shown}
@@ -25,8 +23,6 @@ use Rattle.format.specs.Writer.{at_top, ruled}
 use Rattle.format.specs.Loaded.{loaded_in}
 use Rattle.format.specs.Calls.{edit_answer}
 use Rattle.format.specs.State.{Memory, packed, packed_store, kept, tree_held}
-use Rattle.state.specs.declared.Filled.{Filled}
-use Rattle.state.specs.declared.Filled.TheVariants.{Apart, Upto}
 use Rattle.state.specs.Order.{nth, held_as}
 use Rattle.state.specs.Taking.{settled, left, Leaves}
 use Rattle.state.proofs.HeldTree.{held}
@@ -47,24 +43,24 @@ use Rattle.edits.proofs.Only.Ends.{nowhere, unruled, ruled as ends-ruled}
 use Rattle.edits.proofs.NewTexts.{there-is, text-above, text-below, text-sized, text-judged, text-settable, text-set, text-count}
 
 -- ---- how an edit of a text ends, by what was planned
-untreed : (i : ℕ) (o : List ℕ) (m : Memory) (z : Refusal) (answer : EditAnswer) → answer ≡ NotChanged z
+untreed : (i : ℕ) (o : List ℕ) (m : Memory) (z : Refusal) (answer : Result ℕ Refusal) → answer ≡ Err z
     → Err z ≡ replacement_in none (edited_in m (replace i o) none)
     → Leaves (edited_in m (replace i o) none) m m answer
 unfolding replacement_in edited_in left edit_answer
-untreed i o m z answer f h = let w : z ≡ refusal 16 0 = cc in record { answers = f ∙ ap NotChanged w; leaves = refl }
+untreed i o m z answer f h = let w : z ≡ refusal 16 0 = cc in record { answers = f ∙ ap Err w; leaves = refl }
 
-refused_as : (m : Memory) (z k : Refusal) (answer : EditAnswer) → answer ≡ NotChanged z → z ≡ k → Leaves (refused k) m m answer
+refused_as : (m : Memory) (z k : Refusal) (answer : Result ℕ Refusal) → answer ≡ Err z → z ≡ k → Leaves (refused k) m m answer
 unfolding left edit_answer
-refused_as m z k answer f w = record { answers = f ∙ ap NotChanged w; leaves = refl }
+refused_as m z k answer f w = record { answers = f ∙ ap Err w; leaves = refl }
 
-fitting-leaves : (m : Memory) (t u : Items) (z : Refusal) (answer : EditAnswer) → answer ≡ NotChanged z → {j : Judged} → Fitting (as_octets 32_768) m u j
+fitting-leaves : (m : Memory) (t u : Items) (z : Refusal) (answer : Result ℕ Refusal) → answer ≡ Err z → {j : Judged} → Fitting (as_octets 32_768) m u j
     → Err z ≡ replacement_in (some t) j → Leaves j m m answer
 unfolding replacement_in
 fitting-leaves m t u z answer f (crowded a) h = refused_as m z (refusal 14 0) answer f (cc)
 fitting-leaves m t u z answer f (overfull a b) h = refused_as m z (refusal 15 0) answer f (cc)
 fitting-leaves m t u z answer f (fits a b) h = let w : ◌≡◌ {A = ℕ} 0 1 = cc in absurd (omega arith)
 
-ends-leaves : (i : ℕ) (o : List ℕ) (m : Memory) (t : Items) (z : Refusal) (answer : EditAnswer) → answer ≡ NotChanged z → {j : Judged}
+ends-leaves : (i : ℕ) (o : List ℕ) (m : Memory) (t : Items) (z : Refusal) (answer : Result ℕ Refusal) → answer ≡ Err z → {j : Judged}
     → Ends m (replace i o) t j
     → Err z ≡ replacement_in (some t) j → Leaves j m m answer
 unfolding replacement_in
@@ -125,7 +121,7 @@ fine_of n i o m used os ot (some t) h q =
         absurd (omega arith)
 
 -- ---- plan_text
-pub plan-places : (n : ℕ) (m : Memory) (x : Filled) → x ≡ held_as (tree_held n m) → (used : ℕ) → x ≡ Upto used → (n ≤ length m.lists.tags) × (n ≤ length m.lists.parents)
+pub plan-places : (n : ℕ) (m : Memory) (x : Optional ℕ) → x ≡ held_as (tree_held n m) → (used : ℕ) → x ≡ Some used → (n ≤ length m.lists.tags) × (n ≤ length m.lists.parents)
 plan-places n m x e used q =
     let tree = held-as (tree_held n m) used (sym e ∙ q) in
     let w = enough n m tree.0 (held n m tree.0 tree.1) in
@@ -135,16 +131,16 @@ pub plan-number : (n i : ℕ) (tags parents : List ℕ) (b : Bool) → b ≡ is_
 unfolding is_text_at
 plan-number n i tags parents b e z = ltb-true i n (and_right (ltb 0 i) (ltb i n) (and_left (ltb 0 i && ltb i n) _ (sym e ∙ not-false b z)))
 
-module _ (n i : ℕ) (o : List ℕ) (m : Memory) (x : Filled) (e : x ≡ held_as (tree_held n m)) where
-  pub plan-apart : x ≡ Apart → Err (refusal 16 0) ≡ replacement_of n i o m
+module _ (n i : ℕ) (o : List ℕ) (m : Memory) (x : Optional ℕ) (e : x ≡ held_as (tree_held n m)) where
+  pub plan-apart : x ≡ None → Err (refusal 16 0) ≡ replacement_of n i o m
   unfolding held_as replacement_in
   plan-apart q = go (tree_held n m) (sym q ∙ e)
     where
-      go : (a : Option Items) → Apart ≡ held_as a → Err (refusal 16 0) ≡ replacement_in a (edited_in m (replace i o) a)
+      go : (a : Option Items) → None ≡ held_as a → Err (refusal 16 0) ≡ replacement_in a (edited_in m (replace i o) a)
       go none h = refl
       go (some t) h = let z : ◌≡◌ {A = ℕ} 0 1 = cc in absurd (omega arith)
 
-  module _ (used : ℕ) (q : x ≡ Upto used) where
+  module _ (used : ℕ) (q : x ≡ Some used) where
     tree : (t : Items) × (tree_held n m ≡ some t) × (length (packed_store t) ≡ used)
     tree = held-as (tree_held n m) used (sym e ∙ q)
 
@@ -205,7 +201,7 @@ module _ (n i : ℕ) (o : List ℕ) (m : Memory) (x : Filled) (e : x ≡ held_as
 -- ---- replace_text
 module _ (n i : ℕ) (o : List ℕ) (m : Memory) (r : Result ℕ EditError)
     (e : planned r ≡ replacement_of n i o m) where
-  pub refused-leaves : (z : EditError) → r ≡ Err z → (answer : EditAnswer) → answer ≡ NotChanged (refusal_of z) → EditClaim (replace i o) n m m answer
+  pub refused-leaves : (z : EditError) → r ≡ Err z → (answer : Result ℕ Refusal) → answer ≡ Err (refusal_of z) → EditClaim (replace i o) n m m answer
   refused-leaves z q answer f = go (tree_held n m) (sym (ap planned q) ∙ e)
     where
       go : (a : Option Items) → Err (refusal_of z) ≡ replacement_in a (edited_in m (replace i o) a) → Leaves (edited_in m (replace i o) a) m m answer
@@ -235,7 +231,7 @@ module _ (n i : ℕ) (o : List ℕ) (m : Memory) (r : Result ℕ EditError)
           };
           bodies = bodies';
           store = store';
-        }) (HasRecords n)
+        }) (Ok n)
     unfolding left edit_answer
     fits-leaves starts' sizes' bodies' store' s =
         let f = fine in
@@ -244,6 +240,6 @@ module _ (n i : ℕ) (o : List ℕ) (m : Memory) (r : Result ℕ EditError)
         let c = text-count n i o m f.tree f.holds os ot f.there f.rules f.fits in
         let set_here = subst (λ z. TextSet n i z o m.lists.tags m.lists.parents m.lists.starts m.lists.sizes m.bodies m.store starts' sizes' bodies' store') (sym f.taken) s in
         record {
-          answers = ap HasRecords (sym c) ∙ sym (ap edit_answer j);
+          answers = ap Ok (sym c) ∙ sym (ap edit_answer j);
           leaves = text-set n i o m f.tree f.holds os ot f.there f.rules f.fits starts' sizes' bodies' store' set_here ∙ sym (ap (λ k. left k m) j);
         }

@@ -1,4 +1,5 @@
 -- After any run of edits memory holds the tree that the edits made, as if it had been laid there afresh, and that tree is written in normal form.
+use Rattle.std.specs.Prelude.{Result, Ok}
 use mathlib.Core.Path.{◌≡◌, refl, sym, ap, ◌∙◌, subst}
 use mathlib.Core.Bool.{true}
 use mathlib.Core.Option.{some}
@@ -10,8 +11,6 @@ use lib.Seq.{sets}
 use Rattle.octets.specs.Counts.{size_of}
 use Rattle.octets.specs.declared.counts.Octets.{Octets as OctetCount}
 use Rattle.octets.specs.Numbers.{Octets}
-use Rattle.format.specs.declared.EditAnswer.TheVariants.{HasRecords}
-use Rattle.format.specs.declared.WriteAnswer.{WriteAnswer}
 use Rattle.format.specs.Answers.{edit_outcome}
 use Rattle.format.specs.Tree.{Items, count}
 use Rattle.format.specs.Judge.{Judged, judge}
@@ -24,6 +23,7 @@ use Rattle.format.proofs.Loading.{loaded-means}
 use Rattle.format.proofs.Written.{located-bytes}
 use Rattle.format.proofs.Rebuilt.{whole-rebuilt}
 use Rattle.format.proofs.Calls.{written-means}
+use Rattle.format.specs.declared.Refusal.{Refusal}
 use Rattle.state.specs.Taking.{taken_in, left, TakeInClaim, WriteStateClaim}
 use Rattle.state.proofs.HeldTree.{Fits, held, laid-held}
 use Rattle.state.proofs.Taken.{refused-kept, taken-ends, fitting-tree}
@@ -39,14 +39,14 @@ laid-stands : (m : Memory) (t : Items) → Standing t → Fits m t → tree_held
 laid-stands m t s f = laid-held m t s.packs s.rules s.one f
 
 -- ---- an answer with records is no refusal
-no-records : (j : Judged) (n : ℕ) → HasRecords n ≡ edit_answer j → (t : Items) × (j ≡ accepted t) × (n ≡ count t)
+no-records : (j : Judged) (n : ℕ) → Ok n ≡ edit_answer j → (t : Items) × (j ≡ accepted t) × (n ≡ count t)
 unfolding edit_answer
 no-records (refused r) n h = let z : ◌≡◌ {A = ℕ} 0 1 = cc in absurd (omega arith)
 no-records (accepted t) n h = (t, refl, ap (λ a. (edit_outcome a).count) h)
 
 -- ---- a tree that is taken in
 module _ (object : List ℕ) (os : Octets object) (t : Items) (h : judge object ≡ accepted t) (m m' : Memory) (n : ℕ)
-    (most : OctetCount) (c : TakeInClaim object most m m' (HasRecords n)) where
+    (most : OctetCount) (c : TakeInClaim object most m m' (Ok n)) where
   pub taken-held : tree_held n m' ≡ some (loaded_of t)
   unfolding left
   taken-held =
@@ -58,7 +58,7 @@ module _ (object : List ℕ) (os : Octets object) (t : Items) (h : judge object 
 
 -- ---- an edit
 module _ (e : Edit) (n n' : ℕ) (m m' : Memory) (t : Items) (os : Octets m.store) (brings : BringsOctets e) (h : tree_held n m ≡ some t)
-    (c : EditClaim e n m m' (HasRecords n')) where
+    (c : EditClaim e n m m' (Ok n')) where
   pub record EditLeaves : Type 0 where
     pub tree : Items
     pub is : edited e t ≡ some tree
@@ -96,18 +96,18 @@ reached-means {n = n} {m = m} {t = t} r os =
     written-means (row m.lists) n m.store t os (whole-rebuilt (row m.lists) n m.store t h.whole) h.small
 
 -- writing from memory gives that normal form
-pub record Written (t : Items) (room room' : List ℕ) (answer : WriteAnswer) : Type 0 where
+pub record Written (t : Items) (room room' : List ℕ) (answer : Result Octets Refusal) : Type 0 where
   pub answers : answer ≡ write_answer (size_of room) (some t)
   pub leaves : room' ≡ sets room 0 (write_octets (size_of room) (some t))
 
-pub reached-written : {n : ℕ} {m : Memory} {t : Items} → Reached n m t → (room room' : List ℕ) (answer : WriteAnswer) → WriteStateClaim n m room room' answer
+pub reached-written : {n : ℕ} {m : Memory} {t : Items} → Reached n m t → (room room' : List ℕ) (answer : Result Octets Refusal) → WriteStateClaim n m room room' answer
     → Written t room room' answer
 reached-written r room room' answer c =
     let e = reached-held r in
     record { answers = c.answers ∙ ap (write_answer (size_of room)) e; leaves = c.leaves ∙ ap (λ o. sets room 0 (write_octets (size_of room) o)) e }
 
 -- two runs to the same content write the same octets, whatever came before: one of them may be an object that is taken in and never edited
-pub same-written : {n k : ℕ} {m w : Memory} {t u : Items} → Reached n m t → Reached k w u → means [] t ≡ means [] u → (room one two : List ℕ) (a b : WriteAnswer)
+pub same-written : {n k : ℕ} {m w : Memory} {t u : Items} → Reached n m t → Reached k w u → means [] t ≡ means [] u → (room one two : List ℕ) (a b : Result Octets Refusal)
     → WriteStateClaim n m room one a → WriteStateClaim k w room two b → (a ≡ b) × (one ≡ two)
 unfolding write_answer write_octets
 same-written {t = t} {u = u} r q e room one two a b c d =

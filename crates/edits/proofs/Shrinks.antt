@@ -26,7 +26,7 @@ use Rattle.format.specs.State.{Memory, places_in, packed, packed_store, kept, tr
 use Rattle.format.proofs.Written.{Bytes, located-bytes}
 use Rattle.format.proofs.Rebuilt.{whole-count}
 use Rattle.survey.specs.Normal.{framed_size, normal_size}
-use Rattle.survey.proofs.Sizes.{size-whole}
+use Rattle.survey.proofs.NormalSizes.{size-whole}
 use Rattle.state.specs.Taking.{overflow, settled}
 use Rattle.state.proofs.HeldTree.{held}
 use Rattle.edits.specs.Tree.{change_at, without, is_there, changed}

@@ -17,7 +17,7 @@ use Rattle.format.proofs.Force.{top-known}
 use Rattle.format.proofs.Means.{opens-items}
 use Rattle.format.proofs.Order.{ruled-order, three-end}
 use Rattle.survey.specs.Normal.{framed_size, normal_size}
-use Rattle.survey.proofs.Sizes.{size-whole}
+use Rattle.survey.proofs.NormalSizes.{size-whole}
 use Rattle.state.specs.Order.{item_adds}
 use Rattle.state.proofs.BodySizes.{body_size, size-open, size-item, open-counts}
 use Rattle.state.proofs.HeldTree.{sizes-count}

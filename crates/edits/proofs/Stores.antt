@@ -1,4 +1,5 @@
 -- Memory that holds a tree begins with what the tree takes of the store, and its lists have a place for each record.
+use Rattle.std.specs.Prelude.{Some}
 use mathlib.Core.Path.{◌≡◌, refl, sym, ap, ap₂, ◌∙◌, subst}
 use mathlib.Core.Bool.{Bool, true, false, cond}
 use mathlib.Core.Option.{Option, none, some, none-ne-some}
@@ -20,7 +21,6 @@ use Rattle.format.specs.State.{Memory, packed_store, tree_held}
 use Rattle.format.proofs.Spans.{Located, part-span}
 use Rattle.format.proofs.Loading.{loaded-held, loaded-single}
 use Rattle.format.proofs.Rebuilt.{whole-count}
-use Rattle.state.specs.declared.Filled.TheVariants.{Upto}
 use Rattle.state.specs.Order.{held_as}
 use Rattle.state.proofs.HeldTree.{Held, held as held_whole}
 use Rattle.state.proofs.Packed.{store-held, store-single}
@@ -76,7 +76,7 @@ pub held-count : (n : ℕ) (m : Memory) (t : Items) → tree_held n m ≡ some t
 held-count n m t h = sym (whole-count (row m.lists) n m.store t (held_whole n m t h).whole)
 
 -- the tree that the check of memory speaks of
-pub held-as : (o : Option Items) (used : ℕ) → held_as o ≡ Upto used → (t : Items) × (o ≡ some t) × (length (packed_store t) ≡ used)
+pub held-as : (o : Option Items) (used : ℕ) → held_as o ≡ Some used → (t : Items) × (o ≡ some t) × (length (packed_store t) ≡ used)
 unfolding held_as
 held-as none used h = let z : ◌≡◌ {A = ℕ} 0 1 = cc in absurd (omega arith)
 held-as (some t) used h = (t, refl, cc)

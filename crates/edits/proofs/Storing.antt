@@ -1,4 +1,5 @@
 -- The ways through the functions of store.rt.
+use Rattle.std.specs.Prelude.{Result, Ok, Err}
 use mathlib.Core.Path.{◌≡◌, refl, sym, ap, ◌∙◌, subst}
 use mathlib.Core.Bool.{Bool, true, false}
 use mathlib.Core.Option.{some, some-injective}
@@ -6,8 +7,9 @@ use mathlib.Core.List.{List}
 use Prim.Native.Nat.{ℕ, ◌+◌, ◌≤◌}
 use lib.ListN.{length}
 use Rattle.octets.specs.Puts.{Puts}
-use Rattle.octets.specs.declared.Put.{Put}
 use Rattle.octets.proofs.Puts.{put-done, put-room, put-there}
+use Rattle.octets.specs.declared.PutError.{PutError}
+use Rattle.octets.specs.declared.PutError.TheVariants.{NoRoom, Invalid}
 use Rattle.text.specs.Tokens.{Entries, entries, expanded}
 use Rattle.text.specs.Index.{Indexes, entries_by}
 use Rattle.values.specs.declared.Kind.{Kind}
@@ -24,30 +26,30 @@ use Rattle.format.proofs.Means.{text-known}
 
 -- ---- a text
 
-module _ (index table body store store' : List ℕ) (at : ℕ) (answer : Put) (by_index : Puts true (expanded (entries_by index table) body) at store store' answer)
+module _ (index table body store store' : List ℕ) (at : ℕ) (answer : Result ℕ PutError) (by_index : Puts true (expanded (entries_by index table) body) at store store' answer)
     (made : Indexes (entries table) index) where
   claim : Puts true (expanded (entries table) body) at store store' answer
   claim = indexed-claim table index made body store store' at answer by_index
 
-  pub text-done : (end : ℕ) → answer ≡ Put.Done end → BodyStored (expanded (entries table) body) store store' at end
+  pub text-done : (end : ℕ) → answer ≡ Ok end → BodyStored (expanded (entries table) body) store store' at end
   text-done end q = let d = put-done true (expanded (entries table) body) at store store' answer claim end q in record { ends = d.place; holds = d.laid }
 
-  pub text-no-room : answer ≡ Put.NoRoom → at + length (expanded (entries table) body) ≤ length store → BodyStored (expanded (entries table) body) store store' at at
+  pub text-no-room : answer ≡ Err NoRoom → at + length (expanded (entries table) body) ≤ length store → BodyStored (expanded (entries table) body) store store' at at
   text-no-room q h = put-room true (expanded (entries table) body) at store store' answer claim h q
 
-  pub text-invalid : answer ≡ Put.Invalid → BodyStored (expanded (entries table) body) store store' at at
+  pub text-invalid : answer ≡ Err Invalid → BodyStored (expanded (entries table) body) store store' at at
   text-invalid q = put-there true (expanded (entries table) body) at store store' answer claim refl q
 
 -- ---- a value
 
-module _ (kind : Kind) (body store store' : List ℕ) (at : ℕ) (answer : Put) (p : Puts (fits kind body) (normal_octets kind body) at store store' answer) (s : ValueStorable kind body store at) where
-  pub value-done : (end : ℕ) → answer ≡ Put.Done end → BodyStored (normal_octets kind body) store store' at end
+module _ (kind : Kind) (body store store' : List ℕ) (at : ℕ) (answer : Result ℕ PutError) (p : Puts (fits kind body) (normal_octets kind body) at store store' answer) (s : ValueStorable kind body store at) where
+  pub value-done : (end : ℕ) → answer ≡ Ok end → BodyStored (normal_octets kind body) store store' at end
   value-done end q = let d = put-done (fits kind body) (normal_octets kind body) at store store' answer p end q in record { ends = d.place; holds = d.laid }
 
-  pub value-no-room : answer ≡ Put.NoRoom → BodyStored (normal_octets kind body) store store' at at
+  pub value-no-room : answer ≡ Err NoRoom → BodyStored (normal_octets kind body) store store' at at
   value-no-room q = put-room (fits kind body) (normal_octets kind body) at store store' answer p s.room q
 
-  pub value-invalid : answer ≡ Put.Invalid → BodyStored (normal_octets kind body) store store' at at
+  pub value-invalid : answer ≡ Err Invalid → BodyStored (normal_octets kind body) store store' at at
   value-invalid q = put-there (fits kind body) (normal_octets kind body) at store store' answer p s.fit q
 
 -- ---- a body

@@ -13,7 +13,7 @@ use Rattle.format.specs.Loaded.{stored}
 use Rattle.format.specs.State.{body_sizes, packed}
 use Rattle.format.proofs.Kept.{Ruled, ruled-parts, keeps-tag}
 use Rattle.survey.specs.Normal.{normal_size}
-use Rattle.survey.proofs.Sizes.{size-whole}
+use Rattle.survey.proofs.NormalSizes.{size-whole}
 use Rattle.edits.specs.Lay.{added_in, own_sizes}
 use Rattle.state.specs.Order.{item_adds}
 use Rattle.state.proofs.BodySizes.{body_size, size-open, size-shut, size-item}

@@ -1,4 +1,5 @@
 -- The ways through take_in: what the survey of an object says is how taking it in ends, and what is laid is what memory is left with.
+use Rattle.std.specs.Prelude.{Result, Ok, Err}
 use mathlib.Core.Path.{◌≡◌, refl, sym, ap, ◌∙◌, subst}
 use mathlib.Core.Bool.{Bool, true, false, cond}
 use mathlib.Core.List.{List, [], ◌∷◌}
@@ -12,7 +13,6 @@ use Rattle.octets.specs.Counts.{size_of}
 use Rattle.octets.specs.Numbers.{Octets}
 use Rattle.octets.proofs.Tests.{and_left, and_right, never}
 use Rattle.format.specs.declared.Refusal.{Refusal}
-use Rattle.format.specs.declared.EditAnswer.TheVariants.{HasRecords, NotChanged}
 use Rattle.format.specs.Answers.{refusal}
 use Rattle.format.specs.Tree.{Items, count}
 use Rattle.format.specs.Judge.{Judged, first, rule, unless, judge}
@@ -22,9 +22,9 @@ use Rattle.format.specs.Loaded.{store_of, loaded_of}
 use Rattle.format.specs.Calls.{places, Lent, roomy, stored_within, edit_answer}
 use Rattle.format.specs.State.{Memory, places_in}
 use Rattle.format.proofs.Loading.{loaded-means, loaded-count}
-use Rattle.survey.specs.declared.Standing.{Standing}
-use Rattle.survey.specs.declared.Standing.TheVariants.{Bad, Misfit, Fits}
 use Rattle.survey.specs.Survey.{surveyed}
+use Rattle.survey.specs.declared.Unfit.{Unfit}
+use Rattle.survey.specs.declared.Unfit.TheVariants.{Bad, Misfit}
 use Rattle.state.specs.Taking.{overflow, settled, taken_in, left, TakeInClaim}
 use Rattle.edits.specs.Lay.{Layable, LaysTree}
 use Rattle.state.proofs.Packed.{accepted-store}
@@ -34,7 +34,7 @@ abbrev pub lent_for : OctetCount → Memory → Lent
 lent_for most m = record { records = places_in m; store = size_of m.store; room = most }
 
 -- the places, counted in the code
-pub counted : (o : List ℕ) (most : OctetCount) (m : Memory) (n : ℕ) (v : Standing) → n ≡ min (places m.lists) (length m.bodies)
+pub counted : (o : List ℕ) (most : OctetCount) (m : Memory) (n : ℕ) (v : Result (Unit {0}) Unfit) → n ≡ min (places m.lists) (length m.bodies)
     → v ≡ surveyed (record { records = n; store = size_of m.store; room = most }) (judge o) → v ≡ surveyed (lent_for most m) (judge o)
 unfolding places_in
 counted o most m n v e h = h ∙ ap (λ x. surveyed (record { records = x; store = size_of m.store; room = most }) (judge o)) e
@@ -46,10 +46,10 @@ record Suits (o : List ℕ) (most : OctetCount) (m : Memory) (t : Items) : Type 
   within : stored_within (lent_for most m) t ≡ true
 
 -- how an object stands, and how taking it in then ends
-data Ends (o : List ℕ) (most : OctetCount) (m : Memory) : Standing → Judged → Type 0 where
-  bad : (r : Refusal) → Ends o most m (Bad r) (refused r)
-  misfit : (r : Refusal) → Ends o most m (Misfit r) (refused r)
-  fits : (t : Items) → Suits o most m t → Ends o most m Fits (accepted (loaded_of t))
+data Ends (o : List ℕ) (most : OctetCount) (m : Memory) : Result (Unit {0}) Unfit → Judged → Type 0 where
+  bad : (r : Refusal) → Ends o most m (Err (Bad r)) (refused r)
+  misfit : (r : Refusal) → Ends o most m (Err (Misfit r)) (refused r)
+  fits : (t : Items) → Suits o most m t → Ends o most m (Ok tt) (accepted (loaded_of t))
 
 -- read back
 record Fitted (o : List ℕ) (most : OctetCount) (m : Memory) (j : Judged) : Type 0 where
@@ -57,17 +57,17 @@ record Fitted (o : List ℕ) (most : OctetCount) (m : Memory) (j : Judged) : Typ
   suits : Suits o most m tree
   taken : j ≡ accepted (loaded_of tree)
 
-is-bad : {o : List ℕ} {most : OctetCount} {m : Memory} {v : Standing} {j : Judged} → Ends o most m v j → (r : Refusal) → v ≡ Bad r → j ≡ refused r
+is-bad : {o : List ℕ} {most : OctetCount} {m : Memory} {v : (Result (Unit {0}) Unfit)} {j : Judged} → Ends o most m v j → (r : Refusal) → v ≡ Err (Bad r) → j ≡ refused r
 is-bad (bad x) r q = cc
 is-bad (misfit x) r q = never (cc)
 is-bad (fits t s) r q = never (cc)
 
-is-misfit : {o : List ℕ} {most : OctetCount} {m : Memory} {v : Standing} {j : Judged} → Ends o most m v j → (r : Refusal) → v ≡ Misfit r → j ≡ refused r
+is-misfit : {o : List ℕ} {most : OctetCount} {m : Memory} {v : (Result (Unit {0}) Unfit)} {j : Judged} → Ends o most m v j → (r : Refusal) → v ≡ Err (Misfit r) → j ≡ refused r
 is-misfit (bad x) r q = never (cc)
 is-misfit (misfit x) r q = cc
 is-misfit (fits t s) r q = never (cc)
 
-does-fit : {o : List ℕ} {most : OctetCount} {m : Memory} {v : Standing} {j : Judged} → Ends o most m v j → v ≡ Fits → Fitted o most m j
+does-fit : {o : List ℕ} {most : OctetCount} {m : Memory} {v : (Result (Unit {0}) Unfit)} {j : Judged} → Ends o most m v j → v ≡ Ok tt → Fitted o most m j
 does-fit (bad x) q = never (cc)
 does-fit (misfit x) q = never (cc)
 does-fit (fits t s) q = record { tree = t; suits = s; taken = refl }
@@ -86,7 +86,7 @@ module _ (o : List ℕ) (os : Octets o) (most : OctetCount) (m : Memory) where
   ends = go (judge o) refl
     where
       on : (t : Items) → judge o ≡ accepted t → (a : Bool) → leb (count t) (places_in m) ≡ a → (b : Bool) → stored_within lent t ≡ b
-          → Ends o most m (cond a (cond b Fits (Misfit (refusal 15 0))) (Misfit (refusal 14 0))) (unless (first (rule 14 0 a ∷ rule 15 0 b ∷ [])) (accepted (loaded_of t)))
+          → Ends o most m (cond a (cond b (Ok tt) (Err (Misfit (refusal 15 0)))) (Err (Misfit (refusal 14 0)))) (unless (first (rule 14 0 a ∷ rule 15 0 b ∷ [])) (accepted (loaded_of t)))
       on t j true p true q = fits t (record { judged = j; few = leb-true (count t) (places_in m) p; within = q })
       on t j true p false q = misfit (refusal 15 0)
       on t j false p b q = misfit (refusal 14 0)
@@ -96,22 +96,22 @@ module _ (o : List ℕ) (os : Octets o) (most : OctetCount) (m : Memory) where
       go (accepted t) j =
           subst (λ z. Ends o most m (surveyed lent (accepted t)) (unless z (accepted (loaded_of t)))) (sym (same-overflow t j)) (on t j (leb (count t) (places_in m)) refl (stored_within lent t) refl)
 
-  module _ (v : Standing) (e : v ≡ surveyed lent (judge o)) where
+  module _ (v : Result (Unit {0}) Unfit) (e : v ≡ surveyed lent (judge o)) where
     ends_so : Ends o most m v (taken_in most m (judge o))
     ends_so = subst (λ z. Ends o most m z (taken_in most m (judge o))) (sym e) ends
 
     -- nothing is touched on a refusal
-    untouched : (r : Refusal) → taken_in most m (judge o) ≡ refused r → TakeInClaim o most m m (NotChanged r)
+    untouched : (r : Refusal) → taken_in most m (judge o) ≡ refused r → TakeInClaim o most m m (Err r)
     unfolding edit_answer left
     untouched r q = record { answers = rw q; leaves = rw q }
 
-    pub take-bad : (r : Refusal) → v ≡ Bad r → TakeInClaim o most m m (NotChanged r)
+    pub take-bad : (r : Refusal) → v ≡ Err (Bad r) → TakeInClaim o most m m (Err r)
     take-bad r q = untouched r (is-bad ends_so r q)
 
-    pub take-misfit : (r : Refusal) → v ≡ Misfit r → TakeInClaim o most m m (NotChanged r)
+    pub take-misfit : (r : Refusal) → v ≡ Err (Misfit r) → TakeInClaim o most m m (Err r)
     take-misfit r q = untouched r (is-misfit ends_so r q)
 
-    module _ (q : v ≡ Fits) where
+    module _ (q : v ≡ Ok tt) where
       pub take-can : Layable o m
       unfolding stored_within roomy
       take-can =
@@ -128,9 +128,9 @@ module _ (o : List ℕ) (os : Octets o) (most : OctetCount) (m : Memory) where
             small = omega (arith, leb-true (length (normal_of t)) (min most.0 32_768) (and_right a b w));
           }
 
-      pub take-laid : (m' : Memory) (n : ℕ) → LaysTree o m m' n → TakeInClaim o most m m' (HasRecords n)
+      pub take-laid : (m' : Memory) (n : ℕ) → LaysTree o m m' n → TakeInClaim o most m m' (Ok n)
       unfolding edit_answer left LaysTree
       take-laid m' n l =
           let f = does-fit ends_so q in
           let k = l f.tree f.suits.judged in
-          record { answers = rw f.taken (ap HasRecords k.many); leaves = rw f.taken k.leaves }
+          record { answers = rw f.taken (ap Ok k.many); leaves = rw f.taken k.leaves }

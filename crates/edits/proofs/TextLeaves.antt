@@ -1,4 +1,5 @@
 -- Replacing a text: the ways through the leaves.
+use Rattle.std.specs.Prelude.{Result}
 use mathlib.Core.Path.{◌≡◌, sym, ap, ap₂, ◌∙◌, subst}
 use mathlib.Core.Bool.{Bool, true, false, and-false}
 use mathlib.Core.List.{List}
@@ -9,11 +10,11 @@ use lib.Dec.{leb, ltb}
 use lib.ListN.{length, get_or, set}
 use lib.Seq.{sets}
 use borrow.Author.Tests.{le-leb, lt-leb, lt-ltb, le-ltb}
-use Rattle.octets.specs.declared.Put.{Put}
 use Rattle.octets.specs.declared.counts.Octets.{Octets as OctetCount}
 use Rattle.octets.specs.Places.{between}
 use Rattle.octets.specs.Puts.{Puts, put_out}
 use Rattle.octets.proofs.Lists.{sets-append, sets-comm}
+use Rattle.octets.specs.declared.PutError.{PutError}
 use Rattle.values.specs.Table.{known}
 use Rattle.format.specs.Judge.{is_text}
 use Rattle.survey.specs.Normal.{framed_size}
@@ -64,7 +65,7 @@ module _ (i long used room : ℕ) (parents sizes bodies : List ℕ) where
           ∙ sym (rw (le-leb long 32_768 a, le-leb (used - get_or sizes i 0 + long) room b)))
 
 -- ---- put_text
-pub put-fits : (octets : List ℕ) (at : ℕ) (before after : List ℕ) (answer : Put) → Puts true octets at before after answer → at + length octets ≤ length before
+pub put-fits : (octets : List ℕ) (at : ℕ) (before after : List ℕ) (answer : Result ℕ PutError) → Puts true octets at before after answer → at + length octets ≤ length before
     → after ≡ sets before at octets
 unfolding put_out
 put-fits octets at before after answer p h = p.leaves ∙ rw (le-leb (at + length octets) (length before) h)

@@ -7,15 +7,13 @@ use Rattle.octets.specs.Places.{between}
 use Rattle.values.specs.Table.{attribute}
 use Rattle.format.specs.Meaning.{opens, is_child}
 use Rattle.format.specs.State.{Memory, places_in, tree_held}
+use Rattle.format.specs.declared.Refusal.{Refusal}
 use Rattle.judge.specs.Inside.{judge_inside}
-use Rattle.survey.specs.declared.measure.Measured.{Measured}
-use Rattle.survey.specs.declared.measure.Measured.TheVariants.{Over, Sizes}
-use Rattle.survey.specs.declared.Needed.{Needed}
-use Rattle.survey.specs.declared.Needed.TheVariants.{Refused as Broken, Takes}
 use Rattle.survey.specs.Normal.{framed_size}
-use Rattle.survey.specs.Survey.{needed_by}
-use Rattle.state.specs.declared.Filled.{Filled}
-use Rattle.state.specs.declared.Filled.TheVariants.{Apart, Upto}
+use Rattle.survey.specs.Survey.{needed_by, records_sizes}
+use Rattle.survey.specs.declared.measure.Sizes.{Sizes}
+use Rattle.survey.specs.declared.Needs.{Needs}
+use Rattle.survey.specs.Sizes.{store_octets}
 use Rattle.state.specs.Order.{held_as}
 use Rattle.edits.specs.declared.resite.Gap.{Gap}
 use Rattle.edits.specs.declared.lay.Level.{Level}
@@ -72,13 +70,13 @@ unfoldable pub is_element : List ℕ → Bool
 is_element o = is_one_item o && is_child (get_or o 0 0)
 
 -- an unknown element gives no record
-abbrev pub admitted : (j c : ℕ) → Measured → Admitted
+abbrev pub admitted : (j c : ℕ) → Option Sizes → Admitted
 admitted j c sizes = record { next = j; records = c; sizes = sizes }
 
-unfoldable pub as_admitted : (j : ℕ) → Needed → Result Admitted EditError
-as_admitted j (Broken r) = Err BreaksRule
-as_admitted j (Takes zero sizes) = Err BreaksRule
-as_admitted j (Takes (suc c) sizes) = Ok (admitted j (suc c) sizes)
+unfoldable pub as_admitted : (j : ℕ) → Result Needs Refusal → Result Admitted EditError
+as_admitted j (Err r) = Err BreaksRule
+as_admitted j (Ok (records_sizes zero sizes)) = Err BreaksRule
+as_admitted j (Ok (records_sizes (suc c) sizes)) = Ok (admitted j (suc c) sizes)
 
 unfoldable pub admitted_at : (j k later tag depth : ℕ) → List ℕ → Result Admitted EditError
 admitted_at j k later tag depth o = cond (is_element o && comes_between k (get_or o 0 0) later) (as_admitted j (needed_by tag (judge_inside tag depth o)))
@@ -106,9 +104,9 @@ gap_for n used i j c stored octets sizes = record {
 abbrev pub top_then : (i octets : ℕ) → Memory → ℕ
 top_then i octets m = get_or (raised (up_from m.lists.parents i) 0 octets m.bodies) 0 0
 
-unfoldable pub opened_by : (n used i j c : ℕ) → Memory → Measured → Result Gap EditError
-opened_by n used i j c m Over = Err NoRoom
-opened_by n used i j c m (Sizes stored octets) =
+unfoldable pub opened_by : (n used i j c : ℕ) → Memory → Option Sizes → Result Gap EditError
+opened_by n used i j c m None = Err NoRoom
+opened_by n used i j c m (Some (store_octets stored octets)) =
     cond (leb (used + stored.0) (length m.store) && leb (framed_size (top_then i octets.0 m)) 32_768)
     (Ok (gap_for n used i j c stored.0 octets.0 m.lists.sizes)) (Err NoRoom)
 
@@ -116,17 +114,17 @@ unfoldable pub fitted_by : (n used i : ℕ) → Memory → Result Admitted EditE
 fitted_by n used i m (Err q) = Err q
 fitted_by n used i m (Ok a) = cond (leb (n + a.records) (places_in m)) (opened_by n used i a.next a.records m a.sizes) (Err NoRecords)
 
-unfoldable pub insertion_in : (n i k : ℕ) → List ℕ → Memory → Filled → Result Gap EditError
-insertion_in n i k o m Apart = Err NoTree
-insertion_in n i k o m (Upto used) = fitted_by n used i m (admission n i k o m.lists.tags m.lists.depths)
+unfoldable pub insertion_in : (n i k : ℕ) → List ℕ → Memory → Option ℕ → Result Gap EditError
+insertion_in n i k o m None = Err NoTree
+insertion_in n i k o m (Some used) = fitted_by n used i m (admission n i k o m.lists.tags m.lists.depths)
 
 abbrev pub insertion_of : (n i k : ℕ) → List ℕ → Memory → Result Gap EditError
 insertion_of n i k o m = insertion_in n i k o m (held_as (tree_held n m))
 
 -- what measuring whether it fits asks: memory has the tree's places, and the sizes of the elements around can be followed
-abbrev pub SmallSizes : Measured → Type 0
-SmallSizes Over = Unit {0}
-SmallSizes (Sizes stored octets) = (octets.0 ≤ 32_768) × (stored.0 ≤ 32_770)
+abbrev pub SmallSizes : Option Sizes → Type 0
+SmallSizes None = Unit {0}
+SmallSizes (Some (store_octets stored octets)) = (octets.0 ≤ 32_768) × (stored.0 ≤ 32_770)
 
 pub record Fittable (n used i : ℕ) (a : Admitted) (m : Memory) : Type 0 where
   pub all : n ≤ places_in m

@@ -1,11 +1,9 @@
 -- Removing a record: what it comes to, by what memory holds, a refusal or the gap that is to be closed behind the item and all below it. Who reads the request has to
 -- believe none of this.
-use Rattle.std.specs.Prelude.{cond, ◌&&◌, List, ℕ, suc, ◌+◌, ◌≤◌, ◌<◌, ltb, length, get_or, Result, Ok, Err}
+use Rattle.std.specs.Prelude.{cond, ◌&&◌, List, ℕ, suc, ◌+◌, ◌≤◌, ◌<◌, ltb, length, get_or, Result, Ok, Err, Option, Some, None}
 use Rattle.octets.specs.Counts.{as_octets}
 use Rattle.octets.specs.Places.{between}
 use Rattle.format.specs.State.{Memory, tree_held}
-use Rattle.state.specs.declared.Filled.{Filled}
-use Rattle.state.specs.declared.Filled.TheVariants.{Apart, Upto}
 use Rattle.state.specs.Order.{held_as, added_by}
 use Rattle.edits.specs.declared.EditError.{EditError}
 use Rattle.edits.specs.declared.EditError.TheVariants.{NoTree, NoPlace}
@@ -38,12 +36,18 @@ pub record Closable (n i : ℕ) (tags depths parents starts sizes bodies : List 
   pub before : sum_of (between sizes 0 i) ≤ 65_535
   pub taken : sum_of (between sizes i (past_item n i depths)) ≤ 65_535
 
+-- both for the lists and the store of memory
+abbrev pub gap_in : (n i used : ℕ) → Memory → Gap
+gap_in n i used m = gap_of n i used m.lists.tags m.lists.depths m.lists.parents m.lists.starts m.lists.sizes m.bodies m.store
+
+abbrev pub ClosableIn : (n i : ℕ) → Memory → Type 0
+ClosableIn n i m = Closable n i m.lists.tags m.lists.depths m.lists.parents m.lists.starts m.lists.sizes m.bodies
+
 -- there is a tree, and such a record below its top
-unfoldable pub removal_in : (n i : ℕ) → Memory → Filled → Result Gap EditError
-removal_in n i m Apart = Err NoTree
-removal_in n i m (Upto used) =
-    let l = m.lists in
-    cond (ltb 0 i && ltb i n) (Ok (gap_of n i used l.tags l.depths l.parents l.starts l.sizes m.bodies m.store)) (Err NoPlace)
+unfoldable pub removal_in : (n i : ℕ) → Memory → Option ℕ → Result Gap EditError
+removal_in n i m None = Err NoTree
+removal_in n i m (Some used) =
+    cond (ltb 0 i && ltb i n) (Ok (gap_in n i used m)) (Err NoPlace)
 
 abbrev pub removal_of : (n i : ℕ) → Memory → Result Gap EditError
 removal_of n i m = removal_in n i m (held_as (tree_held n m))

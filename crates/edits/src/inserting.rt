@@ -1,23 +1,23 @@
 // `insert`: an element put into a tree in lent memory, with all below it, at a place among the child elements of a record.
 ghost use Rattle.std.specs.Prelude.{◌≡◌, ◌≤◌, ◌<◌, length, Ok};
 ghost use Rattle.format.specs.Meaning.{is_child};
-ghost use Rattle.state.specs.Taking.{memory};
+ghost use Rattle.state.specs.Taking.{shared_memory, lent_memory};
 ghost use Rattle.edits.specs.Tree.{is_one_item};
 ghost use Rattle.edits.specs.Tree.Edit.{insert as insertion};
 ghost use Rattle.edits.specs.Calls.{EditClaim};
 ghost use Rattle.edits.specs.Insertion.{counts_at, stops_at, left_after, found_at, child_behind, child_of, tag_there, comes_between, is_element, admitted_at, admission, fitted_by, insertion_of, Fittable, PutsIn, PutIn};
 
+use crate::EditError;
 use crate::extent::sum_of;
 use crate::lay::{Laid, Level, lay_items};
 use crate::moving::Move;
 use crate::raising::top_fits;
 use crate::resite::{Gap, resite};
 use crate::taking::places_in;
-use crate::{EditError, refused};
-use format::{EditAnswer, octet_at};
-use octets::{Lies, Octets, item_at};
-use state::{Filled, held};
-use survey::{Measured, Needed, survey_inside};
+use format::{Refusal, at_or};
+use octets::{Octets, item_at};
+use state::{Memory, MemoryMut, held};
+use survey::{Needs, Sizes, survey_inside};
 use tags::holds_items;
 use text::index_of;
 use values::is_attribute;
@@ -27,7 +27,7 @@ use values::is_attribute;
 struct Admitted {
     next: usize,
     records: usize,
-    sizes: Measured,
+    sizes: Option<Sizes>,
 }
 
 fn is_child(tag: u8) -> bool
@@ -160,8 +160,8 @@ fn is_one_item(octets: &[u8]) -> bool
         return false;
     }
     match item_at(octets, 0) {
-        Lies::Outside => false,
-        Lies::Between { from: _, to } => to == octets.len(),
+        None => false,
+        Some(lies) => lies.to == octets.len(),
     }
 }
 
@@ -171,7 +171,7 @@ fn is_element(octets: &[u8]) -> bool
     if !is_one_item(octets) {
         return false;
     }
-    is_child(octet_at(octets, 0))
+    is_child(at_or(octets, 0, 0))
 }
 
 // Octets that are to come before record `next`, behind `place` child elements of an element of a tag and depth, and before an item of the tag `later`: an
@@ -189,12 +189,12 @@ fn admitted_at(
     if !is_element(element) {
         return Err(EditError::BreaksRule);
     }
-    if !comes_between(place, octet_at(element, 0), later) {
+    if !comes_between(place, at_or(element, 0, 0), later) {
         return Err(EditError::BreaksRule);
     }
     match survey_inside(tag, depth, element) {
-        Needed::Refused(_) => Err(EditError::BreaksRule),
-        Needed::Takes { records, sizes } => {
+        Err(_) => Err(EditError::BreaksRule),
+        Ok(Needs { records, sizes }) => {
             if records == 0 {
                 return Err(EditError::BreaksRule);
             }
@@ -221,9 +221,9 @@ fn admit(
     let Some(next) = child_of(n, number, place, tags, depths) else {
         return Err(EditError::NoPlace);
     };
-    let depth = octet_at(depths, number);
+    let depth = at_or(depths, number, 0);
     let later = tag_there(n, next, depth, tags, depths);
-    admitted_at(next, place, later, octet_at(tags, number), depth, element)
+    admitted_at(next, place, later, at_or(tags, number, 0), depth, element)
 }
 
 // The gap for an element that has its places in the lists and its octets in the store.
@@ -232,36 +232,31 @@ fn fit(
     used: usize,
     number: usize,
     admitted: Admitted,
-    tags: &[u8],
-    kinds: &[u8],
-    depths: &[u8],
-    parents: &[u16],
-    starts: &[u16],
-    sizes: &[u16],
-    bodies: &[u16],
-    store: &[u8],
+    memory: &Memory,
 ) -> Result<Gap, EditError>
-    requires { Fittable n used number admitted (memory tags.now kinds.now depths.now parents.now starts.now sizes.now bodies.now store.now) }
-    ensures { result ≡ fitted_by n used number (memory tags.now kinds.now depths.now parents.now starts.now sizes.now bodies.now store.now) (Ok admitted) }
+    requires { Fittable n used number admitted (shared_memory memory.now) }
+    ensures { result ≡ fitted_by n used number (shared_memory memory.now) (Ok admitted) }
 {
     let Admitted { next, records, .. } = admitted;
-    if records > places_in(tags, kinds, depths, parents, starts, sizes, bodies) - n {
+    if records > places_in(memory) - n {
         return Err(EditError::NoRecords);
     }
-    let Measured::Sizes {
-        store: stored,
-        octets,
-    } = admitted.sizes
-    else {
+    let Some(taken) = admitted.sizes else {
         return Err(EditError::NoRoom);
     };
-    if stored.0 > store.len() - used {
+    if taken.store.0 > memory.store.len() - used {
         return Err(EditError::NoRoom);
     }
-    if !top_fits(parents, bodies, number, Octets(0), octets) {
+    if !top_fits(
+        memory.records.parents,
+        memory.bodies,
+        number,
+        Octets(0),
+        taken.octets,
+    ) {
         return Err(EditError::NoRoom);
     }
-    let place = sum_of(sizes, 0, next).0;
+    let place = sum_of(memory.records.sizes, 0, next).0;
     let moved = Move {
         from: next,
         end: n,
@@ -270,14 +265,14 @@ fn fit(
     let raised = Move {
         from: place,
         end: used,
-        to: place + stored.0,
+        to: place + taken.store.0,
     };
     Ok(Gap {
         records: moved,
         octets: raised,
         element: number,
         was: Octets(0),
-        is: octets,
+        is: taken.octets,
     })
 }
 
@@ -287,49 +282,33 @@ fn plan_insertion(
     number: usize,
     place: usize,
     element: &[u8],
-    tags: &[u8],
-    kinds: &[u8],
-    depths: &[u8],
-    parents: &[u16],
-    starts: &[u16],
-    sizes: &[u16],
-    bodies: &[u16],
-    store: &[u8],
+    memory: &Memory,
 ) -> Result<Gap, EditError>
-    ensures { result ≡ insertion_of n number place element.now (memory tags.now kinds.now depths.now parents.now starts.now sizes.now bodies.now store.now) }
+    ensures { result ≡ insertion_of n number place element.now (shared_memory memory.now) }
 {
-    let Filled::Upto(used) = held(
-        n, tags, kinds, depths, parents, starts, sizes, bodies, store,
-    ) else {
+    let Some(used) = held(n, memory) else {
         return Err(EditError::NoTree);
     };
-    let admitted = admit(n, number, place, element, tags, depths)?;
-    fit(
-        n, used, number, admitted, tags, kinds, depths, parents, starts, sizes, bodies, store,
-    )
+    let admitted = admit(
+        n,
+        number,
+        place,
+        element,
+        memory.records.tags,
+        memory.records.depths,
+    )?;
+    fit(n, used, number, admitted, memory)
 }
 
 // The gap is opened, and the element laid in it as an item of record `number`.
-fn put_in(
-    gap: Gap,
-    number: usize,
-    element: &[u8],
-    tags: &mut [u8],
-    kinds: &mut [u8],
-    depths: &mut [u8],
-    parents: &mut [u16],
-    starts: &mut [u16],
-    sizes: &mut [u16],
-    bodies: &mut [u16],
-    store: &mut [u8],
-)
-    requires { PutsIn gap number element.now (memory tags.old kinds.old depths.old parents.old starts.old sizes.old bodies.old store.old) }
-    ensures { PutIn gap number element.now (memory tags.old kinds.old depths.old parents.old starts.old sizes.old bodies.old store.old) (memory tags.new kinds.new depths.new parents.new starts.new sizes.new bodies.new store.new) }
+fn put_in(gap: Gap, number: usize, element: &[u8], memory: &mut MemoryMut)
+    requires { PutsIn gap number element.now (lent_memory memory.old) }
+    ensures { PutIn gap number element.now (lent_memory memory.old) (lent_memory memory.new) }
 {
     let level = Level {
-        element: tags[number],
+        element: memory.records.tags[number],
         number,
-        depth: depths[number] + 1,
+        depth: memory.records.depths[number] + 1,
     };
     let none = &element[0..0];
     let index = index_of(none);
@@ -338,13 +317,8 @@ fn put_in(
         end: gap.octets.from,
         body: Octets(0),
     };
-    resite(
-        gap, tags, kinds, depths, parents, starts, sizes, bodies, store,
-    );
-    lay_items(
-        element, &index, none, level, begun, tags, kinds, depths, parents, starts, sizes, bodies,
-        store,
-    );
+    resite(gap, memory);
+    lay_items(element, &index, none, level, begun, memory);
 }
 
 // The element that the octets are, put in as the child element of number `place`, from 0, of record `number` of `n`. The answer is how many records there are then,
@@ -356,27 +330,12 @@ pub fn insert(
     number: usize,
     place: usize,
     element: &[u8],
-    tags: &mut [u8],
-    kinds: &mut [u8],
-    depths: &mut [u8],
-    parents: &mut [u16],
-    starts: &mut [u16],
-    sizes: &mut [u16],
-    bodies: &mut [u16],
-    store: &mut [u8],
-) -> EditAnswer
-    ensures { EditClaim (insertion number place element.now) n (memory tags.old kinds.old depths.old parents.old starts.old sizes.old bodies.old store.old) (memory tags.new kinds.new depths.new parents.new starts.new sizes.new bodies.new store.new) result }
+    memory: &mut MemoryMut,
+) -> Result<usize, Refusal>
+    ensures { EditClaim (insertion number place element.now) n (lent_memory memory.old) (lent_memory memory.new) result }
 {
-    match plan_insertion(
-        n, number, place, element, tags, kinds, depths, parents, starts, sizes, bodies, store,
-    ) {
-        Err(error) => refused(error),
-        Ok(gap) => {
-            put_in(
-                gap, number, element, tags, kinds, depths, parents, starts, sizes, bodies, store,
-            );
-            let more = gap.records.to - gap.records.from;
-            EditAnswer::HasRecords(n + more)
-        }
-    }
+    let gap = plan_insertion(n, number, place, element, &memory.as_memory())?;
+    put_in(gap, number, element, memory);
+    let more = gap.records.to - gap.records.from;
+    Ok(n + more)
 }

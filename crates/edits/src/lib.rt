@@ -4,10 +4,9 @@
 #![tactic(auto)]
 
 ghost use Rattle.std.specs.Prelude.{◌≡◌};
-ghost use Rattle.format.specs.declared.EditAnswer.TheVariants.{NotChanged};
 ghost use Rattle.edits.specs.Errors.{refusal_of};
 
-use format::{EditAnswer, Refusal, refuse};
+use format::{Refusal, refuse};
 
 mod extent;
 mod inserting;
@@ -53,10 +52,4 @@ impl From<EditError> for Refusal {
             EditError::NoRoom => refuse(15, 0),
         }
     }
-}
-
-fn refused(error: EditError) -> EditAnswer
-    ensures { result ≡ NotChanged (refusal_of error) }
-{
-    EditAnswer::NotChanged(Refusal::from(error))
 }

@@ -3,17 +3,17 @@ ghost use Rattle.std.specs.Prelude.{◌≡◌, ◌+◌, ◌≤◌, ◌<◌, leng
 ghost use Rattle.std.proofs.lemmas.List.Edits.{sets};
 ghost use Rattle.edits.specs.Tree.Edit.{replace};
 ghost use Rattle.edits.specs.Calls.{EditClaim};
-ghost use Rattle.state.specs.Taking.{memory};
+ghost use Rattle.state.specs.Taking.{memory, shared_memory};
 ghost use Rattle.edits.specs.Errors.{planned};
 ghost use Rattle.edits.specs.Texts.{replacement_of, is_text_at, text_fits, Sized, Settable, TextSet};
 
+use crate::EditError;
 use crate::moving::{Move, move_to};
 use crate::raising::{raise, top_fits};
 use crate::shifting::shift_starts;
-use crate::{EditError, refused};
-use format::{EditAnswer, octet_at};
+use format::{Records, Refusal, at_or};
 use octets::Octets;
-use state::{Filled, framed_size, held};
+use state::{Memory, framed_size, held};
 use tags::holds_text;
 
 // Record `number` of `n` is a text below the top.
@@ -27,7 +27,7 @@ fn is_text_at(n: usize, number: usize, tags: &[u8], parents: &[u16]) -> bool
     if number >= n {
         return false;
     }
-    holds_text(octet_at(tags, parents[number] as usize), tags[number])
+    holds_text(at_or(tags, parents[number] as usize, 0), tags[number])
 }
 
 // A text of so many octets has room, in the store and in an object.
@@ -60,36 +60,31 @@ fn text_fits(
 }
 
 // How much of the store is taken before, where there is such a text and the new one may stand there and has room. Nothing is written.
-fn plan_text(
-    n: usize,
-    number: usize,
-    text: &[u8],
-    tags: &[u8],
-    kinds: &[u8],
-    depths: &[u8],
-    parents: &[u16],
-    starts: &[u16],
-    sizes: &[u16],
-    bodies: &[u16],
-    store: &[u8],
-) -> Result<usize, EditError>
-    ensures { planned result ≡ replacement_of n number text.now (memory tags.now kinds.now depths.now parents.now starts.now sizes.now bodies.now store.now) }
+fn plan_text(n: usize, number: usize, text: &[u8], memory: &Memory) -> Result<usize, EditError>
+    ensures { planned result ≡ replacement_of n number text.now (shared_memory memory.now) }
 {
-    let Filled::Upto(used) = held(
-        n, tags, kinds, depths, parents, starts, sizes, bodies, store,
-    ) else {
+    let Some(used) = held(n, memory) else {
         return Err(EditError::NoTree);
     };
-    if !is_text_at(n, number, tags, parents) {
+    let lists = memory.records;
+    if !is_text_at(n, number, lists.tags, lists.parents) {
         return Err(EditError::NoPlace);
     }
-    let element = octet_at(tags, parents[number] as usize);
-    if !records::is_text_kept(element, tags[number], text) {
+    let element = at_or(lists.tags, lists.parents[number] as usize, 0);
+    if !records::is_text_kept(element, lists.tags[number], text) {
         return Err(EditError::BreaksRule);
     }
     let long = Octets(text.len());
-    let room = Octets(store.len());
-    if !text_fits(number, long, used, room, parents, sizes, bodies) {
+    let room = Octets(memory.store.len());
+    if !text_fits(
+        number,
+        long,
+        used,
+        room,
+        lists.parents,
+        lists.sizes,
+        memory.bodies,
+    ) {
         return Err(EditError::NoRoom);
     }
     Ok(used)
@@ -154,6 +149,7 @@ fn set_text(
 
 // Record `number` of `n` gets the text. The answer is how many records there are, or the refusal: 16 where memory holds no tree, 18 where there is no such text, 16 where the
 // new one breaks a rule, 15 where it has no room. On a refusal nothing is touched. Cost: what is behind the text moves once in the store, and its starts are counted anew.
+// Kept: the eight slices, for what may not change: four lists are lent only to read, as for C (`spi_replace_text`), and a `MemoryMut` would ask for all of them to write.
 pub fn replace_text(
     n: usize,
     number: usize,
@@ -166,18 +162,25 @@ pub fn replace_text(
     sizes: &mut [u16],
     bodies: &mut [u16],
     store: &mut [u8],
-) -> EditAnswer
+) -> Result<usize, Refusal>
     ensures { EditClaim (replace number text.now) n (memory tags.now kinds.now depths.now parents.now starts.old sizes.old bodies.old store.old) (memory tags.now kinds.now depths.now parents.now starts.new sizes.new bodies.new store.new) result }
 {
-    match plan_text(
-        n, number, text, tags, kinds, depths, parents, starts, sizes, bodies, store,
-    ) {
-        Err(error) => refused(error),
-        Ok(used) => {
-            set_text(
-                n, number, used, text, tags, parents, starts, sizes, bodies, store,
-            );
-            EditAnswer::HasRecords(n)
-        }
-    }
+    let records = Records {
+        tags,
+        kinds,
+        depths,
+        parents,
+        starts: &*starts,
+        sizes: &*sizes,
+    };
+    let memory = Memory {
+        records,
+        bodies: &*bodies,
+        store: &*store,
+    };
+    let used = plan_text(n, number, text, &memory)?;
+    set_text(
+        n, number, used, text, tags, parents, starts, sizes, bodies, store,
+    );
+    Ok(n)
 }

@@ -8,7 +8,7 @@ ghost use Rattle.format.specs.Judge.{is_text};
 ghost use Rattle.format.specs.Loaded.{stored};
 ghost use Rattle.edits.specs.Store.{ValueStorable, BodyStorable, BodyStored};
 
-use octets::Put;
+use octets::PutError;
 use text::expand;
 use values::{Kind, put_normal};
 
@@ -24,11 +24,7 @@ fn store_text(index: &[usize; 32], table: &[u8], body: &[u8], store: &mut [u8], 
     requires indexes { Indexes (entries table.now) index.now }
     ensures { BodyStored (expanded (entries table.now) body.now) store.old store.new at result }
 {
-    match expand(index, table, body, store, at) {
-        Put::Done(end) => end,
-        Put::NoRoom => at,
-        Put::Invalid => at,
-    }
+    expand(index, table, body, store, at).unwrap_or(at)
 }
 
 // The normal octets of any other body.
@@ -36,11 +32,7 @@ fn store_value(kind: Kind, body: &[u8], store: &mut [u8], at: usize) -> usize
     requires { ValueStorable kind body.now store.old at }
     ensures { BodyStored (normal_octets kind body.now) store.old store.new at result }
 {
-    match put_normal(kind, body, store, at) {
-        Put::Done(end) => end,
-        Put::NoRoom => at,
-        Put::Invalid => at,
-    }
+    put_normal(kind, body, store, at).unwrap_or(at)
 }
 
 pub fn store_body(

@@ -30,6 +30,10 @@ abbrev pub write_outcome : Result Octets Refusal → Outcome
 write_outcome (Ok n) = record { number = 0; place = 0; field = 0; count = n.0; items = 0 }
 write_outcome (Err r) = record { number = r.number; place = r.place; field = r.field; count = 0; items = 0 }
 
+abbrev pub check_outcome : Result (Unit {0}) Refusal → Outcome
+check_outcome (Ok x) = record { number = 0; place = 0; field = 0; count = 0; items = 0 }
+check_outcome (Err r) = record { number = r.number; place = r.place; field = r.field; count = 0; items = 0 }
+
 -- the same, with the object that was refused: 1 the first, 2 the second, 0 none
 abbrev pub of_refused : ℕ → Refusal → SameOutcome
 of_refused which r = record { same = false; which = which; number = r.number; place = r.place; field = r.field }

@@ -1,5 +1,6 @@
 -- What merging two accepted objects gives: its result is an object's meaning, has all of both and nothing else, and obeys demands 2 and 3; with an empty
 -- Advanced object it is Basic's (change request 2026-10).
+use Rattle.std.specs.Prelude.{Result as Answered}
 use mathlib.Core.Path.{◌≡◌, refl, sym, ap, ◌∙◌, subst}
 use mathlib.Core.Bool.{true, false, cond, not, ◌&&◌, ◌||◌}
 use mathlib.Core.Option.{Option, none, some}
@@ -27,7 +28,6 @@ use Rattle.format.proofs.Normal.{accepted-ok}
 use Rattle.format.proofs.Headers.{few}
 use Rattle.survey.proofs.WholeSizes.{store-less}
 use Rattle.merge.specs.declared.Services.{Services}
-use Rattle.merge.specs.declared.MergeAnswer.{MergeAnswer}
 use Rattle.merge.specs.Merged.{merged, clash, same_top, twice}
 use Rattle.merge.specs.Kept.{empty_top, Mergeable, InOrder, AnyOrder, Comes}
 use Rattle.merge.specs.Sizes.{records_in, stored_in}
@@ -41,6 +41,8 @@ use Rattle.merge.proofs.Advanced.{advanced-kept}
 use Rattle.merge.proofs.Comes.{all-comes}
 use Rattle.merge.proofs.Pure.{accepted-pure, merged-pure, pure-octets}
 use Rattle.merge.proofs.Sizes.{Taken, taken_in}
+use Rattle.merge.specs.declared.Merged.{Merged}
+use Rattle.merge.specs.declared.MergeRefusal.{MergeRefusal}
 
 -- ---- where nothing is refused
 
@@ -174,7 +176,7 @@ merge-result by lent o p w os ps h =
     }
 
 -- the claim says then that memory holds the tree of the result's normal form, laid as taking it in lays it
-pub merge-leaves : (by : Services) (o p : List ℕ) (m m' : Memory) (room room' : List ℕ) (answer : MergeAnswer) (w : Meaning) → MergeClaim by o p m m' room room' answer
+pub merge-leaves : (by : Services) (o p : List ℕ) (m m' : Memory) (room room' : List ℕ) (answer : Answered Merged MergeRefusal) (w : Meaning) → MergeClaim by o p m m' room room' answer
     → outcome by (lent_by m room) (judge o) (judge p) ≡ gives w → (r : Result by (lent_by m room) o p w) → m' ≡ lay_tree (loaded_of r.again.tree) m
 unfolding loaded_into written_of
 merge-leaves by o p m m' room room' answer w c h r =

@@ -1,7 +1,8 @@
 -- What merging answers, and what lent memory and the room then hold (change request 2026-10).
-use Rattle.std.specs.Prelude.{◌≡◌, not, ◌&&◌, ◌||◌, List, [], ◌∷◌, ℕ, leb}
+use Rattle.std.specs.Prelude.{◌≡◌, not, ◌&&◌, ◌||◌, List, [], ◌∷◌, ℕ, leb, Result, Ok, Err}
 use Rattle.std.proofs.Math.Option.{Option, none, some}
 use Rattle.std.proofs.lemmas.List.Edits.{sets}
+use Rattle.octets.specs.declared.counts.Octets.{Octets}
 use Rattle.octets.specs.Counts.{as_octets, size_of, octets_within}
 use Rattle.format.specs.declared.Refusal.{Refusal}
 use Rattle.format.specs.Judge.{Judged, rule, first, judge}
@@ -11,8 +12,9 @@ use Rattle.format.specs.Calls.{Lent, roomy}
 use Rattle.format.specs.State.{Memory}
 use Rattle.state.specs.Taking.{lent_by, loaded_into}
 use Rattle.merge.specs.declared.Services.{Services}
-use Rattle.merge.specs.declared.MergeAnswer.{MergeAnswer}
-use Rattle.merge.specs.declared.MergeAnswer.TheVariants.{Merged, BasicRefused, AdvancedRefused, NotMerged}
+use Rattle.merge.specs.declared.Merged.{Merged}
+use Rattle.merge.specs.declared.MergeRefusal.{MergeRefusal}
+use Rattle.merge.specs.declared.MergeRefusal.TheVariants.{Basic, Advanced, Neither}
 use Rattle.merge.specs.declared.MergeOutcome.{MergeOutcome}
 use Rattle.merge.specs.Merged.{merged, clash, same_top, twice}
 use Rattle.merge.specs.Sizes.{records_in, stored_in}
@@ -29,12 +31,12 @@ misfit lent m =
 
 -- what merging comes to: an answer that refuses, or the merged meaning
 pub data Outcome : Type 0 where
-  refuses : MergeAnswer → Outcome
+  refuses : Result Merged MergeRefusal → Outcome
   gives : Meaning → Outcome
 
 unfoldable pub unless_refused : Option Refusal → Outcome → Outcome
 unless_refused none o = o
-unless_refused (some r) o = refuses (NotMerged r)
+unless_refused (some r) o = refuses (Err (Neither r))
 
 -- two accepted objects
 unfoldable pub merged_into : Services → Lent → (basic advanced : Meaning) → Outcome
@@ -42,13 +44,17 @@ merged_into by lent m n = unless_refused (conflict by m n) (unless_refused (misf
 
 -- "Refusals, after 1 to 13 for Basic and then for Advanced"
 unfoldable pub outcome : Services → Lent → (basic advanced : Judged) → Outcome
-outcome by lent (refused r) a = refuses (BasicRefused r)
-outcome by lent (accepted t) (refused r) = refuses (AdvancedRefused r)
+outcome by lent (refused r) a = refuses (Err (Basic r))
+outcome by lent (accepted t) (refused r) = refuses (Err (Advanced r))
 outcome by lent (accepted t) (accepted u) = merged_into by lent (meaning_of t) (meaning_of u)
 
-unfoldable pub answer_of : Outcome → MergeAnswer
+-- how many records memory has then, and how many octets the room
+abbrev pub records_size : ℕ → Octets → Merged
+records_size records size = record { records = records; size = size }
+
+unfoldable pub answer_of : Outcome → Result Merged MergeRefusal
 answer_of (refuses answer) = answer
-answer_of (gives m) = Merged (records_in m) (size_of (encode m))
+answer_of (gives m) = Ok (records_size (records_in m) (size_of (encode m)))
 
 -- the normal form of the merged meaning; nothing where it is refused
 unfoldable pub written_of : Outcome → List ℕ
@@ -57,7 +63,7 @@ written_of (gives m) = encode m
 
 -- merge: the room has the normal form of the merged meaning then, and memory is as taking in that normal form leaves it. Where anything is refused both are as
 -- they were
-pub record MergeClaim (by : Services) (basic advanced : List ℕ) (m m' : Memory) (room room' : List ℕ) (answer : MergeAnswer) : Type 0 where
+pub record MergeClaim (by : Services) (basic advanced : List ℕ) (m m' : Memory) (room room' : List ℕ) (answer : Result Merged MergeRefusal) : Type 0 where
   pub answers : answer ≡ answer_of (outcome by (lent_by m room) (judge basic) (judge advanced))
   pub writes : room' ≡ sets room 0 (written_of (outcome by (lent_by m room) (judge basic) (judge advanced)))
   pub leaves : m' ≡ loaded_into (lent_by m room) (judge (written_of (outcome by (lent_by m room) (judge basic) (judge advanced)))) m
@@ -69,8 +75,8 @@ abbrev pub refused_as : ℕ → Refusal → MergeOutcome
 refused_as which r = record { which = which; number = r.number; place = r.place; field = r.field; records = 0; size = as_octets 0 }
 
 -- number, place and field of a refusal, all 0 where there is none; the records of memory and the octets of the room, both 0 after a refusal
-abbrev pub merge_outcome : MergeAnswer → MergeOutcome
-merge_outcome (Merged records size) = record { which = 0; number = 0; place = 0; field = 0; records = records; size = size }
-merge_outcome (BasicRefused r) = refused_as 1 r
-merge_outcome (AdvancedRefused r) = refused_as 2 r
-merge_outcome (NotMerged r) = refused_as 0 r
+abbrev pub merge_outcome : Result Merged MergeRefusal → MergeOutcome
+merge_outcome (Ok m) = record { which = 0; number = 0; place = 0; field = 0; records = m.records; size = m.size }
+merge_outcome (Err (Basic r)) = refused_as 1 r
+merge_outcome (Err (Advanced r)) = refused_as 2 r
+merge_outcome (Err (Neither r)) = refused_as 0 r

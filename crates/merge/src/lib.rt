@@ -15,17 +15,22 @@ pub enum Services {
     ByBearers,
 }
 
-// The answer of merging: how many records memory has then and how many octets the room, or why nothing was merged, and whether Basic or Advanced alone is to
-// blame.
+// What merging gave: how many records memory has then, and how many octets the room.
 #[derive(Clone, Copy)]
-pub enum MergeAnswer {
-    Merged { records: usize, size: Octets },
-    BasicRefused(Refusal),
-    AdvancedRefused(Refusal),
-    NotMerged(Refusal),
+pub struct Merged {
+    pub records: usize,
+    pub size: Octets,
 }
 
-// Document 01's numbers for that answer: which object alone is refused (1 Basic, 2 Advanced, 0 none), the refusal's number, 0 where there is none, its place
+// Why nothing was merged, and whether Basic or Advanced alone is to blame.
+#[derive(Clone, Copy)]
+pub enum MergeRefusal {
+    Basic(Refusal),
+    Advanced(Refusal),
+    Neither(Refusal),
+}
+
+// Document 01's numbers for an answer of merging: which object alone is refused (1 Basic, 2 Advanced, 0 none), the refusal's number, 0 where there is none, its place
 // and field, and how many records memory has then and how many octets the room; both are 0 after a refusal.
 #[derive(Clone, Copy)]
 pub struct MergeOutcome {
@@ -50,22 +55,22 @@ fn refused_as(which: u8, refusal: Refusal) -> MergeOutcome
     }
 }
 
-impl MergeAnswer {
-    pub fn outcome(self) -> MergeOutcome
-        ensures { result ≡ merge_outcome self }
-    {
-        match self {
-            MergeAnswer::Merged { records, size } => MergeOutcome {
+impl From<Result<Merged, MergeRefusal>> for MergeOutcome {
+    ghost from_gives = { λ answer outcome. outcome ≡ merge_outcome answer };
+
+    fn from(answer: Result<Merged, MergeRefusal>) -> MergeOutcome {
+        match answer {
+            Ok(merged) => MergeOutcome {
                 which: 0,
                 number: 0,
                 place: 0,
                 field: 0,
-                records,
-                size,
+                records: merged.records,
+                size: merged.size,
             },
-            MergeAnswer::BasicRefused(refusal) => refused_as(1, refusal),
-            MergeAnswer::AdvancedRefused(refusal) => refused_as(2, refusal),
-            MergeAnswer::NotMerged(refusal) => refused_as(0, refusal),
+            Err(MergeRefusal::Basic(refusal)) => refused_as(1, refusal),
+            Err(MergeRefusal::Advanced(refusal)) => refused_as(2, refusal),
+            Err(MergeRefusal::Neither(refusal)) => refused_as(0, refusal),
         }
     }
 }

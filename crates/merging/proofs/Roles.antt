@@ -69,15 +69,6 @@ module _ (by : Services) (levels tag : ℕ) (es : Entries) (a : List ℕ) (fs : 
 
 pub ruleset added-ways = (added-partner, added-language, added-other)
 
-module _ (tag : ℕ) (part : List ℕ) where
-  pub language-other : (tag ≡ 6 → ⊥) → false ≡ eqb tag 6 && not (language_in part)
-  language-other n = rw (ne_eqb tag 6 n)
-
-  pub language-new : tag ≡ 6 → (r : Bool) → r ≡ language_in part → not r ≡ eqb tag 6 && not (language_in part)
-  language-new e r f = rw (eq-eqb tag 6 e) (ap not f)
-
-pub ruleset new-language-ways = (language-other, language-new)
-
 module _ (role : Role) (by : Services) (levels tag : ℕ) (es : Entries) (a : List ℕ) (fs : Entries) (part : List ℕ) where
   pub put-language : role ≡ Language → (r : Bool) → r ≡ eqb tag 6 && not (language_in part) → r ≡ is_put role by levels es tag a fs part
   unfolding is_put

@@ -1,6 +1,6 @@
 -- What clashes in partners, told of octets, each part under the entries of its own token table. That it is what clashes in their meanings, of accepted octets,
 -- is proved (proofs/ClashSays), so nobody has to believe it.
-use Rattle.std.specs.Prelude.{Bool, true, false, cond, not, ◌&&◌, ◌||◌, List, ℕ, zero, suc, eqb}
+use Rattle.std.specs.Prelude.{Bool, false, cond, not, ◌&&◌, ◌||◌, List, ℕ, zero, suc, eqb}
 use Rattle.text.specs.Tokens.{Entries, expanded}
 use Rattle.format.specs.Same.{same_octets}
 use Rattle.survey.specs.Places.{span_of_tag}

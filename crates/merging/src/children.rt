@@ -21,6 +21,7 @@ pub fn find_child<F: Fn(u8, &[u8]) -> bool>(part: &[u8], start: usize, passes: F
     requires { F.IsAlwaysCallable passes }
     ensures { (f : ℕ → List ℕ → Bool) → Tests F.Fn passes f → FindsChild f part.now start result }
 {
+    // Kept: this walk's step is data, the end of the child at hand, so no range has its places.
     let mut i = start;
     loop {
         let Child::Found { at, from, to } = next_child(part, i) else {

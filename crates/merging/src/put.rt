@@ -1,5 +1,7 @@
 // Single items of the result: an item that holds none, by its octets in one of the two objects. Each function counts, and where `emit` says so it puts the
 // octets into the room as well: behind those that were counted before.
+// Kept: `emit` beside `out` is no Option of a room. Each clause tells of the room before and after a call (`out.old`, `out.new`), which behind an Option
+// have no names of their own, and each of the thirteen functions that take the two would open it anew.
 ghost use Rattle.std.specs.Prelude.{◌≡◌, min, length};
 ghost use Rattle.std.proofs.Math.Option.{some};
 ghost use Rattle.text.specs.Tokens.{entries, expanded};

@@ -54,6 +54,7 @@ fn is_inside_twice(
 pub fn is_twice(by: Services, levels: usize, index: &[usize; 32], table: &[u8], part: &[u8]) -> bool
     ensures { result ≡ twice_among by (entries_by index.now table.now) (twice_inside by (entries_by index.now table.now) levels) (children_in part.now) }
 {
+    // Kept: this walk's step is data, and it asks of what lies behind the child too, which find_child doesn't tell its test.
     let mut i: usize = 0;
     loop {
         let Child::Found { at, from, to } = next_child(part, i) else {

@@ -1,4 +1,5 @@
 -- What the check of memory answers, one law for each way through its code.
+use Rattle.std.specs.Prelude.{None, Option as Optional}
 use mathlib.Core.Path.{◌≡◌, refl, sym, ap, ◌∙◌, subst}
 use mathlib.Core.Bool.{Bool, true, false, cond, not, ◌&&◌, false≢true}
 use mathlib.Core.Option.{Option, none, some, some-injective, none-ne-some}
@@ -13,119 +14,97 @@ use Rattle.format.specs.Tree.{Items}
 use Rattle.format.specs.Meaning.{means, encode}
 use Rattle.format.specs.Writer.{rebuilt}
 use Rattle.format.specs.Loaded.{store_in}
-use Rattle.format.specs.Lent.{six}
 use Rattle.format.specs.Same.{same_octets}
 use Rattle.format.specs.Calls.{Lists, places, row, tree_given}
 use Rattle.format.specs.State.{Memory, body_sizes, packed, same_items, tree_held}
 use Rattle.format.proofs.Rebuilt.{Whole, rebuilt-whole}
 use Rattle.format.proofs.Same.{same-octets, octets-same}
 use Rattle.records.specs.Check.{is_given}
-use Rattle.state.specs.declared.Filled.{Filled}
-use Rattle.state.specs.declared.Filled.TheVariants.{Apart}
-use Rattle.state.specs.Order.{held_as, nth, filled_from, as_filled, right_below, no_sums}
+use Rattle.state.specs.Order.{HasPlaces, held_as, filled_in, as_filled, right_in, no_sums}
 use Rattle.state.proofs.HeldTree.{Held, held, is_held, items-same, same-items}
 use Rattle.state.proofs.Order.{flat-packed}
 use Rattle.state.proofs.SizesHeld.{right-sizes}
 
--- so many records have a place in each list
-pub record HasPlaces (n : ℕ) (l : Lists) : Type 0 where
-  pub tags : n ≤ length l.tags
-  pub kinds : n ≤ length l.kinds
-  pub depths : n ≤ length l.depths
-  pub parents : n ≤ length l.parents
-  pub starts : n ≤ length l.starts
-  pub sizes : n ≤ length l.sizes
-
 has_all : (n : ℕ) (l : Lists) → n ≤ places l → HasPlaces n l
 unfolding places
-has_all n l h = record { tags = omega arith; kinds = omega arith; depths = omega arith; parents = omega arith; starts = omega arith; sizes = omega arith }
+has_all n l h = (omega arith, omega arith, omega arith, omega arith, omega arith, omega arith)
 
 -- records that are a tree have places in all six lists
-pub has-places : (n : ℕ) (tags kinds depths parents starts sizes store : List ℕ) (b : Bool) → b ≡ is_given (tree_given n (six tags kinds depths parents starts sizes) store) → not b ≡ false
-    → HasPlaces n (six tags kinds depths parents starts sizes)
+pub has-places : (n : ℕ) (l : Lists) (store : List ℕ) (b : Bool) → b ≡ is_given (tree_given n l store) → not b ≡ false → HasPlaces n l
 unfolding is_given tree_given
-has-places n tags kinds depths parents starts sizes store b e q = go (leb n (places l)) refl
+has-places n l store b e q = go (leb n (places l)) refl
   where
-    l : Lists
-    l = six tags kinds depths parents starts sizes
-
     go : (c : Bool) → leb n (places l) ≡ c → HasPlaces n l
     go true p = has_all n l (leb-true n (places l) p)
     go false p = absurd (false≢true (sym (e ∙ ap (λ z. is_given (cond z (rebuilt (row l) n store) none)) p) ∙ not-false b q))
 
-module _ (n : ℕ) (tags kinds depths parents starts sizes bodies store : List ℕ) where
-  abbrev lists : Lists
-  lists = six tags kinds depths parents starts sizes
-
-  abbrev m : Memory
-  m = record { lists = lists; bodies = bodies; store = store }
-
+module _ (n : ℕ) (m : Memory) where
   -- no tree is held where what is known of one would be absurd
-  none-held : ((t : Items) → Held n m t → ⊥) → Apart ≡ held_as (tree_held n m)
+  none-held : ((t : Items) → Held n m t → ⊥) → None ≡ held_as (tree_held n m)
   unfolding held_as
   none-held f = go (tree_held n m) refl
     where
-      go : (o : Option Items) → tree_held n m ≡ o → Apart ≡ held_as o
+      go : (o : Option Items) → tree_held n m ≡ o → None ≡ held_as o
       go none e = refl
       go (some t) e = absurd (f t (held n m t e))
 
   -- of a tree that is held the sizes are right
-  sizes-right : (t : Items) → Held n m t → right_below (nth tags) (nth depths) (nth parents) (nth starts) (nth sizes) (nth bodies) store n no_sums ≡ true
+  sizes-right : (t : Items) → Held n m t → right_in m n no_sums ≡ true
   sizes-right t h =
-      right-sizes (row lists) n store bodies t h.whole h.fewer h.packs
-      ∙ and-true (same_octets (take n bodies) (body_sizes 0 t)) (leb (length (encode (means [] t))) 32_768)
+      right-sizes (row m.lists) n m.store m.bodies t h.whole h.fewer h.packs
+      ∙ and-true (same_octets (take n m.bodies) (body_sizes 0 t)) (leb (length (encode (means [] t))) 32_768)
       (subst (λ z. same_octets z (body_sizes 0 t) ≡ true) (sym h.sizes) (octets-same (body_sizes 0 t))) (le-leb (length (encode (means [] t))) 32_768 h.small)
 
-  pub seen_few : length bodies < n → Apart ≡ held_as (tree_held n m)
+  pub seen_few : length m.bodies < n → None ≡ held_as (tree_held n m)
   seen_few h = none-held (λ t v. omega (arith, v.fewer))
 
-  module _ (b : Bool) (e : b ≡ is_given (tree_given n lists store)) where
-    pub seen-ill : not b ≡ true → Apart ≡ held_as (tree_held n m)
+  module _ (b : Bool) (e : b ≡ is_given (tree_given n m.lists m.store)) where
+    pub seen-ill : not b ≡ true → None ≡ held_as (tree_held n m)
     unfolding is_given
     seen-ill q = none-held (λ t v. false≢true (sym (not-true b q) ∙ (e ∙ ap is_given v.given)))
 
     module _ (q : not b ≡ false) where
-      given : (t : Items) × (tree_given n lists store ≡ some t) × Whole (row lists) n store t
+      given : (t : Items) × (tree_given n m.lists m.store ≡ some t) × Whole (row m.lists) n m.store t
       unfolding is_given tree_given
-      given = go (tree_given n lists store) refl
+      given = go (tree_given n m.lists m.store) refl
         where
-          whole : (t : Items) (c : Bool) → cond c (rebuilt (row lists) n store) none ≡ some t → rebuilt (row lists) n store ≡ some t
+          whole : (t : Items) (c : Bool) → cond c (rebuilt (row m.lists) n m.store) none ≡ some t → rebuilt (row m.lists) n m.store ≡ some t
           whole t true h = h
           whole t false h = absurd (none-ne-some t h)
 
-          go : (o : Option Items) → tree_given n lists store ≡ o → (t : Items) × (tree_given n lists store ≡ some t) × Whole (row lists) n store t
+          go : (o : Option Items) → tree_given n m.lists m.store ≡ o → (t : Items) × (tree_given n m.lists m.store ≡ some t) × Whole (row m.lists) n m.store t
           go none g = absurd (false≢true (sym (e ∙ ap is_given g) ∙ not-false b q))
-          go (some t) g = (t, g, rebuilt-whole (row lists) n store t (whole t (leb n (places lists)) g))
+          go (some t) g = (t, g, rebuilt-whole (row m.lists) n m.store t (whole t (leb n (places m.lists)) g))
 
-      module _ (r : Bool) (re : r ≡ right_below (nth tags) (nth depths) (nth parents) (nth starts) (nth sizes) (nth bodies) store n no_sums) where
-        pub seen-wrong : not r ≡ true → Apart ≡ held_as (tree_held n m)
+      module _ (r : Bool) (re : r ≡ right_in m n no_sums) where
+        pub seen-wrong : not r ≡ true → None ≡ held_as (tree_held n m)
         seen-wrong z = none-held (λ t v. false≢true (sym (not-true r z) ∙ (re ∙ sizes-right t v)))
 
-        pub seen_all : not r ≡ false → n ≤ length bodies → (a : Filled) → a ≡ as_filled (filled_from (nth tags) (nth parents) (nth starts) (nth sizes) store n 0 0) → a ≡ held_as (tree_held n m)
+        pub seen_all : not r ≡ false → n ≤ length m.bodies → (a : Optional ℕ) → a ≡ as_filled (filled_in m.lists m.store n 0 0) → a ≡ held_as (tree_held n m)
         unfolding as_filled held_as tree_given
-        seen_all rr long a ae = ae ∙ (ap as_filled (flat-packed (row lists) n store t x) ∙ go (same_items t (packed t)) refl)
+        seen_all rr long a ae = ae ∙ (ap as_filled (flat-packed (row m.lists) n m.store t x) ∙ go (same_items t (packed t)) refl)
           where
             t : Items
             t = given.0
 
-            x : Whole (row lists) n store t
+            x : Whole (row m.lists) n m.store t
             x = given.2
 
-            given-tree : cond (leb n (places lists)) (rebuilt (row lists) n store) none ≡ some t
+            given-tree : cond (leb n (places m.lists)) (rebuilt (row m.lists) n m.store) none ≡ some t
             given-tree = given.1
 
-            few : (c : Bool) → leb n (places lists) ≡ c → c ≡ true
+            few : (c : Bool) → leb n (places m.lists) ≡ c → c ≡ true
             few true k = refl
-            few false k = absurd (none-ne-some t (ap (λ z. cond z (rebuilt (row lists) n store) none) (sym k) ∙ given-tree))
+            few false k = absurd (none-ne-some t (ap (λ z. cond z (rebuilt (row m.lists) n m.store) none) (sym k) ∙ given-tree))
 
             go : (c : Bool) → same_items t (packed t) ≡ c → as_filled (cond c (some (length (store_in [] 0 t))) none) ≡ held_as (tree_held n m)
             go true p =
                 let packs : packed t ≡ t = sym (same-items t (packed t) p) in
-                let s = same_octets (take n bodies) (body_sizes 0 t) in
+                let s = same_octets (take n m.bodies) (body_sizes 0 t) in
                 let l = leb (length (encode (means [] t))) 32_768 in
-                let both : s && l ≡ true = sym (right-sizes (row lists) n store bodies t x long packs) ∙ (sym re ∙ not-false r rr) in
-                sym (ap held_as (is_held n m t x packs (same-octets (take n bodies) (body_sizes 0 t) (and_left s l both)) (leb-true (length (encode (means [] t))) 32_768 (and_right s l both))
-                (leb-true n (places lists) (few (leb n (places lists)) refl)) long))
+                let both : s && l ≡ true = sym (right-sizes (row m.lists) n m.store m.bodies t x long packs) ∙ (sym re ∙ not-false r rr) in
+                sym (ap held_as (is_held n m t x packs (same-octets (take n m.bodies) (body_sizes 0 t) (and_left s l both)) (leb-true (length (encode (means [] t))) 32_768 (and_right s l both))
+                (leb-true n (places m.lists) (few (leb n (places m.lists)) refl)) long))
             go false p =
                 none-held (λ u v.
                 let same : t ≡ u = some-injective t u (sym given.1 ∙ v.given) in

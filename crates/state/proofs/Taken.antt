@@ -1,4 +1,5 @@
 -- Only one answer and one memory satisfy a claim, a refused call changes nothing, and how taking in a tree ends.
+use Rattle.std.specs.Prelude.{Result, Ok, Err}
 use mathlib.Core.Path.{◌≡◌, refl, sym, ◌∙◌, subst}
 use mathlib.Core.Bool.{Bool, true, false, ◌&&◌, false≢true}
 use mathlib.Core.Option.{some}
@@ -11,8 +12,6 @@ use borrow.Author.Tests.{leb-true, leb-false, le-leb}
 use Rattle.octets.specs.declared.counts.Octets.{Octets as OctetCount}
 use Rattle.octets.proofs.Tests.{and_left, and_right, and-true}
 use Rattle.format.specs.declared.Refusal.{Refusal}
-use Rattle.format.specs.declared.EditAnswer.{EditAnswer}
-use Rattle.format.specs.declared.EditAnswer.TheVariants.{HasRecords, NotChanged}
 use Rattle.format.specs.Answers.{refusal}
 use Rattle.format.specs.Tree.{Items, count}
 use Rattle.format.specs.Judge.{Judged, first, rule, unless}
@@ -24,14 +23,14 @@ use Rattle.format.specs.State.{Memory, places_in, packed_store}
 use Rattle.state.specs.Taking.{overflow, settled, taken_in, left, Leaves}
 use Rattle.state.proofs.HeldTree.{Fits}
 
-pub leaves-only : (outcome : Judged) (m m₁ m₂ : Memory) (a b : EditAnswer) → Leaves outcome m m₁ a → Leaves outcome m m₂ b → (a ≡ b) × (m₁ ≡ m₂)
+pub leaves-only : (outcome : Judged) (m m₁ m₂ : Memory) (a b : Result ℕ Refusal) → Leaves outcome m m₁ a → Leaves outcome m m₂ b → (a ≡ b) × (m₁ ≡ m₂)
 leaves-only outcome m m₁ m₂ a b p q = (p.answers ∙ sym q.answers, p.leaves ∙ sym q.leaves)
 
-pub refused-kept : (outcome : Judged) (m m' : Memory) (r : Refusal) → Leaves outcome m m' (NotChanged r) → m' ≡ m
+pub refused-kept : (outcome : Judged) (m m' : Memory) (r : Refusal) → Leaves outcome m m' (Err r) → m' ≡ m
 unfolding edit_answer left
 refused-kept (refused q) m m' r p = p.leaves
 refused-kept (accepted t) m m' r p =
-    let e : NotChanged r ≡ HasRecords _ = p.answers in
+    let e : Err r ≡ Ok _ = p.answers in
     let z : ◌≡◌ {A = ℕ} 0 1 = cc in
     absurd (omega arith)
 

@@ -1,4 +1,5 @@
 -- Wrong answers of `held`, and of what is asked of a size or a record, refuted by computing the definitions at closed memory.
+use Rattle.std.specs.Prelude.{Some, None}
 use mathlib.Core.Path.{◌≡◌, refl, sym, ◌∙◌}
 use mathlib.Core.List.{List, [], ◌∷◌}
 use Prim.Native.Nat.{ℕ}
@@ -18,7 +19,6 @@ use Rattle.format.specs.Same.{same_octets}
 use Rattle.format.specs.Calls.{places, tree_given}
 use Rattle.format.specs.State.{Memory, normal_body, body_sizes, same_items, kept, in_order, tree_held}
 use Rattle.survey.specs.Normal.{framed_size}
-use Rattle.state.specs.declared.Filled.TheVariants.{Apart, Upto}
 use Rattle.state.specs.Order.{held_as, item_adds, added_by}
 
 -- a top, a schedule in it, a programme in that, and the recommendation of the programme, whose octet begins at a place of the store. 1, "no", is its default (request
@@ -46,38 +46,38 @@ made size bodies store = record {
 }
 
 record Computed : Type 0 where
-  said : held_as (tree_held 4 (day 0 (7 ∷ 5 ∷ 3 ∷ 1 ∷ []) (2 ∷ 9 ∷ []))) ≡ Upto 1
-  default : held_as (tree_held 4 (day 0 (4 ∷ 2 ∷ 0 ∷ 1 ∷ []) (1 ∷ []))) ≡ Upto 1
-  counted-in : held_as (tree_held 4 (day 0 (7 ∷ 5 ∷ 3 ∷ 1 ∷ []) (1 ∷ []))) ≡ Apart
-  gap : held_as (tree_held 4 (day 1 (7 ∷ 5 ∷ 3 ∷ 1 ∷ []) (9 ∷ 2 ∷ []))) ≡ Apart
-  short : held_as (tree_held 4 (day 0 (7 ∷ 5 ∷ 3 ∷ []) (2 ∷ []))) ≡ Apart
-  part : held_as (tree_held 3 (day 0 (4 ∷ 2 ∷ 0 ∷ 1 ∷ []) (1 ∷ []))) ≡ Upto 0
-  timed : held_as (tree_held 2 (made 4 (6 ∷ 4 ∷ []) (0x30 ∷ 0xD4 ∷ 0x00 ∷ 0x00 ∷ []))) ≡ Upto 4
-  minus-zero : held_as (tree_held 2 (made 5 (7 ∷ 5 ∷ []) (0x30 ∷ 0xD4 ∷ 0x10 ∷ 0x00 ∷ 0x20 ∷ []))) ≡ Apart
+  said : held_as (tree_held 4 (day 0 (7 ∷ 5 ∷ 3 ∷ 1 ∷ []) (2 ∷ 9 ∷ []))) ≡ Some 1
+  default : held_as (tree_held 4 (day 0 (4 ∷ 2 ∷ 0 ∷ 1 ∷ []) (1 ∷ []))) ≡ Some 1
+  counted-in : held_as (tree_held 4 (day 0 (7 ∷ 5 ∷ 3 ∷ 1 ∷ []) (1 ∷ []))) ≡ None
+  gap : held_as (tree_held 4 (day 1 (7 ∷ 5 ∷ 3 ∷ 1 ∷ []) (9 ∷ 2 ∷ []))) ≡ None
+  short : held_as (tree_held 4 (day 0 (7 ∷ 5 ∷ 3 ∷ []) (2 ∷ []))) ≡ None
+  part : held_as (tree_held 3 (day 0 (4 ∷ 2 ∷ 0 ∷ 1 ∷ []) (1 ∷ []))) ≡ Some 0
+  timed : held_as (tree_held 2 (made 4 (6 ∷ 4 ∷ []) (0x30 ∷ 0xD4 ∷ 0x00 ∷ 0x00 ∷ []))) ≡ Some 4
+  minus-zero : held_as (tree_held 2 (made 5 (7 ∷ 5 ∷ []) (0x30 ∷ 0xD4 ∷ 0x10 ∷ 0x00 ∷ 0x20 ∷ []))) ≡ None
 
 computed : Computed
 unfolding among value digits length_field framed rows kind_in known attribute defaults default_in bits long_flag offset_flag offset_octet time_of in_range is_time sign time_octets width fits meant octets_of is_default find kind_of is_known is_items is_tokens is_text is_value is_top allowed latest stage_after opens is_child value_in counted attributes_in cdata_in leaf_octets means maybe rising encode below past at_top placed body_keeps keeps body_in good here onward walk tree to_end rebuilt stored store_in loaded_in same_octets places tree_given normal_body body_sizes same_items kept in_order tree_held held_as
 computed = record { said = refl; default = refl; counted-in = refl; gap = refl; short = refl; part = refl; timed = refl; minus-zero = refl }
 
 -- a tree told as none, where a default isn't counted in the sizes of the elements around it
-pub default-untold : held_as (tree_held 4 (day 0 (4 ∷ 2 ∷ 0 ∷ 1 ∷ []) (1 ∷ []))) ≡ Apart → ⊥
-default-untold h = let e : Apart ≡ Upto 1 = sym h ∙ computed.default in let z : ◌≡◌ {A = ℕ} 0 1 = cc in omega arith
+pub default-untold : held_as (tree_held 4 (day 0 (4 ∷ 2 ∷ 0 ∷ 1 ∷ []) (1 ∷ []))) ≡ None → ⊥
+default-untold h = let e : None ≡ Some 1 = sym h ∙ computed.default in let z : ◌≡◌ {A = ℕ} 0 1 = cc in omega arith
 
 -- sizes that count a default
-pub default-counted : held_as (tree_held 4 (day 0 (7 ∷ 5 ∷ 3 ∷ 1 ∷ []) (1 ∷ []))) ≡ Upto 1 → ⊥
-default-counted h = let e : Apart ≡ Upto 1 = sym computed.counted-in ∙ h in let z : ◌≡◌ {A = ℕ} 0 1 = cc in omega arith
+pub default-counted : held_as (tree_held 4 (day 0 (7 ∷ 5 ∷ 3 ∷ 1 ∷ []) (1 ∷ []))) ≡ Some 1 → ⊥
+default-counted h = let e : None ≡ Some 1 = sym computed.counted-in ∙ h in let z : ◌≡◌ {A = ℕ} 0 1 = cc in omega arith
 
 -- a store with a gap
-pub gap-held : held_as (tree_held 4 (day 1 (7 ∷ 5 ∷ 3 ∷ 1 ∷ []) (9 ∷ 2 ∷ []))) ≡ Upto 2 → ⊥
-gap-held h = let e : Apart ≡ Upto 2 = sym computed.gap ∙ h in let z : ◌≡◌ {A = ℕ} 0 1 = cc in omega arith
+pub gap-held : held_as (tree_held 4 (day 1 (7 ∷ 5 ∷ 3 ∷ 1 ∷ []) (9 ∷ 2 ∷ []))) ≡ Some 2 → ⊥
+gap-held h = let e : None ≡ Some 2 = sym computed.gap ∙ h in let z : ◌≡◌ {A = ℕ} 0 1 = cc in omega arith
 
 -- all of the lent store told as taken
-pub whole-store : held_as (tree_held 4 (day 0 (7 ∷ 5 ∷ 3 ∷ 1 ∷ []) (2 ∷ 9 ∷ []))) ≡ Upto 2 → ⊥
-whole-store h = let e : Upto 2 ≡ Upto 1 = sym h ∙ computed.said in let z : ◌≡◌ {A = ℕ} 2 1 = cc in omega arith
+pub whole-store : held_as (tree_held 4 (day 0 (7 ∷ 5 ∷ 3 ∷ 1 ∷ []) (2 ∷ 9 ∷ []))) ≡ Some 2 → ⊥
+whole-store h = let e : Some 2 ≡ Some 1 = sym h ∙ computed.said in let z : ◌≡◌ {A = ℕ} 2 1 = cc in omega arith
 
 -- a value that isn't in its normal octets
-pub minus-zero-held : held_as (tree_held 2 (made 5 (7 ∷ 5 ∷ []) (0x30 ∷ 0xD4 ∷ 0x10 ∷ 0x00 ∷ 0x20 ∷ []))) ≡ Upto 5 → ⊥
-minus-zero-held h = let e : Apart ≡ Upto 5 = sym computed.minus-zero ∙ h in let z : ◌≡◌ {A = ℕ} 0 1 = cc in omega arith
+pub minus-zero-held : held_as (tree_held 2 (made 5 (7 ∷ 5 ∷ []) (0x30 ∷ 0xD4 ∷ 0x10 ∷ 0x00 ∷ 0x20 ∷ []))) ≡ Some 5 → ⊥
+minus-zero-held h = let e : None ≡ Some 5 = sym computed.minus-zero ∙ h in let z : ◌≡◌ {A = ℕ} 0 1 = cc in omega arith
 
 -- the short header still taken for a body of 254 octets, the long one for 253
 pub framed-told : (framed_size 253 ≡ 255) × (framed_size 254 ≡ 258)

@@ -1,7 +1,7 @@
 -- Whether records lie as a packed tree leaves them with all sizes right, record by record: what the code looks at. That it says of the records' tree what `in_order`
 -- asks is proved (proofs/Order, proofs/SizesHeld), so of all this only `held_as` has to be believed.
-use Rattle.std.specs.Prelude.{Bool, true, cond, ◌&&◌, List, ℕ, zero, suc, ◌+◌, eqb}
-use Rattle.std.specs.Prelude.{leb, length, take, drop, get_or, set, replicate, Option as Maybe, Some, None}
+use Rattle.std.specs.Prelude.{Bool, true, cond, ◌&&◌, List, ℕ, zero, suc, ◌+◌, ◌≤◌, eqb}
+use Rattle.std.specs.Prelude.{leb, length, take, drop, get_or, set, replicate, Option as Optional, Some, None}
 use Rattle.std.proofs.Math.Option.{Option, none, some}
 use Rattle.octets.specs.declared.counts.Octets.{Octets as OctetCount}
 use Rattle.octets.specs.Counts.{as_octets}
@@ -10,22 +10,25 @@ use Rattle.values.specs.Calls.{default_octets}
 use Rattle.format.specs.Tree.{Items}
 use Rattle.format.specs.Meaning.{opens}
 use Rattle.format.specs.Writer.{onward}
-use Rattle.format.specs.State.{packed_store}
+use Rattle.format.specs.Calls.{Lists}
+use Rattle.format.specs.State.{Memory, packed_store}
 use Rattle.tags.specs.declared.Listed.{Listed}
 use Rattle.tags.specs.declared.Listed.TheVariants.{Nothing, Inside, Value}
 use Rattle.tags.specs.Listed.{listed_as}
 use Rattle.survey.specs.Normal.{framed_size}
 use Rattle.compare.specs.Normal.{is_written}
-use Rattle.state.specs.declared.Filled.{Filled}
-use Rattle.state.specs.declared.Filled.TheVariants.{Apart, Upto}
 
 -- what the check answers: no tree is held, or one that takes so much of the store
-unfoldable pub held_as : Option Items → Filled
-held_as none = Apart
-held_as (some t) = Upto (length (packed_store t))
+unfoldable pub held_as : Option Items → Optional ℕ
+held_as none = None
+held_as (some t) = Some (length (packed_store t))
 
 abbrev pub nth : List ℕ → ℕ → ℕ
 nth l i = get_or l i 0
+
+-- so many records have a place in each list
+abbrev pub HasPlaces : ℕ → Lists → Type 0
+HasPlaces n l = (n ≤ length l.tags) × (n ≤ length l.kinds) × (n ≤ length l.depths) × (n ≤ length l.parents) × (n ≤ length l.starts) × (n ≤ length l.sizes)
 
 -- ---- how records lie in the store
 
@@ -44,9 +47,13 @@ filled_from tags parents starts sizes lent zero i at = some at
 filled_from tags parents starts sizes lent (suc m) i at =
     onward (lies_to (listed_as (known (tags (parents i)) (tags i))) at lent (starts i) (sizes i)) (λ k. filled_from tags parents starts sizes lent m (suc i) k)
 
-unfoldable pub as_filled : Option ℕ → Filled
-as_filled none = Apart
-as_filled (some at) = Upto at
+-- those of lent lists
+abbrev pub filled_in : Lists → List ℕ → (m i at : ℕ) → Option ℕ
+filled_in l lent m i at = filled_from (nth l.tags) (nth l.parents) (nth l.starts) (nth l.sizes) lent m i at
+
+unfoldable pub as_filled : Option ℕ → Optional ℕ
+as_filled none = None
+as_filled (some at) = Some at
 
 -- ---- sizes of bodies
 
@@ -70,10 +77,15 @@ right_below tags depths parents starts sizes bodies lent (suc i) sums =
     let later = right_below tags depths parents starts sizes bodies lent i (set (set sums (suc (depths i)) 0) (depths i) sum) in
     eqb (bodies i) own && (leb sum 32_768 && later)
 
+-- those of lent memory
+abbrev pub right_in : Memory → (i : ℕ) → (sums : List ℕ) → Bool
+right_in m i sums =
+    right_below (nth m.lists.tags) (nth m.lists.depths) (nth m.lists.parents) (nth m.lists.starts) (nth m.lists.sizes) (nth m.bodies) m.store i sums
+
 -- no sum yet: items stand at the depths 1 to 17
 abbrev pub no_sums : List ℕ
 no_sums = replicate 18 0
 
 -- so many octets, where an object may have so many
-abbrev pub short : ℕ → Maybe OctetCount
+abbrev pub short : ℕ → Optional OctetCount
 short n = cond (leb n 32_768) (Some (as_octets n)) None

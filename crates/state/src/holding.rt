@@ -7,71 +7,63 @@ ghost use Rattle.format.specs.State.{tree_held};
 ghost use Rattle.tags.specs.declared.Listed.TheVariants.{Value};
 ghost use Rattle.tags.specs.Listed.{listed_as};
 ghost use Rattle.survey.specs.Normal.{framed_size};
-ghost use Rattle.state.specs.Taking.{memory};
-ghost use Rattle.state.specs.Order.{held_as, nth, lies_to, filled_from, as_filled, item_adds, added_by, right_below, no_sums, short};
+ghost use Rattle.format.specs.Lent.{shared_lists};
+ghost use Rattle.state.specs.Taking.{shared_memory};
+ghost use Rattle.state.specs.Order.{HasPlaces, held_as, nth, lies_to, filled_in, as_filled, item_adds, added_by, right_in, no_sums, short};
 
-use crate::Filled;
+use crate::Memory;
 use compare::is_own;
-use format::octet_at;
+use format::{Records, at_or};
 use octets::{Octets, header_size};
+use records::is_well_formed;
 use tags::{Listed, holds_items, listed_as};
 use values::{Kind, is_default};
 
 // A value, where the store is filled up to `at`.
-fn value_to(kind: Kind, at: usize, store: &[u8], start: u16, size: u16) -> Filled
+fn value_to(kind: Kind, at: usize, store: &[u8], start: u16, size: u16) -> Option<usize>
     ensures { result ≡ as_filled (lies_to (Value kind) at store.now start size) }
 {
     let from = start as usize;
     if from != at {
-        return Filled::Apart;
+        return None;
     }
     let end = from + size as usize;
     if end > store.len() {
-        return Filled::Apart;
+        return None;
     }
     if is_own(kind, &store[from..end]) {
-        return Filled::Upto(end);
+        return Some(end);
     }
-    Filled::Apart
+    None
 }
 
 // One record in an element of a tag.
-fn lies_to(element: u8, at: usize, store: &[u8], tag: u8, start: u16, size: u16) -> Filled
+fn lies_to(element: u8, at: usize, store: &[u8], tag: u8, start: u16, size: u16) -> Option<usize>
     ensures { result ≡ as_filled (lies_to (listed_as (known element tag)) at store.now start size) }
 {
     match listed_as(element, tag) {
-        Listed::Nothing => Filled::Apart,
+        Listed::Nothing => None,
         Listed::Inside => {
             if start as usize + size as usize == 0 {
-                return Filled::Upto(at);
+                return Some(at);
             }
-            Filled::Apart
+            None
         }
         Listed::Value(kind) => value_to(kind, at, store, start, size),
     }
 }
 
 // All records, each in the element that its parent's record names.
-fn lie_all(
-    n: usize,
-    tags: &[u8],
-    parents: &[u16],
-    starts: &[u16],
-    sizes: &[u16],
-    store: &[u8],
-) -> Filled
-    requires { (n ≤ length tags.now) × (n ≤ length parents.now) × (n ≤ length starts.now) × (n ≤ length sizes.now) }
-    ensures { result ≡ as_filled (filled_from (nth tags.now) (nth parents.now) (nth starts.now) (nth sizes.now) store.now n 0 0) }
+fn lie_all(n: usize, records: &Records, store: &[u8]) -> Option<usize>
+    requires { HasPlaces n (shared_lists records.now) }
+    ensures { result ≡ as_filled (filled_in (shared_lists records.now) store.now n 0 0) }
 {
     let mut at: usize = 0;
     for i in 0..n {
-        let element = octet_at(tags, parents[i] as usize);
-        let Filled::Upto(end) = lies_to(element, at, store, tags[i], starts[i], sizes[i]) else {
-            return Filled::Apart;
-        };
-        at = end;
+        let element = at_or(records.tags, records.parents[i] as usize, 0);
+        at = lies_to(element, at, store, records.tags[i], records.starts[i], records.sizes[i])?;
     }
-    Filled::Upto(at)
+    Some(at)
 }
 
 // An item whose body has so many octets.
@@ -153,30 +145,23 @@ fn sum_up(sums: &mut [usize], depth: u8, sum: Octets)
 }
 
 // All sizes, from the last record to the first.
-fn are_right(
-    n: usize,
-    tags: &[u8],
-    depths: &[u8],
-    parents: &[u16],
-    starts: &[u16],
-    sizes: &[u16],
-    bodies: &[u16],
-    store: &[u8],
-) -> bool
-    requires { (n ≤ length tags.now) × (n ≤ length depths.now) × (n ≤ length parents.now) × (n ≤ length starts.now) × (n ≤ length sizes.now) × (n ≤ length bodies.now) }
-    ensures { result ≡ right_below (nth tags.now) (nth depths.now) (nth parents.now) (nth starts.now) (nth sizes.now) (nth bodies.now) store.now n no_sums }
+fn are_right(n: usize, memory: &Memory) -> bool
+    requires { HasPlaces n (shared_lists memory.now.records) × (n ≤ length memory.now.bodies.now) }
+    ensures { result ≡ right_in (shared_memory memory.now) n no_sums }
 {
+    let records = memory.records;
+    let store = memory.store;
     let mut sums: [usize; 18] = [0; 18];
     for i in (0..n).rev() {
-        let tag = tags[i];
-        let depth = depths[i];
-        let size = sizes[i];
-        let body = bodies[i];
+        let tag = records.tags[i];
+        let depth = records.depths[i];
+        let size = records.sizes[i];
+        let body = memory.bodies[i];
         if body as usize != own_size(&sums, depth, tag, size).0 {
             return false;
         }
-        let element = octet_at(tags, parents[i] as usize);
-        let part = added_by(element, tag, starts[i], size, store, body);
+        let element = at_or(records.tags, records.parents[i] as usize, 0);
+        let part = added_by(element, tag, records.starts[i], size, store, body);
         let Some(sum) = sum_with(&sums, depth, part) else {
             return false;
         };
@@ -186,27 +171,17 @@ fn are_right(
 }
 
 // Whether memory holds a tree of `n` records, and how much of the store it takes.
-pub fn held(
-    n: usize,
-    tags: &[u8],
-    kinds: &[u8],
-    depths: &[u8],
-    parents: &[u16],
-    starts: &[u16],
-    sizes: &[u16],
-    bodies: &[u16],
-    store: &[u8],
-) -> Filled
-    ensures { result ≡ held_as (tree_held n (memory tags.now kinds.now depths.now parents.now starts.now sizes.now bodies.now store.now)) }
+pub fn held(n: usize, memory: &Memory) -> Option<usize>
+    ensures { result ≡ held_as (tree_held n (shared_memory memory.now)) }
 {
-    if n > bodies.len() {
-        return Filled::Apart;
+    if n > memory.bodies.len() {
+        return None;
     }
-    if !records::is_well_formed(n, tags, kinds, depths, parents, starts, sizes, store) {
-        return Filled::Apart;
+    if !is_well_formed(n, &memory.records, memory.store) {
+        return None;
     }
-    if !are_right(n, tags, depths, parents, starts, sizes, bodies, store) {
-        return Filled::Apart;
+    if !are_right(n, memory) {
+        return None;
     }
-    lie_all(n, tags, parents, starts, sizes, store)
+    lie_all(n, &memory.records, memory.store)
 }

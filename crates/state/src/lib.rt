@@ -3,12 +3,7 @@
 #![tactic(auto)]
 
 mod holding;
+mod lent;
 
 pub use holding::{added_by, framed_size, held, item_adds};
-
-// How far records fill the store, where each text and value lies right behind the one before it. Apart: they don't lie so.
-#[derive(Clone, Copy)]
-pub enum Filled {
-    Apart,
-    Upto(usize),
-}
+pub use lent::{Memory, MemoryMut};

@@ -1,4 +1,5 @@
 -- The sizes of items that are accepted by themselves, with no token table: what they take of the store, and their normal form record by record.
+use Rattle.std.specs.Prelude.{Option}
 use mathlib.Core.Path.{◌≡◌, refl, sym, ap, ap₂, ◌∙◌}
 use mathlib.Core.Bool.{Bool, true, false, cond, ◌||◌, false≢true}
 use mathlib.Core.Option.{none, some}
@@ -29,11 +30,11 @@ use Rattle.judge.proofs.AllWays.{tokens-four, no-entries}
 use Rattle.judge.proofs.Inside.{level-same, inside-read}
 use Rattle.reader.specs.Filling.{Accepts}
 use Rattle.survey.specs.Normal.{framed_size, value_octets, written_as, item_octets, normal_size}
-use Rattle.survey.specs.declared.measure.Measured.{Measured}
 use Rattle.survey.specs.Measure.{measured_in, MeasuresInside}
 use Rattle.survey.specs.Sizes.{taken, room_in, size_in, sizes_of, sizes_in, ItemsMeasured}
 use Rattle.survey.proofs.Ways.{framed-length}
 use Rattle.survey.proofs.WholeSizes.{room-item}
+use Rattle.survey.specs.declared.measure.Sizes.{Sizes}
 
 module _ (p tag at : ℕ) (body : List ℕ) (x y : Items) (later : size_in [] p y ≡ normal_size p y) where
   size-single : (k : Kind) → known p tag ≡ some k → opens tag ≡ false → size_in [] p (item tag at body x y) ≡ normal_size p (item tag at body x y)
@@ -80,7 +81,8 @@ sized-cases = record {
 }
 
 -- measure_inside: no item is told from one below depth 16 by how much deeper it is
-pub measures-inside : (element depth : ℕ) (o : List ℕ) (left : ℕ) (r : Measured) → left ≡ 16 - depth → ItemsMeasured (entries (take (0 - 0) (drop 0 o))) element left o r
+pub measures-inside : (element depth : ℕ) (o : List ℕ) (left : ℕ) (r : Option Sizes) → left ≡ 16 - depth
+    → ItemsMeasured (entries (take (0 - 0) (drop 0 o))) element left o r
     → MeasuresInside element depth o r
 unfolding MeasuresInside measured_in beginning depth_of
 measures-inside element depth o left r l m t h =

@@ -2,7 +2,7 @@ pub mod Ways
 pub mod WrittenAs
 pub mod Rising
 pub mod Found
-pub mod Sizes
+pub mod NormalSizes
 pub mod Tables
 pub mod Seeking
 pub mod First

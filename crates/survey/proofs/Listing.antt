@@ -10,22 +10,18 @@ use lib.Dec.{eqb}
 use lib.ListN.{length}
 use types.Run.{OneOf}
 use denote.Enum.Declared.{tag_of}
-use Rattle.std.specs.Prelude.{Option, None, Some}
+use Rattle.std.specs.Prelude.{Option, None, Some, Result, Ok, Err}
 use Rattle.std.specs.List.{list_any}
 use Rattle.octets.specs.Numbers.{among}
 use Rattle.octets.proofs.Tests.{never as not-one}
 use Rattle.values.specs.declared.Kind.{Kind}
 use Rattle.values.specs.declared.Kind.TheVariants.{HoldsItems, HoldsTokens, HoldsText, HoldsPlain, HoldsTime, HoldsBearer, HoldsNumber}
-use Rattle.values.specs.declared.KnownKind.{KnownKind}
-use Rattle.values.specs.declared.KnownKind.TheVariants.{Unknown, Known}
 use Rattle.values.specs.Table.{known}
 use Rattle.values.specs.Calls.{known_kind}
 use Rattle.values.specs.contracts.Kind.{the_type}
 use Rattle.values.proofs.Laws.{known-kind, unknown-kind}
 use Rattle.format.specs.declared.Refusal.{Refusal}
 use Rattle.format.specs.declared.Counts.{Counts}
-use Rattle.format.specs.declared.ReadAnswer.{ReadAnswer}
-use Rattle.format.specs.declared.ReadAnswer.TheVariants.{Records, NotRead}
 use Rattle.format.specs.Tree.{Items}
 use Rattle.format.specs.Judge.{Judged, is_known, is_items, judge}
 use Rattle.format.specs.Judge.Judged.{refused, accepted}
@@ -33,11 +29,9 @@ use Rattle.format.specs.Headers.{headers_of}
 use Rattle.format.specs.Calls.{judge_answer}
 use Rattle.tags.proofs.Arms.{never}
 use Rattle.reader.proofs.Reading.{was-refused, was-accepted, whole}
-use Rattle.survey.specs.declared.look.Sought.TheVariants.{Refused, Nowhere, At}
 use Rattle.survey.specs.declared.look.Step.TheVariants.{Past, Into, Picked}
 use Rattle.survey.specs.First.{picks, place_at, in_rows, sought_by, sought_as, sought_in}
 use Rattle.survey.specs.Looks.{step_of, place_of, ItemsLooked}
-use Rattle.survey.proofs.Looking.{place_none, place-some}
 
 -- ---- is_sought
 
@@ -83,12 +77,12 @@ not-items HoldsTime h = refl
 not-items HoldsBearer h = refl
 not-items (HoldsNumber n) h = refl
 
-module _ (P : ℕ → ℕ → Bool) (parent tag : ℕ) (r : KnownKind) (e : r ≡ known_kind parent tag) where
-  pub step-unknown : r ≡ Unknown → Past ≡ step_of P parent tag
+module _ (P : ℕ → ℕ → Bool) (parent tag : ℕ) (r : Option Kind) (e : r ≡ known_kind parent tag) where
+  pub step-unknown : r ≡ None → Past ≡ step_of P parent tag
   unfolding step_of picks is_known is_items
   step-unknown q = rw (unknown-kind parent tag r e q)
 
-  module _ (k : Kind) (q : r ≡ Known k) (b : Bool) (be : b ≡ P parent tag) where
+  module _ (k : Kind) (q : r ≡ Some k) (b : Bool) (be : b ≡ P parent tag) where
     kind-is : known parent tag ≡ some k
     kind-is = known-kind parent tag r e k q
 
@@ -108,25 +102,26 @@ pub ruleset step-ways = (step-unknown, step-picked, step-into, step_past)
 
 -- ---- find_first
 
-module _ (P : ℕ → ℕ → Bool) (o : List ℕ) (v : ReadAnswer) (e : v ≡ judge_answer (headers_of o) (judge o)) where
-  pub first-refused : (r : Refusal) → v ≡ NotRead r → Refused r ≡ sought_in P o
+looked-as : (t : Items) (place : Maybe ℕ) → Ok (place_of place) ≡ sought_as (accepted t) place
+unfolding sought_as place_of
+looked-as t none = refl
+looked-as t (some p) = refl
+
+module _ (P : ℕ → ℕ → Bool) (o : List ℕ) (v : Result Counts Refusal) (e : v ≡ judge_answer (headers_of o) (judge o)) where
+  pub first-refused : (r : Refusal) → v ≡ Err r → Err r ≡ sought_in P o
   unfolding sought_in sought_as
   first-refused r q = rw (was-refused (headers_of o) (judge o) r (sym q ∙ e))
 
-  module _ (c : Counts) (q : v ≡ Records c) (s : Option ℕ) (w : ItemsLooked P 0 16 o 0 s) where
+  module _ (c : Counts) (q : v ≡ Ok c) (s : Option ℕ) (w : ItemsLooked P 0 16 o 0 s) where
     place-told : s ≡ place_of (place_at P o)
     unfolding ItemsLooked place_at
     place-told = let t = was-accepted (headers_of o) (judge o) c (sym q ∙ e) in w 1 t.tree (suc (length o)) refl (omega arith) (whole o t.tree t.is)
 
-    pub first-nowhere : s ≡ None → Nowhere ≡ sought_in P o
-    unfolding sought_in sought_as
-    first-nowhere z = rw ((was-accepted (headers_of o) (judge o) c (sym q ∙ e)).is, place_none (place_at P o) (sym z ∙ place-told))
-
-    pub first-at : (place : ℕ) → s ≡ Some place → At place ≡ sought_in P o
-    unfolding sought_in sought_as
-    first-at place z = rw ((was-accepted (headers_of o) (judge o) c (sym q ∙ e)).is, place-some (place_at P o) place (sym z ∙ place-told))
-
-pub ruleset first-ways = (first-refused, first-nowhere, first-at)
+    pub first-looked : Ok s ≡ sought_in P o
+    unfolding sought_in
+    first-looked =
+        let t = was-accepted (headers_of o) (judge o) c (sym q ∙ e) in
+        ap (λ x. Ok x) place-told ∙ looked-as t.tree (place_at P o) ∙ sym (ap (λ j. sought_as j (place_at P o)) t.is)
 
 -- ---- what the answer says
 
@@ -136,19 +131,19 @@ pub record Searched (j : Judged) (place found : Maybe ℕ) : Type 0 where
   pub is : j ≡ accepted tree
   pub there : place ≡ found
 
-pub sought-refused : (j : Judged) (place : Maybe ℕ) (r : Refusal) → Refused r ≡ sought_as j place → j ≡ refused r
+pub sought-refused : (j : Judged) (place : Maybe ℕ) (r : Refusal) → Err r ≡ sought_as j place → j ≡ refused r
 unfolding sought_as
 sought-refused (refused q) place r e = cc
 sought-refused (accepted t) none r e = not-one (cc)
 sought-refused (accepted t) (some x) r e = not-one (cc)
 
-pub sought-nowhere : (j : Judged) (place : Maybe ℕ) → Nowhere ≡ sought_as j place → Searched j place none
+pub sought-nowhere : (j : Judged) (place : Maybe ℕ) → Ok None ≡ sought_as j place → Searched j place none
 unfolding sought_as
 sought-nowhere (refused q) place e = not-one (cc)
 sought-nowhere (accepted t) none e = record { tree = t; is = refl; there = refl }
 sought-nowhere (accepted t) (some x) e = not-one (cc)
 
-pub sought-at : (j : Judged) (place : Maybe ℕ) (p : ℕ) → At p ≡ sought_as j place → Searched j place (some p)
+pub sought-at : (j : Judged) (place : Maybe ℕ) (p : ℕ) → Ok (Some p) ≡ sought_as j place → Searched j place (some p)
 unfolding sought_as
 sought-at (refused q) place p e = not-one (cc)
 sought-at (accepted t) none p e = not-one (cc)

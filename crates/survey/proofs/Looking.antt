@@ -11,12 +11,11 @@ use mir.Syntax.{w64}
 use mir.Val.{Fits}
 use Rattle.std.specs.Prelude.{Option, None, Some}
 use Rattle.octets.specs.Header.{header_size, body_size}
-use Rattle.octets.specs.declared.Lies.{Lies}
-use Rattle.octets.specs.declared.Lies.TheVariants.{Outside, Between}
-use Rattle.octets.specs.Places.{first_body, after_first, lies_at}
+use Rattle.octets.specs.Places.{first_body, after_first, lies_at, from_to}
 use Rattle.octets.proofs.Tests.{never}
 use Rattle.octets.proofs.Lists.{length_part}
 use Rattle.octets.proofs.Places.{Lying, lying, to_inside, ordered, nearer, bounds, body_is, later-is, tag-is}
+use Rattle.octets.specs.declared.Lies.{Lies}
 use Rattle.values.specs.Table.{known}
 use Rattle.format.specs.Tree.{Items}
 use Rattle.format.specs.Judge.{is_items}
@@ -130,12 +129,12 @@ module _ (P : ℕ → ℕ → Bool) (parent left : ℕ) (part : List ℕ) (offse
         let e : place_in k P parent offset part ≡ none = g.same ∙ ap (place_in g.fuel P parent (offset + at)) (drop_of_length-le part h) ∙ none_left P g.fuel parent (offset + at) in
         sym (ap place_of e)
 
-    module _ (h : at < length part) (r : Lies) (re : r ≡ lies_at part at) where
-      pub look-past : r ≡ Outside → (s : Option ℕ) → ItemsLooked P parent left part offset s
+    module _ (h : at < length part) (r : Option Lies) (re : r ≡ lies_at part at) where
+      pub look-past : r ≡ None → (s : Option ℕ) → ItemsLooked P parent left part offset s
       unfolding ItemsLooked
       look-past q s depth t k l m a = let g = inv.goes depth t k l m a in absurd (lies-inside part at r re h q parent depth (offset + at) g.rest g.accepts)
 
-      module _ (from to : ℕ) (q : r ≡ Between from to) where
+      module _ (from to : ℕ) (q : r ≡ Some (from_to from to)) where
         here : Lying part at from to
         here = lying part at r re from to q
 
@@ -219,13 +218,3 @@ module _ (P : ℕ → ℕ → Bool) (parent left : ℕ) (part : List ℕ) (offse
           }
 
 pub ruleset look-ways = (look-begin, look-end, look-past, look-to, look-ordered, look-less, look-body, look-from, look-found, look-again)
-
-pub place_none : (o : Maybe ℕ) → None ≡ place_of o → o ≡ none
-unfolding place_of
-place_none none e = refl
-place_none (some x) e = never (cc)
-
-pub place-some : (o : Maybe ℕ) (place : ℕ) → Some place ≡ place_of o → o ≡ some place
-unfolding place_of
-place-some none place e = never (cc)
-place-some (some x) place e = let z : x ≡ place = cc in ap some z

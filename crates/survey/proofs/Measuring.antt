@@ -1,4 +1,5 @@
 -- The ways through measure_item and measure_items.
+use Rattle.std.specs.Prelude.{Option, Some, None}
 use mathlib.Core.Path.{◌≡◌, refl, sym, ap, ap₂, ◌∙◌, subst}
 use mathlib.Core.Bool.{Bool, true, false, cond, not, ◌&&◌}
 use mathlib.Core.List.{List}
@@ -12,14 +13,13 @@ use mir.Syntax.{w64}
 use mir.Val.{Fits}
 use Rattle.octets.specs.declared.counts.Octets.{Octets as OctetCount}
 use Rattle.octets.specs.Counts.{as_octets}
-use Rattle.octets.specs.declared.Lies.{Lies}
-use Rattle.octets.specs.declared.Lies.TheVariants.{Outside, Between}
-use Rattle.octets.specs.Places.{lies_at}
+use Rattle.octets.specs.Places.{lies_at, from_to}
 use Rattle.text.specs.Tokens.{Entries}
 use Rattle.values.specs.Table.{known, defaults, default_in}
 use Rattle.values.specs.Calls.{default_octets}
 use Rattle.octets.proofs.Places.{Lying, lying, to_inside}
 use Rattle.octets.proofs.Tests.{and_left, never, not_chosen}
+use Rattle.octets.specs.declared.Lies.{Lies}
 use Rattle.format.specs.Tree.{Items}
 use Rattle.format.specs.Tree.Items.{end}
 use Rattle.format.specs.Judge.{is_known, is_items, is_tokens}
@@ -28,11 +28,10 @@ use Rattle.reader.proofs.Opening.{opened-end, lies-inside, met}
 use Rattle.survey.specs.Normal.{framed_size}
 use Rattle.survey.specs.declared.measure.Part.{Part}
 use Rattle.survey.specs.declared.measure.Part.TheVariants.{Nothing, Kept, Inside, Octets}
-use Rattle.survey.specs.declared.measure.Measured.{Measured}
-use Rattle.survey.specs.declared.measure.Measured.TheVariants.{Over, Sizes}
-use Rattle.survey.specs.Sizes.{taken, part_of, part_in, room_in, size_in, sizes_of, sizes_in, Small, ItemMeasured, ItemsMeasured}
+use Rattle.survey.specs.Sizes.{taken, part_of, part_in, room_in, size_in, sizes_of, sizes_in, Small, ItemMeasured, ItemsMeasured, store_octets}
 use Rattle.survey.proofs.Parts.{sizes-over, sizes-are, over-says, sizes-say, small-sizes}
 use Rattle.survey.proofs.Adding.{Has, share-adds, adds-nothing, adds-octets, adds-kept, holds-items, adds-inside, cut-same}
+use Rattle.survey.specs.declared.measure.Sizes.{Sizes}
 
 -- an item is no shorter than its body
 framed-more : (n : ℕ) → n < framed_size n
@@ -61,7 +60,7 @@ kept-only T p tag body e = go (default_octets p tag body) refl (is_items (known 
     go false d false false w = never (cc)
 
 module _ (T : Entries) (p tag left : ℕ) (body : List ℕ) (x : Part) (xe : x ≡ part_in T p tag body) where
-  pub item-nothing : x ≡ Nothing → ItemMeasured T p tag left body (Sizes (as_octets 0) (as_octets 0))
+  pub item-nothing : x ≡ Nothing → ItemMeasured T p tag left body (Some (store_octets (as_octets 0) (as_octets 0)))
   item-nothing q = record {
     small = (omega arith, omega arith);
     told = λ depth offset u l a. sizes-are 0 0 (omega arith) ∙ sizes-has T p (share (known p tag) tag offset body u end) 0 0 (adds-nothing T p tag offset body u part.1);
@@ -70,7 +69,7 @@ module _ (T : Entries) (p tag left : ℕ) (body : List ℕ) (x : Part) (xe : x �
       part : (default_octets p tag body ≡ false) × (Nothing ≡ part_of T (known p tag) body)
       part = plainly T p tag body Nothing (λ e. never (cc)) (sym q ∙ xe)
 
-  pub item-kept : x ≡ Kept → ItemMeasured T p tag left body (Sizes (as_octets 1) (as_octets 0))
+  pub item-kept : x ≡ Kept → ItemMeasured T p tag left body (Some (store_octets (as_octets 1) (as_octets 0)))
   unfolding default_octets
   item-kept q = record {
     small = (omega (arith, one), omega arith);
@@ -94,7 +93,7 @@ module _ (T : Entries) (p tag left : ℕ) (body : List ℕ) (x : Part) (xe : x �
     pub octets-few : n.0 ≤ 32_769
     octets-few = omega (arith, (adds-octets T p tag 0 body end octets-part.0 n octets-part.1).0)
 
-    pub item-octets : (r : Measured) → r ≡ sizes_of n.0 (framed_size n.0) → ItemMeasured T p tag left body r
+    pub item-octets : (r : Option Sizes) → r ≡ sizes_of n.0 (framed_size n.0) → ItemMeasured T p tag left body r
     item-octets r e = record {
       small = subst (Small (length body)) (sym e) (small-sizes (length body) n.0 (framed_size n.0) (omega (arith, framed-more n.0)));
       told = λ depth offset u l a.
@@ -113,14 +112,14 @@ module _ (T : Entries) (p tag left : ℕ) (body : List ℕ) (x : Part) (xe : x �
     inner : (offset : ℕ) (u : Items) → sizes_of (room_in T tag u) (framed_size (size_in T tag u)) ≡ sizes_in T p (share (known p tag) tag offset body u end)
     inner offset u = sizes-has T p (share (known p tag) tag offset body u end) (room_in T tag u) (framed_size (size_in T tag u)) (adds-inside T p tag offset body u inside-part.0 inside-part.1)
 
-    pub item-deep : left ≡ 0 → ItemMeasured T p tag left body Over
+    pub item-deep : left ≡ 0 → ItemMeasured T p tag left body None
     item-deep z = record { small = tt; told = λ depth offset u l a. absurd (omega (arith, (a holds).0)) }
 
-    module _ (z : left ≡ 0 → ⊥) (v : Measured) (m : ItemsMeasured T tag (left - 1) body v) where
+    module _ (z : left ≡ 0 → ⊥) (v : Option Sizes) (m : ItemsMeasured T tag (left - 1) body v) where
       inside-told : (depth offset : ℕ) (u : Items) → depth + left ≡ 17 → (depth ≤ 16) × Accepts tag (depth + 1) offset body u → v ≡ sizes_in T tag u
       inside-told depth offset u l a = m.told (depth + 1) offset u (omega (arith, a.0)) a.1
 
-      pub item-over : v ≡ Over → ItemMeasured T p tag left body Over
+      pub item-over : v ≡ None → ItemMeasured T p tag left body None
       item-over w = record {
         small = tt;
         told = λ depth offset u l a.
@@ -128,11 +127,11 @@ module _ (T : Entries) (p tag left : ℕ) (body : List ℕ) (x : Part) (xe : x �
             sizes-over (room_in T tag u) (framed_size (size_in T tag u)) (omega (arith, framed-more (size_in T tag u))) ∙ inner offset u;
       }
 
-      module _ (s n : OctetCount) (w : v ≡ Sizes s n) where
+      module _ (s n : OctetCount) (w : v ≡ Some (store_octets s n)) where
         bounded : (s.0 ≤ n.0 + length body) × (n.0 ≤ 32_768)
         bounded = subst (Small (length body)) w m.small
 
-        pub item-inside : (r : Measured) → r ≡ sizes_of s.0 (framed_size n.0) → ItemMeasured T p tag left body r
+        pub item-inside : (r : Option Sizes) → r ≡ sizes_of s.0 (framed_size n.0) → ItemMeasured T p tag left body r
         item-inside r e = record {
           small = subst (Small (length body)) (sym e) (small-sizes (length body) s.0 (framed_size n.0) (omega (arith, bounded.0, framed-more n.0)));
           told = λ depth offset u l a.
@@ -164,7 +163,7 @@ begin T p left part = record {
 }
 
 module _ (T : Entries) (p left : ℕ) (part : List ℕ) (store octets at : ℕ) (inv : Sums T p left part store octets at) where
-  pub ended : length part ≤ at → ItemsMeasured T p left part (Sizes (as_octets store) (as_octets octets))
+  pub ended : length part ≤ at → ItemsMeasured T p left part (Some (store_octets (as_octets store) (as_octets octets)))
   unfolding room_in size_in
   ended h = record {
     small = (omega (arith, inv.fewer, inv.inside), inv.few);
@@ -176,8 +175,8 @@ module _ (T : Entries) (p left : ℕ) (part : List ℕ) (store octets at : ℕ) 
         sizes-are store octets inv.few ∙ ap₂ sizes_of (sym x) (sym z);
   }
 
-  module _ (h : at < length part) (r : Lies) (re : r ≡ lies_at part at) where
-    pub no_item : r ≡ Outside → ItemsMeasured T p left part Over
+  module _ (h : at < length part) (r : Option Lies) (re : r ≡ lies_at part at) where
+    pub no_item : r ≡ None → ItemsMeasured T p left part None
     no_item q = record {
       small = tt;
       told = λ depth offset t l a.
@@ -185,7 +184,7 @@ module _ (T : Entries) (p left : ℕ) (part : List ℕ) (store octets at : ℕ) 
           absurd (lies-inside part at r re h q p depth (offset + at) g.rest g.accepts);
     }
 
-    module _ (from to : ℕ) (q : r ≡ Between from to) where
+    module _ (from to : ℕ) (q : r ≡ Some (from_to from to)) where
       pub here : Lying part at from to
       here = lying part at r re from to q
 
@@ -195,7 +194,7 @@ module _ (T : Entries) (p left : ℕ) (part : List ℕ) (store octets at : ℕ) 
       abbrev body : List ℕ
       body = take (to - from) (drop from part)
 
-      module _ (v : Measured) (m : ItemMeasured T p tag left body v) where
+      module _ (v : Option Sizes) (m : ItemMeasured T p tag left body v) where
         -- the item at hand, and then the rest
         record Turn (depth offset : ℕ) (t : Items) : Type 0 where
           u : Items
@@ -219,7 +218,7 @@ module _ (T : Entries) (p left : ℕ) (part : List ℕ) (store octets at : ℕ) 
               size = g.size ∙ ap (λ y. octets + y) (ap (size_in T p) o.tree ∙ s.size);
             }
 
-        pub item-too-long : v ≡ Over → ItemsMeasured T p left part Over
+        pub item-too-long : v ≡ None → ItemsMeasured T p left part None
         item-too-long e = record {
           small = tt;
           told = λ depth offset t l a.
@@ -228,7 +227,7 @@ module _ (T : Entries) (p left : ℕ) (part : List ℕ) (store octets at : ℕ) 
               sizes-over (room_in T p t) (size_in T p t) (omega (arith, g.size));
         }
 
-        module _ (more longer : OctetCount) (e : v ≡ Sizes more longer) where
+        module _ (more longer : OctetCount) (e : v ≡ Some (store_octets more longer)) where
           limits : (more.0 ≤ longer.0 + length body) × (longer.0 ≤ 32_768)
           limits = subst (Small (length body)) e m.small
 
@@ -248,7 +247,7 @@ module _ (T : Entries) (p left : ℕ) (part : List ℕ) (store octets at : ℕ) 
               let k = sizes-say _ _ more longer (sym e ∙ g.own) in
               record { rest = g.w; accepts = g.after; room = omega (arith, g.room, k.0); size = omega (arith, g.size, k.1) }
 
-          pub too_long : 32_768 < octets + longer.0 → ItemsMeasured T p left part Over
+          pub too_long : 32_768 < octets + longer.0 → ItemsMeasured T p left part None
           too_long k = record {
             small = tt;
             told = λ depth offset t l a. sizes-over (room_in T p t) (size_in T p t) (omega (arith, (further depth offset t l a).size));

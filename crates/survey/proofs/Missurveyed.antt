@@ -1,4 +1,5 @@
 -- Wrong answers of the calls, each refuted by what its contract says.
+use Rattle.std.specs.Prelude.{Some, None, Result, Ok, Err, Option as Optional}
 use mathlib.Core.Path.{◌≡◌, refl, sym, ap, ◌∙◌}
 use mathlib.Core.Bool.{true, false}
 use mathlib.Core.Option.{Option}
@@ -10,11 +11,10 @@ use borrow.Author.Tests.{lt-leb}
 use Rattle.octets.specs.Numbers.{among, digits, value}
 use Rattle.octets.specs.Header.{header_size, body_size, length_field, framed}
 use Rattle.octets.specs.Counts.{as_octets}
-use Rattle.octets.specs.declared.Lies.TheVariants.{Outside, Between}
 use Rattle.octets.proofs.Tests.{never}
+use Rattle.octets.specs.Places.{from_to}
 use Rattle.values.specs.declared.Kind.TheVariants.{HoldsItems, HoldsTokens, HoldsNumber}
 use Rattle.values.specs.declared.NumberKind.TheVariants.{Enumerated}
-use Rattle.values.specs.declared.KnownKind.TheVariants.{Unknown, Known}
 use Rattle.values.specs.Table.{rows, kind_in, known, attribute, defaults, default_in}
 use Rattle.values.specs.Values.{fits, width, meant, octets_of}
 use Rattle.values.specs.Calls.{as_known, default_octets}
@@ -27,60 +27,57 @@ use Rattle.format.specs.Judge.Judged.{refused, accepted}
 use Rattle.format.specs.Meaning.{opens, maybe}
 use Rattle.format.specs.Loaded.{stored, store_in}
 use Rattle.format.specs.Calls.{Lent}
-use Rattle.survey.specs.declared.measure.Measured.{Measured}
-use Rattle.survey.specs.declared.measure.Measured.TheVariants.{Over, Sizes}
-use Rattle.survey.specs.declared.Needed.{Needed}
-use Rattle.survey.specs.declared.Needed.TheVariants.{Refused, Takes}
-use Rattle.survey.specs.declared.look.Sought.TheVariants.{Refused as Sought-Refused, Nowhere as Sought-Nowhere, At as Sought-At}
-use Rattle.survey.specs.declared.Standing.TheVariants.{Bad, Misfit, Fits}
 use Rattle.survey.specs.Normal.{value_octets, written_as, item_octets, normal_size}
-use Rattle.survey.specs.Sizes.{sizes_of}
-use Rattle.survey.specs.Measure.{measured_in}
-use Rattle.survey.specs.Survey.{surveyed, needed_of, needed_by}
+use Rattle.survey.specs.Sizes.{sizes_of, store_octets}
+use Rattle.survey.specs.Measure.{measured_in, measured_of}
+use Rattle.survey.specs.Survey.{surveyed, needed_of, needed_by, records_sizes}
 use Rattle.survey.specs.First.{or_else, picks, place_in, place_at, in_rows, sought_by, sought_as}
 use Rattle.survey.specs.Places.{table_within, first_table, table_body, span_within, span_of_tag}
+use Rattle.survey.specs.declared.measure.Sizes.{Sizes}
+use Rattle.survey.specs.declared.Needs.{Needs}
+use Rattle.survey.specs.declared.Unfit.TheVariants.{Bad, Misfit}
 
 -- ---- survey
 
 -- that an object fits which is refused
-pub fits_refused : (lent : Lent) (r : Refusal) → surveyed lent (refused r) ≡ Fits → ⊥
+pub fits_refused : (lent : Lent) (r : Refusal) → surveyed lent (refused r) ≡ Ok tt → ⊥
 unfolding surveyed
-fits_refused lent r h = let w : Bad r ≡ Fits = h in never (cc)
+fits_refused lent r h = let w : (Err (Bad r)) ≡ (Ok tt) = h in never (cc)
 
 -- the refusal of a time without its field
-pub field-left-out : (lent : Lent) (place field : ℕ) → 0 < field → surveyed lent (refused (wrong_value place field)) ≡ Bad (refusal 9 place) → ⊥
+pub field-left-out : (lent : Lent) (place field : ℕ) → 0 < field → surveyed lent (refused (wrong_value place field)) ≡ Err (Bad (refusal 9 place)) → ⊥
 unfolding surveyed
 field-left-out lent place field h e =
-    let w : Bad (wrong_value place field) ≡ Bad (refusal 9 place) = e in
+    let w : (Err (Bad (wrong_value place field))) ≡ (Err (Bad (refusal 9 place))) = e in
     let y : wrong_value place field ≡ refusal 9 place = cc in
     absurd (omega (arith, ap (λ x. x.field) y))
 
 -- 15 where the places don't suffice: 14 comes before it
-pub store-before-places : (lent : Lent) (t : Items) → lent.records < count t → surveyed lent (accepted t) ≡ Misfit (refusal 15 0) → ⊥
+pub store-before-places : (lent : Lent) (t : Items) → lent.records < count t → surveyed lent (accepted t) ≡ Err (Misfit (refusal 15 0)) → ⊥
 unfolding surveyed
 store-before-places lent t h e =
-    let w : Misfit (refusal 14 0) ≡ Misfit (refusal 15 0) = rw (lt-leb (count t) lent.records h) at e in
+    let w : (Err (Misfit (refusal 14 0))) ≡ (Err (Misfit (refusal 15 0))) = rw (lt-leb (count t) lent.records h) at e in
     let y : refusal 14 0 ≡ refusal 15 0 = cc in
     absurd (omega (arith, ap (λ x. x.number) y))
 
 -- ---- survey_inside
 
 -- what is refused takes nothing
-pub refused-taken : (element n : ℕ) (m : Measured) (r : Refusal) → needed_by element (refused r) ≡ Takes n m → ⊥
+pub refused-taken : (element n : ℕ) (m : Optional Sizes) (r : Refusal) → needed_by element (refused r) ≡ Ok (records_sizes n m) → ⊥
 unfolding needed_by
-refused-taken element n m r h = let w : Refused r ≡ Takes n m = h in never (cc)
+refused-taken element n m r h = let w : Err r ≡ (Ok (records_sizes n m)) = h in never (cc)
 
 -- ---- needs_of
 
 -- what is refused needs nothing
-pub refused-needed : (n : ℕ) (m : Measured) (r : Refusal) → needed_of (refused r) ≡ Takes n m → ⊥
+pub refused-needed : (n : ℕ) (m : Optional Sizes) (r : Refusal) → needed_of (refused r) ≡ Ok (records_sizes n m) → ⊥
 unfolding needed_of
-refused-needed n m r h = let w : Refused r ≡ Takes n m = h in never (cc)
+refused-needed n m r h = let w : Err r ≡ (Ok (records_sizes n m)) = h in never (cc)
 
 -- a record more than there are
-pub record-more : (t : Items) (m : Measured) → needed_of (accepted t) ≡ Takes (count t + 1) m → ⊥
+pub record-more : (t : Items) (m : Optional Sizes) → needed_of (accepted t) ≡ Ok (records_sizes (count t + 1) m) → ⊥
 unfolding needed_of
-record-more t m h = let w : count t ≡ count t + 1 = cc h in omega arith
+record-more t m h = let w : records_sizes (count t) (measured_of t) ≡ records_sizes (count t + 1) m = cc h in let z = ap (λ n. n.records) w in omega (arith, z)
 
 -- ---- survey_inside, measured
 
@@ -89,56 +86,62 @@ abbrev recommended : (body : List ℕ) → Items
 recommended body = item 0x83 2 body end end
 
 record Taken : Type 0 where
-  of_default : measured_in 0x1C (recommended (1 ∷ [])) ≡ Sizes (as_octets 1) (as_octets 0)
-  of_other : measured_in 0x1C (recommended (2 ∷ [])) ≡ Sizes (as_octets 1) (as_octets 3)
+  of_default : measured_in 0x1C (recommended (1 ∷ [])) ≡ Some (store_octets (as_octets 1) (as_octets 0))
+  of_other : measured_in 0x1C (recommended (2 ∷ [])) ≡ Some (store_octets (as_octets 1) (as_octets 3))
 
 measured : Taken
 unfolding measured_in sizes_of store_in stored normal_size item_octets written_as value_octets maybe opens is_items framed length_field default_octets default_in defaults known rows kind_in attribute fits width meant octets_of digits value
 measured = record { of_default = refl; of_other = refl }
 
-octets_in : Needed → ℕ
-octets_in (Refused r) = 0
-octets_in (Takes n Over) = 0
-octets_in (Takes n (Sizes s o)) = o.0
+octets_told : Optional Sizes → ℕ
+octets_told None = 0
+octets_told (Some sizes) = sizes.octets.0
+
+octets_in : Result Needs Refusal → ℕ
+octets_in (Err r) = 0
+octets_in (Ok needs) = octets_told needs.sizes
 
 -- a default counted in the normal form
-pub default-counted : needed_by 0x1C (accepted (recommended (1 ∷ []))) ≡ Takes 1 (Sizes (as_octets 1) (as_octets 3)) → ⊥
-unfolding needed_by octets_in
-default-counted h = let z : ◌≡◌ {A = ℕ} 3 0 = sym (ap octets_in h) ∙ ap (λ m. octets_in (Takes (count (recommended (1 ∷ []))) m)) measured.of_default in omega arith
+pub default-counted : needed_by 0x1C (accepted (recommended (1 ∷ []))) ≡ Ok (records_sizes 1 (Some (store_octets (as_octets 1) (as_octets 3)))) → ⊥
+unfolding needed_by octets_in octets_told
+default-counted h = let z : ◌≡◌ {A = ℕ} 3 0 = sym (ap octets_in h)
+    ∙ ap (λ m. octets_in (Ok (records_sizes (count (recommended (1 ∷ []))) m))) measured.of_default in omega arith
 
 -- a header not counted
-pub header-uncounted : needed_by 0x1C (accepted (recommended (2 ∷ []))) ≡ Takes 1 (Sizes (as_octets 1) (as_octets 1)) → ⊥
-unfolding needed_by octets_in
-header-uncounted h = let z : ◌≡◌ {A = ℕ} 1 3 = sym (ap octets_in h) ∙ ap (λ m. octets_in (Takes (count (recommended (2 ∷ []))) m)) measured.of_other in omega arith
+pub header-uncounted : needed_by 0x1C (accepted (recommended (2 ∷ []))) ≡ Ok (records_sizes 1 (Some (store_octets (as_octets 1) (as_octets 1)))) → ⊥
+unfolding needed_by octets_in octets_told
+header-uncounted h = let z : ◌≡◌ {A = ℕ} 1 3 = sym (ap octets_in h)
+    ∙ ap (λ m. octets_in (Ok (records_sizes (count (recommended (2 ∷ []))) m))) measured.of_other in omega arith
 
 -- ---- find_item
 
 -- an item inside another one found
-pub inner-found : span_of_tag 0x29 (0x28 ∷ 0x02 ∷ 0x29 ∷ 0x00 ∷ []) ≡ Between 4 4 → ⊥
+pub inner-found : span_of_tag 0x29 (0x28 ∷ 0x02 ∷ 0x29 ∷ 0x00 ∷ []) ≡ Some (from_to 4 4) → ⊥
 unfolding span_of_tag span_within attribute header_size body_size
-inner-found h = let z : Outside ≡ Between 4 4 = h in never (cc)
+inner-found h = let z : None ≡ (Some (from_to 4 4)) = h in never (cc)
 
 -- an attribute found behind an element
-pub late-found : span_of_tag 0x80 (0x10 ∷ 0x00 ∷ 0x80 ∷ 0x01 ∷ 0x61 ∷ []) ≡ Between 4 5 → ⊥
+pub late-found : span_of_tag 0x80 (0x10 ∷ 0x00 ∷ 0x80 ∷ 0x01 ∷ 0x61 ∷ []) ≡ Some (from_to 4 5) → ⊥
 unfolding span_of_tag span_within attribute header_size body_size
-late-found h = let z : Outside ≡ Between 4 5 = h in never (cc)
+late-found h = let z : None ≡ (Some (from_to 4 5)) = h in never (cc)
 
 -- ---- find_first
 
 -- nothing found in an object that is refused
-pub refused-searched : (r : Refusal) (place : Option ℕ) → sought_as (refused r) place ≡ Sought-Nowhere → ⊥
+pub refused-searched : (r : Refusal) (place : Option ℕ) → sought_as (refused r) place ≡ Ok None → ⊥
 unfolding sought_as
-refused-searched r place h = let w : Sought-Refused r ≡ Sought-Nowhere = h in never (cc)
+refused-searched r place h = let w : Err r ≡ (Ok None) = h in never (cc)
 
 -- an unknown item that isn't listed
-pub unknown-sought : (t : Items) → sought_as (accepted t) (place_at (sought_by false (0x00_03 ∷ []) []) (0x03 ∷ 0x02 ∷ 0x7F ∷ 0x00 ∷ [])) ≡ Sought-At 2 → ⊥
+pub unknown-sought : (t : Items) → sought_as (accepted t) (place_at (sought_by false (0x00_03 ∷ []) []) (0x03 ∷ 0x02 ∷ 0x7F ∷ 0x00 ∷ [])) ≡ Ok (Some 2) → ⊥
 unfolding sought_as place_at place_in picks sought_by in_rows among or_else header_size body_size is_known is_items known rows kind_in attribute
-unknown-sought t h = let w : Sought-Nowhere ≡ Sought-At 2 = h in never (cc)
+unknown-sought t h = let w : ◌≡◌ {A = Result (Optional ℕ) Refusal} (Ok None) (Ok (Some 2)) = h in never (cc)
 
 -- the last of two
-pub last-sought : (t : Items) → sought_as (accepted t) (place_at (sought_by true (0x03_28 ∷ []) []) (0x03 ∷ 0x04 ∷ 0x28 ∷ 0x00 ∷ 0x28 ∷ 0x00 ∷ [])) ≡ Sought-At 4 → ⊥
+pub last-sought : (t : Items) → sought_as (accepted t) (place_at (sought_by true (0x03_28 ∷ []) []) (0x03 ∷ 0x04 ∷ 0x28 ∷ 0x00 ∷ 0x28 ∷ 0x00 ∷ []))
+    ≡ Ok (Some 4) → ⊥
 unfolding sought_as place_at place_in picks sought_by in_rows among or_else header_size body_size is_known is_items known rows kind_in attribute
-last-sought t h = let w : Sought-At 2 ≡ Sought-At 4 = h in let z : ◌≡◌ {A = ℕ} 2 4 = cc in omega arith
+last-sought t h = let w : ◌≡◌ {A = Result (Optional ℕ) Refusal} (Ok (Some 2)) (Ok (Some 4)) = h in let z : ◌≡◌ {A = ℕ} 2 4 = cc in omega arith
 
 -- ---- table_of
 
@@ -168,24 +171,24 @@ last_found h = let z : ◌≡◌ {A = ℕ} 0xBB 0xAA = ap (λ o. get_or o 0 0) (
 -- ---- written_as
 
 -- the token table
-pub table-written : as_known (written_as 0x03 0x04 []) ≡ Known HoldsTokens → ⊥
+pub table-written : as_known (written_as 0x03 0x04 []) ≡ Some HoldsTokens → ⊥
 unfolding as_known written_as
-table-written h = let w : Unknown ≡ Known HoldsTokens = h in never (cc)
+table-written h = let w : None ≡ Some HoldsTokens = h in never (cc)
 
 -- elements that hold items left out, where only values are looked for
-pub element-left-out : as_known (written_as 0x03 0x28 []) ≡ Unknown → ⊥
+pub element-left-out : as_known (written_as 0x03 0x28 []) ≡ None → ⊥
 unfolding as_known written_as default_octets known rows kind_in attribute
-element-left-out h = let w : Known HoldsItems ≡ Unknown = h in never (cc)
+element-left-out h = let w : Some HoldsItems ≡ None = h in never (cc)
 
 -- a default
-pub default-written : as_known (written_as 0x1C 0x83 (1 ∷ [])) ≡ Known (HoldsNumber Enumerated) → ⊥
+pub default-written : as_known (written_as 0x1C 0x83 (1 ∷ [])) ≡ Some (HoldsNumber Enumerated) → ⊥
 unfolding as_known written_as default_octets default_in defaults
-default-written h = let w : Unknown ≡ Known (HoldsNumber Enumerated) = h in never (cc)
+default-written h = let w : None ≡ Some (HoldsNumber Enumerated) = h in never (cc)
 
 -- an attribute that has a default and another value left out
-pub value-left-out : as_known (written_as 0x1C 0x83 (2 ∷ [])) ≡ Unknown → ⊥
+pub value-left-out : as_known (written_as 0x1C 0x83 (2 ∷ [])) ≡ None → ⊥
 unfolding as_known written_as default_octets default_in defaults known rows kind_in attribute
-value-left-out h = let w : Known (HoldsNumber Enumerated) ≡ Unknown = h in never (cc)
+value-left-out h = let w : Some (HoldsNumber Enumerated) ≡ None = h in never (cc)
 
 -- ---- value_size
 

@@ -1,4 +1,5 @@
 -- The ways through the small functions of measuring.
+use Rattle.std.specs.Prelude.{Option, Some, None, unwrap_or}
 use mathlib.Core.Path.{◌≡◌, refl, sym, ap, ◌∙◌}
 use mathlib.Core.Bool.{Bool, true, false, cond, not, ◌&&◌}
 use mathlib.Core.Option.{some}
@@ -19,8 +20,6 @@ use Rattle.values.specs.declared.Kind.{Kind}
 use Rattle.values.specs.declared.Kind.TheVariants.{HoldsItems, HoldsTokens, HoldsText, HoldsPlain, HoldsTime, HoldsBearer, HoldsNumber}
 use Rattle.values.specs.declared.NumberKind.{NumberKind}
 use Rattle.values.specs.declared.NumberKind.TheVariants.{Enumerated}
-use Rattle.values.specs.declared.NormalSize.{NormalSize}
-use Rattle.values.specs.declared.NormalSize.TheVariants as sized
 use Rattle.values.specs.Table.{known}
 use Rattle.values.specs.Values.{fits, meant, octets_of}
 use Rattle.values.specs.Calls.{normal_octets, normal_size, default_octets}
@@ -37,19 +36,25 @@ use Rattle.format.specs.Judge.{is_known, is_tokens}
 use Rattle.survey.specs.Normal.{framed_size, value_octets}
 use Rattle.survey.proofs.Ways.{value-fits}
 use Rattle.survey.specs.declared.measure.Part.TheVariants.{Nothing, Kept, Inside, Octets}
-use Rattle.survey.specs.declared.measure.Measured.TheVariants.{Over, Sizes}
-use Rattle.survey.specs.Sizes.{taken, part_of, part_in, sizes_of, Small}
+use Rattle.survey.specs.Sizes.{taken, part_of, part_in, sizes_of, Small, store_octets}
 
 -- ---- sizes, of a value and of an item, which the writer measures too
 
-module _ (k : Kind) (body : List ℕ) (r : NormalSize) (e : r ≡ normal_size k body) where
-  pub value-octets : (n : OctetCount) → r ≡ sized.Octets n → n.0 ≡ length (value_octets k body)
+module _ (k : Kind) (body : List ℕ) (r : Option OctetCount) (e : r ≡ normal_size k body) where
+  value-octets : (n : OctetCount) → r ≡ Some n → n.0 ≡ length (value_octets k body)
   unfolding normal_octets
   value-octets n q = let z = normal-sized k body r e n q in z.size ∙ ap length (sym (value-fits k body z.fit))
 
-  pub value_none : r ≡ sized.NoValue → 0 ≡ length (value_octets k body)
+  value_none : r ≡ None → 0 ≡ length (value_octets k body)
   unfolding value_octets
   value_none q = rw (not-sized k body r e q)
+
+  pub value-size : (n : OctetCount) → n ≡ unwrap_or r (as_octets 0) → n.0 ≡ length (value_octets k body)
+  value-size n x = go r refl
+    where
+      go : (v : Option OctetCount) → r ≡ v → n.0 ≡ length (value_octets k body)
+      go None q = ap (λ m. m.0) x ∙ ap (λ v. (unwrap_or v (as_octets 0)).0) q ∙ value_none q
+      go (Some size) q = ap (λ m. m.0) x ∙ ap (λ v. (unwrap_or v (as_octets 0)).0) q ∙ value-octets size q
 
 module _ (n h : OctetCount) (e : h ≡ as_octets (suc (length (length_field n.0)))) where
   header_is : h.0 ≡ suc (length (length_field n.0))
@@ -148,11 +153,11 @@ pub ruleset part-ways = (part-nothing, part-inside, part-kept, part-octets)
 
 -- ---- framed
 
-pub sizes-over : (s n : ℕ) → 32_768 < n → Over ≡ sizes_of s n
+pub sizes-over : (s n : ℕ) → 32_768 < n → None ≡ sizes_of s n
 unfolding sizes_of
 sizes-over s n h = rw (lt-leb n 32_768 h)
 
-pub sizes-are : (s n : ℕ) → n ≤ 32_768 → Sizes (as_octets s) (as_octets n) ≡ sizes_of s n
+pub sizes-are : (s n : ℕ) → n ≤ 32_768 → Some (store_octets (as_octets s) (as_octets n)) ≡ sizes_of s n
 unfolding sizes_of
 sizes-are s n h = rw (le-leb n 32_768 h)
 
@@ -160,26 +165,29 @@ module _ (s n h : OctetCount) (e : h ≡ as_octets (suc (length (length_field n.
   pub framed-sum : n.0 ≤ 32_769 → Fits w64 (h.0 + n.0)
   framed-sum l = framed-fits n h e (omega arith)
 
-  pub framed-over : 32_768 < h.0 + n.0 → Over ≡ sizes_of s.0 (framed_size n.0)
+  pub framed-over : 32_768 < h.0 + n.0 → None ≡ sizes_of s.0 (framed_size n.0)
   framed-over l = sizes-over s.0 (framed_size n.0) (omega (arith, framed_is n h e))
 
-  pub framed-sizes : h.0 + n.0 ≤ 32_768 → Sizes s (as_octets (h.0 + n.0)) ≡ sizes_of s.0 (framed_size n.0)
+  pub framed-sizes : h.0 + n.0 ≤ 32_768 → Some (store_octets s (as_octets (h.0 + n.0))) ≡ sizes_of s.0 (framed_size n.0)
   framed-sizes l = sizes-are s.0 (h.0 + n.0) l ∙ ap (sizes_of s.0) (framed_is n h e)
 
 -- ---- what an answer says
 
-pub over-says : (s n : ℕ) → Over ≡ sizes_of s n → 32_768 < n
+pub over-says : (s n : ℕ) → None ≡ sizes_of s n → 32_768 < n
 unfolding sizes_of
 over-says s n e = leb-false n 32_768 (not_chosen (leb n 32_768) e (λ z. never (cc))).0
 
-pub sizes-say : (s n : ℕ) (a b : OctetCount) → Sizes a b ≡ sizes_of s n → (s ≡ a.0) × (n ≡ b.0)
+pub sizes-say : (s n : ℕ) (a b : OctetCount) → Some (store_octets a b) ≡ sizes_of s n → (s ≡ a.0) × (n ≡ b.0)
 unfolding sizes_of
-sizes-say s n a b e = let w = chosen (leb n 32_768) e (λ z. never (cc)) in (cc w.1, cc w.1)
+sizes-say s n a b e =
+    let w = chosen (leb n 32_768) e (λ z. never (cc)) in
+    let z : store_octets (as_octets s) (as_octets n) ≡ store_octets a b = cc w.1 in
+    (ap (λ m. m.store.0) z, ap (λ m. m.octets.0) z)
 
 pub small-sizes : (m s n : ℕ) → s ≤ n + m → Small m (sizes_of s n)
 unfolding sizes_of
 small-sizes m s n h = go (leb n 32_768) refl
   where
-    go : (b : Bool) → leb n 32_768 ≡ b → Small m (cond b (Sizes (as_octets s) (as_octets n)) Over)
+    go : (b : Bool) → leb n 32_768 ≡ b → Small m (cond b (Some (store_octets (as_octets s) (as_octets n))) None)
     go true q = (h, leb-true n 32_768 q)
     go false q = tt

@@ -1,4 +1,5 @@
 -- An item of a part by its tag: the ways through find_item, and what its answer says of a part that is accepted.
+use Rattle.std.specs.Prelude.{Option, Some, None}
 use mathlib.Core.Path.{◌≡◌, refl, sym, ap, ◌∙◌, subst}
 use mathlib.Core.Bool.{Bool, true, false, cond, not, ◌&&◌, ◌||◌, false≢true, or-true}
 use mathlib.Core.Option.{none, some}
@@ -10,12 +11,11 @@ use lib.Dec.{eqb, leb, ltb}
 use lib.ListN.{length, drop, get_or, drop_of_length-le}
 use borrow.Author.Tests.{eqb-true, eqb-false, eq-eqb, ne_eqb, leb-true, le-leb, ltb-true, ltb-false, not-true}
 use Rattle.octets.specs.Header.{header_size, body_size}
-use Rattle.octets.specs.declared.Lies.{Lies}
-use Rattle.octets.specs.declared.Lies.TheVariants.{Outside, Between}
-use Rattle.octets.specs.Places.{first_body, after_first, is_whole, lies_at, between}
+use Rattle.octets.specs.Places.{first_body, after_first, is_whole, lies_at, between, from_to}
 use Rattle.octets.proofs.Tests.{and_left, and_right, or_elim, or_left, cond_same}
 use Rattle.octets.proofs.Places.{Lying, lying, not-whole, bounds, later-is, fewer-after, none-whole}
 use Rattle.octets.proofs.Lists.{get_d-here}
+use Rattle.octets.specs.declared.Lies.{Lies}
 use Rattle.values.specs.Table.{known, attribute}
 use Rattle.values.proofs.Known.{not-attribute}
 use Rattle.format.specs.Tree.{Items, find}
@@ -98,13 +98,13 @@ pub record SoughtFound (part : List ℕ) (tag from to : ℕ) : Type 0 where
   pub is : (p depth offset : ℕ) (t : Items) → Accepts p depth offset part t → is_known (known p tag) ≡ true → find tag t ≡ some (between part from to)
   pub value : (p depth offset : ℕ) (t : Items) → Accepts p depth offset part t → is_value (known p tag) (between part from to) ≡ true
 
-unfoldable pub Sought : List ℕ → ℕ → Lies → Type 0
-Sought part tag Outside = (p depth offset : ℕ) (t : Items) → Accepts p depth offset part t → find tag t ≡ none
-Sought part tag (Between from to) = SoughtFound part tag from to
+unfoldable pub Sought : List ℕ → ℕ → Option Lies → Type 0
+Sought part tag None = (p depth offset : ℕ) (t : Items) → Accepts p depth offset part t → find tag t ≡ none
+Sought part tag (Some lies) = SoughtFound part tag lies.from lies.to
 
 -- what is found, in the words of code
-module _ (part : List ℕ) (tag : ℕ) (r : Lies) (s : Sought part tag r) where
-  module _ (from to : ℕ) (q : r ≡ Between from to) where
+module _ (part : List ℕ) (tag : ℕ) (r : Option Lies) (s : Sought part tag r) where
+  module _ (from to : ℕ) (q : r ≡ Some (from_to from to)) where
     pub sought : SoughtFound part tag from to
     unfolding Sought
     sought = subst (Sought part tag) q s
@@ -115,7 +115,7 @@ module _ (part : List ℕ) (tag : ℕ) (r : Lies) (s : Sought part tag r) where
     pub sought-inside : to ≤ length part
     sought-inside = sought.inside
 
-  pub missing : r ≡ Outside → (p depth offset : ℕ) (t : Items) → Accepts p depth offset part t → find tag t ≡ none
+  pub missing : r ≡ None → (p depth offset : ℕ) (t : Items) → Accepts p depth offset part t → find tag t ≡ none
   unfolding Sought
   missing q = subst (Sought part tag) q s
 
@@ -134,14 +134,14 @@ module _ (part : List ℕ) (tag : ℕ) where
   seek-begin = record { inside = omega arith; goes = λ p depth offset t a. record { rest = t; accepts = rw add-zero a; same = refl } }
 
   module _ (at : ℕ) (inv : Seeks part tag at) where
-    pub seek-ended : length part ≤ at → Sought part tag Outside
+    pub seek-ended : length part ≤ at → Sought part tag None
     unfolding Sought find
     seek-ended h p depth offset t a =
         let g = inv.goes p depth offset t a in
         g.same ∙ ap (find tag) (opened-end p depth (offset + at) g.rest (rw (drop_of_length-le part h) at g.accepts))
 
     module _ (h : at < length part) where
-      pub seek-behind : (b : Bool) → b ≡ attribute tag && not (attribute (get_or part at 0)) → b ≡ true → Sought part tag Outside
+      pub seek-behind : (b : Bool) → b ≡ attribute tag && not (attribute (get_or part at 0)) → b ≡ true → Sought part tag None
       unfolding Sought
       seek-behind b e q p depth offset t a =
           let g = inv.goes p depth offset t a in
@@ -150,14 +150,14 @@ module _ (part : List ℕ) (tag : ℕ) where
           let n = not-true (attribute (get_or part at 0)) (and_right (attribute tag) (not (attribute (get_or part at 0))) k) in
           g.same ∙ barred tag p depth (offset + at) (drop at part) g.rest g.accepts (and_left (attribute tag) (not (attribute (get_or part at 0))) k) (ap attribute x ∙ n)
 
-      module _ (r : Lies) (re : r ≡ lies_at part at) where
-        pub seek-outside : r ≡ Outside → Sought part tag Outside
+      module _ (r : Option Lies) (re : r ≡ lies_at part at) where
+        pub seek-outside : r ≡ None → Sought part tag None
         unfolding Sought
         seek-outside q p depth offset t a =
             let g = inv.goes p depth offset t a in
             absurd (lies-inside part at r re h q p depth (offset + at) g.rest g.accepts)
 
-        module _ (from to : ℕ) (q : r ≡ Between from to) where
+        module _ (from to : ℕ) (q : r ≡ Some (from_to from to)) where
           at-hand : Lying part at from to
           at-hand = lying part at r re from to q
 
@@ -173,7 +173,7 @@ module _ (part : List ℕ) (tag : ℕ) where
               let g = inv.goes p depth offset t a in
               met at-hand inv.inside h p depth offset g.rest g.accepts
 
-          pub seek_found : get_or part at 0 ≡ tag → Sought part tag (Between from to)
+          pub seek_found : get_or part at 0 ≡ tag → Sought part tag (Some (from_to from to))
           unfolding Sought
           seek_found e = record {
             ordered = limits.1;
@@ -200,16 +200,17 @@ module _ (part : List ℕ) (tag : ℕ) where
 
 -- ---- what the definition on octets says of accepted ones
 
-abbrev span_step : (at tag : ℕ) → List ℕ → Bool → Lies → Lies
+abbrev span_step : (at tag : ℕ) → List ℕ → Bool → Option Lies → Option Lies
 span_step at tag s b later =
-    cond (attribute tag && not (attribute (get_or s 0 0))) Outside (cond b (cond (eqb (get_or s 0 0) tag) (Between (at + header_size s) (at + header_size s + body_size s)) later) Outside)
+    cond (attribute tag && not (attribute (get_or s 0 0))) None
+    (cond b (cond (eqb (get_or s 0 0) tag) (Some (from_to (at + header_size s) (at + header_size s + body_size s))) later) None)
 
 -- as many steps as there are octets suffice
 enough : (n m at tag : ℕ) (s : List ℕ) → length s ≤ n → length s ≤ m → span_within n at tag s ≡ span_within m at tag s
 unfolding span_within
 enough zero zero at tag s h k = refl
-enough zero (suc m) at tag s h k = rw (none-whole s h) (sym (cond_same (attribute tag && not (attribute (get_or s 0 0))) Outside))
-enough (suc n) zero at tag s h k = rw (none-whole s k) (cond_same (attribute tag && not (attribute (get_or s 0 0))) Outside)
+enough zero (suc m) at tag s h k = rw (none-whole s h) (sym (cond_same (attribute tag && not (attribute (get_or s 0 0))) None))
+enough (suc n) zero at tag s h k = rw (none-whole s k) (cond_same (attribute tag && not (attribute (get_or s 0 0))) None)
 enough (suc n) (suc m) at tag s h k = go (is_whole s) refl (λ l. enough n m (at + header_size s + body_size s) tag (after_first s) (omega arith) (omega arith))
   where
     go : (b : Bool) → is_whole s ≡ b
@@ -218,12 +219,12 @@ enough (suc n) (suc m) at tag s h k = go (is_whole s) refl (λ l. enough n m (at
     go false q later = refl
     go true q later = ap (span_step at tag s true) (later (fewer-after s q))
 
-abbrev span_from : (at tag : ℕ) → List ℕ → Lies
+abbrev span_from : (at tag : ℕ) → List ℕ → Option Lies
 span_from at tag s = span_within (length s) at tag s
 
 span-step : (at tag : ℕ) (s : List ℕ) → span_from at tag s ≡ span_step at tag s (is_whole s) (span_from (at + header_size s + body_size s) tag (after_first s))
 unfolding span_within
-span-step at tag [] = rw (none-whole [] (omega arith)) (sym (cond_same (attribute tag && not (attribute (get_or [] 0 0))) Outside))
+span-step at tag [] = rw (none-whole [] (omega arith)) (sym (cond_same (attribute tag && not (attribute (get_or [] 0 0))) None))
 span-step at tag (x ∷ rest) = go (is_whole s) refl
   where
     s : List ℕ
@@ -250,26 +251,26 @@ module _ (part : List ℕ) (tag : ℕ) where
     tag_at : get_or (drop at part) 0 0 ≡ get_or part at 0
     tag_at = get_d-here part at 0
 
-    pub span-ended : length part ≤ at → Outside ≡ span_of_tag tag part
+    pub span-ended : length part ≤ at → None ≡ span_of_tag tag part
     unfolding span_within
     span-ended h = sym (inv.same ∙ ap (span_from at tag) (drop_of_length-le part h))
 
     step-at : span_of_tag tag part ≡ span_step at tag (drop at part) (is_whole (drop at part)) (span_from (at + header_size (drop at part) + body_size (drop at part)) tag (after_first (drop at part)))
     step-at = inv.same ∙ span-step at tag (drop at part)
 
-    pub span-behind : (b : Bool) → b ≡ attribute tag && not (attribute (get_or part at 0)) → b ≡ true → Outside ≡ span_of_tag tag part
+    pub span-behind : (b : Bool) → b ≡ attribute tag && not (attribute (get_or part at 0)) → b ≡ true → None ≡ span_of_tag tag part
     span-behind b e q =
         let y : attribute tag && not (attribute (get_or (drop at part) 0 0)) ≡ true = ap (λ z. attribute tag && not (attribute z)) tag_at ∙ sym e ∙ q in
         sym (step-at ∙ rw y)
 
-    module _ (b : Bool) (be : b ≡ attribute tag && not (attribute (get_or part at 0))) (bq : b ≡ false) (r : Lies) (re : r ≡ lies_at part at) where
+    module _ (b : Bool) (be : b ≡ attribute tag && not (attribute (get_or part at 0))) (bq : b ≡ false) (r : Option Lies) (re : r ≡ lies_at part at) where
       ahead : attribute tag && not (attribute (get_or (drop at part) 0 0)) ≡ false
       ahead = ap (λ z. attribute tag && not (attribute z)) tag_at ∙ sym be ∙ bq
 
-      pub span-outside : r ≡ Outside → Outside ≡ span_of_tag tag part
+      pub span-outside : r ≡ None → None ≡ span_of_tag tag part
       span-outside q = sym (step-at ∙ rw (ahead, not-whole part at r re q))
 
-      module _ (from to : ℕ) (q : r ≡ Between from to) where
+      module _ (from to : ℕ) (q : r ≡ Some (from_to from to)) where
         lain : Lying part at from to
         lain = lying part at r re from to q
 
@@ -279,10 +280,10 @@ module _ (part : List ℕ) (tag : ℕ) where
         pub span-nearer : at < length part → length part - to < length part - at
         span-nearer h = omega (arith, ends)
 
-        step_in : span_of_tag tag part ≡ cond (eqb (get_or part at 0) tag) (Between from to) (span_from to tag (drop to part))
+        step_in : span_of_tag tag part ≡ cond (eqb (get_or part at 0) tag) (Some (from_to from to)) (span_from to tag (drop to part))
         step_in = step-at ∙ rw (ahead, le-leb (header_size (drop at part) + body_size (drop at part)) (length (drop at part)) lain.inside, tag_at, later-is lain inv.inside, ← lain.ends, ← lain.begins)
 
-        pub span-found : get_or part at 0 ≡ tag → Between from to ≡ span_of_tag tag part
+        pub span-found : get_or part at 0 ≡ tag → Some (from_to from to) ≡ span_of_tag tag part
         span-found e = sym (step_in ∙ rw (eq-eqb (get_or part at 0) tag e))
 
         pub span-again : (get_or part at 0 ≡ tag → ⊥) → Spans part tag to
@@ -301,7 +302,8 @@ module _ (part : List ℕ) (tag : ℕ) where
   says-item : (at : ℕ) → at < length part → Seeks part tag at → Spans part tag at → ((to : ℕ) → length part - to < length part - at → Seeks part tag to → Spans part tag to → Says) → Says
   says-item at h k p later = go (attribute tag && not (attribute (get_or part at 0))) refl (lies_at part at) refl
     where
-      found : (from to : ℕ) → attribute tag && not (attribute (get_or part at 0)) ≡ false → lies_at part at ≡ Between from to → (b : Bool) → eqb (get_or part at 0) tag ≡ b → Says
+      found : (from to : ℕ) → attribute tag && not (attribute (get_or part at 0)) ≡ false → lies_at part at ≡ Some (from_to from to) → (b : Bool)
+          → eqb (get_or part at 0) tag ≡ b → Says
       found from to f q true e =
           let x = eqb-true (get_or part at 0) tag e in
           subst (Sought part tag) (span-found part tag at p false (sym f) refl (lies_at part at) refl from to q x) (seek_found part tag at k h (lies_at part at) refl from to q x)
@@ -310,10 +312,11 @@ module _ (part : List ℕ) (tag : ℕ) where
           later to (seek-nearer part tag at k h (lies_at part at) refl from to q) (seek-again part tag at k h (lies_at part at) refl from to q x)
           (span-again part tag at p false (sym f) refl (lies_at part at) refl from to q x)
 
-      go : (b : Bool) → attribute tag && not (attribute (get_or part at 0)) ≡ b → (r : Lies) → lies_at part at ≡ r → Says
+      go : (b : Bool) → attribute tag && not (attribute (get_or part at 0)) ≡ b → (r : Option Lies) → lies_at part at ≡ r → Says
       go true f r q = subst (Sought part tag) (span-behind part tag at p true (sym f) refl) (seek-behind part tag at k h true (sym f) refl)
-      go false f Outside q = subst (Sought part tag) (span-outside part tag at p false (sym f) refl (lies_at part at) refl q) (seek-outside part tag at k h (lies_at part at) refl q)
-      go false f (Between from to) q = found from to f q (eqb (get_or part at 0) tag) refl
+      go false f None q = subst (Sought part tag) (span-outside part tag at p false (sym f) refl (lies_at part at) refl q)
+          (seek-outside part tag at k h (lies_at part at) refl q)
+      go false f (Some lies) q = found lies.from lies.to f q (eqb (get_or part at 0) tag) refl
 
   says-within : (n at : ℕ) → length part - at ≤ n → Seeks part tag at → Spans part tag at → Says
   says-within zero at l k p = says-end at (omega arith) k p
@@ -323,10 +326,10 @@ module _ (part : List ℕ) (tag : ℕ) where
       go true e later = says-item at (ltb-true at (length part) e) k p later
       go false e later = says-end at (ltb-false at (length part) e) k p
 
-  pub span-says : (r : Lies) → r ≡ span_of_tag tag part → Sought part tag r
+  pub span-says : (r : Option Lies) → r ≡ span_of_tag tag part → Sought part tag r
   span-says r e = subst (Sought part tag) (sym e) (says-within (length part) 0 (omega arith) (seek-begin part tag) (span-begin part tag))
 
-  module _ (r : Lies) (e : r ≡ span_of_tag tag part) (from to : ℕ) (q : r ≡ Between from to) where
+  module _ (r : Option Lies) (e : r ≡ span_of_tag tag part) (from to : ℕ) (q : r ≡ Some (from_to from to)) where
     pub span-ordered : from ≤ to
     span-ordered = sought-ordered part tag r (span-says r e) from to q
 

@@ -1,4 +1,5 @@
 -- The token table of an object: what is found of accepted octets, and the ways through table_in and table_of.
+use Rattle.std.specs.Prelude.{Some, None, Option as Optional}
 use mathlib.Core.Path.{◌≡◌, refl, sym, ap, ◌∙◌}
 use mathlib.Core.Bool.{Bool, true, false, cond}
 use mathlib.Core.Option.{Option, some}
@@ -9,10 +10,9 @@ use lib.Dec.{eqb}
 use lib.ListN.{length, take, drop, get_or, drop_of_length-le}
 use borrow.Author.Tests.{le-leb, eqb-true, eqb-false, eq-eqb, ne_eqb}
 use Rattle.octets.specs.Header.{header_size, body_size}
-use Rattle.octets.specs.declared.Lies.{Lies}
-use Rattle.octets.specs.declared.Lies.TheVariants.{Outside, Between}
-use Rattle.octets.specs.Places.{is_whole, lies_at, first_body, after_first}
+use Rattle.octets.specs.Places.{is_whole, lies_at, first_body, after_first, from_to}
 use Rattle.octets.proofs.Places.{Lying, lying, not-whole, to_inside, body_is, later-is, tag-is, fewer-after, none-whole}
+use Rattle.octets.specs.declared.Lies.{Lies}
 use Rattle.text.specs.Tokens.{cut, entries}
 use Rattle.values.specs.declared.Kind.{Kind}
 use Rattle.values.specs.declared.Kind.TheVariants.{HoldsItems}
@@ -162,11 +162,11 @@ module _ (part : List ℕ) (at : ℕ) (inv : Looks part at) where
   unfolding first_table table_within
   no_table h = sym (inv.same ∙ ap first_table (drop_of_length-le part h))
 
-  module _ (h : at < length part) (r : Lies) (re : r ≡ lies_at part at) where
-    pub no_item : r ≡ Outside → [] ≡ first_table part
+  module _ (h : at < length part) (r : Optional Lies) (re : r ≡ lies_at part at) where
+    pub no_item : r ≡ None → [] ≡ first_table part
     no_item q = sym (inv.same ∙ table_none (drop at part) (not-whole part at r re q))
 
-    module _ (from to : ℕ) (q : r ≡ Between from to) where
+    module _ (from to : ℕ) (q : r ≡ Some (from_to from to)) where
       pub here : Lying part at from to
       here = lying part at r re from to q
 
@@ -184,12 +184,12 @@ module _ (part : List ℕ) (at : ℕ) (inv : Looks part at) where
 
 -- ---- table_of
 
-module _ (o : List ℕ) (r : Lies) (re : r ≡ lies_at o 0) where
-  pub no_top : r ≡ Outside → [] ≡ table_body o
+module _ (o : List ℕ) (r : Optional Lies) (re : r ≡ lies_at o 0) where
+  pub no_top : r ≡ None → [] ≡ table_body o
   unfolding table_body
   no_top q = rw (not-whole o 0 r re q)
 
-  module _ (from to : ℕ) (q : r ≡ Between from to) where
+  module _ (from to : ℕ) (q : r ≡ Some (from_to from to)) where
     pub top-here : Lying o 0 from to
     top-here = lying o 0 r re from to q
 

@@ -1,4 +1,5 @@
 -- The sizes of the items of an accepted object are those of its normal form and of its store.
+use Rattle.std.specs.Prelude.{Option as Optional}
 use mathlib.Core.Path.{◌≡◌, refl, sym, ap, ap₂, ◌∙◌}
 use mathlib.Core.Bool.{Bool, true, false, cond, ◌||◌, false≢true}
 use mathlib.Core.Option.{Option, none, some}
@@ -26,12 +27,12 @@ use Rattle.format.proofs.Defaults.{default-attribute, own_defaults, own-none, ow
 use Rattle.format.proofs.Takes.{takes, in_form, normal-takes}
 use Rattle.format.proofs.Means.{attribute-shut}
 use Rattle.survey.specs.Normal.{framed_size}
-use Rattle.survey.specs.declared.measure.Measured.{Measured}
 use Rattle.survey.specs.Places.{table_body}
 use Rattle.survey.specs.Measure.{measured_of, Measures}
 use Rattle.survey.specs.Sizes.{taken, room_in, size_in, sizes_of, sizes_in, ItemsMeasured}
 use Rattle.survey.proofs.Adding.{taken-one}
 use Rattle.survey.proofs.Tables.{table-told}
+use Rattle.survey.specs.declared.measure.Sizes.{Sizes}
 
 -- an item that is told keeps rule 9, so that all its octets are taken
 all-taken : (T : Entries) (k : Option Kind) (body : List ℕ) → is_value k body ≡ true → taken T k body ≡ stored T k body
@@ -126,6 +127,6 @@ module _ (o : List ℕ) (t : Items) (os : Octets o) (h : judge o ≡ accepted t)
   sizes-whole = ap₂ sizes_of room_whole size-normal
 
 -- measure: the items of the object, under the table that was found in it
-pub measures : (o table : List ℕ) (r : Measured) → Octets o → table ≡ table_body o → ItemsMeasured (entries table) 0 16 o r → Measures o r
+pub measures : (o table : List ℕ) (r : Optional Sizes) → Octets o → table ≡ table_body o → ItemsMeasured (entries table) 0 16 o r → Measures o r
 unfolding Measures
 measures o table r os f m t h = m.told 1 0 t refl (whole o t h) ∙ ap (λ T. sizes_in T 0 t) (ap entries f ∙ table-told o t h) ∙ sizes-whole o t os h

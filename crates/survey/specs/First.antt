@@ -1,6 +1,7 @@
 -- The first known item, in reading order, that a test of its element's tag and its own picks: of a tree, and its place in the octets. 17 and 19 are given so (requests
 -- 2026-02 and 2026-07).
-use Rattle.std.specs.Prelude.{Bool, cond, not, ◌&&◌, ◌||◌, List, [], ◌∷◌, ℕ, zero, suc, ◌+◌, ◌*◌, length, take, drop, get_or}
+use Rattle.std.specs.Prelude.{Bool, cond, not, ◌&&◌, ◌||◌, List, [], ◌∷◌, ℕ, zero, suc, ◌+◌, ◌*◌, length, take, drop, get_or, Some, None, Result, Ok, Err}
+use Rattle.std.specs.Prelude.{Option as Optional}
 use Rattle.std.proofs.Math.Option.{Option, none, some}
 use Rattle.octets.specs.Numbers.{among}
 use Rattle.octets.specs.Header.{header_size, body_size}
@@ -9,8 +10,7 @@ use Rattle.format.specs.Tree.{Items}
 use Rattle.format.specs.Tree.Items.{end, item}
 use Rattle.format.specs.Judge.{Judged, is_known, is_items, judge}
 use Rattle.format.specs.Judge.Judged.{refused, accepted}
-use Rattle.survey.specs.declared.look.Sought.{Sought}
-use Rattle.survey.specs.declared.look.Sought.TheVariants.{Refused, Nowhere, At}
+use Rattle.format.specs.declared.Refusal.{Refusal}
 
 unfoldable pub or_else : {A : Type 0} → Option A → Option A → Option A
 or_else none b = b
@@ -59,10 +59,10 @@ unfoldable pub sought_by : (listed : Bool) (rows anywhere : List ℕ) (parent ta
 sought_by listed rows anywhere parent tag = cond (in_rows rows anywhere parent tag) listed (not listed)
 
 -- the answer: 1 to 13 by the judgement, else where the tag of the first such item lies
-unfoldable pub sought_as : Judged → Option ℕ → Sought
-sought_as (refused r) place = Refused r
-sought_as (accepted t) none = Nowhere
-sought_as (accepted t) (some place) = At place
+unfoldable pub sought_as : Judged → Option ℕ → Result (Optional ℕ) Refusal
+sought_as (refused r) place = Err r
+sought_as (accepted t) none = Ok None
+sought_as (accepted t) (some place) = Ok (Some place)
 
-unfoldable pub sought_in : (ℕ → ℕ → Bool) → List ℕ → Sought
+unfoldable pub sought_in : (ℕ → ℕ → Bool) → List ℕ → Result (Optional ℕ) Refusal
 sought_in P object = sought_as (judge object) (place_at P object)

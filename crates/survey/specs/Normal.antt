@@ -1,5 +1,5 @@
 -- Sizes and octets of the normal form, record by record: what the writer measures and what it writes. That they are those of document 01's normal form is
--- proved (proofs/Sizes, and of the octets writer/proofs/Order), so nobody who reads document 01 has to believe them.
+-- proved (proofs/NormalSizes, and of the octets writer/proofs/Order), so nobody who reads document 01 has to believe them.
 use Rattle.std.specs.Prelude.{cond, ◌||◌, List, [], ◌++◌, ℕ, suc, ◌+◌, eqb, length}
 use Rattle.std.proofs.Math.Option.{Option, none}
 use Rattle.octets.specs.Header.{length_field, framed}

@@ -14,21 +14,19 @@ fn is_behind(sought: u8, met: u8) -> bool
 }
 
 // Where the body of the first item of a tag lies, in any octets.
-pub fn find_item(part: &[u8], tag: u8) -> Lies
+pub fn find_item(part: &[u8], tag: u8) -> Option<Lies>
     ensures { result ≡ span_of_tag tag part.now }
 {
     let mut at: usize = 0;
     while at < part.len() {
         if is_behind(tag, part[at]) {
-            return Lies::Outside;
+            return None;
         }
-        let Lies::Between { from, to } = item_at(part, at) else {
-            return Lies::Outside;
-        };
+        let lies = item_at(part, at)?;
         if part[at] == tag {
-            return Lies::Between { from, to };
+            return Some(lies);
         }
-        at = to;
+        at = lies.to;
     }
-    Lies::Outside
+    None
 }

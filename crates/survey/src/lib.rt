@@ -16,87 +16,74 @@ mod written;
 
 use crate::measure::{measure, measure_inside};
 pub use find::find_item;
-use format::{ReadAnswer, Refusal, refuse};
+use format::{Refusal, refuse};
 use judge::{judge, judge_inside};
-pub use look::{Sought, find_first};
-pub use measure::Measured;
+pub use look::find_first;
+pub use measure::Sizes;
 use octets::Octets;
 pub use table::table_of;
 pub use written::{value_size, written_as};
 
-// An object held against what is lent: refused by the judgement; accepted, but without places for it (14) or room (15); or it fits.
+// Why an object doesn't fit what is lent: refused by the judgement; or accepted, but without places for it (14) or room (15).
 #[derive(Clone, Copy)]
-pub enum Standing {
+pub enum Unfit {
     Bad(Refusal),
     Misfit(Refusal),
-    Fits,
 }
 
-// What an object needs, or items that are judged by themselves: refused, or places for so many records and so much of a store and of an object.
+// What an accepted object needs, or items that are judged by themselves: places for so many records and so much of a store and of an object.
 #[derive(Clone, Copy)]
-pub enum Needed {
-    Refused(Refusal),
-    Takes { records: usize, sizes: Measured },
+pub struct Needs {
+    pub records: usize,
+    pub sizes: Option<Sizes>,
 }
 
 #[tactic(auto, unfolding(crate::specs::Survey::sufficient))]
-fn is_sufficient(needs: Measured, store: Octets, room: Octets) -> bool
+fn is_sufficient(needs: Option<Sizes>, store: Octets, room: Octets) -> bool
     ensures { result ≡ sufficient needs store room }
 {
     match needs {
-        Measured::Over => false,
-        Measured::Sizes {
-            store: stored,
-            octets,
-        } => {
-            if stored.0 > store.0 {
-                return false;
-            }
-            octets.0 <= room.0
-        }
+        None => false,
+        Some(sizes) => sizes.store.0 <= store.0 && sizes.octets.0 <= room.0,
     }
 }
 
 // What is lent, by size: places for records, octets of the store and of the room.
-pub fn survey(object: &[u8], places: usize, store: Octets, room: Octets) -> Standing
+pub fn survey(object: &[u8], places: usize, store: Octets, room: Octets) -> Result<(), Unfit>
     ensures { result ≡ surveyed (record { records = places; store = store; room = room }) (judge object.now) }
 {
     match judge(object) {
-        ReadAnswer::NotRead(refusal) => Standing::Bad(refusal),
-        ReadAnswer::Records(counts) => {
+        Err(refusal) => Err(Unfit::Bad(refusal)),
+        Ok(counts) => {
             if counts.records > places {
-                return Standing::Misfit(refuse(14, 0));
+                return Err(Unfit::Misfit(refuse(14, 0)));
             }
             if is_sufficient(measure(object), store, room) {
-                return Standing::Fits;
+                return Ok(());
             }
-            Standing::Misfit(refuse(15, 0))
+            Err(Unfit::Misfit(refuse(15, 0)))
         }
     }
 }
 
 // What is to be lent to normalise an object or to take it in (change request 2026-09).
-pub fn needs_of(object: &[u8]) -> Needed
+pub fn needs_of(object: &[u8]) -> Result<Needs, Refusal>
     ensures { result ≡ needed_of (judge object.now) }
 {
-    match judge(object) {
-        ReadAnswer::NotRead(refusal) => Needed::Refused(refusal),
-        ReadAnswer::Records(counts) => Needed::Takes {
-            records: counts.records,
-            sizes: measure(object),
-        },
-    }
+    let counts = judge(object)?;
+    Ok(Needs {
+        records: counts.records,
+        sizes: measure(object),
+    })
 }
 
 // Items of an element of a tag and a depth, by themselves, where there is no token table.
-pub fn survey_inside(element: u8, depth: u8, octets: &[u8]) -> Needed
+pub fn survey_inside(element: u8, depth: u8, octets: &[u8]) -> Result<Needs, Refusal>
     ensures { result ≡ needed_by element (judge_inside element depth octets.now) }
 {
-    match judge_inside(element, depth, octets) {
-        ReadAnswer::NotRead(refusal) => Needed::Refused(refusal),
-        ReadAnswer::Records(counts) => Needed::Takes {
-            records: counts.records,
-            sizes: measure_inside(element, depth, octets),
-        },
-    }
+    let counts = judge_inside(element, depth, octets)?;
+    Ok(Needs {
+        records: counts.records,
+        sizes: measure_inside(element, depth, octets),
+    })
 }

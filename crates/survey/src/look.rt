@@ -3,18 +3,10 @@ ghost use Rattle.std.specs.Prelude.{◌≡◌, ◌+◌, ◌<◌, ◌^◌, length
 ghost use Rattle.survey.specs.First.{sought_by, sought_in};
 ghost use Rattle.survey.specs.Looks.{step_of, ItemLooked, ItemsLooked};
 
-use format::{ReadAnswer, Refusal};
+use format::Refusal;
 use judge::judge;
-use octets::{Lies, item_at};
-use values::{Kind, KnownKind, known_kind};
-
-// What is found in an object: it is refused, or the tag of the first such item lies at a place, if there is one.
-#[derive(Clone, Copy)]
-pub enum Sought {
-    Refused(Refusal),
-    Nowhere,
-    At(usize),
-}
+use octets::item_at;
+use values::{Kind, known_kind};
 
 // What is to be done with an item: it is passed over, looked into, or it is the one.
 #[derive(Clone, Copy)]
@@ -35,7 +27,7 @@ fn is_sought(rows: &[u16], anywhere: &[u16], listed: bool, parent: u8, tag: u8) 
 fn step_of(rows: &[u16], anywhere: &[u16], listed: bool, parent: u8, tag: u8) -> Step
     ensures { result ≡ step_of (sought_by listed rows.now anywhere.now) parent tag }
 {
-    let KnownKind::Known(kind) = known_kind(parent, tag) else {
+    let Some(kind) = known_kind(parent, tag) else {
         return Step::Past;
     };
     if is_sought(rows, anywhere, listed, parent, tag) {
@@ -92,9 +84,7 @@ fn look_items(
 {
     let mut at: usize = 0;
     while at < part.len() {
-        let Lies::Between { from, to } = item_at(part, at) else {
-            return None;
-        };
+        let lies = item_at(part, at)?;
         if let Some(place) = look_item(
             rows,
             anywhere,
@@ -102,27 +92,27 @@ fn look_items(
             parent,
             part[at],
             left,
-            &part[from..to],
+            &part[lies.from..lies.to],
             offset + at,
-            offset + from,
+            offset + lies.from,
         ) {
             return Some(place);
         }
-        at = to;
+        at = lies.to;
     }
     None
 }
 
-// The object itself counts as an element with the tag 0, whose one item is the top at depth 1.
+// Where the tag of the first such item lies, if there is one. The object itself counts as an element with the tag 0, whose one item is the top at depth 1.
 // Kept: lists and a flag, no closure, since what this public call promises is `sought_by` of its lists (docs/CALLS.md), and pocket's and xml's tables are such.
-pub fn find_first(object: &[u8], rows: &[u16], anywhere: &[u16], listed: bool) -> Sought
+pub fn find_first(
+    object: &[u8],
+    rows: &[u16],
+    anywhere: &[u16],
+    listed: bool,
+) -> Result<Option<usize>, Refusal>
     ensures { result ≡ sought_in (sought_by listed rows.now anywhere.now) object.now }
 {
-    match judge(object) {
-        ReadAnswer::NotRead(refusal) => Sought::Refused(refusal),
-        ReadAnswer::Records(_) => match look_items(rows, anywhere, listed, 0, 16, object, 0) {
-            None => Sought::Nowhere,
-            Some(place) => Sought::At(place),
-        },
-    }
+    judge(object)?;
+    Ok(look_items(rows, anywhere, listed, 0, 16, object, 0))
 }

@@ -12,16 +12,16 @@ ghost use Rattle.survey.specs.Sizes.{taken, part_in, sizes_of, ItemMeasured, Ite
 use crate::table::table_of;
 use crate::written::value_size;
 use judge::levels_in;
-use octets::{Lies, Octets, header_size, item_at};
+use octets::{Octets, header_size, item_at};
 use tags::{Listed, listed_as};
 use text::{expanded_size, widths_of};
 use values::{Kind, is_default};
 
-// The octets that items take of a store and in normal form. Over: their normal form has more than 32,768, which no object may have.
+// The octets that items take of a store and in normal form. A normal form of more than 32,768 has no such sizes, since no object may have as many.
 #[derive(Clone, Copy)]
-pub enum Measured {
-    Over,
-    Sizes { store: Octets, octets: Octets },
+pub struct Sizes {
+    pub store: Octets,
+    pub octets: Octets,
 }
 
 // What is measured of an item: nothing; a default, whose one octet is kept in the store but not written; the items inside it; octets of its own, of which no
@@ -78,18 +78,18 @@ fn part_of(parent: u8, tag: u8, body: &[u8], table: &[u8], widths: &[u8; 32]) ->
 }
 
 // An item whose body has so many octets in normal form.
-fn framed(store: Octets, octets: Octets) -> Measured
+fn framed(store: Octets, octets: Octets) -> Option<Sizes>
     requires { octets.0 ≤ 32_769 }
     ensures { result ≡ sizes_of store.0 (framed_size octets.0) }
 {
     let size = header_size(octets).0 + octets.0;
     if size > 32_768 {
-        return Measured::Over;
+        return None;
     }
-    Measured::Sizes {
+    Some(Sizes {
         store,
         octets: Octets(size),
-    }
+    })
 }
 
 // One item in an element of a tag. `left` is how many levels of elements may still open: none opens below depth 16 in an accepted object.
@@ -101,35 +101,39 @@ fn measure_item(
     body: &[u8],
     table: &[u8],
     widths: &[u8; 32],
-) -> Measured
+) -> Option<Sizes>
     requires { Widths 32 (entries table.now) widths.now }
     ensures { ItemMeasured (entries table.now) parent tag left body.now result }
 {
     match part_of(parent, tag, body, table, widths) {
-        Part::Nothing => Measured::Sizes {
+        Part::Nothing => Some(Sizes {
             store: Octets(0),
             octets: Octets(0),
-        },
-        Part::Kept => Measured::Sizes {
+        }),
+        Part::Kept => Some(Sizes {
             store: Octets(1),
             octets: Octets(0),
-        },
+        }),
         Part::Octets(size) => framed(size, size),
         Part::Inside => {
             if left == 0 {
-                return Measured::Over;
+                return None;
             }
-            match measure_items(tag, left - 1, body, table, widths) {
-                Measured::Over => Measured::Over,
-                Measured::Sizes { store, octets } => framed(store, octets),
-            }
+            let sizes = measure_items(tag, left - 1, body, table, widths)?;
+            framed(sizes.store, sizes.octets)
         }
     }
 }
 
 // The items in a part, which is the body of an element of a tag.
 #[cycle(measure_item_measure_items)]
-fn measure_items(parent: u8, left: usize, part: &[u8], table: &[u8], widths: &[u8; 32]) -> Measured
+fn measure_items(
+    parent: u8,
+    left: usize,
+    part: &[u8],
+    table: &[u8],
+    widths: &[u8; 32],
+) -> Option<Sizes>
     requires { Widths 32 (entries table.now) widths.now }
     ensures { ItemsMeasured (entries table.now) parent left part.now result }
 {
@@ -137,32 +141,30 @@ fn measure_items(parent: u8, left: usize, part: &[u8], table: &[u8], widths: &[u
     let mut octets: usize = 0;
     let mut at: usize = 0;
     while at < part.len() {
-        let Lies::Between { from, to } = item_at(part, at) else {
-            return Measured::Over;
-        };
-        let item = measure_item(parent, part[at], left, &part[from..to], table, widths);
-        let Measured::Sizes {
-            store: more,
-            octets: longer,
-        } = item
-        else {
-            return Measured::Over;
-        };
-        store = store + more.0;
-        octets = octets + longer.0;
+        let lies = item_at(part, at)?;
+        let sizes = measure_item(
+            parent,
+            part[at],
+            left,
+            &part[lies.from..lies.to],
+            table,
+            widths,
+        )?;
+        store += sizes.store.0;
+        octets += sizes.octets.0;
         if octets > 32_768 {
-            return Measured::Over;
+            return None;
         }
-        at = to;
+        at = lies.to;
     }
-    Measured::Sizes {
+    Some(Sizes {
         store: Octets(store),
         octets: Octets(octets),
-    }
+    })
 }
 
 // An object that is accepted. The object itself counts as an element with the tag 0, whose one item is the top at depth 1.
-pub fn measure(object: &[u8]) -> Measured
+pub fn measure(object: &[u8]) -> Option<Sizes>
     ensures { Measures object.now result }
 {
     let table = table_of(object);
@@ -171,7 +173,7 @@ pub fn measure(object: &[u8]) -> Measured
 }
 
 // Items of an element of a tag and a depth, by themselves: there is no token table. They are accepted where they stand.
-pub fn measure_inside(element: u8, depth: u8, octets: &[u8]) -> Measured
+pub fn measure_inside(element: u8, depth: u8, octets: &[u8]) -> Option<Sizes>
     ensures { MeasuresInside element depth octets.now result }
 {
     let none = &octets[0..0];

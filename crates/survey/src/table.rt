@@ -2,7 +2,7 @@
 ghost use Rattle.std.specs.Prelude.{◌≡◌};
 ghost use Rattle.survey.specs.Places.{first_table, table_body};
 
-use octets::{Lies, item_at};
+use octets::item_at;
 
 // The body of the first 0x04 among the items of a part; the empty part where there is none, or where an item before it runs past the end.
 fn table_in<'a>(part: &'a [u8]) -> &'a [u8]
@@ -10,13 +10,13 @@ fn table_in<'a>(part: &'a [u8]) -> &'a [u8]
 {
     let mut at: usize = 0;
     while at < part.len() {
-        let Lies::Between { from, to } = item_at(part, at) else {
+        let Some(lies) = item_at(part, at) else {
             return &part[0..0];
         };
         if part[at] == 4 {
-            return &part[from..to];
+            return &part[lies.from..lies.to];
         }
-        at = to;
+        at = lies.to;
     }
     &part[0..0]
 }
@@ -25,8 +25,8 @@ fn table_in<'a>(part: &'a [u8]) -> &'a [u8]
 pub fn table_of<'a>(object: &'a [u8]) -> &'a [u8]
     ensures { result.now ≡ table_body object.now }
 {
-    let Lies::Between { from, to } = item_at(object, 0) else {
+    let Some(lies) = item_at(object, 0) else {
         return &object[0..0];
     };
-    table_in(&object[from..to])
+    table_in(&object[lies.from..lies.to])
 }

@@ -5,7 +5,7 @@ use mathlib.Core.List.{List, [], ◌∷◌}
 use mathlib.Core.Option.{some}
 use mathlib.Core.Bool.{Bool, true, false, ◌&&◌, not, cond}
 use lib.ListN.{length, get_or, take, drop, length-drop, drop_of_length-le}
-use lib.Seq.{drop-drop, get_or-drop, length-take-le}
+use lib.Seq.{take_all, drop-drop, get_or-drop, length-take-le}
 use lib.Dec.{eqb, leb}
 use lib.Bits.{bit_or, bit_and}
 use native.Mathlib.Omega.{arith}
@@ -83,6 +83,33 @@ pieced-entry t n o e =
       names = rw (e, cut-same k j (drop n o) less (omega arith));
       fills = λ seen. rw (e, filled-same k j (t ∷ seen) (drop n o) less (omega arith));
     }
+
+-- ---- a table as a slice pattern takes it apart: a tag octet, a length octet, and what lies behind them
+abbrev pub behind : List ℕ → List ℕ
+behind s = take (length s - 2) (drop 2 s)
+
+entries-long : (s : List ℕ) → 2 ≤ length s → length s - 2 < get_or s 1 0 → entries s ≡ []
+entries-long [] h g = absurd (omega arith)
+entries-long (t ∷ []) h g = absurd (omega arith)
+entries-long (t ∷ n ∷ o) h g = (ended-long t n o (lt-leb n (length o) (omega arith))).names
+
+entries-first : (s : List ℕ) (n : ℕ) → 2 ≤ length s → n ≡ get_or s 1 0 → n ≤ length s - 2 → entries s ≡ (get_or s 0 0, take n (drop 2 s)) ∷ entries (drop n (drop 2 s))
+entries-first [] n h e g = absurd (omega arith)
+entries-first (t ∷ []) n h e g = absurd (omega arith)
+entries-first (t ∷ m ∷ o) n h e g = rw e (pieced-entry t m o (le-leb m (length o) (omega arith))).names
+
+module _ (s : List ℕ) (n : ℕ) (h : 2 ≤ length s) (e : n ≡ get_or s 1 0) where
+  all-behind : behind s ≡ drop 2 s
+  all-behind = take_all (length s - 2) (drop 2 s) (omega (arith, length-drop 2 s))
+
+  long : length (behind s) ≡ length s - 2
+  long = rw all-behind (length-drop 2 s)
+
+  pub entries-past : length (behind s) < n → entries s ≡ []
+  entries-past g = entries-long s h (omega (arith, long))
+
+  pub entries_next : n ≤ length (behind s) → entries s ≡ (get_or s 0 0, take n (behind s)) ∷ entries (drop n (behind s))
+  entries_next g = rw all-behind (entries-first s n h e (omega (arith, long)))
 
 -- what the first entry tells
 Told : List ℕ → Option Entry → Type 0

@@ -26,7 +26,8 @@ use Rattle.writer.specs.declared.emit.Role.{Role}
 use Rattle.writer.specs.declared.emit.Role.TheVariants.{Gone, Element, Attribute, Other}
 use Rattle.writer.specs.declared.emit.Reached.{Reached}
 use Rattle.survey.specs.Normal.{item_octets, attribute_octets, later_octets}
-use Rattle.writer.specs.Steps.{four_of, items_from, Holding, role_of, body_at, BodyAt, Fitting, Ordered, limit_of, Stands, FindsLowest, body_octets, element_octets, SizesStand, Emits, Standing, AsLaid}
+use Rattle.writer.specs.Steps.{four_of, items_from, Holding, role_of, body_at, BodyAt, Fitting, Ordered, limit_of, Stands, FindsLowest, body_octets}
+use Rattle.writer.specs.Steps.{element_octets, SizesStand, Emits, Standing, AsLaid}
 use Rattle.survey.proofs.Rising.{rising-seven, rising-skip}
 use Rattle.writer.proofs.Copied.{laid-inside, laid-own, laid-after, laid-found}
 use Rattle.writer.proofs.Finding.{tag-most, found-octets, none_between, found-body}
@@ -90,7 +91,8 @@ module _ (p n : ℕ) (tags depths starts sizes lent : List ℕ) (at depth : ℕ)
   skipped : Ordered p inside → (least : ℕ) (a : Option Lowest) → 0x80 ≤ least → FindsLowest n tags depths at depth least a
       → rising (0x87 - least) least (attributes_in [] p inside) ≡ rising (0x87 - limit_of a) (limit_of a) (attributes_in [] p inside)
   skipped o least a h f =
-      rising-skip least (limit_of a) (attributes_in [] p inside) f.from (tag-most n tags depths at depth a f.stands) (none_between p n tags depths starts sizes lent at depth o a least h f)
+      rising-skip least (limit_of a) (attributes_in [] p inside) f.from (tag-most n tags depths at depth a f.stands)
+      (none_between p n tags depths starts sizes lent at depth o a least h f)
 
   pub risen-start : Ordered p inside → (to : ℕ) (room : List ℕ) (a : Option Lowest) → FindsLowest n tags depths at depth 0x80 a → Risen to room room to a
   risen-start o to room a f = record {
@@ -153,7 +155,8 @@ module _ (p n : ℕ) (tags depths starts sizes lent : List ℕ) (at depth : ℕ)
             ),
           )
 
-      pub risen-next : (after : List ℕ) (next : ℕ) → Lays one stop room after next → (b : Option Lowest) → FindsLowest n tags depths at depth (a.tag + 1) b → Risen to before after next b
+      pub risen-next : (after : List ℕ) (next : ℕ) → Lays one stop room after next → (b : Option Lowest) → FindsLowest n tags depths at depth (a.tag + 1) b
+          → Risen to before after next b
       risen-next after next h b f = record {
         high = let g = f.from in let i = risen-high a is in omega arith;
         stands = f.stands;

@@ -50,7 +50,8 @@ module _ (a : Option Lowest) (least tag i : ℕ) where
   lower-kept h q = rw (le-leb least tag h, le-ltb tag (limit_of a) q)
 
 -- a tag that was found, or the limit of all
-pub tag-most : (n : ℕ) (tags depths : List ℕ) (at depth : ℕ) (a : Option Lowest) → ((found : Lowest) → a ≡ Some found → Stands n tags depths at depth found) → limit_of a ≤ 0x87
+pub tag-most : (n : ℕ) (tags depths : List ℕ) (at depth : ℕ) (a : Option Lowest) → ((found : Lowest) → a ≡ Some found
+    → Stands n tags depths at depth found) → limit_of a ≤ 0x87
 tag-most n tags depths at depth None s = omega arith
 tag-most n tags depths at depth (Some a) s = let m = (s a refl).most in omega arith
 
@@ -117,7 +118,8 @@ module _ (n : ℕ) (tags depths : List ℕ) (at depth least : ℕ) where
               let w : ruled u.0 (item (row l i).tag (row l i).start (body_in o (row l i)) end (items_at b c o (i + 1))) ≡ true = rw (single b c o) at u.1 in
               (past u.0 (row l i).tag, (ruled-parts u.0 (row l i).tag (row l i).start (body_in o (row l i)) end (items_at b c o (i + 1)) w).beside)
 
-          on : (x : Option Lowest) → least ≤ limit_of x → ((found : Lowest) → x ≡ Some found → Stands n tags depths at depth found) → limit_of x ≤ limit_of a → ((t : ℕ) → least ≤ t → t < limit_of x → t ≡ get_or tags i 0 → ⊥) → Passed x (i + 1)
+          on : (x : Option Lowest) → least ≤ limit_of x → ((found : Lowest) → x ≡ Some found → Stands n tags depths at depth found)
+              → limit_of x ≤ limit_of a → ((t : ℕ) → least ≤ t → t < limit_of x → t ≡ get_or tags i 0 → ⊥) → Passed x (i + 1)
           on x f st le ne = record {
             from = f;
             stands = st;
@@ -125,19 +127,22 @@ module _ (n : ℕ) (tags depths : List ℕ) (at depth least : ℕ) where
             kept = kept_on;
           }
 
-          here_found : least ≤ get_or tags i 0 → get_or tags i 0 < limit_of a → (found : Lowest) → Some (lowest (get_or tags i 0) i) ≡ Some found → Stands n tags depths at depth found
+          here_found : least ≤ get_or tags i 0 → get_or tags i 0 < limit_of a → (found : Lowest) → Some (lowest (get_or tags i 0) i) ≡ Some found
+              → Stands n tags depths at depth found
           unfolding find
           here_found g h found q = subst (Stands n tags depths at depth) (same_Some (lowest (get_or tags i 0) i) found q) (record {
             most = omega (arith, limit-most);
             within = lt;
-            body = λ b c o s r. inv.same (get_or tags i 0) g h b c o s r ∙ (ap (find (get_or tags i 0)) (single b c o) ∙ rw (eq-eqb (get_or tags i 0) (get_or tags i 0) refl));
+            body = λ b c o s r. inv.same (get_or tags i 0) g h b c o s r ∙ (ap (find (get_or tags i 0)) (single b c o)
+                ∙ rw (eq-eqb (get_or tags i 0) (get_or tags i 0) refl));
           })
 
           pub pass-next : (x : Option Lowest) → x ≡ lower_of a least (get_or tags i 0) i → Passed x (i + 1)
           unfolding lower_of
           pass-next x e = rw e (go (leb least (get_or tags i 0)) (ltb (get_or tags i 0) (limit_of a)) refl refl)
             where
-              go : (b c : Bool) → leb least (get_or tags i 0) ≡ b → ltb (get_or tags i 0) (limit_of a) ≡ c → Passed (cond (b && c) (Some (lowest (get_or tags i 0) i)) a) (i + 1)
+              go : (b c : Bool) → leb least (get_or tags i 0) ≡ b → ltb (get_or tags i 0) (limit_of a) ≡ c
+                  → Passed (cond (b && c) (Some (lowest (get_or tags i 0) i)) a) (i + 1)
               go true true g h =
                   let p = leb-true least (get_or tags i 0) g in
                   let q = ltb-true (get_or tags i 0) (limit_of a) h in
@@ -172,7 +177,8 @@ module _ (p : ℕ) (t : Items) (tag : ℕ) (a : attribute tag ≡ true) where
       go k e i false d = sym (item-known p tag body k (ne_eqb tag 4 (λ z. omega (arith, attribute-high tag a))) d e ∙ ap (framed tag) (value-fits k body i))
 
 -- the attribute that was found, and that there is none before it
-module _ (p n : ℕ) (tags depths starts sizes lent : List ℕ) (at depth : ℕ) (o : Ordered p (items_from (four_of tags depths starts sizes) n lent depth at).0) where
+module _ (p n : ℕ) (tags depths starts sizes lent : List ℕ) (at depth : ℕ) (o : Ordered p (items_from
+    (four_of tags depths starts sizes) n lent depth at).0) where
   pub found-octets : (a : Lowest) → Stands n tags depths at depth a → 0x80 ≤ a.tag
       → one_attribute a.tag (attributes_in [] p (items_from (four_of tags depths starts sizes) n lent depth at).0 a.tag) ≡ item_octets p a.tag (body_at a.place starts sizes lent)
   unfolding body_in body_at
@@ -182,7 +188,8 @@ module _ (p n : ℕ) (tags depths starts sizes lent : List ℕ) (at depth : ℕ)
       → attributes_in [] p (items_from (four_of tags depths starts sizes) n lent depth at).0 t ≡ none
   none_between a least g f t x y = absent-attribute [] p _ t (λ _. f.between t x y starts sizes lent o.spot o.rules)
 
-pub found-body : (n : ℕ) (tags depths starts sizes lent : List ℕ) (at depth : ℕ) → Holding n (four_of tags depths starts sizes) lent → (a : Lowest) → Stands n tags depths at depth a
+pub found-body : (n : ℕ) (tags depths starts sizes lent : List ℕ) (at depth : ℕ) → Holding n (four_of tags depths starts sizes) lent → (a : Lowest)
+    → Stands n tags depths at depth a
     → BodyAt a.place starts sizes lent
 found-body n tags depths starts sizes lent at depth h a f =
     let lt = f.within in

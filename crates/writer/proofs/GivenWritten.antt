@@ -113,7 +113,8 @@ module _ (n : ℕ) (m : Memory) where
           given-more l = unfit room (omega (arith, told.0, given-size, min-le_left (length room) 32_768))
 
           -- all fits: the sizes are stored, and all is written by them
-          module _ (enough : all.total.0 ≤ length room) (bodies' : List ℕ) (w : Maybe Extent) (y : Sizes n (four_in m.lists) m.store 0 1 0 m.bodies bodies' w) where
+          module _ (enough : all.total.0 ≤ length room) (bodies' : List ℕ) (w : Maybe Extent) (y : Sizes n
+              (four_in m.lists) m.store 0 1 0 m.bodies bodies' w) where
             fit : roomy (size_of room) (encode (means [] t)) ≡ true
             unfolding roomy
             fit =

@@ -185,7 +185,8 @@ pub record Added (l : Lists) (n : ℕ) (lent : List ℕ) (at depth p : ℕ) (bef
   pub stands : sets before at (own l n lent p depth at) ≡ sets bodies j (own l n lent p depth j)
 
 -- a sum that no object may have leaves nothing to say of the list
-sizes-over : (l : Lists) (n : ℕ) (lent : List ℕ) (at depth p : ℕ) (before bodies : List ℕ) → 32_768 < sum l n lent p depth at → Sizes n l lent p depth at before bodies None
+sizes-over : (l : Lists) (n : ℕ) (lent : List ℕ) (at depth p : ℕ) (before bodies : List ℕ) → 32_768 < sum l n lent p depth at
+    → Sizes n l lent p depth at before bodies None
 sizes-over l n lent at depth p before bodies h = record { answers = over-is _ _ h; stands = λ q. absurd (omega (arith, h, q)) }
 
 module _ (l : Lists) (n : ℕ) (lent : List ℕ) (at depth p : ℕ) (before bodies : List ℕ) (i total : ℕ) (inv : Sums l n lent at depth p before bodies i total) where

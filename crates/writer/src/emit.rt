@@ -87,6 +87,7 @@ fn next_attribute(
     lowest
 }
 
+// Kept: `stored` is no closure that puts a body. It would go through the same four functions, each with a clause more that says what it may answer.
 // A body as an item of a tag, if it is written: that is asked of a stored body too, which is then copied.
 fn put_written(room: &mut [u8], to: usize, parent: u8, tag: u8, body: &[u8], stored: bool) -> usize
     requires standing { stored ≡ true → Standing parent tag body.now }
@@ -205,6 +206,7 @@ pub fn emit_items(
     requires fitting { Fitting (later_octets parent (items_from (four_of tags.now depths.now starts.now sizes.now) count octets.now depth at).0) to (length room.old) }
     ensures { Emits (items_from (four_of tags.now depths.now starts.now sizes.now) count octets.now depth at) parent to room.old room.new result }
 {
+    // Kept: this walk's step is data, as many records as an element holds, so no range has its numbers.
     let mut i = at;
     let mut end = to;
     while i < count {

@@ -90,6 +90,7 @@ pub fn size_items(
     requires { Holding count (four_of tags.now depths.now starts.now sizes.now) octets.now × Ordered parent (items_from (four_of tags.now depths.now starts.now sizes.now) count octets.now depth at).0 × (at ≤ count) × (depth ≤ at + 1) }
     ensures { Sizes count (four_of tags.now depths.now starts.now sizes.now) octets.now parent depth at bodies.old bodies.new result }
 {
+    // Kept: this walk's step is data, as many records as an element holds, so no range has its numbers.
     let mut i = at;
     let mut total: usize = 0;
     while i < count {

@@ -8,8 +8,8 @@ returns-then-counts-places c = search (survey-ways, rules)
 pub returns-then-is_sufficient : goal.returns-then-is_sufficient
 returns-then-is_sufficient c = search (survey-ways, rules)
 
-pub returns-in-NotRead : goal.returns-in-NotRead
-returns-in-NotRead c = search (survey-ways, rules)
+pub returns-in-Err : goal.returns-in-Err
+returns-in-Err c = search (survey-ways, rules)
 
 pub returns-else-is_sufficient : goal.returns-else-is_sufficient
 returns-else-is_sufficient c = search (survey-ways, rules)

@@ -26,7 +26,8 @@ pub returns-then-all-room : goal.returns-then-all-room
 returns-then-all-room c =
     let a = c.args in
     let m = memory a.tags.now a.kinds.now a.depths.now a.parents.now a.starts.now a.sizes.now a.bodies.now a.octets.now in
-    given-more _ m c.if-count-bodies.false _ c.is_well_formed.ensures c.if-not-is_well_formed.false-raw _ _ _ c.size_items.ensures _ c.in-Some.is a.room.now c.if-all-room.true _ c.refused-then-all-room.ensures
+    given-more _ m c.if-count-bodies.false _ c.is_well_formed.ensures c.if-not-is_well_formed.false-raw _ _ _ c.size_items.ensures _ c.in-Some.is a.room.now
+    c.if-all-room.true _ c.refused-then-all-room.ensures
 
 pub size_items-requires-2 : goal.size_items-requires-2
 size_items-requires-2 c =
@@ -38,16 +39,31 @@ pub emit_items-reached-requires : goal.emit_items-reached-requires
 emit_items-reached-requires c =
     let a = c.args in
     let m = memory a.tags.now a.kinds.now a.depths.now a.parents.now a.starts.now a.sizes.now a.bodies.now a.octets.now in
-    record { holding = (given-holding _ m c.if-count-bodies.false _ c.is_well_formed.ensures c.if-not-is_well_formed.false-raw, given-ordered _ m c.if-count-bodies.false _ c.is_well_formed.ensures c.if-not-is_well_formed.false-raw, omega arith, omega arith); as_laid = (λ q. absurd (false≢true q)); sizes_stand = given-stand _ m c.if-count-bodies.false _ c.is_well_formed.ensures c.if-not-is_well_formed.false-raw _ _ _ c.size_items.ensures _ c.in-Some.is a.room.now c.if-all-room.false _ _ c.size_items-2.ensures; fitting = given-fits _ m c.if-count-bodies.false _ c.is_well_formed.ensures c.if-not-is_well_formed.false-raw _ _ _ c.size_items.ensures _ c.in-Some.is a.room.now c.if-all-room.false _ _ c.size_items-2.ensures }
+    record {
+      holding = (
+        given-holding _ m c.if-count-bodies.false _ c.is_well_formed.ensures c.if-not-is_well_formed.false-raw,
+        given-ordered _ m
+            c.if-count-bodies.false _ c.is_well_formed.ensures c.if-not-is_well_formed.false-raw,
+        omega arith,
+        omega arith,
+      );
+      as_laid = (λ q. absurd (false≢true q));
+      sizes_stand = given-stand _ m c.if-count-bodies.false _ c.is_well_formed.ensures
+          c.if-not-is_well_formed.false-raw _ _ _ c.size_items.ensures _ c.in-Some.is a.room.now c.if-all-room.false _ _ c.size_items-2.ensures;
+      fitting = given-fits _ m c.if-count-bodies.false _ c.is_well_formed.ensures c.if-not-is_well_formed.false-raw _ _ _ c.size_items.ensures _
+          c.in-Some.is a.room.now c.if-all-room.false _ _ c.size_items-2.ensures;
+    }
 
 pub returns-in_default : goal.returns-in_default
 returns-in_default c =
     let a = c.args in
     let m = memory a.tags.now a.kinds.now a.depths.now a.parents.now a.starts.now a.sizes.now a.bodies.now a.octets.now in
-    given-over _ m c.if-count-bodies.false _ c.is_well_formed.ensures c.if-not-is_well_formed.false-raw _ _ _ c.size_items.ensures c.in_default.is _ _ c.refused-in_default.ensures
+    given-over _ m c.if-count-bodies.false _ c.is_well_formed.ensures c.if-not-is_well_formed.false-raw _ _ _ c.size_items.ensures c.in_default.is _ _
+    c.refused-in_default.ensures
 
 pub returns : goal.returns
 returns c =
     let a = c.args in
     let m = memory a.tags.now a.kinds.now a.depths.now a.parents.now a.starts.now a.sizes.now a.bodies.now a.octets.now in
-    given-written _ m c.if-count-bodies.false _ c.is_well_formed.ensures c.if-not-is_well_formed.false-raw _ _ _ c.size_items.ensures _ c.in-Some.is a.room.now c.if-all-room.false _ _ c.size_items-2.ensures _ _ c.emit_items-reached.ensures
+    given-written _ m c.if-count-bodies.false _ c.is_well_formed.ensures c.if-not-is_well_formed.false-raw _ _ _ c.size_items.ensures _ c.in-Some.is
+    a.room.now c.if-all-room.false _ _ c.size_items-2.ensures _ _ c.emit_items-reached.ensures

@@ -11,8 +11,8 @@ returns-then-not-comes_between c = search (admits-ways, rules)
 pub returns-then-records-eq0 : goal.returns-then-records-eq0
 returns-then-records-eq0 c = search (admits-ways, rules)
 
-pub returns-in-Refused : goal.returns-in-Refused
-returns-in-Refused c = search (admits-ways, rules)
+pub returns-in-Err : goal.returns-in-Err
+returns-in-Err c = search (admits-ways, rules)
 
 pub returns-else-records-eq0 : goal.returns-else-records-eq0
 returns-else-records-eq0 c = search (admits-ways, rules)

@@ -5,8 +5,8 @@ use Rattle.edits.proofs.inserting.is_one_item.Goals as goal
 pub returns-then-octets-gt32768 : goal.returns-then-octets-gt32768
 returns-then-octets-gt32768 c = search (one-ways, rules)
 
-pub returns-in-Outside : goal.returns-in-Outside
-returns-in-Outside c = search (one-ways, rules)
+pub returns-in-None : goal.returns-in-None
+returns-in-None c = search (one-ways, rules)
 
-pub returns-in-Between : goal.returns-in-Between
-returns-in-Between c = search (one-ways, rules)
+pub returns-in-Some : goal.returns-in-Some
+returns-in-Some c = search (one-ways, rules)

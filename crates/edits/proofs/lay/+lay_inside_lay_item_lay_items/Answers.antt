@@ -191,27 +191,27 @@ lay_items-bounds-part-at t c =
 
 pub lay_items-slice_bounds-body-count : goal.lay_items-slice_bounds-body-count
 lay_items-slice_bounds-body-count t c =
-    ordered (here _ _ _ _ _ _ _ _ c.loop-at.invariant c.loop-at-test.true _ c.item_at.ensures _ _ c.in-Between.is) c.loop-at.invariant.inside
+    ordered (here _ _ _ _ _ _ _ _ c.loop-at.invariant c.loop-at-test.true _ c.item_at.ensures _ _ c.in-Some.is) c.loop-at.invariant.inside
 
 pub lay_items-slice_bounds-body-start : goal.lay_items-slice_bounds-body-start
 lay_items-slice_bounds-body-start t c =
-    ordered (here _ _ _ _ _ _ _ _ c.loop-at.invariant c.loop-at-test.true _ c.item_at.ensures _ _ c.in-Between.is) c.loop-at.invariant.inside
+    ordered (here _ _ _ _ _ _ _ _ c.loop-at.invariant c.loop-at-test.true _ c.item_at.ensures _ _ c.in-Some.is) c.loop-at.invariant.inside
 
 pub lay_items-slice_bounds-body-end : goal.lay_items-slice_bounds-body-end
 lay_items-slice_bounds-body-end t c =
-    to_inside (here _ _ _ _ _ _ _ _ c.loop-at.invariant c.loop-at-test.true _ c.item_at.ensures _ _ c.in-Between.is) c.loop-at.invariant.inside
+    to_inside (here _ _ _ _ _ _ _ _ c.loop-at.invariant c.loop-at-test.true _ c.item_at.ensures _ _ c.in-Some.is) c.loop-at.invariant.inside
 
 pub lay_items-lay_item-done-requires : goal.lay_items-lay_item-done-requires
 lay_items-lay_item-done-requires t c =
-    (omega (arith, c.decreases), (item-can _ _ _ _ _ _ _ _ c.loop-at.invariant c.loop-at-test.true _ c.item_at.ensures _ _ c.in-Between.is, c.requires.indexes))
+    (omega (arith, c.decreases), (item-can _ _ _ _ _ _ _ _ c.loop-at.invariant c.loop-at-test.true _ c.item_at.ensures _ _ c.in-Some.is, c.requires.indexes))
 
 pub lay_items-loop-at-smaller : goal.lay_items-loop-at-smaller
 lay_items-loop-at-smaller t c =
-    nearer (here _ _ _ _ _ _ _ _ c.loop-at.invariant c.loop-at-test.true _ c.item_at.ensures _ _ c.in-Between.is) c.loop-at.invariant.inside
+    nearer (here _ _ _ _ _ _ _ _ c.loop-at.invariant c.loop-at-test.true _ c.item_at.ensures _ _ c.in-Some.is) c.loop-at.invariant.inside
 
 pub lay_items-loop-at-preserved : goal.lay_items-loop-at-preserved
 lay_items-loop-at-preserved t c =
-    again _ _ _ _ _ _ _ _ c.loop-at.invariant c.loop-at-test.true _ c.item_at.ensures _ _ c.in-Between.is _ _ c.lay_item-done.ensures
+    again _ _ _ _ _ _ _ _ c.loop-at.invariant c.loop-at-test.true _ c.item_at.ensures _ _ c.in-Some.is _ _ c.lay_item-done.ensures
 
 pub lay_items-shape_of-tags : goal.lay_items-shape_of-tags
 lay_items-shape_of-tags t c =

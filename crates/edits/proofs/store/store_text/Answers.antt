@@ -2,11 +2,11 @@ use Rattle.edits.proofs.Storing.{storing-ways}
 use borrow.Author.Rules.{rules}
 use Rattle.edits.proofs.store.store_text.Goals as goal
 
-pub returns-in-Done : goal.returns-in-Done
-returns-in-Done c = search (storing-ways, rules)
+pub returns-in-Ok : goal.returns-in-Ok
+returns-in-Ok c = search (storing-ways, rules)
 
-pub returns-in-NoRoom : goal.returns-in-NoRoom
-returns-in-NoRoom c = search (storing-ways, rules)
+pub returns-in-Err-NoRoom : goal.returns-in-Err-NoRoom
+returns-in-Err-NoRoom c = search (storing-ways, rules)
 
-pub returns-in-Invalid : goal.returns-in-Invalid
-returns-in-Invalid c = search (storing-ways, rules)
+pub returns-in-Err-Invalid : goal.returns-in-Err-Invalid
+returns-in-Err-Invalid c = search (storing-ways, rules)

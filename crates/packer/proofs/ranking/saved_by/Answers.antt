@@ -1,4 +1,3 @@
-use Rattle.fold.specs.Words.{saved_by}
 use borrow.Author.Rules.{rules}
 use Rattle.packer.proofs.Ranked.{saved-is}
 use Rattle.packer.proofs.ranking.saved_by.Goals as goal

@@ -1,5 +1,6 @@
+use Rattle.state.specs.Taking.{shared_memory}
 use Rattle.state.proofs.Checks.{Righting}
 use Rattle.state.proofs.holding.are_right.Given as goal
 
 abbrev pub invariant-loop-i : goal.invariant-loop-i
-invariant-loop-i l = Righting l.tags l.depths l.parents l.starts l.sizes l.bodies l.store l.n l.i l.sums
+invariant-loop-i l = Righting (shared_memory l.memory) l.n l.i l.sums

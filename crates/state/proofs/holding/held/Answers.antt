@@ -10,16 +10,14 @@ returns-then-not-is_well_formed c = search (seen-ways, rules)
 
 pub are_right-requires : goal.are_right-requires
 are_right-requires c =
-    let p = has-places _ _ _ _ _ _ _ _ _ c.is_well_formed.ensures c.if-not-is_well_formed.false-raw in
-    (p.tags, p.depths, p.parents, p.starts, p.sizes, c.if-n-bodies.false)
+    (has-places _ _ _ _ c.is_well_formed.ensures c.if-not-is_well_formed.false-raw, c.if-n-bodies.false)
 
 pub returns-then-not-are_right : goal.returns-then-not-are_right
 returns-then-not-are_right c = search (seen-ways, rules)
 
 pub lie_all-requires : goal.lie_all-requires
 lie_all-requires c =
-    let p = has-places _ _ _ _ _ _ _ _ _ c.is_well_formed.ensures c.if-not-is_well_formed.false-raw in
-    (p.tags, p.parents, p.starts, p.sizes)
+    has-places _ _ _ _ c.is_well_formed.ensures c.if-not-is_well_formed.false-raw
 
 pub returns : goal.returns
 returns c = search (seen-ways, rules)

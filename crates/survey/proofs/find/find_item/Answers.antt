@@ -1,4 +1,5 @@
-use Rattle.survey.proofs.Seeking.{span-ways, span-found, span-nearer, span-again}
+use mathlib.Core.Path.{◌∙◌}
+use Rattle.survey.proofs.Seeking.{span-ways, span-outside, span-found, span-nearer, span-again}
 use borrow.Author.Rules.{rules}
 use Rattle.survey.proofs.find.find_item.Goals as goal
 
@@ -8,20 +9,22 @@ loop-at-init c = search (span-ways, rules)
 pub returns-then-is_behind : goal.returns-then-is_behind
 returns-then-is_behind c = search (span-ways, rules)
 
-pub returns-in_default : goal.returns-in_default
-returns-in_default c = search (span-ways, rules)
+pub returns-in_err-lies : goal.returns-in_err-lies
+returns-in_err-lies c =
+    c.from_residual.ensures
+    ∙ span-outside _ _ _ c.loop-at.invariant _ c.is_behind.ensures c.if-is_behind.false _ c.item_at.ensures c.in_err-lies.was
 
 pub returns-then-part-at : goal.returns-then-part-at
 returns-then-part-at c =
-    span-found _ _ _ c.loop-at.invariant _ c.is_behind.ensures c.if-is_behind.false _ c.item_at.ensures _ _ c.in-Between.is c.if-part-at.true
+    span-found _ _ _ c.loop-at.invariant _ c.is_behind.ensures c.if-is_behind.false _ c.item_at.ensures _ _ c.in_ok-lies.was c.if-part-at.true
 
 pub loop-at-smaller : goal.loop-at-smaller
 loop-at-smaller c =
-    span-nearer _ _ _ c.loop-at.invariant _ c.is_behind.ensures c.if-is_behind.false _ c.item_at.ensures _ _ c.in-Between.is c.loop-at-test.true
+    span-nearer _ _ _ c.loop-at.invariant _ c.is_behind.ensures c.if-is_behind.false _ c.item_at.ensures _ _ c.in_ok-lies.was c.loop-at-test.true
 
 pub loop-at-preserved : goal.loop-at-preserved
 loop-at-preserved c =
-    span-again _ _ _ c.loop-at.invariant _ c.is_behind.ensures c.if-is_behind.false _ c.item_at.ensures _ _ c.in-Between.is c.if-part-at.false
+    span-again _ _ _ c.loop-at.invariant _ c.is_behind.ensures c.if-is_behind.false _ c.item_at.ensures _ _ c.in_ok-lies.was c.if-part-at.false
 
 pub returns : goal.returns
 returns c = search (span-ways, rules)

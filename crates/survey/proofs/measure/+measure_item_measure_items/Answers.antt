@@ -23,53 +23,59 @@ pub measure_item-returns-in-Octets : goal.measure_item-returns-in-Octets
 measure_item-returns-in-Octets t c =
     item-octets _ _ _ _ _ _ c.part_of.ensures _ c.in-Octets.is _ c.framed.ensures
 
-pub measure_item-returns-in-Over : goal.measure_item-returns-in-Over
-measure_item-returns-in-Over t c =
-    item-over _ _ _ _ _ _ c.part_of.ensures c.in-Inside.is c.if-left-eq0.false _ c.measure_items.ensures c.in-Over.is
+pub measure_item-returns-in_err-sizes-in-Inside : goal.measure_item-returns-in_err-sizes-in-Inside
+measure_item-returns-in_err-sizes-in-Inside t c =
+    rw c.from_residual.ensures (item-over _ _ _ _ _ _ c.part_of.ensures c.in-Inside.is c.if-left-eq0.false _ c.measure_items.ensures
+    c.in_err-sizes-in-Inside.was)
 
-pub measure_item-returns-in-Sizes : goal.measure_item-returns-in-Sizes
-measure_item-returns-in-Sizes t c =
-    item-inside _ _ _ _ _ _ c.part_of.ensures c.in-Inside.is c.if-left-eq0.false _ c.measure_items.ensures _ _ c.in-Sizes.is _ c.framed-in-Sizes.ensures
+pub measure_item-returns-in_ok-sizes-in-Inside : goal.measure_item-returns-in_ok-sizes-in-Inside
+measure_item-returns-in_ok-sizes-in-Inside t c =
+    item-inside _ _ _ _ _ _ c.part_of.ensures c.in-Inside.is c.if-left-eq0.false _ c.measure_items.ensures _ _ c.in_ok-sizes-in-Inside.was _
+    c.framed-in-Inside.ensures
 
 pub measure_items-loop-at-init : goal.measure_items-loop-at-init
 measure_items-loop-at-init t c =
     begin _ _ _ _
 
-pub measure_items-returns-in_default : goal.measure_items-returns-in_default
-measure_items-returns-in_default t c =
-    no_item _ _ _ _ _ _ _ c.loop-at.invariant c.loop-at-test.true _ c.item_at.ensures c.in_default.is
+pub measure_items-returns-in_err-lies : goal.measure_items-returns-in_err-lies
+measure_items-returns-in_err-lies t c =
+    rw c.from_residual.ensures (no_item _ _ _ _ _ _ _ c.loop-at.invariant c.loop-at-test.true _ c.item_at.ensures c.in_err-lies.was)
 
 pub measure_items-slice_bounds-measure_item-count : goal.measure_items-slice_bounds-measure_item-count
 measure_items-slice_bounds-measure_item-count t c =
-    ordered (here _ _ _ _ _ _ _ c.loop-at.invariant c.loop-at-test.true _ c.item_at.ensures _ _ c.in-Between.is) c.loop-at.invariant.inside
+    ordered (here _ _ _ _ _ _ _ c.loop-at.invariant c.loop-at-test.true _ c.item_at.ensures _ _ c.in_ok-lies.was) c.loop-at.invariant.inside
 
 pub measure_items-slice_bounds-measure_item-start : goal.measure_items-slice_bounds-measure_item-start
 measure_items-slice_bounds-measure_item-start t c =
-    ordered (here _ _ _ _ _ _ _ c.loop-at.invariant c.loop-at-test.true _ c.item_at.ensures _ _ c.in-Between.is) c.loop-at.invariant.inside
+    ordered (here _ _ _ _ _ _ _ c.loop-at.invariant c.loop-at-test.true _ c.item_at.ensures _ _ c.in_ok-lies.was) c.loop-at.invariant.inside
 
 pub measure_items-slice_bounds-measure_item-end : goal.measure_items-slice_bounds-measure_item-end
 measure_items-slice_bounds-measure_item-end t c =
-    to_inside (here _ _ _ _ _ _ _ c.loop-at.invariant c.loop-at-test.true _ c.item_at.ensures _ _ c.in-Between.is) c.loop-at.invariant.inside
+    to_inside (here _ _ _ _ _ _ _ c.loop-at.invariant c.loop-at-test.true _ c.item_at.ensures _ _ c.in_ok-lies.was) c.loop-at.invariant.inside
 
-pub measure_items-returns-in_default-item : goal.measure_items-returns-in_default-item
-measure_items-returns-in_default-item t c =
-    item-too-long _ _ _ _ _ _ _ c.loop-at.invariant c.loop-at-test.true _ c.item_at.ensures _ _ c.in-Between.is _ c.measure_item-item.ensures c.in_default-item.is
+pub measure_items-returns-in_err-sizes : goal.measure_items-returns-in_err-sizes
+measure_items-returns-in_err-sizes t c =
+    rw c.from_residual-in_err-sizes.ensures
+    (item-too-long _ _ _ _ _ _ _ c.loop-at.invariant c.loop-at-test.true _ c.item_at.ensures _ _ c.in_ok-lies.was _ c.measure_item.ensures c.in_err-sizes.was)
 
 pub measure_items-overflow_add-store : goal.measure_items-overflow_add-store
 measure_items-overflow_add-store t c =
-    store-fits _ _ _ _ _ _ _ c.loop-at.invariant c.loop-at-test.true _ c.item_at.ensures _ _ c.in-Between.is _ c.measure_item-item.ensures _ _ c.in-Sizes.is c.well_formed.1.1.0.1
+    store-fits _ _ _ _ _ _ _ c.loop-at.invariant c.loop-at-test.true _ c.item_at.ensures _ _ c.in_ok-lies.was _ c.measure_item.ensures _ _ c.in_ok-sizes.was
+    c.well_formed.1.1.0.1
 
 pub measure_items-returns-then-octets-gt32768 : goal.measure_items-returns-then-octets-gt32768
 measure_items-returns-then-octets-gt32768 t c =
-    too_long _ _ _ _ _ _ _ c.loop-at.invariant c.loop-at-test.true _ c.item_at.ensures _ _ c.in-Between.is _ c.measure_item-item.ensures _ _ c.in-Sizes.is c.if-octets-gt32768.true
+    too_long _ _ _ _ _ _ _ c.loop-at.invariant c.loop-at-test.true _ c.item_at.ensures _ _ c.in_ok-lies.was _ c.measure_item.ensures _ _ c.in_ok-sizes.was
+    c.if-octets-gt32768.true
 
 pub measure_items-loop-at-smaller : goal.measure_items-loop-at-smaller
 measure_items-loop-at-smaller t c =
-    nearer (here _ _ _ _ _ _ _ c.loop-at.invariant c.loop-at-test.true _ c.item_at.ensures _ _ c.in-Between.is) c.loop-at.invariant.inside
+    nearer (here _ _ _ _ _ _ _ c.loop-at.invariant c.loop-at-test.true _ c.item_at.ensures _ _ c.in_ok-lies.was) c.loop-at.invariant.inside
 
 pub measure_items-loop-at-preserved : goal.measure_items-loop-at-preserved
 measure_items-loop-at-preserved t c =
-    again _ _ _ _ _ _ _ c.loop-at.invariant c.loop-at-test.true _ c.item_at.ensures _ _ c.in-Between.is _ c.measure_item-item.ensures _ _ c.in-Sizes.is c.if-octets-gt32768.false
+    again _ _ _ _ _ _ _ c.loop-at.invariant c.loop-at-test.true _ c.item_at.ensures _ _ c.in_ok-lies.was _ c.measure_item.ensures _ _ c.in_ok-sizes.was
+    c.if-octets-gt32768.false
 
 pub measure_items-returns : goal.measure_items-returns
 measure_items-returns t c =

@@ -9,16 +9,16 @@ returns-in_default c =
 
 pub slice_bounds-table_in-count : goal.slice_bounds-table_in-count
 slice_bounds-table_in-count c =
-    ordered (top-here _ _ c.item_at.ensures _ _ c.in-Between.is) (omega arith)
+    ordered (top-here _ _ c.item_at.ensures _ _ c.in-Some.is) (omega arith)
 
 pub slice_bounds-table_in-start : goal.slice_bounds-table_in-start
 slice_bounds-table_in-start c =
-    ordered (top-here _ _ c.item_at.ensures _ _ c.in-Between.is) (omega arith)
+    ordered (top-here _ _ c.item_at.ensures _ _ c.in-Some.is) (omega arith)
 
 pub slice_bounds-table_in-end : goal.slice_bounds-table_in-end
 slice_bounds-table_in-end c =
-    to_inside (top-here _ _ c.item_at.ensures _ _ c.in-Between.is) (omega arith)
+    to_inside (top-here _ _ c.item_at.ensures _ _ c.in-Some.is) (omega arith)
 
 pub returns : goal.returns
 returns c =
-    top-table _ _ c.item_at.ensures _ _ c.in-Between.is _ c.table_in.ensures
+    top-table _ _ c.item_at.ensures _ _ c.in-Some.is _ c.table_in.ensures

@@ -1,4 +1,5 @@
-use Rattle.writer.proofs.Emitting.{written-gone, written-end, attribute-next, other_fits, other-next, element-ordered, element-stands, header-ready, attributes-ready, later-ready, headed-less, headed-next}
+use Rattle.writer.proofs.Emitting.{written-gone, written-end, attribute-next, other_fits, other-next, element-ordered, element-stands, header-ready}
+use Rattle.writer.proofs.Emitting.{attributes-ready, later-ready, headed-less, headed-next}
 use Rattle.writer.proofs.Summing.{falls-within, deeper}
 use native.Mathlib.Omega.{arith}
 use Rattle.writer.proofs.emit.+emit_items.Goals as goal

@@ -1,4 +1,5 @@
-use Rattle.writer.proofs.Summing.{Added, sums-past, sums-end, single-fits, single-added, holds-ordered, holds-over, inner-small, inner-fits, holds-added, added-over, added-less, added_next}
+use Rattle.writer.proofs.Summing.{Added, sums-past, sums-end, single-fits, single-added, holds-ordered, holds-over, inner-small, inner-fits, holds-added}
+use Rattle.writer.proofs.Summing.{added-over, added-less, added_next}
 use Rattle.writer.proofs.Summing.{falls-within, deeper}
 use Rattle.writer.specs.Steps.{four_of}
 use mathlib.Core.Path.{◌∙◌}
@@ -14,7 +15,8 @@ turn : (t : ℕ) (c : Joined-part_at t)
 turn t c =
     elim c.match-part_at.branch [
       | in-Single w ↦ single-added _ _ _ _ _ _ _ _ _ _ c.loop-i.invariant c.loop-i-test.true _ c.part_at.ensures _ _ w.in-Single.is _ (w.bodies-is ∙ w.put_size.ensures) _ _ w.i-is w.total-is
-      | in-Holds+in_ok-inner-in-Holds w ↦ holds-added _ _ _ _ _ _ _ _ _ _ c.loop-i.invariant c.loop-i-test.true _ c.part_at.ensures _ w.in-Holds.is _ _ w.size_items.ensures _ w.in_ok-inner-in-Holds.was _ (w.bodies-is ∙ w.put_size-in-Holds.ensures) _ w.framed_size-total.ensures _ _ w.i-is w.total-is
+      | in-Holds+in_ok-inner-in-Holds w ↦ holds-added _ _ _ _ _ _ _ _ _ _ c.loop-i.invariant c.loop-i-test.true _ c.part_at.ensures _ w.in-Holds.is _ _
+          w.size_items.ensures _ w.in_ok-inner-in-Holds.was _ (w.bodies-is ∙ w.put_size-in-Holds.ensures) _ w.framed_size-total.ensures _ _ w.i-is w.total-is
     ]
 
 pub returns-in-Past : goal.returns-in-Past
@@ -32,15 +34,18 @@ size_items-requires t c =
 pub returns-in_err-inner-in-Holds : goal.returns-in_err-inner-in-Holds
 returns-in_err-inner-in-Holds t c =
     rw c.from_residual.ensures
-    (holds-over _ _ _ _ _ _ _ _ _ _ c.loop-i.invariant c.loop-i-test.true _ c.part_at.ensures _ c.in-Holds.is _ _ c.size_items.ensures c.in_err-inner-in-Holds.was)
+    (holds-over _ _ _ _ _ _ _ _ _ _ c.loop-i.invariant c.loop-i-test.true _ c.part_at.ensures _ c.in-Holds.is _ _ c.size_items.ensures
+    c.in_err-inner-in-Holds.was)
 
 pub overflow_cast-size : goal.overflow_cast-size
 overflow_cast-size t c =
-    inner-small _ _ _ _ _ _ _ _ _ _ c.loop-i.invariant c.loop-i-test.true _ c.part_at.ensures _ c.in-Holds.is _ _ c.size_items.ensures _ c.in_ok-inner-in-Holds.was
+    inner-small _ _ _ _ _ _ _ _ _ _ c.loop-i.invariant c.loop-i-test.true _ c.part_at.ensures _ c.in-Holds.is _ _ c.size_items.ensures _
+    c.in_ok-inner-in-Holds.was
 
 pub overflow_add-total-in-Holds : goal.overflow_add-total-in-Holds
 overflow_add-total-in-Holds t c =
-    inner-fits _ _ _ _ _ _ _ _ _ _ c.loop-i.invariant c.loop-i-test.true _ c.part_at.ensures _ c.in-Holds.is _ _ c.size_items.ensures _ c.in_ok-inner-in-Holds.was _ c.framed_size-total.ensures
+    inner-fits _ _ _ _ _ _ _ _ _ _ c.loop-i.invariant c.loop-i-test.true _ c.part_at.ensures _ c.in-Holds.is _ _ c.size_items.ensures _
+    c.in_ok-inner-in-Holds.was _ c.framed_size-total.ensures
 
 pub returns-then-total-gt32768 : goal.returns-then-total-gt32768
 returns-then-total-gt32768 t c =
