@@ -1,4 +1,5 @@
 -- What is counted and put, one part behind the other.
+use Rattle.std.specs.Prelude.{Result}
 use mathlib.Core.Path.{◌≡◌, refl, sym, ap, ap₂, ◌∙◌, subst}
 use mathlib.Core.Bool.{Bool, true, false, cond, false≢true}
 use mathlib.Core.List.{List, ◌∷◌, ◌++◌, append_assoc, append-nil}
@@ -11,13 +12,13 @@ use lib.Seq.{sets, length-sets}
 use borrow.Author.Tests.{le-leb, leb-true, leb-false, lt-ltb}
 use Rattle.octets.specs.Counts.{as_octets}
 use Rattle.octets.specs.declared.counts.Octets.{Octets}
-use Rattle.octets.specs.declared.Put.{Put}
 use Rattle.octets.specs.Puts.{put_out, Puts}
 use Rattle.octets.specs.Header.{length_field, framed}
 use Rattle.octets.specs.Places.{between, moved_up}
 use Rattle.octets.proofs.Answers.{size-two, framed-length}
 use Rattle.octets.proofs.Lists.{sets-append, sets-comm, sets-covered, part-of-sets}
 use Rattle.octets.proofs.Upward.{moves-up, moved-long}
+use Rattle.octets.specs.declared.PutError.{PutError}
 use Rattle.merging.specs.declared.counting.Needs.{Needs}
 use Rattle.merging.specs.Takes.{most, plus, Piece, empty, with, held, Adds, HeaderPut, ElementClosed}
 
@@ -112,7 +113,7 @@ adds-nothing emit n m o e =
 
 -- ---- a header
 
-module _ (tag size at : ℕ) (before after : List ℕ) (answer : Put) (p : Puts (ltb size (256 ^ 2)) (tag ∷ length_field size) at before after answer) where
+module _ (tag size at : ℕ) (before after : List ℕ) (answer : Result ℕ PutError) (p : Puts (ltb size (256 ^ 2)) (tag ∷ length_field size) at before after answer) where
   header-laid : at + suc (length (length_field size)) + size ≤ min (length before) 32_768 → after ≡ sets before at (tag ∷ length_field size)
   unfolding put_out
   header-laid l =
@@ -136,7 +137,7 @@ module _ (emit : Bool) (tag size : ℕ) (n : Needs) (before after : List ℕ) (h
   pub header-counted : emit ≡ false → HeaderPut emit tag size n before before r
   header-counted e = record { records = records-sum n r 1 0 h.0 re; store = store-sum n r 1 0 h.0 re; octets = octets-are; holds = λ l. rw e; quiet = λ f. refl; long = refl }
 
-  pub header-put : emit ≡ true → (answer : Put) → Puts (ltb size (256 ^ 2)) (tag ∷ length_field size) n.octets.0 before after answer → HeaderPut emit tag size n before after r
+  pub header-put : emit ≡ true → (answer : Result ℕ PutError) → Puts (ltb size (256 ^ 2)) (tag ∷ length_field size) n.octets.0 before after answer → HeaderPut emit tag size n before after r
   header-put e answer p = record {
     records = records-sum n r 1 0 h.0 re;
     store = store-sum n r 1 0 h.0 re;
@@ -236,7 +237,7 @@ module _ (emit : Bool) (tag : ℕ) (n begun inside : Needs) (before : List ℕ) 
     closed-store : r.store.0 ≡ min most (n.store.0 + p.store)
     closed-store = omega (arith, store-sum n begun 1 0 2 be, u.store, store-sum inside r 0 0 (h.0 - 2) re)
 
-    module _ (e : emit ≡ true) (moved after : List ℕ) (m : moved ≡ moved_up before begun.octets.0 inside.octets.0 (h.0 - 2)) (answer : Put)
+    module _ (e : emit ≡ true) (moved after : List ℕ) (m : moved ≡ moved_up before begun.octets.0 inside.octets.0 (h.0 - 2)) (answer : Result ℕ PutError)
         (q : Puts (ltb size.0 (256 ^ 2)) (tag ∷ length_field size.0) n.octets.0 moved after answer) where
       moved-as-long : length moved ≡ length first
       moved-as-long = ap length m ∙ moved-long before begun.octets.0 inside.octets.0 (h.0 - 2) ∙ u.long
@@ -307,7 +308,7 @@ module _ (emit : Bool) (tag : ℕ) (n begun inside : Needs) (before : List ℕ) 
   unfolding ElementClosed
   closed-counted e p first be u = closed-without p first be u e
 
-  pub closed-put : emit ≡ true → (moved after : List ℕ) → moved ≡ moved_up before begun.octets.0 inside.octets.0 (h.0 - 2) → (answer : Put)
+  pub closed-put : emit ≡ true → (moved after : List ℕ) → moved ≡ moved_up before begun.octets.0 inside.octets.0 (h.0 - 2) → (answer : Result ℕ PutError)
       → Puts (ltb size.0 (256 ^ 2)) (tag ∷ length_field size.0) n.octets.0 moved after answer → ElementClosed emit tag n begun inside before after r
   unfolding ElementClosed
   closed-put e moved after m answer q p first be u = closed-with p first be u e moved after m answer q

@@ -1,4 +1,5 @@
 -- Of accepted octets what clashes is what clashes in their meanings.
+use Rattle.std.specs.Prelude.{is_some, Some, None, Option as Optional}
 use mathlib.Core.Path.{◌≡◌, refl, sym, ap, ap₂, ◌∙◌, subst}
 use mathlib.Core.Bool.{Bool, true, false, cond, not, ◌&&◌, ◌||◌, false≢true, and-false}
 use mathlib.Core.Option.{Option, none, some, map}
@@ -7,9 +8,8 @@ use Prim.Native.Nat.{ℕ, zero, suc, ◌+◌, ◌≤◌}
 use native.Mathlib.Omega.{arith}
 use lib.Dec.{eqb}
 use borrow.Author.Tests.{eqb-true, lt-ltb}
+use Rattle.octets.specs.Places.{between, from_to}
 use Rattle.octets.specs.declared.Lies.{Lies}
-use Rattle.octets.specs.declared.Lies.TheVariants.{Outside, Between}
-use Rattle.octets.specs.Places.{between}
 use Rattle.text.specs.Tokens.{Entries, entries, expanded}
 use Rattle.text.specs.Index.{Indexes, entries_by}
 use Rattle.values.specs.declared.Kind.{Kind}
@@ -36,7 +36,7 @@ use Rattle.merge.specs.Keys.{merges, same_attribute, partners}
 use Rattle.merge.specs.Merged.{apart, any_apart, both_there, other_language, clashing, clash}
 use Rattle.merge.proofs.Fine.{partners-tag}
 use Rattle.merge.proofs.Advanced.{merges-opens}
-use Rattle.merging.specs.Searches.{any_child, is_found}
+use Rattle.merging.specs.Searches.{any_child}
 use Rattle.merging.specs.Clashing.{is_apart, any_apart_from, both_cdata, is_other, pair_clash, item_clash, clash_among, clash_below}
 use Rattle.merging.specs.Calls.{HasClash}
 use Rattle.merging.proofs.Among.{open-not-six}
@@ -54,17 +54,17 @@ apart-is (some v) none = refl
 apart-is (some v) (some w) = refl
 
 -- an attribute that counts is there in what it means
-counted-there : (tag a : ℕ) (x : List ℕ) → is_found (counted_span tag a x) ≡ is_there (counted_of_tag tag a x)
-unfolding is_found is_there counted_span counted_lies counted_of_tag counted_body body_of_tag body_by
+counted-there : (tag a : ℕ) (x : List ℕ) → is_some (counted_span tag a x) ≡ is_there (counted_of_tag tag a x)
+unfolding is_there counted_span counted_lies counted_of_tag counted_body body_of_tag body_by
 counted-there tag a x = go (span_of_tag a x)
   where
-    by : (from to : ℕ) (d : Bool) → is_found (cond d Outside (Between from to)) ≡ is_there (cond d none (some (between x from to)))
+    by : (from to : ℕ) (d : Bool) → is_some (cond d None (Some (from_to from to))) ≡ is_there (cond d none (some (between x from to)))
     by from to true = refl
     by from to false = refl
 
-    go : (l : Lies) → is_found (counted_lies tag a x l) ≡ is_there (counted_body tag a (body_by x l))
-    go Outside = refl
-    go (Between from to) = by from to (default_octets tag a (between x from to))
+    go : (l : Optional Lies) → is_some (counted_lies tag a x l) ≡ is_there (counted_body tag a (body_by x l))
+    go None = refl
+    go (Some lies) = by lies.from lies.to (default_octets tag a (between x lies.from lies.to))
 
 there-map : {A B : Type 0} (f : A → B) (o : Option A) → is_there (map f o) ≡ is_there o
 unfolding is_there
@@ -72,7 +72,7 @@ there-map f none = refl
 there-map f (some a) = refl
 
 module _ (tag a : ℕ) (k : Kind) (e : known tag a ≡ some k) (h : attribute a ≡ true) (T : Entries) (x : List ℕ) (d i : ℕ) (t : Items) (p : Accepts tag d i x t) where
-  there-says : is_found (counted_span tag a x) ≡ is_there (attributes_in T tag t a)
+  there-says : is_some (counted_span tag a x) ≡ is_there (attributes_in T tag t a)
   there-says =
       counted-there tag a x
       ∙ (sym (there-map (meant T k) (counted_of_tag tag a x)) ∙ ap is_there (sym (counted-means tag a k e x d i t p T h)))
@@ -80,7 +80,7 @@ module _ (tag a : ℕ) (k : Kind) (e : known tag a ≡ some k) (h : attribute a 
 module _ (tag : ℕ) (T : Entries) (x : List ℕ) (U : Entries) (y : List ℕ) (d e i j : ℕ) (t u : Items) (p : Accepts tag d i x t) (q : Accepts tag e j y u) where
   apart-says : (a : ℕ) → attribute a ≡ true → is_apart tag a T x U y ≡ apart (attributes_in T tag t a) (attributes_in U tag u a)
   unfolding is_apart same_maybe apart
-  apart-says a h = ap (λ s. is_found (counted_span tag a x) && is_found (counted_span tag a y) && not s) (at-says tag a T x U y d e i j t u h p q) ∙ go (known tag a) refl
+  apart-says a h = ap (λ s. is_some (counted_span tag a x) && is_some (counted_span tag a y) && not s) (at-says tag a T x U y d e i j t u h p q) ∙ go (known tag a) refl
     where
       v : Option Value
       v = attributes_in T tag t a
@@ -88,8 +88,8 @@ module _ (tag : ℕ) (T : Entries) (x : List ℕ) (U : Entries) (y : List ℕ) (
       w : Option Value
       w = attributes_in U tag u a
 
-      go : (k : Option Kind) → known tag a ≡ k → is_found (counted_span tag a x) && is_found (counted_span tag a y) && not (same_attribute v w) ≡ apart v w
-      go none c = rw (unknown-attribute T tag t a c, unknown-attribute U tag u a c) (and-false (is_found (counted_span tag a x) && is_found (counted_span tag a y)))
+      go : (k : Option Kind) → known tag a ≡ k → is_some (counted_span tag a x) && is_some (counted_span tag a y) && not (same_attribute v w) ≡ apart v w
+      go none c = rw (unknown-attribute T tag t a c, unknown-attribute U tag u a c) (and-false (is_some (counted_span tag a x) && is_some (counted_span tag a y)))
       go (some k) c = rw (there-says tag a k c h T x d i t p, there-says tag a k c h U y e j u q) (apart-is v w)
 
   high-none : (n a : ℕ) → 0x87 ≤ a → any_apart n a (attributes_in T tag t) (attributes_in U tag u) ≡ false
@@ -112,14 +112,14 @@ module _ (tag : ℕ) (T : Entries) (x : List ℕ) (U : Entries) (y : List ℕ) (
 
 -- ---- CDATA
 
-cdata-there : (p d i : ℕ) (T : Entries) (x : List ℕ) (t : Items) → Accepts p d i x t → is_found (span_of_tag 1 x) ≡ is_there (cdata_in T t)
-unfolding cdata_in body_of_tag is_found is_there body_by
+cdata-there : (p d i : ℕ) (T : Entries) (x : List ℕ) (t : Items) → Accepts p d i x t → is_some (span_of_tag 1 x) ≡ is_there (cdata_in T t)
+unfolding cdata_in body_of_tag is_there body_by
 cdata-there p d i T x t a =
     go (span_of_tag 1 x) ∙ (ap is_there (sym (found-body p 1 HoldsText (known-cdata p) x d i t a)) ∙ sym (there-map (expanded T) (find 1 t)))
   where
-    go : (l : Lies) → is_found l ≡ is_there (body_by x l)
-    go Outside = refl
-    go (Between from to) = refl
+    go : (l : Optional Lies) → is_some l ≡ is_there (body_by x l)
+    go None = refl
+    go (Some lies) = refl
 
 both_is : {A : Type 0} (c d : Option A) → is_there c && is_there d ≡ both_there c d
 unfolding is_there both_there

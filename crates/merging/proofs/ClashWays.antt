@@ -1,4 +1,5 @@
 -- The ways through the functions that look for what clashes.
+use Rattle.std.specs.Prelude.{is_some, Option}
 use mathlib.Core.Path.{◌≡◌, refl, sym, ap, ◌∙◌}
 use mathlib.Core.Bool.{Bool, true, false, not, ◌||◌}
 use mathlib.Core.List.{List}
@@ -6,8 +7,6 @@ use Prim.Native.Nat.{ℕ, suc, ◌+◌, ◌-◌, ◌≤◌, ◌<◌}
 use native.Mathlib.Numerals.{add-one}
 use native.Mathlib.Omega.{arith}
 use borrow.Author.Tests.{eq-eqb, ne_eqb}
-use Rattle.octets.specs.declared.Lies.{Lies}
-use Rattle.octets.specs.declared.Lies.TheVariants.{Outside, Between}
 use Rattle.text.specs.Tokens.{Entries, expanded}
 use Rattle.format.specs.Same.{same_octets}
 use Rattle.survey.specs.Places.{span_of_tag}
@@ -15,41 +14,32 @@ use Rattle.compare.specs.Items.{counted_span}
 use Rattle.compare.specs.Walks.{children_in}
 use Rattle.merge.specs.declared.Services.{Services}
 use Rattle.merge.specs.Keys.{merges}
-use Rattle.merging.specs.Searches.{any_child, is_found}
+use Rattle.merging.specs.Searches.{any_child}
 use Rattle.merging.specs.Keyed.{same_at, is_partner}
 use Rattle.merging.specs.Clashing.{is_apart, any_apart_from, both_cdata, is_other, pair_clash, item_clash, clash_among, clash_below}
+use Rattle.octets.specs.declared.Lies.{Lies}
 
--- ---- is_found, is_apart, is_any_apart
+-- ---- is_apart, is_any_apart
 
-pub found-no : (r : Lies) → r ≡ Outside → false ≡ is_found r
-unfolding is_found
-found-no r e = rw e refl
+module _ (tag a : ℕ) (T : Entries) (x : List ℕ) (U : Entries) (y : List ℕ) (r : Option Lies) (re : r ≡ counted_span tag a x) (b : Bool) (be : is_some r ≡ not b) where
+  here : is_some (counted_span tag a x) ≡ not b
+  here = ap is_some (sym re) ∙ be
 
-pub found-yes : (r : Lies) (from to : ℕ) → r ≡ Between from to → true ≡ is_found r
-unfolding is_found
-found-yes r from to e = rw e refl
-
-pub ruleset is-found-ways = (found-no, found-yes)
-
-module _ (tag a : ℕ) (T : Entries) (x : List ℕ) (U : Entries) (y : List ℕ) (r : Lies) (re : r ≡ counted_span tag a x) (b : Bool) (be : b ≡ is_found r) where
-  here : is_found (counted_span tag a x) ≡ b
-  here = ap is_found (sym re) ∙ sym be
-
-  pub apart-first : b ≡ false → false ≡ is_apart tag a T x U y
+  pub apart-first : b ≡ true → false ≡ is_apart tag a T x U y
   unfolding is_apart
-  apart-first h = rw (here ∙ h)
+  apart-first h = rw (here ∙ ap not h)
 
-  module _ (h : b ≡ true) (s : Lies) (se : s ≡ counted_span tag a y) (c : Bool) (ce : c ≡ is_found s) where
-    there : is_found (counted_span tag a y) ≡ c
-    there = ap is_found (sym se) ∙ sym ce
+  module _ (h : b ≡ false) (s : Option Lies) (se : s ≡ counted_span tag a y) (c : Bool) (ce : is_some s ≡ not c) where
+    there : is_some (counted_span tag a y) ≡ not c
+    there = ap is_some (sym se) ∙ ce
 
-    pub apart-second : c ≡ false → false ≡ is_apart tag a T x U y
+    pub apart-second : c ≡ true → false ≡ is_apart tag a T x U y
     unfolding is_apart
-    apart-second k = rw (here ∙ h, there ∙ k)
+    apart-second k = rw (here ∙ ap not h, there ∙ ap not k)
 
-    pub apart-both : c ≡ true → (q : Bool) → q ≡ same_at tag a T x U y → not q ≡ is_apart tag a T x U y
+    pub apart-both : c ≡ false → (q : Bool) → q ≡ same_at tag a T x U y → not q ≡ is_apart tag a T x U y
     unfolding is_apart
-    apart-both k q qe = rw (here ∙ h, there ∙ k, qe)
+    apart-both k q qe = rw (here ∙ ap not h, there ∙ ap not k, qe)
 
 pub ruleset apart-ways = (apart-first, apart-second, apart-both)
 
@@ -85,21 +75,7 @@ module _ (tag : ℕ) (T : Entries) (x : List ℕ) (U : Entries) (y : List ℕ) w
 
 pub ruleset near-ways = (near-begin, near-ended, near_apart, near_again)
 
--- ---- have_both_cdata, is_other
-
-module _ (x y : List ℕ) (r : Lies) (re : r ≡ span_of_tag 1 x) (b : Bool) (be : b ≡ is_found r) where
-  own : is_found (span_of_tag 1 x) ≡ b
-  own = ap is_found (sym re) ∙ sym be
-
-  pub cdata-first : b ≡ false → false ≡ both_cdata x y
-  unfolding both_cdata
-  cdata-first h = rw (own ∙ h)
-
-  pub cdata-second : b ≡ true → (s : Lies) → s ≡ span_of_tag 1 y → (c : Bool) → c ≡ is_found s → c ≡ both_cdata x y
-  unfolding both_cdata
-  cdata-second h s se c ce = ce ∙ (ap is_found se ∙ rw (own ∙ h))
-
-pub ruleset cdata-ways = (cdata-first, cdata-second)
+-- ---- is_other
 
 module _ (T : Entries) (o : List ℕ) (U : Entries) (tag : ℕ) (body : List ℕ) where
   pub other_tag : (tag ≡ 6 → ⊥) → false ≡ is_other T o U tag body

@@ -1,4 +1,5 @@
 -- The ways through the call: what is decided of two objects, and what is written and laid where nothing is refused.
+use Rattle.std.specs.Prelude.{Result, Ok, Err}
 use mathlib.Core.Path.{◌≡◌, refl, sym, ap, ap₂, ◌∙◌, subst}
 use mathlib.Core.Bool.{true, false, cond}
 use mathlib.Core.Option.{Option, none, some}
@@ -16,7 +17,6 @@ use Rattle.octets.specs.Places.{between}
 use Rattle.octets.proofs.Lists.{sets-none, part-of-sets}
 use Rattle.octets.proofs.Tests.{never, and_left, and_right}
 use Rattle.format.specs.declared.Refusal.{Refusal}
-use Rattle.format.specs.declared.EditAnswer.{EditAnswer}
 use Rattle.format.specs.Answers.{refusal}
 use Rattle.format.specs.Tree.{Items, count}
 use Rattle.format.specs.Judge.{Judged, rule, first, unless, judge}
@@ -28,16 +28,15 @@ use Rattle.format.specs.State.{Memory, places_in, lay_tree}
 use Rattle.state.specs.Taking.{settled, taken_in, left, TakeInClaim, lent_by, loaded_into}
 use Rattle.edits.proofs.Surveyed.{same-overflow}
 use Rattle.merge.specs.declared.Services.{Services}
-use Rattle.merge.specs.declared.MergeAnswer.{MergeAnswer}
-use Rattle.merge.specs.declared.MergeAnswer.TheVariants.{Merged, BasicRefused, AdvancedRefused, NotMerged}
 use Rattle.merge.specs.Merged.{merged}
 use Rattle.merge.specs.Sizes.{records_in}
-use Rattle.merge.specs.Calls.{conflict, misfit, Outcome, unless_refused, merged_into, outcome, answer_of, written_of, MergeClaim}
+use Rattle.merge.specs.Calls.{conflict, misfit, Outcome, unless_refused, merged_into, outcome, answer_of, written_of, MergeClaim, records_size}
 use Rattle.merge.specs.Calls.Outcome.{refuses, gives}
 use Rattle.merge.proofs.Pure.{Pure, accepted-pure, merged-pure, pure-octets}
 use Rattle.merge.proofs.Results.{merge-gives, merge-result}
-use Rattle.merging.specs.declared.Conflict.{Conflict}
-use Rattle.merging.specs.declared.Conflict.TheVariants.{Free, InBasic, InAdvanced, InBoth}
+use Rattle.merge.specs.declared.Merged.{Merged}
+use Rattle.merge.specs.declared.MergeRefusal.{MergeRefusal}
+use Rattle.merge.specs.declared.MergeRefusal.TheVariants.{Basic, Advanced, Neither}
 use Rattle.merging.specs.declared.counting.Needs.{Needs}
 use Rattle.merging.specs.Calls.{as_conflict, conflict_answer}
 use Rattle.merging.specs.Takes.{most, piece_of, Adds}
@@ -55,61 +54,36 @@ module _ (by : Services) (lent : Lent) where
     pub second : b ≡ accepted u
     pub none-there : conflict by (meaning_of t) (meaning_of u) ≡ none
 
-  basic-told : (a b : Judged) (r : Refusal) → InBasic r ≡ conflict_answer by a b → BasicRefused r ≡ answer_of (outcome by lent a b)
-  unfolding conflict_answer as_conflict outcome answer_of
-  basic-told (refused x) b r q = let e : r ≡ x = cc in ap BasicRefused e
-  basic-told (accepted t) (refused x) r q = never (cc)
-  basic-told (accepted t) (accepted u) r q = go (conflict by (meaning_of t) (meaning_of u)) q
-    where
-      go : (o : Option Refusal) → InBasic r ≡ as_conflict o → BasicRefused r ≡ answer_of (merged_into by lent (meaning_of t) (meaning_of u))
-      go none e = never (cc)
-      go (some x) e = never (cc)
-
-  advanced-told : (a b : Judged) (r : Refusal) → InAdvanced r ≡ conflict_answer by a b → AdvancedRefused r ≡ answer_of (outcome by lent a b)
-  unfolding conflict_answer as_conflict outcome answer_of
-  advanced-told (refused x) b r q = never (cc)
-  advanced-told (accepted t) (refused x) r q = let e : r ≡ x = cc in ap AdvancedRefused e
-  advanced-told (accepted t) (accepted u) r q = go (conflict by (meaning_of t) (meaning_of u)) q
-    where
-      go : (o : Option Refusal) → InAdvanced r ≡ as_conflict o → AdvancedRefused r ≡ answer_of (merged_into by lent (meaning_of t) (meaning_of u))
-      go none e = never (cc)
-      go (some x) e = never (cc)
-
-  both_told : (a b : Judged) (r : Refusal) → InBoth r ≡ conflict_answer by a b → NotMerged r ≡ answer_of (outcome by lent a b)
+  -- what refuses to settle refuses to merge, for the same reason
+  refused-told : (a b : Judged) (r : MergeRefusal) → Err r ≡ conflict_answer by a b → Err r ≡ answer_of (outcome by lent a b)
   unfolding conflict_answer as_conflict outcome merged_into unless_refused answer_of
-  both_told (refused x) b r q = never (cc)
-  both_told (accepted t) (refused x) r q = never (cc)
-  both_told (accepted t) (accepted u) r q = go (conflict by (meaning_of t) (meaning_of u)) q
+  refused-told (refused x) b r q = let e : r ≡ Basic x = cc in ap Err e
+  refused-told (accepted t) (refused x) r q = let e : r ≡ Advanced x = cc in ap Err e
+  refused-told (accepted t) (accepted u) r q = go (conflict by (meaning_of t) (meaning_of u)) q
     where
-      go : (o : Option Refusal) → InBoth r ≡ as_conflict o
-          → NotMerged r ≡ answer_of (unless_refused o (unless_refused (misfit lent (merged by (meaning_of t) (meaning_of u))) (gives (merged by (meaning_of t) (meaning_of u)))))
+      go : (o : Option Refusal) → Err r ≡ as_conflict o
+          → Err r ≡ answer_of (unless_refused o (unless_refused (misfit lent (merged by (meaning_of t) (meaning_of u))) (gives (merged by (meaning_of t) (meaning_of u)))))
       go none e = never (cc)
-      go (some x) e = let f : r ≡ x = cc in ap NotMerged f
+      go (some x) e = let f : r ≡ Neither x = cc in ap Err f
 
-  open_told : (a b : Judged) → Free ≡ conflict_answer by a b → Open a b
+  open_told : (a b : Judged) → Ok tt ≡ conflict_answer by a b → Open a b
   unfolding conflict_answer as_conflict
   open_told (refused x) b q = never (cc)
   open_told (accepted t) (refused x) q = never (cc)
   open_told (accepted t) (accepted u) q = go (conflict by (meaning_of t) (meaning_of u)) refl q
     where
-      go : (o : Option Refusal) → conflict by (meaning_of t) (meaning_of u) ≡ o → Free ≡ as_conflict o → Open (accepted t) (accepted u)
+      go : (o : Option Refusal) → conflict by (meaning_of t) (meaning_of u) ≡ o → Ok tt ≡ as_conflict o → Open (accepted t) (accepted u)
       go none e f = record { t = t; u = u; first = refl; second = refl; none-there = e }
       go (some x) e f = never (cc)
 
-module _ (by : Services) (basic advanced : List ℕ) (places : ℕ) (store : Octets) (before : List ℕ) (k : Conflict) (ke : k ≡ conflict_answer by (judge basic) (judge advanced)) where
+module _ (by : Services) (basic advanced : List ℕ) (places : ℕ) (store : Octets) (before : List ℕ) (k : Result (Unit {0}) MergeRefusal) (ke : k ≡ conflict_answer by (judge basic) (judge advanced)) where
   abbrev lent : Lent
   lent = lending places store (size_of before)
 
-  pub decided-basic : (r : Refusal) → k ≡ InBasic r → Decided by basic advanced places store before before (BasicRefused r)
-  decided-basic r q = record { answers = basic-told by lent (judge basic) (judge advanced) r (sym q ∙ ke); leaves = refl }
+  pub decided-refused : (r : MergeRefusal) → k ≡ Err r → Decided by basic advanced places store before before (Err r)
+  decided-refused r q = record { answers = refused-told by lent (judge basic) (judge advanced) r (sym q ∙ ke); leaves = refl }
 
-  pub decided-advanced : (r : Refusal) → k ≡ InAdvanced r → Decided by basic advanced places store before before (AdvancedRefused r)
-  decided-advanced r q = record { answers = advanced-told by lent (judge basic) (judge advanced) r (sym q ∙ ke); leaves = refl }
-
-  pub decided-both : (r : Refusal) → k ≡ InBoth r → Decided by basic advanced places store before before (NotMerged r)
-  decided-both r q = record { answers = both_told by lent (judge basic) (judge advanced) r (sym q ∙ ke); leaves = refl }
-
-  pub decided-free : k ≡ Free → (after : List ℕ) (n : Needs) → ObjectPut false by basic advanced before after n → places < most → store.0 < most → (r : MergeAnswer)
+  pub decided-free : k ≡ Ok tt → (after : List ℕ) (n : Needs) → ObjectPut false by basic advanced before after n → places < most → store.0 < most → (r : Result Merged MergeRefusal)
       → FitTold n places store (as_octets (length after)) r → Decided by basic advanced places store before after r
   unfolding ObjectPut FitTold piece_of outcome merged_into unless_refused
   decided-free q after n p lp ls r f =
@@ -122,11 +96,9 @@ module _ (by : Services) (basic advanced : List ℕ) (places : ℕ) (store : Oct
       f w c lp ls ∙ ap (λ s. answer_of (unless_refused (misfit (lending places store (size_of s)) w) (gives w))) same in
       record { answers = r-is ∙ sym (ap answer_of (ap₂ (outcome by lent) o.first o.second ∙ rw o.none-there)); leaves = same }
 
-pub ruleset decided-ways = (decided-basic, decided-advanced, decided-both, decided-free)
-
 -- ---- fill
 
-module _ (by : Services) (basic advanced : List ℕ) (size : ℕ) (m m' : Memory) (room room' : List ℕ) (n : Needs) (p : ObjectPut true by basic advanced room room' n) (a : EditAnswer)
+module _ (by : Services) (basic advanced : List ℕ) (size : ℕ) (m m' : Memory) (room room' : List ℕ) (n : Needs) (p : ObjectPut true by basic advanced room room' n) (a : Result ℕ Refusal)
     (c : TakeInClaim (between room' 0 size) (as_octets (length room')) m m' a) where
   pub fill_done : Fills by basic advanced size m m' room room'
   unfolding Fills ObjectPut piece_of taken_in settled unless first rule left fits_lent roomy
@@ -153,18 +125,18 @@ unfolding judge rule unless
 empty-refused = refl
 
 -- what is decided of two objects that are merged
-module _ (by : Services) (basic advanced : List ℕ) (places : ℕ) (store : Octets) (room room₁ : List ℕ) (answer : MergeAnswer) (d : Decided by basic advanced places store room room₁ answer) where
+module _ (by : Services) (basic advanced : List ℕ) (places : ℕ) (store : Octets) (room room₁ : List ℕ) (answer : Result Merged MergeRefusal) (d : Decided by basic advanced places store room room₁ answer) where
   abbrev offer : Lent
   offer = lending places store (size_of room)
 
   -- no answer that refuses says that they are merged
-  never-merged : (a b : Judged) (n : ℕ) (s : Octets) → outcome by offer a b ≡ refuses (Merged n s) → ⊥
+  never-merged : (a b : Judged) (n : ℕ) (s : Octets) → outcome by offer a b ≡ refuses (Ok (records_size n s)) → ⊥
   unfolding outcome merged_into unless_refused
   never-merged (refused r) b n s q = never (cc)
   never-merged (accepted t) (refused r) n s q = never (cc)
   never-merged (accepted t) (accepted u) n s q = go (conflict by (meaning_of t) (meaning_of u)) (misfit offer (merged by (meaning_of t) (meaning_of u))) q
     where
-      go : (c f : Option Refusal) → unless_refused c (unless_refused f (gives (merged by (meaning_of t) (meaning_of u)))) ≡ refuses (Merged n s) → ⊥
+      go : (c f : Option Refusal) → unless_refused c (unless_refused f (gives (merged by (meaning_of t) (meaning_of u)))) ≡ refuses (Ok (records_size n s)) → ⊥
       go none none h = never (cc)
       go none (some x) h = never (cc)
       go (some x) f h = never (cc)
@@ -174,8 +146,8 @@ module _ (by : Services) (basic advanced : List ℕ) (places : ℕ) (store : Oct
     pub is : outcome by offer (judge basic) (judge advanced) ≡ gives w
     pub long : size.0 ≡ length (encode w)
 
-  module _ (records : ℕ) (size : Octets) (q : answer ≡ Merged records size) where
-    size_is : (w : Meaning) → Merged records size ≡ Merged (records_in w) (size_of (encode w)) → size ≡ size_of (encode w)
+  module _ (records : ℕ) (size : Octets) (q : answer ≡ Ok (records_size records size)) where
+    size_is : (w : Meaning) → Ok (records_size records size) ≡ Ok (records_size (records_in w) (size_of (encode w))) → size ≡ size_of (encode w)
     size_is w e = cc
 
     given : Given size
@@ -193,7 +165,7 @@ module _ (by : Services) (basic advanced : List ℕ) (places : ℕ) (store : Oct
     pub merge-size : size.0 ≤ length room₁
     merge-size = omega (arith, fits-room, given.long, ap length d.leaves)
 
-module _ (by : Services) (basic advanced : List ℕ) (m : Memory) (room room₁ : List ℕ) (places : ℕ) (pe : places ≡ min (places_of m.lists) (length m.bodies)) (answer : MergeAnswer)
+module _ (by : Services) (basic advanced : List ℕ) (m : Memory) (room room₁ : List ℕ) (places : ℕ) (pe : places ≡ min (places_of m.lists) (length m.bodies)) (answer : Result Merged MergeRefusal)
     (d : Decided by basic advanced places (as_octets (length m.store)) room room₁ answer) where
   abbrev loan : Lent
   loan = lent_by m room
@@ -208,11 +180,11 @@ module _ (by : Services) (basic advanced : List ℕ) (m : Memory) (room room₁ 
   told : answer ≡ answer_of out
   told = d.answers ∙ ap (λ l. answer_of (outcome by l (judge basic) (judge advanced))) same-loan
 
-  none_written : (o : Outcome) (x : MergeAnswer) → o ≡ refuses x → written_of o ≡ []
+  none_written : (o : Outcome) (x : Result Merged MergeRefusal) → o ≡ refuses x → written_of o ≡ []
   unfolding written_of
   none_written o x e = ap written_of e
 
-  refusing : (x : MergeAnswer) → out ≡ refuses x → MergeClaim by basic advanced m m room room₁ answer
+  refusing : (x : Result Merged MergeRefusal) → out ≡ refuses x → MergeClaim by basic advanced m m room room₁ answer
   unfolding loaded_into
   refusing x e =
       let z = none_written out x e in
@@ -222,22 +194,16 @@ module _ (by : Services) (basic advanced : List ℕ) (m : Memory) (room room₁ 
         leaves = sym (ap (λ s. loaded_into loan (judge s) m) z ∙ ap (λ j. loaded_into loan j m) empty-refused);
       }
 
-  told-refused : (o : Outcome) → out ≡ o → (answer_of o ≡ answer) → ((n : ℕ) (s : Octets) → answer ≡ Merged n s → ⊥) → MergeClaim by basic advanced m m room room₁ answer
+  told-refused : (o : Outcome) → out ≡ o → (answer_of o ≡ answer) → ((n : ℕ) (s : Octets) → answer ≡ Ok (records_size n s) → ⊥) → MergeClaim by basic advanced m m room room₁ answer
   unfolding answer_of
   told-refused (refuses x) e q unmerged = refusing x e
   told-refused (gives w) e q unmerged = absurd (unmerged (records_in w) (size_of (encode w)) (sym q))
 
-  pub merge-basic : (r : Refusal) → answer ≡ BasicRefused r → MergeClaim by basic advanced m m room room₁ answer
-  merge-basic r q = told-refused out refl (sym told) (λ n s e. never (cc))
+  pub merge-refused : (r : MergeRefusal) → answer ≡ Err r → MergeClaim by basic advanced m m room room₁ (Err r)
+  merge-refused r q = subst (λ x. MergeClaim by basic advanced m m room room₁ x) q (told-refused out refl (sym told) (λ n s e. never (cc)))
 
-  pub merge-advanced : (r : Refusal) → answer ≡ AdvancedRefused r → MergeClaim by basic advanced m m room room₁ answer
-  merge-advanced r q = told-refused out refl (sym told) (λ n s e. never (cc))
-
-  pub merge-not : (r : Refusal) → answer ≡ NotMerged r → MergeClaim by basic advanced m m room room₁ answer
-  merge-not r q = told-refused out refl (sym told) (λ n s e. never (cc))
-
-  pub merge-done : (records : ℕ) (size : Octets) → answer ≡ Merged records size → OctetList basic → OctetList advanced → (m' : Memory) (room' : List ℕ) → Fills by basic advanced size.0 m m' room₁ room'
-      → MergeClaim by basic advanced m m' room room' (Merged records size)
+  pub merge-done : (records : ℕ) (size : Octets) → answer ≡ Ok (records_size records size) → OctetList basic → OctetList advanced → (m' : Memory) (room' : List ℕ) → Fills by basic advanced size.0 m m' room₁ room'
+      → MergeClaim by basic advanced m m' room room' (Ok (records_size records size))
   unfolding Fills written_of loaded_into
   merge-done records size q ob oa m' room' f =
       let g = given by basic advanced places (as_octets (length m.store)) room room₁ answer d records size q in
@@ -256,5 +222,3 @@ module _ (by : Services) (basic advanced : List ℕ) (m : Memory) (room room₁ 
         leaves = h.leaves
             ∙ sym (ap (λ o. loaded_into loan (judge (written_of o)) m) is ∙ ap (λ j. loaded_into loan j m) r.again.accepts ∙ ap (λ y. cond y (lay_tree (loaded_of r.again.tree) m) m) r.fits);
       }
-
-pub ruleset merge-ways = (merge-basic, merge-advanced, merge-not, merge-size, merge-done)

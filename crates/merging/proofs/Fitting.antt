@@ -1,4 +1,5 @@
 -- A merged object: what it takes, and whether that fits what is lent.
+use Rattle.std.specs.Prelude.{Result, Ok, Err}
 use mathlib.Core.Path.{◌≡◌, refl, ap, ap₂, ◌∙◌}
 use mathlib.Core.Bool.{Bool, true, false}
 use mathlib.Core.List.{List}
@@ -19,12 +20,13 @@ use Rattle.reader.proofs.Reading.{whole}
 use Rattle.survey.specs.Places.{table_body}
 use Rattle.compare.proofs.Answering.{found-means}
 use Rattle.merge.specs.declared.Services.{Services}
-use Rattle.merge.specs.declared.MergeAnswer.{MergeAnswer}
-use Rattle.merge.specs.declared.MergeAnswer.TheVariants.{Merged, NotMerged}
 use Rattle.merge.specs.Merged.{merged}
 use Rattle.merge.specs.Sizes.{records_in, stored_in}
-use Rattle.merge.specs.Calls.{misfit, unless_refused, answer_of}
+use Rattle.merge.specs.Calls.{misfit, unless_refused, answer_of, records_size}
 use Rattle.merge.specs.Calls.Outcome.{gives}
+use Rattle.merge.specs.declared.Merged.{Merged}
+use Rattle.merge.specs.declared.MergeRefusal.{MergeRefusal}
+use Rattle.merge.specs.declared.MergeRefusal.TheVariants.{Neither}
 use Rattle.merging.specs.declared.counting.Needs.{Needs}
 use Rattle.merging.specs.declared.partners.Role.TheVariants.{Own}
 use Rattle.merging.specs.Takes.{most, piece_of}
@@ -48,7 +50,7 @@ object-put emit by basic advanced table table' index index' before after r e f x
 
 module _ (n : Needs) (places : ℕ) (store room : Octets) where
   module _ (w : Meaning) (c : Counted w n) (lp : places < most) (ls : store.0 < most) where
-    abbrev told : MergeAnswer
+    abbrev told : Result Merged MergeRefusal
     told = answer_of (unless_refused (misfit (lending places store room) w) (gives w))
 
     few : n.records ≤ places → leb (records_in w) places ≡ true
@@ -69,44 +71,44 @@ module _ (n : Needs) (places : ℕ) (store room : Octets) where
     unwritten : min room.0 32_768 < n.octets.0 → leb (length (encode w)) (min room.0 32_768) ≡ false
     unwritten h = lt-leb (length (encode w)) (min room.0 32_768) (omega (arith, c.octets))
 
-    no-records : places < n.records → NotMerged (refusal 14 0) ≡ told
+    no-records : places < n.records → Err (Neither (refusal 14 0)) ≡ told
     unfolding misfit first rule unless_refused answer_of
     no-records h = rw (many h)
 
-    no_store : n.records ≤ places → store.0 < n.store.0 → NotMerged (refusal 15 0) ≡ told
+    no_store : n.records ≤ places → store.0 < n.store.0 → Err (Neither (refusal 15 0)) ≡ told
     unfolding misfit first rule unless_refused answer_of
     no_store h k = rw (few h, unstored k)
 
-    no_room : n.records ≤ places → n.store.0 ≤ store.0 → min room.0 32_768 < n.octets.0 → NotMerged (refusal 15 0) ≡ told
+    no_room : n.records ≤ places → n.store.0 ≤ store.0 → min room.0 32_768 < n.octets.0 → Err (Neither (refusal 15 0)) ≡ told
     unfolding misfit first rule unless_refused answer_of roomy
     no_room h k l = rw (few h, stored k, unwritten l)
 
-    all_fit : n.records ≤ places → n.store.0 ≤ store.0 → n.octets.0 ≤ 32_768 → n.octets.0 ≤ room.0 → Merged n.records n.octets ≡ told
+    all_fit : n.records ≤ places → n.store.0 ≤ store.0 → n.octets.0 ≤ 32_768 → n.octets.0 ≤ room.0 → Ok (records_size n.records n.octets) ≡ told
     unfolding misfit first rule unless_refused answer_of roomy
     all_fit h k l j =
         let x : n.records ≡ records_in w = omega (arith, c.records) in
         let y : n.octets ≡ as_octets (length (encode w)) = ap as_octets (omega (arith, c.octets)) in
-        rw (few h, stored k, written l j) (ap₂ Merged x y)
+        rw (few h, stored k, written l j) (ap₂ (λ n s. Ok (records_size n s)) x y)
 
-  pub fit-records : (r : MergeAnswer) → r ≡ NotMerged (refusal 14 0) → places < n.records → FitTold n places store room r
+  pub fit-records : (r : MergeRefusal) → r ≡ Neither (refusal 14 0) → places < n.records → FitTold n places store room (Err r)
   unfolding FitTold
-  fit-records r e h w c lp ls = e ∙ no-records w c lp ls h
+  fit-records r e h w c lp ls = ap Err e ∙ no-records w c lp ls h
 
   module _ (a : n.records ≤ places) where
-    pub fit-store : (r : MergeAnswer) → r ≡ NotMerged (refusal 15 0) → store.0 < n.store.0 → FitTold n places store room r
+    pub fit-store : (r : MergeRefusal) → r ≡ Neither (refusal 15 0) → store.0 < n.store.0 → FitTold n places store room (Err r)
     unfolding FitTold
-    fit-store r e h w c lp ls = e ∙ no_store w c lp ls a h
+    fit-store r e h w c lp ls = ap Err e ∙ no_store w c lp ls a h
 
     module _ (b : n.store.0 ≤ store.0) where
-      pub fit-large : (r : MergeAnswer) → r ≡ NotMerged (refusal 15 0) → 32_768 < n.octets.0 → FitTold n places store room r
+      pub fit-large : (r : MergeRefusal) → r ≡ Neither (refusal 15 0) → 32_768 < n.octets.0 → FitTold n places store room (Err r)
       unfolding FitTold
-      fit-large r e h w c lp ls = e ∙ no_room w c lp ls a b (omega arith)
+      fit-large r e h w c lp ls = ap Err e ∙ no_room w c lp ls a b (omega arith)
 
-      pub fit-room : (r : MergeAnswer) → r ≡ NotMerged (refusal 15 0) → room.0 < n.octets.0 → FitTold n places store room r
+      pub fit-room : (r : MergeRefusal) → r ≡ Neither (refusal 15 0) → room.0 < n.octets.0 → FitTold n places store room (Err r)
       unfolding FitTold
-      fit-room r e h w c lp ls = e ∙ no_room w c lp ls a b (omega arith)
+      fit-room r e h w c lp ls = ap Err e ∙ no_room w c lp ls a b (omega arith)
 
-      pub fit_all : n.octets.0 ≤ 32_768 → n.octets.0 ≤ room.0 → FitTold n places store room (Merged n.records n.octets)
+      pub fit_all : n.octets.0 ≤ 32_768 → n.octets.0 ≤ room.0 → FitTold n places store room (Ok (records_size n.records n.octets))
       unfolding FitTold
       fit_all h k w c lp ls = all_fit w c lp ls a b h k
 

@@ -1,4 +1,5 @@
 -- The ways through the functions that compare keys and look for one twice.
+use Rattle.std.specs.Prelude.{is_some, Option, None, Some}
 use mathlib.Core.Path.{◌≡◌, refl, sym, ap, ◌∙◌}
 use mathlib.Core.Bool.{Bool, true, false, not, ◌||◌}
 use mathlib.Core.List.{List}
@@ -6,18 +7,17 @@ use Prim.Native.Nat.{ℕ, suc, ◌-◌}
 use native.Mathlib.Omega.{arith}
 use lib.ListN.{drop, get_or}
 use borrow.Author.Tests.{eq-eqb, ne_eqb}
-use Rattle.octets.specs.declared.Lies.{Lies}
 use Rattle.octets.specs.Places.{between}
+use Rattle.octets.specs.declared.Lies.{Lies}
 use Rattle.text.specs.Tokens.{Entries}
 use Rattle.format.specs.Judge.{is_top}
 use Rattle.format.specs.Meaning.{opens}
 use Rattle.compare.specs.declared.walks.Child.{Child}
-use Rattle.compare.specs.declared.walks.Child.TheVariants.{End, Found}
-use Rattle.compare.specs.Walks.{children_in, Children}
+use Rattle.compare.specs.Walks.{child, children_in, Children}
 use Rattle.merge.specs.declared.Services.{Services}
 use Rattle.merge.specs.declared.Services.TheVariants.{ByTag, ByBearers}
 use Rattle.merge.specs.Keys.{merges, key_attribute}
-use Rattle.merging.specs.Searches.{any_child, FindsChild, is_found}
+use Rattle.merging.specs.Searches.{any_child, FindsChild}
 use Rattle.merging.specs.Keyed.{same_at, is_bearer_of, is_foreign, has_foreign, same_bearers, same_service_in, same_key_in, is_partner, is_again, twice_among, twice_inside}
 use Rattle.merging.proofs.Searching.{none_left, one_more, found-any}
 
@@ -109,7 +109,7 @@ module _ (by : Services) (T : Entries) (tag : ℕ) (body part : List ℕ) (behin
   unfolding is_again
   again-cannot h = rw (sym ae ∙ h)
 
-  pub again-found : a ≡ true → (r : Lies) → FindsChild (is_partner by tag T body T) part behind r → (b : Bool) → b ≡ is_found r
+  pub again-found : a ≡ true → (r : Option Lies) → FindsChild (is_partner by tag T body T) part behind r → (b : Bool) → b ≡ is_some r
       → b ≡ is_again by T tag body (children_in (drop behind part))
   unfolding is_again
   again-found h r s b e = e ∙ (found-any (is_partner by tag T body T) part behind r s ∙ rw (sym ae ∙ h))
@@ -144,12 +144,12 @@ module _ (by : Services) (T : Entries) (inside : ℕ → List ℕ → Bool) (par
   pub once-begin : Once by T inside part 0
   once-begin = record { goes = refl }
 
-  module _ (i : ℕ) (inv : Once by T inside part i) (c : Child) (x : Children part i c) where
-    pub once-ended : c ≡ End → false ≡ twice_among by T inside (children_in part)
+  module _ (i : ℕ) (inv : Once by T inside part i) (c : Option Child) (x : Children part i c) where
+    pub once-ended : c ≡ None → false ≡ twice_among by T inside (children_in part)
     unfolding twice_among
     once-ended q = sym (inv.goes ∙ ap (twice_among by T inside) (none_left part i c x q))
 
-    module _ (place from to : ℕ) (q : c ≡ Found place from to) (a : Bool) (ae : a ≡ is_again by T (get_or part place 0) (between part from to) (children_in (drop to part))) where
+    module _ (place from to : ℕ) (q : c ≡ Some (child place from to)) (a : Bool) (ae : a ≡ is_again by T (get_or part place 0) (between part from to) (children_in (drop to part))) where
       turn : twice_among by T inside (children_in part) ≡ a || inside (get_or part place 0) (between part from to) || twice_among by T inside (children_in (drop to part))
       unfolding twice_among
       turn =

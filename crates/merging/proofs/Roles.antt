@@ -1,4 +1,5 @@
 -- What becomes of child elements: the ways through the tests, and what they say of accepted parts.
+use Rattle.std.specs.Prelude.{Some, None, Option as Optional}
 use mathlib.Core.Path.{◌≡◌, refl, sym, ap, ap₂, ◌∙◌, subst, fun_ext}
 use mathlib.Core.Bool.{Bool, true, false, cond, not, ◌&&◌, ◌||◌, false≢true}
 use mathlib.Core.Option.{Option, none, some}
@@ -8,10 +9,9 @@ use native.Mathlib.Omega.{arith}
 use lib.Dec.{eqb}
 use lib.ListN.{length}
 use borrow.Author.Tests.{eq-eqb, ne_eqb, not-true, not-false}
-use Rattle.octets.specs.declared.Lies.{Lies}
-use Rattle.octets.specs.declared.Lies.TheVariants.{Outside, Between}
-use Rattle.octets.specs.Places.{between}
+use Rattle.octets.specs.Places.{between, from_to}
 use Rattle.octets.proofs.Tests.{never}
+use Rattle.octets.specs.declared.Lies.{Lies}
 use Rattle.text.specs.Tokens.{Entries}
 use Rattle.values.specs.Table.{attribute}
 use Rattle.values.specs.Values.{Value}
@@ -31,7 +31,7 @@ use Rattle.merge.proofs.Empty.{either-none, united-none, children-nothing}
 use Rattle.merge.proofs.Fine.{partners-tag}
 use Rattle.merge.proofs.Self.{paired-alone, cannot}
 use Rattle.merge.proofs.Advanced.{merges-opens}
-use Rattle.merging.specs.Searches.{any_child, first_child, Inside, FindsChild, is_found}
+use Rattle.merging.specs.Searches.{any_child, first_child, Inside, FindsChild}
 use Rattle.merging.specs.Keyed.{is_partner}
 use Rattle.merging.proofs.Searching.{found-any}
 use Rattle.merging.proofs.Shown.{Shows, shows}
@@ -50,13 +50,17 @@ module _ (by : Services) (levels tag : ℕ) (es : Entries) (a : List ℕ) (fs : 
   abbrev stays : Bool
   stays = stays_in by levels es tag a fs part
 
-  module _ (q : m ≡ true) (l : Lies) (f : FindsChild (is_partner by tag es a fs) part 0 l) where
+  module _ (q : m ≡ true) (l : Optional Lies) (f : FindsChild (is_partner by tag es a fs) part 0 l) where
     partnered : stays ≡ any_child (is_partner by tag es a fs) (children_in part)
     unfolding stays_in
     partnered = rw (sym me ∙ q)
 
-    pub added-partner : (r : Bool) → r ≡ is_found l → not r ≡ not stays
-    added-partner r e = ap not (e ∙ found-any (is_partner by tag es a fs) part 0 l f ∙ sym partnered)
+    pub added-partner : (r : Bool) → is_some l ≡ not r → r ≡ not stays
+    added-partner r e = go r (partnered ∙ sym (found-any (is_partner by tag es a fs) part 0 l f) ∙ e)
+      where
+        go : (r : Bool) → stays ≡ not r → r ≡ not stays
+        go true s = ap not (sym s)
+        go false s = ap not (sym s)
 
   module _ (q : m ≡ false) where
     pub added-language : tag ≡ 6 → false ≡ not stays
@@ -91,16 +95,16 @@ module _ (by : Services) (tag : ℕ) (es : Entries) (a : List ℕ) (fs : Entries
   unfolding partner_body or_none
   partner-cannot q = rw (sym me ∙ q)
 
-  module _ (q : m ≡ true) (l : Lies) (f : FindsChild (is_partner by tag es a fs) part 0 l) where
+  module _ (q : m ≡ true) (l : Optional Lies) (f : FindsChild (is_partner by tag es a fs) part 0 l) where
     body-found : or_none (body_by part l) ≡ partner_body by es tag a fs part
     unfolding partner_body
     body-found = rw (sym me ∙ q) (ap or_none f.body)
 
-    pub partner-missing : l ≡ Outside → [] ≡ partner_body by es tag a fs part
+    pub partner-missing : l ≡ None → [] ≡ partner_body by es tag a fs part
     unfolding or_none body_by
     partner-missing w = ap (λ x. or_none (body_by part x)) (sym w) ∙ body-found
 
-    module _ (from to : ℕ) (w : l ≡ Between from to) where
+    module _ (from to : ℕ) (w : l ≡ Some (from_to from to)) where
       pub partner-there : between part from to ≡ partner_body by es tag a fs part
       unfolding or_none body_by
       partner-there = ap (λ x. or_none (body_by part x)) (sym w) ∙ body-found

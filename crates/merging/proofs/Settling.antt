@@ -1,4 +1,5 @@
 -- The ways through settle and find_conflict.
+use Rattle.std.specs.Prelude.{Result, Ok, Err}
 use mathlib.Core.Path.{◌≡◌, refl, sym, ap, ap₂, ◌∙◌}
 use mathlib.Core.Bool.{Bool, true, false, not, ◌&&◌, ◌||◌}
 use mathlib.Core.Option.{Option, some}
@@ -15,8 +16,6 @@ use Rattle.values.specs.Table.{known}
 use Rattle.values.specs.Values.{Value}
 use Rattle.format.specs.declared.Refusal.{Refusal}
 use Rattle.format.specs.declared.Counts.{Counts}
-use Rattle.format.specs.declared.ReadAnswer.{ReadAnswer}
-use Rattle.format.specs.declared.ReadAnswer.TheVariants.{Records, NotRead}
 use Rattle.format.specs.Answers.{refusal}
 use Rattle.format.specs.Tree.{Items}
 use Rattle.format.specs.Tree.Items.{item}
@@ -34,10 +33,10 @@ use Rattle.reader.specs.Filling.{share}
 use Rattle.reader.proofs.Opening.{opened}
 use Rattle.reader.proofs.Reading.{was-refused, was-accepted, whole}
 use Rattle.merge.specs.declared.Services.{Services}
+use Rattle.merge.specs.declared.MergeRefusal.{MergeRefusal}
+use Rattle.merge.specs.declared.MergeRefusal.TheVariants.{Basic, Advanced, Neither}
 use Rattle.merge.specs.Merged.{clash, same_top, twice}
 use Rattle.merge.specs.Calls.{conflict}
-use Rattle.merging.specs.declared.Conflict.{Conflict}
-use Rattle.merging.specs.declared.Conflict.TheVariants.{Free, InBasic, InAdvanced, InBoth}
 use Rattle.merging.specs.Calls.{as_conflict, conflict_answer, HasTwice, HasClash, Settles}
 
 -- ---- the meaning of an accepted object is one element with the tag of its first octet
@@ -84,7 +83,7 @@ unfolding conflict
 answered by m n s c x y p q f g = rw (p, q, f, g)
 
 module _ (by : Services) (o p : List ℕ) where
-  pub settle-tops : (a b : ℕ) → a ≡ get_or o 0 0 → b ≡ get_or p 0 0 → (a ≡ b → ⊥) → Settles by o p (InBoth (refusal 20 0))
+  pub settle-tops : (a b : ℕ) → a ≡ get_or o 0 0 → b ≡ get_or p 0 0 → (a ≡ b → ⊥) → Settles by o p (Err (Neither (refusal 20 0)))
   unfolding Settles as_conflict first rule
   settle-tops a b ae be n t u h g =
       sym (answered by (meaning_of t) (meaning_of u) false (clash by (meaning_of t) (meaning_of u)) (twice by (meaning_of t)) (twice by (meaning_of u))
@@ -94,47 +93,47 @@ module _ (by : Services) (o p : List ℕ) where
     same-tops : (t u : Items) → judge o ≡ accepted t → judge p ≡ accepted u → same_top (meaning_of t) (meaning_of u) ≡ true
     same-tops t u h g = tops o p t u h g ∙ eq-eqb (get_or o 0 0) (get_or p 0 0) (sym ae ∙ (e ∙ be))
 
-    pub settle-clash : c ≡ true → Settles by o p (InBoth (refusal 20 0))
+    pub settle-clash : c ≡ true → Settles by o p (Err (Neither (refusal 20 0)))
     unfolding Settles HasClash as_conflict first rule
     settle-clash q t u h g =
         sym (answered by (meaning_of t) (meaning_of u) true true (twice by (meaning_of t)) (twice by (meaning_of u)) (same-tops t u h g) (sym (cs t u h g) ∙ q) refl refl)
 
     module _ (n : c ≡ false) (x : Bool) (xs : HasTwice by o x) where
-      pub settle-basic : x ≡ true → Settles by o p (InBoth (refusal 21 0))
+      pub settle-basic : x ≡ true → Settles by o p (Err (Neither (refusal 21 0)))
       unfolding Settles HasClash HasTwice as_conflict first rule
       settle-basic q t u h g =
           sym (answered by (meaning_of t) (meaning_of u) true false true (twice by (meaning_of u)) (same-tops t u h g) (sym (cs t u h g) ∙ n) (sym (xs t h) ∙ q) refl)
 
       module _ (m : x ≡ false) (y : Bool) (ys : HasTwice by p y) where
-        pub settle-advanced : y ≡ true → Settles by o p (InBoth (refusal 21 0))
+        pub settle-advanced : y ≡ true → Settles by o p (Err (Neither (refusal 21 0)))
         unfolding Settles HasClash HasTwice as_conflict first rule
         settle-advanced q t u h g =
             sym (answered by (meaning_of t) (meaning_of u) true false false true (same-tops t u h g) (sym (cs t u h g) ∙ n) (sym (xs t h) ∙ m) (sym (ys u g) ∙ q))
 
-        pub settle-free : y ≡ false → Settles by o p Free
+        pub settle-free : y ≡ false → Settles by o p (Ok tt)
         unfolding Settles HasClash HasTwice as_conflict first rule
         settle-free q t u h g =
             sym (answered by (meaning_of t) (meaning_of u) true false false false (same-tops t u h g) (sym (cs t u h g) ∙ n) (sym (xs t h) ∙ m) (sym (ys u g) ∙ q))
 
 -- a refusal that was made by its number
-pub settled-by : (by : Services) (o p : List ℕ) (n : ℕ) (r : Conflict) → r ≡ InBoth (refusal n 0) → Settles by o p (InBoth (refusal n 0)) → Settles by o p r
+pub settled-by : (by : Services) (o p : List ℕ) (n : ℕ) (r : MergeRefusal) → r ≡ Neither (refusal n 0) → Settles by o p (Err (Neither (refusal n 0))) → Settles by o p (Err r)
 settled-by by o p n r e s = rw e s
 
 pub ruleset settle-ways = (settle-tops, settle-clash, settle-basic, settle-advanced, settle-free, settled-by)
 
 -- ---- find_conflict
 
-module _ (by : Services) (a b : List ℕ) (ra : ReadAnswer) (ae : ra ≡ judge_answer (headers_of a) (judge a)) where
-  pub conflict-basic : (n : Refusal) → ra ≡ NotRead n → InBasic n ≡ conflict_answer by (judge a) (judge b)
+module _ (by : Services) (a b : List ℕ) (ra : Result Counts Refusal) (ae : ra ≡ judge_answer (headers_of a) (judge a)) where
+  pub conflict-basic : (n : Refusal) → ra ≡ Err n → Err (Basic n) ≡ conflict_answer by (judge a) (judge b)
   unfolding conflict_answer
   conflict-basic n q = sym (ap (λ j. conflict_answer by j (judge b)) (was-refused (headers_of a) (judge a) n (sym q ∙ ae)))
 
-  module _ (m : Counts) (q : ra ≡ Records m) (rb : ReadAnswer) (be : rb ≡ judge_answer (headers_of b) (judge b)) where
-    pub conflict-advanced : (n : Refusal) → rb ≡ NotRead n → InAdvanced n ≡ conflict_answer by (judge a) (judge b)
+  module _ (m : Counts) (q : ra ≡ Ok m) (rb : Result Counts Refusal) (be : rb ≡ judge_answer (headers_of b) (judge b)) where
+    pub conflict-advanced : (n : Refusal) → rb ≡ Err n → Err (Advanced n) ≡ conflict_answer by (judge a) (judge b)
     unfolding conflict_answer
     conflict-advanced n p = sym (ap₂ (conflict_answer by) (was-accepted (headers_of a) (judge a) m (sym q ∙ ae)).is (was-refused (headers_of b) (judge b) n (sym p ∙ be)))
 
-    pub conflict-both : (n : Counts) → rb ≡ Records n → (r : Conflict) → Settles by a b r → r ≡ conflict_answer by (judge a) (judge b)
+    pub conflict-both : (n : Counts) → rb ≡ Ok n → (r : Result (Unit {0}) MergeRefusal) → Settles by a b r → r ≡ conflict_answer by (judge a) (judge b)
     unfolding conflict_answer Settles
     conflict-both n p r c =
         let x = was-accepted (headers_of a) (judge a) m (sym q ∙ ae) in

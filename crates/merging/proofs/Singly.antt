@@ -1,4 +1,5 @@
 -- Single items: the ways through the functions that count and put them, and what two partners' attributes and CDATA come to.
+use Rattle.std.specs.Prelude.{Some, None, Result, Option as Optional}
 use mathlib.Core.Path.{◌≡◌, refl, sym, ap, ap₂, ◌∙◌, subst}
 use mathlib.Core.Bool.{Bool, true, false, cond, false≢true}
 use mathlib.Core.Option.{Option, none, some, map}
@@ -14,12 +15,11 @@ use denote.Enum.Declared.{tag_of}
 use borrow.Author.Tests.{le-leb, lt-ltb}
 use Rattle.octets.specs.Counts.{as_octets}
 use Rattle.octets.specs.declared.counts.Octets.{Octets}
-use Rattle.octets.specs.declared.Put.{Put}
-use Rattle.octets.specs.declared.Lies.{Lies}
-use Rattle.octets.specs.declared.Lies.TheVariants.{Outside, Between}
 use Rattle.octets.specs.Header.{framed}
 use Rattle.octets.specs.Puts.{put_out, Puts}
-use Rattle.octets.specs.Places.{between}
+use Rattle.octets.specs.Places.{between, from_to}
+use Rattle.octets.specs.declared.Lies.{Lies}
+use Rattle.octets.specs.declared.PutError.{PutError}
 use Rattle.text.specs.Tokens.{Entries, entries, expanded}
 use Rattle.text.specs.Index.{Indexes, entries_by}
 use Rattle.text.specs.Weighing.{Widths, weight}
@@ -27,8 +27,6 @@ use Rattle.text.proofs.Widths.{weight_is}
 use Rattle.text.proofs.Index.{indexed-expanded}
 use Rattle.values.specs.declared.Kind.{Kind}
 use Rattle.values.specs.declared.Kind.TheVariants.{HoldsItems, HoldsTokens, HoldsText, HoldsPlain, HoldsTime, HoldsBearer, HoldsNumber}
-use Rattle.values.specs.declared.KnownKind.{KnownKind}
-use Rattle.values.specs.declared.KnownKind.TheVariants.{Known, Unknown}
 use Rattle.values.specs.Table.{known, attribute}
 use Rattle.values.specs.Values.{Value, fits, meant, octets_of}
 use Rattle.values.specs.Calls.{known_kind, normal_octets, default_octets}
@@ -99,7 +97,7 @@ pub ruleset size-ways = (size-text, size-other)
 
 -- ---- lay_value and put_value
 
-module _ (k : Kind) (index table body : List ℕ) (at : ℕ) (before after : List ℕ) (answer : Put) where
+module _ (k : Kind) (index table body : List ℕ) (at : ℕ) (before after : List ℕ) (answer : Result ℕ PutError) where
   out-long : (v f : Bool) (s : List ℕ) → length (cond v (cond f (sets before at s) before) before) ≡ length before
   out-long true true s = length-sets before at s
   out-long true false s = refl
@@ -175,40 +173,40 @@ single-put emit k tag index table body size n m r a b c e u v x =
 
 -- ---- put_either
 
-module _ (emit : Bool) (parent tag : ℕ) (index table a index' table' b : List ℕ) (n : Needs) (before after : List ℕ) (r : Needs) (k : KnownKind) (ke : k ≡ known_kind parent tag) where
+module _ (emit : Bool) (parent tag : ℕ) (index table a index' table' b : List ℕ) (n : Needs) (before after : List ℕ) (r : Needs) (k : Optional Kind) (ke : k ≡ known_kind parent tag) where
   abbrev first : Entries
   first = entries_by index table
 
   abbrev second : Entries
   second = entries_by index' table'
 
-  pub either-unknown : k ≡ Unknown → r ≡ plus n 0 0 0 → EitherPut emit parent tag index table a index' table' b n before before r
+  pub either-unknown : k ≡ None → r ≡ plus n 0 0 0 → EitherPut emit parent tag index table a index' table' b n before before r
   unfolding EitherPut either_in octets_in octets_by either if_there
   either-unknown q e x y = rw (unknown-kind parent tag k ke q) (adds_none emit n before r e)
 
-  module _ (kind : Kind) (q : k ≡ Known kind) (l : Lies) (le : l ≡ counted_span parent tag a) where
-    octets-by : (es : Entries) (part : List ℕ) (s : Lies) → s ≡ counted_span parent tag part → octets_in es parent tag part ≡ map (taken es (some kind)) (body_by part s)
+  module _ (kind : Kind) (q : k ≡ Some kind) (l : Optional Lies) (le : l ≡ counted_span parent tag a) where
+    octets-by : (es : Entries) (part : List ℕ) (s : Optional Lies) → s ≡ counted_span parent tag part → octets_in es parent tag part ≡ map (taken es (some kind)) (body_by part s)
     unfolding octets_in octets_by
     octets-by es part s se = ap₂ (octets_by es) (known-kind parent tag k ke kind q) (sym (counted-at parent tag part s se))
 
-    pub either_first : (from to : ℕ) → l ≡ Between from to → SinglePut emit kind tag index table (between a from to) n before after r → EitherPut emit parent tag index table a index' table' b n before after r
+    pub either_first : (from to : ℕ) → l ≡ Some (from_to from to) → SinglePut emit kind tag index table (between a from to) n before after r → EitherPut emit parent tag index table a index' table' b n before after r
     unfolding EitherPut SinglePut either_in either if_there body_by
     either_first from to w p x y =
         adds_same emit (single tag (taken first (some kind) (between a from to))) (if_there tag (either_in first second parent tag a b)) n before after r
         (sym (ap (λ o. if_there tag (either o (octets_in second parent tag b))) (octets-by first a l le ∙ ap (λ s. map (taken first (some kind)) (body_by a s)) w))) (p x)
 
-    module _ (w : l ≡ Outside) (m : Lies) (me : m ≡ counted_span parent tag b) where
+    module _ (w : l ≡ None) (m : Optional Lies) (me : m ≡ counted_span parent tag b) where
       only-second : either_in first second parent tag a b ≡ map (taken second (some kind)) (body_by b m)
       unfolding either_in either body_by
       only-second = ap₂ either (octets-by first a l le ∙ ap (λ s. map (taken first (some kind)) (body_by a s)) w) (octets-by second b m me)
 
-      pub either_second : (from to : ℕ) → m ≡ Between from to → SinglePut emit kind tag index' table' (between b from to) n before after r → EitherPut emit parent tag index table a index' table' b n before after r
+      pub either_second : (from to : ℕ) → m ≡ Some (from_to from to) → SinglePut emit kind tag index' table' (between b from to) n before after r → EitherPut emit parent tag index table a index' table' b n before after r
       unfolding EitherPut SinglePut if_there body_by
       either_second from to v p x y =
           adds_same emit (single tag (taken second (some kind) (between b from to))) (if_there tag (either_in first second parent tag a b)) n before after r
           (sym (ap (if_there tag) (only-second ∙ ap (λ s. map (taken second (some kind)) (body_by b s)) v))) (p y)
 
-      pub either-nowhere : m ≡ Outside → r ≡ plus n 0 0 0 → EitherPut emit parent tag index table a index' table' b n before before r
+      pub either-nowhere : m ≡ None → r ≡ plus n 0 0 0 → EitherPut emit parent tag index table a index' table' b n before before r
       unfolding EitherPut if_there body_by
       either-nowhere v e x y =
           adds_same emit empty (if_there tag (either_in first second parent tag a b)) n before before r

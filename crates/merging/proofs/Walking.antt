@@ -1,4 +1,5 @@
 -- The walk over two objects: the ways through its functions.
+use Rattle.std.specs.Prelude.{None, Some, Option as Optional}
 use mathlib.Core.Path.{◌≡◌, refl, sym, ap, ap₂, ◌∙◌, subst}
 use mathlib.Core.Bool.{Bool, true, false, cond, false≢true}
 use mathlib.Core.Option.{Option, none, some}
@@ -30,8 +31,7 @@ use Rattle.tags.proofs.Listing.{is-inside, is-value}
 use Rattle.reader.specs.Filling.{Accepts}
 use Rattle.survey.specs.Sizes.{taken}
 use Rattle.compare.specs.declared.walks.Child.{Child}
-use Rattle.compare.specs.declared.walks.Child.TheVariants.{End, Found}
-use Rattle.compare.specs.Walks.{is_meant, children_within, children_in, ChildFound, Children}
+use Rattle.compare.specs.Walks.{child, is_meant, children_within, children_in, ChildFound, Children}
 use Rattle.compare.proofs.Walking.{Told, children-told, child-nothing}
 use Rattle.compare.proofs.Walking.Told.{over, comes}
 use Rattle.compare.proofs.Comparing.{found-ways}
@@ -258,8 +258,8 @@ module _ (emit : Bool) (role : Role) (by : Services) (left : ℕ) (index table a
     };
   }
 
-  module _ (after : List ℕ) (m : Needs) (i : ℕ) (inv : Goes emit role by left index table a index' table' b n before after m i) (c : Child) (x : Children a i c) where
-    pub children-ended : c ≡ End → (k : Needs) → n ≡ plus k 0 0 0 → ChildrenPut emit role by left index table a index' table' b k before after m
+  module _ (after : List ℕ) (m : Needs) (i : ℕ) (inv : Goes emit role by left index table a index' table' b n before after m i) (c : Optional Child) (x : Children a i c) where
+    pub children-ended : c ≡ None → (k : Needs) → n ≡ plus k 0 0 0 → ChildrenPut emit role by left index table a index' table' b k before after m
     unfolding ChildrenPut Children
     children-ended e k ne p q d o j t u l ix iy v w =
         let g = inv.goes p q d o j t u l ix iy v w in
@@ -270,7 +270,7 @@ module _ (emit : Bool) (role : Role) (by : Services) (left : ℕ) (index table a
         adds_same emit (piece_of g.done) (piece_of (chosen role by (means es' t) (means fs' u))) k before after m (ap piece_of (sym (g.all ∙ ap (then g.done) last ∙ then-nothing g.done)))
         (adds-kept emit (piece_of g.done) k n m before after ne g.put)
 
-    module _ (at from to : ℕ) (e : c ≡ Found at from to) where
+    module _ (at from to : ℕ) (e : c ≡ Some (child at from to)) where
       found : ChildFound a i at from to
       unfolding Children
       found = subst (Children a i) e x

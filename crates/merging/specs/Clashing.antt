@@ -1,6 +1,6 @@
 -- What clashes in partners, told of octets, each part under the entries of its own token table. That it is what clashes in their meanings, of accepted octets,
 -- is proved (proofs/ClashSays), so nobody has to believe it.
-use Rattle.std.specs.Prelude.{Bool, false, cond, not, ◌&&◌, ◌||◌, List, ℕ, zero, suc, eqb}
+use Rattle.std.specs.Prelude.{is_some, Bool, false, cond, not, ◌&&◌, ◌||◌, List, ℕ, zero, suc, eqb}
 use Rattle.text.specs.Tokens.{Entries, expanded}
 use Rattle.format.specs.Same.{same_octets}
 use Rattle.survey.specs.Places.{span_of_tag}
@@ -8,12 +8,12 @@ use Rattle.compare.specs.Items.{counted_span}
 use Rattle.compare.specs.Walks.{children_in}
 use Rattle.merge.specs.declared.Services.{Services}
 use Rattle.merge.specs.Keys.{merges}
-use Rattle.merging.specs.Searches.{any_child, is_found}
+use Rattle.merging.specs.Searches.{any_child}
 use Rattle.merging.specs.Keyed.{same_at, is_partner}
 
 -- one attribute of two elements of a tag with two different values
 unfoldable pub is_apart : (tag a : ℕ) → Entries → List ℕ → Entries → List ℕ → Bool
-is_apart tag a T x U y = is_found (counted_span tag a x) && is_found (counted_span tag a y) && not (same_at tag a T x U y)
+is_apart tag a T x U y = is_some (counted_span tag a x) && is_some (counted_span tag a y) && not (same_at tag a T x U y)
 
 -- of as many tags as the number says, from one on
 unfoldable pub any_apart_from : ℕ → (a tag : ℕ) → Entries → List ℕ → Entries → List ℕ → Bool
@@ -22,7 +22,7 @@ any_apart_from (suc n) a tag T x U y = is_apart tag a T x U y || any_apart_from 
 
 -- both have CDATA
 unfoldable pub both_cdata : List ℕ → List ℕ → Bool
-both_cdata x y = is_found (span_of_tag 1 x) && is_found (span_of_tag 1 y)
+both_cdata x y = is_some (span_of_tag 1 x) && is_some (span_of_tag 1 y)
 
 -- a default language that is another
 unfoldable pub is_other : Entries → (language : List ℕ) → Entries → ℕ → List ℕ → Bool

@@ -1,5 +1,5 @@
 -- What the functions that decide a merging tell: the call's own claim stands in merge/specs/Calls.
-use Rattle.std.specs.Prelude.{◌≡◌, true, List, ℕ, ◌<◌, min, length}
+use Rattle.std.specs.Prelude.{◌≡◌, true, List, ℕ, ◌<◌, min, length, Result}
 use Rattle.std.proofs.lemmas.List.Edits.{sets}
 use Rattle.octets.specs.Numbers.{Octets as OctetList}
 use Rattle.octets.specs.declared.counts.Octets.{Octets}
@@ -13,10 +13,11 @@ use Rattle.format.specs.Calls.{Lent, fits_lent}
 use Rattle.format.specs.State.{Memory, lay_tree}
 use Rattle.state.specs.Taking.{lent_by}
 use Rattle.merge.specs.declared.Services.{Services}
-use Rattle.merge.specs.declared.MergeAnswer.{MergeAnswer}
 use Rattle.merge.specs.Sizes.{records_in, stored_in}
 use Rattle.merge.specs.Calls.{misfit, unless_refused, outcome, answer_of}
 use Rattle.merge.specs.Calls.Outcome.{gives}
+use Rattle.merge.specs.declared.Merged.{Merged}
+use Rattle.merge.specs.declared.MergeRefusal.{MergeRefusal}
 use Rattle.merging.specs.declared.counting.Needs.{Needs}
 use Rattle.merging.specs.Takes.{most}
 
@@ -30,11 +31,11 @@ pub record Counted (w : Meaning) (n : Needs) : Type 0 where
 abbrev pub lending : (places : ℕ) (store room : Octets) → Lent
 lending places store room = record { records = places; store = store; room = room }
 
-unfoldable pub FitTold : Needs → (places : ℕ) (store room : Octets) → MergeAnswer → Type 0
+unfoldable pub FitTold : Needs → (places : ℕ) (store room : Octets) → Result Merged MergeRefusal → Type 0
 FitTold n places store room r = (w : Meaning) → Counted w n → places < most → store.0 < most → r ≡ answer_of (unless_refused (misfit (lending places store room) w) (gives w))
 
 -- what is answered of any two objects, with the room as it was
-pub record Decided (by : Services) (basic advanced : List ℕ) (places : ℕ) (store : Octets) (before after : List ℕ) (r : MergeAnswer) : Type 0 where
+pub record Decided (by : Services) (basic advanced : List ℕ) (places : ℕ) (store : Octets) (before after : List ℕ) (r : Result Merged MergeRefusal) : Type 0 where
   pub answers : r ≡ answer_of (outcome by (lending places store (size_of before)) (judge basic) (judge advanced))
   pub leaves : after ≡ before
 

@@ -6,7 +6,7 @@ ghost use Rattle.compare.specs.Walks.{children_in};
 ghost use Rattle.merging.specs.Searches.{any_child};
 ghost use Rattle.merging.specs.Clashing.{is_apart, any_apart_from, both_cdata, is_other, pair_clash, item_clash, clash_below, clash_among};
 
-use crate::children::{any_child, is_found};
+use crate::children::any_child;
 use crate::keys::{is_partner, merges};
 use compare::{find_counted, same_attribute, same_texts};
 use merge::Services;
@@ -25,10 +25,10 @@ fn is_apart(
 ) -> bool
     ensures { result ≡ is_apart tag key (entries_by index_x.now table_x.now) x.now (entries_by index_y.now table_y.now) y.now }
 {
-    if !is_found(find_counted(tag, key, x)) {
+    if find_counted(tag, key, x).is_none() {
         return false;
     }
-    if !is_found(find_counted(tag, key, y)) {
+    if find_counted(tag, key, y).is_none() {
         return false;
     }
     !same_attribute(tag, key, index_x, table_x, x, index_y, table_y, y)
@@ -55,13 +55,11 @@ fn is_any_apart(
 }
 
 // Both bodies have CDATA.
+#[tactic(auto, unfolding(crate::specs::Clashing::both_cdata))]
 fn have_both_cdata(x: &[u8], y: &[u8]) -> bool
     ensures { result ≡ both_cdata x.now y.now }
 {
-    if !is_found(find_item(x, 1)) {
-        return false;
-    }
-    is_found(find_item(y, 1))
+    find_item(x, 1).is_some() && find_item(y, 1).is_some()
 }
 
 // A default language that isn't this one.

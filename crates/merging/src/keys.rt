@@ -208,7 +208,7 @@ pub fn find_partner(
     table_y: &[u8],
     part: &[u8],
     start: usize,
-) -> Lies
+) -> Option<Lies>
     ensures { FindsChild (is_partner by tag (entries_by index_x.now table_x.now) x.now (entries_by index_y.now table_y.now)) part.now start result }
 {
     find_child(part, start, |other, body| {

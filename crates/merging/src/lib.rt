@@ -6,7 +6,7 @@ ghost use Rattle.std.specs.Prelude.{◌≡◌};
 ghost use Rattle.format.specs.Judge.{judge};
 ghost use Rattle.merging.specs.Calls.{HasTwice, HasClash, Settles, conflict_answer};
 ghost use Rattle.format.specs.Answers.{refusal};
-ghost use Rattle.merging.specs.declared.Conflict.TheVariants.{InBoth};
+ghost use Rattle.merge.specs.declared.MergeRefusal.TheVariants.{Neither};
 
 mod children;
 mod clash;
@@ -22,21 +22,12 @@ mod walk;
 
 use crate::clash::is_clash;
 use crate::twice::is_twice;
-use format::{ReadAnswer, Refusal, octet_at, refuse};
+use format::{at_or, refuse};
 use judge::judge;
-use merge::Services;
+use merge::{MergeRefusal, Services};
 pub use merged::merge;
 use survey::table_of;
 use text::index_of;
-
-// Free: nothing is in the way of merging but places, store and room. Else a refusal, and which object it is told of.
-#[derive(Clone, Copy)]
-pub enum Conflict {
-    Free,
-    InBasic(Refusal),
-    InAdvanced(Refusal),
-    InBoth(Refusal),
-}
 
 // 21 of an accepted object, which stands for the items of an element with the tag 0, whose one item is the top, at depth 1 of 16.
 fn has_key_twice(by: Services, object: &[u8]) -> bool
@@ -60,40 +51,42 @@ fn has_clash(by: Services, basic: &[u8], advanced: &[u8]) -> bool
     )
 }
 
-fn refused(number: u8) -> Conflict
-    ensures { result ≡ InBoth (refusal number 0) }
+// A refusal of both objects together, with no place.
+fn neither(number: u8) -> MergeRefusal
+    ensures { result ≡ Neither (refusal number 0) }
 {
-    Conflict::InBoth(refuse(number, 0))
+    MergeRefusal::Neither(refuse(number, 0))
 }
 
 // Two accepted objects.
-fn settle(by: Services, basic: &[u8], advanced: &[u8]) -> Conflict
+fn settle(by: Services, basic: &[u8], advanced: &[u8]) -> Result<(), MergeRefusal>
     ensures { Settles by basic.now advanced.now result }
 {
-    if octet_at(basic, 0) != octet_at(advanced, 0) {
-        return refused(20);
+    if at_or(basic, 0, 0) != at_or(advanced, 0, 0) {
+        return Err(neither(20));
     }
     if has_clash(by, basic, advanced) {
-        return refused(20);
+        return Err(neither(20));
     }
     if has_key_twice(by, basic) {
-        return refused(21);
+        return Err(neither(21));
     }
     if has_key_twice(by, advanced) {
-        return refused(21);
+        return Err(neither(21));
     }
-    Conflict::Free
+    Ok(())
 }
 
-// Refused: 1 to 13 of Basic, then 1 to 13 of Advanced, then 20, then 21, services told apart as `by` says.
-pub fn find_conflict(by: Services, basic: &[u8], advanced: &[u8]) -> Conflict
+// Refused: 1 to 13 of Basic, then 1 to 13 of Advanced, then 20, then 21, services told apart as `by` says. Else nothing is in the way of merging but places, store
+// and room.
+pub fn find_conflict(by: Services, basic: &[u8], advanced: &[u8]) -> Result<(), MergeRefusal>
     ensures { result ≡ conflict_answer by (judge basic.now) (judge advanced.now) }
 {
     match judge(basic) {
-        ReadAnswer::NotRead(refusal) => Conflict::InBasic(refusal),
-        ReadAnswer::Records(_) => match judge(advanced) {
-            ReadAnswer::NotRead(refusal) => Conflict::InAdvanced(refusal),
-            ReadAnswer::Records(_) => settle(by, basic, advanced),
+        Err(refusal) => Err(MergeRefusal::Basic(refusal)),
+        Ok(_) => match judge(advanced) {
+            Err(refusal) => Err(MergeRefusal::Advanced(refusal)),
+            Ok(_) => settle(by, basic, advanced),
         },
     }
 }

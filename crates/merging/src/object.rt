@@ -1,15 +1,12 @@
 // Two accepted objects merged: how much the result takes, or its octets in the room; and whether it fits what is lent.
-ghost use Rattle.std.specs.Prelude.{◌≡◌};
-ghost use Rattle.format.specs.Answers.{refusal};
-ghost use Rattle.merge.specs.declared.MergeAnswer.TheVariants.{NotMerged};
 ghost use Rattle.merging.specs.Walks.{ObjectPut};
 ghost use Rattle.merging.specs.Deciding.{FitTold};
 
 use crate::counting::Needs;
+use crate::neither;
 use crate::partners::Role;
 use crate::walk::put_children;
-use format::refuse;
-use merge::{MergeAnswer, Services};
+use merge::{MergeRefusal, Merged, Services};
 use octets::Octets;
 use survey::table_of;
 use text::index_of;
@@ -43,31 +40,29 @@ pub fn put_object(out: &mut [u8], by: Services, basic: &[u8], advanced: &[u8], e
     )
 }
 
-fn refused(number: u8) -> MergeAnswer
-    ensures { result ≡ NotMerged (refusal number 0) }
-{
-    MergeAnswer::NotMerged(refuse(number, 0))
-}
-
 // A result that takes so much, held against what is lent: places for records, octets of a store and of a room.
-pub fn fit(needs: Needs, places: usize, store: Octets, room: Octets) -> MergeAnswer
+pub fn fit(
+    needs: Needs,
+    places: usize,
+    store: Octets,
+    room: Octets,
+) -> Result<Merged, MergeRefusal>
     ensures { FitTold needs places store room result }
 {
     if needs.records > places {
-        return refused(14);
+        return Err(neither(14));
     }
     if needs.store.0 > store.0 {
-        return refused(15);
+        return Err(neither(15));
     }
     if needs.octets.0 > 32_768 {
-        return refused(15);
+        return Err(neither(15));
     }
     if needs.octets.0 > room.0 {
-        return refused(15);
+        return Err(neither(15));
     }
-    let size = needs.octets;
-    MergeAnswer::Merged {
+    Ok(Merged {
         records: needs.records,
-        size,
-    }
+        size: needs.octets,
+    })
 }

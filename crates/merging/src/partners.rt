@@ -4,11 +4,9 @@ ghost use Rattle.text.specs.Index.{entries_by};
 ghost use Rattle.merging.specs.Among.{language_in};
 ghost use Rattle.merging.specs.Roles.{stays_in, is_put, partner_body, partner_in};
 
-use crate::children::is_found;
 use crate::equal::{has_equal, has_language};
 use crate::keys::{find_partner, merges};
 use merge::Services;
-use octets::Lies;
 
 // What the child elements of a part are walked over for. Language: Advanced's default language, where Basic has none. Own: Basic's, each become one with its
 // partner. Added: Advanced's others that come behind.
@@ -35,7 +33,7 @@ fn is_added(
     ensures { result ≡ not (stays_in by levels (entries_by index_a.now table_a.now) tag a.now (entries_by index_b.now table_b.now) part.now) }
 {
     if merges(tag) {
-        return !is_found(find_partner(by, tag, index_a, table_a, a, index_b, table_b, part, 0));
+        return find_partner(by, tag, index_a, table_a, a, index_b, table_b, part, 0).is_none();
     }
     if tag == 6 {
         return false;
@@ -88,12 +86,12 @@ fn partner_of<'a>(
     ensures { result.now ≡ partner_body by (entries_by index_a.now table_a.now) tag a.now (entries_by index_b.now table_b.now) part.now }
 {
     if merges(tag) {
-        let Lies::Between { from, to } = find_partner(
+        let Some(lies) = find_partner(
             by, tag, index_a, table_a, a, index_b, table_b, part, 0,
         ) else {
             return &part[0..0];
         };
-        return &part[from..to];
+        return &part[lies.from..lies.to];
     }
     &part[0..0]
 }

@@ -10,10 +10,10 @@ ghost use Rattle.merging.specs.Takes.{most, HeaderPut, ElementClosed, ValueLaid,
 
 use crate::counting::{Needs, add, excess, keep, stopped};
 use compare::find_counted;
-use octets::{Lies, Octets, Put, header_size, move_up, write_header};
+use octets::{Octets, PutError, header_size, move_up, write_header};
 use survey::value_size;
 use text::{expand, expanded_size, widths_of};
-use values::{Kind, KnownKind, known_kind, put_normal};
+use values::{Kind, known_kind, put_normal};
 
 // The header of an item whose body has so many octets, and the item's record.
 fn put_header(out: &mut [u8], needs: Needs, tag: u8, size: Octets, emit: bool) -> Needs
@@ -76,7 +76,7 @@ fn lay_value(
     index: &[usize; 32],
     table: &[u8],
     body: &[u8],
-) -> Put
+) -> Result<usize, PutError>
     ensures { ValueLaid kind index.now table.now body.now at out.old out.new }
 {
     match kind {
@@ -140,16 +140,18 @@ pub fn put_either(
 ) -> Needs
     ensures { EitherPut emit parent tag index_a.now table_a.now a.now index_b.now table_b.now b.now needs out.old out.new result }
 {
-    let KnownKind::Known(kind) = known_kind(parent, tag) else {
+    let Some(kind) = known_kind(parent, tag) else {
         return keep(needs);
     };
-    if let Lies::Between { from, to } = find_counted(parent, tag, a) {
-        return put_single(out, needs, kind, tag, index_a, table_a, &a[from..to], emit);
+    if let Some(lies) = find_counted(parent, tag, a) {
+        let body = &a[lies.from..lies.to];
+        return put_single(out, needs, kind, tag, index_a, table_a, body, emit);
     }
-    let Lies::Between { from, to } = find_counted(parent, tag, b) else {
+    let Some(lies) = find_counted(parent, tag, b) else {
         return keep(needs);
     };
-    put_single(out, needs, kind, tag, index_b, table_b, &b[from..to], emit)
+    let body = &b[lies.from..lies.to];
+    put_single(out, needs, kind, tag, index_b, table_b, body, emit)
 }
 
 // The attributes of two partners, by rising tag. No element knows one above 0x86.

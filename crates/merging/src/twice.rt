@@ -4,9 +4,8 @@ ghost use Rattle.text.specs.Index.{entries_by};
 ghost use Rattle.compare.specs.Walks.{children_in};
 ghost use Rattle.merging.specs.Keyed.{is_again, twice_inside, twice_among};
 
-use crate::children::is_found;
 use crate::keys::{find_partner, merges};
-use compare::{Child, next_child};
+use compare::next_child;
 use merge::Services;
 use tags::holds_items;
 
@@ -25,7 +24,7 @@ fn is_again(
     if !merges(tag) {
         return false;
     }
-    is_found(find_partner(by, tag, index, table, body, index, table, part, behind))
+    find_partner(by, tag, index, table, body, index, table, part, behind).is_some()
 }
 
 // A key twice inside an element, as deep as `levels` levels of elements.
@@ -56,17 +55,16 @@ pub fn is_twice(by: Services, levels: usize, index: &[usize; 32], table: &[u8], 
 {
     // Kept: this walk's step is data, and it asks of what lies behind the child too, which find_child doesn't tell its test.
     let mut i: usize = 0;
-    loop {
-        let Child::Found { at, from, to } = next_child(part, i) else {
-            return false;
-        };
-        let tag = part[at];
-        if is_again(by, index, table, tag, &part[from..to], part, to) {
+    while let Some(child) = next_child(part, i) {
+        let tag = part[child.at];
+        let body = &part[child.from..child.to];
+        if is_again(by, index, table, tag, body, part, child.to) {
             return true;
         }
-        if is_inside_twice(by, levels, index, table, tag, &part[from..to]) {
+        if is_inside_twice(by, levels, index, table, tag, body) {
             return true;
         }
-        i = to;
+        i = child.to;
     }
+    false
 }

@@ -8,7 +8,7 @@ ghost use Rattle.merging.specs.Walks.{ElementPut, InsidePut, ElementsPut, Chosen
 use crate::counting::{Needs, add, keep};
 use crate::partners::{Role, is_put, partner_in};
 use crate::put::{close_element, put_attributes, put_either, put_single};
-use compare::{Child, next_child};
+use compare::next_child;
 use merge::Services;
 use octets::Octets;
 use tags::{Listed, listed_as};
@@ -223,25 +223,23 @@ pub fn put_children(
     let mut done = keep(needs);
     // Kept: this walk's step is data, and each turn puts into the room and counts on, which a test that find_child asks can't.
     let mut i: usize = 0;
-    loop {
-        let Child::Found { at, from, to } = next_child(a, i) else {
-            return done;
-        };
+    while let Some(child) = next_child(a, i) {
         done = put_child(
             out,
             done,
             role,
             by,
-            a[at],
+            a[child.at],
             left,
             index_a,
             table_a,
-            &a[from..to],
+            &a[child.from..child.to],
             index_b,
             table_b,
             b,
             emit,
         );
-        i = to;
+        i = child.to;
     }
+    done
 }

@@ -22,7 +22,7 @@ use Rattle.format.proofs.Fine.{known_is}
 use Rattle.format.proofs.Means.{attribute-shut}
 use Rattle.format.proofs.Defaults.{default-attribute}
 use Rattle.survey.specs.Normal.{framed_size, normal_size}
-use Rattle.survey.proofs.Sizes.{size-inside}
+use Rattle.survey.proofs.NormalSizes.{size-inside}
 use Rattle.survey.proofs.Ways.{framed-length, value-fits, item-known, item-default}
 use Rattle.state.specs.Order.{item_adds}
 

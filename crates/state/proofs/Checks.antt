@@ -106,7 +106,8 @@ module _ (l : Lists) (lent : List ℕ) (n : ℕ) where
     unfolding filled_from as_filled
     lying-end h = let z : n - i ≡ 0 = omega arith in sym (ap as_filled (v.rest ∙ ap (λ m. from m i at) z))
 
-    module _ (h : i < n) (g : ℕ) (ge : g ≡ nth l.tags (nth l.parents i)) (r : Optional ℕ) (re : r ≡ as_filled (lies_to (listed_as (known g (nth l.tags i))) at lent (nth l.starts i) (nth l.sizes i))) where
+    module _ (h : i < n) (g : ℕ) (ge : g ≡ nth l.tags (nth l.parents i)) (r : Optional ℕ)
+        (re : r ≡ as_filled (lies_to (listed_as (known g (nth l.tags i))) at lent (nth l.starts i) (nth l.sizes i))) where
       abbrev one : Option ℕ
       one = lies_to (listed_as (known (nth l.tags (nth l.parents i)) (nth l.tags i))) at lent (nth l.starts i) (nth l.sizes i)
 
@@ -197,22 +198,29 @@ module _ (m : Memory) (n : ℕ) where
     unfolding right_below
     righting-end h = let z : i ≡ 0 = omega arith in sym (v.rest ∙ ap (λ k. right k sums) z)
 
-    module _ (h : 0 < i) (o : OctetCount) (oe : o.0 ≡ cond (opens (nth m.lists.tags (i - 1))) (nth sums (suc (nth m.lists.depths (i - 1)))) (nth m.lists.sizes (i - 1))) where
+    module _ (h : 0 < i) (o : OctetCount)
+        (oe : o.0 ≡ cond (opens (nth m.lists.tags (i - 1))) (nth sums (suc (nth m.lists.depths (i - 1)))) (nth m.lists.sizes (i - 1))) where
       abbrev sum : ℕ
-      sum = nth sums (nth m.lists.depths (i - 1)) + added_by (nth m.lists.tags (nth m.lists.parents (i - 1))) (nth m.lists.tags (i - 1)) (nth m.lists.starts (i - 1)) (nth m.lists.sizes (i - 1)) m.store (nth m.bodies (i - 1))
+      sum =
+          nth sums (nth m.lists.depths (i - 1))
+          + added_by (nth m.lists.tags (nth m.lists.parents (i - 1)))
+          (nth m.lists.tags (i - 1)) (nth m.lists.starts (i - 1)) (nth m.lists.sizes (i - 1)) m.store (nth m.bodies (i - 1))
 
       abbrev after : List ℕ
       after = set (set sums (suc (nth m.lists.depths (i - 1))) 0) (nth m.lists.depths (i - 1)) sum
 
       right-step : right n no_sums ≡ eqb (nth m.bodies (i - 1)) o.0 && (leb sum 32_768 && right (i - 1) after)
       unfolding right_below
-      right-step = let z : i ≡ suc (i - 1) = omega arith in v.rest ∙ (ap (λ k. right k sums) z ∙ ap (λ b. eqb (nth m.bodies (i - 1)) b && (leb sum 32_768 && right (i - 1) after)) (sym oe))
+      right-step =
+          let z : i ≡ suc (i - 1) = omega arith in
+          v.rest ∙ (ap (λ k. right k sums) z ∙ ap (λ b. eqb (nth m.bodies (i - 1)) b && (leb sum 32_768 && right (i - 1) after)) (sym oe))
 
       pub righting-wrong : (nth m.bodies (i - 1) ≡ o.0 → ⊥) → false ≡ right_in m n no_sums
       righting-wrong q = sym (right-step ∙ rw (ne_eqb (nth m.bodies (i - 1)) o.0 q))
 
       module _ (q : nth m.bodies (i - 1) ≡ o.0) (g : ℕ) (ge : g ≡ nth m.lists.tags (nth m.lists.parents (i - 1)))
-          (part : OctetCount) (pe : part.0 ≡ added_by g (nth m.lists.tags (i - 1)) (nth m.lists.starts (i - 1)) (nth m.lists.sizes (i - 1)) m.store (nth m.bodies (i - 1)))
+          (part : OctetCount)
+          (pe : part.0 ≡ added_by g (nth m.lists.tags (i - 1)) (nth m.lists.starts (i - 1)) (nth m.lists.sizes (i - 1)) m.store (nth m.bodies (i - 1)))
           (r : Optional OctetCount) (re : r ≡ short (nth sums (nth m.lists.depths (i - 1)) + part.0)) where
         sum-is : r ≡ short sum
         sum-is =
@@ -222,7 +230,8 @@ module _ (m : Memory) (n : ℕ) where
         pub righting-over : r ≡ None → false ≡ right_in m n no_sums
         righting-over l = sym (right-step ∙ rw (eq-eqb (nth m.bodies (i - 1)) o.0 q, lt-leb sum 32_768 (short-not sum (sym sum-is ∙ l))))
 
-        pub righting-next : (total : OctetCount) → r ≡ Some total → (b : List ℕ) → b ≡ set (set sums (suc (nth m.lists.depths (i - 1))) 0) (nth m.lists.depths (i - 1)) total.0
+        pub righting-next : (total : OctetCount) → r ≡ Some total → (b : List ℕ)
+            → b ≡ set (set sums (suc (nth m.lists.depths (i - 1))) 0) (nth m.lists.depths (i - 1)) total.0
             → Righting m n (i - 1) b
         righting-next total l b be =
             let whole = short-is sum total (sym sum-is ∙ l) in

@@ -103,7 +103,8 @@ module _ (n : ℕ) (m : Memory) where
                 let s = same_octets (take n m.bodies) (body_sizes 0 t) in
                 let l = leb (length (encode (means [] t))) 32_768 in
                 let both : s && l ≡ true = sym (right-sizes (row m.lists) n m.store m.bodies t x long packs) ∙ (sym re ∙ not-false r rr) in
-                sym (ap held_as (is_held n m t x packs (same-octets (take n m.bodies) (body_sizes 0 t) (and_left s l both)) (leb-true (length (encode (means [] t))) 32_768 (and_right s l both))
+                sym (ap held_as (is_held n m t x packs (same-octets (take n m.bodies) (body_sizes 0 t) (and_left s l both))
+                (leb-true (length (encode (means [] t))) 32_768 (and_right s l both))
                 (leb-true n (places m.lists) (few (leb n (places m.lists)) refl)) long))
             go false p =
                 none-held (λ u v.

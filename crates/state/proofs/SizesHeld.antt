@@ -31,7 +31,7 @@ use Rattle.format.proofs.Rebuilt.{Whole, whole-count}
 use Rattle.format.proofs.Tabled.{left, left-all, left-none, Stands, item-stands, count-item}
 use Rattle.format.proofs.Loading.{loaded-held, loaded-single}
 use Rattle.survey.specs.Normal.{framed_size, normal_size}
-use Rattle.survey.proofs.Sizes.{size-whole}
+use Rattle.survey.proofs.NormalSizes.{size-whole}
 use Rattle.state.specs.Order.{item_adds, added_by, right_below, no_sums, nth}
 use Rattle.state.proofs.HeldTree.{sizes-count}
 use Rattle.state.proofs.BodySizes.{body_size, size-open, size-shut, open-counts, size-item}

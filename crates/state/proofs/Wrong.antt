@@ -1,5 +1,5 @@
 -- Wrong answers of `held`, and of what is asked of a size or a record, refuted by computing the definitions at closed memory.
-use Rattle.std.specs.Prelude.{Some, None}
+use Rattle.std.specs.Prelude.{Option, Some, None}
 use mathlib.Core.Path.{◌≡◌, refl, sym, ◌∙◌}
 use mathlib.Core.List.{List, [], ◌∷◌}
 use Prim.Native.Nat.{ℕ}
@@ -61,23 +61,23 @@ computed = record { said = refl; default = refl; counted-in = refl; gap = refl; 
 
 -- a tree told as none, where a default isn't counted in the sizes of the elements around it
 pub default-untold : held_as (tree_held 4 (day 0 (4 ∷ 2 ∷ 0 ∷ 1 ∷ []) (1 ∷ []))) ≡ None → ⊥
-default-untold h = let e : None ≡ Some 1 = sym h ∙ computed.default in let z : ◌≡◌ {A = ℕ} 0 1 = cc in omega arith
+default-untold h = let e : ◌≡◌ {A = Option ℕ} None (Some 1) = sym h ∙ computed.default in let z : ◌≡◌ {A = ℕ} 0 1 = cc in omega arith
 
 -- sizes that count a default
 pub default-counted : held_as (tree_held 4 (day 0 (7 ∷ 5 ∷ 3 ∷ 1 ∷ []) (1 ∷ []))) ≡ Some 1 → ⊥
-default-counted h = let e : None ≡ Some 1 = sym computed.counted-in ∙ h in let z : ◌≡◌ {A = ℕ} 0 1 = cc in omega arith
+default-counted h = let e : ◌≡◌ {A = Option ℕ} None (Some 1) = sym computed.counted-in ∙ h in let z : ◌≡◌ {A = ℕ} 0 1 = cc in omega arith
 
 -- a store with a gap
 pub gap-held : held_as (tree_held 4 (day 1 (7 ∷ 5 ∷ 3 ∷ 1 ∷ []) (9 ∷ 2 ∷ []))) ≡ Some 2 → ⊥
-gap-held h = let e : None ≡ Some 2 = sym computed.gap ∙ h in let z : ◌≡◌ {A = ℕ} 0 1 = cc in omega arith
+gap-held h = let e : ◌≡◌ {A = Option ℕ} None (Some 2) = sym computed.gap ∙ h in let z : ◌≡◌ {A = ℕ} 0 1 = cc in omega arith
 
 -- all of the lent store told as taken
 pub whole-store : held_as (tree_held 4 (day 0 (7 ∷ 5 ∷ 3 ∷ 1 ∷ []) (2 ∷ 9 ∷ []))) ≡ Some 2 → ⊥
-whole-store h = let e : Some 2 ≡ Some 1 = sym h ∙ computed.said in let z : ◌≡◌ {A = ℕ} 2 1 = cc in omega arith
+whole-store h = let e : ◌≡◌ {A = Option ℕ} (Some 2) (Some 1) = sym h ∙ computed.said in let z : ◌≡◌ {A = ℕ} 2 1 = cc in omega arith
 
 -- a value that isn't in its normal octets
 pub minus-zero-held : held_as (tree_held 2 (made 5 (7 ∷ 5 ∷ []) (0x30 ∷ 0xD4 ∷ 0x10 ∷ 0x00 ∷ 0x20 ∷ []))) ≡ Some 5 → ⊥
-minus-zero-held h = let e : None ≡ Some 5 = sym computed.minus-zero ∙ h in let z : ◌≡◌ {A = ℕ} 0 1 = cc in omega arith
+minus-zero-held h = let e : ◌≡◌ {A = Option ℕ} None (Some 5) = sym computed.minus-zero ∙ h in let z : ◌≡◌ {A = ℕ} 0 1 = cc in omega arith
 
 -- the short header still taken for a body of 254 octets, the long one for 253
 pub framed-told : (framed_size 253 ≡ 255) × (framed_size 254 ≡ 258)

@@ -12,22 +12,18 @@ use Rattle.format.specs.Judge.Judged.{refused, accepted}
 use Rattle.format.specs.Meaning.{means, encode, normal_of}
 use Rattle.format.specs.Loaded.{loaded_of}
 use Rattle.format.specs.Calls.{Lent, roomy, fits_lent, edit_answer, write_answer, write_octets, normal_answer, handed}
-use Rattle.format.specs.Lent.{six, shared_lists, lent_lists}
+use Rattle.format.specs.Lent.{six, shared_lists}
 use Rattle.format.specs.State.{Memory, places_in, body_sizes, packed_store, lay_tree, tree_in, tree_held}
 use Rattle.state.specs.declared.lent.Memory.{Memory as MemoryShared}
-use Rattle.state.specs.declared.lent.MemoryMut.{MemoryMut}
 
 -- the memory that eight lent slices are
 abbrev pub memory : (tags kinds depths parents starts sizes bodies store : List ℕ) → Memory
 memory tags kinds depths parents starts sizes bodies store =
     record { lists = six tags kinds depths parents starts sizes; bodies = bodies; store = store }
 
--- and those of a struct of references: to read in, and to write in
+-- and that of a struct of references to them
 abbrev pub shared_memory : MemoryShared → Memory
 shared_memory m = record { lists = shared_lists m.records; bodies = m.bodies.now; store = m.store.now }
-
-abbrev pub lent_memory : MemoryMut → Memory
-lent_memory m = record { lists = lent_lists m.records; bodies = m.bodies.now; store = m.store.now }
 
 -- "14 if its records don't fit; then 15 exactly when its texts and values together exceed the store or its normal form 32,768 octets", or so many octets as the caller
 -- has room for

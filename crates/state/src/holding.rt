@@ -61,7 +61,14 @@ fn lie_all(n: usize, records: &Records, store: &[u8]) -> Option<usize>
     let mut at: usize = 0;
     for i in 0..n {
         let element = at_or(records.tags, records.parents[i] as usize, 0);
-        at = lies_to(element, at, store, records.tags[i], records.starts[i], records.sizes[i])?;
+        at = lies_to(
+            element,
+            at,
+            store,
+            records.tags[i],
+            records.starts[i],
+            records.sizes[i],
+        )?;
     }
     Some(at)
 }

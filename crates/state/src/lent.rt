@@ -1,10 +1,12 @@
 // Lent memory: the records in their six lists, the size of each record's body in normal form in a seventh, and the texts and values in the store.
 ghost use Rattle.std.specs.Prelude.{◌≡◌};
-ghost use Rattle.state.specs.Taking.{shared_memory, lent_memory};
+ghost use Rattle.state.specs.Taking.{memory, shared_memory};
 
-use format::{Records, RecordsMut};
+use format::Records;
 
 // Memory to read in.
+// Kept: memory to write in is lent as eight slices, as C lends it (`spi_insert`). A struct of them was tried, and the proof didn't close: each function that is
+// lent one has to promise that it holds the same references after, and the borrow checker has no rule for C's slices made into one that holds a `RecordsMut`.
 #[derive(Clone, Copy)]
 pub struct Memory<'m> {
     pub records: Records<'m>,
@@ -12,22 +14,32 @@ pub struct Memory<'m> {
     pub store: &'m [u8],
 }
 
-// Memory to write in.
-pub struct MemoryMut<'m> {
-    pub records: RecordsMut<'m>,
-    pub bodies: &'m mut [u16],
-    pub store: &'m mut [u8],
-}
-
-impl MemoryMut<'_> {
-    // The same memory to read in, as long as it is lent for it.
-    pub fn as_memory(&self) -> Memory<'_>
-        ensures { shared_memory result ≡ lent_memory self.now }
+impl<'m> Memory<'m> {
+    // The memory that eight slices are.
+    pub fn of(
+        tags: &'m [u8],
+        kinds: &'m [u8],
+        depths: &'m [u8],
+        parents: &'m [u16],
+        starts: &'m [u16],
+        sizes: &'m [u16],
+        bodies: &'m [u16],
+        store: &'m [u8],
+    ) -> Memory<'m>
+        ensures { shared_memory result ≡ memory tags.now kinds.now depths.now parents.now starts.now sizes.now bodies.now store.now }
     {
+        let records = Records {
+            tags,
+            kinds,
+            depths,
+            parents,
+            starts,
+            sizes,
+        };
         Memory {
-            records: self.records.as_records(),
-            bodies: &*self.bodies,
-            store: &*self.store,
+            records,
+            bodies,
+            store,
         }
     }
 }

@@ -6,4 +6,4 @@ mod holding;
 mod lent;
 
 pub use holding::{added_by, framed_size, held, item_adds};
-pub use lent::{Memory, MemoryMut};
+pub use lent::Memory;

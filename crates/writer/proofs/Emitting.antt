@@ -26,12 +26,12 @@ use Rattle.writer.specs.declared.emit.Role.{Role}
 use Rattle.writer.specs.declared.emit.Role.TheVariants.{Gone, Element, Attribute, Other}
 use Rattle.writer.specs.declared.emit.Reached.{Reached}
 use Rattle.survey.specs.Normal.{item_octets, attribute_octets, later_octets}
-use Rattle.writer.specs.Steps.{four_of, items_from, Holding, role_of, body_at, BodyAt, Fitting, Ordered, limit_of, Stands, FindsLowest, body_octets}
+use Rattle.writer.specs.Steps.{items_from, Holding, role_of, body_at, BodyAt, Fitting, Ordered, limit_of, Stands, FindsLowest, body_octets}
 use Rattle.writer.specs.Steps.{element_octets, SizesStand, Emits, Standing, AsLaid}
 use Rattle.survey.proofs.Rising.{rising-seven, rising-skip}
 use Rattle.writer.proofs.Copied.{laid-inside, laid-own, laid-after, laid-found}
 use Rattle.writer.proofs.Finding.{tag-most, found-octets, none_between, found-body}
-use Rattle.survey.proofs.Sizes.{opens-no-attribute}
+use Rattle.survey.proofs.NormalSizes.{opens-no-attribute}
 use Rattle.writer.proofs.Lays.{fitting-left, fitting-right}
 use Rattle.writer.proofs.Heading.{head_small, head-fits, one-fits, other_fits as other-fits-behind, headed-laid}
 use Rattle.writer.proofs.Rows.{from-stop, from-single, from-nested, from-ahead, from-within, ordered-inside, ordered-behind}
@@ -59,42 +59,42 @@ module _ (depth own tag : ℕ) where
       role-other q a = rw (eq-eqb own depth h, sym oe ∙ q, le-ltb 0x7F tag (omega arith))
 
 -- a record's body as a part of the lent octets
-module _ (p tag i : ℕ) (starts sizes lent : List ℕ) where
+module _ (p tag i : ℕ) (l : Lists) (lent : List ℕ) where
   abbrev part : List ℕ
-  part = take (get_or starts i 0 + get_or sizes i 0 - get_or starts i 0) (drop (get_or starts i 0) lent)
+  part = take (get_or l.starts i 0 + get_or l.sizes i 0 - get_or l.starts i 0) (drop (get_or l.starts i 0) lent)
 
-  same_body : part ≡ body_at i starts sizes lent
+  same_body : part ≡ body_at i l lent
   unfolding body_at
   same_body = rw add-sub_cancel_left
 
-  pub body-fits : (stored : Bool) (to room : ℕ) → (stored ≡ true → Standing p tag (body_at i starts sizes lent)) → Fitting (item_octets p tag (body_at i starts sizes lent)) to room
+  pub body-fits : (stored : Bool) (to room : ℕ) → (stored ≡ true → Standing p tag (body_at i l lent)) → Fitting (item_octets p tag (body_at i l lent)) to room
       → (stored ≡ true → Standing p tag part) × Fitting (item_octets p tag part) to room
   body-fits stored to room s f = rw same_body (s, f)
 
-  pub body-laid : (to : ℕ) (before after : List ℕ) (stop : ℕ) → Lays (item_octets p tag part) to before after stop → Lays (item_octets p tag (body_at i starts sizes lent)) to before after stop
+  pub body-laid : (to : ℕ) (before after : List ℕ) (stop : ℕ) → Lays (item_octets p tag part) to before after stop → Lays (item_octets p tag (body_at i l lent)) to before after stop
   body-laid to before after stop h = rw same_body at h
 
 -- attributes by rising tag
-module _ (p n : ℕ) (tags depths starts sizes lent : List ℕ) (at depth : ℕ) where
+module _ (p n : ℕ) (l : Lists) (lent : List ℕ) (at depth : ℕ) where
   abbrev inside : Items
-  inside = (items_from (four_of tags depths starts sizes) n lent depth at).0
+  inside = (items_from l n lent depth at).0
 
   -- the loop's invariant: the attributes before the next one are written, the others are left
   pub record Risen (to : ℕ) (before room : List ℕ) (stop : ℕ) (a : Option Lowest) : Type 0 where
     pub high : 0x80 ≤ limit_of a
-    pub stands : (found : Lowest) → a ≡ Some found → Stands n tags depths at depth found
+    pub stands : (found : Lowest) → a ≡ Some found → Stands n l at depth found
     pub done : List ℕ
     pub lays : Lays done to before room stop
     pub left : attribute_octets p inside ≡ done ++ rising (0x87 - limit_of a) (limit_of a) (attributes_in [] p inside)
 
   -- up to the next attribute from a tag on there is none
-  skipped : Ordered p inside → (least : ℕ) (a : Option Lowest) → 0x80 ≤ least → FindsLowest n tags depths at depth least a
+  skipped : Ordered p inside → (least : ℕ) (a : Option Lowest) → 0x80 ≤ least → FindsLowest n l at depth least a
       → rising (0x87 - least) least (attributes_in [] p inside) ≡ rising (0x87 - limit_of a) (limit_of a) (attributes_in [] p inside)
   skipped o least a h f =
-      rising-skip least (limit_of a) (attributes_in [] p inside) f.from (tag-most n tags depths at depth a f.stands)
-      (none_between p n tags depths starts sizes lent at depth o a least h f)
+      rising-skip least (limit_of a) (attributes_in [] p inside) f.from (tag-most n l at depth a f.stands)
+      (none_between p n l lent at depth o a least h f)
 
-  pub risen-start : Ordered p inside → (to : ℕ) (room : List ℕ) (a : Option Lowest) → FindsLowest n tags depths at depth 0x80 a → Risen to room room to a
+  pub risen-start : Ordered p inside → (to : ℕ) (room : List ℕ) (a : Option Lowest) → FindsLowest n l at depth 0x80 a → Risen to room room to a
   risen-start o to room a f = record {
     high = f.from;
     stands = f.stands;
@@ -112,7 +112,7 @@ module _ (p n : ℕ) (tags depths starts sizes lent : List ℕ) (at depth : ℕ)
         rw e inv.lays
 
     module _ (a : Lowest) (is : next ≡ Some a) where
-      abbrev found : Stands n tags depths at depth a
+      abbrev found : Stands n l at depth a
       found = inv.stands a is
 
       limit-tag : limit_of next ≡ a.tag
@@ -123,7 +123,7 @@ module _ (p n : ℕ) (tags depths starts sizes lent : List ℕ) (at depth : ℕ)
 
     module _ (o : Ordered p inside) (a : Lowest) (is : next ≡ Some a) where
       abbrev one : List ℕ
-      one = item_octets p a.tag (body_at a.place starts sizes lent)
+      one = item_octets p a.tag (body_at a.place l lent)
 
       abbrev rest : List ℕ
       rest = rising (0x87 - (a.tag + 1)) (a.tag + 1) (attributes_in [] p inside)
@@ -136,26 +136,26 @@ module _ (p n : ℕ) (tags depths starts sizes lent : List ℕ) (at depth : ℕ)
           inv.left
           ∙ (ap (λ t. inv.done ++ rising (0x87 - t) t (attributes_in [] p inside)) (limit-tag a is)
           ∙ ap (λ n. inv.done ++ rising n a.tag (attributes_in [] p inside)) z
-          ∙ rw (w, found-octets p n tags depths starts sizes lent at depth o a (found a is) (risen-high a is).0))
+          ∙ rw (w, found-octets p n l lent at depth o a (found a is) (risen-high a is).0))
 
-      risen-stands : AsLaid p inside → Standing p a.tag (body_at a.place starts sizes lent)
+      risen-stands : AsLaid p inside → Standing p a.tag (body_at a.place l lent)
       unfolding body_in body_at
       risen-stands s =
           let shut : opens a.tag ≡ false = attribute-shut a.tag (high-attribute a.tag (risen-high a is).0) in
-          laid-found p a.tag shut inside (body_at a.place starts sizes lent) s ((found a is).body starts sizes lent o.spot o.rules)
+          laid-found p a.tag shut inside (body_at a.place l lent) s ((found a is).body lent o.spot o.rules)
 
-      pub risen-fits : (stored : Bool) → Holding n (four_of tags depths starts sizes) lent → (stored ≡ true → AsLaid p inside) → Fitting (attribute_octets p inside) to (length before)
-          → BodyAt a.place starts sizes lent × ((stored ≡ true → Standing p a.tag (body_at a.place starts sizes lent)) × Fitting one stop (length room))
+      pub risen-fits : (stored : Bool) → Holding n l lent → (stored ≡ true → AsLaid p inside) → Fitting (attribute_octets p inside) to (length before)
+          → BodyAt a.place l lent × ((stored ≡ true → Standing p a.tag (body_at a.place l lent)) × Fitting one stop (length room))
       risen-fits stored h s f =
           let all : Fitting (inv.done ++ (one ++ rest)) to (length before) = rw step at f in (
-            found-body n tags depths starts sizes lent at depth h a (found a is),
+            found-body n l lent at depth h a (found a is),
             (
               (λ q. risen-stands (s q)),
               fitting-left one rest stop (length room) (fitting-right inv.done (one ++ rest) to before room stop all inv.lays),
             ),
           )
 
-      pub risen-next : (after : List ℕ) (next : ℕ) → Lays one stop room after next → (b : Option Lowest) → FindsLowest n tags depths at depth (a.tag + 1) b
+      pub risen-next : (after : List ℕ) (next : ℕ) → Lays one stop room after next → (b : Option Lowest) → FindsLowest n l at depth (a.tag + 1) b
           → Risen to before after next b
       risen-next after next h b f = record {
         high = let g = f.from in let i = risen-high a is in omega arith;
@@ -279,11 +279,11 @@ module _ (stored : Bool) (l : Lists) (n : ℕ) (lent : List ℕ) (p depth at to 
       unfolding Tells
       other-says = subst (Tells depth (row l i).depth (row l i).tag) q (tells depth (row l i).depth (row l i).tag x xe)
 
-      other-first : later l n lent p depth i ≡ item_octets p m (body_at i l.starts l.sizes lent) ++ later l n lent p depth (i + 1)
+      other-first : later l n lent p depth i ≡ item_octets p m (body_at i l lent) ++ later l n lent p depth (i + 1)
       unfolding later_octets body_in body_at
       other-first = let t = other-says in ap (λ y. later_octets p y.0) (single t.0 t.1) ∙ rw (t.1, t.2, t.3)
 
-      other-stands : stored ≡ true → Standing p m (body_at i l.starts l.sizes lent)
+      other-stands : stored ≡ true → Standing p m (body_at i l lent)
       unfolding body_in body_at
       other-stands s =
           let t = other-says in
@@ -291,19 +291,19 @@ module _ (stored : Bool) (l : Lists) (n : ℕ) (lent : List ℕ) (p depth at to 
           rw t.3 (laid-own p (row l i).tag (row l i).start (body_in lent (row l i)) end rest (parts-stand end rest (ap (λ y. y.0) (single t.0 t.1)) s) t.1)
 
       pub other_fits : Holding n l lent → Fitting (later l n lent p depth at) to (length before)
-          → BodyAt i l.starts l.sizes lent
-          × ((stored ≡ true → Standing p m (body_at i l.starts l.sizes lent))
-          × Fitting (item_octets p m (body_at i l.starts l.sizes lent)) stop (length room))
+          → BodyAt i l lent
+          × ((stored ≡ true → Standing p m (body_at i l lent))
+          × Fitting (item_octets p m (body_at i l lent)) stop (length room))
       other_fits h f =
           let a = h.starts in
           let b = h.sizes in
-          (record { start = omega arith; size = omega arith; inside = h.bodies i lt }, (other-stands, own-fits (item_octets p m (body_at i l.starts l.sizes lent)) (i + 1) other-first f))
+          (record { start = omega arith; size = omega arith; inside = h.bodies i lt }, (other-stands, own-fits (item_octets p m (body_at i l lent)) (i + 1) other-first f))
 
-      pub other-next : (after : List ℕ) (next : ℕ) → Lays (item_octets p m (body_at i l.starts l.sizes lent)) stop room after next
+      pub other-next : (after : List ℕ) (next : ℕ) → Lays (item_octets p m (body_at i l lent)) stop room after next
           → Written stored l n lent p depth at to before after (i + 1) next
       other-next after next h =
           let t = other-says in
-          single-next t.0 t.1 (item_octets p m (body_at i l.starts l.sizes lent)) other-first after next h
+          single-next t.0 t.1 (item_octets p m (body_at i l lent)) other-first after next h
 
     -- an element that holds items
     module _ (m : ℕ) (q : x ≡ Element m) where

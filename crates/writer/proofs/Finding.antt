@@ -21,7 +21,7 @@ use Rattle.format.specs.Tree.Items.{end, item}
 use Rattle.format.specs.Judge.{is_value}
 use Rattle.format.specs.Meaning.{value_in, attributes_in, maybe}
 use Rattle.format.specs.Writer.{Spot, past, body_in, here, ruled}
-use Rattle.format.specs.Calls.{row}
+use Rattle.format.specs.Calls.{Lists, row}
 use Rattle.format.proofs.Kept.{Kept, keeps-parts, ruled-parts}
 use Rattle.format.proofs.Fine.{known_is}
 use Rattle.format.proofs.Means.{attribute-shut, absent-attribute}
@@ -29,7 +29,7 @@ use Rattle.format.proofs.Defaults.{present-attribute}
 use Rattle.format.proofs.Walk.{here_end, here-not, here-is}
 use Rattle.writer.specs.declared.emit.Lowest.{Lowest}
 use Rattle.survey.specs.Normal.{item_octets}
-use Rattle.writer.specs.Steps.{four_of, items_from, Holding, limit_of, lowest, lower_of, Stands, FindsLowest, body_at, BodyAt, Ordered}
+use Rattle.writer.specs.Steps.{items_from, Holding, limit_of, lowest, lower_of, Stands, FindsLowest, body_at, BodyAt, Ordered}
 use Rattle.survey.proofs.Ways.{value-fits, item-known, item-default}
 use Rattle.survey.proofs.Rising.{one_attribute}
 use Rattle.survey.proofs.Found.{none-behind}
@@ -50,105 +50,101 @@ module _ (a : Option Lowest) (least tag i : ℕ) where
   lower-kept h q = rw (le-leb least tag h, le-ltb tag (limit_of a) q)
 
 -- a tag that was found, or the limit of all
-pub tag-most : (n : ℕ) (tags depths : List ℕ) (at depth : ℕ) (a : Option Lowest) → ((found : Lowest) → a ≡ Some found
-    → Stands n tags depths at depth found) → limit_of a ≤ 0x87
-tag-most n tags depths at depth None s = omega arith
-tag-most n tags depths at depth (Some a) s = let m = (s a refl).most in omega arith
+pub tag-most : (n : ℕ) (l : Lists) (at depth : ℕ) (a : Option Lowest) → ((found : Lowest) → a ≡ Some found → Stands n l at depth found) → limit_of a ≤ 0x87
+tag-most n l at depth None s = omega arith
+tag-most n l at depth (Some a) s = let m = (s a refl).most in omega arith
 
-module _ (n : ℕ) (tags depths : List ℕ) (at depth least : ℕ) where
-  abbrev items_at : (starts sizes lent : List ℕ) → ℕ → Items
-  items_at starts sizes lent i = (items_from (four_of tags depths starts sizes) n lent depth i).0
+module _ (n : ℕ) (l : Lists) (at depth least : ℕ) where
+  abbrev items_at : (lent : List ℕ) → ℕ → Items
+  items_at lent i = (items_from l n lent depth i).0
 
   -- the loop's invariant: attributes below the lowest so far are found from record i on as from the first, and the items from there keep the rules too
   pub record Passed (a : Option Lowest) (i : ℕ) : Type 0 where
     pub from : least ≤ limit_of a
-    pub stands : (found : Lowest) → a ≡ Some found → Stands n tags depths at depth found
-    pub same : (t : ℕ) → least ≤ t → t < limit_of a → (starts sizes lent : List ℕ) (s : Spot) → ruled s (items_at starts sizes lent at) ≡ true
-        → find t (items_at starts sizes lent at) ≡ find t (items_at starts sizes lent i)
-    pub kept : (starts sizes lent : List ℕ) (s : Spot) → ruled s (items_at starts sizes lent at) ≡ true → (u : Spot) × (ruled u (items_at starts sizes lent i) ≡ true)
+    pub stands : (found : Lowest) → a ≡ Some found → Stands n l at depth found
+    pub same : (t : ℕ) → least ≤ t → t < limit_of a → (lent : List ℕ) (s : Spot) → ruled s (items_at lent at) ≡ true
+        → find t (items_at lent at) ≡ find t (items_at lent i)
+    pub kept : (lent : List ℕ) (s : Spot) → ruled s (items_at lent at) ≡ true → (u : Spot) × (ruled u (items_at lent i) ≡ true)
 
   module _ (a : Option Lowest) (i : ℕ) (inv : Passed a i) where
     limit-most : limit_of a ≤ 0x87
-    limit-most = tag-most n tags depths at depth a inv.stands
+    limit-most = tag-most n l at depth a inv.stands
 
-    concluded : ((t : ℕ) → least ≤ t → (starts sizes lent : List ℕ) (s : Spot) → ruled s (items_at starts sizes lent at) ≡ true → find t (items_at starts sizes lent i) ≡ none)
-        → FindsLowest n tags depths at depth least a
-    concluded f = record { from = inv.from; stands = inv.stands; between = λ t x y b c o s z. inv.same t x y b c o s z ∙ f t x b c o s z }
+    concluded : ((t : ℕ) → least ≤ t → (lent : List ℕ) (s : Spot) → ruled s (items_at lent at) ≡ true → find t (items_at lent i) ≡ none)
+        → FindsLowest n l at depth least a
+    concluded f = record { from = inv.from; stands = inv.stands; between = λ t x y o s z. inv.same t x y o s z ∙ f t x o s z }
 
-    stopped : ((starts sizes : List ℕ) → here (row (four_of tags depths starts sizes)) n depth i ≡ false) → FindsLowest n tags depths at depth least a
+    stopped : here (row l) n depth i ≡ false → FindsLowest n l at depth least a
     unfolding find
-    stopped e = concluded (λ t x b c o s z. ap (λ y. find t y.0) (from-stop (four_of tags depths b c) n o depth i (e b c)))
+    stopped e = concluded (λ t x o s z. ap (λ y. find t y.0) (from-stop l n o depth i e))
 
-    pub pass-end : n ≤ i → FindsLowest n tags depths at depth least a
-    pass-end h = stopped (λ b c. here_end (row (four_of tags depths b c)) n depth i h)
+    pub pass-end : n ≤ i → FindsLowest n l at depth least a
+    pass-end h = stopped (here_end (row l) n depth i h)
 
     module _ (lt : i < n) where
-      pub pass-gone : (get_or depths i 0 ≡ depth → ⊥) → FindsLowest n tags depths at depth least a
-      pass-gone h = stopped (λ b c. here-not (row (four_of tags depths b c)) n depth i (ne_eqb (get_or depths i 0) depth h))
+      pub pass-gone : (get_or l.depths i 0 ≡ depth → ⊥) → FindsLowest n l at depth least a
+      pass-gone h = stopped (here-not (row l) n depth i (ne_eqb (get_or l.depths i 0) depth h))
 
-      module _ (eq : get_or depths i 0 ≡ depth) where
-        at_here : (starts sizes : List ℕ) → here (row (four_of tags depths starts sizes)) n depth i ≡ true
-        at_here b c = here-is (row (four_of tags depths b c)) n depth i lt (eq-eqb (get_or depths i 0) depth eq)
+      module _ (eq : get_or l.depths i 0 ≡ depth) where
+        at_here : here (row l) n depth i ≡ true
+        at_here = here-is (row l) n depth i lt (eq-eqb (get_or l.depths i 0) depth eq)
 
-        pub pass-other : 0x80 ≤ least → get_or tags i 0 < 0x80 → FindsLowest n tags depths at depth least a
+        pub pass-other : 0x80 ≤ least → get_or l.tags i 0 < 0x80 → FindsLowest n l at depth least a
         unfolding attribute
         pass-other g z =
             concluded
-            (λ t h b c o s r.
-            let l = four_of tags depths b c in
-            let x = from-item l n o depth i (at_here b c) in
-            let u = inv.kept b c o s r in
+            (λ t h o s r.
+            let x = from-item l n o depth i at_here in
+            let u = inv.kept o s r in
             ap (find t) x.2
-            ∙ none-behind u.0 t (row l i).tag (row l i).start (body_in o (row l i)) x.0 x.1 (high-attribute t (omega arith)) (le-ltb 0x7F (get_or tags i 0) (omega arith)) (rw x.2 at u.1))
+            ∙ none-behind u.0 t (row l i).tag (row l i).start (body_in o (row l i)) x.0 x.1 (high-attribute t (omega arith)) (le-ltb 0x7F (get_or l.tags i 0) (omega arith)) (rw x.2 at u.1))
 
-        module _ (high : 0x80 ≤ get_or tags i 0) where
-          single : (b c o : List ℕ)
-              → items_at b c o i
-              ≡ item (row (four_of tags depths b c) i).tag (row (four_of tags depths b c) i).start (body_in o (row (four_of tags depths b c) i)) end (items_at b c o (i + 1))
-          single b c o = ap (λ x. x.0) (from-single (four_of tags depths b c) n o depth i (at_here b c) (attribute-shut (get_or tags i 0) (high-attribute (get_or tags i 0) high)))
+        module _ (high : 0x80 ≤ get_or l.tags i 0) where
+          single : (o : List ℕ)
+              → items_at o i ≡ item (row l i).tag (row l i).start (body_in o (row l i)) end (items_at o (i + 1))
+          single o = ap (λ x. x.0) (from-single l n o depth i at_here (attribute-shut (get_or l.tags i 0) (high-attribute (get_or l.tags i 0) high)))
 
-          other-same : (t : ℕ) → (t ≡ get_or tags i 0 → ⊥) → (b c o : List ℕ) → find t (items_at b c o i) ≡ find t (items_at b c o (i + 1))
+          other-same : (t : ℕ) → (t ≡ get_or l.tags i 0 → ⊥) → (o : List ℕ) → find t (items_at o i) ≡ find t (items_at o (i + 1))
           unfolding find
-          other-same t ne b c o = ap (find t) (single b c o) ∙ rw (ne_eqb t (get_or tags i 0) ne)
+          other-same t ne o = ap (find t) (single o) ∙ rw (ne_eqb t (get_or l.tags i 0) ne)
 
-          kept_on : (b c o : List ℕ) (s : Spot) → ruled s (items_at b c o at) ≡ true → (u : Spot) × (ruled u (items_at b c o (i + 1)) ≡ true)
-          kept_on b c o s h =
-              let l = four_of tags depths b c in
-              let u = inv.kept b c o s h in
-              let w : ruled u.0 (item (row l i).tag (row l i).start (body_in o (row l i)) end (items_at b c o (i + 1))) ≡ true = rw (single b c o) at u.1 in
-              (past u.0 (row l i).tag, (ruled-parts u.0 (row l i).tag (row l i).start (body_in o (row l i)) end (items_at b c o (i + 1)) w).beside)
+          kept_on : (o : List ℕ) (s : Spot) → ruled s (items_at o at) ≡ true → (u : Spot) × (ruled u (items_at o (i + 1)) ≡ true)
+          kept_on o s h =
+              let u = inv.kept o s h in
+              let w : ruled u.0 (item (row l i).tag (row l i).start (body_in o (row l i)) end (items_at o (i + 1))) ≡ true = rw (single o) at u.1 in
+              (past u.0 (row l i).tag, (ruled-parts u.0 (row l i).tag (row l i).start (body_in o (row l i)) end (items_at o (i + 1)) w).beside)
 
-          on : (x : Option Lowest) → least ≤ limit_of x → ((found : Lowest) → x ≡ Some found → Stands n tags depths at depth found)
-              → limit_of x ≤ limit_of a → ((t : ℕ) → least ≤ t → t < limit_of x → t ≡ get_or tags i 0 → ⊥) → Passed x (i + 1)
+          on : (x : Option Lowest) → least ≤ limit_of x → ((found : Lowest) → x ≡ Some found → Stands n l at depth found)
+              → limit_of x ≤ limit_of a → ((t : ℕ) → least ≤ t → t < limit_of x → t ≡ get_or l.tags i 0 → ⊥) → Passed x (i + 1)
           on x f st le ne = record {
             from = f;
             stands = st;
-            same = λ t y z b c o s h. inv.same t y (omega arith) b c o s h ∙ other-same t (ne t y z) b c o;
+            same = λ t y z o s h. inv.same t y (omega arith) o s h ∙ other-same t (ne t y z) o;
             kept = kept_on;
           }
 
-          here_found : least ≤ get_or tags i 0 → get_or tags i 0 < limit_of a → (found : Lowest) → Some (lowest (get_or tags i 0) i) ≡ Some found
-              → Stands n tags depths at depth found
+          here_found : least ≤ get_or l.tags i 0 → get_or l.tags i 0 < limit_of a → (found : Lowest) → Some (lowest (get_or l.tags i 0) i) ≡ Some found
+              → Stands n l at depth found
           unfolding find
-          here_found g h found q = subst (Stands n tags depths at depth) (same_Some (lowest (get_or tags i 0) i) found q) (record {
+          here_found g h found q = subst (Stands n l at depth) (same_Some (lowest (get_or l.tags i 0) i) found q) (record {
             most = omega (arith, limit-most);
             within = lt;
-            body = λ b c o s r. inv.same (get_or tags i 0) g h b c o s r ∙ (ap (find (get_or tags i 0)) (single b c o)
-                ∙ rw (eq-eqb (get_or tags i 0) (get_or tags i 0) refl));
+            body = λ o s r. inv.same (get_or l.tags i 0) g h o s r ∙ (ap (find (get_or l.tags i 0)) (single o)
+                ∙ rw (eq-eqb (get_or l.tags i 0) (get_or l.tags i 0) refl));
           })
 
-          pub pass-next : (x : Option Lowest) → x ≡ lower_of a least (get_or tags i 0) i → Passed x (i + 1)
+          pub pass-next : (x : Option Lowest) → x ≡ lower_of a least (get_or l.tags i 0) i → Passed x (i + 1)
           unfolding lower_of
-          pass-next x e = rw e (go (leb least (get_or tags i 0)) (ltb (get_or tags i 0) (limit_of a)) refl refl)
+          pass-next x e = rw e (go (leb least (get_or l.tags i 0)) (ltb (get_or l.tags i 0) (limit_of a)) refl refl)
             where
-              go : (b c : Bool) → leb least (get_or tags i 0) ≡ b → ltb (get_or tags i 0) (limit_of a) ≡ c
-                  → Passed (cond (b && c) (Some (lowest (get_or tags i 0) i)) a) (i + 1)
+              go : (b c : Bool) → leb least (get_or l.tags i 0) ≡ b → ltb (get_or l.tags i 0) (limit_of a) ≡ c
+                  → Passed (cond (b && c) (Some (lowest (get_or l.tags i 0) i)) a) (i + 1)
               go true true g h =
-                  let p = leb-true least (get_or tags i 0) g in
-                  let q = ltb-true (get_or tags i 0) (limit_of a) h in
-                  on (Some (lowest (get_or tags i 0) i)) p (here_found p q) (omega arith) (λ t y z w. omega arith)
-              go true false g h = let q = ltb-false (get_or tags i 0) (limit_of a) h in on a inv.from inv.stands (omega arith) (λ t y z w. omega arith)
-              go false c g h = let q = leb-false least (get_or tags i 0) g in on a inv.from inv.stands (omega arith) (λ t y z w. omega arith)
+                  let p = leb-true least (get_or l.tags i 0) g in
+                  let q = ltb-true (get_or l.tags i 0) (limit_of a) h in
+                  on (Some (lowest (get_or l.tags i 0) i)) p (here_found p q) (omega arith) (λ t y z w. omega arith)
+              go true false g h = let q = ltb-false (get_or l.tags i 0) (limit_of a) h in on a inv.from inv.stands (omega arith) (λ t y z w. omega arith)
+              go false c g h = let q = leb-false least (get_or l.tags i 0) g in on a inv.from inv.stands (omega arith) (λ t y z w. omega arith)
 
 -- an item that is found in items that keep the rules keeps them by kind
 pub found-kept : (t : Items) (s : Spot) (tag : ℕ) (body : List ℕ) → ruled s t ≡ true → find tag t ≡ some body → (u : Spot) × Kept u tag body (known s.parent tag)
@@ -177,21 +173,18 @@ module _ (p : ℕ) (t : Items) (tag : ℕ) (a : attribute tag ≡ true) where
       go k e i false d = sym (item-known p tag body k (ne_eqb tag 4 (λ z. omega (arith, attribute-high tag a))) d e ∙ ap (framed tag) (value-fits k body i))
 
 -- the attribute that was found, and that there is none before it
-module _ (p n : ℕ) (tags depths starts sizes lent : List ℕ) (at depth : ℕ) (o : Ordered p (items_from
-    (four_of tags depths starts sizes) n lent depth at).0) where
-  pub found-octets : (a : Lowest) → Stands n tags depths at depth a → 0x80 ≤ a.tag
-      → one_attribute a.tag (attributes_in [] p (items_from (four_of tags depths starts sizes) n lent depth at).0 a.tag) ≡ item_octets p a.tag (body_at a.place starts sizes lent)
+module _ (p n : ℕ) (l : Lists) (lent : List ℕ) (at depth : ℕ) (o : Ordered p (items_from l n lent depth at).0) where
+  pub found-octets : (a : Lowest) → Stands n l at depth a → 0x80 ≤ a.tag
+      → one_attribute a.tag (attributes_in [] p (items_from l n lent depth at).0 a.tag) ≡ item_octets p a.tag (body_at a.place l lent)
   unfolding body_in body_at
-  found-octets a f g = attribute-some p _ a.tag (high-attribute a.tag g) o (body_at a.place starts sizes lent) (f.body starts sizes lent o.spot o.rules)
+  found-octets a f g = attribute-some p _ a.tag (high-attribute a.tag g) o (body_at a.place l lent) (f.body lent o.spot o.rules)
 
-  pub none_between : (a : Option Lowest) (least : ℕ) → 0x80 ≤ least → FindsLowest n tags depths at depth least a → (t : ℕ) → least ≤ t → t < limit_of a
-      → attributes_in [] p (items_from (four_of tags depths starts sizes) n lent depth at).0 t ≡ none
-  none_between a least g f t x y = absent-attribute [] p _ t (λ _. f.between t x y starts sizes lent o.spot o.rules)
+  pub none_between : (a : Option Lowest) (least : ℕ) → 0x80 ≤ least → FindsLowest n l at depth least a → (t : ℕ) → least ≤ t → t < limit_of a
+      → attributes_in [] p (items_from l n lent depth at).0 t ≡ none
+  none_between a least g f t x y = absent-attribute [] p _ t (λ _. f.between t x y lent o.spot o.rules)
 
-pub found-body : (n : ℕ) (tags depths starts sizes lent : List ℕ) (at depth : ℕ) → Holding n (four_of tags depths starts sizes) lent → (a : Lowest)
-    → Stands n tags depths at depth a
-    → BodyAt a.place starts sizes lent
-found-body n tags depths starts sizes lent at depth h a f =
+pub found-body : (n : ℕ) (l : Lists) (lent : List ℕ) (at depth : ℕ) → Holding n l lent → (a : Lowest) → Stands n l at depth a → BodyAt a.place l lent
+found-body n l lent at depth h a f =
     let lt = f.within in
     let x = h.starts in
     let y = h.sizes in

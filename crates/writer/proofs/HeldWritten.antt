@@ -1,4 +1,5 @@
 -- The ways through write_state: of a tree that memory holds, the size of its top tells how long its normal form is, and its records are written as they stand.
+use Rattle.std.specs.Prelude.{Some, None, Result, Ok, Err, Option as Optional}
 use mathlib.Core.Path.{◌≡◌, refl, sym, ap, ◌∙◌, subst}
 use mathlib.Core.Bool.{true}
 use mathlib.Core.Option.{Option, none, some}
@@ -10,11 +11,10 @@ use lib.ListN.{length, take, drop, get_or, take-append-drop}
 use lib.Seq.{sets}
 use borrow.Author.Tests.{le-leb}
 use Rattle.octets.specs.Numbers.{Octets}
+use Rattle.octets.specs.declared.counts.Octets.{Octets as OctetCount}
 use Rattle.octets.specs.Counts.{as_octets, size_of}
 use Rattle.octets.proofs.Tests.{never}
 use Rattle.text.proofs.Expansion.{sound_empty}
-use Rattle.format.specs.declared.WriteAnswer.{WriteAnswer}
-use Rattle.format.specs.declared.WriteAnswer.TheVariants.{NotWritten, Octets as Handed}
 use Rattle.format.specs.Answers.{refusal}
 use Rattle.format.specs.Tree.{Items, count}
 use Rattle.format.specs.Tree.Items.{end, item}
@@ -30,10 +30,9 @@ use Rattle.format.proofs.Means.{items-opens}
 use Rattle.format.proofs.Order.{ruled-order, three-end}
 use Rattle.format.proofs.Rebuilt.{whole-count}
 use Rattle.format.proofs.Written.{ruled-told, located-bytes}
+use Rattle.format.specs.declared.Refusal.{Refusal}
 use Rattle.survey.specs.Normal.{framed_size, normal_size, later_octets}
-use Rattle.survey.proofs.Sizes.{size-whole}
-use Rattle.state.specs.declared.Filled.{Filled}
-use Rattle.state.specs.declared.Filled.TheVariants.{Apart, Upto}
+use Rattle.survey.proofs.NormalSizes.{size-whole}
 use Rattle.state.specs.Order.{held_as}
 use Rattle.state.specs.Taking.{WriteStateClaim}
 use Rattle.state.proofs.BodySizes.{body_size, open-counts, size-item}
@@ -41,7 +40,6 @@ use Rattle.state.proofs.HeldTree.{Held, held}
 use Rattle.writer.specs.declared.emit.Reached.{Reached}
 use Rattle.writer.specs.Steps.{items_from, Holding, Ordered, Fitting, AsLaid, SizesStand, Emits}
 use Rattle.writer.proofs.Copied.{loaded-laid}
-use Rattle.writer.proofs.Rows.{four_in}
 use Rattle.writer.proofs.Whole.{Gives, not-roomy, too_many, tree-holding, tree-items, tree-ordered, tree-fits, tree-written}
 use Rattle.writer.proofs.StandingSizes.{sizes-stand}
 
@@ -67,22 +65,22 @@ top-size (item tag at body x y) h c bodies n e =
     ap framed_size first ∙ (omega (arith, own, none) ∙ size-whole (item tag at body x y) h)
 
 -- ---- what write_state is told by `held`
-told_none : (o : Option Items) → Apart ≡ held_as o → o ≡ none
+told_none : (o : Option Items) → None ≡ held_as o → o ≡ none
 unfolding held_as
 told_none none e = refl
 told_none (some t) e = never cc
 
-told-some : (o : Option Items) (used : ℕ) → Upto used ≡ held_as o → (t : Items) × (o ≡ some t)
+told-some : (o : Option Items) (used : ℕ) → Some used ≡ held_as o → (t : Items) × (o ≡ some t)
 unfolding held_as
 told-some none used e = never cc
 told-some (some t) used e = (t, refl)
 
-module _ (n : ℕ) (m : Memory) (r : Filled) (e : r ≡ held_as (tree_held n m)) where
-  pub state-none : r ≡ Apart → (room : List ℕ) (a : WriteAnswer) → a ≡ NotWritten (refusal 16 0) → WriteStateClaim n m room room a
+module _ (n : ℕ) (m : Memory) (r : Optional ℕ) (e : r ≡ held_as (tree_held n m)) where
+  pub state-none : r ≡ None → (room : List ℕ) (a : Result OctetCount Refusal) → a ≡ Err (refusal 16 0) → WriteStateClaim n m room room a
   unfolding write_answer write_octets
   state-none q room a ae = let z = told_none (tree_held n m) (sym q ∙ e) in record { answers = rw z ae; leaves = rw z refl }
 
-  module _ (used : ℕ) (q : r ≡ Upto used) where
+  module _ (used : ℕ) (q : r ≡ Some used) where
     pub tree : (t : Items) × (tree_held n m ≡ some t)
     tree = told-some (tree_held n m) used (sym q ∙ e)
 
@@ -93,7 +91,7 @@ module _ (n : ℕ) (m : Memory) (r : Filled) (e : r ≡ held_as (tree_held n m))
     is = held n m t tree.1
 
     -- what is claimed of a tree is claimed of the memory that holds it
-    as-held : (room after : List ℕ) (a : WriteAnswer) → Gives (some t) room after a → WriteStateClaim n m room after a
+    as-held : (room after : List ℕ) (a : Result OctetCount Refusal) → Gives (some t) room after a → WriteStateClaim n m room after a
     as-held room after a g =
         let e = sym tree.1 in
         record { answers = g.answers ∙ ap (write_answer (size_of room)) e; leaves = g.leaves ∙ ap (λ o. sets room 0 (write_octets (size_of room) o)) e }
@@ -104,34 +102,34 @@ module _ (n : ℕ) (m : Memory) (r : Filled) (e : r ≡ held_as (tree_held n m))
     pub has_first : 0 < length m.bodies
     has_first = omega (arith, is.whole.some, is.fewer)
 
-    pub state-more : (room : List ℕ) → length room < framed_size (get_or m.bodies 0 0) → (a : WriteAnswer) → a ≡ NotWritten (refusal 15 0) → WriteStateClaim n m room room a
+    pub state-more : (room : List ℕ) → length room < framed_size (get_or m.bodies 0 0) → (a : Result OctetCount Refusal) → a ≡ Err (refusal 15 0) → WriteStateClaim n m room room a
     state-more room h a ae =
         let f = not-roomy n m.lists m.store t is.given room (omega (arith, size_is, min-le_left (length room) 32_768)) in
-        rw ae (as-held room room (NotWritten (refusal 15 0)) (too_many n m.lists m.store t is.given room f))
+        rw ae (as-held room room (Err (refusal 15 0)) (too_many n m.lists m.store t is.given room f))
 
     module _ (room : List ℕ) (h : framed_size (get_or m.bodies 0 0) ≤ length room) where
       fit : roomy (size_of room) (encode (means [] t)) ≡ true
       unfolding roomy
       fit = le-leb (length (encode (means [] t))) (min (length room) 32_768) (le-min (omega (arith, size_is)) is.small)
 
-      pub state-holding : Holding n (four_in m.lists) m.store
+      pub state-holding : Holding n m.lists m.store
       state-holding = tree-holding n m.lists m.store t is.given
 
-      pub state-ordered : Ordered 0 (items_from (four_in m.lists) n m.store 1 0).0
+      pub state-ordered : Ordered 0 (items_from m.lists n m.store 1 0).0
       state-ordered = tree-ordered n m.lists m.store t is.given
 
-      pub state-laid : Octets m.store → AsLaid 0 (items_from (four_in m.lists) n m.store 1 0).0
+      pub state-laid : Octets m.store → AsLaid 0 (items_from m.lists n m.store 1 0).0
       unfolding at_top
       state-laid os =
           let told = ruled-told t at_top (located-bytes m.store os t is.whole.located) is.whole.rules in
           subst (AsLaid 0) (is.packs ∙ sym (tree-items n m.lists m.store t is.given)) (loaded-laid [] sound_empty t at_top told 0)
 
-      pub state-sizes : SizesStand n (four_in m.lists) m.store m.bodies
+      pub state-sizes : SizesStand n m.lists m.store m.bodies
       state-sizes = sizes-stand n m.lists m.store t is.given m.bodies is.fewer is.sizes
 
-      pub state-fits : Fitting (later_octets 0 (items_from (four_in m.lists) n m.store 1 0).0) 0 (length room)
+      pub state-fits : Fitting (later_octets 0 (items_from m.lists n m.store 1 0).0) 0 (length room)
       state-fits = tree-fits n m.lists m.store t is.given room fit
 
-      pub state-written : (after : List ℕ) (s : Reached) → Emits (items_from (four_in m.lists) n m.store 1 0) 0 0 room after s
-          → WriteStateClaim n m room after (Handed (as_octets s.end))
-      state-written after s g = as-held room after (Handed (as_octets s.end)) (tree-written n m.lists m.store t is.given room fit after s g)
+      pub state-written : (after : List ℕ) (s : Reached) → Emits (items_from m.lists n m.store 1 0) 0 0 room after s
+          → WriteStateClaim n m room after (Ok (as_octets s.end))
+      state-written after s g = as-held room after (Ok (as_octets s.end)) (tree-written n m.lists m.store t is.given room fit after s g)

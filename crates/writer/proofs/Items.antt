@@ -1,4 +1,6 @@
 -- An item that holds no items: how long its octets can be, and what is written of it.
+use Rattle.std.specs.Prelude.{Option, Some, None, Result, Ok, Err}
+use Rattle.std.specs.Result.{result_unwrap_or}
 use mathlib.Core.Path.{◌≡◌, refl, sym, ap}
 use mathlib.Core.Bool.{Bool, true, false, cond}
 use mathlib.Core.List.{List, [], ◌∷◌, ◌++◌}
@@ -10,14 +12,13 @@ use lib.Dec.{ltb}
 use lib.ListN.{length, length-append}
 use borrow.Author.Tests.{lt-ltb}
 use Rattle.octets.specs.Header.{length_field, framed}
-use Rattle.octets.specs.declared.Put.{Put}
 use Rattle.octets.specs.Puts.{Puts, Lays}
 use Rattle.octets.proofs.Puts.{put-done, put-no-room, put-invalid, put-room, put-there, put-laid}
 use Rattle.octets.proofs.Left.{lays-none, lays-append}
+use Rattle.octets.specs.declared.PutError.{PutError}
+use Rattle.octets.specs.declared.PutError.TheVariants.{NoRoom, Invalid}
 use Rattle.values.specs.declared.Kind.{Kind}
 use Rattle.values.specs.declared.Kind.TheVariants.{HoldsPlain}
-use Rattle.values.specs.declared.KnownKind.{KnownKind}
-use Rattle.values.specs.declared.KnownKind.TheVariants.{Unknown, Known}
 use Rattle.values.specs.Values.{fits, meant, octets_of}
 use Rattle.values.specs.Calls.{as_known, normal_octets}
 use Rattle.values.proofs.Laws.{normal-shorter}
@@ -37,40 +38,47 @@ value-short k body = go (fits k body) refl
     go false e = omega arith
 
 -- a header written where it has room
-module _ (tag n to : ℕ) (before after : List ℕ) (answer : Put) (f : (n ≤ 32_768) × Fitting (tag ∷ length_field n) to (length before))
+module _ (tag n to : ℕ) (before after : List ℕ) (answer : Result ℕ PutError) (f : (n ≤ 32_768) × Fitting (tag ∷ length_field n) to (length before))
     (p : Puts (ltb n (256 ^ 2)) (tag ∷ length_field n) to before after answer) where
-  pub header-done : (stop : ℕ) → answer ≡ Put.Done stop → Lays (tag ∷ length_field n) to before after stop
-  header-done = put-laid (ltb n (256 ^ 2)) (tag ∷ length_field n) to before after answer p
-
-  pub header-no-room : answer ≡ Put.NoRoom → Lays (tag ∷ length_field n) to before after to
-  header-no-room q = put-room (ltb n (256 ^ 2)) (tag ∷ length_field n) to before after answer p f.1.in_room q
-
-  pub header-invalid : answer ≡ Put.Invalid → Lays (tag ∷ length_field n) to before after to
-  header-invalid q = put-there (ltb n (256 ^ 2)) (tag ∷ length_field n) to before after answer p (lt-ltb n (256 ^ 2) (omega (arith, f.0))) q
+  pub header-put : (stop : ℕ) → stop ≡ result_unwrap_or answer to → Lays (tag ∷ length_field n) to before after stop
+  header-put stop e = rw e (go answer refl)
+    where
+      go : (a : Result ℕ PutError) → answer ≡ a → Lays (tag ∷ length_field n) to before after (result_unwrap_or a to)
+      go (Ok end) q = put-laid (ltb n (256 ^ 2)) (tag ∷ length_field n) to before after answer p end q
+      go (Err NoRoom) q = put-room (ltb n (256 ^ 2)) (tag ∷ length_field n) to before after answer p f.1.in_room q
+      go (Err Invalid) q = put-there (ltb n (256 ^ 2)) (tag ∷ length_field n) to before after answer p (lt-ltb n (256 ^ 2) (omega (arith, f.0))) q
 
 -- a value written where it has room
-module _ (k : Kind) (body : List ℕ) (to : ℕ) (before after : List ℕ) (answer : Put) (f : Fitting (value_octets k body) to (length before))
+module _ (k : Kind) (body : List ℕ) (to : ℕ) (before after : List ℕ) (answer : Result ℕ PutError) (f : Fitting (value_octets k body) to (length before))
     (p : Puts (fits k body) (normal_octets k body) to before after answer) where
   octets-are : fits k body ≡ true → value_octets k body ≡ normal_octets k body
   unfolding normal_octets
   octets-are e = value-fits k body e
 
-  pub value-done : (stop : ℕ) → answer ≡ Put.Done stop → Lays (value_octets k body) to before after stop
+  value-done : (stop : ℕ) → answer ≡ Ok stop → Lays (value_octets k body) to before after stop
   value-done stop q =
       let d = put-done (fits k body) (normal_octets k body) to before after answer p stop q in
       rw (octets-are d.is) (put-laid (fits k body) (normal_octets k body) to before after answer p stop q)
 
-  pub value-no-room : answer ≡ Put.NoRoom → Lays (value_octets k body) to before after to
+  value-no-room : answer ≡ Err NoRoom → Lays (value_octets k body) to before after to
   value-no-room q =
       let d = put-no-room (fits k body) (normal_octets k body) to before after answer p q in
       absurd (omega (arith, f.in_room, d.1, ap length (octets-are d.0)))
 
   -- what is no value has no octets
-  pub value-invalid : answer ≡ Put.Invalid → Lays (value_octets k body) to before after to
+  value-invalid : answer ≡ Err Invalid → Lays (value_octets k body) to before after to
   unfolding value_octets
   value-invalid q =
       let d = put-invalid (fits k body) (normal_octets k body) to before after answer p q in
       rw d.0 (record { leaves = d.1; ends = omega arith })
+
+  pub value-put : (stop : ℕ) → stop ≡ result_unwrap_or answer to → Lays (value_octets k body) to before after stop
+  value-put stop e = rw e (go answer refl)
+    where
+      go : (a : Result ℕ PutError) → answer ≡ a → Lays (value_octets k body) to before after (result_unwrap_or a to)
+      go (Ok end) q = value-done end q
+      go (Err NoRoom) q = value-no-room q
+      go (Err Invalid) q = value-invalid q
 
 -- an item that is written as a value of a kind
 module _ (tag : ℕ) (k : Kind) (body : List ℕ) (n : ℕ) (e : n ≡ length (value_octets k body)) where
@@ -99,11 +107,11 @@ module _ (tag : ℕ) (k : Kind) (body : List ℕ) (n : ℕ) (e : n ≡ length (v
       value-laid after end g = rw value-parts (lays-append (tag ∷ length_field n) (value_octets k body) to room mid at after end h g)
 
 -- one by whether it is written
-module _ (p tag to : ℕ) (body room : List ℕ) (r : KnownKind) (e : r ≡ as_known (written_as p tag body)) where
-  pub nothing-laid : r ≡ Unknown → Lays (item_octets p tag body) to room room to
+module _ (p tag to : ℕ) (body room : List ℕ) (r : Option Kind) (e : r ≡ as_known (written_as p tag body)) where
+  pub nothing-laid : r ≡ None → Lays (item_octets p tag body) to room room to
   nothing-laid q = rw (unwritten-octets p tag body r e q) (lays-none to room)
 
-  module _ (k : Kind) (q : r ≡ Known k) where
+  module _ (k : Kind) (q : r ≡ Some k) where
     pub kind_fits : Fitting (item_octets p tag body) to (length room) → Fitting (framed tag (value_octets k body)) to (length room)
     kind_fits f = rw (written-octets p tag body r e k q) at f
 

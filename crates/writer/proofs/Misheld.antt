@@ -1,5 +1,6 @@
 -- Answers that `write_state` doesn't give, refuted at one memory: a top, a schedule in it, a programme in that, and the recommendation of the programme, whose value 1,
 -- "no", is its default (request 2026-05), so that it is held but not written.
+use Rattle.std.specs.Prelude.{Ok, Err}
 use mathlib.Core.Path.{◌≡◌, refl, ◌∙◌}
 use mathlib.Core.List.{List, [], ◌∷◌}
 use Prim.Native.Nat.{ℕ}
@@ -9,7 +10,6 @@ use Rattle.octets.specs.Numbers.{among, value, digits}
 use Rattle.octets.specs.Header.{length_field, framed}
 use Rattle.values.specs.Table.{rows, kind_in, known, attribute, defaults, default_in}
 use Rattle.values.specs.Values.{width, fits, meant, octets_of, is_default}
-use Rattle.format.specs.declared.WriteAnswer.TheVariants.{Octets, NotWritten}
 use Rattle.format.specs.Answers.{refusal}
 use Rattle.format.specs.Tree.{find, kind_of}
 use Rattle.format.specs.Judge.{is_known, is_items, is_tokens, is_text, is_value, is_top, allowed, latest, stage_after}
@@ -51,21 +51,21 @@ written = 0x02 ∷ 0x04 ∷ 0x21 ∷ 0x02 ∷ 0x1C ∷ 0x00 ∷ 9 ∷ []
 
 record Computed : Type 0 where
   octets : write_octets (as_octets 7) (tree_held 4 right) ≡ 0x02 ∷ 0x04 ∷ 0x21 ∷ 0x02 ∷ 0x1C ∷ 0x00 ∷ []
-  few : write_answer (as_octets 5) (tree_held 4 right) ≡ NotWritten (refusal 15 0)
-  apart : write_answer (as_octets 7) (tree_held 4 wrong) ≡ NotWritten (refusal 16 0)
+  few : write_answer (as_octets 5) (tree_held 4 right) ≡ Err (refusal 15 0)
+  apart : write_answer (as_octets 7) (tree_held 4 wrong) ≡ Err (refusal 16 0)
 
 computed : Computed
 unfolding among value digits length_field framed rows kind_in known attribute defaults default_in width fits meant octets_of is_default find kind_of is_known is_items is_tokens is_text is_value is_top allowed latest stage_after opens is_child value_in counted attributes_in cdata_in leaf_octets means maybe rising encode below past at_top placed body_keeps keeps body_in good here onward walk tree to_end rebuilt stored store_in loaded_in same_octets places tree_given normal_body body_sizes same_items kept in_order tree_held roomy write_answer write_octets
 computed = record { octets = refl; few = refl; apart = refl }
 
 -- the count, and no octet stored
-pub state-unstored : WriteStateClaim 4 right room room (Octets (as_octets 6)) → ⊥
+pub state-unstored : WriteStateClaim 4 right room room (Ok (as_octets 6)) → ⊥
 state-unstored c = let e : room ≡ written = c.leaves ∙ rw computed.octets in let z : ◌≡◌ {A = ℕ} 9 0x02 = cc in omega arith
 
 -- memory whose sizes are wrong, written by them
-pub sizes-believed : (after : List ℕ) → WriteStateClaim 4 wrong room after (Octets (as_octets 6)) → ⊥
-sizes-believed after c = let e : Octets (as_octets 6) ≡ NotWritten (refusal 16 0) = c.answers ∙ computed.apart in let z : ◌≡◌ {A = ℕ} 0 1 = cc in omega arith
+pub sizes-believed : (after : List ℕ) → WriteStateClaim 4 wrong room after (Ok (as_octets 6)) → ⊥
+sizes-believed after c = let e : Ok (as_octets 6) ≡ Err (refusal 16 0) = c.answers ∙ computed.apart in let z : ◌≡◌ {A = ℕ} 0 1 = cc in omega arith
 
 -- a room that is too small, answered by a count
-pub few-written : (after : List ℕ) → WriteStateClaim 4 right (9 ∷ 9 ∷ 9 ∷ 9 ∷ 9 ∷ []) after (Octets (as_octets 6)) → ⊥
-few-written after c = let e : Octets (as_octets 6) ≡ NotWritten (refusal 15 0) = c.answers ∙ computed.few in let z : ◌≡◌ {A = ℕ} 0 1 = cc in omega arith
+pub few-written : (after : List ℕ) → WriteStateClaim 4 right (9 ∷ 9 ∷ 9 ∷ 9 ∷ 9 ∷ []) after (Ok (as_octets 6)) → ⊥
+few-written after c = let e : Ok (as_octets 6) ≡ Err (refusal 15 0) = c.answers ∙ computed.few in let z : ◌≡◌ {A = ℕ} 0 1 = cc in omega arith

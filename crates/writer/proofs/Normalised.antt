@@ -1,4 +1,5 @@
 -- The ways through normalise: an object that is taken in is written at once, since memory holds its loaded tree then and the room has places for it.
+use Rattle.std.specs.Prelude.{Some, Result, Ok, Err}
 use mathlib.Core.Path.{◌≡◌, refl, sym, ap, ◌∙◌, subst}
 use mathlib.Core.Bool.{Bool, true, false, cond, ◌&&◌}
 use mathlib.Core.Option.{some, some-injective}
@@ -16,10 +17,6 @@ use Rattle.octets.specs.Counts.{size_of}
 use Rattle.octets.proofs.Lists.{sets-none}
 use Rattle.octets.proofs.Tests.{and_right, never}
 use Rattle.format.specs.declared.Refusal.{Refusal}
-use Rattle.format.specs.declared.EditAnswer.{EditAnswer}
-use Rattle.format.specs.declared.EditAnswer.TheVariants.{HasRecords, NotChanged}
-use Rattle.format.specs.declared.WriteAnswer.{WriteAnswer}
-use Rattle.format.specs.declared.WriteAnswer.TheVariants.{NotWritten, Octets as Handed}
 use Rattle.format.specs.Answers.{refusal, edit_outcome}
 use Rattle.format.specs.Tree.{Items, count}
 use Rattle.format.specs.Judge.{Judged, first, rule, unless, judge}
@@ -30,7 +27,6 @@ use Rattle.format.specs.Calls.{Lent, roomy, stored_within, fits_lent, misfit, ed
 use Rattle.format.specs.State.{Memory, places_in, packed_store, lay_tree, tree_held}
 use Rattle.format.proofs.Loading.{loaded-means, loaded-count}
 use Rattle.survey.specs.Normal.{framed_size}
-use Rattle.state.specs.declared.Filled.TheVariants.{Upto}
 use Rattle.state.specs.Order.{held_as}
 use Rattle.state.specs.Taking.{settled, taken_in, left, TakeInClaim, lent_by, loaded_into, NormaliseClaim, WriteStateClaim}
 use Rattle.state.proofs.HeldTree.{Fits, held, accepted-held}
@@ -38,14 +34,13 @@ use Rattle.state.proofs.Taken.{taken-ends, fitting-tree, fitting-room}
 use Rattle.edits.proofs.Surveyed.{same-overflow}
 use Rattle.writer.specs.Steps.{items_from, AsLaid}
 use Rattle.writer.proofs.Copied.{accepted-laid}
-use Rattle.writer.proofs.Rows.{four_in}
 use Rattle.writer.proofs.Whole.{tree-items}
 use Rattle.writer.proofs.HeldWritten.{tree, size_is}
 
 -- what taking in comes to, and what is answered, written and left then
-data Comes (o : List ℕ) (m : Memory) (room : List ℕ) : Judged → WriteAnswer → List ℕ → Memory → Type 0 where
-  ill : (r : Refusal) → Comes o m room (refused r) (NotWritten r) [] m
-  well : (t : Items) → judge o ≡ accepted t → Comes o m room (accepted (loaded_of t)) (Handed (size_of (normal_of t))) (normal_of t) (lay_tree (loaded_of t) m)
+data Comes (o : List ℕ) (m : Memory) (room : List ℕ) : Judged → Result OctetCount Refusal → List ℕ → Memory → Type 0 where
+  ill : (r : Refusal) → Comes o m room (refused r) (Err r) [] m
+  well : (t : Items) → judge o ≡ accepted t → Comes o m room (accepted (loaded_of t)) (Ok (size_of (normal_of t))) (normal_of t) (lay_tree (loaded_of t) m)
 
 module _ (o : List ℕ) (os : Octets o) (m : Memory) (room : List ℕ) where
   abbrev lent : Lent
@@ -57,7 +52,7 @@ module _ (o : List ℕ) (os : Octets o) (m : Memory) (room : List ℕ) where
     where
       on : (t : Items) → judge o ≡ accepted t → (a b : Bool)
           → Comes o m room (unless (first (rule 14 0 a ∷ rule 15 0 b ∷ [])) (accepted (loaded_of t)))
-          (cond (a && b) (Handed (size_of (normal_of t))) (cond a (NotWritten (refusal 15 0)) (NotWritten (refusal 14 0)))) (cond (a && b) (normal_of t) []) (cond (a && b) (lay_tree (loaded_of t) m) m)
+          (cond (a && b) (Ok (size_of (normal_of t))) (cond a (Err (refusal 15 0)) (Err (refusal 14 0)))) (cond (a && b) (normal_of t) []) (cond (a && b) (lay_tree (loaded_of t) m) m)
       on t j true true = well t j
       on t j true false = ill (refusal 15 0)
       on t j false b = ill (refusal 14 0)
@@ -68,37 +63,37 @@ module _ (o : List ℕ) (os : Octets o) (m : Memory) (room : List ℕ) where
           subst (λ z. Comes o m room (unless z (accepted (loaded_of t))) (normal_answer lent (accepted t)) (handed lent normal_of (accepted t)) (loaded_into lent (accepted t) m))
           (sym (same-overflow o os (size_of room) m t j)) (on t j (leb (count t) (places_in m)) (stored_within lent t))
 
-  is-taken : {j : Judged} {a : WriteAnswer} {octets : List ℕ} {after : Memory} → Comes o m room j a octets after → left j m ≡ after
+  is-taken : {j : Judged} {a : Result OctetCount Refusal} {octets : List ℕ} {after : Memory} → Comes o m room j a octets after → left j m ≡ after
   unfolding left
   is-taken (ill r) = refl
   is-taken (well t j) = refl
 
   -- read back by the answer of taking in
-  ill-told : {j : Judged} {a : WriteAnswer} {octets : List ℕ} {after : Memory} → Comes o m room j a octets after → (r : Refusal) → NotChanged r ≡ edit_answer j → (NotWritten r ≡ a) × (octets ≡ [])
+  ill-told : {j : Judged} {a : Result OctetCount Refusal} {octets : List ℕ} {after : Memory} → Comes o m room j a octets after → (r : Refusal) → Err r ≡ edit_answer j → (Err r ≡ a) × (octets ≡ [])
   unfolding edit_answer
-  ill-told (ill x) r q = let e : r ≡ x = cc in (ap NotWritten e, refl)
+  ill-told (ill x) r q = let e : r ≡ x = cc in (ap Err e, refl)
   ill-told (well t j) r q = never cc
 
-  pub record Told (n : ℕ) (j : Judged) (a : WriteAnswer) (octets : List ℕ) : Type 0 where
+  pub record Told (n : ℕ) (j : Judged) (a : Result OctetCount Refusal) (octets : List ℕ) : Type 0 where
     pub item : Items
     pub judged : judge o ≡ accepted item
     pub taken : j ≡ accepted (loaded_of item)
     pub many : n ≡ count (loaded_of item)
-    pub answered : a ≡ Handed (size_of (normal_of item))
+    pub answered : a ≡ Ok (size_of (normal_of item))
     pub given : octets ≡ normal_of item
 
-  well-told : {j : Judged} {a : WriteAnswer} {octets : List ℕ} {after : Memory} → Comes o m room j a octets after → (n : ℕ) → HasRecords n ≡ edit_answer j → Told n j a octets
+  well-told : {j : Judged} {a : Result OctetCount Refusal} {octets : List ℕ} {after : Memory} → Comes o m room j a octets after → (n : ℕ) → Ok n ≡ edit_answer j → Told n j a octets
   unfolding edit_answer
   well-told (ill x) n q = never cc
   well-told (well t j) n q = record { item = t; judged = j; taken = refl; many = ap (λ a. (edit_outcome a).count) q; answered = refl; given = refl }
 
-  module _ (m' : Memory) (answer : EditAnswer) (c : TakeInClaim o (size_of room) m m' answer) where
-    pub normal-refused : (r : Refusal) → answer ≡ NotChanged r → NormaliseClaim o m m' room room (NotWritten r)
+  module _ (m' : Memory) (answer : Result ℕ Refusal) (c : TakeInClaim o (size_of room) m m' answer) where
+    pub normal-refused : (r : Refusal) → answer ≡ Err r → NormaliseClaim o m m' room room (Err r)
     normal-refused r q =
         let t = ill-told comes r (sym q ∙ c.answers) in
         record { answers = t.0; leaves = c.leaves ∙ is-taken comes; writes = sym (ap (sets room 0) t.1 ∙ sets-none room 0) }
 
-    module _ (n : ℕ) (q : answer ≡ HasRecords n) where
+    module _ (n : ℕ) (q : answer ≡ Ok n) where
       pub told : Told n (taken_in (size_of room) m (judge o)) (normal_answer lent (judge o)) (handed lent normal_of (judge o))
       told = well-told comes n (sym q ∙ c.answers)
 
@@ -118,7 +113,7 @@ module _ (o : List ℕ) (os : Octets o) (m : Memory) (room : List ℕ) where
           let e : n ≡ count t = told.many ∙ loaded-count o t os told.judged in
           ap (tree_held n) is-left ∙ (ap (λ k. tree_held k (lay_tree (loaded_of t) m)) e ∙ accepted-held o t os told.judged m ends.1)
 
-      pub normal-told : held_as (tree_held n m') ≡ Upto (length (packed_store (loaded_of t)))
+      pub normal-told : held_as (tree_held n m') ≡ Some (length (packed_store (loaded_of t)))
       unfolding held_as
       normal-told = ap held_as normal-held
 
@@ -138,18 +133,18 @@ module _ (o : List ℕ) (os : Octets o) (m : Memory) (room : List ℕ) where
       unfolding roomy
       fit = le-leb (length (encode (means [] (loaded_of t)))) (min (length room) 32_768) (le-min short ends.1.small)
 
-      pub normal-written : (after : List ℕ) (a : WriteAnswer) → WriteStateClaim n m' room after a → NormaliseClaim o m m' room after a
+      pub normal-written : (after : List ℕ) (a : Result OctetCount Refusal) → WriteStateClaim n m' room after a → NormaliseClaim o m m' room after a
       unfolding write_answer write_octets
       normal-written after a w =
-          let x : a ≡ Handed (size_of (encode (means [] (loaded_of t)))) = w.answers ∙ rw (normal-held, fit) in
+          let x : a ≡ Ok (size_of (encode (means [] (loaded_of t)))) = w.answers ∙ rw (normal-held, fit) in
           let y : after ≡ sets room 0 (encode (means [] (loaded_of t))) = w.leaves ∙ rw (normal-held, fit) in
           record {
-            answers = x ∙ (ap (λ z. Handed (size_of z)) same-means ∙ sym told.answered);
+            answers = x ∙ (ap (λ z. Ok (size_of z)) same-means ∙ sym told.answered);
             leaves = c.leaves ∙ is-taken comes;
             writes = y ∙ ap (sets room 0) (same-means ∙ sym told.given);
           }
 
-      pub normal-laid : AsLaid 0 (items_from (four_in m'.lists) n m'.store 1 0).0
+      pub normal-laid : AsLaid 0 (items_from m'.lists n m'.store 1 0).0
       normal-laid =
           let h = held n m' (loaded_of t) normal-held in
           subst (AsLaid 0) (sym (tree-items n m'.lists m'.store (loaded_of t) h.given)) (accepted-laid o t os told.judged)
@@ -164,18 +159,18 @@ room-enough lent t h =
     let c = leb (length (normal_of t)) (min lent.room.0 32_768) in
     omega (arith, leb-true (length (normal_of t)) (min lent.room.0 32_768) (and_right b c (and_right a (b && c) h)))
 
-module _ (o : List ℕ) (m m' : Memory) (room room' : List ℕ) (n : OctetCount) (c : NormaliseClaim o m m' room room' (Handed n)) where
+module _ (o : List ℕ) (m m' : Memory) (room room' : List ℕ) (n : OctetCount) (c : NormaliseClaim o m m' room room' (Ok n)) where
   within : n.0 ≤ length room
   unfolding normal_answer misfit
   within = go (judge o) c.answers
     where
-      by : (t : Items) (f : Bool) → fits_lent (lent_by m room) t ≡ f → (k : Bool) → Handed n ≡ cond f (Handed (size_of (normal_of t))) (cond k (NotWritten (refusal 15 0)) (NotWritten (refusal 14 0)))
+      by : (t : Items) (f : Bool) → fits_lent (lent_by m room) t ≡ f → (k : Bool) → Ok n ≡ cond f (Ok (size_of (normal_of t))) (cond k (Err (refusal 15 0)) (Err (refusal 14 0)))
           → n.0 ≤ length room
       by t true f k e = let z : n ≡ size_of (normal_of t) = cc in omega (arith, ap (λ s. s.0) z, room-enough (lent_by m room) t f)
       by t false f true e = never cc
       by t false f false e = never cc
 
-      go : (k : Judged) → Handed n ≡ normal_answer (lent_by m room) k → n.0 ≤ length room
+      go : (k : Judged) → Ok n ≡ normal_answer (lent_by m room) k → n.0 ≤ length room
       go (refused r) e = never cc
       go (accepted t) e = by t (fits_lent (lent_by m room) t) refl (leb (count t) (places_in m)) e
 

@@ -21,7 +21,7 @@ use Rattle.format.proofs.Force.{attribute-one}
 use Rattle.survey.specs.Normal.{value_octets, item_octets, attribute_octets, later_octets}
 use Rattle.survey.proofs.Ways.{item-known, Way, way}
 use Rattle.survey.proofs.Ways.Way.{is_attribute, is_cdata, is_element, is_leaf}
-use Rattle.survey.proofs.Sizes.{top-alone}
+use Rattle.survey.proofs.NormalSizes.{top-alone}
 
 abbrev cdata : Items → List ℕ
 cdata t = maybe (framed 1) (cdata_in [] t)

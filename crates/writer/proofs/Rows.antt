@@ -1,6 +1,6 @@
 -- Records by number in the lists that measuring and writing read: whether one is here, the items from it on, how many they are, and the rules that they keep.
-use mathlib.Core.Path.{◌≡◌, refl, ap, ◌∙◌, fun_ext}
-use mathlib.Core.Bool.{Bool, true, false, cond}
+use mathlib.Core.Path.{◌≡◌, refl, ap, ◌∙◌}
+use mathlib.Core.Bool.{Bool, true, false}
 use mathlib.Core.List.{List}
 use Prim.Native.Nat.{ℕ, zero, suc, ◌+◌, ◌-◌, ◌≤◌, ◌<◌}
 use native.Mathlib.Omega.{arith}
@@ -9,13 +9,13 @@ use lib.ListN.{length, length-append}
 use Rattle.format.specs.Tree.{Items}
 use Rattle.format.specs.Tree.Items.{end, item}
 use Rattle.format.specs.Meaning.{opens}
-use Rattle.format.specs.Writer.{below, past, body_in, here, tree}
+use Rattle.format.specs.Writer.{below, past, body_in, here}
 use Rattle.format.specs.Calls.{Lists, row}
 use Rattle.format.specs.State.{body_sizes}
 use Rattle.format.proofs.Kept.{Ruled, ruled-parts}
 use Rattle.format.proofs.Walk.{here-less}
 use Rattle.format.proofs.Trees.{tree-stop, tree-single, tree-nested, tree-ahead, tree-within}
-use Rattle.writer.specs.Steps.{four_of, items_from, Ordered}
+use Rattle.writer.specs.Steps.{items_from, Ordered}
 
 module _ (l : Lists) (n : ℕ) (lent : List ℕ) (d i : ℕ) where
   -- the items from record i on: none, one that holds no items, one that does
@@ -91,24 +91,3 @@ module _ (p tag at : ℕ) (body : List ℕ) (x y : Items) (o : Ordered p (item t
   pub ordered-behind : Ordered p y
   unfolding past
   ordered-behind = record { spot = past o.spot tag; element = o.element; rules = ordered-first.beside }
-
--- the tree goes by four of the lists alone
-abbrev pub four_in : Lists → Lists
-four_in l = four_of l.tags l.depths l.starts l.sizes
-
-abbrev turn : Lists → ℕ → List ℕ → (d i : ℕ) → (ℕ → ℕ → Items × ℕ) → Items × ℕ
-turn l n lent d i f =
-    let inner : Items × ℕ = cond (opens (row l i).tag) (f (suc d) (suc i)) (end, suc i) in
-    let rest = f d inner.1 in
-    let one : Items × ℕ = (item (row l i).tag (row l i).start (body_in lent (row l i)) inner.0 rest.0, rest.1) in
-    cond (here (row l) n d i) one (end, i)
-
-turn-four : (l : Lists) (n : ℕ) (lent : List ℕ) (d i : ℕ) (f g : ℕ → ℕ → Items × ℕ) → f ≡ g → turn (four_in l) n lent d i f ≡ turn l n lent d i g
-unfolding here body_in
-turn-four l n lent d i f g e = ap (turn l n lent d i) e
-
-pub tree-four : (l : Lists) (n : ℕ) (lent : List ℕ) (k d i : ℕ) → tree k (row (four_in l)) n lent d i ≡ tree k (row l) n lent d i
-unfolding tree
-tree-four l n lent zero d i = refl
-tree-four l n lent (suc k) d i =
-    turn-four l n lent d i (tree k (row (four_in l)) n lent) (tree k (row l) n lent) (fun_ext λ e. fun_ext λ j. tree-four l n lent k e j)

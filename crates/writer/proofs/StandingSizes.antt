@@ -21,7 +21,7 @@ use Rattle.format.proofs.Walk.{here-less, here-depth}
 use Rattle.survey.specs.Normal.{attribute_octets}
 use Rattle.writer.specs.Steps.{items_from, body_octets, SizesStand}
 use Rattle.writer.proofs.Order.{laid}
-use Rattle.writer.proofs.Rows.{from-stop, from-single, from-nested, from-ahead, from-many, four_in}
+use Rattle.writer.proofs.Rows.{from-stop, from-single, from-nested, from-ahead, from-many}
 use Rattle.writer.proofs.Whole.{tree-items, tree-rules, tree-many}
 
 -- what is known of the first number from a place on, and of those behind it
@@ -122,15 +122,14 @@ module _ (l : Lists) (n : ℕ) (lent bodies : List ℕ) where
       go true h true o ih = stood-nested k ih d i s rest lt r e h o
 
 -- so it is with all records
-pub sizes-stand : (n : ℕ) (lists : Lists) (lent : List ℕ) (t : Items) → tree_given n lists lent ≡ some t → (bodies : List ℕ) → n ≤ length bodies → take n bodies ≡ body_sizes 0 t
-    → SizesStand n (four_in lists) lent bodies
+pub sizes-stand : (n : ℕ) (l : Lists) (lent : List ℕ) (t : Items) → tree_given n l lent ≡ some t → (bodies : List ℕ) → n ≤ length bodies → take n bodies ≡ body_sizes 0 t
+    → SizesStand n l lent bodies
 unfolding at_top
-sizes-stand n lists lent t given bodies fewer sizes =
-    let l = four_in lists in
-    let is : (items_from l n lent 1 0).0 ≡ t = tree-items n lists lent t given in
+sizes-stand n l lent t given bodies fewer sizes =
+    let is : (items_from l n lent 1 0).0 ≡ t = tree-items n l lent t given in
     let all : drop 0 bodies ≡ body_sizes 0 (items_from l n lent 1 0).0 ++ drop n bodies =
     sym (take-append-drop n bodies) ∙ ap (λ z. z ++ drop n bodies) (sizes ∙ ap (body_sizes 0) (sym is)) in
-    let rules = subst (λ z. ruled at_top z ≡ true) (sym is) (tree-rules n lists lent t given) in
+    let rules = subst (λ z. ruled at_top z ≡ true) (sym is) (tree-rules n l lent t given) in
     let g = stood l n lent bodies (suc n) 1 0 at_top (drop n bodies) (omega arith) rules all in
-    let last : (items_from l n lent 1 0).1 ≡ n = omega (arith, from-many l n lent 1 0 0, ap (λ z. length (body_sizes 0 z)) is, tree-many n lists lent t given) in
+    let last : (items_from l n lent 1 0).1 ≡ n = omega (arith, from-many l n lent 1 0 0, ap (λ z. length (body_sizes 0 z)) is, tree-many n l lent t given) in
     record { places = fewer; right = λ i lt. g.right i (omega arith) (omega (arith, lt, last)) }

@@ -7,7 +7,7 @@ use native.Mathlib.Omega.{arith}
 use native.Mathlib.Nat.{add-sub_cancel_left}
 use native.Mathlib.Numerals.{add-one}
 use lib.Dec.{eqb, leb}
-use lib.ListN.{length, take, drop, get_or, set, length-take}
+use lib.ListN.{length, take, drop, get_or, set, length-take, length-drop}
 use lib.Seq.{sets}
 use borrow.Author.Tests.{lt-leb, le-leb, leb-false, leb-true, eq-eqb, ne_eqb}
 use mir.Syntax.{w16, w64}
@@ -223,11 +223,11 @@ module _ (l : Lists) (n : ℕ) (lent : List ℕ) (at depth p : ℕ) (before bodi
       unfolding Tells
       single-says = subst (Tells p depth lent (row l i)) f (tells p depth lent (row l i) x xe)
 
-      pub single-fits : Fits w16 (get_or l.sizes i 0) → Fits w64 (total + m.0)
+      pub single-fits : length lent < 9_223_372_036_854_775_808 → Fits w64 (total + m.0)
       unfolding body_in
       single-fits h =
           let s = inv.small in
-          omega (arith, single-says.1.short, length-take (row l i).size (drop (row l i).start lent))
+          omega (arith, single-says.1.short, length-take (row l i).size (drop (row l i).start lent), length-drop (row l i).start lent)
 
       single : items_from l n lent depth i ≡ (item tag-here (row l i).start body-here end (items_from l n lent depth (i + 1)).0, (items_from l n lent depth (i + 1)).1)
       single = let t = single-says in from-single l n lent depth i (here-is (row l) n depth i lt t.0) t.1.shut

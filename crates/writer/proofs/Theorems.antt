@@ -1,5 +1,6 @@
 -- What `write` promises of objects: what it writes is accepted and means what its records mean, and the records of an accepted object are written to that
 -- object's normal form. Each theorem takes the claim of the call (`WriteClaim`) and speaks of its answer and its room.
+use Rattle.std.specs.Prelude.{Result, Ok, Err}
 use mathlib.Core.Path.{◌≡◌, refl, sym, ap, ap₂, ◌∙◌, subst, fun_ext}
 use mathlib.Core.Bool.{Bool, true, false, cond, not, ◌&&◌, ◌||◌, false≢true}
 use mathlib.Core.Option.{Option, none, some, map}
@@ -27,8 +28,6 @@ use Rattle.values.specs.Table.{known, attribute}
 use Rattle.values.specs.Values.{meant}
 use Rattle.values.specs.Values.Value.{octets}
 use Rattle.values.proofs.Known.{known-anywhere, known-cdata, element-kind, attribute-kind, items-tag}
-use Rattle.format.specs.declared.WriteAnswer.{WriteAnswer}
-use Rattle.format.specs.declared.WriteAnswer.TheVariants.{Octets, NotWritten}
 use Rattle.format.specs.Answers.{refusal}
 use Rattle.format.specs.Tree.{Items, find, count, records_of}
 use Rattle.format.specs.Tree.Items.{end, item}
@@ -49,6 +48,7 @@ use Rattle.format.proofs.Fine.{known_is}
 use Rattle.format.proofs.Force.{top-known}
 use Rattle.format.proofs.Means.{means-attribute, means-cdata, means-element, means-leaf}
 use Rattle.format.proofs.Calls.{written-means}
+use Rattle.format.specs.declared.Refusal.{Refusal}
 use Rattle.state.specs.Taking.{write_sizes, WriteClaim}
 use Rattle.writer.specs.Theorems.{tableless, Delivered}
 use Rattle.survey.proofs.Ways.{Way, way}
@@ -67,12 +67,12 @@ module _ (n : ℕ) (m : Memory) (bodies' before after : List ℕ) where
     pub sizes : bodies' ≡ sets m.bodies 0 (body_sizes 0 tree)
     pub leaves : after ≡ sets before 0 (encode (means [] tree))
 
-  pub claim-fits : (k : OctetCount) → WriteClaim n m bodies' before after (Octets k) → Fits k
+  pub claim-fits : (k : OctetCount) → WriteClaim n m bodies' before after (Ok k) → Fits k
   unfolding write_answer write_octets write_sizes roomy
   claim-fits k c = go (tree_in n m) refl c.answers c.sizes c.leaves
     where
       some-tree : (t : Items) → tree_in n m ≡ some t → (b : Bool) → leb (length (encode (means [] t))) (min (length before) 32_768) ≡ b
-          → Octets k ≡ cond b (Octets (size_of (encode (means [] t)))) (NotWritten (refusal 15 0)) → bodies' ≡ sets m.bodies 0 (cond b (body_sizes 0 t) [])
+          → Ok k ≡ cond b (Ok (size_of (encode (means [] t)))) (Err (refusal 15 0)) → bodies' ≡ sets m.bodies 0 (cond b (body_sizes 0 t) [])
           → after ≡ sets before 0 (cond b (encode (means [] t)) []) → Fits k
       some-tree t e true q a z g =
           let s : k.0 ≡ length (encode (means [] t)) = cc in
@@ -89,13 +89,13 @@ module _ (n : ℕ) (m : Memory) (bodies' before after : List ℕ) where
           }
       some-tree t e false q a z g = never (cc)
 
-      go : (o : Option Items) → tree_in n m ≡ o → Octets k ≡ write_answer (size_of before) o → bodies' ≡ sets m.bodies 0 (write_sizes (size_of before) o)
+      go : (o : Option Items) → tree_in n m ≡ o → Ok k ≡ write_answer (size_of before) o → bodies' ≡ sets m.bodies 0 (write_sizes (size_of before) o)
           → after ≡ sets before 0 (write_octets (size_of before) o) → Fits k
       go none e a z g = never (cc)
       go (some t) e a z g = some-tree t e (leb (length (encode (means [] t))) (min (length before) 32_768)) refl a z g
 
   -- what is written is accepted, and means what the records mean
-  pub delivered : AllOctets m.store → (k : OctetCount) → WriteClaim n m bodies' before after (Octets k) → Delivered n m bodies' before after k
+  pub delivered : AllOctets m.store → (k : OctetCount) → WriteClaim n m bodies' before after (Ok k) → Delivered n m bodies' before after k
   delivered os k c =
       let f = claim-fits k c in
       let o = encode (means [] f.tree) in
@@ -194,7 +194,7 @@ module _ (o : List ℕ) (t : Items) (h : judge o ≡ accepted t) (n : ℕ) (l : 
 
   -- so what is written from them is the object's normal form
   pub object-written : (bodies bodies' before after : List ℕ) (k : OctetCount)
-      → WriteClaim n (record { lists = l; bodies = bodies; store = o }) bodies' before after (Octets k) → take k.0 after ≡ normal_of t
+      → WriteClaim n (record { lists = l; bodies = bodies; store = o }) bodies' before after (Ok k) → take k.0 after ≡ normal_of t
   object-written bodies bodies' before after k c =
       let f = claim-fits n (record { lists = l; bodies = bodies; store = o }) bodies' before after k c in
       let p = encode (means [] f.tree) in
@@ -275,9 +275,9 @@ module _ (o : List ℕ) (t : Items) (os : AllOctets o) (h : judge o ≡ accepted
       rw (le-leb (count t) (places l) places-enough)
       (whole-rebuilt (row l) (count t) o t (record { some = some-record; records = sym e; located = located o t h; rules = rules }))
 
-  pub tableless-written : (bodies bodies' before after : List ℕ) (answer : WriteAnswer) → count t ≤ length bodies → roomy (size_of before) (normal_of t) ≡ true
+  pub tableless-written : (bodies bodies' before after : List ℕ) (answer : Result OctetCount Refusal) → count t ≤ length bodies → roomy (size_of before) (normal_of t) ≡ true
       → WriteClaim (count t) (record { lists = l; bodies = bodies; store = o }) bodies' before after answer
-      → (answer ≡ Octets (size_of (normal_of t))) × (bodies' ≡ sets bodies 0 (body_sizes 0 t)) × (after ≡ sets before 0 (normal_of t))
+      → (answer ≡ Ok (size_of (normal_of t))) × (bodies' ≡ sets bodies 0 (body_sizes 0 t)) × (after ≡ sets before 0 (normal_of t))
   unfolding write_answer write_octets write_sizes
   tableless-written bodies bodies' before after answer many r c =
       let m : means [] t ≡ meaning_of t = object-means o t h (count t) l e t tableless-given in

@@ -1,4 +1,5 @@
 -- A tree that well-formed records give: what is measured and written of it, and what a call that writes it answers then.
+use Rattle.std.specs.Prelude.{Result, Ok, Err}
 use mathlib.Core.Path.{◌≡◌, refl, sym, ap, ◌∙◌, subst}
 use mathlib.Core.Bool.{Bool, true, false, cond, ◌&&◌}
 use mathlib.Core.Option.{Option, none, some, some-injective, none-ne-some}
@@ -13,9 +14,8 @@ use borrow.Author.Tests.{leb-true, lt-leb, eqb-true, eqb-false, ltb-true, ltb-fa
 use Rattle.octets.specs.Counts.{as_octets, size_of}
 use Rattle.octets.proofs.Tests.{and_right, chosen, never}
 use Rattle.octets.specs.Puts.{Lays}
+use Rattle.octets.specs.declared.counts.Octets.{Octets}
 use Rattle.format.specs.declared.Record.{Record}
-use Rattle.format.specs.declared.WriteAnswer.{WriteAnswer}
-use Rattle.format.specs.declared.WriteAnswer.TheVariants.{Octets, NotWritten}
 use Rattle.format.specs.Answers.{refusal}
 use Rattle.format.specs.Tree.{Items}
 use Rattle.format.specs.Meaning.{means, encode}
@@ -27,13 +27,13 @@ use Rattle.format.proofs.Walk.Walked.{stop, single, nested}
 use Rattle.format.proofs.Trees.{whole-tree}
 use Rattle.format.specs.State.{body_sizes}
 use Rattle.format.proofs.Rebuilt.{Whole, rebuilt-whole, whole-count}
+use Rattle.format.specs.declared.Refusal.{Refusal}
 use Rattle.writer.specs.declared.emit.Reached.{Reached}
 use Rattle.survey.specs.Normal.{normal_size, later_octets}
 use Rattle.writer.specs.Steps.{items_from, Holding, Ordered, Fitting, Emits}
-use Rattle.survey.proofs.Sizes.{size-whole}
+use Rattle.survey.proofs.NormalSizes.{size-whole}
 use Rattle.state.proofs.HeldTree.{sizes-count}
 use Rattle.writer.proofs.Order.{laid-whole}
-use Rattle.writer.proofs.Rows.{four_in, tree-four}
 
 -- each record that was walked over has its body in the lent octets
 walked-body : (row : ℕ → Record) (n : ℕ) (lent : List ℕ) {s : Spot} {p i j : ℕ} → Walked row n lent s p i j → (k : ℕ) → i ≤ k → k < j → (row k).start + (row k).size ≤ length lent
@@ -96,7 +96,7 @@ placed n l h =
     record { tags = omega arith; depths = omega arith; starts = omega arith; sizes = omega arith }
 
 -- what a call answers that is to write a tree, and leaves in the room
-pub record Gives (o : Option Items) (room after : List ℕ) (answer : WriteAnswer) : Type 0 where
+pub record Gives (o : Option Items) (room after : List ℕ) (answer : Result Octets Refusal) : Type 0 where
   pub answers : answer ≡ write_answer (size_of room) o
   pub leaves : after ≡ sets room 0 (write_octets (size_of room) o)
 
@@ -106,16 +106,15 @@ module _ (n : ℕ) (l : Lists) (lent : List ℕ) (t : Items) (e : tree_given n l
   unfolding tree_given
   given_both = let w = chosen (leb n (places l)) (sym e) (λ z. never (cc)) in (leb-true n (places l) w.0, sym w.1)
 
-  pub tree-holding : Holding n (four_in l) lent
+  pub tree-holding : Holding n l lent
   tree-holding =
       let p = placed n l given_both.0 in
       record { tags = p.tags; depths = p.depths; starts = p.starts; sizes = p.sizes; bodies = rebuilt-bodies (row l) n lent t given_both.1 }
 
-  pub tree-items : (items_from (four_in l) n lent 1 0).0 ≡ t
+  pub tree-items : (items_from l n lent 1 0).0 ≡ t
   unfolding items_from
   tree-items =
-      ap (λ x. x.0) (tree-four l n lent (suc (n - 0)) 1 0)
-      ∙ (sym (ap (λ x. x.0) (whole-tree (row l) n lent 1)) ∙ (rebuilt-reached (row l) n lent t given_both.1).1)
+      sym (ap (λ x. x.0) (whole-tree (row l) n lent 1)) ∙ (rebuilt-reached (row l) n lent t given_both.1).1
 
   tree-whole : Whole (row l) n lent t
   tree-whole = rebuilt-whole (row l) n lent t given_both.1
@@ -127,14 +126,14 @@ module _ (n : ℕ) (l : Lists) (lent : List ℕ) (t : Items) (e : tree_given n l
   pub tree-many : length (body_sizes 0 t) ≡ n
   tree-many = sizes-count t at_top 0 tree-rules ∙ sym (whole-count (row l) n lent t tree-whole)
 
-  pub tree-ordered : Ordered 0 (items_from (four_in l) n lent 1 0).0
+  pub tree-ordered : Ordered 0 (items_from l n lent 1 0).0
   unfolding at_top
   tree-ordered = rw tree-items (record { spot = at_top; element = refl; rules = tree-rules })
 
-  pub tree-size : normal_size 0 (items_from (four_in l) n lent 1 0).0 ≡ length (encode (means [] t))
+  pub tree-size : normal_size 0 (items_from l n lent 1 0).0 ≡ length (encode (means [] t))
   tree-size = rw tree-items (size-whole t tree-rules)
 
-  tree-octets : later_octets 0 (items_from (four_in l) n lent 1 0).0 ≡ encode (means [] t)
+  tree-octets : later_octets 0 (items_from l n lent 1 0).0 ≡ encode (means [] t)
   tree-octets = rw tree-items (laid-whole t tree-rules)
 
   -- 15: the octets are more than the room or than an object may have
@@ -142,13 +141,13 @@ module _ (n : ℕ) (l : Lists) (lent : List ℕ) (t : Items) (e : tree_given n l
   unfolding roomy
   not-roomy room h = lt-leb (length (encode (means [] t))) (min (length room) 32_768) h
 
-  pub too_many : (room : List ℕ) → roomy (size_of room) (encode (means [] t)) ≡ false → Gives (some t) room room (NotWritten (refusal 15 0))
+  pub too_many : (room : List ℕ) → roomy (size_of room) (encode (means [] t)) ≡ false → Gives (some t) room room (Err (refusal 15 0))
   unfolding write_answer write_octets
   too_many room f = record { answers = rw f; leaves = rw f }
 
   -- all fits, so that all can be written, and the answer is how much
   module _ (room : List ℕ) (fit : roomy (size_of room) (encode (means [] t)) ≡ true) where
-    pub tree-fits : Fitting (later_octets 0 (items_from (four_in l) n lent 1 0).0) 0 (length room)
+    pub tree-fits : Fitting (later_octets 0 (items_from l n lent 1 0).0) 0 (length room)
     unfolding roomy
     tree-fits =
         let k = leb-true (length (encode (means [] t))) (min (length room) 32_768) fit in
@@ -156,8 +155,8 @@ module _ (n : ℕ) (l : Lists) (lent : List ℕ) (t : Items) (e : tree_given n l
         let b = min-le_right (length room) 32_768 in
         rw tree-octets (record { in_room = omega (arith, k, a); in_object = omega (arith, k, b) })
 
-    pub tree-written : (after : List ℕ) (r : Reached) → Emits (items_from (four_in l) n lent 1 0) 0 0 room after r → Gives (some t) room after (Octets (as_octets r.end))
+    pub tree-written : (after : List ℕ) (r : Reached) → Emits (items_from l n lent 1 0) 0 0 room after r → Gives (some t) room after (Ok (as_octets r.end))
     unfolding write_answer write_octets
     tree-written after r g =
         let laid : Lays (encode (means [] t)) 0 room after r.end = rw tree-octets at g.lays in
-        record { answers = rw fit (ap (λ size. Octets (as_octets size)) (laid.ends ∙ omega arith)); leaves = rw fit laid.leaves }
+        record { answers = rw fit (ap (λ size. Ok (as_octets size)) (laid.ends ∙ omega arith)); leaves = rw fit laid.leaves }

@@ -9,12 +9,14 @@ use Rattle.octets.specs.Header.{framed}
 use Rattle.values.specs.Table.{known, attribute}
 use Rattle.values.specs.Calls.{default_octets}
 use Rattle.format.specs.declared.Record.{Record}
+use Rattle.format.specs.declared.lent.Records.{Records}
 use Rattle.format.specs.Tree.{Items, find}
 use Rattle.format.specs.Tree.Items.{end, item}
 use Rattle.format.specs.Meaning.{opens}
 use Rattle.format.specs.Writer.{Spot, body_in, tree, ruled}
 use Rattle.format.specs.Calls.{Lists, row}
-use Rattle.format.specs.State.{body_sizes}
+use Rattle.format.specs.Lent.{shared_lists}
+use Rattle.format.specs.State.{Memory, body_sizes}
 use Rattle.tags.specs.declared.Listed.{Listed}
 use Rattle.tags.specs.declared.Listed.TheVariants.{Nothing, Inside, Value}
 use Rattle.tags.specs.Listed.{listed_as}
@@ -28,15 +30,15 @@ use Rattle.writer.specs.declared.emit.Reached.{Reached}
 use Rattle.writer.specs.declared.emit.Role.{Role}
 use Rattle.writer.specs.declared.emit.Role.TheVariants.{Gone, Element, Attribute, Other}
 
--- measuring and writing read four of the lent lists
-abbrev pub four_of : (tags depths starts sizes : List ℕ) → Lists
-four_of tags depths starts sizes = record { tags = tags; kinds = []; depths = depths; parents = []; starts = starts; sizes = sizes }
+-- lent lists to read in, with what their bodies lie in and the list for the sizes of these, as memory
+abbrev pub given_memory : Records → (bodies store : List ℕ) → Memory
+given_memory records bodies store = record { lists = shared_lists records; bodies = bodies; store = store }
 
 -- the items of an element from record i on, at a depth, and the number of the first record past them
 unfoldable pub items_from : Lists → ℕ → List ℕ → (depth i : ℕ) → Items × ℕ
 items_from l n lent depth i = tree (suc (n - i)) (row l) n lent depth i
 
--- n records have places in the four lists, and the bodies of all lie in the lent octets and have sizes of 16 bits
+-- n records have places in the four lists that measuring and writing read, and the bodies of all lie in the lent octets and have sizes of 16 bits
 pub record Holding (n : ℕ) (l : Lists) (lent : List ℕ) : Type 0 where
   pub tags : n ≤ length l.tags
   pub depths : n ≤ length l.depths
@@ -85,14 +87,14 @@ pub record Fitting (octets : List ℕ) (to room : ℕ) : Type 0 where
   pub in_room : to + length octets ≤ room
   pub in_object : to + length octets ≤ 32_768
 
--- the body of record i among starts and sizes, and that it lies in the lent octets
-unfoldable pub body_at : ℕ → (starts sizes lent : List ℕ) → List ℕ
-body_at i starts sizes lent = take (get_or sizes i 0) (drop (get_or starts i 0) lent)
+-- the body of record i, and that it lies in the lent octets
+unfoldable pub body_at : ℕ → Lists → List ℕ → List ℕ
+body_at i l lent = take (get_or l.sizes i 0) (drop (get_or l.starts i 0) lent)
 
-pub record BodyAt (i : ℕ) (starts sizes lent : List ℕ) : Type 0 where
-  pub start : i < length starts
-  pub size : i < length sizes
-  pub inside : get_or starts i 0 + get_or sizes i 0 ≤ length lent
+pub record BodyAt (i : ℕ) (l : Lists) (lent : List ℕ) : Type 0 where
+  pub start : i < length l.starts
+  pub size : i < length l.sizes
+  pub inside : get_or l.starts i 0 + get_or l.sizes i 0 ≤ length lent
 
 -- a body that is its normal octets already: it is written as it stands, unless it is a default, which isn't written
 abbrev pub Standing : (parent tag : ℕ) → List ℕ → Type 0
@@ -135,16 +137,15 @@ lowest tag place = record { tag = tag; place = place }
 unfoldable pub lower_of : Option Lowest → (least tag i : ℕ) → Option Lowest
 lower_of a least tag i = cond (leb least tag && ltb tag (limit_of a)) (Some (lowest tag i)) a
 
--- the items of an element have an attribute's tag, below 0x87, at its record, whatever their bodies are, as long as they keep the rules
-pub record Stands (n : ℕ) (tags depths : List ℕ) (at depth : ℕ) (a : Lowest) : Type 0 where
+-- the items of an element have an attribute's tag, below 0x87, at its record, whatever octets their bodies lie in, as long as they keep the rules
+pub record Stands (n : ℕ) (l : Lists) (at depth : ℕ) (a : Lowest) : Type 0 where
   pub most : a.tag < 0x87
   pub within : a.place < n
-  pub body : (starts sizes lent : List ℕ) (s : Spot) → ruled s (items_from (four_of tags depths starts sizes) n lent depth at).0 ≡ true
-      → find a.tag (items_from (four_of tags depths starts sizes) n lent depth at).0 ≡ some (body_in lent (row (four_of tags depths starts sizes) a.place))
+  pub body : (lent : List ℕ) (s : Spot) → ruled s (items_from l n lent depth at).0 ≡ true → find a.tag (items_from l n lent depth at).0 ≡ some (body_in lent (row l a.place))
 
 -- and none of a tag below it, from the one that was asked for on
-pub record FindsLowest (n : ℕ) (tags depths : List ℕ) (at depth least : ℕ) (a : Option Lowest) : Type 0 where
+pub record FindsLowest (n : ℕ) (l : Lists) (at depth least : ℕ) (a : Option Lowest) : Type 0 where
   pub from : least ≤ limit_of a
-  pub stands : (found : Lowest) → a ≡ Some found → Stands n tags depths at depth found
-  pub between : (t : ℕ) → least ≤ t → t < limit_of a → (starts sizes lent : List ℕ) (s : Spot)
-      → ruled s (items_from (four_of tags depths starts sizes) n lent depth at).0 ≡ true → find t (items_from (four_of tags depths starts sizes) n lent depth at).0 ≡ none
+  pub stands : (found : Lowest) → a ≡ Some found → Stands n l at depth found
+  pub between : (t : ℕ) → least ≤ t → t < limit_of a → (lent : List ℕ) (s : Spot) → ruled s (items_from l n lent depth at).0 ≡ true
+      → find t (items_from l n lent depth at).0 ≡ none

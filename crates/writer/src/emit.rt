@@ -5,14 +5,17 @@
 ghost use Rattle.std.specs.Prelude.{◌≡◌, true, ◌+◌, ◌≤◌, ◌<◌, length, get_or};
 ghost use Rattle.octets.specs.Puts.{Lays};
 ghost use Rattle.survey.specs.Normal.{item_octets, attribute_octets, later_octets};
-ghost use Rattle.writer.specs.Steps.{four_of, items_from, Holding, Ordered, Fitting, limit_of, lower_of, FindsLowest, BodyAt, body_at};
+ghost use Rattle.format.specs.Lent.{shared_lists};
+ghost use Rattle.state.specs.Taking.{shared_memory};
+ghost use Rattle.writer.specs.Steps.{items_from, Holding, Ordered, Fitting, limit_of, lower_of, FindsLowest, BodyAt, body_at};
 ghost use Rattle.writer.specs.Steps.{role_of, Emits, Standing, AsLaid, SizesStand};
 
 use crate::item::{put_header, put_item, put_stored};
+use format::Records;
 use octets::Octets;
+use state::Memory;
 use survey::written_as;
 use tags::holds_items;
-use values::KnownKind;
 
 // An attribute and its record: the one with the lowest tag of those that were asked for.
 #[derive(Clone, Copy)]
@@ -64,21 +67,20 @@ fn lower(lowest: Option<Lowest>, least: u8, tag: u8, i: usize) -> Option<Lowest>
 // items, so an element without any is done with at its first record.
 fn next_attribute(
     count: usize,
-    tags: &[u8],
-    depths: &[u8],
+    records: &Records,
     at: usize,
     depth: usize,
     least: u8,
 ) -> Option<Lowest>
-    requires { (count ≤ length tags.now) × (count ≤ length depths.now) × (0x80 ≤ least) × (least ≤ 0x87) }
-    ensures { FindsLowest count tags.now depths.now at depth least result }
+    requires { (count ≤ length records.now.tags.now) × (count ≤ length records.now.depths.now) × (0x80 ≤ least) × (least ≤ 0x87) }
+    ensures { FindsLowest count (shared_lists records.now) at depth least result }
 {
     let mut lowest = None;
     for i in at..count {
-        if depths[i] as usize != depth {
+        if records.depths[i] as usize != depth {
             return lowest;
         }
-        let tag = tags[i];
+        let tag = records.tags[i];
         if tag < 0x80 {
             return lowest;
         }
@@ -94,7 +96,7 @@ fn put_written(room: &mut [u8], to: usize, parent: u8, tag: u8, body: &[u8], sto
     requires fitting { Fitting (item_octets parent tag body.now) to (length room.old) }
     ensures { Lays (item_octets parent tag body.now) to room.old room.new result }
 {
-    let KnownKind::Known(kind) = written_as(parent, tag, body) else {
+    let Some(kind) = written_as(parent, tag, body) else {
         return to;
     };
     if stored {
@@ -109,30 +111,24 @@ fn put_body(
     to: usize,
     parent: u8,
     tag: u8,
-    starts: &[u16],
-    sizes: &[u16],
-    octets: &[u8],
+    memory: &Memory,
     i: usize,
     stored: bool,
 ) -> usize
-    requires body_at { BodyAt i starts.now sizes.now octets.now }
-    requires standing { stored ≡ true → Standing parent tag (body_at i starts.now sizes.now octets.now) }
-    requires fitting { Fitting (item_octets parent tag (body_at i starts.now sizes.now octets.now)) to (length room.old) }
-    ensures { Lays (item_octets parent tag (body_at i starts.now sizes.now octets.now)) to room.old room.new result }
+    requires body_at { let m = shared_memory memory.now in BodyAt i m.lists m.store }
+    requires standing { let m = shared_memory memory.now in stored ≡ true → Standing parent tag (body_at i m.lists m.store) }
+    requires fitting { let m = shared_memory memory.now in Fitting (item_octets parent tag (body_at i m.lists m.store)) to (length room.old) }
+    ensures { let m = shared_memory memory.now in Lays (item_octets parent tag (body_at i m.lists m.store)) to room.old room.new result }
 {
-    let start = starts[i] as usize;
-    let end = start + sizes[i] as usize;
-    put_written(room, to, parent, tag, &octets[start..end], stored)
+    let start = memory.records.starts[i] as usize;
+    let end = start + memory.records.sizes[i] as usize;
+    put_written(room, to, parent, tag, &memory.store[start..end], stored)
 }
 
 // The attributes of an element by rising tag.
 fn emit_attributes(
     count: usize,
-    tags: &[u8],
-    depths: &[u8],
-    starts: &[u16],
-    sizes: &[u16],
-    octets: &[u8],
+    memory: &Memory,
     at: usize,
     depth: usize,
     parent: u8,
@@ -140,26 +136,16 @@ fn emit_attributes(
     to: usize,
     stored: bool,
 ) -> usize
-    requires holding { Holding count (four_of tags.now depths.now starts.now sizes.now) octets.now × Ordered parent (items_from (four_of tags.now depths.now starts.now sizes.now) count octets.now depth at).0 }
-    requires as_laid { stored ≡ true → AsLaid parent (items_from (four_of tags.now depths.now starts.now sizes.now) count octets.now depth at).0 }
-    requires fitting { Fitting (attribute_octets parent (items_from (four_of tags.now depths.now starts.now sizes.now) count octets.now depth at).0) to (length room.old) }
-    ensures { Lays (attribute_octets parent (items_from (four_of tags.now depths.now starts.now sizes.now) count octets.now depth at).0) to room.old room.new result }
+    requires holding { let m = shared_memory memory.now in Holding count m.lists m.store × Ordered parent (items_from m.lists count m.store depth at).0 }
+    requires as_laid { let m = shared_memory memory.now in stored ≡ true → AsLaid parent (items_from m.lists count m.store depth at).0 }
+    requires fitting { let m = shared_memory memory.now in Fitting (attribute_octets parent (items_from m.lists count m.store depth at).0) to (length room.old) }
+    ensures { let m = shared_memory memory.now in Lays (attribute_octets parent (items_from m.lists count m.store depth at).0) to room.old room.new result }
 {
     let mut end = to;
-    let mut next = next_attribute(count, tags, depths, at, depth, 0x80);
+    let mut next = next_attribute(count, &memory.records, at, depth, 0x80);
     while let Some(lowest) = next {
-        end = put_body(
-            room,
-            end,
-            parent,
-            lowest.tag,
-            starts,
-            sizes,
-            octets,
-            lowest.place,
-            stored,
-        );
-        next = next_attribute(count, tags, depths, at, depth, lowest.tag + 1);
+        end = put_body(room, end, parent, lowest.tag, memory, lowest.place, stored);
+        next = next_attribute(count, &memory.records, at, depth, lowest.tag + 1);
     }
     end
 }
@@ -183,16 +169,11 @@ fn role_at(tags: &[u8], depths: &[u8], i: usize, depth: usize) -> Role
 }
 
 // The items of an element of a tag but for its attributes, from record `at` on, front to back: the size of an element's body stands in `bodies`, so that its header is
-// written before what is in it. An element among them is no function of its own: one that calls this one, and is called by it, lays every slice that is lent on the
+// written before what is in it. An element among them is no function of its own: one that calls this one, and is called by it, lays what is lent on the
 // stack once more for each element, and `write` took 4 % longer so.
 pub fn emit_items(
     count: usize,
-    tags: &[u8],
-    depths: &[u8],
-    starts: &[u16],
-    sizes: &[u16],
-    bodies: &[u16],
-    octets: &[u8],
+    memory: &Memory,
     at: usize,
     depth: usize,
     parent: u8,
@@ -200,17 +181,17 @@ pub fn emit_items(
     to: usize,
     stored: bool,
 ) -> Reached
-    requires holding { Holding count (four_of tags.now depths.now starts.now sizes.now) octets.now × Ordered parent (items_from (four_of tags.now depths.now starts.now sizes.now) count octets.now depth at).0 × (at ≤ count) × (depth ≤ at + 1) }
-    requires as_laid { stored ≡ true → AsLaid parent (items_from (four_of tags.now depths.now starts.now sizes.now) count octets.now depth at).0 }
-    requires sizes_stand { SizesStand count (four_of tags.now depths.now starts.now sizes.now) octets.now bodies.now }
-    requires fitting { Fitting (later_octets parent (items_from (four_of tags.now depths.now starts.now sizes.now) count octets.now depth at).0) to (length room.old) }
-    ensures { Emits (items_from (four_of tags.now depths.now starts.now sizes.now) count octets.now depth at) parent to room.old room.new result }
+    requires holding { let m = shared_memory memory.now in Holding count m.lists m.store × Ordered parent (items_from m.lists count m.store depth at).0 × (at ≤ count) × (depth ≤ at + 1) }
+    requires as_laid { let m = shared_memory memory.now in stored ≡ true → AsLaid parent (items_from m.lists count m.store depth at).0 }
+    requires sizes_stand { let m = shared_memory memory.now in SizesStand count m.lists m.store m.bodies }
+    requires fitting { let m = shared_memory memory.now in Fitting (later_octets parent (items_from m.lists count m.store depth at).0) to (length room.old) }
+    ensures { let m = shared_memory memory.now in Emits (items_from m.lists count m.store depth at) parent to room.old room.new result }
 {
     // Kept: this walk's step is data, as many records as an element holds, so no range has its numbers.
     let mut i = at;
     let mut end = to;
     while i < count {
-        match role_at(tags, depths, i, depth) {
+        match role_at(memory.records.tags, memory.records.depths, i, depth) {
             Role::Gone => {
                 return Reached { end, next: i };
             }
@@ -218,41 +199,16 @@ pub fn emit_items(
                 i += 1;
             }
             Role::Other(tag) => {
-                end = put_body(room, end, parent, tag, starts, sizes, octets, i, stored);
+                end = put_body(room, end, parent, tag, memory, i, stored);
                 i += 1;
             }
             Role::Element(tag) => {
-                let size = bodies[i] as usize;
+                let size = memory.bodies[i] as usize;
                 let from = put_header(room, end, tag, Octets(size));
-                let behind = emit_attributes(
-                    count,
-                    tags,
-                    depths,
-                    starts,
-                    sizes,
-                    octets,
-                    i + 1,
-                    depth + 1,
-                    tag,
-                    room,
-                    from,
-                    stored,
-                );
-                let inner = emit_items(
-                    count,
-                    tags,
-                    depths,
-                    starts,
-                    sizes,
-                    bodies,
-                    octets,
-                    i + 1,
-                    depth + 1,
-                    tag,
-                    room,
-                    behind,
-                    stored,
-                );
+                let behind =
+                    emit_attributes(count, memory, i + 1, depth + 1, tag, room, from, stored);
+                let inner =
+                    emit_items(count, memory, i + 1, depth + 1, tag, room, behind, stored);
                 end = inner.end;
                 i = inner.next;
             }

@@ -6,7 +6,7 @@ ghost use Rattle.octets.specs.Puts.{Lays};
 ghost use Rattle.survey.specs.Normal.{value_octets};
 ghost use Rattle.writer.specs.Steps.{Fitting};
 
-use octets::{Octets, Put};
+use octets::Octets;
 use survey::value_size;
 use values::{Kind, put_normal};
 
@@ -15,22 +15,14 @@ pub fn put_header(room: &mut [u8], to: usize, tag: u8, n: Octets) -> usize
     requires fitting { Fitting (tag ∷ length_field n.0) to (length room.old) }
     ensures { Lays (tag ∷ length_field n.0) to room.old room.new result }
 {
-    match octets::write_header(room, to, tag, n) {
-        Put::Done(end) => end,
-        Put::NoRoom => to,
-        Put::Invalid => to,
-    }
+    octets::write_header(room, to, tag, n).unwrap_or(to)
 }
 
 fn put_value(room: &mut [u8], to: usize, kind: Kind, body: &[u8]) -> usize
     requires { Fitting (value_octets kind body.now) to (length room.old) }
     ensures { Lays (value_octets kind body.now) to room.old room.new result }
 {
-    match put_normal(kind, body, room, to) {
-        Put::Done(end) => end,
-        Put::NoRoom => to,
-        Put::Invalid => to,
-    }
+    put_normal(kind, body, room, to).unwrap_or(to)
 }
 
 // An item that is written as a value of a kind.

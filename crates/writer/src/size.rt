@@ -3,8 +3,10 @@
 // may be. Cost: each record is looked at once.
 ghost use Rattle.std.specs.Prelude.{◌≡◌, ◌+◌, ◌≤◌, ◌<◌, length, set};
 ghost use Rattle.format.specs.Calls.{row};
-ghost use Rattle.writer.specs.Steps.{four_of, items_from, Holding, Ordered, part_of, part_at, Sizes};
+ghost use Rattle.format.specs.Lent.{shared_lists};
+ghost use Rattle.writer.specs.Steps.{items_from, Holding, Ordered, part_of, part_at, Sizes};
 
+use format::Records;
 use octets::Octets;
 use state::{framed_size, item_adds};
 use survey::value_size;
@@ -44,25 +46,16 @@ fn part_of(parent: u8, tag: u8, body: &[u8]) -> Part
     }
 }
 
-fn part_at(
-    tags: &[u8],
-    depths: &[u8],
-    starts: &[u16],
-    sizes: &[u16],
-    octets: &[u8],
-    i: usize,
-    depth: usize,
-    parent: u8,
-) -> Part
-    requires { Holding (i + 1) (four_of tags.now depths.now starts.now sizes.now) octets.now }
-    ensures { result ≡ part_at parent depth octets.now (row (four_of tags.now depths.now starts.now sizes.now) i) }
+fn part_at(records: &Records, octets: &[u8], i: usize, depth: usize, parent: u8) -> Part
+    requires { Holding (i + 1) (shared_lists records.now) octets.now }
+    ensures { result ≡ part_at parent depth octets.now (row (shared_lists records.now) i) }
 {
-    if depths[i] as usize != depth {
+    if records.depths[i] as usize != depth {
         return Part::Past;
     }
-    let start = starts[i] as usize;
-    let end = start + sizes[i] as usize;
-    part_of(parent, tags[i], &octets[start..end])
+    let start = records.starts[i] as usize;
+    let end = start + records.sizes[i] as usize;
+    part_of(parent, records.tags[i], &octets[start..end])
 }
 
 // The size of record `i`, where the list has a place for it.
@@ -77,24 +70,21 @@ fn put_size(bodies: &mut [u16], i: usize, size: u16)
 // The items of an element of a tag from record `at` on, at a depth. None: their size is above 32,768.
 pub fn size_items(
     count: usize,
-    tags: &[u8],
-    depths: &[u8],
-    starts: &[u16],
-    sizes: &[u16],
+    records: &Records,
     bodies: &mut [u16],
     octets: &[u8],
     at: usize,
     depth: usize,
     parent: u8,
 ) -> Option<Extent>
-    requires { Holding count (four_of tags.now depths.now starts.now sizes.now) octets.now × Ordered parent (items_from (four_of tags.now depths.now starts.now sizes.now) count octets.now depth at).0 × (at ≤ count) × (depth ≤ at + 1) }
-    ensures { Sizes count (four_of tags.now depths.now starts.now sizes.now) octets.now parent depth at bodies.old bodies.new result }
+    requires { Holding count (shared_lists records.now) octets.now × Ordered parent (items_from (shared_lists records.now) count octets.now depth at).0 × (at ≤ count) × (depth ≤ at + 1) }
+    ensures { Sizes count (shared_lists records.now) octets.now parent depth at bodies.old bodies.new result }
 {
     // Kept: this walk's step is data, as many records as an element holds, so no range has its numbers.
     let mut i = at;
     let mut total: usize = 0;
     while i < count {
-        match part_at(tags, depths, starts, sizes, octets, i, depth, parent) {
+        match part_at(records, octets, i, depth, parent) {
             Part::Past => {
                 return Some(Extent {
                     total: Octets(total),
@@ -107,18 +97,7 @@ pub fn size_items(
                 i += 1;
             }
             Part::Holds(tag) => {
-                let inner = size_items(
-                    count,
-                    tags,
-                    depths,
-                    starts,
-                    sizes,
-                    bodies,
-                    octets,
-                    i + 1,
-                    depth + 1,
-                    tag,
-                )?;
+                let inner = size_items(count, records, bodies, octets, i + 1, depth + 1, tag)?;
                 let size = inner.total.0 as u16;
                 put_size(bodies, i, size);
                 total += framed_size(size).0;

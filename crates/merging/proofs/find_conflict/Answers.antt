@@ -2,8 +2,8 @@ use Rattle.merging.proofs.Settling.{conflict-ways}
 use borrow.Author.Rules.{rules}
 use Rattle.merging.proofs.find_conflict.Goals as goal
 
-pub returns-in-NotRead : goal.returns-in-NotRead
-returns-in-NotRead c = search (conflict-ways, rules)
+pub returns-in-Err : goal.returns-in-Err
+returns-in-Err c = search (conflict-ways, rules)
 
 pub returns-in-NotRead-judge : goal.returns-in-NotRead-judge
 returns-in-NotRead-judge c = search (conflict-ways, rules)

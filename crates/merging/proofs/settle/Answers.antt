@@ -2,8 +2,8 @@ use Rattle.merging.proofs.Settling.{settle-ways}
 use borrow.Author.Rules.{rules}
 use Rattle.merging.proofs.settle.Goals as goal
 
-pub returns-then-octet_at : goal.returns-then-octet_at
-returns-then-octet_at c = search (settle-ways, rules)
+pub returns-then-at_or : goal.returns-then-at_or
+returns-then-at_or c = search (settle-ways, rules)
 
 pub returns-then-has_clash : goal.returns-then-has_clash
 returns-then-has_clash c = search (settle-ways, rules)

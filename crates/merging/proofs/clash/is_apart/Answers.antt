@@ -1,13 +1,12 @@
-use borrow.Author.Tests.{not-true, not-false}
 use Rattle.merging.proofs.ClashWays.{apart-ways}
 use borrow.Author.Rules.{rules}
 use Rattle.merging.proofs.clash.is_apart.Goals as goal
 
-pub returns-then-not-is_found : goal.returns-then-not-is_found
-returns-then-not-is_found c = search (apart-ways, not-true, not-false, rules)
+pub returns-then-is_none : goal.returns-then-is_none
+returns-then-is_none c = search (apart-ways, rules)
 
-pub returns-then-not-is_found-2 : goal.returns-then-not-is_found-2
-returns-then-not-is_found-2 c = search (apart-ways, not-true, not-false, rules)
+pub returns-then-is_none-2 : goal.returns-then-is_none-2
+returns-then-is_none-2 c = search (apart-ways, rules)
 
 pub returns : goal.returns
-returns c = search (apart-ways, not-true, not-false, rules)
+returns c = search (apart-ways, rules)

@@ -1,15 +1,12 @@
 use borrow.Author.Rules.{rules}
-use Rattle.merging.proofs.Deciding.{decided-ways}
+use Rattle.std.proofs.lemmas.Result.{err_from_is_err_and}
+use Rattle.merging.proofs.Deciding.{decided-refused, decided-free}
 use Rattle.merging.proofs.merged.decide.Goals as goal
 
-pub returns-in-InBasic : goal.returns-in-InBasic
-returns-in-InBasic c = search (decided-ways, rules)
+pub returns-in_err-find_conflict : goal.returns-in_err-find_conflict
+returns-in_err-find_conflict c =
+    let p = err_from_is_err_and c.from_residual.result c.from_residual.ensures.1 in
+    rw (p.1, p.2) (decided-refused _ _ _ _ _ _ _ c.find_conflict.ensures _ c.in_err-find_conflict.was)
 
-pub returns-in-InAdvanced : goal.returns-in-InAdvanced
-returns-in-InAdvanced c = search (decided-ways, rules)
-
-pub returns-in-InBoth : goal.returns-in-InBoth
-returns-in-InBoth c = search (decided-ways, rules)
-
-pub returns-in-Free : goal.returns-in-Free
-returns-in-Free c = search (decided-ways, rules)
+pub returns : goal.returns
+returns c = search (decided-free _ _ _ _ _ _ _ c.find_conflict.ensures c.in_ok-find_conflict.was, rules)

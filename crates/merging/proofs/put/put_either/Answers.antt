@@ -14,8 +14,8 @@ slice_bounds-put_single-start c = search (either-ways, rules)
 pub slice_bounds-put_single-end : goal.slice_bounds-put_single-end
 slice_bounds-put_single-end c = search (either-ways, rules)
 
-pub returns-in-Between : goal.returns-in-Between
-returns-in-Between c = search (either-ways, rules)
+pub returns-in-Some : goal.returns-in-Some
+returns-in-Some c = search (either-ways, rules)
 
 pub returns-in_default-find_counted-2 : goal.returns-in_default-find_counted-2
 returns-in_default-find_counted-2 c = search (either-ways, rules)

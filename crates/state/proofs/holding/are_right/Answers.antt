@@ -13,8 +13,8 @@ returns-in_default c = search (righting-ways, rules)
 
 pub loop-i-preserved : goal.loop-i-preserved
 loop-i-preserved c =
-    righting-next _ _ _ _ _ _ _ _ _ _ c.loop-i.invariant c.loop-i-test.true _ c.own_size.ensures
-    c.if-body-own_size.false _ c.octet_at-element.ensures _ c.added_by-part.ensures _ c.sum_with.ensures
+    righting-next _ _ _ _ c.loop-i.invariant c.loop-i-test.true _ c.own_size.ensures
+    c.if-body-own_size.false _ c.at_or-element.ensures _ c.added_by-part.ensures _ c.sum_with.ensures
     _ c.in-Some.is _ c.sum_up.ensures
 
 pub returns : goal.returns

@@ -1,5 +1,5 @@
 use Rattle.writer.proofs.Emitting.{Written}
-use Rattle.writer.specs.Steps.{four_of}
+use Rattle.format.specs.Lent.{shared_lists}
 use Prim.Native.Nat.{◌-◌}
 use Rattle.writer.proofs.emit.+emit_items.Given as goal
 
@@ -8,7 +8,7 @@ decreases-emit_items l = l.count - l.at
 
 abbrev pub invariant-loop-i : goal.invariant-loop-i
 invariant-loop-i l =
-    Written l.stored (four_of l.tags l.depths l.starts l.sizes) l.count l.octets l.parent l.depth l.at l.to l.initial.room l.room l.i l.end
+    Written l.stored (shared_lists l.memory.records) l.count l.memory.store.now l.parent l.depth l.at l.to l.initial.room l.room l.i l.end
 
 abbrev pub decreases-loop-i : goal.decreases-loop-i
 decreases-loop-i l =

@@ -1,7 +1,7 @@
 use Rattle.writer.proofs.Summing.{Added, sums-past, sums-end, single-fits, single-added, holds-ordered, holds-over, inner-small, inner-fits, holds-added}
 use Rattle.writer.proofs.Summing.{added-over, added-less, added_next}
 use Rattle.writer.proofs.Summing.{falls-within, deeper}
-use Rattle.writer.specs.Steps.{four_of}
+use Rattle.format.specs.Lent.{shared_lists}
 use mathlib.Core.Path.{◌∙◌}
 use native.Mathlib.Omega.{arith}
 use Prim.Native.Nat.{ℕ}
@@ -10,7 +10,7 @@ use Rattle.writer.proofs.size.+size_items.Goals.{Joined-part_at, in-Single, in-H
 
 -- one turn, as either arm leaves it
 turn : (t : ℕ) (c : Joined-part_at t)
-    → Added (four_of c.args.tags.now c.args.depths.now c.args.starts.now c.args.sizes.now) c.args.count c.args.octets.now c.args.at c.args.depth c.args.parent
+    → Added (shared_lists c.args.records.now) c.args.count c.args.octets.now c.args.at c.args.depth c.args.parent
     c.args.bodies.now c.match-part_at.bodies c.loop-i.i c.match-part_at.i c.match-part_at.total
 turn t c =
     elim c.match-part_at.branch [
@@ -25,7 +25,7 @@ returns-in-Past t c =
 
 pub overflow_add-total : goal.overflow_add-total
 overflow_add-total t c =
-    single-fits _ _ _ _ _ _ _ _ _ _ c.loop-i.invariant c.loop-i-test.true _ c.part_at.ensures _ _ c.in-Single.is (c.type_inv.sizes c.loop-i.i)
+    single-fits _ _ _ _ _ _ _ _ _ _ c.loop-i.invariant c.loop-i-test.true _ c.part_at.ensures _ _ c.in-Single.is (omega arith)
 
 pub size_items-requires : goal.size_items-requires
 size_items-requires t c =

@@ -1,5 +1,5 @@
 use Rattle.writer.proofs.Summing.{Sums}
-use Rattle.writer.specs.Steps.{four_of}
+use Rattle.format.specs.Lent.{shared_lists}
 use Prim.Native.Nat.{◌-◌}
 use Rattle.writer.proofs.size.+size_items.Given as goal
 
@@ -9,7 +9,7 @@ decreases-size_items l =
 
 abbrev pub invariant-loop-i : goal.invariant-loop-i
 invariant-loop-i l =
-    Sums (four_of l.tags l.depths l.starts l.sizes) l.count l.octets l.at l.depth l.parent l.initial.bodies l.bodies l.i l.total
+    Sums (shared_lists l.records) l.count l.octets l.at l.depth l.parent l.initial.bodies l.bodies l.i l.total
 
 abbrev pub decreases-loop-i : goal.decreases-loop-i
 decreases-loop-i l =
