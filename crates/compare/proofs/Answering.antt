@@ -1,4 +1,5 @@
 -- The ways through compare_accepted and same: two parts that are whole objects, under the tables that are found in them.
+use Rattle.std.specs.Prelude.{Result, Ok, Err}
 use mathlib.Core.Path.{◌≡◌, refl, sym, ap, ap₂, ◌∙◌, fun_ext}
 use mathlib.Core.Bool.{Bool, true, false, cond}
 use mathlib.Core.Option.{Option, none, some}
@@ -15,10 +16,6 @@ use Rattle.values.specs.Values.{meant}
 use Rattle.values.specs.Values.Value.{octets}
 use Rattle.format.specs.declared.Refusal.{Refusal}
 use Rattle.format.specs.declared.Counts.{Counts}
-use Rattle.format.specs.declared.ReadAnswer.{ReadAnswer}
-use Rattle.format.specs.declared.ReadAnswer.TheVariants.{Records, NotRead}
-use Rattle.format.specs.declared.SameAnswer.{SameAnswer}
-use Rattle.format.specs.declared.SameAnswer.TheVariants.{Same, Different, FirstRefused, SecondRefused}
 use Rattle.format.specs.Tree.{Items, find}
 use Rattle.format.specs.Tree.Items.{end, item}
 use Rattle.format.specs.Judge.{is_text, judge}
@@ -33,6 +30,8 @@ use Rattle.survey.specs.Places.{table_body}
 use Rattle.survey.proofs.Tables.{table-told}
 use Rattle.compare.specs.Normal.{shaped}
 use Rattle.format.proofs.Same.{same-octets, octets-exactly, tests_agree, same-exactly}
+use Rattle.format.specs.declared.SameRefusal.{SameRefusal}
+use Rattle.format.specs.declared.SameRefusal.TheVariants.{First, Second}
 use Rattle.compare.proofs.Normalising.{shaped-exactly}
 use Rattle.compare.specs.Items.{same_children, Compared}
 use Rattle.compare.proofs.Comparing.{children-say}
@@ -96,51 +95,49 @@ module _ (a b ta tb xa xb : List ℕ) (ea : ta ≡ table_body a) (eb : tb ≡ ta
   says : (t u : Items) → judge a ≡ accepted t → judge b ≡ accepted u → r ≡ same_meaning (meaning_of t) (meaning_of u)
   says t u x y = s ∙ children-say (entries_by xa ta) (entries_by xb tb) 16 0 0 1 1 0 0 a b t u refl (whole a t x) (whole b u y) ∙ ap₂ same_meaning (found-means a t ta xa x ea ia) (found-means b u tb xb y eb ib)
 
-  pub compared_same : r ≡ true → Compared a b Same
+  pub compared : Compared a b r
   unfolding Compared
-  compared_same q t u x y = sym (ap (λ k. cond k Same Different) (sym (says t u x y) ∙ q))
-
-  pub compared-different : r ≡ false → Compared a b Different
-  unfolding Compared
-  compared-different q t u x y = sym (ap (λ k. cond k Same Different) (sym (says t u x y) ∙ q))
-
-pub ruleset compared-ways = (compared_same, compared-different)
+  compared = says
 
 -- ---- same
 
-module _ (a b : List ℕ) (ra : ReadAnswer) (ae : ra ≡ judge_answer (headers_of a) (judge a)) where
-  pub same_first : (n : Refusal) → ra ≡ NotRead n → FirstRefused n ≡ same_answer (judge a) (judge b)
+told : (r : Bool) → ◌≡◌ {A = Result Bool SameRefusal} (Ok r) (cond r (Ok true) (Ok false))
+told true = refl
+told false = refl
+
+module _ (a b : List ℕ) (ra : Result Counts Refusal) (ae : ra ≡ judge_answer (headers_of a) (judge a)) where
+  pub same_first : (n : Refusal) → ra ≡ Err n → Err (First n) ≡ same_answer (judge a) (judge b)
   unfolding same_answer
   same_first n q = sym (ap (λ j. same_answer j (judge b)) (was-refused (headers_of a) (judge a) n (sym q ∙ ae)))
 
-  pub same-twin : Octets a → (m : Counts) → ra ≡ Records m → (r : Bool) → r ≡ same_octets a b → r ≡ true → Same ≡ same_answer (judge a) (judge b)
+  pub same-twin : Octets a → (m : Counts) → ra ≡ Ok m → (r : Bool) → r ≡ same_octets a b → r ≡ true → Ok true ≡ same_answer (judge a) (judge b)
   same-twin oa m q r e h =
       let x = was-accepted (headers_of a) (judge a) m (sym q ∙ ae) in
       let twin : a ≡ b = same-octets a b (sym e ∙ h) in
       sym (ap (λ o. same_answer (judge a) (judge o)) (sym twin) ∙ (same-exactly a a x.tree x.tree oa oa x.is x.is).1 refl)
 
-  module _ (m : Counts) (q : ra ≡ Records m) (rb : ReadAnswer) (be : rb ≡ judge_answer (headers_of b) (judge b)) where
-    pub same_second : (n : Refusal) → rb ≡ NotRead n → SecondRefused n ≡ same_answer (judge a) (judge b)
+  module _ (m : Counts) (q : ra ≡ Ok m) (rb : Result Counts Refusal) (be : rb ≡ judge_answer (headers_of b) (judge b)) where
+    pub same_second : (n : Refusal) → rb ≡ Err n → Err (Second n) ≡ same_answer (judge a) (judge b)
     unfolding same_answer
     same_second n p = sym (ap₂ same_answer (was-accepted (headers_of a) (judge a) m (sym q ∙ ae)).is (was-refused (headers_of b) (judge b) n (sym p ∙ be)))
 
-    pub same-both : (n : Counts) → rb ≡ Records n → (r : SameAnswer) → Compared a b r → r ≡ same_answer (judge a) (judge b)
+    pub same-both : (n : Counts) → rb ≡ Ok n → (r : Bool) → Compared a b r → Ok r ≡ same_answer (judge a) (judge b)
     unfolding same_answer Compared
     same-both n p r c =
         let x = was-accepted (headers_of a) (judge a) m (sym q ∙ ae) in
         let y = was-accepted (headers_of b) (judge b) n (sym p ∙ be) in
-        c x.tree y.tree x.is y.is ∙ sym (ap₂ same_answer x.is y.is)
+        told r ∙ ap (λ k. cond k (Ok true) (Ok false)) (c x.tree y.tree x.is y.is) ∙ sym (ap₂ same_answer x.is y.is)
 
 pub ruleset same-ways = (same_first, same-twin, same_second, same-both)
 
 -- ---- is_normal
 
-module _ (o : List ℕ) (r : ReadAnswer) (e : r ≡ judge_answer (headers_of o) (judge o)) where
-  pub normal-refused : (n : Refusal) → r ≡ NotRead n → false ≡ is_normal o
+module _ (o : List ℕ) (r : Result Counts Refusal) (e : r ≡ judge_answer (headers_of o) (judge o)) where
+  pub normal-refused : (n : Refusal) → r ≡ Err n → false ≡ is_normal o
   unfolding is_normal has_normal
   normal-refused n q = sym (ap (has_normal o) (was-refused (headers_of o) (judge o) n (sym q ∙ e)))
 
-  pub normal-told : Octets o → (n : Counts) → r ≡ Records n → (a : Bool) → a ≡ shaped 0 0x7F o → a ≡ is_normal o
+  pub normal-told : Octets o → (n : Counts) → r ≡ Ok n → (a : Bool) → a ≡ shaped 0 0x7F o → a ≡ is_normal o
   unfolding is_normal has_normal
   normal-told os n q a f =
       let x = was-accepted (headers_of o) (judge o) n (sym q ∙ e) in

@@ -1,4 +1,5 @@
 -- Two parts compared: the ways through same_child and same_children.
+use Rattle.std.specs.Prelude.{Option, Some, None, is_none}
 use mathlib.Core.Path.{◌≡◌, refl, sym, ap, ap₂, ◌∙◌, subst}
 use mathlib.Core.Bool.{Bool, true, false, cond, ◌&&◌}
 use mathlib.Core.Option.{some}
@@ -30,15 +31,14 @@ use Rattle.tags.proofs.Listing.{is-nothing, is-inside, OfValue, is-value}
 use Rattle.tags.proofs.Arms.{Untexted, not-text}
 use Rattle.reader.specs.Filling.{Accepts}
 use Rattle.survey.specs.Places.{body_of_tag}
-use Rattle.compare.specs.declared.walks.Child.{Child}
-use Rattle.compare.specs.declared.walks.Child.TheVariants.{End, Found}
 use Rattle.compare.specs.declared.items.Content.{Content}
 use Rattle.compare.specs.declared.items.Content.TheVariants.{Items as InItems, Text as InText, Octets as InOctets}
-use Rattle.compare.specs.Walks.{children_in, ChildFound, Children}
-use Rattle.compare.specs.Items.{same_sets, same_text, same_each, same_element, same_children, content_of, is_ended}
+use Rattle.compare.specs.Walks.{children_in, ChildFound, Children, child}
+use Rattle.compare.specs.Items.{same_sets, same_text, same_each, same_element, same_children, content_of}
 use Rattle.compare.proofs.Walking.{Told, children-told}
 use Rattle.compare.proofs.Walking.Told.{over, comes}
 use Rattle.compare.proofs.Sets.{SameData, sets-say, data-says}
+use Rattle.compare.specs.declared.walks.Child.{Child}
 
 -- ---- content_of
 
@@ -155,12 +155,12 @@ pub ruleset same-child-ways = (child-octets, child-text, child-deep, child-sets,
 
 -- ---- same_children
 
-module _ (part : List ℕ) (at : ℕ) (c : Child) (x : Children part at c) where
-  none_left : c ≡ End → children_in (drop at part) ≡ []
+module _ (part : List ℕ) (at : ℕ) (c : Option Child) (x : Children part at c) where
+  none_left : c ≡ None → children_in (drop at part) ≡ []
   unfolding Children
   none_left q = subst (Children part at) q x
 
-  module _ (place from to : ℕ) (q : c ≡ Found place from to) where
+  module _ (place from to : ℕ) (q : c ≡ Some (child place from to)) where
     found : ChildFound part at place from to
     unfolding Children
     found = subst (Children part at) q x
@@ -194,21 +194,21 @@ module _ (levels : ℕ) (es : Entries) (a : List ℕ) (fs : Entries) (b : List �
   unfolding same_children
   abreast-begin = record { goes = refl }
 
-  module _ (i j : ℕ) (inv : Abreast levels es a fs b i j) (ca : Child) (xa : Children a i ca) (cb : Child) (xb : Children b j cb) where
-    pub abreast-ended : ca ≡ End → (r : Bool) → r ≡ is_ended cb → r ≡ all
-    unfolding is_ended same_each
+  module _ (i j : ℕ) (inv : Abreast levels es a fs b i j) (ca : Option Child) (xa : Children a i ca) (cb : Option Child) (xb : Children b j cb) where
+    pub abreast-ended : ca ≡ None → (r : Bool) → r ≡ is_none cb → r ≡ all
+    unfolding same_each
     abreast-ended q r f = f ∙ go cb refl ∙ sym (inv.goes ∙ ap (λ l. each l (children_in (drop j b))) (none_left a i ca xa q))
       where
-        go : (k : Child) → cb ≡ k → is_ended k ≡ each [] (children_in (drop j b))
-        go End y = sym (ap (each []) (none_left b j cb xb y))
-        go (Found at from to) y = sym (ap (each []) (found b j cb xb at from to y).children)
+        go : (k : Option Child) → cb ≡ k → is_none k ≡ each [] (children_in (drop j b))
+        go None y = sym (ap (each []) (none_left b j cb xb y))
+        go (Some c) y = sym (ap (each []) (found b j cb xb c.at c.from c.to y).children)
 
-    module _ (at from to : ℕ) (q : ca ≡ Found at from to) where
-      pub abreast-shorter : cb ≡ End → false ≡ all
+    module _ (at from to : ℕ) (q : ca ≡ Some (child at from to)) where
+      pub abreast-shorter : cb ≡ None → false ≡ all
       unfolding same_each
       abreast-shorter y = sym (inv.goes ∙ ap₂ each (found a i ca xa at from to q).children (none_left b j cb xb y))
 
-      module _ (place start end : ℕ) (y : cb ≡ Found place start end) where
+      module _ (place start end : ℕ) (y : cb ≡ Some (child place start end)) where
         both : all ≡ eqb (get_or a at 0) (get_or b place 0) && same_element levels es fs (get_or a at 0) (between a from to) (between b start end) && each (children_in (drop to a)) (children_in (drop end b))
         unfolding same_each
         both = inv.goes ∙ ap₂ each (found a i ca xa at from to q).children (found b j cb xb place start end y).children

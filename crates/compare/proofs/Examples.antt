@@ -1,5 +1,6 @@
 -- Pairs of objects and objects with their answers, which an independent program gave, or change request 2026-05 of its defaults: what `same` and `is_normal` say
 -- of them, computed.
+use Rattle.std.specs.Prelude.{Result, Ok, Err}
 use mathlib.Core.Path.{◌≡◌, refl}
 use mathlib.Core.Bool.{Bool, true, false}
 use mathlib.Core.List.{List, [], ◌∷◌, map}
@@ -15,10 +16,10 @@ use Rattle.values.specs.Values.{width, fits, wrong_field, meant, octets_of, is_d
 use Rattle.format.specs.Tree.{find, kind_of, count, records}
 use Rattle.format.specs.Judge.{is_known, is_items, is_tokens, is_text, is_value, wrong_in, is_top, allowed, latest, stage_after, limit, not_above, shown, of_top, rule, value_rule, first, kind_rules, item_rules, own, late, late_before, late_after, broken, within, waits, next, unless, followed, joined, by_kind, items, outermost, judge}
 use Rattle.format.specs.Meaning.{opens, is_child, value_in, counted, attributes_in, cdata_in, leaf_octets, means, table_in, table_of, maybe, rising, encode}
-use Rattle.format.specs.declared.SameAnswer.{SameAnswer}
-use Rattle.format.specs.declared.SameAnswer.TheVariants.{Same, Different, FirstRefused, SecondRefused}
 use Rattle.format.specs.Answers.{refusal, wrong_value}
 use Rattle.format.specs.Same.{same_octets, same_value, same_maybe, same_attributes, same_meaning, same_answer, has_normal, is_normal}
+use Rattle.format.specs.declared.SameRefusal.{SameRefusal}
+use Rattle.format.specs.declared.SameRefusal.TheVariants.{First, Second}
 
 -- P9
 abbrev pub top : List ℕ
@@ -101,31 +102,31 @@ abbrev pub on-air-yes : List ℕ
 on-air-yes = 0x02 ∷ 0x0A ∷ 0x21 ∷ 0x08 ∷ 0x1C ∷ 0x06 ∷ 0x84 ∷ 0x01 ∷ 0x01 ∷ 0x83 ∷ 0x01 ∷ 0x02 ∷ []
 
 abbrev Pair : Type 0
-Pair = List ℕ × List ℕ × SameAnswer
+Pair = List ℕ × List ℕ × (Result Bool SameRefusal)
 
 abbrev pairs : List Pair
 pairs =
-    (top, long-form, Different)
-    ∷ (long-form, by_token, Same)
-    ∷ (by_token, language, Same)
-    ∷ (rising-order, falling-minus-zero, Same)
-    ∷ (rising-order, with-seconds, Different)
-    ∷ (carried, carried-reserved, Same)
-    ∷ (no-cdata, empty-cdata, Different)
-    ∷ (with-unknown, no-cdata, Same)
-    ∷ (tokens, no-tokens, Same)
-    ∷ (no-tokens, tokens, Same)
-    ∷ (tokens, empty-cdata, Different)
-    ∷ (cut_short, top, FirstRefused (refusal 3 0))
-    ∷ (top, cut_short, SecondRefused (refusal 3 0))
-    ∷ (top, mistimed, SecondRefused (wrong_value 2 3))
-    ∷ (said-no, unsaid, Same)
-    ∷ (unsaid, said-no, Same)
-    ∷ (said-no, said-no, Same)
-    ∷ (said-no, said-yes, Different)
-    ∷ (said-yes, unsaid, Different)
-    ∷ (on-air-yes, said-yes, Same)
-    ∷ (on-air-yes, said-no, Different) ∷ []
+    (top, long-form, (Ok false))
+    ∷ (long-form, by_token, (Ok true))
+    ∷ (by_token, language, (Ok true))
+    ∷ (rising-order, falling-minus-zero, (Ok true))
+    ∷ (rising-order, with-seconds, (Ok false))
+    ∷ (carried, carried-reserved, (Ok true))
+    ∷ (no-cdata, empty-cdata, (Ok false))
+    ∷ (with-unknown, no-cdata, (Ok true))
+    ∷ (tokens, no-tokens, (Ok true))
+    ∷ (no-tokens, tokens, (Ok true))
+    ∷ (tokens, empty-cdata, (Ok false))
+    ∷ (cut_short, top, Err (First (refusal 3 0)))
+    ∷ (top, cut_short, Err (Second (refusal 3 0)))
+    ∷ (top, mistimed, Err (Second (wrong_value 2 3)))
+    ∷ (said-no, unsaid, (Ok true))
+    ∷ (unsaid, said-no, (Ok true))
+    ∷ (said-no, said-no, (Ok true))
+    ∷ (said-no, said-yes, (Ok false))
+    ∷ (said-yes, unsaid, (Ok false))
+    ∷ (on-air-yes, said-yes, (Ok true))
+    ∷ (on-air-yes, said-no, (Ok false)) ∷ []
 
 abbrev Form : Type 0
 Form = List ℕ × Bool

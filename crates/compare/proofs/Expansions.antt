@@ -1,4 +1,5 @@
 -- Two expansions gone through in pieces: the ways through the functions of texts.
+use Rattle.std.specs.Prelude.{Option, Some, None}
 use mathlib.Core.Path.{◌≡◌, refl, sym, ap, ap₂, ◌∙◌, subst}
 use mathlib.Core.Bool.{Bool, true, false, cond, ◌&&◌, false≢true, and-false}
 use mathlib.Core.List.{List, [], ◌∷◌, ◌++◌, append_assoc}
@@ -9,11 +10,10 @@ use lib.Dec.{eqb, leb, ltb}
 use lib.ListN.{length, take, drop, get_or, length-append, length-drop, drop_of_length-le}
 use lib.Seq.{drop-drop, length-take-le, get_or-take, get_or-drop}
 use borrow.Author.Tests.{ltb-true, ltb-false, lt-ltb, le-ltb, lt-leb, leb-true, leb-false, eqb-true, eq-eqb, ne_eqb}
-use Rattle.octets.specs.declared.Lies.{Lies}
-use Rattle.octets.specs.declared.Lies.TheVariants.{Outside, Between}
-use Rattle.octets.specs.Places.{between}
+use Rattle.octets.specs.Places.{between, from_to}
 use Rattle.octets.proofs.Tests.{and_left, and_right}
 use Rattle.octets.proofs.Lists.{part_to_end, part-split, take-of-take, take_next, drop-next, length_part}
+use Rattle.octets.specs.declared.Lies.{Lies}
 use Rattle.text.specs.Text.{token}
 use Rattle.text.specs.Tokens.{Entries, stands, expanded}
 use Rattle.text.specs.Index.{entries_by}
@@ -27,7 +27,7 @@ use Rattle.compare.specs.Texts.{Entry, Standing, left, Inside, Opened, ahead, be
 -- ---- what stands for an octet
 
 module _ (index table : List ℕ) (b : ℕ) (t : Bool) (m : t ≡ token b) where
-  pub stand-plain : t ≡ false → Standing (entries_by index table) table b Outside
+  pub stand-plain : t ≡ false → Standing (entries_by index table) table b None
   unfolding Standing
   stand-plain n = self-by index table b _ (by-plain index table b t m n) refl
 
@@ -38,26 +38,26 @@ module _ (index table : List ℕ) (b : ℕ) (t : Bool) (m : t ≡ token b) where
     abbrev long : ℕ
     long = get_or table (lies - 1) 0
 
-    pub stand-none : lies ≡ 0 → Standing (entries_by index table) table b Outside
+    pub stand-none : lies ≡ 0 → Standing (entries_by index table) table b None
     unfolding Standing
     stand-none e = self-by index table b _ (by-none index table b t m y e) refl
 
     module _ (g : lies ≡ 0 → ⊥) where
-      pub stand-past : length table < lies → Standing (entries_by index table) table b Outside
+      pub stand-past : length table < lies → Standing (entries_by index table) table b None
       unfolding Standing
       stand-past h = self-by index table b _ (by-past index table b t m y g h) refl
 
       module _ (h : lies ≤ length table) where
-        pub stand-long : length table - lies < long → Standing (entries_by index table) table b Outside
+        pub stand-long : length table - lies < long → Standing (entries_by index table) table b None
         unfolding Standing
         stand-long d = self-by index table b _ (by-long index table b t m y g h d) refl
 
         module _ (d : long ≤ length table - lies) where
-          pub stand-wide : get_or index 0 0 < long → Standing (entries_by index table) table b Outside
+          pub stand-wide : get_or index 0 0 < long → Standing (entries_by index table) table b None
           unfolding Standing
           stand-wide c = self-by index table b _ (by_wide index table b t m y g h d c) refl
 
-          pub stand-entry : long ≤ get_or index 0 0 → Standing (entries_by index table) table b (Between lies (lies + long))
+          pub stand-entry : long ≤ get_or index 0 0 → Standing (entries_by index table) table b (Some (from_to lies (lies + long)))
           unfolding Standing
           stand-entry c =
               let w : long ≡ lies + long - lies = omega arith in
@@ -108,15 +108,15 @@ module _ (es : Entries) (table s : List ℕ) (r : Rest) where
     pub open-entry : q.from < q.to → Opened es table s r q
     open-entry h = record { places = inv.places; same = inv.same; plain = λ e l. absurd (omega arith) }
 
-    module _ (h : i < length s) (e : q.to ≤ q.from) (l : Lies) (d : Standing es table (get_or s i 0) l) where
+    module _ (h : i < length s) (e : q.to ≤ q.from) (l : Option Lies) (d : Standing es table (get_or s i 0) l) where
       stands-at : Standing es table (get_or s q.at 0) l
       stands-at = subst (λ k. Standing es table (get_or s k 0) l) (sym inv.at_is) d
 
-      pub open_plain : l ≡ Outside → Opened es table s r q
+      pub open_plain : l ≡ None → Opened es table s r q
       unfolding Standing
       open_plain x = record { places = inv.places; same = inv.same; plain = λ y z. subst (Standing es table (get_or s q.at 0)) x stands-at }
 
-      module _ (from to : ℕ) (x : l ≡ Between from to) where
+      module _ (from to : ℕ) (x : l ≡ Some (from_to from to)) where
         met : Entry es table (get_or s i 0) from to
         unfolding Standing
         met = subst (Standing es table (get_or s i 0)) x d

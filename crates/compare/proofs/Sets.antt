@@ -1,4 +1,5 @@
 -- The attributes and the CDATA of two elements: the ways through find_counted, same_attribute, same_by_tags and same_cdata.
+use Rattle.std.specs.Prelude.{Some, None, Option as Optional, is_none}
 use mathlib.Core.Path.{◌≡◌, refl, sym, ap, ap₂, ◌∙◌, subst}
 use mathlib.Core.Bool.{Bool, true, false, cond, ◌&&◌, false≢true}
 use mathlib.Core.Option.{Option, none, some, map, some-injective, none-ne-some}
@@ -10,16 +11,13 @@ use lib.Dec.{eqb}
 use lib.ListN.{length}
 use borrow.Author.Tests.{lt-ltb, eqb-true, eqb-false, ne_eqb}
 use Rattle.octets.specs.Numbers.{value, digits}
-use Rattle.octets.specs.declared.Lies.{Lies}
-use Rattle.octets.specs.declared.Lies.TheVariants.{Outside, Between}
-use Rattle.octets.specs.Places.{between}
+use Rattle.octets.specs.Places.{between, from_to}
 use Rattle.octets.proofs.Tests.{never}
+use Rattle.octets.specs.declared.Lies.{Lies}
 use Rattle.text.specs.Tokens.{Entries, expanded}
 use Rattle.values.specs.declared.Kind.{Kind}
 use Rattle.values.specs.declared.Kind.TheVariants.{HoldsNumber}
 use Rattle.values.specs.declared.NumberKind.TheVariants.{Enumerated}
-use Rattle.values.specs.declared.KnownKind.{KnownKind}
-use Rattle.values.specs.declared.KnownKind.TheVariants.{Unknown, Known}
 use Rattle.values.specs.Calls.{known_kind, default_octets}
 use Rattle.values.specs.Table.{known, attribute}
 use Rattle.values.specs.Values.{width, fits, meant, octets_of}
@@ -36,7 +34,7 @@ use Rattle.reader.specs.Filling.{Accepts}
 use Rattle.survey.proofs.Rising.{known-few}
 use Rattle.survey.specs.Places.{span_of_tag, body_by, body_of_tag}
 use Rattle.compare.specs.Bodies.{same_body}
-use Rattle.compare.specs.Items.{counted_body, counted_of_tag, counted_lies, counted_span, is_absent, same_found, same_from, same_sets, same_text}
+use Rattle.compare.specs.Items.{counted_body, counted_of_tag, counted_lies, counted_span, same_found, same_from, same_sets, same_text}
 use Rattle.survey.proofs.Seeking.{Sought, sought, missing, span-says, span-ordered, span-inside}
 
 -- ---- what is asked of every two trees
@@ -56,105 +54,105 @@ SameData es a fs b r = (p q : ℕ) → Both p q a b (λ t u. r ≡ same_maybe sa
 
 -- ---- where a body lies
 
-module _ (part : List ℕ) (tag : ℕ) (r : Lies) (e : r ≡ span_of_tag tag part) where
+module _ (part : List ℕ) (tag : ℕ) (r : Optional Lies) (e : r ≡ span_of_tag tag part) where
   body_at : body_by part r ≡ body_of_tag tag part
   unfolding body_of_tag
   body_at = ap (body_by part) e
 
-  pub body-none : r ≡ Outside → body_of_tag tag part ≡ none
+  pub body-none : r ≡ None → body_of_tag tag part ≡ none
   unfolding body_by
   body-none q = sym body_at ∙ ap (body_by part) q
 
-  module _ (from to : ℕ) (q : r ≡ Between from to) where
+  module _ (from to : ℕ) (q : r ≡ Some (from_to from to)) where
     pub body-some : body_of_tag tag part ≡ some (between part from to)
     unfolding body_by
     body-some = sym body_at ∙ ap (body_by part) q
 
-absent-says : (part : List ℕ) (f : List ℕ → List ℕ → Bool) (r : Lies) (o : Option (List ℕ)) → body_by part r ≡ o → is_absent r ≡ same_maybe f none o
-unfolding is_absent body_by same_maybe
-absent-says part f Outside o e = ap (same_maybe f none) e
-absent-says part f (Between from to) o e = ap (same_maybe f none) e
+absent-says : (part : List ℕ) (f : List ℕ → List ℕ → Bool) (r : Optional Lies) (o : Option (List ℕ)) → body_by part r ≡ o → is_none r ≡ same_maybe f none o
+unfolding body_by same_maybe
+absent-says part f None o e = ap (same_maybe f none) e
+absent-says part f (Some lies) o e = ap (same_maybe f none) e
 
 -- ---- find_counted
 
-module _ (parent tag : ℕ) (part : List ℕ) (r : Lies) (e : r ≡ span_of_tag tag part) where
-  pub lies-nowhere : r ≡ Outside → Outside ≡ counted_span parent tag part
+module _ (parent tag : ℕ) (part : List ℕ) (r : Optional Lies) (e : r ≡ span_of_tag tag part) where
+  pub lies-nowhere : r ≡ None → None ≡ counted_span parent tag part
   unfolding counted_span counted_lies
   lies-nowhere q = ap (counted_lies parent tag part) (sym q ∙ e)
 
-  module _ (from to : ℕ) (q : r ≡ Between from to) (d : Bool) (de : d ≡ default_octets parent tag (between part from to)) where
-    span-by : cond d Outside (Between from to) ≡ counted_span parent tag part
+  module _ (from to : ℕ) (q : r ≡ Some (from_to from to)) (d : Bool) (de : d ≡ default_octets parent tag (between part from to)) where
+    span-by : cond d None (Some (from_to from to)) ≡ counted_span parent tag part
     unfolding counted_span counted_lies
-    span-by = ap (λ b. cond b Outside (Between from to)) de ∙ ap (counted_lies parent tag part) (sym q ∙ e)
+    span-by = ap (λ b. cond b None (Some (from_to from to))) de ∙ ap (counted_lies parent tag part) (sym q ∙ e)
 
-    pub lies-default : d ≡ true → Outside ≡ counted_span parent tag part
-    lies-default w = ap (λ b. cond b Outside (Between from to)) (sym w) ∙ span-by
+    pub lies-default : d ≡ true → None ≡ counted_span parent tag part
+    lies-default w = ap (λ b. cond b None (Some (from_to from to))) (sym w) ∙ span-by
 
-    pub lies-counted : d ≡ false → Between from to ≡ counted_span parent tag part
-    lies-counted w = ap (λ b. cond b Outside (Between from to)) (sym w) ∙ span-by
+    pub lies-counted : d ≡ false → Some (from_to from to) ≡ counted_span parent tag part
+    lies-counted w = ap (λ b. cond b None (Some (from_to from to))) (sym w) ∙ span-by
 
 pub ruleset counted-ways = (span-ordered, span-inside, lies-nowhere, lies-default, lies-counted)
 
 -- what it tells
-module _ (parent tag : ℕ) (part : List ℕ) (r : Lies) (e : r ≡ counted_span parent tag part) where
+module _ (parent tag : ℕ) (part : List ℕ) (r : Optional Lies) (e : r ≡ counted_span parent tag part) where
   pub counted-at : body_by part r ≡ counted_of_tag parent tag part
   unfolding counted_span counted_lies counted_of_tag counted_body body_of_tag body_by
   counted-at = ap (body_by part) e ∙ go (span_of_tag tag part)
     where
-      by : (from to : ℕ) (d : Bool) → body_by part (cond d Outside (Between from to)) ≡ cond d none (some (between part from to))
-      by from to true = refl
-      by from to false = refl
+      by : (lies : Lies) (d : Bool) → body_by part (cond d None (Some lies)) ≡ cond d none (some (between part lies.from lies.to))
+      by lies true = refl
+      by lies false = refl
 
-      go : (l : Lies) → body_by part (counted_lies parent tag part l) ≡ counted_body parent tag (body_by part l)
-      go Outside = refl
-      go (Between from to) = by from to (default_octets parent tag (between part from to))
+      go : (l : Optional Lies) → body_by part (counted_lies parent tag part l) ≡ counted_body parent tag (body_by part l)
+      go None = refl
+      go (Some lies) = by lies (default_octets parent tag (between part lies.from lies.to))
 
-  module _ (from to : ℕ) (q : r ≡ Between from to) where
-    span-is : Between from to ≡ span_of_tag tag part
+  module _ (from to : ℕ) (q : r ≡ Some (from_to from to)) where
+    span-is : (Some (from_to from to)) ≡ span_of_tag tag part
     unfolding counted_span counted_lies
     span-is = go (span_of_tag tag part) (sym q ∙ e)
       where
-        by : (l : Lies) (d : Bool) → Between from to ≡ cond d Outside l → Between from to ≡ l
+        by : (l : Optional Lies) (d : Bool) → Some (from_to from to) ≡ cond d None l → Some (from_to from to) ≡ l
         by l true w = never (cc)
         by l false w = w
 
-        go : (l : Lies) → Between from to ≡ counted_lies parent tag part l → Between from to ≡ l
-        go Outside w = w
-        go (Between start end) w = by (Between start end) (default_octets parent tag (between part start end)) w
+        go : (l : Optional Lies) → Some (from_to from to) ≡ counted_lies parent tag part l → Some (from_to from to) ≡ l
+        go None w = w
+        go (Some lies) w = by (Some lies) (default_octets parent tag (between part lies.from lies.to)) w
 
     pub counted-ordered : from ≤ to
-    counted-ordered = span-ordered part tag (Between from to) span-is from to refl
+    counted-ordered = span-ordered part tag (Some (from_to from to)) span-is from to refl
 
     pub counted-inside : to ≤ length part
-    counted-inside = span-inside part tag (Between from to) span-is from to refl
+    counted-inside = span-inside part tag (Some (from_to from to)) span-is from to refl
 
 -- ---- same_attribute
 
-module _ (parent tag : ℕ) (es : Entries) (a : List ℕ) (fs : Entries) (b : List ℕ) (k : KnownKind) (ke : k ≡ known_kind parent tag) where
+module _ (parent tag : ℕ) (es : Entries) (a : List ℕ) (fs : Entries) (b : List ℕ) (k : Optional Kind) (ke : k ≡ known_kind parent tag) where
   abbrev whole : Bool
   whole = same_found es fs (known parent tag) (counted_of_tag parent tag a) (counted_of_tag parent tag b)
 
-  pub found-unknown : k ≡ Unknown → true ≡ whole
+  pub found-unknown : k ≡ None → true ≡ whole
   unfolding same_found
   found-unknown q = sym (ap (λ l. same_found es fs l (counted_of_tag parent tag a) (counted_of_tag parent tag b)) (unknown-kind parent tag k ke q))
 
-  module _ (kind : Kind) (kq : k ≡ Known kind) (ra : Lies) (ea : ra ≡ counted_span parent tag a) (rb : Lies) (eb : rb ≡ counted_span parent tag b) where
+  module _ (kind : Kind) (kq : k ≡ Some kind) (ra : Optional Lies) (ea : ra ≡ counted_span parent tag a) (rb : Optional Lies) (eb : rb ≡ counted_span parent tag b) where
     by-lies : same_maybe (same_body es fs kind) (body_by a ra) (body_by b rb) ≡ whole
     unfolding same_found
     by-lies =
         ap₂ (same_maybe (same_body es fs kind)) (counted-at parent tag a ra ea) (counted-at parent tag b rb eb)
         ∙ ap (λ l. same_found es fs l (counted_of_tag parent tag a) (counted_of_tag parent tag b)) (sym (known-kind parent tag k ke kind kq))
 
-    pub found-absent : ra ≡ Outside → (r : Bool) → r ≡ is_absent rb → r ≡ whole
+    pub found-absent : ra ≡ None → (r : Bool) → r ≡ is_none rb → r ≡ whole
     unfolding body_by
     found-absent q r f = f ∙ absent-says b (same_body es fs kind) rb (body_by b rb) refl ∙ ap (λ l. same_maybe (same_body es fs kind) (body_by a l) (body_by b rb)) (sym q) ∙ by-lies
 
-    module _ (from to : ℕ) (q : ra ≡ Between from to) where
-      pub found-missing : rb ≡ Outside → false ≡ whole
+    module _ (from to : ℕ) (q : ra ≡ Some (from_to from to)) where
+      pub found-missing : rb ≡ None → false ≡ whole
       unfolding body_by same_maybe
       found-missing w = ap₂ (λ l m. same_maybe (same_body es fs kind) (body_by a l) (body_by b m)) (sym q) (sym w) ∙ by-lies
 
-      pub found-both : (start end : ℕ) → rb ≡ Between start end → (r : Bool) → r ≡ same_body es fs kind (between a from to) (between b start end) → r ≡ whole
+      pub found-both : (start end : ℕ) → rb ≡ Some (from_to start end) → (r : Bool) → r ≡ same_body es fs kind (between a from to) (between b start end) → r ≡ whole
       unfolding body_by same_maybe
       found-both start end w r f = f ∙ ap₂ (λ l m. same_maybe (same_body es fs kind) (body_by a l) (body_by b m)) (sym q) (sym w) ∙ by-lies
 
@@ -171,19 +169,19 @@ module _ (parent tag : ℕ) (kind : Kind) (own : known parent tag ≡ some kind)
   unfolding is_known
   found-body = go (span_of_tag tag o) refl
     where
-      go : (r : Lies) → span_of_tag tag o ≡ r → find tag t ≡ body_of_tag tag o
-      go Outside q = missing o tag (span_of_tag tag o) here q parent depth offset t x ∙ sym (body-none o tag (span_of_tag tag o) refl q)
-      go (Between from to) q = (sought o tag (span_of_tag tag o) here from to q).is parent depth offset t x (ap is_known own) ∙ sym (body-some o tag (span_of_tag tag o) refl from to q)
+      go : (r : Optional Lies) → span_of_tag tag o ≡ r → find tag t ≡ body_of_tag tag o
+      go None q = missing o tag (span_of_tag tag o) here q parent depth offset t x ∙ sym (body-none o tag (span_of_tag tag o) refl q)
+      go (Some lies) q = (sought o tag (span_of_tag tag o) here lies.from lies.to q).is parent depth offset t x (ap is_known own) ∙ sym (body-some o tag (span_of_tag tag o) refl lies.from lies.to q)
 
   body-fits : (b : List ℕ) → body_of_tag tag o ≡ some b → fits kind b ≡ true
   unfolding is_value
   body-fits b e = go (span_of_tag tag o) refl
     where
-      go : (r : Lies) → span_of_tag tag o ≡ r → fits kind b ≡ true
-      go Outside q = absurd (none-ne-some b (sym (body-none o tag (span_of_tag tag o) refl q) ∙ e))
-      go (Between from to) q =
-          let same : between o from to ≡ b = some-injective (between o from to) b (sym (body-some o tag (span_of_tag tag o) refl from to q) ∙ e) in
-          subst (λ c. fits kind c ≡ true) same (sym (ap (λ l. is_value l (between o from to)) own) ∙ (sought o tag (span_of_tag tag o) here from to q).value parent depth offset t x)
+      go : (r : Optional Lies) → span_of_tag tag o ≡ r → fits kind b ≡ true
+      go None q = absurd (none-ne-some b (sym (body-none o tag (span_of_tag tag o) refl q) ∙ e))
+      go (Some lies) q =
+          let same : between o lies.from lies.to ≡ b = some-injective (between o lies.from lies.to) b (sym (body-some o tag (span_of_tag tag o) refl lies.from lies.to q) ∙ e) in
+          subst (λ c. fits kind c ≡ true) same (sym (ap (λ l. is_value l (between o lies.from lies.to)) own) ∙ (sought o tag (span_of_tag tag o) here lies.from lies.to q).value parent depth offset t x)
 
   pub counted-fits : (b : List ℕ) → counted_of_tag parent tag o ≡ some b → fits kind b ≡ true
   unfolding counted_of_tag counted_body
@@ -331,48 +329,48 @@ cdata-known : (p : ℕ) → is_known (known p 1) ≡ true
 unfolding is_known
 cdata-known p = ap is_known (known-cdata p)
 
-module _ (es : Entries) (a : List ℕ) (fs : Entries) (b : List ℕ) (ra : Lies) (sa : Sought a 1 ra) (rb : Lies) (sb : Sought b 1 rb) where
-  data-there : (T : Entries) (o : List ℕ) (r : Lies) → Sought o 1 r → (from to : ℕ) → r ≡ Between from to → (p depth offset : ℕ) (t : Items) → Accepts p depth offset o t
+module _ (es : Entries) (a : List ℕ) (fs : Entries) (b : List ℕ) (ra : Optional Lies) (sa : Sought a 1 ra) (rb : Optional Lies) (sb : Sought b 1 rb) where
+  data-there : (T : Entries) (o : List ℕ) (r : Optional Lies) → Sought o 1 r → (from to : ℕ) → r ≡ Some (from_to from to) → (p depth offset : ℕ) (t : Items) → Accepts p depth offset o t
       → cdata_in T t ≡ some (expanded T (between o from to))
   unfolding cdata_in
   data-there T o r s from to q p depth offset t x = ap (map (expanded T)) ((sought o 1 r s from to q).is p depth offset t x (cdata-known p))
 
-  data-nowhere : (T : Entries) (o : List ℕ) (r : Lies) → Sought o 1 r → r ≡ Outside → (p depth offset : ℕ) (t : Items) → Accepts p depth offset o t → cdata_in T t ≡ none
+  data-nowhere : (T : Entries) (o : List ℕ) (r : Optional Lies) → Sought o 1 r → r ≡ None → (p depth offset : ℕ) (t : Items) → Accepts p depth offset o t → cdata_in T t ≡ none
   unfolding cdata_in
   data-nowhere T o r s q p depth offset t x = ap (map (expanded T)) (missing o 1 r s q p depth offset t x)
 
-  pub data-absent : ra ≡ Outside → (r : Bool) → r ≡ is_absent rb → SameData es a fs b r
-  unfolding SameData same_maybe is_absent
+  pub data-absent : ra ≡ None → (r : Bool) → r ≡ is_none rb → SameData es a fs b r
+  unfolding SameData same_maybe
   data-absent q r f p o d e i j t u x z = f ∙ go rb refl
     where
-      go : (l : Lies) → rb ≡ l → is_absent l ≡ same_maybe same_octets (cdata_in es t) (cdata_in fs u)
-      go Outside w = sym (ap₂ (same_maybe same_octets) (data-nowhere es a ra sa q p d i t x) (data-nowhere fs b rb sb w o e j u z))
-      go (Between from to) w = sym (ap₂ (same_maybe same_octets) (data-nowhere es a ra sa q p d i t x) (data-there fs b rb sb from to w o e j u z))
+      go : (l : Optional Lies) → rb ≡ l → is_none l ≡ same_maybe same_octets (cdata_in es t) (cdata_in fs u)
+      go None w = sym (ap₂ (same_maybe same_octets) (data-nowhere es a ra sa q p d i t x) (data-nowhere fs b rb sb w o e j u z))
+      go (Some lies) w = sym (ap₂ (same_maybe same_octets) (data-nowhere es a ra sa q p d i t x) (data-there fs b rb sb lies.from lies.to w o e j u z))
 
-  module _ (from to : ℕ) (q : ra ≡ Between from to) where
-    pub data-missing : rb ≡ Outside → SameData es a fs b false
+  module _ (from to : ℕ) (q : ra ≡ Some (from_to from to)) where
+    pub data-missing : rb ≡ None → SameData es a fs b false
     unfolding SameData same_maybe
     data-missing w p o d e i j t u x z = sym (ap₂ (same_maybe same_octets) (data-there es a ra sa from to q p d i t x) (data-nowhere fs b rb sb w o e j u z))
 
-    pub data-both : (start end : ℕ) → rb ≡ Between start end → (r : Bool) → r ≡ same_octets (expanded es (between a from to)) (expanded fs (between b start end)) → SameData es a fs b r
+    pub data-both : (start end : ℕ) → rb ≡ Some (from_to start end) → (r : Bool) → r ≡ same_octets (expanded es (between a from to)) (expanded fs (between b start end)) → SameData es a fs b r
     unfolding SameData same_maybe
     data-both start end w r f p o d e i j t u x z =
         f ∙ sym (ap₂ (same_maybe same_octets) (data-there es a ra sa from to q p d i t x) (data-there fs b rb sb start end w o e j u z))
 
-module _ (es : Entries) (a : List ℕ) (fs : Entries) (b : List ℕ) (ra : Lies) (ea : ra ≡ span_of_tag 1 a) (rb : Lies) (eb : rb ≡ span_of_tag 1 b) where
+module _ (es : Entries) (a : List ℕ) (fs : Entries) (b : List ℕ) (ra : Optional Lies) (ea : ra ≡ span_of_tag 1 a) (rb : Optional Lies) (eb : rb ≡ span_of_tag 1 b) where
   abbrev texts : List ℕ → List ℕ → Bool
   texts x y = same_octets (expanded es x) (expanded fs y)
 
-  pub text-absent : ra ≡ Outside → (r : Bool) → r ≡ is_absent rb → r ≡ same_text es fs (body_of_tag 1 a) (body_of_tag 1 b)
+  pub text-absent : ra ≡ None → (r : Bool) → r ≡ is_none rb → r ≡ same_text es fs (body_of_tag 1 a) (body_of_tag 1 b)
   unfolding same_text
   text-absent q r f = f ∙ absent-says b texts rb (body_of_tag 1 b) (body_at b 1 rb eb) ∙ sym (ap (λ x. same_maybe texts x (body_of_tag 1 b)) (body-none a 1 ra ea q))
 
-  module _ (from to : ℕ) (q : ra ≡ Between from to) where
-    pub text-missing : rb ≡ Outside → false ≡ same_text es fs (body_of_tag 1 a) (body_of_tag 1 b)
+  module _ (from to : ℕ) (q : ra ≡ Some (from_to from to)) where
+    pub text-missing : rb ≡ None → false ≡ same_text es fs (body_of_tag 1 a) (body_of_tag 1 b)
     unfolding same_text same_maybe
     text-missing w = sym (ap₂ (same_maybe texts) (body-some a 1 ra ea from to q) (body-none b 1 rb eb w))
 
-    pub text-both : (start end : ℕ) → rb ≡ Between start end → (r : Bool) → r ≡ same_octets (expanded es (between a from to)) (expanded fs (between b start end))
+    pub text-both : (start end : ℕ) → rb ≡ Some (from_to start end) → (r : Bool) → r ≡ same_octets (expanded es (between a from to)) (expanded fs (between b start end))
         → r ≡ same_text es fs (body_of_tag 1 a) (body_of_tag 1 b)
     unfolding same_text same_maybe
     text-both start end w r f = f ∙ sym (ap₂ (same_maybe texts) (body-some a 1 ra ea from to q) (body-some b 1 rb eb start end w))
@@ -393,13 +391,13 @@ module _ (es : Entries) (a : List ℕ) (fs : Entries) (b : List ℕ) (r : Bool) 
       sb : Sought b 1 (span_of_tag 1 b)
       sb = span-says b 1 (span_of_tag 1 b) refl
 
-      go : (ra : Lies) → span_of_tag 1 a ≡ ra → (rb : Lies) → span_of_tag 1 b ≡ rb → SameData es a fs b r
-      go Outside x rb y =
+      go : (ra : Optional Lies) → span_of_tag 1 a ≡ ra → (rb : Optional Lies) → span_of_tag 1 b ≡ rb → SameData es a fs b r
+      go None x rb y =
           data-absent es a fs b (span_of_tag 1 a) sa (span_of_tag 1 b) sb x r
           (e ∙ ap (λ z. same_maybe f z (body_of_tag 1 b)) (body-none a 1 (span_of_tag 1 a) refl x) ∙ sym (absent-says b f (span_of_tag 1 b) (body_of_tag 1 b) (body_at b 1 (span_of_tag 1 b) refl)))
-      go (Between from to) x Outside y =
-          subst (SameData es a fs b) (sym (e ∙ ap₂ (same_maybe f) (body-some a 1 (span_of_tag 1 a) refl from to x) (body-none b 1 (span_of_tag 1 b) refl y)))
-          (data-missing es a fs b (span_of_tag 1 a) sa (span_of_tag 1 b) sb from to x y)
-      go (Between from to) x (Between start end) y =
-          data-both es a fs b (span_of_tag 1 a) sa (span_of_tag 1 b) sb from to x start end y r
-          (e ∙ ap₂ (same_maybe f) (body-some a 1 (span_of_tag 1 a) refl from to x) (body-some b 1 (span_of_tag 1 b) refl start end y))
+      go (Some lies) x None y =
+          subst (SameData es a fs b) (sym (e ∙ ap₂ (same_maybe f) (body-some a 1 (span_of_tag 1 a) refl lies.from lies.to x) (body-none b 1 (span_of_tag 1 b) refl y)))
+          (data-missing es a fs b (span_of_tag 1 a) sa (span_of_tag 1 b) sb lies.from lies.to x y)
+      go (Some lies) x (Some other) y =
+          data-both es a fs b (span_of_tag 1 a) sa (span_of_tag 1 b) sb lies.from lies.to x other.from other.to y r
+          (e ∙ ap₂ (same_maybe f) (body-some a 1 (span_of_tag 1 a) refl lies.from lies.to x) (body-some b 1 (span_of_tag 1 b) refl other.from other.to y))

@@ -1,4 +1,5 @@
 -- The test of octets for the normal form: what it says of one item, and the ways through the functions of normal.
+use Rattle.std.specs.Prelude.{Option, Some, None, Result, Ok, Err}
 use mathlib.Core.Path.{◌≡◌, refl, sym, ap, ap₂, ◌∙◌}
 use mathlib.Core.Bool.{Bool, true, false, cond, ◌&&◌, and-true as and_yes, and-false}
 use mathlib.Core.Option.{some}
@@ -16,18 +17,15 @@ use Rattle.octets.specs.Counts.{as_octets}
 use Rattle.octets.specs.Header.{header_size, body_size, length_field}
 use Rattle.octets.proofs.Tests.{and_left, never}
 use Rattle.octets.specs.Puts.{put_answer, Puts}
-use Rattle.octets.specs.declared.Put.{Put}
-use Rattle.octets.specs.declared.Put.TheVariants.{Done, NoRoom, Invalid}
-use Rattle.octets.specs.declared.Lies.{Lies}
-use Rattle.octets.specs.declared.Lies.TheVariants.{Outside, Between}
-use Rattle.octets.specs.Places.{is_whole, first_body, after_first, lies_at, between}
+use Rattle.octets.specs.Places.{is_whole, first_body, after_first, lies_at, between, from_to}
 use Rattle.octets.proofs.Puts.{PutDone, put-done}
 use Rattle.octets.proofs.Places.{Lying, lying, not-whole, bounds, body_is, later-is, tag-is, fewer-inside, fewer-behind}
+use Rattle.octets.specs.declared.Lies.{Lies}
+use Rattle.octets.specs.declared.PutError.{PutError}
+use Rattle.octets.specs.declared.PutError.TheVariants.{NoRoom, Invalid}
 use Rattle.values.specs.declared.Kind.{Kind}
 use Rattle.values.specs.declared.Kind.TheVariants.{HoldsItems, HoldsTokens, HoldsText, HoldsPlain, HoldsTime, HoldsBearer, HoldsNumber}
 use Rattle.values.specs.declared.NumberKind.{NumberKind}
-use Rattle.values.specs.declared.KnownKind.{KnownKind}
-use Rattle.values.specs.declared.KnownKind.TheVariants.{Unknown, Known}
 use Rattle.values.specs.Calls.{as_known, normal_octets}
 use Rattle.values.specs.Table.{attribute}
 use Rattle.values.specs.Times.{bits, long_flag, offset_flag, time_of, in_range, is_time}
@@ -96,31 +94,23 @@ shaped-at p last (tag ∷ rest) h =
 
 -- ---- values
 
-module _ (k : Kind) (o before after : List ℕ) (a : Put) (p : Puts (fits k o) (normal_octets k o) 0 before after a) (l : length before ≡ 8) where
+module _ (k : Kind) (o before after : List ℕ) (a : Result ℕ PutError) (p : Puts (fits k o) (normal_octets k o) 0 before after a) (l : length before ≡ 8) where
   abbrev whole : Bool
   whole = fits k o && leb (length (normal_octets k o)) 8 && same_octets (normal_octets k o) o
 
-  put_is : a ≡ cond (fits k o) (cond (leb (length (normal_octets k o)) 8) (Done (length (normal_octets k o))) NoRoom) Invalid
+  put_is : a ≡ cond (fits k o) (cond (leb (length (normal_octets k o)) 8) (Ok (length (normal_octets k o))) (Err NoRoom)) (Err Invalid)
   unfolding put_answer
   put_is = p.answers ∙ rw (zero-add (length (normal_octets k o)), l)
 
-  pub rewritten-bad : a ≡ Invalid → false ≡ whole
-  rewritten-bad q = go (fits k o) (leb (length (normal_octets k o)) 8) (sym q ∙ put_is)
+  pub rewritten-not : (e : PutError) → a ≡ Err e → false ≡ whole
+  rewritten-not e q = go (fits k o) (leb (length (normal_octets k o)) 8) (sym q ∙ put_is)
     where
-      go : (x y : Bool) → Invalid ≡ cond x (cond y (Done (length (normal_octets k o))) NoRoom) Invalid → false ≡ x && y && same_octets (normal_octets k o) o
+      go : (x y : Bool) → Err e ≡ cond x (cond y (Ok (length (normal_octets k o))) (Err NoRoom)) (Err Invalid) → false ≡ x && y && same_octets (normal_octets k o) o
       go true true h = never (cc)
       go true false h = refl
       go false y h = refl
 
-  pub rewritten-none : a ≡ NoRoom → false ≡ whole
-  rewritten-none q = go (fits k o) (leb (length (normal_octets k o)) 8) (sym q ∙ put_is)
-    where
-      go : (x y : Bool) → NoRoom ≡ cond x (cond y (Done (length (normal_octets k o))) NoRoom) Invalid → false ≡ x && y && same_octets (normal_octets k o) o
-      go true true h = never (cc)
-      go true false h = refl
-      go false y h = refl
-
-  module _ (end : ℕ) (q : a ≡ Done end) where
+  module _ (end : ℕ) (q : a ≡ Ok end) where
     done : PutDone (fits k o) (normal_octets k o) 0 before after end
     done = put-done (fits k o) (normal_octets k o) 0 before after a p end q
 
@@ -141,7 +131,7 @@ module _ (k : Kind) (o before after : List ℕ) (a : Put) (p : Puts (fits k o) (
         let s : leb (length (normal_octets k o)) 8 ≡ true = le-leb (length (normal_octets k o)) 8 (omega (arith, done.inside)) in
         rw (done.is, s) (e ∙ ap (λ x. same_octets x o) w)
 
-pub ruleset rewritten-ways = (rewritten-bad, rewritten-none, rewritten-room, rewritten-done)
+pub ruleset rewritten-ways = (rewritten-not, rewritten-room, rewritten-done)
 
 -- ---- is_own
 
@@ -210,12 +200,12 @@ pub ruleset own-ways = (own-items, own-tokens, own-text, own-plain, own-time, ow
 
 -- ---- is_item_normal
 
-module _ (p tag : ℕ) (o : List ℕ) (k : KnownKind) (ke : k ≡ as_known (written_as p tag o)) where
-  pub item-unknown : k ≡ Unknown → false ≡ shaped_body tag (written_as p tag o) o
+module _ (p tag : ℕ) (o : List ℕ) (k : Option Kind) (ke : k ≡ as_known (written_as p tag o)) where
+  pub item-unknown : k ≡ None → false ≡ shaped_body tag (written_as p tag o) o
   unfolding shaped_body is_written
   item-unknown q = sym (ap (λ l. shaped_body tag l o) (written_none p tag o k ke q))
 
-  module _ (l : Kind) (q : k ≡ Known l) where
+  module _ (l : Kind) (q : k ≡ Some l) where
     kind-is : (m : Kind) → l ≡ m → shaped_body tag (written_as p tag o) o ≡ shaped_body tag (some m) o
     kind-is m e = ap (λ n. shaped_body tag n o) (written-some p tag o k ke l q ∙ ap some e)
 
@@ -268,17 +258,17 @@ module _ (p : ℕ) (part : List ℕ) where
     pub shapes-ended : length part ≤ at → true ≡ shaped p 0x7F part
     shapes-ended h = sym (inv.same ∙ ap (shaped p last) (drop_of_length-le part h) ∙ shaped-end p last)
 
-    module _ (h : at < length part) (r : Lies) (re : r ≡ lies_at part at) where
+    module _ (h : at < length part) (r : Option Lies) (re : r ≡ lies_at part at) where
       abbrev s : List ℕ
       s = drop at part
 
       some_left : 0 < length s
       some_left = omega (arith, length-drop at part)
 
-      pub shapes-outside : r ≡ Outside → false ≡ shaped p 0x7F part
+      pub shapes-outside : r ≡ None → false ≡ shaped p 0x7F part
       shapes-outside q = sym (inv.same ∙ shaped-at p last s some_left ∙ rw (not-whole part at r re q))
 
-      module _ (from to : ℕ) (q : r ≡ Between from to) where
+      module _ (from to : ℕ) (q : r ≡ Some (from_to from to)) where
         here : Lying part at from to
         here = lying part at r re from to q
 

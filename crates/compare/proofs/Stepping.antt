@@ -9,15 +9,12 @@ use lib.Dec.{eqb, ltb}
 use lib.ListN.{length, get_or}
 use borrow.Author.Tests.{eqb-true, eqb-false, ltb-true, ltb-false, lt-ltb}
 use Rattle.std.specs.Prelude.{Option, None, Some, Ok, Err}
-use Rattle.octets.specs.declared.Lies.{Lies}
-use Rattle.octets.specs.declared.Lies.TheVariants.{Outside, Between}
-use Rattle.octets.specs.Places.{lies_at, between}
+use Rattle.octets.specs.Places.{lies_at, between, from_to}
 use Rattle.octets.proofs.Places.{lying, bounds}
 use Rattle.octets.proofs.Tests.{never}
+use Rattle.octets.specs.declared.Lies.{Lies}
 use Rattle.text.specs.Tokens.{Entries}
 use Rattle.values.specs.declared.Kind.{Kind}
-use Rattle.values.specs.declared.KnownKind.{KnownKind}
-use Rattle.values.specs.declared.KnownKind.TheVariants.{Unknown, Known}
 use Rattle.values.specs.Calls.{known_kind}
 use Rattle.values.specs.Table.{known, attribute}
 use Rattle.values.proofs.Laws.{known-kind, unknown-kind}
@@ -37,16 +34,16 @@ use Rattle.compare.proofs.Sets.{body-none, body-some, both-counted}
 pub record Tagged (part : List ℕ) (at tag from to : ℕ) : Type 0 where
   pub begins : at < length part
   pub tagged : get_or part at 0 ≡ tag
-  pub lies : Between from to ≡ lies_at part at
+  pub lies : (Some (from_to from to)) ≡ lies_at part at
 
 module _ (part : List ℕ) (at last : ℕ) (v : Option Due) (e : Ok v ≡ due_at part at last) where
   due-over : v ≡ None → attribute_at part at ≡ false
   unfolding due_at due_as
   due-over q = go (attribute_at part at) (ltb last (get_or part at 0)) (lies_at part at) (ap Ok (sym q) ∙ e)
     where
-      go : (b c : Bool) (l : Lies) → Ok None ≡ cond b (cond c (due_as (get_or part at 0) l) (Err astray)) (Ok None) → b ≡ false
-      go true true Outside p = never (cc)
-      go true true (Between from to) p = never (cc)
+      go : (b c : Bool) (l : Option Lies) → Ok None ≡ cond b (cond c (due_as (get_or part at 0) l) (Err astray)) (Ok None) → b ≡ false
+      go true true None p = never (cc)
+      go true true (Some lies) p = never (cc)
       go true false l p = never (cc)
       go false c l p = refl
 
@@ -59,33 +56,33 @@ module _ (part : List ℕ) (at last : ℕ) (v : Option Due) (e : Ok v ≡ due_at
         x : ℕ
         x = get_or part at 0
 
-        go : (b : Bool) → ltb at (length part) ≡ b → (k : Bool) → attribute x ≡ k → (c : Bool) → ltb last x ≡ c → (l : Lies) → lies_at part at ≡ l
+        go : (b : Bool) → ltb at (length part) ≡ b → (k : Bool) → attribute x ≡ k → (c : Bool) → ltb last x ≡ c → (l : Option Lies) → lies_at part at ≡ l
             → Ok (Some d) ≡ cond (b && k) (cond c (due_as x l) (Err astray)) (Ok None) → Tagged part at d.tag d.from d.to × (attribute d.tag ≡ true) × (last < d.tag)
-        go true t true k true c (Between f g) l p =
-            let w : d ≡ record { tag = x; from = f; to = g } = cc in
+        go true t true k true c (Some lies) l p =
+            let w : d ≡ record { tag = x; from = lies.from; to = lies.to } = cc in
             let y : x ≡ d.tag = sym (ap (λ z. z.tag) w) in (
-              record { begins = ltb-true at (length part) t; tagged = y; lies = ap₂ Between (ap (λ z. z.from) w) (ap (λ z. z.to) w) ∙ sym l },
+              record { begins = ltb-true at (length part) t; tagged = y; lies = ap (λ z. Some (from_to z.from z.to)) w ∙ sym l },
               subst (λ z. attribute z ≡ true) y k,
               subst (λ z. last < z) y (ltb-true last x c),
             )
-        go true t true k true c Outside l p = never (cc)
+        go true t true k true c None l p = never (cc)
         go true t true k false c l m p = never (cc)
         go true t false k c o l m p = never (cc)
         go false t k o c f l m p = never (cc)
 
-module _ (part : List ℕ) (at tag : ℕ) (r : Lies) (e : r ≡ item_of part at tag) (from to : ℕ) (q : r ≡ Between from to) where
+module _ (part : List ℕ) (at tag : ℕ) (r : Option Lies) (e : r ≡ item_of part at tag) (from to : ℕ) (q : r ≡ Some (from_to from to)) where
   of-facts : Tagged part at tag from to
   unfolding item_of
   of-facts = go (ltb at (length part)) refl (eqb (get_or part at 0) tag) refl (sym q ∙ e)
     where
-      go : (b : Bool) → ltb at (length part) ≡ b → (c : Bool) → eqb (get_or part at 0) tag ≡ c → Between from to ≡ cond (b && c) (lies_at part at) Outside → Tagged part at tag from to
+      go : (b : Bool) → ltb at (length part) ≡ b → (c : Bool) → eqb (get_or part at 0) tag ≡ c → Some (from_to from to) ≡ cond (b && c) (lies_at part at) None → Tagged part at tag from to
       go true t true c p = record { begins = ltb-true at (length part) t; tagged = eqb-true (get_or part at 0) tag c; lies = p }
       go true t false c p = never (cc)
       go false t c d p = never (cc)
 
 module _ (part : List ℕ) (at tag from to : ℕ) (g : Tagged part at tag from to) where
   edges : (at + 2 ≤ from) × (from ≤ to) × (to ≤ length part)
-  edges = bounds (lying part at (Between from to) g.lies from to refl) (omega (arith, g.begins))
+  edges = bounds (lying part at (Some (from_to from to)) g.lies from to refl) (omega (arith, g.begins))
 
   module _ (y : attribute tag ≡ true) (t : ℕ) (s : Spans part t at) where
     -- an attribute bars no other
@@ -94,11 +91,11 @@ module _ (part : List ℕ) (at tag from to : ℕ) (g : Tagged part at tag from t
 
     span-here : t ≡ tag → body_of_tag tag part ≡ some (between part from to)
     span-here e =
-        body-some part tag (Between from to) (subst (λ z. Between from to ≡ span_of_tag z part) e
-        (span-found part t at s false unbarred refl (Between from to) g.lies from to refl (g.tagged ∙ sym e))) from to refl
+        body-some part tag (Some (from_to from to)) (subst (λ z. (Some (from_to from to)) ≡ span_of_tag z part) e
+        (span-found part t at s false unbarred refl (Some (from_to from to)) g.lies from to refl (g.tagged ∙ sym e))) from to refl
 
     span-on : (t ≡ tag → ⊥) → Spans part t to
-    span-on d = span-again part t at s false unbarred refl (Between from to) g.lies from to refl (λ e. d (sym e ∙ g.tagged))
+    span-on d = span-again part t at s false unbarred refl (Some (from_to from to)) g.lies from to refl (λ e. d (sym e ∙ g.tagged))
 
 module _ (part : List ℕ) (at last : ℕ) (v : Option Due) (e : Ok v ≡ due_at part at last) (d : Due) (q : v ≡ Some d) where
   due-edges : (at + 2 ≤ d.from) × (d.from ≤ d.to) × (d.to ≤ length part)
@@ -113,7 +110,7 @@ module _ (part : List ℕ) (at last : ℕ) (v : Option Due) (e : Ok v ≡ due_at
   pub due-nearer : length part - d.to < length part - at
   due-nearer = omega (arith, due-edges)
 
-module _ (part : List ℕ) (at tag : ℕ) (r : Lies) (e : r ≡ item_of part at tag) (from to : ℕ) (q : r ≡ Between from to) where
+module _ (part : List ℕ) (at tag : ℕ) (r : Option Lies) (e : r ≡ item_of part at tag) (from to : ℕ) (q : r ≡ Some (from_to from to)) where
   pub of-ordered : from ≤ to
   of-ordered = (edges part at tag from to (of-facts part at tag r e from to q)).1
 
@@ -124,20 +121,20 @@ pub ruleset edge-ways = (due-ordered, due-inside, due-nearer, of-ordered, of-ins
 
 span_none : (part : List ℕ) (t at : ℕ) → Spans part t at → attribute t ≡ true → attribute_at part at ≡ false → body_of_tag t part ≡ none
 unfolding attribute_at
-span_none part t at s y h = body-none part t Outside (go (ltb at (length part)) refl h) refl
+span_none part t at s y h = body-none part t None (go (ltb at (length part)) refl h) refl
   where
-    go : (b : Bool) → ltb at (length part) ≡ b → b && attribute (get_or part at 0) ≡ false → Outside ≡ span_of_tag t part
+    go : (b : Bool) → ltb at (length part) ≡ b → b && attribute (get_or part at 0) ≡ false → None ≡ span_of_tag t part
     go true e n = span-behind part t at s true (sym (rw (y, n))) refl
     go false e n = span-ended part t at s (ltb-false at (length part) e)
 
 -- ---- same_values
 
-module _ (parent tag : ℕ) (es : Entries) (a : List ℕ) (fs : Entries) (b : List ℕ) (k : KnownKind) (ke : k ≡ known_kind parent tag) where
-  pub values-unknown : k ≡ Unknown → true ≡ same_found es fs (known parent tag) (some a) (some b)
+module _ (parent tag : ℕ) (es : Entries) (a : List ℕ) (fs : Entries) (b : List ℕ) (k : Option Kind) (ke : k ≡ known_kind parent tag) where
+  pub values-unknown : k ≡ None → true ≡ same_found es fs (known parent tag) (some a) (some b)
   unfolding same_found
   values-unknown q = sym (ap (λ l. same_found es fs l (some a) (some b)) (unknown-kind parent tag k ke q))
 
-  pub values-known : (kind : Kind) → k ≡ Known kind → (r : Bool) → r ≡ same_body es fs kind a b → r ≡ same_found es fs (known parent tag) (some a) (some b)
+  pub values-known : (kind : Kind) → k ≡ Some kind → (r : Bool) → r ≡ same_body es fs kind a b → r ≡ same_found es fs (known parent tag) (some a) (some b)
   unfolding same_found same_maybe
   values-known kind q r f = f ∙ sym (ap (λ l. same_found es fs l (some a) (some b)) (known-kind parent tag k ke kind q))
 
@@ -209,7 +206,7 @@ module _ (parent : ℕ) (es : Entries) (a : List ℕ) (fs : Entries) (b : List �
     unfolding same_sets
     pace-ended q more me m = sym (from-same 128 0x80 (omega arith) (λ t y. settle i j t y (due-over a i last v de q) (sym me ∙ m) (inv.met t y)))
 
-    module _ (d : Due) (dq : v ≡ Some d) (l : Lies) (le : l ≡ item_of b j d.tag) (start end : ℕ) (lq : l ≡ Between start end) where
+    module _ (d : Due) (dq : v ≡ Some d) (l : Option Lies) (le : l ≡ item_of b j d.tag) (start end : ℕ) (lq : l ≡ Some (from_to start end)) where
       abbrev tag : ℕ
       tag = d.tag
 

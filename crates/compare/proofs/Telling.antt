@@ -1,9 +1,12 @@
 -- Two bodies of one kind: the ways through the functions of bodies.
+use Rattle.std.specs.Prelude.{Option, Some, None, Result, Ok, Err}
 use mathlib.Core.Path.{◌≡◌, refl, sym, ap, ap₂, ◌∙◌, subst}
-use mathlib.Core.Bool.{Bool, true, false, ◌&&◌, and-false}
+use mathlib.Core.Bool.{Bool, true, false, ◌&&◌, beq, and-false}
 use mathlib.Core.List.{List, [], ◌∷◌}
 use Prim.Native.Nat.{ℕ}
 use lib.Dec.{eqb}
+use native.Mathlib.Omega.{arith}
+use Rattle.std.proofs.lemmas.Bool.Decides.{nat_tests}
 use lib.Pointwise.{pointwise}
 use lib.ListN.{length}
 use Rattle.octets.specs.Numbers.{value, digits, Octets}
@@ -13,10 +16,6 @@ use Rattle.values.specs.declared.Kind.TheVariants.{HoldsItems, HoldsTokens, Hold
 use Rattle.values.specs.declared.NumberKind.{NumberKind}
 use Rattle.values.specs.declared.Time.{Time}
 use Rattle.values.specs.declared.Bearer.{Bearer}
-use Rattle.values.specs.declared.TakenTime.{TakenTime}
-use Rattle.values.specs.declared.TakenTime.TheVariants as of_time
-use Rattle.values.specs.declared.TakenBearer.{TakenBearer}
-use Rattle.values.specs.declared.TakenBearer.TheVariants as of_bearer
 use Rattle.values.specs.Times.{time_of}
 use Rattle.values.specs.Bearers.{bearer_of}
 use Rattle.values.specs.Values.{Value, width, fits, meant, octets_of}
@@ -27,6 +26,7 @@ use Rattle.values.specs.Proper.Proper.{timed, carried}
 use Rattle.values.proofs.Times.{time-ok}
 use Rattle.values.proofs.Bearers.{bearer-ok}
 use Rattle.values.proofs.Laws.{number-normal, time-taken, time-refused, bearer-taken, bearer-refused}
+use Rattle.values.specs.declared.TimeError.{TimeError}
 use Rattle.format.specs.Same.{same_octets, same_value}
 use Rattle.compare.specs.Bodies.{same_body, same_standing, Tells}
 use Rattle.format.proofs.Same.{tests_agree, value-exactly}
@@ -55,23 +55,30 @@ both : (k : Kind) (a b : List ℕ) → fits k a ≡ true → fits k b ≡ true �
 unfolding same_standing same_body
 both k a b e f = rw (e, f)
 
+abbrev same_fields : Time → Time → Bool
+same_fields t u = eqb t.day u.day && (eqb t.hour u.hour && (eqb t.minute u.minute && (eqb t.second u.second && (beq t.minus u.minus && eqb t.halves u.halves))))
+
+times-tell : (t u : Time) (r : Bool) → r ≡ same_fields t u → Tells t u r
+times-tell t u r e = record { equal = λ q. grind (arith, nat_tests); told = λ q. grind (arith, nat_tests) }
+
 -- an answer that tells whether two values of a kind are equal is what the test says
 telling : (k : Kind) (v w : Value) (t : Bool) → Proper k v → Proper k w → Tells v w t → t ≡ same_value v w
 telling k v w t p q h = tests_agree {A = v ≡ w} t (same_value v w) (h.equal, h.told) (value-exactly k v w p q)
 
-module _ (a b : List ℕ) (r : TakenTime) (re : r ≡ taken_time a) where
-  pub times-first : (n : ℕ) → r ≡ of_time.Bad n → false ≡ same_standing HoldsTime a b
+module _ (a b : List ℕ) (r : Result Time TimeError) (re : r ≡ taken_time a) where
+  pub times-first : (n : TimeError) → r ≡ Err n → false ≡ same_standing HoldsTime a b
   unfolding fits
   times-first n q = no-first HoldsTime a b (time-refused a r re n q)
 
-  module _ (t : Time) (rq : r ≡ of_time.Good t) (s : TakenTime) (se : s ≡ taken_time b) where
-    pub times-second : (n : ℕ) → s ≡ of_time.Bad n → false ≡ same_standing HoldsTime a b
+  module _ (t : Time) (rq : r ≡ Ok t) (s : Result Time TimeError) (se : s ≡ taken_time b) where
+    pub times-second : (n : TimeError) → s ≡ Err n → false ≡ same_standing HoldsTime a b
     unfolding fits
     times-second n q = no_second HoldsTime a b (time-refused b s se n q)
 
-    pub times-both : (u : Time) → s ≡ of_time.Good u → (x : Bool) → Tells t u x → x ≡ same_standing HoldsTime a b
+    pub times-both : (u : Time) → s ≡ Ok u → (x : Bool) → x ≡ same_fields t u → x ≡ same_standing HoldsTime a b
     unfolding fits meant
-    times-both u sq x h =
+    times-both u sq x e =
+        let h = times-tell t u x e in
         let f = time-taken a r re t rq in
         let g = time-taken b s se u sq in
         telling HoldsTime (time (time_of a)) (time (time_of b)) x (timed (time-ok a f.fit)) (timed (time-ok b g.fit))
@@ -80,17 +87,17 @@ module _ (a b : List ℕ) (r : TakenTime) (re : r ≡ taken_time a) where
 
 pub ruleset taken-times = (times-first, times-second, times-both)
 
-module _ (a b : List ℕ) (r : TakenBearer) (re : r ≡ taken_bearer a) where
-  pub bearers-first : r ≡ of_bearer.Bad → false ≡ same_standing HoldsBearer a b
+module _ (a b : List ℕ) (r : Option Bearer) (re : r ≡ taken_bearer a) where
+  pub bearers-first : r ≡ None → false ≡ same_standing HoldsBearer a b
   unfolding fits
   bearers-first q = no-first HoldsBearer a b (bearer-refused a r re q)
 
-  module _ (c : Bearer) (rq : r ≡ of_bearer.Good c) (s : TakenBearer) (se : s ≡ taken_bearer b) where
-    pub bearers-second : s ≡ of_bearer.Bad → false ≡ same_standing HoldsBearer a b
+  module _ (c : Bearer) (rq : r ≡ Some c) (s : Option Bearer) (se : s ≡ taken_bearer b) where
+    pub bearers-second : s ≡ None → false ≡ same_standing HoldsBearer a b
     unfolding fits
     bearers-second q = no_second HoldsBearer a b (bearer-refused b s se q)
 
-    pub bearers-both : Octets a → Octets b → (d : Bearer) → s ≡ of_bearer.Good d → (x : Bool) → Tells c d x → x ≡ same_standing HoldsBearer a b
+    pub bearers-both : Octets a → Octets b → (d : Bearer) → s ≡ Some d → (x : Bool) → Tells c d x → x ≡ same_standing HoldsBearer a b
     unfolding fits meant
     bearers-both oa ob d sq x h =
         let f = bearer-taken a r re c rq in

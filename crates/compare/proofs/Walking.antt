@@ -1,4 +1,5 @@
 -- The walk over a part: the ways through next_child.
+use Rattle.std.specs.Prelude.{Some, None, Option as Optional}
 use mathlib.Core.Path.{◌≡◌, refl, sym, ap, ◌∙◌, subst}
 use mathlib.Core.Bool.{Bool, true, false, cond, not, ◌&&◌, false≢true, not-and_self}
 use mathlib.Core.Option.{Option, none, some}
@@ -8,11 +9,10 @@ use native.Mathlib.Omega.{arith}
 use lib.ListN.{length, drop, get_or, drop_of_length-le, length-drop}
 use borrow.Author.Tests.{eq-eqb, ne_eqb, le-leb}
 use Rattle.octets.specs.Header.{header_size, body_size}
-use Rattle.octets.specs.declared.Lies.{Lies}
-use Rattle.octets.specs.declared.Lies.TheVariants.{Outside, Between}
-use Rattle.octets.specs.Places.{is_whole, first_body, after_first, lies_at, between}
+use Rattle.octets.specs.Places.{is_whole, first_body, after_first, lies_at, between, from_to}
 use Rattle.octets.proofs.Tests.{and_left, and_right}
 use Rattle.octets.proofs.Places.{Lying, lying, not-whole, bounds, tag-is, body_is, later-is, fewer-after, none-whole}
+use Rattle.octets.specs.declared.Lies.{Lies}
 use Rattle.text.specs.Tokens.{Entries}
 use Rattle.values.specs.declared.Kind.{Kind}
 use Rattle.values.specs.Table.{known, attribute}
@@ -31,9 +31,8 @@ use Rattle.tags.proofs.Listing.{is-nothing, is-inside, is-value}
 use Rattle.judge.proofs.AllWays.{tokens-four}
 use Rattle.reader.specs.Filling.{Accepts, share}
 use Rattle.reader.proofs.Opening.{Opened, fits_in, opened, opened-end}
+use Rattle.compare.specs.Walks.{is_meant, children_within, children_in, child_within, child_from, Children, NextChild, child}
 use Rattle.compare.specs.declared.walks.Child.{Child}
-use Rattle.compare.specs.declared.walks.Child.TheVariants.{End, Found}
-use Rattle.compare.specs.Walks.{is_meant, children_within, children_in, child_within, child_from, Children, NextChild}
 
 -- ---- is_meant
 
@@ -151,8 +150,8 @@ children-step (x ∷ rest) = go (is_whole s) refl
 
 -- ---- where the first of them lies
 
-abbrev next_step : ℕ → List ℕ → Bool → Child → Child
-next_step at s b later = cond b (cond (is_meant (get_or s 0 0)) (Found at (at + header_size s) (at + header_size s + body_size s)) later) End
+abbrev next_step : ℕ → List ℕ → Bool → Optional Child → Optional Child
+next_step at s b later = cond b (cond (is_meant (get_or s 0 0)) (Some (child at (at + header_size s) (at + header_size s + body_size s))) later) None
 
 child-enough : (n m at : ℕ) (s : List ℕ) → length s ≤ n → length s ≤ m → child_within n at s ≡ child_within m at s
 unfolding child_within
@@ -198,22 +197,22 @@ module _ (part : List ℕ) (at : ℕ) where
     unfolding child_from
     first-at = inv.first ∙ child-step (length part) i (drop i part) (omega (arith, length-drop i part))
 
-    pub skip-ended : length part ≤ i → NextChild part at End
+    pub skip-ended : length part ≤ i → NextChild part at None
     unfolding Children
     skip-ended h = record {
       is = sym (first-at ∙ rw (none-whole (drop i part) (omega (arith, length-drop i part))));
       tells = inv.same ∙ ap children_in (drop_of_length-le part h) ∙ children-none;
     }
 
-    module _ (h : i < length part) (r : Lies) (re : r ≡ lies_at part i) where
+    module _ (h : i < length part) (r : Optional Lies) (re : r ≡ lies_at part i) where
       child-at : children_in (drop at part) ≡ child_step (drop i part) (is_whole (drop i part)) (children_in (after_first (drop i part)))
       child-at = inv.same ∙ children-step (drop i part)
 
-      pub skip-outside : r ≡ Outside → NextChild part at End
+      pub skip-outside : r ≡ None → NextChild part at None
       unfolding Children
       skip-outside q = record { is = sym (first-at ∙ rw (not-whole part i r re q)); tells = child-at ∙ rw (not-whole part i r re q) }
 
-      module _ (from to : ℕ) (q : r ≡ Between from to) where
+      module _ (from to : ℕ) (q : r ≡ Some (from_to from to)) where
         here : Lying part i from to
         here = lying part i r re from to q
 
@@ -230,14 +229,14 @@ module _ (part : List ℕ) (at : ℕ) where
         child-in =
             child-at ∙ rw (le-leb (header_size (drop i part) + body_size (drop i part)) (length (drop i part)) here.inside, tag-is here (omega arith), body_is here (omega arith), later-is here (omega arith))
 
-        first-in : child_from part at ≡ cond (is_meant tag) (Found i from to) (child_from part to)
+        first-in : child_from part at ≡ cond (is_meant tag) (Some (child i from to)) (child_from part to)
         unfolding child_from
         first-in =
             first-at
             ∙ rw (le-leb (header_size (drop i part) + body_size (drop i part)) (length (drop i part)) here.inside, tag-is here (omega arith), later-is here (omega arith), ← here.ends, ← here.begins)
 
         module _ (b : Bool) (be : b ≡ is_meant tag) where
-          pub skip-found : b ≡ true → NextChild part at (Found i from to)
+          pub skip-found : b ≡ true → NextChild part at (Some (child i from to))
           unfolding Children
           skip-found bq = record {
             is = sym (first-in ∙ rw (sym be ∙ bq));

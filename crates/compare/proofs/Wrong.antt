@@ -1,4 +1,5 @@
 -- Wrong answers, refuted by computing the definitions: for each public call two, of the kind that slips make.
+use Rattle.std.specs.Prelude.{Some, None, Ok, Err}
 use mathlib.Core.Path.{◌≡◌, refl, sym, ap, ◌∙◌}
 use mathlib.Core.Bool.{true, false, false≢true, true≢false}
 use mathlib.Core.Option.{some}
@@ -8,8 +9,8 @@ use native.Mathlib.Omega.{arith}
 use lib.ListN.{get_or}
 use Rattle.octets.specs.Numbers.{among, value, digits}
 use Rattle.octets.specs.Header.{header_size, body_size}
-use Rattle.octets.specs.declared.Lies.TheVariants.{Outside, Between}
 use Rattle.octets.proofs.Tests.{never}
+use Rattle.octets.specs.Places.{from_to}
 use Rattle.text.specs.Text.{layout, token}
 use Rattle.text.specs.Tokens.{Entries, entry, or_itself, stands, expanded}
 use Rattle.text.specs.Index.{usable, place_at, place_by, with_place, entries_below, entries_by}
@@ -19,41 +20,40 @@ use Rattle.values.specs.Times.{bits, long_flag, offset_flag, offset_octet, time_
 use Rattle.values.specs.Bearers.{ensemble_flag, long_sid_flag, ensemble_of, bearer_of, is_bearer, ensemble_bit, ensemble_octets, bearer_octets}
 use Rattle.values.specs.Values.{width, fits, meant, octets_of}
 use Rattle.values.specs.Calls.{normal_octets, default_octets}
-use Rattle.format.specs.declared.SameAnswer.TheVariants.{Same, Different, FirstRefused, SecondRefused}
 use Rattle.format.specs.Answers.{refusal, wrong_value, same_outcome}
 use Rattle.format.specs.Judge.{is_known, is_items, judge}
 use Rattle.format.specs.Meaning.{opens, is_child}
 use Rattle.format.specs.Same.{same_octets, same_value, same_maybe, same_answer, is_normal}
+use Rattle.format.specs.declared.SameRefusal.TheVariants.{First, Second}
 use Rattle.survey.specs.Places.{span_within, span_of_tag, body_by, body_of_tag}
 use Rattle.compare.specs.Normal.{is_written}
 use Rattle.compare.specs.Bodies.{same_body}
-use Rattle.compare.specs.declared.walks.Child.TheVariants.{End, Found}
-use Rattle.compare.specs.Walks.{children_within, children_in, child_within, child_from}
+use Rattle.compare.specs.Walks.{children_within, children_in, child_within, child_from, child}
 use Rattle.compare.specs.Items.{counted_body, counted_of_tag, counted_lies, counted_span, same_found, same_from, same_sets, same_text, same_each, same_element, same_children}
 use Rattle.compare.proofs.Examples.{rising-order, falling-minus-zero, no-cdata, empty-cdata, top, cut_short, mistimed, language, unsaid, said-no, said-yes, computed}
 
 -- `same`: no CDATA and an empty one told as the same; another order of attributes and minus 0 told as different; the second object's refusal told of the first, or
 -- without its field; a default told as a difference, or as the same as another value (change request 2026-05)
-pub empty-as-none : same_answer (judge no-cdata) (judge empty-cdata) ≡ Same → ⊥
-empty-as-none h = let z : Same ≡ Different = sym h ∙ ap (λ l. get_or l 6 Same) computed.compared in never (cc)
+pub empty-as-none : same_answer (judge no-cdata) (judge empty-cdata) ≡ Ok true → ⊥
+empty-as-none h = let z : (Ok true) ≡ (Ok false) = sym h ∙ ap (λ l. get_or l 6 (Ok true)) computed.compared in never (cc)
 
-pub order-counted : same_answer (judge rising-order) (judge falling-minus-zero) ≡ Different → ⊥
-order-counted h = let z : Different ≡ Same = sym h ∙ ap (λ l. get_or l 3 Same) computed.compared in never (cc)
+pub order-counted : same_answer (judge rising-order) (judge falling-minus-zero) ≡ Ok false → ⊥
+order-counted h = let z : (Ok false) ≡ (Ok true) = sym h ∙ ap (λ l. get_or l 3 (Ok true)) computed.compared in never (cc)
 
-pub told-of-first : same_answer (judge top) (judge cut_short) ≡ FirstRefused (refusal 3 0) → ⊥
-told-of-first h = let z : FirstRefused (refusal 3 0) ≡ SecondRefused (refusal 3 0) = sym h ∙ ap (λ l. get_or l 12 Same) computed.compared in never (cc)
+pub told-of-first : same_answer (judge top) (judge cut_short) ≡ Err (First (refusal 3 0)) → ⊥
+told-of-first h = let z : (Err (First (refusal 3 0))) ≡ (Err (Second (refusal 3 0))) = sym h ∙ ap (λ l. get_or l 12 (Ok true)) computed.compared in never (cc)
 
-pub field-left-out : same_answer (judge top) (judge mistimed) ≡ SecondRefused (refusal 9 2) → ⊥
+pub field-left-out : same_answer (judge top) (judge mistimed) ≡ Err (Second (refusal 9 2)) → ⊥
 field-left-out h =
-    let e : SecondRefused (refusal 9 2) ≡ SecondRefused (wrong_value 2 3) = sym h ∙ ap (λ l. get_or l 13 Same) computed.compared in
+    let e : (Err (Second (refusal 9 2))) ≡ (Err (Second (wrong_value 2 3))) = sym h ∙ ap (λ l. get_or l 13 (Ok true)) computed.compared in
     let z : ◌≡◌ {A = ℕ} 0 3 = ap (λ a. (same_outcome a).field) e in
     omega arith
 
-pub default-differs : same_answer (judge said-no) (judge unsaid) ≡ Different → ⊥
-default-differs h = let z : Different ≡ Same = sym h ∙ ap (λ l. get_or l 14 Same) computed.compared in never (cc)
+pub default-differs : same_answer (judge said-no) (judge unsaid) ≡ Ok false → ⊥
+default-differs h = let z : (Ok false) ≡ (Ok true) = sym h ∙ ap (λ l. get_or l 14 (Ok true)) computed.compared in never (cc)
 
-pub default-as-any : same_answer (judge said-no) (judge said-yes) ≡ Same → ⊥
-default-as-any h = let z : Same ≡ Different = sym h ∙ ap (λ l. get_or l 17 Same) computed.compared in never (cc)
+pub default-as-any : same_answer (judge said-no) (judge said-yes) ≡ Ok true → ⊥
+default-as-any h = let z : (Ok true) ≡ (Ok false) = sym h ∙ ap (λ l. get_or l 17 (Ok true)) computed.compared in never (cc)
 
 -- `is_normal`: attributes by falling tag and minus 0 passed; a normal form refused; a default passed
 pub falling-passes : is_normal falling-minus-zero ≡ true → ⊥
@@ -137,20 +137,24 @@ unfolding same_found same_maybe known rows kind_in attribute counted_of_tag coun
 other-dropped es fs h = false≢true h
 
 -- `find_counted`: a default found; another value not found
-pub default-found : counted_span 0x1C 0x83 (0x83 ∷ 0x01 ∷ 0x01 ∷ []) ≡ Between 2 3 → ⊥
+pub default-found : counted_span 0x1C 0x83 (0x83 ∷ 0x01 ∷ 0x01 ∷ []) ≡ Some (from_to 2 3) → ⊥
 unfolding counted_span counted_lies default_octets default_in defaults span_of_tag span_within header_size body_size attribute
 default-found h = never (cc)
 
-pub value-lost : counted_span 0x1C 0x83 (0x83 ∷ 0x01 ∷ 0x02 ∷ []) ≡ Outside → ⊥
+pub value-lost : counted_span 0x1C 0x83 (0x83 ∷ 0x01 ∷ 0x02 ∷ []) ≡ None → ⊥
 unfolding counted_span counted_lies default_octets default_in defaults span_of_tag span_within header_size body_size attribute
 value-lost h = never (cc)
 
 -- `next_child`: a token table told as a child element; an unknown element taken for the end
-pub table-found : child_from (0x04 ∷ 0x00 ∷ 0x10 ∷ 0x00 ∷ []) 0 ≡ Found 0 2 2 → ⊥
+pub table-found : child_from (0x04 ∷ 0x00 ∷ 0x10 ∷ 0x00 ∷ []) 0 ≡ Some (child 0 2 2) → ⊥
 unfolding child_from child_within is_child is_known known kind_in rows attribute header_size body_size
-table-found h = never (cc)
+table-found h =
+    let w : Some (child 2 4 4) ≡ Some (child 0 2 2) = h in
+    let z : child 2 4 4 ≡ child 0 2 2 = cc w in
+    let e : ◌≡◌ {A = ℕ} 2 0 = ap (λ c. c.at) z in
+    absurd (omega (arith, e))
 
-pub unknown-ends : child_from (0x7D ∷ 0x00 ∷ 0x10 ∷ 0x00 ∷ []) 0 ≡ End → ⊥
+pub unknown-ends : child_from (0x7D ∷ 0x00 ∷ 0x10 ∷ 0x00 ∷ []) 0 ≡ None → ⊥
 unfolding child_from child_within is_child is_known known kind_in rows attribute header_size body_size
 unknown-ends h = never (cc)
 

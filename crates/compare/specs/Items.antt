@@ -1,24 +1,19 @@
 -- Two elements of one tag with two bodies, each under the entries of its own token table: whether they mean the same (document 01, Records and meaning). Told
 -- of all octets; that it says so of accepted bodies is proved (proofs/Comparing, element-says).
-use Rattle.std.specs.Prelude.{◌≡◌, Bool, true, false, cond, ◌&&◌, List, [], ◌∷◌, ℕ, zero, suc, eqb}
+use Rattle.std.specs.Prelude.{◌≡◌, Bool, true, false, cond, ◌&&◌, List, [], ◌∷◌, ℕ, zero, suc, eqb, Some, None, Option as Optional}
 use Rattle.std.proofs.Math.Option.{Option, none, some}
-use Rattle.octets.specs.declared.Lies.{Lies}
-use Rattle.octets.specs.declared.Lies.TheVariants.{Outside, Between}
 use Rattle.octets.specs.Places.{between}
+use Rattle.octets.specs.declared.Lies.{Lies}
 use Rattle.text.specs.Tokens.{Entries, expanded}
 use Rattle.values.specs.declared.Kind.{Kind}
 use Rattle.values.specs.Table.{known}
 use Rattle.values.specs.Calls.{default_octets}
-use Rattle.format.specs.declared.SameAnswer.{SameAnswer}
-use Rattle.format.specs.declared.SameAnswer.TheVariants.{Same, Different}
 use Rattle.format.specs.Tree.{Items}
 use Rattle.format.specs.Judge.{is_items, is_text, judge}
 use Rattle.format.specs.Judge.Judged.{accepted}
 use Rattle.format.specs.Meaning.{opens, leaf_octets, meaning_of}
 use Rattle.format.specs.Same.{same_octets, same_maybe, same_meaning}
 use Rattle.survey.specs.Places.{span_of_tag, body_of_tag}
-use Rattle.compare.specs.declared.walks.Child.{Child}
-use Rattle.compare.specs.declared.walks.Child.TheVariants.{End, Found}
 use Rattle.compare.specs.declared.items.Content.{Content}
 use Rattle.compare.specs.declared.items.Content.TheVariants.{Items as InItems, Text as InText, Octets as InOctets}
 use Rattle.compare.specs.Bodies.{same_body}
@@ -75,25 +70,17 @@ same_children levels es a fs b = same_each (same_element levels es fs) (children
 -- ---- what single functions tell; no claim of a call names these
 
 -- where the body that counts under a tag lies
-unfoldable pub counted_lies : (parent tag : ℕ) → List ℕ → Lies → Lies
-counted_lies parent tag part Outside = Outside
-counted_lies parent tag part (Between from to) = cond (default_octets parent tag (between part from to)) Outside (Between from to)
+unfoldable pub counted_lies : (parent tag : ℕ) → List ℕ → Optional Lies → Optional Lies
+counted_lies parent tag part None = None
+counted_lies parent tag part (Some lies) = cond (default_octets parent tag (between part lies.from lies.to)) None (Some lies)
 
-unfoldable pub counted_span : (parent tag : ℕ) → List ℕ → Lies
+unfoldable pub counted_span : (parent tag : ℕ) → List ℕ → Optional Lies
 counted_span parent tag part = counted_lies parent tag part (span_of_tag tag part)
-
-unfoldable pub is_absent : Lies → Bool
-is_absent Outside = true
-is_absent (Between from to) = false
 
 -- what an element's body is
 unfoldable pub content_of : Option Kind → Content
 content_of k = cond (is_items k) InItems (cond (is_text k) InText InOctets)
 
-unfoldable pub is_ended : Child → Bool
-is_ended End = true
-is_ended (Found at from to) = false
-
 -- two objects that are accepted
-unfoldable pub Compared : List ℕ → List ℕ → SameAnswer → Type 0
-Compared a b r = (t u : Items) → judge a ≡ accepted t → judge b ≡ accepted u → r ≡ cond (same_meaning (meaning_of t) (meaning_of u)) Same Different
+unfoldable pub Compared : List ℕ → List ℕ → Bool → Type 0
+Compared a b r = (t u : Items) → judge a ≡ accepted t → judge b ≡ accepted u → r ≡ same_meaning (meaning_of t) (meaning_of u)

@@ -1,8 +1,7 @@
 -- What the functions that go through two expansions tell one another. No claim of a call of this crate names these.
-use Rattle.std.specs.Prelude.{◌≡◌, Bool, false, cond, ◌&&◌, List, [], ◌∷◌, ◌++◌, ℕ, ◌+◌, ◌≤◌, ◌<◌, eqb, leb, ltb, length, get_or, take, drop}
-use Rattle.octets.specs.declared.Lies.{Lies}
-use Rattle.octets.specs.declared.Lies.TheVariants.{Outside, Between}
+use Rattle.std.specs.Prelude.{◌≡◌, Bool, false, cond, ◌&&◌, List, [], ◌∷◌, ◌++◌, ℕ, ◌+◌, ◌≤◌, ◌<◌, eqb, leb, ltb, length, get_or, take, drop, Option, Some, None}
 use Rattle.octets.specs.Places.{between}
+use Rattle.octets.specs.declared.Lies.{Lies}
 use Rattle.text.specs.Tokens.{Entries, stands, expanded}
 use Rattle.compare.specs.declared.texts.Rest.{Rest}
 
@@ -12,9 +11,9 @@ pub record Entry (es : Entries) (table : List ℕ) (b from to : ℕ) : Type 0 wh
   pub inside : to ≤ length table
   pub is : stands es b ≡ between table from to
 
-unfoldable pub Standing : Entries → List ℕ → ℕ → Lies → Type 0
-Standing es table b Outside = stands es b ≡ b ∷ []
-Standing es table b (Between from to) = Entry es table b from to
+unfoldable pub Standing : Entries → List ℕ → ℕ → Option Lies → Type 0
+Standing es table b None = stands es b ≡ b ∷ []
+Standing es table b (Some lies) = Entry es table b lies.from lies.to
 
 -- what is left of an expansion
 unfoldable pub left : Entries → List ℕ → List ℕ → Rest → List ℕ

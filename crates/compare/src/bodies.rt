@@ -8,7 +8,7 @@ ghost use Rattle.format.specs.Same.{same_octets};
 ghost use Rattle.compare.specs.Bodies.{Tells, same_body, same_standing};
 
 use crate::texts::same_texts;
-use values::{Bearer, Ensemble, Kind, TakenBearer, TakenTime, Time, fits_kind};
+use values::{Bearer, Ensemble, Kind, Time, fits_kind};
 
 // Octets as they stand.
 #[tactic(auto, using(crate::proofs::Telling::octets_told))]
@@ -18,50 +18,19 @@ pub fn same_octets(a: &[u8], b: &[u8]) -> bool
     a == b
 }
 
-fn are_times_same(t: Time, u: Time) -> bool
-    ensures { Tells t u result }
-{
-    if t.day != u.day {
-        return false;
-    }
-    if t.hour != u.hour {
-        return false;
-    }
-    if t.minute != u.minute {
-        return false;
-    }
-    if t.second != u.second {
-        return false;
-    }
-    if t.halves != u.halves {
-        return false;
-    }
-    t.minus == u.minus
-}
-
-fn are_ensembles_same(a: Ensemble, b: Ensemble) -> bool
+fn are_ensembles_same(a: Option<Ensemble>, b: Option<Ensemble>) -> bool
     ensures { Tells a b result }
 {
     match a {
-        Ensemble::Absent => match b {
-            Ensemble::Absent => true,
-            Ensemble::Present { ecc: _, eid: _ } => false,
-        },
-        Ensemble::Present { ecc, eid } => match b {
-            Ensemble::Absent => false,
-            Ensemble::Present {
-                ecc: ecc2,
-                eid: eid2,
-            } => {
-                if ecc != ecc2 {
-                    return false;
-                }
-                eid == eid2
-            }
+        None => b.is_none(),
+        Some(e) => match b {
+            None => false,
+            Some(f) => e == f,
         },
     }
 }
 
+// Kept: the fields by hand and not the derived `==` of a bearer, since what that says of an ensemble, which is an Option, can't be opened in a proof here (tried).
 fn are_bearers_same(a: Bearer, b: Bearer) -> bool
     ensures { Tells a b result }
 {
@@ -80,22 +49,22 @@ fn are_bearers_same(a: Bearer, b: Bearer) -> bool
 fn same_times(a: &[u8], b: &[u8]) -> bool
     ensures { result ≡ same_standing HoldsTime a.now b.now }
 {
-    let TakenTime::Good(t) = Time::take(a) else {
+    let Ok(t) = Time::take(a) else {
         return false;
     };
-    let TakenTime::Good(u) = Time::take(b) else {
+    let Ok(u) = Time::take(b) else {
         return false;
     };
-    are_times_same(t, u)
+    t == u
 }
 
 fn same_bearers(a: &[u8], b: &[u8]) -> bool
     ensures { result ≡ same_standing HoldsBearer a.now b.now }
 {
-    let TakenBearer::Good(c) = Bearer::take(a) else {
+    let Some(c) = Bearer::take(a) else {
         return false;
     };
-    let TakenBearer::Good(d) = Bearer::take(b) else {
+    let Some(d) = Bearer::take(b) else {
         return false;
     };
     are_bearers_same(c, d)

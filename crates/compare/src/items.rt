@@ -5,39 +5,27 @@
 ghost use Rattle.std.specs.Prelude.{◌≡◌};
 ghost use Rattle.text.specs.Index.{entries_by};
 ghost use Rattle.values.specs.Table.{known};
-ghost use Rattle.compare.specs.Items.{counted_of_tag, same_found, same_sets, same_text, same_element, same_children, counted_span, is_absent, content_of, is_ended};
+ghost use Rattle.compare.specs.Items.{counted_of_tag, same_found, same_sets, same_text, same_element, same_children, counted_span, content_of};
 ghost use Rattle.survey.specs.Places.{body_of_tag};
 
 use crate::bodies::{same_bodies, same_octets};
 use crate::steps::{Astray, compare_in_step};
 use crate::texts::same_texts;
-use crate::walks::{Child, next_child};
+use crate::walks::next_child;
 use octets::Lies;
 use survey::find_item;
 use tags::{Listed, listed_as};
-use values::{Kind, KnownKind, is_default, known_kind};
-
-#[tactic(auto, unfolding(crate::specs::Items::is_absent))]
-fn is_absent(found: Lies) -> bool
-    ensures { result ≡ is_absent found }
-{
-    match found {
-        Lies::Outside => true,
-        Lies::Between { from: _, to: _ } => false,
-    }
-}
+use values::{Kind, is_default, known_kind};
 
 // Where the attribute of a tag lies in the body of an element with the tag `parent`. One that has its default counts as absent.
-pub fn find_counted(parent: u8, tag: u8, part: &[u8]) -> Lies
+pub fn find_counted(parent: u8, tag: u8, part: &[u8]) -> Option<Lies>
     ensures { result ≡ counted_span parent tag part.now }
 {
-    let Lies::Between { from, to } = find_item(part, tag) else {
-        return Lies::Outside;
-    };
-    if is_default(parent, tag, &part[from..to]) {
-        return Lies::Outside;
+    let lies = find_item(part, tag)?;
+    if is_default(parent, tag, &part[lies.from..lies.to]) {
+        return None;
     }
-    Lies::Between { from, to }
+    Some(lies)
 }
 
 // The attribute of a tag in two elements with the tag `parent` and these bodies. A tag that isn't known there says nothing.
@@ -53,27 +41,23 @@ pub fn same_attribute(
 ) -> bool
     ensures { result ≡ same_found (entries_by index_a.now table_a.now) (entries_by index_b.now table_b.now) (known parent tag) (counted_of_tag parent tag a.now) (counted_of_tag parent tag b.now) }
 {
-    let KnownKind::Known(kind) = known_kind(parent, tag) else {
+    let Some(kind) = known_kind(parent, tag) else {
         return true;
     };
-    let Lies::Between { from, to } = find_counted(parent, tag, a) else {
-        return is_absent(find_counted(parent, tag, b));
+    let Some(lies_a) = find_counted(parent, tag, a) else {
+        return find_counted(parent, tag, b).is_none();
     };
-    let Lies::Between {
-        from: start,
-        to: end,
-    } = find_counted(parent, tag, b)
-    else {
+    let Some(lies_b) = find_counted(parent, tag, b) else {
         return false;
     };
     same_bodies(
         kind,
         index_a,
         table_a,
-        &a[from..to],
+        &a[lies_a.from..lies_a.to],
         index_b,
         table_b,
-        &b[start..end],
+        &b[lies_b.from..lies_b.to],
     )
 }
 
@@ -126,23 +110,19 @@ pub fn same_cdata(
 ) -> bool
     ensures { result ≡ same_text (entries_by index_a.now table_a.now) (entries_by index_b.now table_b.now) (body_of_tag 1 a.now) (body_of_tag 1 b.now) }
 {
-    let Lies::Between { from, to } = find_item(a, 1) else {
-        return is_absent(find_item(b, 1));
+    let Some(lies_a) = find_item(a, 1) else {
+        return find_item(b, 1).is_none();
     };
-    let Lies::Between {
-        from: start,
-        to: end,
-    } = find_item(b, 1)
-    else {
+    let Some(lies_b) = find_item(b, 1) else {
         return false;
     };
     same_texts(
         index_a,
         table_a,
-        &a[from..to],
+        &a[lies_a.from..lies_a.to],
         index_b,
         table_b,
-        &b[start..end],
+        &b[lies_b.from..lies_b.to],
     )
 }
 
@@ -200,20 +180,6 @@ pub fn same_child(
     }
 }
 
-#[tactic(auto, unfolding(crate::specs::Items::is_ended))]
-fn is_end(child: Child) -> bool
-    ensures { result ≡ is_ended child }
-{
-    match child {
-        Child::End => true,
-        Child::Found {
-            at: _,
-            from: _,
-            to: _,
-        } => false,
-    }
-}
-
 // The child elements in two bodies, in order; `levels` as for each of them.
 #[cycle(same_child_same_children)]
 pub fn same_children(
@@ -230,19 +196,14 @@ pub fn same_children(
     let mut i: usize = 0;
     let mut j: usize = 0;
     loop {
-        let Child::Found { at, from, to } = next_child(a, i) else {
-            return is_end(next_child(b, j));
+        let Some(child_a) = next_child(a, i) else {
+            return next_child(b, j).is_none();
         };
-        let Child::Found {
-            at: place,
-            from: start,
-            to: end,
-        } = next_child(b, j)
-        else {
+        let Some(child_b) = next_child(b, j) else {
             return false;
         };
-        let tag = a[at];
-        if tag != b[place] {
+        let tag = a[child_a.at];
+        if tag != b[child_b.at] {
             return false;
         }
         if !same_child(
@@ -250,14 +211,14 @@ pub fn same_children(
             levels,
             index_a,
             table_a,
-            &a[from..to],
+            &a[child_a.from..child_a.to],
             index_b,
             table_b,
-            &b[start..end],
+            &b[child_b.from..child_b.to],
         ) {
             return false;
         }
-        i = to;
-        j = end;
+        i = child_a.to;
+        j = child_b.to;
     }
 }

@@ -17,7 +17,7 @@ mod walks;
 
 use crate::normal::are_items_normal;
 pub use bodies::{same_bodies, same_octets};
-use format::{ReadAnswer, SameAnswer};
+use format::SameRefusal;
 pub use items::{
     find_counted, same_attribute, same_attributes, same_cdata, same_child, same_children,
 };
@@ -29,33 +29,30 @@ pub use texts::same_texts;
 pub use walks::{Child, next_child};
 
 // Two objects that are accepted. Each stands for the items of an element with the tag 0, whose one item is the top, at depth 1 of 16.
-fn compare_accepted(a: &[u8], b: &[u8]) -> SameAnswer
+fn compare_accepted(a: &[u8], b: &[u8]) -> bool
     ensures { Compared a.now b.now result }
 {
     let table_a = table_of(a);
     let table_b = table_of(b);
     let index_a = index_of(table_a);
     let index_b = index_of(table_b);
-    if same_children(16, &index_a, table_a, a, &index_b, table_b, b) {
-        return SameAnswer::Same;
-    }
-    SameAnswer::Different
+    same_children(16, &index_a, table_a, a, &index_b, table_b, b)
 }
 
 // Refused: 1 to 13 of the first object, then 1 to 13 of the second. Else whether they mean the same. Most objects that are compared are octet for octet the
 // same, and then the second needs no look of its own.
-pub fn same(a: &[u8], b: &[u8]) -> SameAnswer
+pub fn same(a: &[u8], b: &[u8]) -> Result<bool, SameRefusal>
     ensures { result ≡ same_answer (judge a.now) (judge b.now) }
 {
     match judge(a) {
-        ReadAnswer::NotRead(refusal) => SameAnswer::FirstRefused(refusal),
-        ReadAnswer::Records(_) => {
+        Err(refusal) => Err(SameRefusal::First(refusal)),
+        Ok(_) => {
             if same_octets(a, b) {
-                return SameAnswer::Same;
+                return Ok(true);
             }
             match judge(b) {
-                ReadAnswer::NotRead(refusal) => SameAnswer::SecondRefused(refusal),
-                ReadAnswer::Records(_) => compare_accepted(a, b),
+                Err(refusal) => Err(SameRefusal::Second(refusal)),
+                Ok(_) => Ok(compare_accepted(a, b)),
             }
         }
     }
@@ -66,7 +63,7 @@ pub fn is_normal(object: &[u8]) -> bool
     ensures { result ≡ is_normal object.now }
 {
     match judge(object) {
-        ReadAnswer::NotRead(_) => false,
-        ReadAnswer::Records(_) => are_items_normal(0, object),
+        Err(_) => false,
+        Ok(_) => are_items_normal(0, object),
     }
 }

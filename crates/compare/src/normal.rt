@@ -11,9 +11,9 @@ ghost use Rattle.survey.specs.Normal.{written_as};
 ghost use Rattle.compare.specs.Normal.{is_written, is_rising, shaped_body, shaped};
 
 use crate::bodies::same_octets;
-use octets::{Lies, Octets, Put, header_size, item_at};
+use octets::{Octets, header_size, item_at};
 use survey::written_as;
-use values::{Kind, KnownKind, fits_kind, is_attribute, put_normal};
+use values::{Kind, fits_kind, is_attribute, put_normal};
 
 // The first octets of the array are those of the body.
 fn is_body(room: &[u8], end: usize, body: &[u8]) -> bool
@@ -29,9 +29,8 @@ fn is_rewritten(kind: Kind, body: &[u8]) -> bool
 {
     let mut room: [u8; 8] = [0; 8];
     match put_normal(kind, body, &mut room, 0) {
-        Put::Done(end) => is_body(&room, end, body),
-        Put::NoRoom => false,
-        Put::Invalid => false,
+        Ok(end) => is_body(&room, end, body),
+        Err(_) => false,
     }
 }
 
@@ -77,8 +76,8 @@ fn is_item_normal(parent: u8, tag: u8, body: &[u8]) -> bool
     ensures { result ≡ shaped_body tag (written_as parent tag body.now) body.now }
 {
     match written_as(parent, tag, body) {
-        KnownKind::Unknown => false,
-        KnownKind::Known(kind) => match kind {
+        None => false,
+        Some(kind) => match kind {
             Kind::HoldsItems => are_items_normal(tag, body),
             Kind::HoldsTokens => is_own(kind, body),
             Kind::HoldsText => is_own(kind, body),
@@ -98,22 +97,22 @@ pub fn are_items_normal(parent: u8, part: &[u8]) -> bool
     let mut last: u8 = 0x7F;
     let mut at: usize = 0;
     while at < part.len() {
-        let Lies::Between { from, to } = item_at(part, at) else {
+        let Some(lies) = item_at(part, at) else {
             return false;
         };
         let tag = part[at];
-        let size = Octets(to - from);
-        if from - at != header_size(size).0 {
+        let size = Octets(lies.to - lies.from);
+        if lies.from - at != header_size(size).0 {
             return false;
         }
         if !is_rising(last, tag) {
             return false;
         }
-        if !is_item_normal(parent, tag, &part[from..to]) {
+        if !is_item_normal(parent, tag, &part[lies.from..lies.to]) {
             return false;
         }
         last = later_tag(last, tag);
-        at = to;
+        at = lies.to;
     }
     true
 }

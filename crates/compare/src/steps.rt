@@ -10,7 +10,7 @@ ghost use Rattle.compare.specs.Steps.{attribute_at, due_at, item_of};
 
 use crate::bodies::same_bodies;
 use octets::{Lies, item_at};
-use values::{KnownKind, is_attribute, known_kind};
+use values::{is_attribute, known_kind};
 
 // The attribute that comes next in a body: its tag, and between which places its body lies.
 #[derive(Clone, Copy)]
@@ -47,22 +47,26 @@ fn due_at(part: &[u8], at: usize, last: u8) -> Result<Option<Due>, Astray>
     if tag <= last {
         return Err(Astray);
     }
-    let Lies::Between { from, to } = item_at(part, at) else {
+    let Some(lies) = item_at(part, at) else {
         return Err(Astray);
     };
-    Ok(Some(Due { tag, from, to }))
+    Ok(Some(Due {
+        tag,
+        from: lies.from,
+        to: lies.to,
+    }))
 }
 
 // Where the body of the item at a place lies, if it has a tag.
 #[tactic(auto, unfolding(crate::specs::Steps::item_of))]
-fn item_of(part: &[u8], at: usize, tag: u8) -> Lies
+fn item_of(part: &[u8], at: usize, tag: u8) -> Option<Lies>
     ensures { result ≡ item_of part.now at tag }
 {
     if at >= part.len() {
-        return Lies::Outside;
+        return None;
     }
     if part[at] != tag {
-        return Lies::Outside;
+        return None;
     }
     item_at(part, at)
 }
@@ -80,7 +84,7 @@ fn same_values(
 ) -> bool
     ensures { result ≡ same_found (entries_by index_a.now table_a.now) (entries_by index_b.now table_b.now) (known parent tag) (some a.now) (some b.now) }
 {
-    let KnownKind::Known(kind) = known_kind(parent, tag) else {
+    let Some(kind) = known_kind(parent, tag) else {
         return true;
     };
     same_bodies(kind, index_a, table_a, a, index_b, table_b, b)
@@ -108,7 +112,7 @@ pub fn compare_in_step(
             }
             return Ok(true);
         };
-        let Lies::Between { from, to } = item_of(b, j, due.tag) else {
+        let Some(lies) = item_of(b, j, due.tag) else {
             return Err(Astray);
         };
         if !same_values(
@@ -119,12 +123,12 @@ pub fn compare_in_step(
             &a[due.from..due.to],
             index_b,
             table_b,
-            &b[from..to],
+            &b[lies.from..lies.to],
         ) {
             return Ok(false);
         }
         i = due.to;
-        j = to;
+        j = lies.to;
         last = due.tag;
     }
 }

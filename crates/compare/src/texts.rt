@@ -20,30 +20,30 @@ struct Rest {
 
 // Where the entry lies that stands for an octet. Outside: the octet stands for itself. By any index of any table: an entry that doesn't lie in the table, or is
 // longer than the index says that any is, counts as none, as `expand` has it.
-fn entry_of(index: &[usize; 32], table: &[u8], b: u8) -> Lies
+fn entry_of(index: &[usize; 32], table: &[u8], b: u8) -> Option<Lies>
     ensures { Standing (entries_by index.now table.now) table.now b result }
 {
     if !is_token(b) {
-        return Lies::Outside;
+        return None;
     }
     let from = index[b as usize];
     if from == 0 {
-        return Lies::Outside;
+        return None;
     }
     if from > table.len() {
-        return Lies::Outside;
+        return None;
     }
     let size = table[from - 1] as usize;
     if size > table.len() - from {
-        return Lies::Outside;
+        return None;
     }
     if size > index[0] {
-        return Lies::Outside;
+        return None;
     }
-    Lies::Between {
+    Some(Lies {
         from,
         to: from + size,
-    }
+    })
 }
 
 // The same rest, with the entry of a token that comes next before the text. So what comes next are octets of the table, or one of the text that stands for
@@ -57,12 +57,12 @@ fn opened(index: &[usize; 32], table: &[u8], s: &[u8], rest: Rest) -> Rest
         if r.from < r.to {
             return r;
         }
-        let Lies::Between { from, to } = entry_of(index, table, s[at]) else {
+        let Some(lies) = entry_of(index, table, s[at]) else {
             return r;
         };
         r = Rest {
-            from,
-            to,
+            from: lies.from,
+            to: lies.to,
             at: at + 1,
         };
     }

@@ -2,15 +2,16 @@
 ghost use Rattle.std.specs.Prelude.{◌≡◌};
 ghost use Rattle.compare.specs.Walks.{is_meant, NextChild};
 
-use octets::{Lies, item_at};
+use octets::item_at;
 use tags::{Listed, listed_as};
 use values::is_attribute;
 
-// A child element: where it begins, and between which places its body lies. End: there is no further one.
+// A child element: where it begins, and between which places its body lies.
 #[derive(Clone, Copy)]
-pub enum Child {
-    End,
-    Found { at: usize, from: usize, to: usize },
+pub struct Child {
+    pub at: usize,
+    pub from: usize,
+    pub to: usize,
 }
 
 // An element that has a meaning of its own: known, and not the token table.
@@ -30,19 +31,21 @@ fn is_meant(tag: u8) -> bool
     }
 }
 
-// The first child element from the item at a place on.
-pub fn next_child(part: &[u8], at: usize) -> Child
+// The first child element from the item at a place on, if there is one.
+pub fn next_child(part: &[u8], at: usize) -> Option<Child>
     ensures { NextChild part.now at result }
 {
     let mut i = at;
     while i < part.len() {
-        let Lies::Between { from, to } = item_at(part, i) else {
-            return Child::End;
-        };
+        let lies = item_at(part, i)?;
         if is_meant(part[i]) {
-            return Child::Found { at: i, from, to };
+            return Some(Child {
+                at: i,
+                from: lies.from,
+                to: lies.to,
+            });
         }
-        i = to;
+        i = lies.to;
     }
-    Child::End
+    None
 }

@@ -14,6 +14,7 @@ use values::is_attribute;
 
 // One known item: its tag, its kind (0 an element, 1 an attribute, 2 CDATA), its depth, the number of its parent's record, and where its body
 // begins and how many octets it has. (`size`, since `length` in a contract is a list's.)
+// Kept: tag and kind are numbers, no enums, since the lists of C hold them (`spi_read`) and the claims of reading and writing speak of them (`row`, `put_whole`).
 #[derive(Clone, Copy)]
 pub struct Record {
     pub tag: u8,
@@ -36,6 +37,7 @@ pub fn kind_of(tag: u8) -> u8
 
 // A refusal: its number in document 01's table, the offset that goes with it, and for 9 the field of a time that is wrong: 1 length, 2 date, 3 hours, 4 minutes,
 // 5 seconds. The field is 0 for values of other kinds and for other numbers (change request 2026-04).
+// Kept: a number, no enum, since C is handed the number, and the rules and theorems are stated of it (`rule` in specs/Judge, demands/specs/One).
 #[derive(Clone, Copy)]
 pub struct Refusal {
     pub number: u8,

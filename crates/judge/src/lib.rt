@@ -16,6 +16,7 @@ use items::read_items;
 use text::{characters_of, tokens_of};
 
 // How far the items of one element were read: the stage of their order, and the attributes seen.
+// Kept: the stage is a number, since rule 6 compares it, and what tags promises of stages is said of numbers (`latest_of`, `stage_after`).
 #[derive(Clone, Copy)]
 struct Progress {
     stage: u8,

@@ -25,6 +25,7 @@ pub struct Parent {
 }
 
 // What the items so far left behind in their element: the stage of its order, and the bits of its attributes.
+// Kept: the stage is a number, since rule 6 compares it, and what tags promises of stages is said of numbers (`latest_of`, `stage_after`).
 #[derive(Clone, Copy)]
 pub struct State {
     pub stage: u8,

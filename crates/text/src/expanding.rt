@@ -206,6 +206,7 @@ fn indexed_width(index: &[usize; 32], table: &[u8], b: u8) -> Octets
 }
 
 // How many octets the expansion of a text takes, by an index and octet by octet, or `most` where that is less: there it stops.
+// Kept beside `size_singly`: one loop that takes the width by a closure is no plainer, since its clause had to say what the closure answers of every octet.
 fn size_by(index: &[usize; 32], table: &[u8], s: &[u8], most: Octets) -> Octets
     ensures { result.0 ≡ min most.0 (expanded_size (entries_by index.now table.now) s.now).0 }
 {

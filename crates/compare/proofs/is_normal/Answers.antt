@@ -4,10 +4,10 @@ use Rattle.compare.proofs.Answering.{normal-ways}
 use borrow.Author.Rules.{rules}
 use Rattle.compare.proofs.is_normal.Goals as goal
 
-pub returns-in-NotRead : goal.returns-in-NotRead
-returns-in-NotRead c = search (normal-ways, rules)
+pub returns-in-Err : goal.returns-in-Err
+returns-in-Err c = search (normal-ways, rules)
 
-pub returns-in-Records : goal.returns-in-Records
-returns-in-Records c =
+pub returns-in-Ok : goal.returns-in-Ok
+returns-in-Ok c =
     let os : Octets c.args.object.now = λ i. omega (arith, c.type_inv.object i) in
     search (normal-ways, rules)

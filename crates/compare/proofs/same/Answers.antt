@@ -9,11 +9,11 @@ returns-then-same_octets c =
     let oa : Octets c.args.a.now = λ i. omega (arith, c.type_inv.a i) in
     search (same-ways, rules)
 
-pub returns-in-NotRead : goal.returns-in-NotRead
-returns-in-NotRead c = search (same-ways, rules)
+pub returns-in-Err : goal.returns-in-Err
+returns-in-Err c = search (same-ways, rules)
 
-pub returns-in-NotRead-judge : goal.returns-in-NotRead-judge
-returns-in-NotRead-judge c = search (same-ways, rules)
+pub returns-in-Err-judge : goal.returns-in-Err-judge
+returns-in-Err-judge c = search (same-ways, rules)
 
-pub returns-in-Records-judge : goal.returns-in-Records-judge
-returns-in-Records-judge c = search (same-ways, rules)
+pub returns-in-Ok-judge : goal.returns-in-Ok-judge
+returns-in-Ok-judge c = search (same-ways, rules)

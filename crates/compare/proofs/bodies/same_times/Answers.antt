@@ -1,4 +1,4 @@
-use Rattle.compare.proofs.Telling.{taken-times}
+use Rattle.compare.proofs.Telling.{taken-times, times-both}
 use borrow.Author.Rules.{rules}
 use Rattle.compare.proofs.bodies.same_times.Goals as goal
 
@@ -9,4 +9,5 @@ pub returns-in_default-take : goal.returns-in_default-take
 returns-in_default-take c = search (taken-times, rules)
 
 pub returns : goal.returns
-returns c = search (taken-times, rules)
+returns c =
+    times-both _ _ _ c.take.ensures _ c.in-Ok.is _ c.take-2.ensures _ c.in-Ok-take.is _ c.eq.ensures

@@ -21,8 +21,8 @@ same_child-returns-in-Text t c = search (same-child-ways, rules)
 pub same_child-returns-else-not-same_cdata : goal.same_child-returns-else-not-same_cdata
 same_child-returns-else-not-same_cdata t c = search (same-child-ways, not-false, rules)
 
-pub same_children-loop-at-init : goal.same_children-loop-at-init
-same_children-loop-at-init t c = search (abreast-ways, found-ways, rules)
+pub same_children-loop-child_a-init : goal.same_children-loop-child_a-init
+same_children-loop-child_a-init t c = search (abreast-ways, found-ways, rules)
 
 pub same_children-returns-in_default : goal.same_children-returns-in_default
 same_children-returns-in_default t c = search (abreast-ways, found-ways, rules)
@@ -30,11 +30,11 @@ same_children-returns-in_default t c = search (abreast-ways, found-ways, rules)
 pub same_children-returns-in_default-next_child : goal.same_children-returns-in_default-next_child
 same_children-returns-in_default-next_child t c = search (abreast-ways, found-ways, rules)
 
-pub same_children-bounds-a-at : goal.same_children-bounds-a-at
-same_children-bounds-a-at t c = search (abreast-ways, found-ways, not-true, not-false, rules)
+pub same_children-bounds-a-child_a : goal.same_children-bounds-a-child_a
+same_children-bounds-a-child_a t c = search (abreast-ways, found-ways, not-true, not-false, rules)
 
-pub same_children-bounds-b-place : goal.same_children-bounds-b-place
-same_children-bounds-b-place t c = search (abreast-ways, found-ways, not-true, not-false, rules)
+pub same_children-bounds-b-child_b : goal.same_children-bounds-b-child_b
+same_children-bounds-b-child_b t c = search (abreast-ways, found-ways, not-true, not-false, rules)
 
 pub same_children-returns-then-tag-b : goal.same_children-returns-then-tag-b
 same_children-returns-then-tag-b t c = search (abreast-ways, found-ways, rules)
@@ -48,21 +48,21 @@ same_children-slice_bounds-same_child-start t c = search (abreast-ways, found-wa
 pub same_children-slice_bounds-same_child-end : goal.same_children-slice_bounds-same_child-end
 same_children-slice_bounds-same_child-end t c = search (abreast-ways, found-ways, not-true, not-false, rules)
 
-pub same_children-slice_bounds-same_child-count-in-loop-at : goal.same_children-slice_bounds-same_child-count-in-loop-at
-same_children-slice_bounds-same_child-count-in-loop-at t c = search (abreast-ways, found-ways, not-true, not-false, rules)
+pub same_children-slice_bounds-same_child-count-in-loop-child_a : goal.same_children-slice_bounds-same_child-count-in-loop-child_a
+same_children-slice_bounds-same_child-count-in-loop-child_a t c = search (abreast-ways, found-ways, not-true, not-false, rules)
 
-pub same_children-slice_bounds-same_child-start-in-loop-at : goal.same_children-slice_bounds-same_child-start-in-loop-at
-same_children-slice_bounds-same_child-start-in-loop-at t c = search (abreast-ways, found-ways, not-true, not-false, rules)
+pub same_children-slice_bounds-same_child-start-in-loop-child_a : goal.same_children-slice_bounds-same_child-start-in-loop-child_a
+same_children-slice_bounds-same_child-start-in-loop-child_a t c = search (abreast-ways, found-ways, not-true, not-false, rules)
 
-pub same_children-slice_bounds-same_child-end-in-loop-at : goal.same_children-slice_bounds-same_child-end-in-loop-at
-same_children-slice_bounds-same_child-end-in-loop-at t c = search (abreast-ways, found-ways, not-true, not-false, rules)
+pub same_children-slice_bounds-same_child-end-in-loop-child_a : goal.same_children-slice_bounds-same_child-end-in-loop-child_a
+same_children-slice_bounds-same_child-end-in-loop-child_a t c = search (abreast-ways, found-ways, not-true, not-false, rules)
 
 pub same_children-returns-then-not-same_child : goal.same_children-returns-then-not-same_child
 same_children-returns-then-not-same_child t c = search (abreast-ways, found-ways, not-true, rules)
 
-pub same_children-loop-at-smaller : goal.same_children-loop-at-smaller
-same_children-loop-at-smaller t c = search (abreast-ways, found-ways, not-true, not-false, rules)
+pub same_children-loop-child_a-smaller : goal.same_children-loop-child_a-smaller
+same_children-loop-child_a-smaller t c = search (abreast-ways, found-ways, not-true, not-false, rules)
 
-pub same_children-loop-at-preserved : goal.same_children-loop-at-preserved
-same_children-loop-at-preserved t c =
-    abreast-again _ _ _ _ _ _ _ c.loop-at.invariant _ c.next_child.ensures.tells _ c.next_child-in-loop-at.ensures.tells _ _ _ c.in-Found.is _ _ _ c.in-Found-next_child.is c.if-tag-b.false _ c.same_child.ensures (not-false _ c.if-not-same_child.false-raw)
+pub same_children-loop-child_a-preserved : goal.same_children-loop-child_a-preserved
+same_children-loop-child_a-preserved t c =
+    abreast-again _ _ _ _ _ _ _ c.loop-child_a.invariant _ c.next_child.ensures.tells _ c.next_child-in-loop-child_a.ensures.tells _ _ _ c.in-Some.is _ _ _ c.in-Some-next_child.is c.if-tag-b.false _ c.same_child.ensures (not-false _ c.if-not-same_child.false-raw)

@@ -10,8 +10,8 @@ decreases-same_child l = l.levels + l.levels
 abbrev pub decreases-same_children : goal.decreases-same_children
 decreases-same_children l = l.levels + l.levels + 1
 
-abbrev pub invariant-same_children-loop-at : goal.invariant-same_children-loop-at
-invariant-same_children-loop-at l = Abreast l.levels (entries_by l.index_a l.table_a) l.a (entries_by l.index_b l.table_b) l.b l.i l.j
+abbrev pub invariant-same_children-loop-child_a : goal.invariant-same_children-loop-child_a
+invariant-same_children-loop-child_a l = Abreast l.levels (entries_by l.index_a l.table_a) l.a (entries_by l.index_b l.table_b) l.b l.i l.j
 
-abbrev pub decreases-same_children-loop-at : goal.decreases-same_children-loop-at
-decreases-same_children-loop-at l = length l.a - l.i
+abbrev pub decreases-same_children-loop-child_a : goal.decreases-same_children-loop-child_a
+decreases-same_children-loop-child_a l = length l.a - l.i

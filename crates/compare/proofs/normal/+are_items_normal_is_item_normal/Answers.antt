@@ -1,6 +1,6 @@
 use borrow.Author.Rules.{rules}
 use borrow.Author.Tests.{not-true, not-false}
-use Rattle.compare.proofs.Shaping.{item-ways, shapes-ways}
+use Rattle.compare.proofs.Shaping.{item-ways, shapes-ways, shapes-before}
 use Rattle.compare.proofs.normal.+are_items_normal_is_item_normal.Goals as goal
 
 pub are_items_normal-returns-in_default : goal.are_items_normal-returns-in_default
@@ -9,11 +9,12 @@ are_items_normal-returns-in_default t c = search (shapes-ways, rules)
 pub are_items_normal-overflow_sub-size : goal.are_items_normal-overflow_sub-size
 are_items_normal-overflow_sub-size t c = search (shapes-ways, not-true, not-false, rules)
 
-pub are_items_normal-overflow_sub-from : goal.are_items_normal-overflow_sub-from
-are_items_normal-overflow_sub-from t c = search (shapes-ways, not-true, not-false, rules)
+pub are_items_normal-overflow_sub-lies : goal.are_items_normal-overflow_sub-lies
+are_items_normal-overflow_sub-lies t c =
+    shapes-before _ _ _ _ c.loop-at.invariant c.loop-at-test.true _ c.item_at.ensures _ _ c.in-Some.is
 
-pub are_items_normal-returns-then-from-at : goal.are_items_normal-returns-then-from-at
-are_items_normal-returns-then-from-at t c = search (shapes-ways, rules)
+pub are_items_normal-returns-then-lies-at : goal.are_items_normal-returns-then-lies-at
+are_items_normal-returns-then-lies-at t c = search (shapes-ways, rules)
 
 pub are_items_normal-returns-then-not-is_rising : goal.are_items_normal-returns-then-not-is_rising
 are_items_normal-returns-then-not-is_rising t c = search (shapes-ways, not-true, rules)
@@ -39,8 +40,8 @@ are_items_normal-loop-at-preserved t c = search (shapes-ways, not-false, rules)
 pub are_items_normal-returns : goal.are_items_normal-returns
 are_items_normal-returns t c = search (shapes-ways, rules)
 
-pub is_item_normal-returns-in-Unknown : goal.is_item_normal-returns-in-Unknown
-is_item_normal-returns-in-Unknown t c = search (item-ways, rules)
+pub is_item_normal-returns-in-None : goal.is_item_normal-returns-in-None
+is_item_normal-returns-in-None t c = search (item-ways, rules)
 
 pub is_item_normal-returns-in-HoldsItems : goal.is_item_normal-returns-in-HoldsItems
 is_item_normal-returns-in-HoldsItems t c = search (item-ways, rules)

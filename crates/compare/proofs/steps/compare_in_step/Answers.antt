@@ -1,5 +1,5 @@
 use borrow.Author.Rules.{rules}
-use Rattle.compare.proofs.Stepping.{pace-again, pace-ways, edge-ways}
+use Rattle.compare.proofs.Stepping.{pace-again, of-inside, pace-ways, edge-ways}
 use Rattle.compare.proofs.steps.compare_in_step.Goals as goal
 
 pub loop-due-init : goal.loop-due-init
@@ -24,7 +24,7 @@ pub slice_bounds-same_values-start-in-loop-due : goal.slice_bounds-same_values-s
 slice_bounds-same_values-start-in-loop-due c = search (pace-ways, edge-ways, rules)
 
 pub slice_bounds-same_values-end-in-loop-due : goal.slice_bounds-same_values-end-in-loop-due
-slice_bounds-same_values-end-in-loop-due c = search (pace-ways, edge-ways, rules)
+slice_bounds-same_values-end-in-loop-due c = of-inside _ _ _ _ c.item_of.ensures _ _ c.in-Some-item_of.is
 
 pub returns-then-not-same_values : goal.returns-then-not-same_values
 returns-then-not-same_values c = search (pace-ways, edge-ways, rules)
@@ -34,4 +34,4 @@ loop-due-smaller c = search (pace-ways, edge-ways, rules)
 
 pub loop-due-preserved : goal.loop-due-preserved
 loop-due-preserved c =
-    pace-again _ _ _ _ _ _ _ _ c.loop-due.invariant _ c.in_ok-due.ensures _ c.in-Some.is _ c.item_of.ensures _ _ c.in-Between.is _ c.same_values.ensures c.if-not-same_values.false
+    pace-again _ _ _ _ _ _ _ _ c.loop-due.invariant _ c.in_ok-due.ensures _ c.in-Some.is _ c.item_of.ensures _ _ c.in-Some-item_of.is _ c.same_values.ensures c.if-not-same_values.false

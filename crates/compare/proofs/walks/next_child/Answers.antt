@@ -1,20 +1,21 @@
-use Rattle.compare.proofs.Walking.{skip-ways, skip-nearer, skip-again}
+use Rattle.compare.proofs.Walking.{skip-ways, skip-outside, skip-nearer, skip-again}
 use borrow.Author.Rules.{rules}
 use Rattle.compare.proofs.walks.next_child.Goals as goal
 
-pub returns-in_default : goal.returns-in_default
-returns-in_default c = search (skip-ways, rules)
+pub returns-in_err-lies : goal.returns-in_err-lies
+returns-in_err-lies c =
+    rw c.from_residual.ensures (skip-outside _ _ _ c.loop-i.invariant c.loop-i-test.true _ c.item_at.ensures c.in_err-lies.was)
 
 pub returns-then-is_meant : goal.returns-then-is_meant
-returns-then-is_meant c = search (skip-ways, rules)
+returns-then-is_meant c = search (c.in_ok-lies.was, skip-ways, rules)
 
 pub loop-i-smaller : goal.loop-i-smaller
 loop-i-smaller c =
-    skip-nearer _ _ _ c.loop-i.invariant c.loop-i-test.true _ c.item_at.ensures _ _ c.in-Between.is
+    skip-nearer _ _ _ c.loop-i.invariant c.loop-i-test.true _ c.item_at.ensures _ _ c.in_ok-lies.was
 
 pub loop-i-preserved : goal.loop-i-preserved
 loop-i-preserved c =
-    skip-again _ _ _ c.loop-i.invariant c.loop-i-test.true _ c.item_at.ensures _ _ c.in-Between.is _ c.is_meant.ensures c.if-is_meant.false
+    skip-again _ _ _ c.loop-i.invariant c.loop-i-test.true _ c.item_at.ensures _ _ c.in_ok-lies.was _ c.is_meant.ensures c.if-is_meant.false
 
 pub returns : goal.returns
 returns c = search (skip-ways, rules)
