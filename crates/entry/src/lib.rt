@@ -3,7 +3,7 @@
 
 ghost use Rattle.std.specs.Prelude.{◌≡◌, ◌≤◌, length};
 ghost use Rattle.format.specs.Calls.{ReadRecordsClaim};
-ghost use Rattle.format.specs.Lent.{shared_lists, lent_lists};
+ghost use Rattle.format.specs.Lent.{shared_lists, lent_lists, Stay};
 ghost use Rattle.entry.specs.Copies.{copied};
 
 use format::{Counts, Outcome, Record, Records, RecordsMut, Refusal};
@@ -26,7 +26,8 @@ pub fn read_records(
     lists: &mut RecordsMut,
     slice: &mut [Record],
 ) -> Result<Counts, Refusal>
-    ensures { ReadRecordsClaim object.now (lent_lists lists.old) (lent_lists lists.new) slice.old slice.new result }
+    ensures claim { ReadRecordsClaim object.now (lent_lists lists.old) (lent_lists lists.new) slice.old slice.new result }
+    ensures stay { Stay lists.old lists.new }
 {
     let answer = read_at_most(object, slice.len(), lists);
     let many = Outcome::from(answer).count;

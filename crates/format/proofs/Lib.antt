@@ -37,3 +37,4 @@ pub mod Lays
 pub mod Shown
 pub mod Bodies
 pub mod Shortest
+pub mod Stays

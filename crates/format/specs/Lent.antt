@@ -1,5 +1,5 @@
 -- Six lent slices of numbers as the one record of lists that the claims speak of.
-use Rattle.std.specs.Prelude.{List, ℕ, ◌<◌, length}
+use Rattle.std.specs.Prelude.{◌≡◌, List, ℕ, ◌<◌, length}
 use Rattle.format.specs.declared.lent.Records.{Records}
 use Rattle.format.specs.declared.lent.RecordsMut.{RecordsMut}
 use Rattle.format.specs.Calls.{Lists}
@@ -13,6 +13,15 @@ shared_lists r = six r.tags.now r.kinds.now r.depths.now r.parents.now r.starts.
 
 abbrev pub lent_lists : RecordsMut → Lists
 lent_lists r = six r.tags.now r.kinds.now r.depths.now r.parents.now r.starts.now r.sizes.now
+
+-- the six references are those before: who made the struct of its own slices knows by this what they hold
+pub record Stay (before after : RecordsMut) : Type 0 where
+  pub tags : after.tags.ghost_name ≡ before.tags.ghost_name
+  pub kinds : after.kinds.ghost_name ≡ before.kinds.ghost_name
+  pub depths : after.depths.ghost_name ≡ before.depths.ghost_name
+  pub parents : after.parents.ghost_name ≡ before.parents.ghost_name
+  pub starts : after.starts.ghost_name ≡ before.starts.ghost_name
+  pub sizes : after.sizes.ghost_name ≡ before.sizes.ghost_name
 
 -- a number that each list has a place for
 pub record Within (i : ℕ) (l : Lists) : Type 0 where

@@ -1,6 +1,6 @@
 -- Whether two objects mean the same, and whether an object is its own normal form (document 01, Records and meaning). A meaning has its attributes as a function,
 -- so that two of them are equal is no test by itself: the test goes by their structure. It says equality of every two meanings that objects have, however long
--- their normal forms are (proofs/(Ok true)), so no accepted object is refused here.
+-- their normal forms are (proofs/Same), so no accepted object is refused here.
 use Rattle.std.specs.Prelude.{Bool, true, false, cond, ◌&&◌, List, [], ◌∷◌, ℕ, zero, suc, eqb, Result, Ok, Err}
 use Rattle.std.proofs.Math.Option.{Option, none, some}
 use Rattle.values.specs.Values.{Value, octets_of}
@@ -18,7 +18,7 @@ same_octets [] (b ∷ bs) = false
 same_octets (a ∷ more) [] = false
 same_octets (a ∷ more) (b ∷ bs) = eqb a b && same_octets more bs
 
--- two values of one kind, by their normal octets: a value has one normal form, so this is equality (proofs/(Ok true), value-exactly)
+-- two values of one kind, by their normal octets: a value has one normal form, so this is equality (proofs/Same, value-exactly)
 unfoldable pub same_value : Value → Value → Bool
 same_value v w = same_octets (octets_of v) (octets_of w)
 

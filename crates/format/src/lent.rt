@@ -1,7 +1,7 @@
 // The records of an object in six lists that the caller lends: a record has its place in each of them. A list may be longer than another.
 ghost use Rattle.std.specs.Prelude.{◌≡◌, get_or};
 ghost use Rattle.format.specs.Calls.{places, row, put_whole};
-ghost use Rattle.format.specs.Lent.{shared_lists, lent_lists};
+ghost use Rattle.format.specs.Lent.{shared_lists, lent_lists, Stay};
 
 use crate::Record;
 
@@ -16,7 +16,8 @@ pub struct Records<'l> {
     pub sizes: &'l [u16],
 }
 
-// The lists to write in.
+// The lists to write in. What is lent them promises that they stay the same references (`Stay`), so that who made the struct of slices knows what those hold.
+#[derive(Drop)]
 pub struct RecordsMut<'l> {
     pub tags: &'l mut [u8],
     pub kinds: &'l mut [u8],
@@ -78,7 +79,8 @@ impl RecordsMut<'_> {
 
     // A record into the lists, at its number, whole or not at all: where one of them has no such place, none is stored to.
     pub fn put(&mut self, i: usize, r: Record)
-        ensures { lent_lists self.new ≡ put_whole i r (lent_lists self.old) }
+        ensures lists { lent_lists self.new ≡ put_whole i r (lent_lists self.old) }
+        ensures stay { Stay self.old self.new }
     {
         if i < self.places() {
             self.tags[i] = r.tag;

@@ -5,10 +5,9 @@
 // and `text`; here every function is safe and ends.
 #![tactic(auto)]
 
-use octets::PutError;
 use std::fmt::{Display, Formatter};
 use std::{fmt, io};
-use streams::read_full;
+use streams::{put_in, read_full};
 use values::{Bearer, Ensemble, Kind, NumberKind, Time};
 
 // More than all questions together have.
@@ -28,14 +27,6 @@ impl<'a> Display for Hex<'a> {
             write!(f, "{octet:02x}")?;
         }
         Ok(())
-    }
-}
-
-// What was put at the start of a room.
-fn put_in(room: &[u8], put: Result<usize, PutError>) -> Hex<'_> {
-    match put {
-        Ok(end) => Hex(room.get(..end).unwrap_or(&[])),
-        Err(_) => Hex(&[]),
     }
 }
 
@@ -103,7 +94,7 @@ fn say_time(rt: &HostRuntime, time: Time) -> io::Result<()> {
         time.minute,
         time.second,
         time.halves,
-        put_in(&room, put)
+        Hex(put_in(&room, put))
     )
 }
 
@@ -152,7 +143,11 @@ fn say_bearer(rt: &HostRuntime, bearer: Bearer) -> io::Result<()> {
     print!(rt; "bearer")?;
     say_ensemble(rt, bearer.ensemble)?;
     say_sid(rt, bearer.long, bearer.sid)?;
-    print!(rt; " scids {} normal {}", bearer.scids, put_in(&room, put))
+    print!(rt;
+        " scids {} normal {}",
+        bearer.scids,
+        Hex(put_in(&room, put))
+    )
 }
 
 fn answer_bearer(rt: &HostRuntime, s: &[u8]) -> io::Result<()> {

@@ -1,4 +1,5 @@
 -- The whole object folded by a token table: the ways of `top_size` and `emit_top`.
+use Rattle.std.specs.Prelude.{Option, Some, None}
 use mathlib.Core.Path.{◌≡◌, refl, sym, ap, subst, ◌∙◌}
 use mathlib.Core.Bool.{Bool, true, false, cond}
 use mathlib.Core.Option.{some}
@@ -21,10 +22,9 @@ use Rattle.format.specs.Judge.Judged.{accepted}
 use Rattle.format.specs.Meaning.{opens}
 use Rattle.reader.specs.Filling.{Accepts, share}
 use Rattle.survey.specs.Normal.{framed_size}
-use Rattle.octets.specs.declared.Lies.{Lies}
-use Rattle.octets.specs.declared.Lies.TheVariants.{Outside, Between}
-use Rattle.octets.specs.Places.{lies_at}
+use Rattle.octets.specs.Places.{lies_at, from_to}
 use Rattle.octets.proofs.Places.{Lying, lying, bounds}
+use Rattle.octets.specs.declared.Lies.{Lies}
 use Rattle.reader.proofs.Opening.{lies-inside, met}
 use Rattle.reader.proofs.Reading.{whole}
 use Rattle.grammar.proofs.Headers.{begun}
@@ -63,17 +63,18 @@ top-holds o t os h =
     let b = begun a.tag a.start a.body [] o a.whole in
     ap (λ x. known 0 (get_or x 0 0)) b.1 ∙ top-items a.tag a.top
 
-module _ (object table : List ℕ) (h : 0 < length object) (few : length object ≤ 32_768) (short : length table ≤ 4_112) (l : Lies) (e : l ≡ lies_at object 0) where
+module _ (object table : List ℕ) (h : 0 < length object) (few : length object ≤ 32_768) (short : length table ≤ 4_112) (l : Option Lies)
+    (e : l ≡ lies_at object 0) where
   at-start : (t : Items) → judge object ≡ accepted t → Accepts 0 1 (0 + 0) (drop 0 object) t
   at-start t j = whole object t j
 
-  pub nothing-sized : l ≡ Outside → TopSized object table 0
+  pub nothing-sized : l ≡ None → TopSized object table 0
   nothing-sized q = record { small = omega arith; told = λ t os j. absurd (lies-inside object 0 l e h q 0 1 (0 + 0) t (at-start t j)) }
 
-  pub nothing-emitted : (size : ℕ) (before : List ℕ) → l ≡ Outside → TopEmitted object table size before before 0
+  pub nothing-emitted : (size : ℕ) (before : List ℕ) → l ≡ None → TopEmitted object table size before before 0
   nothing-emitted size before q = record { long = refl; told = λ t os j. absurd (lies-inside object 0 l e h q 0 1 (0 + 0) t (at-start t j)) }
 
-  module _ (from to : ℕ) (q : l ≡ Between from to) where
+  module _ (from to : ℕ) (q : l ≡ Some (from_to from to)) where
     pub there : Lying object 0 from to
     there = lying object 0 l e from to q
 

@@ -1,4 +1,5 @@
 -- Items with folded texts, laid into a room: the ways of `emit_item` and the loop of `emit_items`.
+use Rattle.std.specs.Prelude.{Some, None, Option as Optional}
 use mathlib.Core.Path.{◌≡◌, refl, sym, ap, ap₂, subst, ◌∙◌}
 use mathlib.Core.Bool.{Bool, true, false, cond}
 use mathlib.Core.Option.{Option, none, some}
@@ -19,10 +20,9 @@ use Rattle.format.specs.Meaning.{opens}
 use Rattle.format.proofs.Means.{items-opens}
 use Rattle.reader.specs.Filling.{Accepts, share}
 use Rattle.reader.proofs.Opening.{opened-end}
-use Rattle.octets.specs.declared.Lies.{Lies}
-use Rattle.octets.specs.declared.Lies.TheVariants.{Outside, Between}
-use Rattle.octets.specs.Places.{lies_at}
+use Rattle.octets.specs.Places.{lies_at, from_to}
 use Rattle.octets.proofs.Places.{Lying, lying, bounds}
+use Rattle.octets.specs.declared.Lies.{Lies}
 use Rattle.reader.proofs.Opening.{lies-inside, met}
 use Rattle.fold.specs.Packed.{folded, refolded}
 use Rattle.packer.specs.declared.collecting.Sort.{Sort}
@@ -169,14 +169,14 @@ module _ (es : Entries) (p left : ℕ) (part before out : List ℕ) (at stop i :
         subst (λ w. Placed w before out at stop) (sym o) g.lays;
   }
 
-  module _ (h : i < length part) (r : Lies) (re : r ≡ lies_at part i) where
-    pub no_item : r ≡ Outside → ItemsEmitted es p left part before out at stop
+  module _ (h : i < length part) (r : Optional Lies) (re : r ≡ lies_at part i) where
+    pub no_item : r ≡ None → ItemsEmitted es p left part before out at stop
     no_item q = record {
       long = inv.long;
       told = λ depth offset t l a. absurd (lies-inside part i r re h q p depth (offset + i) (inv.goes depth offset t l a).rest (inv.goes depth offset t l a).accepts);
     }
 
-    module _ (from to : ℕ) (q : r ≡ Between from to) where
+    module _ (from to : ℕ) (q : r ≡ Some (from_to from to)) where
       pub here : Lying part i from to
       here = lying part i r re from to q
 

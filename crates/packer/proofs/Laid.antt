@@ -8,11 +8,12 @@ use lib.Dec.{leb, ltb}
 use lib.ListN.{length, take, drop, length-append, drop_of_length-le}
 use lib.Seq.{sets, length-sets}
 use borrow.Author.Tests.{le-leb, lt-ltb}
-use Rattle.std.specs.Prelude.{Option, None, Some}
+use Rattle.std.specs.Prelude.{Option, None, Some, Result, Ok}
+use Rattle.std.specs.Result.{result_unwrap_or}
 use Rattle.octets.specs.Header.{length_field}
 use Rattle.octets.specs.Puts.{put_answer, put_out, Puts}
-use Rattle.octets.specs.declared.Put.{Put}
 use Rattle.octets.proofs.Lists.{sets-append, sets-none}
+use Rattle.octets.specs.declared.PutError.{PutError}
 use Rattle.text.specs.Tokens.{Entries}
 use Rattle.fold.specs.Words.{all_letters}
 use Rattle.fold.specs.Packed.{tag_of, tagged, folded}
@@ -43,7 +44,7 @@ pub placed-none : (before : List ℕ) (at : ℕ) → Placed [] before before at 
 placed-none before at = record { long = refl; laid = λ h. sym (sets-none before at); ends = λ h. omega arith }
 
 -- what an answer of a call that puts octets says
-module _ (o before after : List ℕ) (at : ℕ) (put : Put) (c : Puts true o at before after put) where
+module _ (o before after : List ℕ) (at : ℕ) (put : Result ℕ PutError) (c : Puts true o at before after put) where
   long : length after ≡ length before
   unfolding put_out
   long = ap length c.leaves ∙ go (leb (at + length o) (length before))
@@ -56,34 +57,21 @@ module _ (o before after : List ℕ) (at : ℕ) (put : Put) (c : Puts true o at 
   unfolding put_out
   out h = c.leaves ∙ rw (le-leb (at + length o) (length before) h)
 
-  is : at + length o ≤ length before → put ≡ Put.Done (at + length o)
+  is : at + length o ≤ length before → put ≡ Ok (at + length o)
   unfolding put_answer
   is h = c.answers ∙ rw (le-leb (at + length o) (length before) h)
 
-  pub put-done : (e : ℕ) → put ≡ Put.Done e → Placed o before after at e
-  put-done e q = record { long = long; laid = out; ends = λ h. let x = is h in let y : Put.Done e ≡ Put.Done (at + length o) = sym q ∙ x in cc }
-
-  pub put-none : put ≡ Put.NoRoom → Placed o before after at at
-  put-none q = record { long = long; laid = out; ends = λ h. let x : Put.NoRoom ≡ Put.Done (at + length o) = sym q ∙ is h in cc }
-
-  pub put-long : put ≡ Put.Invalid → Placed o before after at at
-  put-long q = record { long = long; laid = out; ends = λ h. let x : Put.Invalid ≡ Put.Done (at + length o) = sym q ∙ is h in cc }
+  pub put-placed : (end : ℕ) → end ≡ result_unwrap_or put at → Placed o before after at end
+  put-placed end q = record { long = long; laid = out; ends = λ h. q ∙ ap (λ r. result_unwrap_or r at) (is h) }
 
 -- a header of a body that an object can have
-module _ (tag n : ℕ) (before after : List ℕ) (at : ℕ) (put : Put) (h : n < 65_536) (c : Puts (ltb n (256 ^ 2)) (tag ∷ length_field n) at before after put) where
+module _ (tag n : ℕ) (before after : List ℕ) (at : ℕ) (put : Result ℕ PutError) (h : n < 65_536)
+    (c : Puts (ltb n (256 ^ 2)) (tag ∷ length_field n) at before after put) where
   true-puts : Puts true (tag ∷ length_field n) at before after put
   true-puts = subst (λ b. Puts b (tag ∷ length_field n) at before after put) (lt-ltb n (256 ^ 2) (omega arith)) c
 
-  pub header-done : (e : ℕ) → put ≡ Put.Done e → Placed (tag ∷ length_field n) before after at e
-  header-done = put-done (tag ∷ length_field n) before after at put true-puts
-
-  pub header-none : put ≡ Put.NoRoom → Placed (tag ∷ length_field n) before after at at
-  header-none = put-none (tag ∷ length_field n) before after at put true-puts
-
-  pub header-long : put ≡ Put.Invalid → Placed (tag ∷ length_field n) before after at at
-  header-long = put-long (tag ∷ length_field n) before after at put true-puts
-
-pub ruleset put-ways = (put-done, put-none, put-long, header-done, header-none, header-long)
+  pub header-placed : (end : ℕ) → end ≡ result_unwrap_or put at → Placed (tag ∷ length_field n) before after at end
+  header-placed = put-placed (tag ∷ length_field n) before after at put true-puts
 
 -- the same octets
 placed_same : (o p before after : List ℕ) (at r : ℕ) → p ≡ o → Placed o before after at r → Placed p before after at r

@@ -1,4 +1,5 @@
 -- Words noted in lists: the ways of `note_one` and the loop of `note_words`.
+use Rattle.std.specs.Prelude.{Option, Some, None}
 use mathlib.Core.Path.{◌≡◌, refl, sym, ap, ap₂, ◌∙◌}
 use mathlib.Core.Bool.{Bool, true, false, cond, ◌&&◌}
 use mathlib.Core.Logic.{⊎_elim}
@@ -18,8 +19,6 @@ use Rattle.octets.proofs.Lists.{length_part, drop-next}
 use Rattle.values.specs.declared.Kind.{Kind}
 use Rattle.values.specs.declared.Kind.TheVariants.{HoldsItems, HoldsTokens, HoldsText, HoldsPlain, HoldsTime, HoldsBearer, HoldsNumber}
 use Rattle.values.specs.declared.NumberKind.{NumberKind}
-use Rattle.values.specs.declared.KnownKind.{KnownKind}
-use Rattle.values.specs.declared.KnownKind.TheVariants.{Unknown, Known}
 use Rattle.values.specs.Table.{known}
 use Rattle.values.specs.Calls.{known_kind}
 use Rattle.values.proofs.Laws.{known-kind, unknown-kind}
@@ -161,12 +160,12 @@ pub ruleset note-ways = (note-not, note-size, note-cast, note-at, note-first, no
 
 -- ---- `sort_of`
 
-module _ (p tag : ℕ) (k : KnownKind) (e : k ≡ known_kind p tag) where
-  pub sort-unknown : k ≡ Unknown → Sort.Nothing ≡ sort_of (known p tag)
+module _ (p tag : ℕ) (k : Option Kind) (e : k ≡ known_kind p tag) where
+  pub sort-unknown : k ≡ None → Sort.Nothing ≡ sort_of (known p tag)
   unfolding sort_of
   sort-unknown q = rw (unknown-kind p tag k e q)
 
-  module _ (kind : Kind) (q : k ≡ Known kind) where
+  module _ (kind : Kind) (q : k ≡ Some kind) where
     is : known p tag ≡ some kind
     is = known-kind p tag k e kind q
 

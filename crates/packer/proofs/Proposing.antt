@@ -1,4 +1,5 @@
 -- The packer of a normal form: the ways of `propose` and `pack_normal`.
+use Rattle.std.specs.Prelude.{Result, Ok, Err}
 use mathlib.Core.Path.{◌≡◌, refl, sym, ap, ap₂, subst, ◌∙◌}
 use mathlib.Core.Bool.{Bool, true, false, cond, false≢true}
 use mathlib.Core.Option.{none, some}
@@ -10,15 +11,15 @@ use lib.ListN.{length, get_or, take, replicate, length-take}
 use lib.Seq.{sets, length-sets, length-take-le}
 use borrow.Author.Tests.{le-leb, lt-leb, lt-ltb, le-ltb, leb-true, leb-false}
 use Rattle.octets.specs.Counts.{as_octets, size_of}
+use Rattle.octets.specs.declared.counts.Octets.{Octets as OctetCount}
 use Rattle.octets.specs.Numbers.{Octets}
 use Rattle.octets.specs.Header.{framed}
 use Rattle.octets.specs.Puts.{put_answer, put_out, Puts}
-use Rattle.octets.specs.declared.Put.{Put}
 use Rattle.octets.proofs.Lists.{part-of-sets, sets-none}
+use Rattle.octets.specs.declared.PutError.{PutError}
+use Rattle.octets.specs.declared.PutError.TheVariants.{NoRoom}
 use Rattle.text.specs.Tokens.{entries}
 use Rattle.format.specs.declared.Refusal.{Refusal}
-use Rattle.format.specs.declared.WriteAnswer.{WriteAnswer}
-use Rattle.format.specs.declared.WriteAnswer.TheVariants.{Octets as Handed, NotWritten}
 use Rattle.format.specs.Answers.{refusal}
 use Rattle.format.specs.Tree.{Items}
 use Rattle.format.specs.Tree.Items.{end, item}
@@ -77,24 +78,27 @@ module _ (object : List ℕ) (v : IsNormal object) where
   unfolding packed packed_if
   packed-is = ap (packed_if object) v.judged ∙ ap (λ b. cond b (some (proposal object v.tree)) none) (subst (λ o. same_octets o object ≡ true) (sym v.normal) (octets-same object))
 
-  claims : (before after : List ℕ) (answer : WriteAnswer) (p : List ℕ) → proposal object v.tree ≡ p → answer ≡ pack_answer (size_of before) (some p) → after ≡ sets before 0 (pack_octets (size_of before) (some p))
+  claims : (before after : List ℕ) (answer : Result OctetCount Refusal) (p : List ℕ) → proposal object v.tree ≡ p
+      → answer ≡ pack_answer (size_of before) (some p) → after ≡ sets before 0 (pack_octets (size_of before) (some p))
       → PackClaim object before after answer
   claims before after answer p e x y =
       let q : packed object ≡ some p = packed-is ∙ ap some e in
       record { answers = x ∙ ap (pack_answer (size_of before)) (sym q); leaves = y ∙ ap (λ o. sets before 0 (pack_octets (size_of before) o)) (sym q) }
 
   -- what is proposed is no longer than the object, so the room alone decides
-  done : (before after p : List ℕ) → proposal object v.tree ≡ p → length p ≤ length object → length p ≤ length before → after ≡ sets before 0 p → PackClaim object before after (Handed (size_of p))
+  done : (before after p : List ℕ) → proposal object v.tree ≡ p → length p ≤ length object → length p ≤ length before → after ≡ sets before 0 p
+      → PackClaim object before after (Ok (size_of p))
   unfolding pack_answer pack_octets roomy
   done before after p e l h y =
       let b = le-leb (length p) (min (length before) 32_768) (omega (arith, normal-small)) in
-      claims before after (Handed (size_of p)) p e (rw b) (y ∙ rw b)
+      claims before after (Ok (size_of p)) p e (rw b) (y ∙ rw b)
 
-  refuses : (before after p : List ℕ) → proposal object v.tree ≡ p → length before < length p → after ≡ before → (f : Refusal) → f ≡ refusal 15 0 → PackClaim object before after (NotWritten f)
+  refuses : (before after p : List ℕ) → proposal object v.tree ≡ p → length before < length p → after ≡ before → (f : Refusal) → f ≡ refusal 15 0
+      → PackClaim object before after (Err f)
   unfolding pack_answer pack_octets roomy
   refuses before after p e h y f z =
       let b = lt-leb (length p) (min (length before) 32_768) (omega arith) in
-      claims before after (NotWritten f) p e (ap NotWritten z ∙ rw b) (y ∙ (sym (sets-none before 0) ∙ rw b))
+      claims before after (Err f) p e (ap Err z ∙ rw b) (y ∙ (sym (sets-none before 0) ∙ rw b))
 
   module _ (places table : List ℕ) (r : ℕ) (t : Proposed object places table r) where
     abbrev tab : List ℕ
@@ -141,42 +145,44 @@ module _ (object : List ℕ) (v : IsNormal object) where
       pub inner-short : size < length object → inner < 65_536
       inner-short h = omega (arith, f, framed-least inner, normal-small)
 
-      pub pack-no-room : (room : List ℕ) → size < length object → length room < size → (f : Refusal) → f ≡ refusal 15 0 → PackClaim object room room (NotWritten f)
+      pub pack-no-room : (room : List ℕ) → size < length object → length room < size → (f : Refusal) → f ≡ refusal 15 0 → PackClaim object room room (Err f)
       pack-no-room room h g = refuses room room (folded_by words v.tree) (shorter h) (omega (arith, is)) refl
 
-      pub pack-folded : (room room' : List ℕ) (q : ℕ) → size < length object → size ≤ length room → TopEmitted object tab inner room room' q → PackClaim object room room' (Handed (as_octets size))
+      pub pack-folded : (room room' : List ℕ) (q : ℕ) → size < length object → size ≤ length room → TopEmitted object tab inner room room' q
+          → PackClaim object room room' (Ok (as_octets size))
       pack-folded room room' q h g e =
           let l = e.told v.tree v.octets v.judged (s.told v.tree v.octets v.judged) in
           let n = ap length (folds v.tree) in
           let o : room' ≡ sets room 0 (folded_by words v.tree) = l.laid (omega (arith, is, n)) ∙ ap (sets room 0) (folds v.tree) in
-          subst (λ n. PackClaim object room room' (Handed (as_octets n))) (sym is) (done room room' (folded_by words v.tree) (shorter h) (omega (arith, is)) (omega (arith, is)) o)
+          subst (λ n. PackClaim object room room' (Ok (as_octets n))) (sym is)
+          (done room room' (folded_by words v.tree) (shorter h) (omega (arith, is)) (omega (arith, is)) o)
 
-      module _ (room room' : List ℕ) (h : length object ≤ size) (put : Put) (c : Puts true object 0 room room' put) where
-        fits : (e : ℕ) → put ≡ Put.Done e → (e ≡ length object) × (length object ≤ length room) × (room' ≡ sets room 0 object)
+      module _ (room room' : List ℕ) (h : length object ≤ size) (put : Result ℕ PutError) (c : Puts true object 0 room room' put) where
+        fits : (e : ℕ) → put ≡ Ok e → (e ≡ length object) × (length object ≤ length room) × (room' ≡ sets room 0 object)
         unfolding put_answer put_out
         fits e q = go (leb (0 + length object) (length room)) refl (sym q ∙ c.answers) c.leaves
           where
-            go : (b : Bool) → leb (0 + length object) (length room) ≡ b → Put.Done e ≡ cond b (Put.Done (0 + length object)) Put.NoRoom → room' ≡ cond b (sets room 0 object) room
+            go : (b : Bool) → leb (0 + length object) (length room) ≡ b → Ok e ≡ cond b (Ok (0 + length object)) (Err NoRoom)
+                → room' ≡ cond b (sets room 0 object) room
                 → (e ≡ length object) × (length object ≤ length room) × (room' ≡ sets room 0 object)
             go true x y z = let k : e ≡ 0 + length object = cc in (omega arith, omega (arith, leb-true (0 + length object) (length room) x), z)
             go false x y z = let k : ◌≡◌ {A = ℕ} 0 1 = cc in absurd (omega arith)
 
-        misfits : (put ≡ Put.Done (0 + length object) → ⊥) → (length room < length object) × (room' ≡ room)
+        misfits : (put ≡ Ok (0 + length object) → ⊥) → (length room < length object) × (room' ≡ room)
         unfolding put_answer put_out
         misfits n = go (leb (0 + length object) (length room)) refl c.answers c.leaves
           where
-            go : (b : Bool) → leb (0 + length object) (length room) ≡ b → put ≡ cond b (Put.Done (0 + length object)) Put.NoRoom → room' ≡ cond b (sets room 0 object) room → (length room < length object) × (room' ≡ room)
+            go : (b : Bool) → leb (0 + length object) (length room) ≡ b → put ≡ cond b (Ok (0 + length object)) (Err NoRoom)
+                → room' ≡ cond b (sets room 0 object) room → (length room < length object) × (room' ≡ room)
             go true x y z = absurd (n y)
             go false x y z = (omega (arith, leb-false (0 + length object) (length room) x), z)
 
-        pub pack-itself : (e : ℕ) → put ≡ Put.Done e → PackClaim object room room' (Handed (as_octets e))
-        pack-itself e q = let f = fits e q in subst (λ n. PackClaim object room room' (Handed (as_octets n))) (sym f.0) (done room room' object (itself h) (omega arith) f.1 f.2)
+        pub pack-itself : (e : ℕ) → put ≡ Ok e → PackClaim object room room' (Ok (as_octets e))
+        pack-itself e q =
+            let f = fits e q in subst (λ n. PackClaim object room room' (Ok (as_octets n))) (sym f.0) (done room room' object (itself h) (omega arith) f.1 f.2)
 
-        pub pack-none : put ≡ Put.NoRoom → (f : Refusal) → f ≡ refusal 15 0 → PackClaim object room room' (NotWritten f)
-        pack-none q x y = let f = misfits (λ z. let k : ◌≡◌ {A = ℕ} 0 1 = cc in omega arith) in refuses room room' object (itself h) f.0 f.1 x y
-
-        pub pack-long : put ≡ Put.Invalid → (f : Refusal) → f ≡ refusal 15 0 → PackClaim object room room' (NotWritten f)
-        pack-long q x y = let f = misfits (λ z. let k : ◌≡◌ {A = ℕ} 0 1 = cc in omega arith) in refuses room room' object (itself h) f.0 f.1 x y
+        pub pack-none : (x : PutError) → put ≡ Err x → (f : Refusal) → f ≡ refusal 15 0 → PackClaim object room room' (Err f)
+        pack-none x q r y = let f = misfits (λ z. let k : ◌≡◌ {A = ℕ} 0 1 = cc in omega arith) in refuses room room' object (itself h) f.0 f.1 r y
 
 pub table-count : (object places table : List ℕ) (r : ℕ) → Proposed object places table r → 4_112 ≡ length places → r ≡ length (take r table)
 table-count object places table r t e = sym (length-take-le r table (omega (arith, t.few, t.long)))
@@ -192,11 +198,14 @@ module _ (object : List ℕ) (r : Bool) (e : r ≡ is_normal object) where
       go (refused x) j h = absurd (false≢true h)
       go (accepted t) j h = record { octets = os; tree = t; judged = j; normal = same-octets (normal_of t) object h }
 
-  pub normal-no : r ≡ false → (room : List ℕ) (f : Refusal) → f ≡ refusal 22 0 → PackClaim object room room (NotWritten f)
+  pub normal-no : r ≡ false → (room : List ℕ) (f : Refusal) → f ≡ refusal 22 0 → PackClaim object room room (Err f)
   unfolding is_normal has_normal packed packed_if pack_answer pack_octets
   normal-no q room f z =
       let n : packed object ≡ none = go (judge object) refl (sym e ∙ q) in
-      record { answers = ap NotWritten z ∙ sym (ap (pack_answer (size_of room)) n); leaves = sym (ap (λ o. sets room 0 (pack_octets (size_of room) o)) n ∙ sets-none room 0) }
+      record {
+        answers = ap Err z ∙ sym (ap (pack_answer (size_of room)) n);
+        leaves = sym (ap (λ o. sets room 0 (pack_octets (size_of room) o)) n ∙ sets-none room 0);
+      }
     where
       go : (a : Judged) → judge object ≡ a → has_normal object a ≡ false → packed_if object a ≡ none
       go (refused x) j h = refl

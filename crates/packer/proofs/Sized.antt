@@ -1,4 +1,5 @@
 -- Sizes of items with folded texts: the ways of `size_item` and the loop of `size_items`.
+use Rattle.std.specs.Prelude.{Some, None, Option as Optional}
 use mathlib.Core.Path.{◌≡◌, refl, sym, ap, ap₂, subst, ◌∙◌}
 use mathlib.Core.Bool.{Bool, true, false, cond}
 use mathlib.Core.Option.{Option, none, some}
@@ -27,10 +28,9 @@ use Rattle.format.proofs.Means.{items-opens}
 use Rattle.reader.specs.Filling.{Accepts, share}
 use Rattle.reader.proofs.Opening.{opened-end}
 use Rattle.survey.specs.Normal.{framed_size}
-use Rattle.octets.specs.declared.Lies.{Lies}
-use Rattle.octets.specs.declared.Lies.TheVariants.{Outside, Between}
-use Rattle.octets.specs.Places.{lies_at}
+use Rattle.octets.specs.Places.{lies_at, from_to}
 use Rattle.octets.proofs.Places.{Lying, lying, bounds}
+use Rattle.octets.specs.declared.Lies.{Lies}
 use Rattle.reader.proofs.Opening.{lies-inside, met}
 use Rattle.survey.proofs.Ways.{framed-length}
 use Rattle.fold.specs.Packed.{folded, refolded}
@@ -204,14 +204,14 @@ module _ (es : Entries) (p left : ℕ) (part : List ℕ) (size at : ℕ) (inv : 
         omega (arith, g.sizes);
   }
 
-  module _ (h : at < length part) (r : Lies) (re : r ≡ lies_at part at) where
-    pub no_item : r ≡ Outside → ItemsSized es p left part size
+  module _ (h : at < length part) (r : Optional Lies) (re : r ≡ lies_at part at) where
+    pub no_item : r ≡ None → ItemsSized es p left part size
     no_item q = record {
       small = omega (arith, inv.small, inv.inside);
       told = λ depth offset t l a. absurd (lies-inside part at r re h q p depth (offset + at) (inv.goes depth offset t l a).rest (inv.goes depth offset t l a).accepts);
     }
 
-    module _ (from to : ℕ) (q : r ≡ Between from to) where
+    module _ (from to : ℕ) (q : r ≡ Some (from_to from to)) where
       pub here : Lying part at from to
       here = lying part at r re from to q
 

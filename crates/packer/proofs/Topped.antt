@@ -1,4 +1,5 @@
 -- The top of a packed object: the loop of `emit_attributes`.
+use Rattle.std.specs.Prelude.{Some, None, Option as Optional}
 use mathlib.Core.Path.{◌≡◌, refl, sym, ap, subst, ◌∙◌}
 use mathlib.Core.Bool.{Bool, true, false, cond, not, ◌&&◌, false≢true}
 use mathlib.Core.Option.{Option, none, some}
@@ -19,10 +20,9 @@ use Rattle.format.specs.Judge.{is_known, is_items, is_text}
 use Rattle.format.specs.Meaning.{opens}
 use Rattle.reader.specs.Filling.{Accepts, share}
 use Rattle.reader.proofs.Opening.{opened-end}
-use Rattle.octets.specs.declared.Lies.{Lies}
-use Rattle.octets.specs.declared.Lies.TheVariants.{Outside, Between}
-use Rattle.octets.specs.Places.{lies_at}
+use Rattle.octets.specs.Places.{lies_at, from_to}
 use Rattle.octets.proofs.Places.{Lying, lying, bounds}
+use Rattle.octets.specs.declared.Lies.{Lies}
 use Rattle.reader.proofs.Opening.{lies-inside, met}
 use Rattle.fold.specs.Packed.{folded, refolded}
 use Rattle.packer.specs.declared.collecting.Sort.{Sort}
@@ -153,15 +153,15 @@ module _ (es : Entries) (p left : ℕ) (part before out : List ℕ) (at stop i :
         record { parted = g; front = λ x. subst (λ u. refolded es x p u ≡ x ++ refolded es [] p u) (sym e) (sym (append-nil x)) };
   }
 
-  module _ (h : i < length part) (r : Lies) (re : r ≡ lies_at part i) where
-    pub no_item : r ≡ Outside → AttributesEmitted es p left part before out at (record { place = i; end = stop })
+  module _ (h : i < length part) (r : Optional Lies) (re : r ≡ lies_at part i) where
+    pub no_item : r ≡ None → AttributesEmitted es p left part before out at (record { place = i; end = stop })
     no_item q = record {
       inside = inv.inside;
       long = inv.long;
       told = λ depth offset t l a. absurd (lies-inside part i r re h q p depth (offset + i) (inv.goes depth offset t l a).rest (inv.goes depth offset t l a).accepts);
     }
 
-    module _ (from to : ℕ) (q : r ≡ Between from to) where
+    module _ (from to : ℕ) (q : r ≡ Some (from_to from to)) where
       pub here : Lying part i from to
       here = lying part i r re from to q
 

@@ -1,4 +1,5 @@
 -- The walk over headers: the ways of `collect_one` and the loop of `collect`.
+use Rattle.std.specs.Prelude.{Some, None, Option as Optional}
 use mathlib.Core.Path.{◌≡◌, refl, sym, ap, ap₂, subst, ◌∙◌}
 use mathlib.Core.Bool.{Bool, true, false, cond, false≢true}
 use mathlib.Core.Option.{Option, none, some}
@@ -15,13 +16,12 @@ use Rattle.values.specs.Table.{known}
 use Rattle.format.specs.Tree.{Items}
 use Rattle.format.specs.Judge.{is_items, is_text, judge}
 use Rattle.format.specs.Judge.Judged.{accepted}
-use Rattle.octets.specs.Places.{first_body, after_first}
+use Rattle.octets.specs.Places.{first_body, after_first, from_to}
 use Rattle.grammar.specs.Grammar.{Begins}
 use Rattle.grammar.proofs.Headers.{Begun, begun}
-use Rattle.octets.specs.declared.Lies.{Lies}
-use Rattle.octets.specs.declared.Lies.TheVariants.{Outside, Between}
 use Rattle.octets.specs.Places.{lies_at}
 use Rattle.octets.proofs.Places.{Lying, lying, not-whole, bounds, to_inside, ordered, body_is, later-is, tag-is}
+use Rattle.octets.specs.declared.Lies.{Lies}
 use Rattle.fold.specs.Words.{pieces, words_among, words_in}
 use Rattle.packer.specs.declared.collecting.Sort.{Sort}
 use Rattle.packer.specs.declared.collecting.Cursor.{Cursor}
@@ -100,14 +100,15 @@ says (some k) = go (is_items (some k)) (is_text (some k)) refl refl
 
 -- ---- the ways of `collect_one`
 
-module _ (object starts sizes : List ℕ) (c : Cursor) (v : Collecting object starts sizes c) (h : c.at < length object) (l : Lies) (e : l ≡ lies_at object c.at) where
+module _ (object starts sizes : List ℕ) (c : Cursor) (v : Collecting object starts sizes c) (h : c.at < length object) (l : Optional Lies)
+    (e : l ≡ lies_at object c.at) where
   abbrev at : ℕ
   at = c.at
 
   here : (t : Items) (os : Octets object) (j : judge object ≡ accepted t) → Step c.parent (drop at object) (v.goes t os j).rest
   here t os j = flat_step (v.goes t os j).flat (omega (arith, length-drop at object))
 
-  pub step-outside : l ≡ Outside → Steps object starts sizes c starts sizes (record { at = length object; parent = c.parent; count = c.count })
+  pub step-outside : l ≡ None → Steps object starts sizes c starts sizes (record { at = length object; parent = c.parent; count = c.count })
   step-outside q = record {
     state = record {
       inside = omega arith;
@@ -119,7 +120,7 @@ module _ (object starts sizes : List ℕ) (c : Cursor) (v : Collecting object st
     long = refl;
   }
 
-  module _ (from to : ℕ) (q : l ≡ Between from to) where
+  module _ (from to : ℕ) (q : l ≡ Some (from_to from to)) where
     lies : Lying object at from to
     lies = lying object at l e from to q
 
@@ -213,7 +214,7 @@ module _ (object starts sizes : List ℕ) (c : Cursor) (v : Collecting object st
             long = k.long;
           }
 
-pub ruleset step-ways = (step-outside, step-ordered, step-inside, step-nothing, step-plain, step-items, step-holds, step-text)
+pub ruleset step-ways = (step-outside, step-text)
 
 -- ---- the loop of `collect`
 

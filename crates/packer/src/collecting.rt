@@ -6,8 +6,8 @@ ghost use Rattle.fold.specs.Words.{all_letters, pieces, words_among};
 ghost use Rattle.packer.specs.Collecting.{sort_of, Holding, Notes, Collecting, Steps, Collected};
 
 use crate::pieces::{is_word_size, piece_end};
-use octets::{Lies, item_at};
-use values::{Kind, KnownKind, known_kind};
+use octets::item_at;
+use values::{Kind, known_kind};
 
 // What is done with an item: it is left out where it is unknown, gone into where it holds items, folded where it is text, and else taken as it is.
 #[derive(Clone, Copy)]
@@ -23,8 +23,8 @@ pub fn sort_of(parent: u8, tag: u8) -> Sort
     ensures { result ≡ sort_of (known parent tag) }
 {
     match known_kind(parent, tag) {
-        KnownKind::Unknown => Sort::Nothing,
-        KnownKind::Known(kind) => match kind {
+        None => Sort::Nothing,
+        Some(kind) => match kind {
             Kind::HoldsItems => Sort::Items,
             Kind::HoldsTokens => Sort::Plain,
             Kind::HoldsText => Sort::Text,
@@ -101,7 +101,7 @@ fn collect_one(object: &[u8], starts: &mut [u16], sizes: &mut [u8], c: Cursor) -
     let at = c.at;
     let parent = c.parent;
     let count = c.count;
-    let Lies::Between { from, to } = item_at(object, at) else {
+    let Some(lies) = item_at(object, at) else {
         return Cursor {
             at: object.len(),
             parent,
@@ -111,25 +111,25 @@ fn collect_one(object: &[u8], starts: &mut [u16], sizes: &mut [u8], c: Cursor) -
     let tag = object[at];
     match sort_of(parent, tag) {
         Sort::Nothing => Cursor {
-            at: to,
+            at: lies.to,
             parent,
             count,
         },
         Sort::Items => Cursor {
-            at: from,
+            at: lies.from,
             parent: tag,
             count,
         },
         Sort::Text => {
-            let more = note_words(object, from, to, starts, sizes, count);
+            let more = note_words(object, lies.from, lies.to, starts, sizes, count);
             Cursor {
-                at: to,
+                at: lies.to,
                 parent,
                 count: more,
             }
         }
         Sort::Plain => Cursor {
-            at: to,
+            at: lies.to,
             parent,
             count,
         },

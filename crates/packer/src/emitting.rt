@@ -7,7 +7,7 @@ use crate::collecting::{Sort, sort_of};
 use crate::laying::{put_header, put_octets};
 use crate::sizing::size_items;
 use crate::texts::{folded_size, put_text};
-use octets::{Lies, item_at};
+use octets::item_at;
 
 // One item in an element of a tag. The length of what an element holds is measured before its header is laid.
 #[cycle(emit_item_emit_items)]
@@ -61,11 +61,19 @@ pub fn emit_items(
     let mut end = at;
     let mut i: usize = 0;
     while i < part.len() {
-        let Lies::Between { from, to } = item_at(part, i) else {
+        let Some(lies) = item_at(part, i) else {
             return end;
         };
-        end = emit_item(parent, part[i], left, &part[from..to], table, out, end);
-        i = to;
+        end = emit_item(
+            parent,
+            part[i],
+            left,
+            &part[lies.from..lies.to],
+            table,
+            out,
+            end,
+        );
+        i = lies.to;
     }
     end
 }

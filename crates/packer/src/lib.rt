@@ -21,15 +21,16 @@ mod topping;
 
 use crate::packing::pack_normal;
 use compare::is_normal;
-use format::{WriteAnswer, refuse};
+use format::{Refusal, refuse};
+use octets::Octets;
 
 // Refused: 22 where the object is no normal form, 15 where the packed object is above the room; the room is then as before. Else the packed object, which is
 // the normal form itself where folding makes it no shorter.
-pub fn pack(object: &[u8], room: &mut [u8]) -> WriteAnswer
+pub fn pack(object: &[u8], room: &mut [u8]) -> Result<Octets, Refusal>
     ensures { PackClaim object.now room.old room.new result }
 {
     if !is_normal(object) {
-        return WriteAnswer::NotWritten(refuse(22, 0));
+        return Err(refuse(22, 0));
     }
     pack_normal(object, room)
 }

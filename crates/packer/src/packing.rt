@@ -8,8 +8,8 @@ use crate::counting::{choose, fill_keys};
 use crate::making::make_table;
 use crate::sizing::framed_size;
 use crate::topping::{emit_top, top_size};
-use format::{WriteAnswer, refuse};
-use octets::{Octets, Put, copy_into};
+use format::{Refusal, refuse};
+use octets::{Octets, copy_into};
 
 // The token table of the words that are chosen. There are places for the words of any object.
 fn propose(object: &[u8], table: &mut [u8]) -> usize
@@ -28,7 +28,7 @@ fn propose(object: &[u8], table: &mut [u8]) -> usize
 }
 
 // The packed object of a normal form. The table has a place for any sixteen words.
-pub fn pack_normal(object: &[u8], room: &mut [u8]) -> WriteAnswer
+pub fn pack_normal(object: &[u8], room: &mut [u8]) -> Result<Octets, Refusal>
     requires { IsNormal object.now }
     ensures { PackClaim object.now room.old room.new result }
 {
@@ -38,14 +38,13 @@ pub fn pack_normal(object: &[u8], room: &mut [u8]) -> WriteAnswer
     let size = framed_size(inner);
     if size < object.len() {
         if size > room.len() {
-            return WriteAnswer::NotWritten(refuse(15, 0));
+            return Err(refuse(15, 0));
         }
         emit_top(object, &table[..length], inner, room);
-        return WriteAnswer::Octets(Octets(size));
+        return Ok(Octets(size));
     }
     match copy_into(room, 0, object) {
-        Put::Done(end) => WriteAnswer::Octets(Octets(end)),
-        Put::NoRoom => WriteAnswer::NotWritten(refuse(15, 0)),
-        Put::Invalid => WriteAnswer::NotWritten(refuse(15, 0)),
+        Ok(end) => Ok(Octets(end)),
+        Err(_) => Err(refuse(15, 0)),
     }
 }

@@ -6,7 +6,7 @@ ghost use Rattle.packer.specs.Sizing.{ItemSized, ItemsSized};
 
 use crate::collecting::{Sort, sort_of};
 use crate::texts::folded_size;
-use octets::{Lies, Octets, header_size, item_at};
+use octets::{Octets, header_size, item_at};
 
 // An item whose body has so many octets.
 #[tactic(auto, using(crate::proofs::Sized::framed_ways))]
@@ -45,11 +45,11 @@ pub fn size_items(parent: u8, left: usize, part: &[u8], table: &[u8]) -> usize
     let mut size: usize = 0;
     let mut at: usize = 0;
     while at < part.len() {
-        let Lies::Between { from, to } = item_at(part, at) else {
+        let Some(lies) = item_at(part, at) else {
             return size;
         };
-        size += size_item(parent, part[at], left, &part[from..to], table);
-        at = to;
+        size += size_item(parent, part[at], left, &part[lies.from..lies.to], table);
+        at = lies.to;
     }
     size
 }

@@ -9,7 +9,7 @@ use crate::collecting::{Sort, sort_of};
 use crate::emitting::{emit_item, emit_items};
 use crate::laying::{put_header, put_octets};
 use crate::sizing::{framed_size, size_items};
-use octets::{Lies, item_at};
+use octets::item_at;
 
 // A known item that is no attribute: the table comes before it.
 #[tactic(auto, using(crate::proofs::Topped::behind_ways))]
@@ -48,14 +48,22 @@ fn emit_attributes(
     let mut end = at;
     let mut i: usize = 0;
     while i < part.len() {
-        let Lies::Between { from, to } = item_at(part, i) else {
+        let Some(lies) = item_at(part, i) else {
             return Reached { place: i, end };
         };
         if is_behind(parent, part[i]) {
             return Reached { place: i, end };
         }
-        end = emit_item(parent, part[i], left, &part[from..to], table, out, end);
-        i = to;
+        end = emit_item(
+            parent,
+            part[i],
+            left,
+            &part[lies.from..lies.to],
+            table,
+            out,
+            end,
+        );
+        i = lies.to;
     }
     Reached { place: i, end }
 }
@@ -67,10 +75,10 @@ pub fn top_size(object: &[u8], table: &[u8]) -> usize
     requires table_len_bound { length table.now ≤ 4_112 }
     ensures { TopSized object.now table.now result }
 {
-    let Lies::Between { from, to } = item_at(object, 0) else {
+    let Some(lies) = item_at(object, 0) else {
         return 0;
     };
-    let inner = size_items(object[0], 15, &object[from..to], table);
+    let inner = size_items(object[0], 15, &object[lies.from..lies.to], table);
     inner + framed_size(table.len())
 }
 
@@ -82,11 +90,11 @@ pub fn emit_top(object: &[u8], table: &[u8], size: usize, out: &mut [u8]) -> usi
     requires size_bound { size < 65_536 }
     ensures { TopEmitted object.now table.now size out.old out.new result }
 {
-    let Lies::Between { from, to } = item_at(object, 0) else {
+    let Some(lies) = item_at(object, 0) else {
         return 0;
     };
     let tag = object[0];
-    let body = &object[from..to];
+    let body = &object[lies.from..lies.to];
     let begun = put_header(out, 0, tag, size);
     let reached = emit_attributes(tag, 15, body, table, out, begun);
     let place = reached.place;

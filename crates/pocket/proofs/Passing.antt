@@ -1,4 +1,5 @@
 -- The answers of the gate: yes exactly of objects all of whose known items are allowed where they stand, 19 exactly of other objects of the grammar.
+use Rattle.std.specs.Prelude.{Result, Ok, Err}
 use mathlib.Core.Path.{◌≡◌, refl, sym, ap, ◌∙◌}
 use mathlib.Core.Bool.{Bool, true, false, cond}
 use mathlib.Core.Logic.{◌↔◌, inl, inr}
@@ -24,8 +25,6 @@ use Rattle.survey.specs.First.{or_else, first_in, place_at, item_at, as_item, so
 use Rattle.survey.proofs.First.{first-told, place_inside, or_else_none}
 use Rattle.survey.proofs.Once.{first-place}
 use Rattle.pocket.specs.declared.DataType.{DataType}
-use Rattle.pocket.specs.declared.GateAnswer.{GateAnswer}
-use Rattle.pocket.specs.declared.GateAnswer.TheVariants.{Yes, No}
 use Rattle.pocket.specs.Table.{allowed_in}
 use Rattle.pocket.specs.Gate.{Allowed, offends, gate_answer, gate_of}
 use Rattle.pocket.specs.Order.{GateOrder, GateInOrder}
@@ -58,11 +57,11 @@ unfolding judge rule unless
 low [] r h = let e : refusal 1 0 ≡ r = cc in omega (arith, ap (λ x. x.number) e)
 low (x ∷ o) r h = (refusal-inside (x ∷ o) r (omega arith) h).most
 
-module _ (d : DataType) (o : List ℕ) (answer : GateAnswer) (os : Octets o) where
+module _ (d : DataType) (o : List ℕ) (answer : Result (Unit {0}) Refusal) (os : Octets o) where
   only : (t : Items) → judge o ≡ accepted t → (u : Items) → Accepts o u → u ≡ t
   only t h u a = same-tree u t (sym (sound o u a) ∙ h)
 
-  when-refused : (s : Refusal) → judge o ≡ refused s → answer ≡ No s → GateOrder d o answer
+  when-refused : (s : Refusal) → judge o ≡ refused s → answer ≡ Err s → GateOrder d o answer
   when-refused s h e = record {
     of_object = λ r l. ((λ q. cc), (λ q. cc));
     nineteen = λ n. ((λ q. above n q), (λ q. never (let z = sound o q.0 q.1 in cc)));
@@ -71,10 +70,10 @@ module _ (d : DataType) (o : List ℕ) (answer : GateAnswer) (os : Octets o) whe
     others = λ r q. inl (let z : r ≡ s = cc in omega (arith, low o s h, ap (λ x. x.number) z));
   }
     where
-      above : {C : Type 0} (p : ℕ) → answer ≡ No (refusal 19 p) → C
+      above : {C : Type 0} (p : ℕ) → answer ≡ Err (refusal 19 p) → C
       above p q = let z : s ≡ refusal 19 p = cc in absurd (omega (arith, low o s h, ap (λ x. x.number) z))
 
-  when-fine : (t : Items) → judge o ≡ accepted t → first_in (offends d) 0 t ≡ none → answer ≡ Yes → GateOrder d o answer
+  when-fine : (t : Items) → judge o ≡ accepted t → first_in (offends d) 0 t ≡ none → answer ≡ Ok tt → GateOrder d o answer
   when-fine t h f e = record {
     of_object = λ r l. ((λ q. never (cc)), (λ q. never (cc)));
     nineteen = λ n. ((λ q. never (cc)), (λ q. absurd (some-ne-none (item_at o n) (sym q.2 ∙ ap (first_in (offends d) 0) (only t h q.0 q.1) ∙ f))));
@@ -83,19 +82,19 @@ module _ (d : DataType) (o : List ℕ) (answer : GateAnswer) (os : Octets o) whe
     others = λ r q. never (cc);
   }
 
-  when-offends : (t : Items) → judge o ≡ accepted t → (p : ℕ) → place_at (offends d) o ≡ some p → answer ≡ No (refusal 19 p) → GateOrder d o answer
+  when-offends : (t : Items) → judge o ≡ accepted t → (p : ℕ) → place_at (offends d) o ≡ some p → answer ≡ Err (refusal 19 p) → GateOrder d o answer
   when-offends t h p f e = record {
     of_object = λ r m. ((λ q. let z : r ≡ refusal 19 p = cc in absurd (omega (arith, m, ap (λ x. x.number) z))), (λ q. never (cc)));
     nineteen = λ n. (
       (λ q. (t, complete o t os h, (there n).0 (f ∙ ap some (placed n q)))),
-      (λ q. e ∙ ap (λ m. No (refusal 19 m)) (some-injective p n (sym f ∙ (there n).1 (ap (first_in (offends d) 0) (sym (only t h q.0 q.1)) ∙ q.2)))),
+      (λ q. e ∙ ap (λ m. Err (refusal 19 m)) (some-injective p n (sym f ∙ (there n).1 (ap (first_in (offends d) 0) (sym (only t h q.0 q.1)) ∙ q.2)))),
     );
     inside = λ n q. omega (arith, place_inside (offends d) o p f, placed n q);
     yes = ((λ q. never (cc)), (λ q. absurd (some-ne-none (item_at o p) (sym ((there p).0 f) ∙ ap (first_in (offends d) 0) (sym (only t h q.0 q.1)) ∙ allowed-none d 0 q.0 q.2))));
     others = λ r q. inr (let z : r ≡ refusal 19 p = cc in ap (λ x. x.number) z);
   }
     where
-      placed : (n : ℕ) → answer ≡ No (refusal 19 n) → p ≡ n
+      placed : (n : ℕ) → answer ≡ Err (refusal 19 n) → p ≡ n
       placed n q = let z : refusal 19 p ≡ refusal 19 n = cc in ap (λ x. x.place) z
 
       there : (n : ℕ) → place_at (offends d) o ≡ some n ↔ first_in (offends d) 0 t ≡ some (item_at o n)

@@ -5,13 +5,12 @@
 
 ghost use Rattle.std.specs.Prelude.{◌≡◌};
 ghost use Rattle.pocket.specs.Table.{data_type};
-ghost use Rattle.pocket.specs.Gate.{gate_of, gate_outcome};
+ghost use Rattle.pocket.specs.Gate.{gate_of};
 
 mod offender;
 
 use crate::offender::find_offender;
-use format::{Outcome, Refusal, refuse};
-use survey::Sought;
+use format::{Refusal, refuse};
 
 // Service, programme and group information: SI, PI and GI of 002. For any other the annex has no table, so it allows nothing.
 #[derive(Clone, Copy)]
@@ -22,43 +21,14 @@ pub enum DataType {
     Untabled,
 }
 
-#[derive(Clone, Copy)]
-pub enum GateAnswer {
-    Yes,
-    No(Refusal),
-}
-
-impl GateAnswer {
-    pub fn outcome(self) -> Outcome
-        ensures { result ≡ gate_outcome self }
-    {
-        match self {
-            GateAnswer::Yes => Outcome {
-                number: 0,
-                place: 0,
-                field: 0,
-                count: 0,
-                items: 0,
-            },
-            GateAnswer::No(refusal) => Outcome {
-                number: refusal.number,
-                place: refusal.place,
-                field: refusal.field,
-                count: 0,
-                items: 0,
-            },
-        }
-    }
-}
-
+// Yes, or why not. In document 01's numbers it is format's Outcome.
 #[tactic(auto, unfolding(crate::specs::Gate::gate_of, crate::specs::Gate::gate_answer))]
-pub fn gate(object: &[u8], subject: DataType) -> GateAnswer
+pub fn gate(object: &[u8], subject: DataType) -> Result<(), Refusal>
     ensures { result ≡ gate_of subject object.now }
 {
-    match find_offender(object, subject) {
-        Sought::Refused(refusal) => GateAnswer::No(refusal),
-        Sought::At(place) => GateAnswer::No(refuse(19, place)),
-        Sought::Nowhere => GateAnswer::Yes,
+    match find_offender(object, subject)? {
+        Some(place) => Err(refuse(19, place)),
+        None => Ok(()),
     }
 }
 

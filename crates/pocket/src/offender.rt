@@ -5,7 +5,8 @@ ghost use Rattle.survey.specs.First.{sought_in};
 ghost use Rattle.pocket.specs.Gate.{offends};
 
 use crate::DataType;
-use survey::{Sought, find_first};
+use format::Refusal;
+use survey::find_first;
 
 // Tables A.1 and A.2.
 const SERVICE: [u16; 28] = [
@@ -106,7 +107,7 @@ const NONE: [u16; 0] = [];
 const ANYWHERE: [u16; 1] = [0x01]; // CDATA
 
 #[tactic(auto, unfolding(crate::specs::Gate::offends))]
-pub fn find_offender(object: &[u8], subject: DataType) -> Sought
+pub fn find_offender(object: &[u8], subject: DataType) -> Result<Option<usize>, Refusal>
     ensures { result ≡ sought_in (offends subject) object.now }
 {
     match subject {

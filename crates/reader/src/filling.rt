@@ -2,7 +2,7 @@
 // item's body lies, and `listed_as` what is written of it.
 ghost use Rattle.std.specs.Prelude.{◌≡◌};
 ghost use Rattle.format.specs.Tree.{record_of};
-ghost use Rattle.format.specs.Lent.{lent_lists};
+ghost use Rattle.format.specs.Lent.{lent_lists, Stay};
 ghost use Rattle.reader.specs.Filling.{Narrow, Fillable, Fills, ItemFillable, ItemFills};
 
 use format::{Record, RecordsMut, kind_of};
@@ -44,7 +44,8 @@ fn record_of(tag: u8, body: &[u8], place: Place) -> Record
 #[cycle(fill_item_fill_items)]
 fn fill_item(tag: u8, body: &[u8], place: Place, records: &mut RecordsMut) -> usize
     requires { ItemFillable place tag body.now (lent_lists records.old) }
-    ensures { ItemFills place tag body.now (lent_lists records.old) (lent_lists records.new) result }
+    ensures fills { ItemFills place tag body.now (lent_lists records.old) (lent_lists records.new) result }
+    ensures stay { Stay records.old records.new }
 {
     let n = place.next;
     match listed_as(place.element, tag) {
@@ -73,7 +74,8 @@ fn fill_item(tag: u8, body: &[u8], place: Place, records: &mut RecordsMut) -> us
 #[cycle(fill_item_fill_items)]
 pub fn fill_items(part: &[u8], place: Place, records: &mut RecordsMut) -> usize
     requires { Fillable place part.now (lent_lists records.old) }
-    ensures { Fills place part.now (lent_lists records.old) (lent_lists records.new) result }
+    ensures fills { Fills place part.now (lent_lists records.old) (lent_lists records.new) result }
+    ensures stay { Stay records.old records.new }
 {
     let mut next = place.next;
     let mut at: usize = 0;

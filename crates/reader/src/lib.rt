@@ -3,7 +3,7 @@
 
 ghost use Rattle.std.specs.Prelude.{◌≡◌};
 ghost use Rattle.format.specs.Calls.{ReadClaim, ReadAtMostClaim, span_of, body_at};
-ghost use Rattle.format.specs.Lent.{lent_lists};
+ghost use Rattle.format.specs.Lent.{lent_lists, Stay};
 
 mod filling;
 
@@ -14,7 +14,8 @@ use judge::judge;
 // The records of an object in reading order, the first at number 0, into no more places than the caller says. Nothing is written before
 // the whole object is accepted and each record is known to have a place, in the shortest list too.
 pub fn read_at_most(object: &[u8], most: usize, records: &mut RecordsMut) -> Result<Counts, Refusal>
-    ensures { ReadAtMostClaim object.now most (lent_lists records.old) (lent_lists records.new) result }
+    ensures claim { ReadAtMostClaim object.now most (lent_lists records.old) (lent_lists records.new) result }
+    ensures stay { Stay records.old records.new }
 {
     let counts = judge(object)?;
     if most.min(records.places()) < counts.records {
@@ -33,7 +34,8 @@ pub fn read_at_most(object: &[u8], most: usize, records: &mut RecordsMut) -> Res
 
 // The same into as many places as the lists have. The tags' list has no fewer places than the shortest, so its length sets no limit.
 pub fn read(object: &[u8], records: &mut RecordsMut) -> Result<Counts, Refusal>
-    ensures { ReadClaim object.now (lent_lists records.old) (lent_lists records.new) result }
+    ensures claim { ReadClaim object.now (lent_lists records.old) (lent_lists records.new) result }
+    ensures stay { Stay records.old records.new }
 {
     let most = records.tags.len();
     read_at_most(object, most, records)

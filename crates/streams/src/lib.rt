@@ -1,16 +1,18 @@
-// What the programs share over std: reading until a buffer is full, and saying on standard error what failed.
+// What the programs share over std: reading until a buffer is full, what was put into a room, and saying on standard error what failed.
 #![tactic(auto)]
 
-ghost use Rattle.std.specs.Prelude.{◌≤◌, ◌<◌, length, take, OnOk};
+ghost use Rattle.std.specs.Prelude.{◌≡◌, ◌≤◌, ◌<◌, length, take, OnOk};
+ghost use Rattle.std.specs.Result.{result_unwrap_or};
 ghost use Rattle.std.specs.Io.KnownBytes.{Consumes, IsAtEnd};
 
-use std::io::{Cursor, Error, Read, Result, Write};
+use std::io;
+use std::io::{Cursor, Error, Read, Write};
 
 // Room for the system's words for an error, with the number that std puts behind them.
 const WORDS: usize = 128;
 
 // Reads until the buffer is full, the input ends or reading fails: how many octets were read, and how it ended.
-pub fn read_full<R: Read>(from: &mut R, buf: &mut [u8]) -> (usize, Result<()>)
+pub fn read_full<R: Read>(from: &mut R, buf: &mut [u8]) -> (usize, io::Result<()>)
     ensures within { result.0 ≤ length buf.new }
     ensures bytes { Consumes (R.remaining from.old) (R.remaining from.new) (take result.0 buf.new) }
     ensures end { OnOk result.1 (result.0 < length buf.new → IsAtEnd (R.remaining from.new)) }
@@ -24,6 +26,13 @@ pub fn read_full<R: Read>(from: &mut R, buf: &mut [u8]) -> (usize, Result<()>)
         }
     }
     (size, Ok(()))
+}
+
+// What a call put at the start of a room, by the end that it answers: nothing where it put nothing.
+pub fn put_in<E: Drop>(room: &[u8], put: Result<usize, E>) -> &[u8]
+    ensures { result.now ≡ take (result_unwrap_or put 0) room.now }
+{
+    &room[..put.unwrap_or(0).min(room.len())]
 }
 
 // What standard error doesn't take is lost.

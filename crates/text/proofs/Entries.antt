@@ -20,8 +20,8 @@ use Rattle.text.specs.Leaves.{tag_size, ahead, mask_of, token_bit, filled_after,
 use Rattle.text.specs.Weighing.{Marks, tags}
 use Rattle.std.specs.Prelude.{Option, Some, None}
 use Rattle.text.specs.declared.tables.Entry.{Entry}
-use Rattle.text.specs.declared.expanding.Found.TheVariants.{At}
 use Rattle.octets.proofs.Lists.{part_to_end}
+use Rattle.octets.specs.Calls.{span}
 use Rattle.text.proofs.Sequences.{token-facts}
 use Rattle.text.proofs.Masks.{mask-test, mask-more, Marking, mark-begin, mark-done, mark-more}
 
@@ -236,7 +236,8 @@ named-long table tag at t n o es e h ih = go (eqb tag t)
     here : take n (drop (at + 2) table) ≡ take n o
     here = ap (take n) (sym (drop-drop 2 at table) ∙ ap (drop 2) e)
 
-    go : (b : Bool) → found_in table (cond b (At (at + 2) (length (take n o))) (found (at + 2 + length (take n o)) es tag)) ≡ cond b (some (take n o)) (entry es tag)
+    go : (b : Bool) → found_in table (cond b (Some (span (at + 2) (length (take n o)))) (found (at + 2 + length (take n o)) es tag))
+        ≡ cond b (some (take n o)) (entry es tag)
     go true = rw size (ap some here)
     go false = rw size ih
 
@@ -269,7 +270,7 @@ inside-long table tag at t n o es true l h ih = go (eqb tag t)
     size : length (take n o) ≡ n
     size = length-take-le n o less
 
-    go : (d : Bool) → Inside table (cond d (At (at + 2) (length (take n o))) (found (at + 2 + length (take n o)) es tag))
+    go : (d : Bool) → Inside table (cond d (Some (span (at + 2) (length (take n o)))) (found (at + 2 + length (take n o)) es tag))
     go true = omega (arith, size, less)
     go false = rw size (ih (omega (arith, length-drop n o, less)))
 

@@ -18,13 +18,13 @@ use Rattle.octets.specs.Puts.{Puts}
 use Rattle.octets.proofs.Puts.{puts-same}
 use Rattle.octets.proofs.Tests.{and_left, and_right}
 use Rattle.octets.specs.declared.PutError.{PutError}
+use Rattle.octets.specs.declared.Span.{Span}
+use Rattle.octets.specs.Calls.{span}
 use Rattle.text.specs.Text.{token}
 use Rattle.text.specs.Tokens.{Entries, entries, cut, entry, or_itself, stands, expanded, expanded_size}
 use Rattle.text.specs.Found.{found, found_in, Inside}
 use Rattle.text.specs.Leaves.{ahead, replaced_by}
 use Rattle.text.specs.Index.{start_of, longest, Indexes, noted, usable, place_at, place_by, with_place, entries_below, entries_by, Bounds}
-use Rattle.text.specs.declared.expanding.Found.{Found}
-use Rattle.text.specs.declared.expanding.Found.TheVariants.{At, Nothing}
 use Rattle.std.specs.Prelude.{Option, Some, None}
 use Rattle.text.specs.declared.tables.Entry.{Entry}
 use Rattle.text.proofs.Sequences.{token-facts, token-bit}
@@ -60,7 +60,7 @@ max-three a b c =
 
 -- where the text begins that stands for an octet by entries of which the first begins at a place
 abbrev later : ℕ → Entries → ℕ → ℕ
-later at es k = start_of (cond (token k) (found at es k) Nothing)
+later at es k = start_of (cond (token k) (found at es k) None)
 
 -- a beginning, or another one where it is 0
 abbrev or_later : ℕ → ℕ → ℕ
@@ -130,7 +130,7 @@ later-none : (at k : ℕ) → later at [] k ≡ 0
 unfolding found start_of
 later-none at k = go (token k)
   where
-    go : (b : Bool) → start_of (cond b Nothing Nothing) ≡ 0
+    go : (b : Bool) → start_of (cond b None None) ≡ 0
     go true = refl
     go false = refl
 
@@ -258,13 +258,13 @@ module _ (index table : List ℕ) where
   entry-below zero b = rw (le-ltb b 0 (omega arith))
   entry-below (suc n) b = go (entry-below n b) (eqb b n) refl
     where
-      same : (f : Found) (es : Entries) → entry es b ≡ none → eqb b n ≡ true → entry (with_place table n f es) b ≡ found_in table f
-      same (At start size) es h q = rw q
-      same Nothing es h q = h
+      same : (f : Option Span) (es : Entries) → entry es b ≡ none → eqb b n ≡ true → entry (with_place table n f es) b ≡ found_in table f
+      same (Some x) es h q = rw q
+      same None es h q = h
 
-      other : (f : Found) (es : Entries) → eqb b n ≡ false → entry (with_place table n f es) b ≡ entry es b
-      other (At start size) es q = rw q
-      other Nothing es q = refl
+      other : (f : Option Span) (es : Entries) → eqb b n ≡ false → entry (with_place table n f es) b ≡ entry es b
+      other (Some x) es q = rw q
+      other None es q = refl
 
       go : entry (entries_below index table n) b ≡ cond (ltb b n) (found_in table (place_by index table b)) none → (q : Bool) → eqb b n ≡ q
           → entry (with_place table n (place_by index table n) (entries_below index table n)) b ≡ cond (ltb b (suc n)) (found_in table (place_by index table b)) none
@@ -289,42 +289,42 @@ module _ (index table : List ℕ) where
       go false e = rw e
 
   -- where such an entry lies
-  Usable : Found → Type 0
-  Usable (At start size) = usable index table start size ≡ true
-  Usable Nothing = Unit {0}
+  Usable : Option Span → Type 0
+  Usable (Some x) = usable index table x.start x.size ≡ true
+  Usable None = Unit {0}
 
   usable-by : (b : ℕ) → Usable (place_by index table b)
   unfolding place_by place_at Usable
   usable-by b = go (token b)
     where
-      here : (start size : ℕ) (u : Bool) → usable index table start size ≡ u → Usable (cond u (At start size) Nothing)
-      here start size true e = e
-      here start size false e = tt
+      here : (start long : ℕ) (u : Bool) → usable index table start long ≡ u → Usable (cond u (Some (span start long)) None)
+      here start long true e = e
+      here start long false e = tt
 
-      go : (t : Bool) → Usable (cond t (place_at index table (get_or index b 0)) Nothing)
+      go : (t : Bool) → Usable (cond t (place_at index table (get_or index b 0)) None)
       go true = here (get_or index b 0) (get_or table (get_or index b 0 - 1) 0) (usable index table (get_or index b 0) (get_or table (get_or index b 0 - 1) 0)) refl
       go false = tt
 
   -- and the octet before it is its length
-  Told : Found → Type 0
-  Told (At start size) = size ≡ get_or table (start - 1) 0
-  Told Nothing = Unit {0}
+  Told : Option Span → Type 0
+  Told (Some x) = x.size ≡ get_or table (x.start - 1) 0
+  Told None = Unit {0}
 
   told-by : (b : ℕ) → Told (place_by index table b)
   unfolding place_by place_at Told
   told-by b = go (token b) (usable index table (get_or index b 0) (get_or table (get_or index b 0 - 1) 0))
     where
-      go : (t u : Bool) → Told (cond t (cond u (At (get_or index b 0) (get_or table (get_or index b 0 - 1) 0)) Nothing) Nothing)
+      go : (t u : Bool) → Told (cond t (cond u (Some (span (get_or index b 0) (get_or table (get_or index b 0 - 1) 0))) None) None)
       go true true = refl
       go true false = tt
       go false u = tt
 
-  module _ (b : ℕ) (f : Found) (e : f ≡ place_by index table b) where
-    pub self-by : f ≡ Nothing → stands (entries_by index table) b ≡ b ∷ []
+  module _ (b : ℕ) (f : Option Span) (e : f ≡ place_by index table b) where
+    pub self-by : f ≡ None → stands (entries_by index table) b ≡ b ∷ []
     unfolding or_itself found_in
     self-by q = stands_by b ∙ rw (sym e ∙ q)
 
-    module _ (start size : ℕ) (q : f ≡ At start size) where
+    module _ (start size : ℕ) (q : f ≡ Some (span start size)) where
       fine : usable index table start size ≡ true
       unfolding Usable
       fine = subst Usable (sym e ∙ q) (usable-by b)
@@ -360,7 +360,7 @@ module _ (index table : List ℕ) where
 
 -- ---- `replacement`
 module _ (index table : List ℕ) (b : ℕ) (t : Bool) (k : t ≡ token b) where
-  pub by-plain : t ≡ false → Nothing ≡ place_by index table b
+  pub by-plain : t ≡ false → None ≡ place_by index table b
   unfolding place_by
   by-plain n = rw (sym k ∙ n)
 
@@ -375,16 +375,16 @@ module _ (index table : List ℕ) (b : ℕ) (t : Bool) (k : t ≡ token b) where
     unfolding place_by
     by-start = rw (sym k ∙ y)
 
-    unusable : usable index table lies long ≡ false → place_at index table lies ≡ Nothing
+    unusable : usable index table lies long ≡ false → place_at index table lies ≡ None
     unfolding place_at
     unusable e = rw e
 
-    pub by-none : lies ≡ 0 → Nothing ≡ place_by index table b
+    pub by-none : lies ≡ 0 → None ≡ place_by index table b
     unfolding usable
     by-none e = sym (by-start ∙ unusable (rw e))
 
     module _ (g : lies ≡ 0 → ⊥) where
-      pub by-past : length table < lies → Nothing ≡ place_by index table b
+      pub by-past : length table < lies → None ≡ place_by index table b
       unfolding usable
       by-past h = sym (by-start ∙ unusable (rw (lt-ltb 0 lies (omega arith), lt-leb lies (length table) h)))
 
@@ -393,14 +393,14 @@ module _ (index table : List ℕ) (b : ℕ) (t : Bool) (k : t ≡ token b) where
         unfolding usable
         so_far = rw (lt-ltb 0 lies (omega arith), le-leb lies (length table) h)
 
-        pub by-long : length table - lies < long → Nothing ≡ place_by index table b
+        pub by-long : length table - lies < long → None ≡ place_by index table b
         by-long d = sym (by-start ∙ unusable (so_far ∙ rw (lt-leb long (length table - lies) d)))
 
         module _ (d : long ≤ length table - lies) where
-          pub by_wide : get_or index 0 0 < long → Nothing ≡ place_by index table b
+          pub by_wide : get_or index 0 0 < long → None ≡ place_by index table b
           by_wide c = sym (by-start ∙ unusable (so_far ∙ rw (le-leb long (length table - lies) d, lt-leb long (get_or index 0 0) c)))
 
-          pub by-found : long ≤ get_or index 0 0 → At lies long ≡ place_by index table b
+          pub by-found : long ≤ get_or index 0 0 → Some (span lies long) ≡ place_by index table b
           unfolding place_at
           by-found c =
               let is : usable index table lies long ≡ true = so_far ∙ rw (le-leb long (length table - lies) d, le-leb long (get_or index 0 0) c) in
@@ -409,16 +409,16 @@ module _ (index table : List ℕ) (b : ℕ) (t : Bool) (k : t ≡ token b) where
 pub ruleset by-ways = (by-plain, token-bit, by-none, by-past, by-long, by_wide, by-found)
 
 -- ---- `width_at`, `widest_by` and `fits`: so many octets stand for an octet at most
-pub width-self : (index table : List ℕ) (b : ℕ) (f : Found) → f ≡ place_by index table b → f ≡ Nothing → 1 ≡ length (stands (entries_by index table) b)
+pub width-self : (index table : List ℕ) (b : ℕ) (f : Option Span) → f ≡ place_by index table b → f ≡ None → 1 ≡ length (stands (entries_by index table) b)
 width-self index table b f e q = sym (ap length (self-by index table b f e q))
 
 module _ (index table : List ℕ) (n : ℕ) (bound : Bounds index n) where
   stands-bound : (b : ℕ) → length (stands (entries_by index table) b) ≤ n
   stands-bound b = go (place_by index table b) refl
     where
-      go : (f : Found) → f ≡ place_by index table b → length (stands (entries_by index table) b) ≤ n
-      go Nothing e = omega (arith, bound.some, width-self index table b Nothing e refl)
-      go (At start size) e = omega (arith, bound.widest, short-by index table b (At start size) e start size refl, width-by index table b (At start size) e start size refl)
+      go : (f : Option Span) → f ≡ place_by index table b → length (stands (entries_by index table) b) ≤ n
+      go None e = omega (arith, bound.some, width-self index table b None e refl)
+      go (Some x) e = omega (arith, bound.widest, short-by index table b (Some x) e x.start x.size refl, width-by index table b (Some x) e x.start x.size refl)
 
   expanded-bound : (s : List ℕ) → length (expanded (entries_by index table) s) ≤ length s * n
   unfolding expanded
@@ -435,9 +435,9 @@ module _ (index table : List ℕ) (n : ℕ) (bound : Bounds index n) where
 
 -- ---- the entries of a table's own index are as good as the table's
 -- an entry has its length before its text
-Before : List ℕ → Found → Type 0
-Before table (At start size) = (0 < start) × (get_or table (start - 1) 0 ≡ size)
-Before table Nothing = Unit {0}
+Before : List ℕ → Option Span → Type 0
+Before table (Some x) = (0 < x.start) × (get_or table (x.start - 1) 0 ≡ x.size)
+Before table None = Unit {0}
 
 before-from : (k : ℕ) (o table : List ℕ) (tag at : ℕ) → drop at table ≡ o → Before table (found at (cut k o) tag)
 unfolding found Before cut
@@ -453,7 +453,7 @@ before-from (suc k) (t ∷ n ∷ o) table tag at e = go (leb n (length o)) refl 
     octet = ap (λ (i : ℕ). get_or table i 0) (omega arith) ∙ sym (get_or-drop at table 1 0) ∙ ap (λ q. get_or q 1 0) e
 
     here : (d : Bool) → length (take n o) ≡ n → Before table (found (at + 2 + n) (cut k (drop n o)) tag)
-        → Before table (cond d (At (at + 2) (length (take n o))) (found (at + 2 + length (take n o)) (cut k (drop n o)) tag))
+        → Before table (cond d (Some (span (at + 2) (length (take n o)))) (found (at + 2 + length (take n o)) (cut k (drop n o)) tag))
     here true size ih = (omega arith, octet ∙ sym size)
     here false size ih = rw size ih
 
@@ -467,14 +467,14 @@ unfolding entries
 before table tag = before-from (suc (length table)) table table tag 0 refl
 
 -- and is no longer than the longest
-Shorter : ℕ → Found → Type 0
-Shorter n (At start size) = size ≤ n
-Shorter n Nothing = Unit {0}
+Shorter : ℕ → Option Span → Type 0
+Shorter n (Some x) = x.size ≤ n
+Shorter n None = Unit {0}
 
-shorter-more : (m n : ℕ) → m ≤ n → (f : Found) → Shorter m f → Shorter n f
+shorter-more : (m n : ℕ) → m ≤ n → (f : Option Span) → Shorter m f → Shorter n f
 unfolding Shorter
-shorter-more m n h (At start size) g = omega arith
-shorter-more m n h Nothing g = tt
+shorter-more m n h (Some x) g = omega arith
+shorter-more m n h None g = tt
 
 shorter : (es : Entries) (tag at : ℕ) → Shorter (longest es) (found at es tag)
 unfolding found longest Shorter
@@ -482,7 +482,7 @@ shorter [] tag at = tt
 shorter (e ∷ es) tag at = go (eqb tag e.0) (shorter es tag (at + 2 + length e.1))
   where
     go : (b : Bool) → Shorter (longest es) (found (at + 2 + length e.1) es tag)
-        → Shorter (max (length e.1) (longest es)) (cond b (At (at + 2) (length e.1)) (found (at + 2 + length e.1) es tag))
+        → Shorter (max (length e.1) (longest es)) (cond b (Some (span (at + 2) (length e.1))) (found (at + 2 + length e.1) es tag))
     go true ih = le-max_left (length e.1) (longest es)
     go false ih = shorter-more (longest es) (max (length e.1) (longest es)) (le-max_right (length e.1) (longest es)) (found (at + 2 + length e.1) es tag) ih
 
@@ -490,36 +490,36 @@ stands-is : (table : List ℕ) (b : ℕ) → stands (entries table) b ≡ or_its
 unfolding stands replaced_by or_itself found_in
 stands-is table b = go (token b)
   where
-    go : (t : Bool) → cond t (or_itself (entry (entries table) b) b) (b ∷ []) ≡ or_itself (found_in table (cond t (found 0 (entries table) b) Nothing)) b
+    go : (t : Bool) → cond t (or_itself (entry (entries table) b) b) (b ∷ []) ≡ or_itself (found_in table (cond t (found 0 (entries table) b) None)) b
     go true = rw (named table b)
     go false = refl
 
 module _ (table index : List ℕ) (made : Indexes (entries table) index) where
-  placed-own : (b : ℕ) → token b ≡ true → (f : Found) → found 0 (entries table) b ≡ f → place_at index table (get_or index b 0) ≡ f
+  placed-own : (b : ℕ) → token b ≡ true → (f : Option Span) → found 0 (entries table) b ≡ f → place_at index table (get_or index b 0) ≡ f
   unfolding replaced_by start_of place_at usable Before Inside Shorter
   placed-own b t f e = go f e (made.each b (omega (arith, (token-facts b t).0)) (omega (arith, (token-facts b t).1)) ∙ rw (t, e))
     where
-      go : (f : Found) → found 0 (entries table) b ≡ f → get_or index b 0 ≡ start_of f → place_at index table (get_or index b 0) ≡ f
-      go Nothing q s = rw s
-      go (At start size) q s =
-          let front : (0 < start) × (get_or table (start - 1) 0 ≡ size) = subst (Before table) q (before table b) in
-          let within : start + size ≤ length table = subst (Inside table) q (inside table b) in
-          let short : size ≤ longest (entries table) = subst (Shorter (longest (entries table))) q (shorter (entries table) b 0) in
+      go : (f : Option Span) → found 0 (entries table) b ≡ f → get_or index b 0 ≡ start_of f → place_at index table (get_or index b 0) ≡ f
+      go None q s = rw s
+      go (Some x) q s =
+          let front : (0 < x.start) × (get_or table (x.start - 1) 0 ≡ x.size) = subst (Before table) q (before table b) in
+          let within : x.start + x.size ≤ length table = subst (Inside table) q (inside table b) in
+          let short : x.size ≤ longest (entries table) = subst (Shorter (longest (entries table))) q (shorter (entries table) b 0) in
           rw (
             s,
             front.1,
             made.widest,
-            lt-ltb 0 start front.0,
-            le-leb start (length table) (omega arith),
-            le-leb size (length table - start) (omega arith),
-            le-leb size (longest (entries table)) short,
+            lt-ltb 0 x.start front.0,
+            le-leb x.start (length table) (omega arith),
+            le-leb x.size (length table - x.start) (omega arith),
+            le-leb x.size (longest (entries table)) short,
           )
 
   placed : (b : ℕ) → place_by index table b ≡ replaced_by (entries table) b
   unfolding place_by replaced_by
   placed b = go (token b) refl
     where
-      go : (t : Bool) → token b ≡ t → cond t (place_at index table (get_or index b 0)) Nothing ≡ cond t (found 0 (entries table) b) Nothing
+      go : (t : Bool) → token b ≡ t → cond t (place_at index table (get_or index b 0)) None ≡ cond t (found 0 (entries table) b) None
       go true e = placed-own b e (found 0 (entries table) b) refl
       go false e = refl
 

@@ -1,5 +1,5 @@
 -- Texts with their tokens replaced: what the definitions are on each way through src/expanding.rt.
-use Rattle.std.specs.Prelude.{Ok, Err}
+use Rattle.std.specs.Prelude.{Ok, Err, Option, Some, None}
 use Prim.Native.Nat.{ℕ, ◌+◌, ◌-◌, ◌*◌, ◌/◌, ◌≤◌, ◌<◌, ◌^◌, min}
 use mathlib.Core.Path.{◌≡◌, refl, sym, ap, subst, ◌∙◌}
 use mathlib.Core.List.{List, [], ◌∷◌, ◌++◌}
@@ -26,12 +26,12 @@ use Rattle.text.specs.Leaves.{token_bit}
 use Rattle.text.specs.Weighing.{bit, Marks, tags, width_at, weight}
 use Rattle.text.specs.Index.{place_by, entries_by}
 use Rattle.text.specs.Runs.{UntokenedTo}
-use Rattle.text.specs.declared.expanding.Found.{Found}
-use Rattle.text.specs.declared.expanding.Found.TheVariants.{At, Nothing}
 use Rattle.std.specs.Simd.{first_chunks}
 use Rattle.octets.proofs.Lists.{drop-next}
 use Rattle.octets.proofs.Left.{Left, left-begin, left-done, left-room, left-more}
 use Rattle.octets.specs.declared.PutError.TheVariants.{NoRoom}
+use Rattle.octets.specs.declared.Span.{Span}
+use Rattle.octets.specs.Calls.{span}
 use Rattle.text.proofs.Masks.{bit-none, kept-within, within-kept, Marking, mark-begin, mark-done, mark-more}
 use Rattle.text.proofs.Index.{self-by, part_by, inside-by, width-by}
 use Rattle.text.proofs.Widths.{width-next, width-eight}
@@ -216,14 +216,14 @@ pub ruleset sized-ways = (sized-none, sized_past, sized-end, sized-from)
 
 -- ---- `write_one`
 module _ (index table : List ℕ) (b : ℕ) (out : List ℕ) (at : ℕ) (h : at + length (stands (entries_by index table) b) ≤ length out)
-    (f : Found) (e : f ≡ place_by index table b) where
-  pub self-room : f ≡ Nothing → at < length out
+    (f : Option Span) (e : f ≡ place_by index table b) where
+  pub self-room : f ≡ None → at < length out
   self-room q = omega (arith, ap length (self-by index table b f e q))
 
-  pub self-laid : f ≡ Nothing → Lays (stands (entries_by index table) b) at out (set out at b) (at + 1)
+  pub self-laid : f ≡ None → Lays (stands (entries_by index table) b) at out (set out at b) (at + 1)
   self-laid q = rw (self-by index table b f e q) (record { leaves = refl; ends = refl })
 
-  module _ (start size : ℕ) (q : f ≡ At start size) where
+  module _ (start size : ℕ) (q : f ≡ Some (span start size)) where
     part-is : take (start + size - start) (drop start table) ≡ stands (entries_by index table) b
     part-is = let n : start + size - start ≡ size = omega arith in rw n (sym (part_by index table b f e start size q))
 

@@ -1,4 +1,5 @@
 -- How many characters are shown: what `characters_of` knows on its way over the octets that could be tokens, and a text measured by its answer.
+use Rattle.std.specs.Prelude.{Option, Some, None}
 use Prim.Native.Nat.{ℕ, suc, ◌+◌, ◌-◌, ◌/◌, ◌≤◌, ◌<◌}
 use mathlib.Core.Path.{◌≡◌, refl, sym, ap, ap₂, ◌∙◌}
 use mathlib.Core.Bool.{Bool, true, false, cond}
@@ -10,11 +11,11 @@ use native.Mathlib.Omega.{arith}
 use borrow.Author.Tests.{eqb-true, eqb-false, eq-eqb, ne_eqb, lt-ltb, le-ltb, ltb-true, ltb-false}
 use Rattle.octets.specs.Numbers.{Octets}
 use Rattle.octets.proofs.Lists.{drop-next}
+use Rattle.octets.specs.declared.Span.{Span}
+use Rattle.octets.specs.Calls.{span}
 use Rattle.text.specs.Tokens.{Entries, entries, cut, stands, expanded, starts}
 use Rattle.text.specs.Weighing.{Shows, shown_at, shown_by}
 use Rattle.text.specs.Index.{Indexes, place_by}
-use Rattle.text.specs.declared.expanding.Found.{Found}
-use Rattle.text.specs.declared.expanding.Found.TheVariants.{At, Nothing}
 use Rattle.text.proofs.Words.{high-octet}
 use Rattle.text.proofs.Widths.{plain-stands, no-entry}
 use Rattle.text.proofs.Index.{self-by, part_by, octet-by, stands-own}
@@ -69,11 +70,11 @@ module _ (part : List ℕ) where
 pub ruleset count-ways = (count-begin, count-done, count-again)
 
 -- ---- `count_of`
-module _ (index table : List ℕ) (made : Indexes (entries table) index) (b : ℕ) (f : Found) (e : f ≡ place_by index table b) where
-  pub counts-itself : b < 0x14 → f ≡ Nothing → 1 ≡ starts (stands (entries table) b)
+module _ (index table : List ℕ) (made : Indexes (entries table) index) (b : ℕ) (f : Option Span) (e : f ≡ place_by index table b) where
+  pub counts-itself : b < 0x14 → f ≡ None → 1 ≡ starts (stands (entries table) b)
   counts-itself h q = sym (ap starts (sym (stands-own table index made b) ∙ self-by index table b f e q) ∙ starts-one b (omega arith))
 
-  module _ (start size : ℕ) (q : f ≡ At start size) where
+  module _ (start size : ℕ) (q : f ≡ Some (span start size)) where
     part-is : take (start + size - start) (drop start table) ≡ stands (entries table) b
     part-is = let k : start + size - start ≡ size = omega arith in rw k (sym (part_by index table b f e start size q) ∙ stands-own table index made b)
 

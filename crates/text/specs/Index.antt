@@ -1,15 +1,16 @@
 -- A token table gone through once, for writing: what stands at each of the 32 places of its index, and which entries an index tells of a table.
 use Rattle.std.specs.Prelude.{◌≡◌, Bool, cond, ◌&&◌, List, [], ◌∷◌, ℕ, zero, suc, ◌-◌, ◌≤◌, ◌<◌, max, eqb, leb, ltb, length, get_or, take, drop, set}
+use Rattle.std.specs.Prelude.{Option, Some, None}
 use Rattle.text.specs.Text.{token}
 use Rattle.text.specs.Tokens.{Entries}
 use Rattle.text.specs.Leaves.{replaced_by}
-use Rattle.text.specs.declared.expanding.Found.{Found}
-use Rattle.text.specs.declared.expanding.Found.TheVariants.{At, Nothing}
+use Rattle.octets.specs.declared.Span.{Span}
+use Rattle.octets.specs.Calls.{span}
 
 -- where the text of an entry begins; 0: there is none
-unfoldable pub start_of : Found → ℕ
-start_of (At start size) = start
-start_of Nothing = 0
+unfoldable pub start_of : Option Span → ℕ
+start_of (Some x) = x.start
+start_of None = 0
 
 -- how many octets the longest text of an entry has, and 1 where all are empty: at most so many stand for an octet
 unfoldable pub longest : Entries → ℕ
@@ -31,17 +32,17 @@ unfoldable pub usable : List ℕ → List ℕ → ℕ → ℕ → Bool
 usable index table start size = ltb 0 start && leb start (length table) && leb size (length table - start) && leb size (get_or index 0 0)
 
 -- a text with its length octet before it, by where it begins
-unfoldable pub place_at : List ℕ → List ℕ → ℕ → Found
-place_at index table start = cond (usable index table start (get_or table (start - 1) 0)) (At start (get_or table (start - 1) 0)) Nothing
+unfoldable pub place_at : List ℕ → List ℕ → ℕ → Option Span
+place_at index table start = cond (usable index table start (get_or table (start - 1) 0)) (Some (span start (get_or table (start - 1) 0))) None
 
--- where the text lies that stands for an octet, by any index; Nothing: the octet stands for itself
-unfoldable pub place_by : List ℕ → List ℕ → ℕ → Found
-place_by index table b = cond (token b) (place_at index table (get_or index b 0)) Nothing
+-- where the text lies that stands for an octet, by any index; None: the octet stands for itself
+unfoldable pub place_by : List ℕ → List ℕ → ℕ → Option Span
+place_by index table b = cond (token b) (place_at index table (get_or index b 0)) None
 
 -- the entries that an index tells of a table, those of octets below a number
-unfoldable pub with_place : List ℕ → ℕ → Found → Entries → Entries
-with_place table k (At start size) es = (k, take size (drop start table)) ∷ es
-with_place table k Nothing es = es
+unfoldable pub with_place : List ℕ → ℕ → Option Span → Entries → Entries
+with_place table k (Some x) es = (k, take x.size (drop x.start table)) ∷ es
+with_place table k None es = es
 
 unfoldable pub entries_below : List ℕ → List ℕ → ℕ → Entries
 entries_below index table zero = []

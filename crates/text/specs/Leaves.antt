@@ -7,9 +7,8 @@ use Rattle.text.specs.Tokens.{Entries, filled}
 use Rattle.text.specs.Found.{found}
 use Rattle.text.specs.Runs.{all_within}
 use Rattle.text.specs.Weighing.{bit}
-use Rattle.text.specs.declared.expanding.Found.{Found}
-use Rattle.text.specs.declared.expanding.Found.TheVariants.{Nothing}
 use Rattle.text.specs.declared.tables.Entry.{Entry}
+use Rattle.octets.specs.declared.Span.{Span}
 
 -- the octets that come after those of a character that made the bits so far: each begins with the bits 10, and with all of them it is a code point that may
 -- be written in the form of that least one
@@ -85,9 +84,9 @@ Rated seen s (Some e) = Good seen s e.tag e.size
 abbrev pub RatedBy : ℕ → List ℕ → Option Entry → Type 0
 RatedBy mask s p = (seen : List ℕ) → mask ≡ mask_of seen → Rated seen s p
 
--- where the text lies that stands for an octet; Nothing: the octet stands for itself
-unfoldable pub replaced_by : Entries → ℕ → Found
-replaced_by es b = cond (token b) (found 0 es b) Nothing
+-- where the text lies that stands for an octet; None: the octet stands for itself
+unfoldable pub replaced_by : Entries → ℕ → Option Span
+replaced_by es b = cond (token b) (found 0 es b) None
 
 -- where the width of an entry is kept, after entries whose tokens are the bits of a mask: at its tag where that is a token not among them, else at a place
 -- that stands for no octet

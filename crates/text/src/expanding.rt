@@ -13,7 +13,7 @@ ghost use Rattle.text.specs.Index.{place_by, entries_by, Bounds};
 use crate::characters::{is_token, token_bit, wide};
 use crate::runs::untokened_end;
 use crate::tables::tokens_of;
-use octets::{Octets, PutError};
+use octets::{Octets, PutError, Span};
 
 // The tokens of a text, a bit each. Nothing is decided between two octets, so that the compiler takes eight at a time.
 fn tokens_in(s: &[u8]) -> u32
@@ -131,36 +131,29 @@ fn copy(part: &[u8], out: &mut [u8], at: usize)
     out[at..end].copy_from_slice(part);
 }
 
-// Where the text of an entry begins in its table, and how long it is.
-#[derive(Clone, Copy)]
-pub enum Found {
-    At { start: usize, size: usize },
-    Nothing,
-}
-
-// Where in the table the text lies that stands for an octet, by an index. Nothing: the octet stands for itself. Any index and any table may be given: an
+// Where in the table the text lies that stands for an octet, by an index. None: the octet stands for itself. Any index and any table may be given: an
 // entry that doesn't lie in the table, or is longer than the longest of the index, counts as none. The octet before a text is its length.
-pub fn replacement(index: &[usize; 32], table: &[u8], b: u8) -> Found
+pub fn replacement(index: &[usize; 32], table: &[u8], b: u8) -> Option<Span>
     ensures { result ≡ place_by index.now table.now b }
 {
     if !is_token(b) {
-        return Found::Nothing;
+        return None;
     }
     let start = index[b as usize];
     if start == 0 {
-        return Found::Nothing;
+        return None;
     }
     if start > table.len() {
-        return Found::Nothing;
+        return None;
     }
     let size = table[start - 1] as usize;
     if size > table.len() - start {
-        return Found::Nothing;
+        return None;
     }
     if size > index[0] {
-        return Found::Nothing;
+        return None;
     }
-    Found::At { start, size }
+    Some(Span { start, size })
 }
 
 // What stands for an octet, written from a place on, and the place after it.
@@ -169,14 +162,14 @@ fn write_one(index: &[usize; 32], table: &[u8], b: u8, out: &mut [u8], at: usize
     ensures { Lays (stands (entries_by index.now table.now) b) at out.old out.new result }
 {
     match replacement(index, table, b) {
-        Found::Nothing => {
+        None => {
             out[at] = b;
             at + 1
         }
-        Found::At { start, size } => {
-            let end = start + size;
-            copy(&table[start..end], out, at);
-            at + size
+        Some(text) => {
+            let end = text.start + text.size;
+            copy(&table[text.start..end], out, at);
+            at + text.size
         }
     }
 }
@@ -207,8 +200,8 @@ fn indexed_width(index: &[usize; 32], table: &[u8], b: u8) -> Octets
     ensures { result.0 ≡ length (stands (entries_by index.now table.now) b) }
 {
     match replacement(index, table, b) {
-        Found::Nothing => Octets(1),
-        Found::At { start: _, size } => Octets(size),
+        None => Octets(1),
+        Some(text) => Octets(text.size),
     }
 }
 
@@ -254,7 +247,13 @@ fn fits(index: &[usize; 32], table: &[u8], s: &[u8], room: Octets) -> bool
 
 // The expansion of a text, written from a place on where it fits. That is known before the first octet is written, and nothing is written where it
 // doesn't fit. Any index may be given; by the one that `index_of` makes of the table it is the expansion by that table (proofs/Index, indexed-expanded).
-pub fn expand(index: &[usize; 32], table: &[u8], s: &[u8], out: &mut [u8], at: usize) -> Result<usize, PutError>
+pub fn expand(
+    index: &[usize; 32],
+    table: &[u8],
+    s: &[u8],
+    out: &mut [u8],
+    at: usize,
+) -> Result<usize, PutError>
     ensures { Puts true (expanded (entries_by index.now table.now) s.now) at out.old out.new result }
 {
     if at > out.len() {

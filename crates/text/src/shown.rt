@@ -6,7 +6,7 @@ ghost use Rattle.text.specs.Weighing.{Shows, shown_at};
 ghost use Rattle.text.specs.Index.{Indexes};
 
 use crate::characters::{begun, wide};
-use crate::expanding::{Found, replacement};
+use crate::expanding::replacement;
 use crate::tables::index_of;
 use octets::Characters;
 
@@ -30,10 +30,10 @@ fn count_of(index: &[usize; 32], table: &[u8], b: u8) -> Characters
     ensures result_bound { result.0 < 256 }
 {
     match replacement(index, table, b) {
-        Found::Nothing => Characters(1),
-        Found::At { start, size } => {
-            let end = start + size;
-            starts_of(&table[start..end])
+        None => Characters(1),
+        Some(text) => {
+            let end = text.start + text.size;
+            starts_of(&table[text.start..end])
         }
     }
 }

@@ -1,4 +1,5 @@
 -- The ways through the functions that put one item's name or value, that no item which isn't known has a name, and that name and value are those of the XML.
+use Rattle.std.specs.Prelude.{Option, Some, None, Ok, Err}
 use mathlib.Core.Path.{◌≡◌, refl, sym, ap, ◌∙◌, subst}
 use mathlib.Core.Bool.{Bool, true, false, cond, ◌&&◌, ◌||◌, false≢true}
 use mathlib.Core.Option.{none, some}
@@ -12,16 +13,14 @@ use lib.Seq.{sets}
 use borrow.Author.Tests.{eqb-true}
 use Rattle.octets.specs.Numbers.{Octets}
 use Rattle.octets.specs.Puts.{Puts as Fills}
-use Rattle.octets.specs.declared.Put.{Put}
 use Rattle.octets.proofs.Puts.{puts_none, puts-done}
 use Rattle.octets.proofs.Tests.{and_left, and_right}
+use Rattle.octets.specs.declared.PutError.TheVariants.{NoRoom}
 use Rattle.text.specs.Tokens.{Entries, expanded, present}
 use Rattle.text.proofs.Laws.{expanded-append}
 use Rattle.values.specs.declared.Kind.{Kind}
 use Rattle.values.specs.declared.Kind.TheVariants.{HoldsItems, HoldsTokens, HoldsText, HoldsPlain, HoldsTime, HoldsBearer, HoldsNumber}
 use Rattle.values.specs.declared.NumberKind.{NumberKind}
-use Rattle.values.specs.declared.KnownKind.{KnownKind}
-use Rattle.values.specs.declared.KnownKind.TheVariants.{Unknown, Known}
 use Rattle.values.specs.Calls.{known_kind}
 use Rattle.values.specs.Table.{rows, kind_in, known, attribute}
 use Rattle.values.specs.Values.{fits, meant}
@@ -70,11 +69,11 @@ module _ (emit : Bool) (parent tag at : ℕ) (out out' : List ℕ) (to : ℕ) (a
   unfolding name
   name-element f p = let z : attribute tag ≡ false = sym e ∙ f in reworded emit (name 0 tag) (name parent tag) at out out' to (rw z) p
 
-  module _ (t : a ≡ true) (kind : KnownKind) (ke : kind ≡ known_kind parent tag) where
-    pub name-unknown : kind ≡ Unknown → (end : ℕ) → end ≡ min at (suc (length out)) → Puts emit (name parent tag) at out out end
+  module _ (t : a ≡ true) (kind : Option Kind) (ke : kind ≡ known_kind parent tag) where
+    pub name-unknown : kind ≡ None → (end : ℕ) → end ≡ min at (suc (length out)) → Puts emit (name parent tag) at out out end
     name-unknown q end m = reworded emit [] (name parent tag) at out out end (sym (nameless parent tag (unknown-kind parent tag kind ke q))) (put-empty emit at out end m)
 
-    pub name-known : (k : Kind) → kind ≡ Known k → NamePut emit parent tag at out out' to → Puts emit (name parent tag) at out out' to
+    pub name-known : (k : Kind) → kind ≡ Some k → NamePut emit parent tag at out out' to → Puts emit (name parent tag) at out out' to
     unfolding NamePut
     name-known k q p = p k (sym e ∙ t) (known-kind parent tag kind ke k q)
 
@@ -83,10 +82,10 @@ pub ruleset name-ways = (name-element, name-unknown, name-known)
 -- ---- counted, and then written
 
 module _ (text : List ℕ) (at : ℕ) (before p : List ℕ) (end : ℕ) (c : Puts false text at before p end) where
-  pub fills-none : length p < end → Fills true text at before p Put.NoRoom
-  fills-none l = subst (λ o. Fills true text at before o Put.NoRoom) (sym (c.quiet refl)) (puts_none true text at before refl (omega (arith, c.ends, c.long)))
+  pub fills-none : length p < end → Fills true text at before p (Err NoRoom)
+  fills-none l = subst (λ o. Fills true text at before o (Err NoRoom)) (sym (c.quiet refl)) (puts_none true text at before refl (omega (arith, c.ends, c.long)))
 
-  pub fills-done : end ≤ length p → (q : List ℕ) (to : ℕ) → Puts true text at p q to → Fills true text at before q (Put.Done to)
+  pub fills-done : end ≤ length p → (q : List ℕ) (to : ℕ) → Puts true text at p q to → Fills true text at before q (Ok to)
   fills-done l q to w =
       let small : at + length text ≤ length before = omega (arith, c.ends, c.long) in
       let ends : to ≡ at + length text = omega (arith, w.ends, c.long) in
@@ -95,11 +94,12 @@ module _ (text : List ℕ) (at : ℕ) (before p : List ℕ) (end : ℕ) (c : Put
 pub ruleset fill-ways = (fills-none, fills-done)
 
 module _ (parent tag at : ℕ) (table : Entries) (body before p : List ℕ) (end : ℕ) (c : ShownPut false parent tag table body at before p end) (os : Octets body) where
-  pub value_none : length p < end → Fills true (item_value parent tag table body) at before p Put.NoRoom
+  pub value_none : length p < end → Fills true (item_value parent tag table body) at before p (Err NoRoom)
   unfolding ShownPut
   value_none = fills-none (item_value parent tag table body) at before p end (c os)
 
-  pub value-done : end ≤ length p → (q : List ℕ) (to : ℕ) → ShownPut true parent tag table body at p q to → Fills true (item_value parent tag table body) at before q (Put.Done to)
+  pub value-done : end ≤ length p → (q : List ℕ) (to : ℕ) → ShownPut true parent tag table body at p q to
+      → Fills true (item_value parent tag table body) at before q (Ok to)
   unfolding ShownPut
   value-done l q to w = fills-done (item_value parent tag table body) at before p end (c os) l q to (w os)
 
@@ -160,12 +160,12 @@ pub ruleset fitting_ways = (fitting-value, fitting-hex)
 
 pub ruleset kind_ways = (kind-items, kind-tokens, kind-plain, kind-text, kind-time, kind-bearer, kind-number)
 
-module _ (emit : Bool) (parent tag at : ℕ) (table : Entries) (body out out' : List ℕ) (to : ℕ) (kind : KnownKind) (ke : kind ≡ known_kind parent tag) where
-  pub shown-unknown : kind ≡ Unknown → Puts emit (hex_lower body) at out out' to → ShownPut emit parent tag table body at out out' to
+module _ (emit : Bool) (parent tag at : ℕ) (table : Entries) (body out out' : List ℕ) (to : ℕ) (kind : Option Kind) (ke : kind ≡ known_kind parent tag) where
+  pub shown-unknown : kind ≡ None → Puts emit (hex_lower body) at out out' to → ShownPut emit parent tag table body at out out' to
   unfolding ShownPut item_value value_by
   shown-unknown q p os = rw (unknown-kind parent tag kind ke q) p
 
-  pub shown-known : (k : Kind) → kind ≡ Known k → KindPut emit parent tag k table body at out out' to → ShownPut emit parent tag table body at out out' to
+  pub shown-known : (k : Kind) → kind ≡ Some k → KindPut emit parent tag k table body at out out' to → ShownPut emit parent tag table body at out out' to
   unfolding ShownPut KindPut item_value
   shown-known k q p os = let h = known-kind parent tag kind ke k q in rw h (p os h)
 

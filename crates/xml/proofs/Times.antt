@@ -1,4 +1,5 @@
 -- The texts of times and bearers: no two have one, and none holds a strange octet.
+use Rattle.std.specs.Prelude.{Option, Some, None}
 use mathlib.Core.Path.{◌≡◌, refl, sym, ap, ap₂, ◌∙◌}
 use mathlib.Core.Bool.{Bool, true, false, cond, false≢true}
 use mathlib.Core.List.{List, [], ◌∷◌, ◌++◌}
@@ -10,11 +11,11 @@ use Rattle.octets.specs.Numbers.{digits}
 use Rattle.octets.proofs.Numbers.{length_digits}
 use Rattle.text.specs.Runs.{within}
 use Rattle.values.specs.declared.Time.{Time}
-use Rattle.values.specs.declared.Ensemble.{Ensemble}
-use Rattle.values.specs.declared.Ensemble.TheVariants.{Absent, Present}
 use Rattle.values.specs.declared.Bearer.{Bearer}
 use Rattle.values.specs.Proper.{TimeOk, EnsembleOk, SidOk, BearerOk}
 use Rattle.values.proofs.Times.{Bounds, bounds, minutes_in_range}
+use Rattle.values.specs.declared.Ensemble.{Ensemble}
+use Rattle.values.specs.Bearers.{ecc_eid}
 use Rattle.show.specs.Digits.{hex_digit, two_digits, hex_lower}
 use Rattle.show.proofs.Writing.{length-hex}
 use Rattle.xml.specs.Dates.{Date, date_of, padded, between, date_text, clock, time_text}
@@ -211,23 +212,26 @@ sid-same false false n m s t q p r e = let f = hex-first 2 n m (0x2E ∷ (hex_di
 sid-same true false n m s t q p r e = absurd (false≢true (sym q))
 sid-same false true n m s t q p r e = absurd (false≢true q)
 
-abbrev ensemble_text : Ensemble → List ℕ → List ℕ
+abbrev ensemble_text : Option Ensemble → List ℕ → List ℕ
 ensemble_text e r = (ensemble_fields e).0 ++ (0x2E ∷ ((ensemble_fields e).1 ++ (0x2E ∷ r)))
 
-ensemble-one : (e f : Ensemble) (r s : List ℕ) → EnsembleOk e → EnsembleOk f → ensemble_text e r ≡ ensemble_text f s → (e ≡ f) × (r ≡ s)
+ensemble-one : (e f : Option Ensemble) (r s : List ℕ) → EnsembleOk e → EnsembleOk f → ensemble_text e r ≡ ensemble_text f s → (e ≡ f) × (r ≡ s)
 unfolding ensemble_fields hex_lower two_digits
-ensemble-one Absent Absent r s p q h = (refl, tail-one 0x2E 0x2E r s (tail-one 0x2E 0x2E (0x2E ∷ r) (0x2E ∷ s) h))
-ensemble-one Absent (Present c i) r s p q h =
-    absurd (hex-digit-no (c / 16) 0x2E (omega arith) (sym (head-one 0x2E (hex_digit 97 (c / 16)) (0x2E ∷ r) (hex_digit 97 (c % 16) ∷ (0x2E ∷ (hex_lower (digits 2 i) ++ (0x2E ∷ s)))) h)))
-ensemble-one (Present c i) Absent r s p q h =
-    absurd (hex-digit-no (c / 16) 0x2E (omega arith) (head-one (hex_digit 97 (c / 16)) 0x2E (hex_digit 97 (c % 16) ∷ (0x2E ∷ (hex_lower (digits 2 i) ++ (0x2E ∷ r)))) (0x2E ∷ s) h))
-ensemble-one (Present c i) (Present d j) r s p q h =
-    let rest_c : List ℕ = 0x2E ∷ (hex_lower (digits 2 i) ++ (0x2E ∷ r)) in
-    let rest_d : List ℕ = 0x2E ∷ (hex_lower (digits 2 j) ++ (0x2E ∷ s)) in
-    let a = split (two_digits 97 c) (two_digits 97 d) rest_c rest_d refl h in
-    let ecc = two-digits-one c d p.0 q.0 a.0 in
-    let b = hex-first 2 i j (0x2E ∷ r) (0x2E ∷ s) p.1 q.1 (tail-one 0x2E 0x2E (hex_lower (digits 2 i) ++ (0x2E ∷ r)) (hex_lower (digits 2 j) ++ (0x2E ∷ s)) a.1) in
-    (ap₂ Present ecc b.0, tail-one 0x2E 0x2E r s b.1)
+ensemble-one None None r s p q h = (refl, tail-one 0x2E 0x2E r s (tail-one 0x2E 0x2E (0x2E ∷ r) (0x2E ∷ s) h))
+ensemble-one None (Some f) r s p q h =
+    let t : List ℕ = 0x2E ∷ (hex_lower (digits 2 f.eid) ++ (0x2E ∷ s)) in
+    absurd (hex-digit-no (f.ecc / 16) 0x2E (omega arith) (sym (head-one 0x2E (hex_digit 97 (f.ecc / 16)) (0x2E ∷ r) (hex_digit 97 (f.ecc % 16) ∷ t) h)))
+ensemble-one (Some e) None r s p q h =
+    let t : List ℕ = 0x2E ∷ (hex_lower (digits 2 e.eid) ++ (0x2E ∷ r)) in
+    absurd (hex-digit-no (e.ecc / 16) 0x2E (omega arith) (head-one (hex_digit 97 (e.ecc / 16)) 0x2E (hex_digit 97 (e.ecc % 16) ∷ t) (0x2E ∷ s) h))
+ensemble-one (Some e) (Some f) r s p q h =
+    let rest_e : List ℕ = 0x2E ∷ (hex_lower (digits 2 e.eid) ++ (0x2E ∷ r)) in
+    let rest_f : List ℕ = 0x2E ∷ (hex_lower (digits 2 f.eid) ++ (0x2E ∷ s)) in
+    let a = split (two_digits 97 e.ecc) (two_digits 97 f.ecc) rest_e rest_f refl h in
+    let ecc = two-digits-one e.ecc f.ecc p.0 q.0 a.0 in
+    let b = hex-first 2 e.eid f.eid (0x2E ∷ r) (0x2E ∷ s) p.1 q.1
+    (tail-one 0x2E 0x2E (hex_lower (digits 2 e.eid) ++ (0x2E ∷ r)) (hex_lower (digits 2 f.eid) ++ (0x2E ∷ s)) a.1) in
+    (ap₂ (λ x y. Some (ecc_eid x y)) ecc b.0, tail-one 0x2E 0x2E r s b.1)
 
 pub bearer-injective : (b c : Bearer) → BearerOk b → BearerOk c → bearer_text b ≡ bearer_text c → b ≡ c
 unfolding bearer_text between
@@ -238,10 +242,10 @@ bearer-injective b c p q h =
     let d = hex-digit-one b.scids c.scids p.scids q.scids s.1 in
     λ z. record { ensemble = e.0 z; long = long z; sid = s.0 z; scids = d z }
 
-fields-sober : (e : Ensemble) → EnsembleOk e → (lacks strange (ensemble_fields e).0 ≡ true) × (lacks strange (ensemble_fields e).1 ≡ true)
+fields-sober : (e : Option Ensemble) → EnsembleOk e → (lacks strange (ensemble_fields e).0 ≡ true) × (lacks strange (ensemble_fields e).1 ≡ true)
 unfolding ensemble_fields lacks hex_lower
-fields-sober Absent ok = (refl, refl)
-fields-sober (Present c i) ok = (two-sober c [] ok.0 refl, hex-sober 2 i ok.1)
+fields-sober None ok = (refl, refl)
+fields-sober (Some e) ok = (two-sober e.ecc [] ok.0 refl, hex-sober 2 e.eid ok.1)
 
 sid-sober : (long : Bool) (sid : ℕ) → SidOk long sid → lacks strange (hex_lower (digits (cond long 4 2) sid)) ≡ true
 sid-sober true sid ok = hex-sober 4 sid ok

@@ -10,8 +10,8 @@ ghost use Rattle.xml.specs.Singling.{KindPut, FittingPut, ShownPut};
 use crate::put::{put_hex, put_none};
 use crate::rows::{put_attribute_name, put_element_name, put_text};
 use crate::value::put_value;
-use octets::Put;
-use values::{Kind, KnownKind, fits_kind, is_attribute, known_kind};
+use octets::PutError;
+use values::{Kind, fits_kind, is_attribute, known_kind};
 
 // ---- names
 
@@ -22,20 +22,20 @@ fn put_name(out: &mut [u8], at: usize, parent: u8, tag: u8, emit: bool) -> usize
         return put_element_name(out, at, tag, emit);
     }
     match known_kind(parent, tag) {
-        KnownKind::Unknown => put_none(out.len(), at),
-        KnownKind::Known(_) => put_attribute_name(out, at, parent, tag, emit),
+        None => put_none(out.len(), at),
+        Some(_) => put_attribute_name(out, at, parent, tag, emit),
     }
 }
 
 // Where the XML has no name for the item, as for CDATA, nothing is put.
-pub fn put_item_name(out: &mut [u8], at: usize, parent: u8, tag: u8) -> Put
+pub fn put_item_name(out: &mut [u8], at: usize, parent: u8, tag: u8) -> Result<usize, PutError>
     ensures { Fills true (name parent tag) at out.old out.new result }
 {
     let end = put_name(out, at, parent, tag, false);
     if end > out.len() {
-        return Put::NoRoom;
+        return Err(PutError::NoRoom);
     }
-    Put::Done(put_name(out, at, parent, tag, true))
+    Ok(put_name(out, at, parent, tag, true))
 }
 
 // ---- values
@@ -97,8 +97,8 @@ fn put_shown(
     ensures { ShownPut emit parent tag (entries table.now) body.now at out.old out.new result }
 {
     match known_kind(parent, tag) {
-        KnownKind::Unknown => put_hex(out, at, body, emit),
-        KnownKind::Known(kind) => put_by_kind(out, at, parent, tag, kind, body, table, emit),
+        None => put_hex(out, at, body, emit),
+        Some(kind) => put_by_kind(out, at, parent, tag, kind, body, table, emit),
     }
 }
 
@@ -110,12 +110,12 @@ pub fn put_item_value(
     tag: u8,
     body: &[u8],
     table: &[u8],
-) -> Put
+) -> Result<usize, PutError>
     ensures { Fills true (item_value parent tag (entries table.now) body.now) at out.old out.new result }
 {
     let end = put_shown(out, at, parent, tag, body, table, false);
     if end > out.len() {
-        return Put::NoRoom;
+        return Err(PutError::NoRoom);
     }
-    Put::Done(put_shown(out, at, parent, tag, body, table, true))
+    Ok(put_shown(out, at, parent, tag, body, table, true))
 }

@@ -10,26 +10,20 @@ returns-then-packed-normal c = search (check-ways, rules)
 pub returns-then-not-is_normal : goal.returns-then-not-is_normal
 returns-then-not-is_normal c = search (check-ways, rules)
 
-pub returns-in-Same : goal.returns-in-Same
-returns-in-Same c =
+pub returns-in-Ok-true : goal.returns-in-Ok-true
+returns-in-Ok-true c =
     let os : Octets c.args.normal.now = λ i. omega (arith, c.type_inv.normal i) in
     let ps : Octets c.args.packed.now = λ i. omega (arith, c.type_inv.packed i) in
     search (check-ways, rules)
 
-pub returns-in-Different : goal.returns-in-Different
-returns-in-Different c =
+pub returns-in-Ok-false : goal.returns-in-Ok-false
+returns-in-Ok-false c =
     let os : Octets c.args.normal.now = λ i. omega (arith, c.type_inv.normal i) in
     let ps : Octets c.args.packed.now = λ i. omega (arith, c.type_inv.packed i) in
     search (check-ways, rules)
 
-pub returns-in-FirstRefused : goal.returns-in-FirstRefused
-returns-in-FirstRefused c =
-    let os : Octets c.args.normal.now = λ i. omega (arith, c.type_inv.normal i) in
-    let ps : Octets c.args.packed.now = λ i. omega (arith, c.type_inv.packed i) in
-    search (check-ways, rules)
-
-pub returns-in-SecondRefused : goal.returns-in-SecondRefused
-returns-in-SecondRefused c =
+pub returns-in-Err : goal.returns-in-Err
+returns-in-Err c =
     let os : Octets c.args.normal.now = λ i. omega (arith, c.type_inv.normal i) in
     let ps : Octets c.args.packed.now = λ i. omega (arith, c.type_inv.packed i) in
     search (check-ways, rules)

@@ -36,33 +36,33 @@ emit_items-returns-in_default t c = no_item _ _ _ _ c.args.out.now _ c.args.at _
 
 pub emit_items-slice_bounds-emit_item-count : goal.emit_items-slice_bounds-emit_item-count
 emit_items-slice_bounds-emit_item-count t c =
-    ordered (here _ _ _ _ c.args.out.now _ c.args.at _ _ c.loop-i.invariant c.loop-i-test.true _ c.item_at.ensures _ _ c.in-Between.is)
+    ordered (here _ _ _ _ c.args.out.now _ c.args.at _ _ c.loop-i.invariant c.loop-i-test.true _ c.item_at.ensures _ _ c.in-Some.is)
     c.loop-i.invariant.inside
 
 pub emit_items-slice_bounds-emit_item-start : goal.emit_items-slice_bounds-emit_item-start
 emit_items-slice_bounds-emit_item-start t c =
-    ordered (here _ _ _ _ c.args.out.now _ c.args.at _ _ c.loop-i.invariant c.loop-i-test.true _ c.item_at.ensures _ _ c.in-Between.is)
+    ordered (here _ _ _ _ c.args.out.now _ c.args.at _ _ c.loop-i.invariant c.loop-i-test.true _ c.item_at.ensures _ _ c.in-Some.is)
     c.loop-i.invariant.inside
 
 pub emit_items-slice_bounds-emit_item-end : goal.emit_items-slice_bounds-emit_item-end
 emit_items-slice_bounds-emit_item-end t c =
-    to_inside (here _ _ _ _ c.args.out.now _ c.args.at _ _ c.loop-i.invariant c.loop-i-test.true _ c.item_at.ensures _ _ c.in-Between.is)
+    to_inside (here _ _ _ _ c.args.out.now _ c.args.at _ _ c.loop-i.invariant c.loop-i-test.true _ c.item_at.ensures _ _ c.in-Some.is)
     c.loop-i.invariant.inside
 
 pub emit_items-emit_item-end-requires : goal.emit_items-emit_item-end-requires
 emit_items-emit_item-end-requires t c = (
   omega (arith, c.decreases),
-  body-few _ _ _ _ c.args.out.now _ c.args.at _ _ c.loop-i.invariant c.loop-i-test.true _ c.item_at.ensures _ _ c.in-Between.is
+  body-few _ _ _ _ c.args.out.now _ c.args.at _ _ c.loop-i.invariant c.loop-i-test.true _ c.item_at.ensures _ _ c.in-Some.is
       c.requires,
 )
 
 pub emit_items-loop-i-smaller : goal.emit_items-loop-i-smaller
 emit_items-loop-i-smaller t c =
-    nearer (here _ _ _ _ c.args.out.now _ c.args.at _ _ c.loop-i.invariant c.loop-i-test.true _ c.item_at.ensures _ _ c.in-Between.is) c.loop-i.invariant.inside
+    nearer (here _ _ _ _ c.args.out.now _ c.args.at _ _ c.loop-i.invariant c.loop-i-test.true _ c.item_at.ensures _ _ c.in-Some.is) c.loop-i.invariant.inside
 
 pub emit_items-loop-i-preserved : goal.emit_items-loop-i-preserved
 emit_items-loop-i-preserved t c =
-    again _ _ _ _ c.args.out.now _ c.args.at _ _ c.loop-i.invariant c.loop-i-test.true _ c.item_at.ensures _ _ c.in-Between.is _ _ c.emit_item-end.ensures
+    again _ _ _ _ c.args.out.now _ c.args.at _ _ c.loop-i.invariant c.loop-i-test.true _ c.item_at.ensures _ _ c.in-Some.is _ _ c.emit_item-end.ensures
 
 pub emit_items-returns : goal.emit_items-returns
 emit_items-returns t c = ended _ _ _ _ c.args.out.now _ c.args.at _ _ c.loop-i.invariant c.loop-i-test.false

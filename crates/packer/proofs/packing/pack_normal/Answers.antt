@@ -1,7 +1,7 @@
 use mathlib.Core.Path.{refl}
 use native.Mathlib.Omega.{arith}
 use borrow.Author.Rules.{rules}
-use Rattle.packer.proofs.Proposing.{table-count, normal-some, normal-small, table-short, inner-short, pack-no-room, pack-folded, pack-itself, pack-none, pack-long}
+use Rattle.packer.proofs.Proposing.{table-count, normal-some, normal-small, table-short, inner-short, pack-no-room, pack-folded, pack-itself, pack-none}
 use Rattle.packer.proofs.packing.pack_normal.Goals as goal
 
 pub propose-length-requires : goal.propose-length-requires
@@ -42,17 +42,12 @@ returns-then-size-object c =
     pack-folded _ c.requires _ _ _ c.propose-length.ensures _ c.top_size-inner.ensures _ c.framed_size-size.ensures _ _ _
     c.if-size-object.true c.if-size-room.false c.emit_top.ensures
 
-pub returns-in-Done : goal.returns-in-Done
-returns-in-Done c =
+pub returns-in-Ok : goal.returns-in-Ok
+returns-in-Ok c =
     pack-itself _ c.requires _ _ _ c.propose-length.ensures _ c.top_size-inner.ensures _ c.framed_size-size.ensures _ _
-    c.if-size-object.false _ c.copy_into.ensures _ c.in-Done.is
+    c.if-size-object.false _ c.copy_into.ensures _ c.in-Ok.is
 
-pub returns-in-NoRoom : goal.returns-in-NoRoom
-returns-in-NoRoom c =
+pub returns-in-Err : goal.returns-in-Err
+returns-in-Err c =
     pack-none _ c.requires _ _ _ c.propose-length.ensures _ c.top_size-inner.ensures _ c.framed_size-size.ensures _ _
-    c.if-size-object.false _ c.copy_into.ensures c.in-NoRoom.is _ c.refuse-in-NoRoom.ensures
-
-pub returns-in-Invalid : goal.returns-in-Invalid
-returns-in-Invalid c =
-    pack-long _ c.requires _ _ _ c.propose-length.ensures _ c.top_size-inner.ensures _ c.framed_size-size.ensures _ _
-    c.if-size-object.false _ c.copy_into.ensures c.in-Invalid.is _ c.refuse-in-Invalid.ensures
+    c.if-size-object.false _ c.copy_into.ensures _ c.in-Err.is _ c.refuse-in-Err.ensures

@@ -31,31 +31,31 @@ size_items-returns-in_default t c = no_item _ _ _ _ _ _ c.loop-at.invariant c.re
 
 pub size_items-slice_bounds-size_item-count : goal.size_items-slice_bounds-size_item-count
 size_items-slice_bounds-size_item-count t c =
-    ordered (here _ _ _ _ _ _ c.loop-at.invariant c.requires c.loop-at-test.true _ c.item_at.ensures _ _ c.in-Between.is) c.loop-at.invariant.inside
+    ordered (here _ _ _ _ _ _ c.loop-at.invariant c.requires c.loop-at-test.true _ c.item_at.ensures _ _ c.in-Some.is) c.loop-at.invariant.inside
 
 pub size_items-slice_bounds-size_item-start : goal.size_items-slice_bounds-size_item-start
 size_items-slice_bounds-size_item-start t c =
-    ordered (here _ _ _ _ _ _ c.loop-at.invariant c.requires c.loop-at-test.true _ c.item_at.ensures _ _ c.in-Between.is) c.loop-at.invariant.inside
+    ordered (here _ _ _ _ _ _ c.loop-at.invariant c.requires c.loop-at-test.true _ c.item_at.ensures _ _ c.in-Some.is) c.loop-at.invariant.inside
 
 pub size_items-slice_bounds-size_item-end : goal.size_items-slice_bounds-size_item-end
 size_items-slice_bounds-size_item-end t c =
-    to_inside (here _ _ _ _ _ _ c.loop-at.invariant c.requires c.loop-at-test.true _ c.item_at.ensures _ _ c.in-Between.is) c.loop-at.invariant.inside
+    to_inside (here _ _ _ _ _ _ c.loop-at.invariant c.requires c.loop-at-test.true _ c.item_at.ensures _ _ c.in-Some.is) c.loop-at.invariant.inside
 
 pub size_items-size_item-size-requires : goal.size_items-size_item-size-requires
 size_items-size_item-size-requires t c =
-    (omega (arith, c.decreases), body-few _ _ _ _ _ _ c.loop-at.invariant c.requires c.loop-at-test.true _ c.item_at.ensures _ _ c.in-Between.is)
+    (omega (arith, c.decreases), body-few _ _ _ _ _ _ c.loop-at.invariant c.requires c.loop-at-test.true _ c.item_at.ensures _ _ c.in-Some.is)
 
 pub size_items-overflow_add-size : goal.size_items-overflow_add-size
 size_items-overflow_add-size t c =
-    size_fits _ _ _ _ _ _ c.loop-at.invariant c.requires c.loop-at-test.true _ c.item_at.ensures _ _ c.in-Between.is _ c.size_item-size.ensures
+    size_fits _ _ _ _ _ _ c.loop-at.invariant c.requires c.loop-at-test.true _ c.item_at.ensures _ _ c.in-Some.is _ c.size_item-size.ensures
 
 pub size_items-loop-at-smaller : goal.size_items-loop-at-smaller
 size_items-loop-at-smaller t c =
-    nearer (here _ _ _ _ _ _ c.loop-at.invariant c.requires c.loop-at-test.true _ c.item_at.ensures _ _ c.in-Between.is) c.loop-at.invariant.inside
+    nearer (here _ _ _ _ _ _ c.loop-at.invariant c.requires c.loop-at-test.true _ c.item_at.ensures _ _ c.in-Some.is) c.loop-at.invariant.inside
 
 pub size_items-loop-at-preserved : goal.size_items-loop-at-preserved
 size_items-loop-at-preserved t c =
-    again _ _ _ _ _ _ c.loop-at.invariant c.requires c.loop-at-test.true _ c.item_at.ensures _ _ c.in-Between.is _ c.size_item-size.ensures
+    again _ _ _ _ _ _ c.loop-at.invariant c.requires c.loop-at-test.true _ c.item_at.ensures _ _ c.in-Some.is _ c.size_item-size.ensures
 
 pub size_items-returns : goal.size_items-returns
 size_items-returns t c = ended _ _ _ _ _ _ c.loop-at.invariant c.requires c.loop-at-test.false

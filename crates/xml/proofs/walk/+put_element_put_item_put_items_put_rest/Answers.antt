@@ -1,4 +1,4 @@
-use Rattle.xml.proofs.Elements.{rest_put, element-ways, item-ways, items-ways}
+use Rattle.xml.proofs.Elements.{rest_put, element-ways, item-ways, items-ways, items-ordered, items-inside, items-less}
 use borrow.Author.Rules.{rules}
 use Rattle.xml.proofs.walk.+put_element_put_item_put_items_put_rest.Goals as goal
 
@@ -33,16 +33,20 @@ pub put_items-returns-in_default : goal.put_items-returns-in_default
 put_items-returns-in_default t c = search (items-ways, rules)
 
 pub put_items-slice_bounds-put_item-count : goal.put_items-slice_bounds-put_item-count
-put_items-slice_bounds-put_item-count t c = search (items-ways, rules)
+put_items-slice_bounds-put_item-count t c =
+    items-ordered _ _ _ _ c.args.at c.args.out.now _ _ _ c.loop-i.invariant c.loop-i-test.true _ c.item_at.ensures _ _ c.in-Some.is
 
 pub put_items-slice_bounds-put_item-start : goal.put_items-slice_bounds-put_item-start
-put_items-slice_bounds-put_item-start t c = search (items-ways, rules)
+put_items-slice_bounds-put_item-start t c =
+    items-ordered _ _ _ _ c.args.at c.args.out.now _ _ _ c.loop-i.invariant c.loop-i-test.true _ c.item_at.ensures _ _ c.in-Some.is
 
 pub put_items-slice_bounds-put_item-end : goal.put_items-slice_bounds-put_item-end
-put_items-slice_bounds-put_item-end t c = search (items-ways, rules)
+put_items-slice_bounds-put_item-end t c =
+    items-inside _ _ _ _ c.args.at c.args.out.now _ _ _ c.loop-i.invariant c.loop-i-test.true _ c.item_at.ensures _ _ c.in-Some.is
 
 pub put_items-loop-i-smaller : goal.put_items-loop-i-smaller
-put_items-loop-i-smaller t c = search (items-ways, rules)
+put_items-loop-i-smaller t c =
+    items-less _ _ _ _ c.args.at c.args.out.now _ _ _ c.loop-i.invariant c.loop-i-test.true _ c.item_at.ensures _ _ c.in-Some.is
 
 pub put_items-loop-i-preserved : goal.put_items-loop-i-preserved
 put_items-loop-i-preserved t c = search (items-ways, rules)

@@ -1,3 +1,5 @@
+use mathlib.Core.Path.{refl}
+use Rattle.format.proofs.Stays.{stay-same}
 use Rattle.format.proofs.Lays.{within-counted, put-counted, kept-counted}
 use borrow.Author.Rules.{rules}
 use Rattle.format.proofs.lent.RecordsMut.put.Goals as goal
@@ -29,8 +31,14 @@ offset_bounds-self-i-then-i-places-2 c = search ((within-counted _ _ _ c.places.
 pub bounds-self-i-then-i-places-5 : goal.bounds-self-i-then-i-places-5
 bounds-self-i-then-i-places-5 c = (within-counted _ _ _ c.places.ensures c.if-i-places.true).sizes
 
-pub returns-then-i-places : goal.returns-then-i-places
-returns-then-i-places c = put-counted _ _ _ c.places.ensures _ c.if-i-places.true
+pub returns-then-i-places-clause-lists : goal.returns-then-i-places-clause-lists
+returns-then-i-places-clause-lists c = put-counted _ _ _ c.places.ensures _ c.if-i-places.true
 
-pub returns-else-i-places : goal.returns-else-i-places
-returns-else-i-places c = kept-counted _ _ _ c.places.ensures _ c.if-i-places.false
+pub returns-else-i-places-clause-lists : goal.returns-else-i-places-clause-lists
+returns-else-i-places-clause-lists c = kept-counted _ _ _ c.places.ensures _ c.if-i-places.false
+
+pub returns-then-i-places-clause-stay : goal.returns-then-i-places-clause-stay
+returns-then-i-places-clause-stay c = record { tags = refl; kinds = refl; depths = refl; parents = refl; starts = refl; sizes = refl }
+
+pub returns-else-i-places-clause-stay : goal.returns-else-i-places-clause-stay
+returns-else-i-places-clause-stay c = stay-same _
