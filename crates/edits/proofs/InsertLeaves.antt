@@ -19,15 +19,14 @@ use Rattle.values.specs.Table.{attribute}
 use Rattle.format.specs.Meaning.{opens, is_child}
 use Rattle.format.specs.declared.Refusal.{Refusal}
 use Rattle.judge.specs.Inside.{judge_inside}
-use Rattle.survey.specs.Survey.{needed_by, records_sizes}
-use Rattle.survey.specs.declared.measure.Sizes.{Sizes}
+use Rattle.survey.specs.Survey.{needed_by}
 use Rattle.survey.specs.declared.Needs.{Needs}
 use Rattle.edits.specs.declared.inserting.Admitted.{Admitted}
 use Rattle.edits.specs.declared.EditError.{EditError}
 use Rattle.edits.specs.declared.EditError.TheVariants.{NoPlace, BreaksRule}
 use Rattle.edits.specs.Tree.{is_one_item}
 use Rattle.edits.specs.Insertion.{counts_at, stops_at, left_after, found_at, child_from, child_behind, child_of}
-use Rattle.edits.specs.Insertion.{tag_there, comes_between, is_element, admitted, as_admitted, admitted_at, admitted_by, admission}
+use Rattle.edits.specs.Insertion.{tag_there, comes_between, is_element, admitted, known_one, as_admitted, admitted_at, admitted_by, admission}
 
 -- ---- is_child
 module _ (tag : ℕ) (a : Bool) (e : a ≡ attribute tag) where
@@ -256,18 +255,18 @@ module _ (j k later tag depth : ℕ) (o : List ℕ) (a : Bool) (ae : a ≡ is_el
       unfolding as_admitted
       admits-broken x f = sym (ap (as_admitted j) f) ∙ by-needs
 
-      module _ (c : ℕ) (m : Option Sizes) (f : r ≡ Ok (records_sizes c m)) where
-        pub admits-unknown : c ≡ 0 → Err BreaksRule ≡ admitted_at j k later tag depth o
+      module _ (needs : Needs) (f : r ≡ Ok needs) where
+        pub admits-unknown : needs.records ≡ 0 → Err BreaksRule ≡ admitted_at j k later tag depth o
         unfolding as_admitted
-        admits-unknown y = sym (ap (λ n. as_admitted j (Ok (records_sizes n m))) y) ∙ (sym (ap (as_admitted j) f) ∙ by-needs)
+        admits-unknown y = sym (ap (λ n. known_one j n needs.sizes) y) ∙ (sym (ap (as_admitted j) f) ∙ by-needs)
 
-        pub admits-it : (c ≡ 0 → ⊥) → Ok (admitted j c m) ≡ admitted_at j k later tag depth o
+        pub admits-it : (needs.records ≡ 0 → ⊥) → Ok (admitted j needs.records needs.sizes) ≡ admitted_at j k later tag depth o
         unfolding as_admitted
-        admits-it y = known-one c y ∙ (sym (ap (as_admitted j) f) ∙ by-needs)
+        admits-it y = known needs.records y ∙ (sym (ap (as_admitted j) f) ∙ by-needs)
           where
-            known-one : (n : ℕ) → (n ≡ 0 → ⊥) → Ok (admitted j n m) ≡ as_admitted j (Ok (records_sizes n m))
-            known-one zero z = absurd (z refl)
-            known-one (suc n) z = refl
+            known : (n : ℕ) → (n ≡ 0 → ⊥) → Ok (admitted j n needs.sizes) ≡ known_one j n needs.sizes
+            known zero z = absurd (z refl)
+            known (suc n) z = refl
 
 pub ruleset admits-ways = (admits-none, admits-order, admits-broken, admits-unknown, admits-it)
 

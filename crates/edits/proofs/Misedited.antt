@@ -1,5 +1,5 @@
 -- Wrong answers of `replace_text` and of `remove`, refuted by computing the definitions at closed memory.
-use Rattle.std.specs.Prelude.{Ok, Err}
+use Rattle.std.specs.Prelude.{Result, Ok, Err}
 use mathlib.Core.Path.{◌≡◌, refl, sym, ap, ◌∙◌}
 use mathlib.Core.List.{[], ◌∷◌}
 use Prim.Native.Nat.{ℕ}
@@ -11,6 +11,7 @@ use Rattle.text.specs.Text.{layout, token, character, single, goes_on, utf8, tex
 use Rattle.text.specs.Tokens.{entry, or_itself, stands, expanded, starts, shown_length}
 use Rattle.values.specs.Table.{rows, kind_in, known, attribute, defaults, default_in}
 use Rattle.values.specs.Values.{width, fits, meant, octets_of, is_default}
+use Rattle.format.specs.declared.Refusal.{Refusal}
 use Rattle.format.specs.Answers.{refusal, edit_outcome}
 use Rattle.format.specs.Tree.{find, kind_of, count, records}
 use Rattle.format.specs.Judge.{is_known, is_items, is_tokens, is_text, is_value, is_top, allowed, latest, stage_after, limit, not_above, shown, first, rule, unless}
@@ -63,7 +64,7 @@ computed = record { renamed = refl; renamed-sizes = refl; removed-sizes = refl; 
 
 -- a text told as none
 pub text-untold : (m' : Memory) → EditClaim renames 7 day m' (Err (refusal 18 0)) → ⊥
-text-untold m' c = let e : Err (refusal 18 0) ≡ Ok 7 = c.answers ∙ computed.renamed in let z : ◌≡◌ {A = ℕ} 0 1 = cc in omega arith
+text-untold m' c = let e : ◌≡◌ {A = Result ℕ Refusal} (Err (refusal 18 0)) (Ok 7) = c.answers ∙ computed.renamed in let z : ◌≡◌ {A = ℕ} 0 1 = cc in omega arith
 
 -- a new text, with the sizes around it as before
 pub sizes-unraised : (m' : Memory) → EditClaim renames 7 day m' (Ok 7) → m'.bodies ≡ 14 ∷ 2 ∷ 8 ∷ 6 ∷ 1 ∷ 4 ∷ 3 ∷ [] → ⊥

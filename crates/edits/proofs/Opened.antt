@@ -304,12 +304,13 @@ module _ (n i k : ℕ) (m : Memory) (t : Items) (holds : tree_held n m ≡ some 
           let f : leb (used + S) (length m.store) && leb (framed_size (top_then i A m)) 32_768 ≡ false =
           ap (λ b. leb (used + S) (length m.store) && b) (too_large (leb-false A 32_768 w.0)) ∙ and-false (leb (used + S) (length m.store)) in
           refuses NoRoom (over q false f refl)
-      measured q (Some (store_octets s a)) e =
+      measured q (Some taken) e =
           let w = chosen (leb A 32_768) e (λ y. never (cc)) in
           let u = w.1 in
-          let se : s ≡ as_octets S = cc in
-          let ae : a ≡ as_octets A = cc in
-          enough-room q s.0 a.0 (ap (λ y. y.0) se) (ap (λ y. y.0) ae) (leb (used + s.0) (length m.store) && leb (framed_size (top_then i a.0 m)) 32_768) refl
+          let same : taken ≡ store_octets (as_octets S) (as_octets A) = cc in
+          let s = taken.store.0 in
+          let a = taken.octets.0 in
+          enough-room q s a (ap (λ y. y.store.0) same) (ap (λ y. y.octets.0) same) (leb (used + s) (length m.store) && leb (framed_size (top_then i a m)) 32_768) refl
 
       go : (b : Bool) → leb (n + c) (places_in m) ≡ b → Fit (cond b (opened_by n used i j c m sizes) (Err NoRecords))
       go true q = measured q sizes sizes-are
@@ -356,11 +357,12 @@ module _ (n i k : ℕ) (m : Memory) (t : Items) (holds : tree_held n m ≡ some 
     where
       small : (z : Option Sizes) → z ≡ sizes_of (length (store_in [] p element)) (normal_size p element) → SmallSizes z
       small None e = tt
-      small (Some (store_octets s a)) e =
+      small (Some taken) e =
           let w = chosen (leb (normal_size p element) 32_768) e (λ y. never (cc)) in
           let u = w.1 in
-          let se : s ≡ as_octets (length (store_in [] p element)) = cc in
-          let ae : a ≡ as_octets (normal_size p element) = cc in
+          let measured : taken ≡ store_octets (as_octets (length (store_in [] p element))) (as_octets (normal_size p element)) = cc in
+          let se = ap (λ y. y.store) measured in
+          let ae = ap (λ y. y.octets) measured in
           let l = leb-true (normal_size p element) 32_768 w.0 in
           let f = ap₂ (λ y z. length (store_in [] y z)) at-parent (sym same) in
           let g = ap₂ (λ y z. normal_size y z) at-parent (sym same) in (

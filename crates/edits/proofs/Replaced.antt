@@ -127,6 +127,9 @@ plan-places n m x e used q =
     let w = enough n m tree.0 (held n m tree.0 tree.1) in
     (w.tags, w.parents)
 
+pub plan-bodies : (n : ℕ) (m : Memory) (x : Optional ℕ) → x ≡ held_as (tree_held n m) → (used : ℕ) → x ≡ Some used → n ≤ length m.bodies
+plan-bodies n m x e used q = let tree = held-as (tree_held n m) used (sym e ∙ q) in (held n m tree.0 tree.1).fewer
+
 pub plan-number : (n i : ℕ) (tags parents : List ℕ) (b : Bool) → b ≡ is_text_at n i tags parents → not b ≡ false → i < n
 unfolding is_text_at
 plan-number n i tags parents b e z = ltb-true i n (and_right (ltb 0 i) (ltb i n) (and_left (ltb 0 i && ltb i n) _ (sym e ∙ not-false b z)))

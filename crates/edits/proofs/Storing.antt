@@ -6,6 +6,7 @@ use mathlib.Core.Option.{some, some-injective}
 use mathlib.Core.List.{List}
 use Prim.Native.Nat.{ℕ, ◌+◌, ◌≤◌}
 use lib.ListN.{length}
+use Rattle.std.specs.Result.{result_unwrap_or}
 use Rattle.octets.specs.Puts.{Puts}
 use Rattle.octets.proofs.Puts.{put-done, put-room, put-there}
 use Rattle.octets.specs.declared.PutError.{PutError}
@@ -24,6 +25,15 @@ use Rattle.values.proofs.Laws.{normal-proper}
 use Rattle.values.proofs.Laws as laws
 use Rattle.format.proofs.Means.{text-known}
 
+-- where octets were put, the place after them, else the place itself
+ends-at : (P : ℕ → Type 0) (answer : Result ℕ PutError) (at end : ℕ) → end ≡ result_unwrap_or answer at
+    → ((e : ℕ) → answer ≡ Ok e → P e) → ((z : PutError) → answer ≡ Err z → P at) → P end
+ends-at P answer at end e done not-put = go answer refl
+  where
+    go : (a : Result ℕ PutError) → answer ≡ a → P end
+    go (Ok x) q = rw (e, q) (done x q)
+    go (Err z) q = rw (e, q) (not-put z q)
+
 -- ---- a text
 
 module _ (index table body store store' : List ℕ) (at : ℕ) (answer : Result ℕ PutError) (by_index : Puts true (expanded (entries_by index table) body) at store store' answer)
@@ -31,26 +41,41 @@ module _ (index table body store store' : List ℕ) (at : ℕ) (answer : Result 
   claim : Puts true (expanded (entries table) body) at store store' answer
   claim = indexed-claim table index made body store store' at answer by_index
 
-  pub text-done : (end : ℕ) → answer ≡ Ok end → BodyStored (expanded (entries table) body) store store' at end
+  text-done : (end : ℕ) → answer ≡ Ok end → BodyStored (expanded (entries table) body) store store' at end
   text-done end q = let d = put-done true (expanded (entries table) body) at store store' answer claim end q in record { ends = d.place; holds = d.laid }
 
-  pub text-no-room : answer ≡ Err NoRoom → at + length (expanded (entries table) body) ≤ length store → BodyStored (expanded (entries table) body) store store' at at
+  text-no-room : answer ≡ Err NoRoom → at + length (expanded (entries table) body) ≤ length store → BodyStored (expanded (entries table) body) store store' at at
   text-no-room q h = put-room true (expanded (entries table) body) at store store' answer claim h q
 
-  pub text-invalid : answer ≡ Err Invalid → BodyStored (expanded (entries table) body) store store' at at
+  text-invalid : answer ≡ Err Invalid → BodyStored (expanded (entries table) body) store store' at at
   text-invalid q = put-there true (expanded (entries table) body) at store store' answer claim refl q
+
+  pub text-stored : (end : ℕ) → end ≡ result_unwrap_or answer at → at + length (expanded (entries table) body) ≤ length store
+      → BodyStored (expanded (entries table) body) store store' at end
+  text-stored end e h = ends-at (BodyStored (expanded (entries table) body) store store' at) answer at end e text-done not-put
+    where
+      not-put : (z : PutError) → answer ≡ Err z → BodyStored (expanded (entries table) body) store store' at at
+      not-put NoRoom q = text-no-room q h
+      not-put Invalid q = text-invalid q
 
 -- ---- a value
 
 module _ (kind : Kind) (body store store' : List ℕ) (at : ℕ) (answer : Result ℕ PutError) (p : Puts (fits kind body) (normal_octets kind body) at store store' answer) (s : ValueStorable kind body store at) where
-  pub value-done : (end : ℕ) → answer ≡ Ok end → BodyStored (normal_octets kind body) store store' at end
+  value-done : (end : ℕ) → answer ≡ Ok end → BodyStored (normal_octets kind body) store store' at end
   value-done end q = let d = put-done (fits kind body) (normal_octets kind body) at store store' answer p end q in record { ends = d.place; holds = d.laid }
 
-  pub value-no-room : answer ≡ Err NoRoom → BodyStored (normal_octets kind body) store store' at at
+  value-no-room : answer ≡ Err NoRoom → BodyStored (normal_octets kind body) store store' at at
   value-no-room q = put-room (fits kind body) (normal_octets kind body) at store store' answer p s.room q
 
-  pub value-invalid : answer ≡ Err Invalid → BodyStored (normal_octets kind body) store store' at at
+  value-invalid : answer ≡ Err Invalid → BodyStored (normal_octets kind body) store store' at at
   value-invalid q = put-there (fits kind body) (normal_octets kind body) at store store' answer p s.fit q
+
+  pub value-stored : (end : ℕ) → end ≡ result_unwrap_or answer at → BodyStored (normal_octets kind body) store store' at end
+  value-stored end e = ends-at (BodyStored (normal_octets kind body) store store' at) answer at end e value-done not-put
+    where
+      not-put : (z : PutError) → answer ≡ Err z → BodyStored (normal_octets kind body) store store' at at
+      not-put NoRoom q = value-no-room q
+      not-put Invalid q = value-invalid q
 
 -- ---- a body
 
@@ -99,4 +124,4 @@ module _ (table : List ℕ) (kind : Kind) (body store : List ℕ) (at : ℕ) (s 
   pub body-value-stored : b ≡ false → (store' : List ℕ) (end : ℕ) → BodyStored (normal_octets kind body) store store' at end → BodyStored (stored (entries table) (some kind) body) store store' at end
   body-value-stored q store' end r = rw (stored-value (entries table) kind body (sym e ∙ q)) r
 
-pub ruleset storing-ways = (text-done, text-no-room, text-invalid, value-done, value-no-room, value-invalid, body-text, body-value, body-text-stored, body-value-stored)
+pub ruleset storing-ways = (text-stored, value-stored, body-text, body-value, body-text-stored, body-value-stored)

@@ -10,10 +10,9 @@ use Rattle.format.specs.State.{Memory, places_in, tree_held}
 use Rattle.format.specs.declared.Refusal.{Refusal}
 use Rattle.judge.specs.Inside.{judge_inside}
 use Rattle.survey.specs.Normal.{framed_size}
-use Rattle.survey.specs.Survey.{needed_by, records_sizes}
+use Rattle.survey.specs.Survey.{needed_by}
 use Rattle.survey.specs.declared.measure.Sizes.{Sizes}
 use Rattle.survey.specs.declared.Needs.{Needs}
-use Rattle.survey.specs.Sizes.{store_octets}
 use Rattle.state.specs.Order.{held_as}
 use Rattle.edits.specs.declared.resite.Gap.{Gap}
 use Rattle.edits.specs.declared.lay.Level.{Level}
@@ -73,10 +72,13 @@ is_element o = is_one_item o && is_child (get_or o 0 0)
 abbrev pub admitted : (j c : ℕ) → Option Sizes → Admitted
 admitted j c sizes = record { next = j; records = c; sizes = sizes }
 
+abbrev pub known_one : (j c : ℕ) → Option Sizes → Result Admitted EditError
+known_one j zero sizes = Err BreaksRule
+known_one j (suc c) sizes = Ok (admitted j (suc c) sizes)
+
 unfoldable pub as_admitted : (j : ℕ) → Result Needs Refusal → Result Admitted EditError
 as_admitted j (Err r) = Err BreaksRule
-as_admitted j (Ok (records_sizes zero sizes)) = Err BreaksRule
-as_admitted j (Ok (records_sizes (suc c) sizes)) = Ok (admitted j (suc c) sizes)
+as_admitted j (Ok needs) = known_one j needs.records needs.sizes
 
 unfoldable pub admitted_at : (j k later tag depth : ℕ) → List ℕ → Result Admitted EditError
 admitted_at j k later tag depth o = cond (is_element o && comes_between k (get_or o 0 0) later) (as_admitted j (needed_by tag (judge_inside tag depth o)))
@@ -106,9 +108,9 @@ top_then i octets m = get_or (raised (up_from m.lists.parents i) 0 octets m.bodi
 
 unfoldable pub opened_by : (n used i j c : ℕ) → Memory → Option Sizes → Result Gap EditError
 opened_by n used i j c m None = Err NoRoom
-opened_by n used i j c m (Some (store_octets stored octets)) =
-    cond (leb (used + stored.0) (length m.store) && leb (framed_size (top_then i octets.0 m)) 32_768)
-    (Ok (gap_for n used i j c stored.0 octets.0 m.lists.sizes)) (Err NoRoom)
+opened_by n used i j c m (Some taken) =
+    cond (leb (used + taken.store.0) (length m.store) && leb (framed_size (top_then i taken.octets.0 m)) 32_768)
+    (Ok (gap_for n used i j c taken.store.0 taken.octets.0 m.lists.sizes)) (Err NoRoom)
 
 unfoldable pub fitted_by : (n used i : ℕ) → Memory → Result Admitted EditError → Result Gap EditError
 fitted_by n used i m (Err q) = Err q
@@ -124,7 +126,7 @@ insertion_of n i k o m = insertion_in n i k o m (held_as (tree_held n m))
 -- what measuring whether it fits asks: memory has the tree's places, and the sizes of the elements around can be followed
 abbrev pub SmallSizes : Option Sizes → Type 0
 SmallSizes None = Unit {0}
-SmallSizes (Some (store_octets stored octets)) = (octets.0 ≤ 32_768) × (stored.0 ≤ 32_770)
+SmallSizes (Some taken) = (taken.octets.0 ≤ 32_768) × (taken.store.0 ≤ 32_770)
 
 pub record Fittable (n used i : ℕ) (a : Admitted) (m : Memory) : Type 0 where
   pub all : n ≤ places_in m

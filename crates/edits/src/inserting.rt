@@ -1,7 +1,8 @@
 // `insert`: an element put into a tree in lent memory, with all below it, at a place among the child elements of a record.
 ghost use Rattle.std.specs.Prelude.{◌≡◌, ◌≤◌, ◌<◌, length, Ok};
 ghost use Rattle.format.specs.Meaning.{is_child};
-ghost use Rattle.state.specs.Taking.{shared_memory, lent_memory};
+ghost use Rattle.octets.specs.Numbers.{Octets as AreOctets};
+ghost use Rattle.state.specs.Taking.{memory, shared_memory};
 ghost use Rattle.edits.specs.Tree.{is_one_item};
 ghost use Rattle.edits.specs.Tree.Edit.{insert as insertion};
 ghost use Rattle.edits.specs.Calls.{EditClaim};
@@ -16,8 +17,8 @@ use crate::resite::{Gap, resite};
 use crate::taking::places_in;
 use format::{Refusal, at_or};
 use octets::{Octets, item_at};
-use state::{Memory, MemoryMut, held};
-use survey::{Needs, Sizes, survey_inside};
+use state::{Memory, held};
+use survey::{Sizes, survey_inside};
 use tags::holds_items;
 use text::index_of;
 use values::is_attribute;
@@ -194,14 +195,14 @@ fn admitted_at(
     }
     match survey_inside(tag, depth, element) {
         Err(_) => Err(EditError::BreaksRule),
-        Ok(Needs { records, sizes }) => {
-            if records == 0 {
+        Ok(needs) => {
+            if needs.records == 0 {
                 return Err(EditError::BreaksRule);
             }
             Ok(Admitted {
                 next,
-                records,
-                sizes,
+                records: needs.records,
+                sizes: needs.sizes,
             })
         }
     }
@@ -238,7 +239,7 @@ fn fit(
     ensures { result ≡ fitted_by n used number (shared_memory memory.now) (Ok admitted) }
 {
     let Admitted { next, records, .. } = admitted;
-    if records > places_in(memory) - n {
+    if records > places_in(&memory.records, memory.bodies) - n {
         return Err(EditError::NoRecords);
     }
     let Some(taken) = admitted.sizes else {
@@ -284,6 +285,7 @@ fn plan_insertion(
     element: &[u8],
     memory: &Memory,
 ) -> Result<Gap, EditError>
+    requires { AreOctets memory.now.store.now }
     ensures { result ≡ insertion_of n number place element.now (shared_memory memory.now) }
 {
     let Some(used) = held(n, memory) else {
@@ -301,14 +303,27 @@ fn plan_insertion(
 }
 
 // The gap is opened, and the element laid in it as an item of record `number`.
-fn put_in(gap: Gap, number: usize, element: &[u8], memory: &mut MemoryMut)
-    requires { PutsIn gap number element.now (lent_memory memory.old) }
-    ensures { PutIn gap number element.now (lent_memory memory.old) (lent_memory memory.new) }
+// Kept: the eight slices; `Memory` of state says what a struct of them to write in showed.
+fn put_in(
+    gap: Gap,
+    number: usize,
+    element: &[u8],
+    tags: &mut [u8],
+    kinds: &mut [u8],
+    depths: &mut [u8],
+    parents: &mut [u16],
+    starts: &mut [u16],
+    sizes: &mut [u16],
+    bodies: &mut [u16],
+    store: &mut [u8],
+)
+    requires { PutsIn gap number element.now (memory tags.old kinds.old depths.old parents.old starts.old sizes.old bodies.old store.old) }
+    ensures { PutIn gap number element.now (memory tags.old kinds.old depths.old parents.old starts.old sizes.old bodies.old store.old) (memory tags.new kinds.new depths.new parents.new starts.new sizes.new bodies.new store.new) }
 {
     let level = Level {
-        element: memory.records.tags[number],
+        element: tags[number],
         number,
-        depth: memory.records.depths[number] + 1,
+        depth: depths[number] + 1,
     };
     let none = &element[0..0];
     let index = index_of(none);
@@ -317,25 +332,41 @@ fn put_in(gap: Gap, number: usize, element: &[u8], memory: &mut MemoryMut)
         end: gap.octets.from,
         body: Octets(0),
     };
-    resite(gap, memory);
-    lay_items(element, &index, none, level, begun, memory);
+    resite(
+        gap, tags, kinds, depths, parents, starts, sizes, bodies, store,
+    );
+    lay_items(
+        element, &index, none, level, begun, tags, kinds, depths, parents, starts, sizes, bodies,
+        store,
+    );
 }
 
 // The element that the octets are, put in as the child element of number `place`, from 0, of record `number` of `n`. The answer is how many records there are then,
 // or the refusal: 16 where memory holds no tree, 18 where there is no such record or place, or one that holds no items, 16 where the octets are no element that may
 // stand there, 14 where a list is too short, 15 where the store is or the normal form would be too long. On a refusal nothing is touched. Cost: what is behind the
 // place moves once, in each list and in the store; the element is judged, measured and laid, once each.
+// Kept: the eight slices; `Memory` of state says what a struct of them to write in showed.
 pub fn insert(
     n: usize,
     number: usize,
     place: usize,
     element: &[u8],
-    memory: &mut MemoryMut,
+    tags: &mut [u8],
+    kinds: &mut [u8],
+    depths: &mut [u8],
+    parents: &mut [u16],
+    starts: &mut [u16],
+    sizes: &mut [u16],
+    bodies: &mut [u16],
+    store: &mut [u8],
 ) -> Result<usize, Refusal>
-    ensures { EditClaim (insertion number place element.now) n (lent_memory memory.old) (lent_memory memory.new) result }
+    ensures { EditClaim (insertion number place element.now) n (memory tags.old kinds.old depths.old parents.old starts.old sizes.old bodies.old store.old) (memory tags.new kinds.new depths.new parents.new starts.new sizes.new bodies.new store.new) result }
 {
-    let gap = plan_insertion(n, number, place, element, &memory.as_memory())?;
-    put_in(gap, number, element, memory);
+    let memory = Memory::of(tags, kinds, depths, parents, starts, sizes, bodies, store);
+    let gap = plan_insertion(n, number, place, element, &memory)?;
+    put_in(
+        gap, number, element, tags, kinds, depths, parents, starts, sizes, bodies, store,
+    );
     let more = gap.records.to - gap.records.from;
     Ok(n + more)
 }

@@ -6,13 +6,15 @@
 ghost use Rattle.std.specs.Prelude.{◌≡◌};
 ghost use Rattle.text.specs.Tokens.{entries};
 ghost use Rattle.text.specs.Index.{Indexes};
-ghost use Rattle.state.specs.Taking.{lent_memory};
+ghost use Rattle.format.specs.Calls.{put_whole};
+ghost use Rattle.format.specs.Lent.{six};
+ghost use Rattle.state.specs.Taking.{memory};
 ghost use Rattle.edits.specs.Lay.{record_at, Narrow, ValueCountable, ValueCounts, InsideCountable, InsideCounts, ValueLayable, ValueLays, ItemLayable, InsideLayable, ItemLays, ItemsLayable, ItemsLay, Layable, LaysTree};
 
 use crate::store::store_body;
-use format::{Record, kind_of};
+use format::{Record, RecordsMut, kind_of};
 use octets::{Octets, item_at};
-use state::{MemoryMut, added_by, framed_size};
+use state::{added_by, framed_size};
 use survey::table_of;
 use tags::{Listed, listed_as};
 use text::index_of;
@@ -53,6 +55,30 @@ fn record_of(level: Level, tag: u8, start: usize, size: usize) -> Record
         start,
         size,
     }
+}
+
+// A record into the six lists, at its number.
+fn put_record(
+    tags: &mut [u8],
+    kinds: &mut [u8],
+    depths: &mut [u8],
+    parents: &mut [u16],
+    starts: &mut [u16],
+    sizes: &mut [u16],
+    i: usize,
+    r: Record,
+)
+    ensures { six tags.new kinds.new depths.new parents.new starts.new sizes.new ≡ put_whole i r (six tags.old kinds.old depths.old parents.old starts.old sizes.old) }
+{
+    let mut records = RecordsMut {
+        tags,
+        kinds,
+        depths,
+        parents,
+        starts,
+        sizes,
+    };
+    records.put(i, r);
 }
 
 // A value is stored up to `to`: its size is its own octets', and a default adds nothing.
@@ -97,6 +123,7 @@ fn count_inside(done: Laid, inner: Laid, bodies: &mut [u16]) -> Laid
 }
 
 // An item that holds no items.
+// Kept, here and below: the eight slices; `Memory` of state says what a struct of them to write in showed.
 fn lay_value(
     kind: Kind,
     tag: u8,
@@ -105,18 +132,25 @@ fn lay_value(
     table: &[u8],
     level: Level,
     done: Laid,
-    memory: &mut MemoryMut,
+    tags: &mut [u8],
+    kinds: &mut [u8],
+    depths: &mut [u8],
+    parents: &mut [u16],
+    starts: &mut [u16],
+    sizes: &mut [u16],
+    bodies: &mut [u16],
+    store: &mut [u8],
 ) -> Laid
-    requires value_layable { ValueLayable (entries table.now) kind level done body.now (lent_memory memory.old) }
+    requires value_layable { ValueLayable (entries table.now) kind level done body.now (memory tags.old kinds.old depths.old parents.old starts.old sizes.old bodies.old store.old) }
     requires indexes { Indexes (entries table.now) index.now }
-    ensures { ValueLays (entries table.now) kind tag level done body.now (lent_memory memory.old) (lent_memory memory.new) result }
+    ensures { ValueLays (entries table.now) kind tag level done body.now (memory tags.old kinds.old depths.old parents.old starts.old sizes.old bodies.old store.old) (memory tags.new kinds.new depths.new parents.new starts.new sizes.new bodies.new store.new) result }
 {
     let at = done.end;
-    let end = store_body(kind, index, table, body, memory.store, at);
+    let end = store_body(kind, index, table, body, store, at);
     let i = done.next;
     let record = record_of(level, tag, at, end - at);
-    memory.records.put(i, record);
-    count_value(level.element, tag, done, end, memory.store, memory.bodies)
+    put_record(tags, kinds, depths, parents, starts, sizes, i, record);
+    count_value(level.element, tag, done, end, store, bodies)
 }
 
 // An item that holds items: its record, whose span is the one of length 0 at the store's start, all of the items inside it, and the size that these give it.
@@ -128,15 +162,22 @@ fn lay_inside(
     table: &[u8],
     level: Level,
     done: Laid,
-    memory: &mut MemoryMut,
+    tags: &mut [u8],
+    kinds: &mut [u8],
+    depths: &mut [u8],
+    parents: &mut [u16],
+    starts: &mut [u16],
+    sizes: &mut [u16],
+    bodies: &mut [u16],
+    store: &mut [u8],
 ) -> Laid
-    requires inside_layable { InsideLayable (entries table.now) level done tag body.now (lent_memory memory.old) }
+    requires inside_layable { InsideLayable (entries table.now) level done tag body.now (memory tags.old kinds.old depths.old parents.old starts.old sizes.old bodies.old store.old) }
     requires indexes { Indexes (entries table.now) index.now }
-    ensures { ItemLays (entries table.now) level done tag body.now (lent_memory memory.old) (lent_memory memory.new) result }
+    ensures { ItemLays (entries table.now) level done tag body.now (memory tags.old kinds.old depths.old parents.old starts.old sizes.old bodies.old store.old) (memory tags.new kinds.new depths.new parents.new starts.new sizes.new bodies.new store.new) result }
 {
     let i = done.next;
     let record = record_of(level, tag, 0, 0);
-    memory.records.put(i, record);
+    put_record(tags, kinds, depths, parents, starts, sizes, i, record);
     let inner = Level {
         element: tag,
         number: i,
@@ -147,8 +188,11 @@ fn lay_inside(
         end: done.end,
         body: Octets(0),
     };
-    let inside = lay_items(body, index, table, inner, begun, memory);
-    count_inside(done, inside, memory.bodies)
+    let inside = lay_items(
+        body, index, table, inner, begun, tags, kinds, depths, parents, starts, sizes, bodies,
+        store,
+    );
+    count_inside(done, inside, bodies)
 }
 
 // One item.
@@ -160,16 +204,29 @@ fn lay_item(
     table: &[u8],
     level: Level,
     done: Laid,
-    memory: &mut MemoryMut,
+    tags: &mut [u8],
+    kinds: &mut [u8],
+    depths: &mut [u8],
+    parents: &mut [u16],
+    starts: &mut [u16],
+    sizes: &mut [u16],
+    bodies: &mut [u16],
+    store: &mut [u8],
 ) -> Laid
-    requires item_layable { ItemLayable (entries table.now) level done tag body.now (lent_memory memory.old) }
+    requires item_layable { ItemLayable (entries table.now) level done tag body.now (memory tags.old kinds.old depths.old parents.old starts.old sizes.old bodies.old store.old) }
     requires indexes { Indexes (entries table.now) index.now }
-    ensures { ItemLays (entries table.now) level done tag body.now (lent_memory memory.old) (lent_memory memory.new) result }
+    ensures { ItemLays (entries table.now) level done tag body.now (memory tags.old kinds.old depths.old parents.old starts.old sizes.old bodies.old store.old) (memory tags.new kinds.new depths.new parents.new starts.new sizes.new bodies.new store.new) result }
 {
     match listed_as(level.element, tag) {
         Listed::Nothing => done,
-        Listed::Inside => lay_inside(tag, body, index, table, level, done, memory),
-        Listed::Value(kind) => lay_value(kind, tag, body, index, table, level, done, memory),
+        Listed::Inside => lay_inside(
+            tag, body, index, table, level, done, tags, kinds, depths, parents, starts, sizes,
+            bodies, store,
+        ),
+        Listed::Value(kind) => lay_value(
+            kind, tag, body, index, table, level, done, tags, kinds, depths, parents, starts,
+            sizes, bodies, store,
+        ),
     }
 }
 
@@ -181,11 +238,18 @@ pub fn lay_items(
     table: &[u8],
     level: Level,
     done: Laid,
-    memory: &mut MemoryMut,
+    tags: &mut [u8],
+    kinds: &mut [u8],
+    depths: &mut [u8],
+    parents: &mut [u16],
+    starts: &mut [u16],
+    sizes: &mut [u16],
+    bodies: &mut [u16],
+    store: &mut [u8],
 ) -> Laid
-    requires items_layable { ItemsLayable (entries table.now) level done part.now (lent_memory memory.old) }
+    requires items_layable { ItemsLayable (entries table.now) level done part.now (memory tags.old kinds.old depths.old parents.old starts.old sizes.old bodies.old store.old) }
     requires indexes { Indexes (entries table.now) index.now }
-    ensures { ItemsLay (entries table.now) level done part.now (lent_memory memory.old) (lent_memory memory.new) result }
+    ensures { ItemsLay (entries table.now) level done part.now (memory tags.old kinds.old depths.old parents.old starts.old sizes.old bodies.old store.old) (memory tags.new kinds.new depths.new parents.new starts.new sizes.new bodies.new store.new) result }
 {
     let mut done = done;
     let mut at: usize = 0;
@@ -195,16 +259,29 @@ pub fn lay_items(
         };
         let tag = part[at];
         let body = &part[lies.from..lies.to];
-        done = lay_item(tag, body, index, table, level, done, memory);
+        done = lay_item(
+            tag, body, index, table, level, done, tags, kinds, depths, parents, starts, sizes,
+            bodies, store,
+        );
         at = lies.to;
     }
     done
 }
 
 // The loaded tree of an object that is accepted and fits what is lent. Answers how many records it has.
-pub fn lay(object: &[u8], memory: &mut MemoryMut) -> usize
-    requires { Layable object.now (lent_memory memory.old) }
-    ensures { LaysTree object.now (lent_memory memory.old) (lent_memory memory.new) result }
+pub fn lay(
+    object: &[u8],
+    tags: &mut [u8],
+    kinds: &mut [u8],
+    depths: &mut [u8],
+    parents: &mut [u16],
+    starts: &mut [u16],
+    sizes: &mut [u16],
+    bodies: &mut [u16],
+    store: &mut [u8],
+) -> usize
+    requires { Layable object.now (memory tags.old kinds.old depths.old parents.old starts.old sizes.old bodies.old store.old) }
+    ensures { LaysTree object.now (memory tags.old kinds.old depths.old parents.old starts.old sizes.old bodies.old store.old) (memory tags.new kinds.new depths.new parents.new starts.new sizes.new bodies.new store.new) result }
 {
     let table = table_of(object);
     let index = index_of(table);
@@ -218,6 +295,9 @@ pub fn lay(object: &[u8], memory: &mut MemoryMut) -> usize
         end: 0,
         body: Octets(0),
     };
-    let all = lay_items(object, &index, table, top, none, memory);
+    let all = lay_items(
+        object, &index, table, top, none, tags, kinds, depths, parents, starts, sizes, bodies,
+        store,
+    );
     all.next
 }

@@ -3,6 +3,7 @@ ghost use Rattle.std.specs.Prelude.{◌≡◌, ◌+◌, ◌≤◌, ◌<◌, leng
 ghost use Rattle.std.proofs.lemmas.List.Edits.{sets};
 ghost use Rattle.edits.specs.Tree.Edit.{replace};
 ghost use Rattle.edits.specs.Calls.{EditClaim};
+ghost use Rattle.octets.specs.Numbers.{Octets as AreOctets};
 ghost use Rattle.state.specs.Taking.{memory, shared_memory};
 ghost use Rattle.edits.specs.Errors.{planned};
 ghost use Rattle.edits.specs.Texts.{replacement_of, is_text_at, text_fits, Sized, Settable, TextSet};
@@ -11,7 +12,7 @@ use crate::EditError;
 use crate::moving::{Move, move_to};
 use crate::raising::{raise, top_fits};
 use crate::shifting::shift_starts;
-use format::{Records, Refusal, at_or};
+use format::{Refusal, at_or};
 use octets::Octets;
 use state::{Memory, framed_size, held};
 use tags::holds_text;
@@ -61,6 +62,7 @@ fn text_fits(
 
 // How much of the store is taken before, where there is such a text and the new one may stand there and has room. Nothing is written.
 fn plan_text(n: usize, number: usize, text: &[u8], memory: &Memory) -> Result<usize, EditError>
+    requires { AreOctets memory.now.store.now }
     ensures { planned result ≡ replacement_of n number text.now (shared_memory memory.now) }
 {
     let Some(used) = held(n, memory) else {
@@ -90,12 +92,12 @@ fn plan_text(n: usize, number: usize, text: &[u8], memory: &Memory) -> Result<us
     Ok(used)
 }
 
-// Octets put at a place where they fit.
+// Octets put at a place where they fit, so that it is known that they are put.
 fn put_text(store: &mut [u8], at: usize, text: &[u8])
     requires { at + length text.now ≤ length store.old }
     ensures { store.new ≡ sets store.old at text.now }
 {
-    octets::copy_into(store, at, text);
+    let _ = octets::copy_into(store, at, text);
 }
 
 fn put_size(list: &mut [u16], number: usize, size: u16)
@@ -106,6 +108,7 @@ fn put_size(list: &mut [u16], number: usize, size: u16)
 }
 
 // What lies behind the text in the store moves, so do the starts of later records, and the sizes of the elements around it grow or shrink.
+// Kept: the six slices, as `replace_text` is lent them, two of them only to read.
 fn set_text(
     n: usize,
     number: usize,
@@ -149,7 +152,7 @@ fn set_text(
 
 // Record `number` of `n` gets the text. The answer is how many records there are, or the refusal: 16 where memory holds no tree, 18 where there is no such text, 16 where the
 // new one breaks a rule, 15 where it has no room. On a refusal nothing is touched. Cost: what is behind the text moves once in the store, and its starts are counted anew.
-// Kept: the eight slices, for what may not change: four lists are lent only to read, as for C (`spi_replace_text`), and a `MemoryMut` would ask for all of them to write.
+// Kept: the eight slices, as C lends them (`spi_replace_text`): four of the lists only to read, and a struct of lists to write in would ask for all of them.
 pub fn replace_text(
     n: usize,
     number: usize,
@@ -165,19 +168,7 @@ pub fn replace_text(
 ) -> Result<usize, Refusal>
     ensures { EditClaim (replace number text.now) n (memory tags.now kinds.now depths.now parents.now starts.old sizes.old bodies.old store.old) (memory tags.now kinds.now depths.now parents.now starts.new sizes.new bodies.new store.new) result }
 {
-    let records = Records {
-        tags,
-        kinds,
-        depths,
-        parents,
-        starts: &*starts,
-        sizes: &*sizes,
-    };
-    let memory = Memory {
-        records,
-        bodies: &*bodies,
-        store: &*store,
-    };
+    let memory = Memory::of(tags, kinds, depths, parents, starts, sizes, bodies, store);
     let used = plan_text(n, number, text, &memory)?;
     set_text(
         n, number, used, text, tags, parents, starts, sizes, bodies, store,

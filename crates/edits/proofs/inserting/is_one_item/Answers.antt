@@ -1,4 +1,4 @@
-use Rattle.edits.proofs.InsertLeaves.{one-ways}
+use Rattle.edits.proofs.InsertLeaves.{one-between, one-ways}
 use borrow.Author.Rules.{rules}
 use Rattle.edits.proofs.inserting.is_one_item.Goals as goal
 
@@ -9,4 +9,4 @@ pub returns-in-None : goal.returns-in-None
 returns-in-None c = search (one-ways, rules)
 
 pub returns-in-Some : goal.returns-in-Some
-returns-in-Some c = search (one-ways, rules)
+returns-in-Some c = one-between _ c.if-octets-gt32768.false _ c.item_at.ensures _ _ c.in-Some.is

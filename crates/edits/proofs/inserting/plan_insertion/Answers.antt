@@ -10,16 +10,16 @@ pub returns-in_default : goal.returns-in_default
 returns-in_default c = search (plan-none, rules)
 
 pub admit-requires : goal.admit-requires
-admit-requires c = plan-asks _ _ _ c.held.ensures _ c.in-Upto.is
+admit-requires c = plan-asks _ _ _ c.held.ensures _ c.in-Some.is
 
 pub fit-requires : goal.fit-requires
-fit-requires c = plan-fit-asks _ _ _ _ _ _ c.held.ensures _ c.in-Upto.is _ c.admit.ensures _ c.in_ok-admitted.was (λ i. omega (arith, c.type_inv.store i))
+fit-requires c = plan-fit-asks _ _ _ _ _ _ c.held.ensures _ c.in-Some.is _ c.admit.ensures _ c.in_ok-admitted.was c.requires
     (λ i. omega (arith, c.type_inv.element i))
 
 pub returns-in_err-admitted : goal.returns-in_err-admitted
 returns-in_err-admitted c =
     let p = err_from_is_err_and c.from_residual.result c.from_residual.ensures.1 in
-    p.1 ∙ (ap (λ z. Err z) p.2 ∙ plan-denied _ _ _ _ _ _ c.held.ensures _ c.in-Upto.is _ c.admit.ensures _ c.in_err-admitted.was)
+    p.1 ∙ (ap (λ z. Err z) p.2 ∙ plan-denied _ _ _ _ _ _ c.held.ensures _ c.in-Some.is _ c.admit.ensures _ c.in_err-admitted.was)
 
 pub returns : goal.returns
-returns c = plan-fits _ _ _ _ _ _ c.held.ensures _ c.in-Upto.is _ c.admit.ensures _ c.in_ok-admitted.was _ c.fit.ensures
+returns c = plan-fits _ _ _ _ _ _ c.held.ensures _ c.in-Some.is _ c.admit.ensures _ c.in_ok-admitted.was _ c.fit.ensures

@@ -9,4 +9,4 @@ pub overflow_add-end : goal.overflow_add-end
 overflow_add-end c = omega (arith, gap-fits _ _ _ _ _ _ _ _ c.requires _ c.end_of-next.ensures _ c.sum_of-place.ensures _ c.sum_of.ensures)
 
 pub returns : goal.returns
-returns c = gap_is _ _ _ _ _ _ _ _ c.requires _ c.end_of-next.ensures _ c.sum_of-place.ensures _ c.sum_of.ensures _ _ _ c.octet_at.ensures _ c.added_by-was.ensures
+returns c = gap_is _ _ _ _ _ _ _ _ c.requires _ c.end_of-next.ensures _ c.sum_of-place.ensures _ c.sum_of.ensures _ _ _ c.at_or.ensures _ c.added_by-was.ensures

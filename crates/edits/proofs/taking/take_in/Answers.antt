@@ -1,18 +1,23 @@
+use mathlib.Core.Path.{ap, ◌∙◌}
 use native.Mathlib.Omega.{arith}
+use Rattle.std.specs.Prelude.{Err}
+use Prim.Native.Nat.{min}
+use lib.ListN.{length}
+use Rattle.format.specs.Calls.{places}
 use Rattle.edits.proofs.Surveyed.{counted, take-bad, take-misfit, take-can, take-laid}
 use Rattle.edits.proofs.taking.take_in.Goals as goal
 
-pub lay-records-requires : goal.lay-records-requires
-lay-records-requires c =
-    take-can _ (λ i. omega (arith, c.type_inv.object i)) _ _ _ (counted _ _ _ _ _ c.places_in-there.ensures c.survey.ensures) c.in-Ok.is
+pub lay-requires : goal.lay-requires
+lay-requires c =
+    take-can _ (λ i. omega (arith, c.type_inv.object i)) _ _ _ (counted _ _ _ _ _ (c.places_in-there.ensures ∙ ap (λ m. min (places m.lists) (length m.bodies)) c.of-memory.ensures) c.survey.ensures) c.in-Ok.is
 
-pub returns-in-Bad : goal.returns-in-Bad
-returns-in-Bad c =
-    take-bad _ (λ i. omega (arith, c.type_inv.object i)) _ _ _ (counted _ _ _ _ _ c.places_in-there.ensures c.survey.ensures) _ c.in-Bad.is
+pub returns-in-Err-Bad : goal.returns-in-Err-Bad
+returns-in-Err-Bad c =
+    take-bad _ (λ i. omega (arith, c.type_inv.object i)) _ _ _ (counted _ _ _ _ _ (c.places_in-there.ensures ∙ ap (λ m. min (places m.lists) (length m.bodies)) c.of-memory.ensures) c.survey.ensures) _ (c.in-Err-Bad.is ∙ ap Err c.in-Err-Bad.field-0-is)
 
-pub returns-in-Misfit : goal.returns-in-Misfit
-returns-in-Misfit c =
-    take-misfit _ (λ i. omega (arith, c.type_inv.object i)) _ _ _ (counted _ _ _ _ _ c.places_in-there.ensures c.survey.ensures) _ c.in-Misfit.is
+pub returns-in-Err-Misfit : goal.returns-in-Err-Misfit
+returns-in-Err-Misfit c =
+    take-misfit _ (λ i. omega (arith, c.type_inv.object i)) _ _ _ (counted _ _ _ _ _ (c.places_in-there.ensures ∙ ap (λ m. min (places m.lists) (length m.bodies)) c.of-memory.ensures) c.survey.ensures) _ (c.in-Err-Misfit.is ∙ ap Err c.in-Err-Misfit.field-0-is)
 
 pub shape_of-tags-in-Ok : goal.shape_of-tags-in-Ok
 shape_of-tags-in-Ok c =
@@ -42,10 +47,6 @@ pub shape_of-bodies-in-Ok : goal.shape_of-bodies-in-Ok
 shape_of-bodies-in-Ok c =
     c.bodies-1.given
 
-pub shape_of-store : goal.shape_of-store
-shape_of-store c =
-    c.store-1.given
-
 pub returns-in-Ok : goal.returns-in-Ok
 returns-in-Ok c =
-    take-laid _ (λ i. omega (arith, c.type_inv.object i)) _ _ _ (counted _ _ _ _ _ c.places_in-there.ensures c.survey.ensures) c.in-Ok.is _ _ c.lay-records.ensures
+    take-laid _ (λ i. omega (arith, c.type_inv.object i)) _ _ _ (counted _ _ _ _ _ (c.places_in-there.ensures ∙ ap (λ m. min (places m.lists) (length m.bodies)) c.of-memory.ensures) c.survey.ensures) c.in-Ok.is _ _ c.lay.ensures
