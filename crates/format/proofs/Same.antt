@@ -1,4 +1,4 @@
--- The tests of specs/(Ok true) say equality: of octets, of values of one kind, of attributes as sets, of well-formed meanings; and so what `same` and `is_normal` answer
+-- The tests of specs/Same say equality: of octets, of values of one kind, of attributes as sets, of well-formed meanings; and so what `same` and `is_normal` answer
 -- of accepted objects.
 use Rattle.std.specs.Prelude.{Ok}
 use mathlib.Core.Path.{◌≡◌, refl, sym, ap, ap₂, ◌∙◌, subst, fun_ext}

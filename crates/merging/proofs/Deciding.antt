@@ -120,6 +120,10 @@ module _ (by : Services) (basic advanced : List ℕ) (size : ℕ) (m m' : Memory
 
 -- ---- merge
 
+told_size : Result Merged MergeRefusal → ℕ
+told_size (Ok m) = m.size.0
+told_size (Err r) = 0
+
 empty-refused : judge [] ≡ refused (refusal 1 0)
 unfolding judge rule unless
 empty-refused = refl
@@ -147,16 +151,13 @@ module _ (by : Services) (basic advanced : List ℕ) (places : ℕ) (store : Oct
     pub long : size.0 ≡ length (encode w)
 
   module _ (records : ℕ) (size : Octets) (q : answer ≡ Ok (records_size records size)) where
-    size_is : (w : Meaning) → Ok (records_size records size) ≡ Ok (records_size (records_in w) (size_of (encode w))) → size ≡ size_of (encode w)
-    size_is w e = cc
-
     given : Given size
-    unfolding answer_of
+    unfolding answer_of told_size
     given = go (outcome by offer (judge basic) (judge advanced)) refl
       where
         go : (o : Outcome) → outcome by offer (judge basic) (judge advanced) ≡ o → Given size
         go (refuses x) e = absurd (never-merged (judge basic) (judge advanced) records size (e ∙ ap refuses (sym (sym q ∙ d.answers ∙ ap answer_of e))))
-        go (gives w) e = record { w = w; is = e; long = ap (λ s. s.0) (size_is w (sym q ∙ d.answers ∙ ap answer_of e)) }
+        go (gives w) e = record { w = w; is = e; long = ap told_size (sym q ∙ d.answers ∙ ap answer_of e) }
 
     fits-room : length (encode given.w) ≤ min (length room) 32_768
     unfolding roomy

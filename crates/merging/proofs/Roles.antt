@@ -1,5 +1,5 @@
 -- What becomes of child elements: the ways through the tests, and what they say of accepted parts.
-use Rattle.std.specs.Prelude.{Some, None, Option as Optional}
+use Rattle.std.specs.Prelude.{is_some, Some, None, Option as Optional}
 use mathlib.Core.Path.{◌≡◌, refl, sym, ap, ap₂, ◌∙◌, subst, fun_ext}
 use mathlib.Core.Bool.{Bool, true, false, cond, not, ◌&&◌, ◌||◌, false≢true}
 use mathlib.Core.Option.{Option, none, some}

@@ -10,11 +10,9 @@ use native.Mathlib.Nat.{le-min, min-le_left}
 use lib.ListN.{length, take, drop, get_or, take-append-drop}
 use lib.Seq.{sets}
 use borrow.Author.Tests.{le-leb}
-use Rattle.octets.specs.Numbers.{Octets}
 use Rattle.octets.specs.declared.counts.Octets.{Octets as OctetCount}
 use Rattle.octets.specs.Counts.{as_octets, size_of}
 use Rattle.octets.proofs.Tests.{never}
-use Rattle.text.proofs.Expansion.{sound_empty}
 use Rattle.format.specs.Answers.{refusal}
 use Rattle.format.specs.Tree.{Items, count}
 use Rattle.format.specs.Tree.Items.{end, item}
@@ -29,7 +27,6 @@ use Rattle.format.proofs.Force.{top-known}
 use Rattle.format.proofs.Means.{items-opens}
 use Rattle.format.proofs.Order.{ruled-order, three-end}
 use Rattle.format.proofs.Rebuilt.{whole-count}
-use Rattle.format.proofs.Written.{ruled-told, located-bytes}
 use Rattle.format.specs.declared.Refusal.{Refusal}
 use Rattle.survey.specs.Normal.{framed_size, normal_size, later_octets}
 use Rattle.survey.proofs.NormalSizes.{size-whole}
@@ -39,7 +36,7 @@ use Rattle.state.proofs.BodySizes.{body_size, open-counts, size-item}
 use Rattle.state.proofs.HeldTree.{Held, held}
 use Rattle.writer.specs.declared.emit.Reached.{Reached}
 use Rattle.writer.specs.Steps.{items_from, Holding, Ordered, Fitting, AsLaid, SizesStand, Emits}
-use Rattle.writer.proofs.Copied.{loaded-laid}
+use Rattle.writer.proofs.Copied.{held-laid}
 use Rattle.writer.proofs.Whole.{Gives, not-roomy, too_many, tree-holding, tree-items, tree-ordered, tree-fits, tree-written}
 use Rattle.writer.proofs.StandingSizes.{sizes-stand}
 
@@ -118,11 +115,9 @@ module _ (n : ℕ) (m : Memory) (r : Optional ℕ) (e : r ≡ held_as (tree_held
       pub state-ordered : Ordered 0 (items_from m.lists n m.store 1 0).0
       state-ordered = tree-ordered n m.lists m.store t is.given
 
-      pub state-laid : Octets m.store → AsLaid 0 (items_from m.lists n m.store 1 0).0
+      pub state-laid : AsLaid 0 (items_from m.lists n m.store 1 0).0
       unfolding at_top
-      state-laid os =
-          let told = ruled-told t at_top (located-bytes m.store os t is.whole.located) is.whole.rules in
-          subst (AsLaid 0) (is.packs ∙ sym (tree-items n m.lists m.store t is.given)) (loaded-laid [] sound_empty t at_top told 0)
+      state-laid = subst (AsLaid 0) (sym (tree-items n m.lists m.store t is.given)) (held-laid t at_top 0 is.whole.rules is.packs)
 
       pub state-sizes : SizesStand n m.lists m.store m.bodies
       state-sizes = sizes-stand n m.lists m.store t is.given m.bodies is.fewer is.sizes

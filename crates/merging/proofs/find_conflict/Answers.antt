@@ -5,8 +5,8 @@ use Rattle.merging.proofs.find_conflict.Goals as goal
 pub returns-in-Err : goal.returns-in-Err
 returns-in-Err c = search (conflict-ways, rules)
 
-pub returns-in-NotRead-judge : goal.returns-in-NotRead-judge
-returns-in-NotRead-judge c = search (conflict-ways, rules)
+pub returns-in-Err-judge : goal.returns-in-Err-judge
+returns-in-Err-judge c = search (conflict-ways, rules)
 
-pub returns-in-Records-judge : goal.returns-in-Records-judge
-returns-in-Records-judge c = search (conflict-ways, rules)
+pub returns-in-Ok-judge : goal.returns-in-Ok-judge
+returns-in-Ok-judge c = search (conflict-ways, rules)

@@ -18,7 +18,7 @@ returns-then-framed_size-room c =
 pub emit_items-reached-requires : goal.emit_items-reached-requires
 emit_items-reached-requires c =
     let m = shared_memory c.args.memory.now in
-    record { holding = (state-holding _ m _ c.held.ensures _ c.in-Some.is c.args.room.now (omega (arith, c.if-framed_size-room.false, c.framed_size.ensures)), state-ordered _ m _ c.held.ensures _ c.in-Some.is c.args.room.now (omega (arith, c.if-framed_size-room.false, c.framed_size.ensures)), omega arith, omega arith); as_laid = (λ q. state-laid _ m _ c.held.ensures _ c.in-Some.is c.args.room.now (omega (arith, c.if-framed_size-room.false, c.framed_size.ensures)) (λ i. omega (arith, c.type_inv.memory.store i))); sizes_stand = state-sizes _ m _ c.held.ensures _ c.in-Some.is c.args.room.now (omega (arith, c.if-framed_size-room.false, c.framed_size.ensures)); fitting = state-fits _ m _ c.held.ensures _ c.in-Some.is c.args.room.now (omega (arith, c.if-framed_size-room.false, c.framed_size.ensures)) }
+    record { holding = (state-holding _ m _ c.held.ensures _ c.in-Some.is c.args.room.now (omega (arith, c.if-framed_size-room.false, c.framed_size.ensures)), state-ordered _ m _ c.held.ensures _ c.in-Some.is c.args.room.now (omega (arith, c.if-framed_size-room.false, c.framed_size.ensures)), omega arith, omega arith); as_laid = (λ q. state-laid _ m _ c.held.ensures _ c.in-Some.is c.args.room.now (omega (arith, c.if-framed_size-room.false, c.framed_size.ensures))); sizes_stand = state-sizes _ m _ c.held.ensures _ c.in-Some.is c.args.room.now (omega (arith, c.if-framed_size-room.false, c.framed_size.ensures)); fitting = state-fits _ m _ c.held.ensures _ c.in-Some.is c.args.room.now (omega (arith, c.if-framed_size-room.false, c.framed_size.ensures)) }
 
 pub returns-in_default : goal.returns-in_default
 returns-in_default c =

@@ -3,8 +3,8 @@ use Rattle.merging.specs.Searches.{Tests}
 use Rattle.merging.proofs.Searching.{Sought}
 use Rattle.merging.proofs.children.find_child.Given as goal
 
-abbrev pub invariant-loop-at : goal.invariant-loop-at
-invariant-loop-at g l = (f : ℕ → List ℕ → Bool) → Tests g.F.Fn l.passes f → Sought f l.part l.start l.i
+abbrev pub invariant-loop-child : goal.invariant-loop-child
+invariant-loop-child g l = (f : ℕ → List ℕ → Bool) → Tests g.F.Fn l.passes f → Sought f l.part l.start l.i
 
-abbrev pub decreases-loop-at : goal.decreases-loop-at
-decreases-loop-at g l = length l.part - l.i
+abbrev pub decreases-loop-child : goal.decreases-loop-child
+decreases-loop-child g l = length l.part - l.i

@@ -1,4 +1,3 @@
-use borrow.Author.Rules.{rules}
 use Rattle.std.proofs.lemmas.Result.{err_from_is_err_and}
 use Rattle.merging.proofs.Deciding.{decided-refused, decided-free}
 use Rattle.merging.proofs.merged.decide.Goals as goal
@@ -9,4 +8,6 @@ returns-in_err-find_conflict c =
     rw (p.1, p.2) (decided-refused _ _ _ _ _ _ _ c.find_conflict.ensures _ c.in_err-find_conflict.was)
 
 pub returns : goal.returns
-returns c = search (decided-free _ _ _ _ _ _ _ c.find_conflict.ensures c.in_ok-find_conflict.was, rules)
+returns c =
+    decided-free _ _ _ _ _ _ _ c.find_conflict.ensures c.in_ok-find_conflict.was _ _ c.put_object-needs.ensures c.requires.places_lt_most c.requires.store_lt_most _
+    c.fit.ensures

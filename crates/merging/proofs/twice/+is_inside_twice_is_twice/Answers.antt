@@ -13,38 +13,29 @@ is_inside_twice-returns-then-not-holds_items t c = search (inside-ways, not-true
 pub is_inside_twice-returns : goal.is_inside_twice-returns
 is_inside_twice-returns t c = search (inside-ways, not-true, not-false, rules)
 
-pub is_twice-returns-in_default : goal.is_twice-returns-in_default
-is_twice-returns-in_default t c = search (once-ways, found-ways, rules)
+pub is_twice-returns : goal.is_twice-returns
+is_twice-returns t c = search (once-ways, found-ways, rules)
 
-pub is_twice-bounds-part-at : goal.is_twice-bounds-part-at
-is_twice-bounds-part-at t c = search (once-ways, found-ways, rules)
+pub is_twice-bounds-part-child : goal.is_twice-bounds-part-child
+is_twice-bounds-part-child t c = search (once-ways, found-ways, rules)
 
-pub is_twice-slice_bounds-is_again-count : goal.is_twice-slice_bounds-is_again-count
-is_twice-slice_bounds-is_again-count t c = search (once-ways, found-ways, rules)
+pub is_twice-slice_bounds-body-count : goal.is_twice-slice_bounds-body-count
+is_twice-slice_bounds-body-count t c = search (once-ways, found-ways, rules)
 
-pub is_twice-slice_bounds-is_again-start : goal.is_twice-slice_bounds-is_again-start
-is_twice-slice_bounds-is_again-start t c = search (once-ways, found-ways, rules)
+pub is_twice-slice_bounds-body-start : goal.is_twice-slice_bounds-body-start
+is_twice-slice_bounds-body-start t c = search (once-ways, found-ways, rules)
 
-pub is_twice-slice_bounds-is_again-end : goal.is_twice-slice_bounds-is_again-end
-is_twice-slice_bounds-is_again-end t c = search (once-ways, found-ways, rules)
+pub is_twice-slice_bounds-body-end : goal.is_twice-slice_bounds-body-end
+is_twice-slice_bounds-body-end t c = search (once-ways, found-ways, rules)
 
 pub is_twice-returns-then-is_again : goal.is_twice-returns-then-is_again
 is_twice-returns-then-is_again t c = search (once-ways, found-ways, rules)
 
-pub is_twice-slice_bounds-is_inside_twice-count : goal.is_twice-slice_bounds-is_inside_twice-count
-is_twice-slice_bounds-is_inside_twice-count t c = search (once-ways, found-ways, rules)
-
-pub is_twice-slice_bounds-is_inside_twice-start : goal.is_twice-slice_bounds-is_inside_twice-start
-is_twice-slice_bounds-is_inside_twice-start t c = search (once-ways, found-ways, rules)
-
-pub is_twice-slice_bounds-is_inside_twice-end : goal.is_twice-slice_bounds-is_inside_twice-end
-is_twice-slice_bounds-is_inside_twice-end t c = search (once-ways, found-ways, rules)
-
 pub is_twice-returns-then-is_inside_twice : goal.is_twice-returns-then-is_inside_twice
 is_twice-returns-then-is_inside_twice t c = search (once-ways, found-ways, rules)
 
-pub is_twice-loop-at-smaller : goal.is_twice-loop-at-smaller
-is_twice-loop-at-smaller t c = search (once-ways, found-ways, rules)
+pub is_twice-loop-child-smaller : goal.is_twice-loop-child-smaller
+is_twice-loop-child-smaller t c = search (once-ways, found-ways, rules)
 
-pub is_twice-loop-at-preserved : goal.is_twice-loop-at-preserved
-is_twice-loop-at-preserved t c = search (once-ways, found-ways, rules)
+pub is_twice-loop-child-preserved : goal.is_twice-loop-child-preserved
+is_twice-loop-child-preserved t c = search (once-ways, found-ways, rules)

@@ -11,8 +11,8 @@ decreases-is_inside_twice l = l.levels + l.levels
 abbrev pub decreases-is_twice : goal.decreases-is_twice
 decreases-is_twice l = l.levels + l.levels + 1
 
-abbrev pub invariant-is_twice-loop-at : goal.invariant-is_twice-loop-at
-invariant-is_twice-loop-at l = Once l.by (entries_by l.index l.table) (twice_inside l.by (entries_by l.index l.table) l.levels) l.part l.i
+abbrev pub invariant-is_twice-loop-child : goal.invariant-is_twice-loop-child
+invariant-is_twice-loop-child l = Once l.by (entries_by l.index l.table) (twice_inside l.by (entries_by l.index l.table) l.levels) l.part l.i
 
-abbrev pub decreases-is_twice-loop-at : goal.decreases-is_twice-loop-at
-decreases-is_twice-loop-at l = length l.part - l.i
+abbrev pub decreases-is_twice-loop-child : goal.decreases-is_twice-loop-child
+decreases-is_twice-loop-child l = length l.part - l.i

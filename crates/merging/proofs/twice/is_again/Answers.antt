@@ -7,4 +7,4 @@ pub returns-then-not-merges : goal.returns-then-not-merges
 returns-then-not-merges c = search (again-ways, not-true, not-false, rules)
 
 pub returns : goal.returns
-returns c = search (again-ways, not-true, not-false, rules)
+returns c = search (again-ways, rules)

@@ -8,14 +8,14 @@ put_child-returns-then-is_put t c = search (child-ways, rules)
 pub put_child-returns : goal.put_child-returns
 put_child-returns t c = search (child-ways, rules)
 
-pub put_children-loop-at-init : goal.put_children-loop-at-init
-put_children-loop-at-init t c = search (children-ways, rules)
+pub put_children-loop-child-init : goal.put_children-loop-child-init
+put_children-loop-child-init t c = search (children-ways, rules)
 
-pub put_children-returns-in_default : goal.put_children-returns-in_default
-put_children-returns-in_default t c = search (children-ways, rules)
+pub put_children-returns : goal.put_children-returns
+put_children-returns t c = search (children-ways, rules)
 
-pub put_children-bounds-a-at : goal.put_children-bounds-a-at
-put_children-bounds-a-at t c = search (children-ways, rules)
+pub put_children-bounds-a-child : goal.put_children-bounds-a-child
+put_children-bounds-a-child t c = search (children-ways, rules)
 
 pub put_children-slice_bounds-put_child-count : goal.put_children-slice_bounds-put_child-count
 put_children-slice_bounds-put_child-count t c = search (children-ways, rules)
@@ -26,11 +26,11 @@ put_children-slice_bounds-put_child-start t c = search (children-ways, rules)
 pub put_children-slice_bounds-put_child-end : goal.put_children-slice_bounds-put_child-end
 put_children-slice_bounds-put_child-end t c = search (children-ways, rules)
 
-pub put_children-loop-at-smaller : goal.put_children-loop-at-smaller
-put_children-loop-at-smaller t c = search (children-ways, rules)
+pub put_children-loop-child-smaller : goal.put_children-loop-child-smaller
+put_children-loop-child-smaller t c = search (children-ways, rules)
 
-pub put_children-loop-at-preserved : goal.put_children-loop-at-preserved
-put_children-loop-at-preserved t c = search (children-ways, rules)
+pub put_children-loop-child-preserved : goal.put_children-loop-child-preserved
+put_children-loop-child-preserved t c = search (children-ways, rules)
 
 pub put_chosen-returns-in-Nothing : goal.put_chosen-returns-in-Nothing
 put_chosen-returns-in-Nothing t c = search (chosen-ways, rules)

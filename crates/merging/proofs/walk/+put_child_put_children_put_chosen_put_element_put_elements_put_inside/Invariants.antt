@@ -21,9 +21,9 @@ decreases-put_elements l = 6 * l.left + 4
 abbrev pub decreases-put_inside : goal.decreases-put_inside
 decreases-put_inside l = 6 * l.left + 5
 
-abbrev pub invariant-put_children-loop-at : goal.invariant-put_children-loop-at
-invariant-put_children-loop-at l =
+abbrev pub invariant-put_children-loop-child : goal.invariant-put_children-loop-child
+invariant-put_children-loop-child l =
     Goes l.emit l.role l.by l.left l.index_a l.table_a l.a l.index_b l.table_b l.b l.initial.done l.initial.out l.out l.done l.i
 
-abbrev pub decreases-put_children-loop-at : goal.decreases-put_children-loop-at
-decreases-put_children-loop-at l = length l.a - l.i
+abbrev pub decreases-put_children-loop-child : goal.decreases-put_children-loop-child
+decreases-put_children-loop-child l = length l.a - l.i
