@@ -1,4 +1,5 @@
 -- The answers of the calls fit their bits, and are read back from the number that packs them.
+use Rattle.std.specs.Prelude.{Ok, Err}
 use mathlib.Core.Path.{◌≡◌, refl, subst}
 use mathlib.Core.Bool.{Bool, true, false, cond, ◌&&◌}
 use mathlib.Core.Option.{Option, none, some}
@@ -15,10 +16,7 @@ use Rattle.octets.proofs.Tests.{and_left, and_right, never}
 use Rattle.format.specs.declared.Refusal.{Refusal}
 use Rattle.format.specs.declared.Outcome.{Outcome}
 use Rattle.format.specs.declared.SameOutcome.{SameOutcome}
-use Rattle.format.specs.declared.ReadAnswer.TheVariants.{Records, NotRead}
-use Rattle.format.specs.declared.WriteAnswer.TheVariants.{Octets, NotWritten}
-use Rattle.format.specs.declared.SameAnswer.TheVariants.{Same, Different}
-use Rattle.format.specs.Answers.{refusal, read_outcome, edit_outcome, write_outcome, same_outcome}
+use Rattle.format.specs.Answers.{refusal, read_outcome, edit_outcome, write_outcome, same_outcome, check_outcome}
 use Rattle.format.specs.Tree.{Items, count}
 use Rattle.format.specs.Headers.{headers_of}
 use Rattle.format.specs.Judge.{Judged, rule, first, unless, outermost, read, judge}
@@ -48,9 +46,8 @@ use Rattle.edits.proofs.Only.Ends.{nowhere, unruled, ruled}
 use Rattle.survey.specs.First.{place_at, sought_as, sought_in}
 use Rattle.survey.proofs.First.{place_inside}
 use Rattle.pocket.specs.declared.DataType.{DataType}
-use Rattle.pocket.specs.Gate.{offends, gate_answer, gate_outcome, gate_of}
-use Rattle.fold.specs.declared.CheckAnswer.TheVariants.{Passes, Fails}
-use Rattle.fold.specs.Calls.{passes, check_answer, check_outcome, pack_answer}
+use Rattle.pocket.specs.Gate.{offends, gate_answer, gate_of}
+use Rattle.fold.specs.Calls.{passes, check_answer, pack_answer}
 use Rattle.merge.specs.declared.Services.{Services}
 use Rattle.merge.specs.declared.MergeOutcome.{MergeOutcome}
 use Rattle.merge.specs.Merged.{merged}
@@ -182,7 +179,7 @@ late-refusal : (n : ℕ) → 1 ≤ n → n ≤ 24 → Kept (refusal n 0)
 late-refusal n l m = record { least = l; most = omega arith; place = omega arith; field = omega arith }
 
 -- ---- read
-counts-told : (o : List ℕ) (t : Items) → judge o ≡ accepted t → Told (read_outcome (Records (counts_of (headers_of o) t)))
+counts-told : (o : List ℕ) (t : Items) → judge o ≡ accepted t → Told (read_outcome (Ok (counts_of (headers_of o) t)))
 counts-told o t h = counts (count t) (headers_of o) (omega (arith, accepted-few o t h)) (omega (arith, (few-headers o t h).half, (accepted-size o t h).1))
 
 read-cases : (n : ℕ) (o : List ℕ) (j : Judged) → judge o ≡ j → Told (read_outcome (read_answer n (headers_of o) j))
@@ -190,7 +187,7 @@ unfolding read_answer
 read-cases n o (refused r) h = refuses r (judged-kept o r h)
 read-cases n o (accepted t) h = go (leb (count t) n)
   where
-    go : (b : Bool) → Told (read_outcome (cond b (Records (counts_of (headers_of o) t)) (NotRead (refusal 14 0))))
+    go : (b : Bool) → Told (read_outcome (cond b (Ok (counts_of (headers_of o) t)) (Err (refusal 14 0))))
     go true = counts-told o t h
     go false = refuses (refusal 14 0) (late-refusal 14 (omega arith) (omega arith))
 
@@ -216,7 +213,7 @@ unfolding write_answer
 write-told room none = refuses (refusal 16 0) (late-refusal 16 (omega arith) (omega arith))
 write-told room (some t) = go (roomy room (encode (means [] t))) refl
   where
-    go : (b : Bool) → roomy room (encode (means [] t)) ≡ b → Told (write_outcome (cond b (Octets (size_of (encode (means [] t)))) (NotWritten (refusal 15 0))))
+    go : (b : Bool) → roomy room (encode (means [] t)) ≡ b → Told (write_outcome (cond b (Ok (size_of (encode (means [] t)))) (Err (refusal 15 0))))
     go true e = counts (length (encode (means [] t))) 0 (omega (arith, roomy-small room (encode (means [] t)) e)) (omega arith)
     go false e = refuses (refusal 15 0) (late-refusal 15 (omega arith) (omega arith))
 
@@ -225,7 +222,7 @@ misfit-told : (lent : Lent) (t : Items) → Told (write_outcome (misfit lent t))
 unfolding misfit
 misfit-told lent t = go (leb (count t) lent.records)
   where
-    go : (b : Bool) → Told (write_outcome (cond b (NotWritten (refusal 15 0)) (NotWritten (refusal 14 0))))
+    go : (b : Bool) → Told (write_outcome (cond b (Err (refusal 15 0)) (Err (refusal 14 0))))
     go true = refuses (refusal 15 0) (late-refusal 15 (omega arith) (omega arith))
     go false = refuses (refusal 14 0) (late-refusal 14 (omega arith) (omega arith))
 
@@ -241,7 +238,7 @@ unfolding normal_answer
 normal-cases lent o (refused r) h = refuses r (judged-kept o r h)
 normal-cases lent o (accepted t) h = go (fits_lent lent t) refl
   where
-    go : (b : Bool) → fits_lent lent t ≡ b → Told (write_outcome (cond b (Octets (size_of (normal_of t))) (misfit lent t)))
+    go : (b : Bool) → fits_lent lent t ≡ b → Told (write_outcome (cond b (Ok (size_of (normal_of t))) (misfit lent t)))
     go true e = counts (length (normal_of t)) 0 (omega (arith, fits-small lent t e)) (omega arith)
     go false e = misfit-told lent t
 
@@ -284,7 +281,7 @@ edit-told e n m os b = go (tree_held n m) refl
     go (some t) h = edit-cases e n m os b t h (edit-ends m e t)
 
 -- ---- same
-decided : (b : Bool) → ToldSame (same_outcome (cond b Same Different))
+decided : (b : Bool) → ToldSame (same_outcome (cond b (Ok true) (Ok false)))
 decided true = decides true
 decided false = decides false
 
@@ -298,11 +295,11 @@ pub same-told : (o p : List ℕ) → ToldSame (same_outcome (same_answer (judge 
 same-told o p = same_cases o p (judge o) (judge p) refl refl
 
 -- ---- gate
-pub gate-told : (d : DataType) (o : List ℕ) → Told (gate_outcome (gate_of d o))
+pub gate-told : (d : DataType) (o : List ℕ) → Told (check_outcome (gate_of d o))
 unfolding gate_of gate_answer sought_in sought_as
 gate-told d o = go (judge o) refl (place_at (offends d) o) refl
   where
-    go : (j : Judged) → judge o ≡ j → (p : Option ℕ) → place_at (offends d) o ≡ p → Told (gate_outcome (gate_answer (sought_as j p)))
+    go : (j : Judged) → judge o ≡ j → (p : Option ℕ) → place_at (offends d) o ≡ p → Told (check_outcome (gate_answer (sought_as j p)))
     go (refused r) h p e = refuses r (judged-kept o r h)
     go (accepted t) h none e = counts 0 0 (omega arith) (omega arith)
     go (accepted t) h (some place) e =
@@ -314,7 +311,7 @@ unfolding export_of export_answer unless_plain
 export-cases o room l (refused r) h = refuses r (judged-kept o r h)
 export-cases o room l (accepted t) h = plain (plain_at o) refl
   where
-    fits : (x : List ℕ) (b : Bool) → leb (length x) room.0 ≡ b → Told (write_outcome (cond b (Octets (size_of x)) (NotWritten (refusal 15 0))))
+    fits : (x : List ℕ) (b : Bool) → leb (length x) room.0 ≡ b → Told (write_outcome (cond b (Ok (size_of x)) (Err (refusal 15 0))))
     fits x true e = counts (length x) 0 (omega (arith, leb-true (length x) room.0 e)) (omega arith)
     fits x false e = refuses (refusal 15 0) (late-refusal 15 (omega arith) (omega arith))
 
@@ -330,7 +327,7 @@ pub check-told : (o p : List ℕ) → Told (check_outcome (check_answer o p))
 unfolding check_answer
 check-told o p = go (passes o p)
   where
-    go : (b : Bool) → Told (check_outcome (cond b Passes (Fails (refusal 22 0))))
+    go : (b : Bool) → Told (check_outcome (cond b (Ok tt) (Err (refusal 22 0))))
     go true = counts 0 0 (omega arith) (omega arith)
     go false = refuses (refusal 22 0) (late-refusal 22 (omega arith) (omega arith))
 
@@ -339,7 +336,7 @@ unfolding pack_answer
 pack-told room none = refuses (refusal 22 0) (late-refusal 22 (omega arith) (omega arith))
 pack-told room (some p) = go (roomy room p) refl
   where
-    go : (b : Bool) → roomy room p ≡ b → Told (write_outcome (cond b (Octets (size_of p)) (NotWritten (refusal 15 0))))
+    go : (b : Bool) → roomy room p ≡ b → Told (write_outcome (cond b (Ok (size_of p)) (Err (refusal 15 0))))
     go true e = counts (length p) 0 (omega (arith, roomy-small room p e)) (omega arith)
     go false e = refuses (refusal 15 0) (late-refusal 15 (omega arith) (omega arith))
 

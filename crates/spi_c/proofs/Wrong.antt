@@ -1,5 +1,6 @@
 -- What answers are not. A number that meets a call's claim is read back as the call's outcome, so that each wrong outcome that is refuted of a call below (reader,
 -- writer and compare, proofs/Wrong and its kin) is refuted of the call for C; and wrong ways to pack an outcome, refuted by computation.
+use Rattle.std.specs.Prelude.{true, false, Some, None, Ok, Err}
 use mathlib.Core.Path.{◌≡◌, refl, ap, ◌∙◌}
 use mathlib.Core.List.{List}
 use Prim.Native.Nat.{ℕ, ◌+◌, ◌<◌}
@@ -7,29 +8,28 @@ use native.Mathlib.Omega.{arith}
 use lib.ListN.{get_or}
 use Rattle.octets.specs.Counts.{as_octets, size_of}
 use Rattle.octets.specs.Numbers.{Octets}
-use Rattle.format.specs.declared.ReadAnswer.TheVariants.{Records, NotRead}
-use Rattle.format.specs.declared.SameAnswer.TheVariants.{Same, Different, FirstRefused, SecondRefused}
-use Rattle.format.specs.Answers.{refusal, wrong_value, read_outcome, edit_outcome, write_outcome, same_outcome}
+use Rattle.format.specs.Answers.{refusal, wrong_value, read_outcome, edit_outcome, write_outcome, same_outcome, check_outcome}
 use Rattle.format.specs.Headers.{headers_of}
 use Rattle.format.specs.declared.Refusal.{Refusal}
 use Rattle.format.specs.Judge.{judge}
 use Rattle.format.specs.Judge.Judged.{refused}
-use Rattle.survey.specs.declared.measure.Measured.TheVariants.{Over, Sizes}
 use Rattle.survey.specs.Survey.{needed_of}
+use Rattle.survey.specs.Sizes.{store_octets}
 use Rattle.format.specs.Calls.{Lists, places, judge_answer, read_answer, span_of, write_answer, normal_answer, edit_answer}
 use Rattle.format.specs.Same.{same_answer}
 use Rattle.format.specs.State.{Memory, tree_in, tree_held}
+use Rattle.format.specs.declared.SameRefusal.TheVariants.{First, Second}
 use Rattle.state.specs.Taking.{lent_by, taken_in}
 use Rattle.edits.specs.Tree.{Edit}
 use Rattle.edits.specs.Calls.{edited_in}
 use Rattle.edits.specs.Runs.{BringsOctets}
 use Rattle.pocket.specs.Table.{data_type}
-use Rattle.pocket.specs.Gate.{gate_outcome, gate_of}
+use Rattle.pocket.specs.Gate.{gate_of}
 use Rattle.fold.specs.Packed.{packed as folded_object}
-use Rattle.fold.specs.Calls.{check_answer, check_outcome, pack_answer}
+use Rattle.fold.specs.Calls.{check_answer, pack_answer}
 use Rattle.merge.specs.declared.Services.{Services}
-use Rattle.merge.specs.declared.MergeAnswer.TheVariants.{Merged, BasicRefused, AdvancedRefused, NotMerged}
-use Rattle.merge.specs.Calls.{outcome, answer_of, merge_outcome}
+use Rattle.merge.specs.Calls.{outcome, answer_of, merge_outcome, records_size}
+use Rattle.merge.specs.declared.MergeRefusal.TheVariants.{Basic, Advanced, Neither}
 use Rattle.xml.specs.Export.{export_of, export_answer}
 use Rattle.spi_c.specs.Packed.{packed, packed_outcome, outcome_in, packed_same, same_in, packed_merge, merge_in, packed_span, packed_sizes, span_in}
 use Rattle.spi_c.specs.Claims.{ReadsC, ScansC, SpansC, WritesC, NormalisesC, TakesInC, EditsC, WritesStateC, GatesC, SameC, room_for, ExportsC, ChecksPackedC, PacksC, packed_needs, SizesC, MergesC}
@@ -69,7 +69,7 @@ same_back a b n c = ap same_in c.answers ∙ told-same-back (same-told a b)
 pub scan-back : (object : List ℕ) (a : ℕ) → ScansC object a → outcome_in a ≡ read_outcome (judge_answer (headers_of object) (judge object))
 scan-back object a c = ap outcome_in c.answers ∙ told_back (scan-told object)
 
-pub gate-back : (object : List ℕ) (number a : ℕ) → GatesC object number a → outcome_in a ≡ gate_outcome (gate_of (data_type number) object)
+pub gate-back : (object : List ℕ) (number a : ℕ) → GatesC object number a → outcome_in a ≡ check_outcome (gate_of (data_type number) object)
 gate-back object number a c = ap outcome_in c.answers ∙ told_back (gate-told (data_type number) object)
 
 pub export-back : (object before after : List ℕ) (a : ℕ) → ExportsC object before after a → outcome_in a ≡ write_outcome (export_answer (room_for before) (export_of object (judge object)))
@@ -90,68 +90,69 @@ pub needs-refused : (object : List ℕ) (r : Refusal) → judge object ≡ refus
 unfolding packed_needs needed_of
 needs-refused object r h c = let e : ◌≡◌ {A = ℕ} 2 0 = c.answers ∙ ap (λ j. packed_needs (needed_of j)) h in omega arith
 
-pub sizes-exchanged : packed_sizes (Sizes (as_octets 5) (as_octets 6)) ≡ packed_sizes (Sizes (as_octets 6) (as_octets 5)) → ⊥
+pub sizes-exchanged : packed_sizes (Some (store_octets (as_octets 5) (as_octets 6))) ≡ packed_sizes (Some (store_octets (as_octets 6) (as_octets 5))) → ⊥
 unfolding packed_sizes packed_span
 sizes-exchanged e = omega arith
 
-pub too-long-untold : packed_sizes Over ≡ 0 → ⊥
+pub too-long-untold : packed_sizes None ≡ 0 → ⊥
 unfolding packed_sizes
 too-long-untold e = omega arith
 
 -- ---- a refusal told by its place alone, as if it were a count; a count told as a refusal
-pub refusal-unnumbered : packed_outcome (read_outcome (NotRead (refusal 13 412))) ≡ 412 → ⊥
+pub refusal-unnumbered : packed_outcome (read_outcome (Err (refusal 13 412))) ≡ 412 → ⊥
 unfolding packed_outcome packed
 refusal-unnumbered e = omega arith
 
-pub count-refused : packed_outcome (read_outcome (Records (record { records = 7; items = 9 }))) ≡ packed 7 0 0 0 → ⊥
+pub count-refused : packed_outcome (read_outcome (Ok (record { records = 7; items = 9 }))) ≡ packed 7 0 0 0 → ⊥
 unfolding packed_outcome packed
 count-refused e = omega arith
 
 -- ---- the items left out; told beside the records in one count
-pub items-left-out : packed_outcome (read_outcome (Records (record { records = 7; items = 9 }))) ≡ 7 → ⊥
+pub items-left-out : packed_outcome (read_outcome (Ok (record { records = 7; items = 9 }))) ≡ 7 → ⊥
 unfolding packed_outcome packed
 items-left-out e = omega arith
 
-pub items-added : packed_outcome (read_outcome (Records (record { records = 7; items = 9 }))) ≡ packed_outcome (read_outcome (Records (record { records = 16; items = 0 }))) → ⊥
+pub items-added :
+    packed_outcome (read_outcome (Ok (record { records = 7; items = 9 }))) ≡ packed_outcome (read_outcome (Ok (record { records = 16; items = 0 }))) → ⊥
 unfolding packed_outcome packed
 items-added e = omega arith
 
 -- ---- the first object named for the second; a refusal told as two meanings; different told as same
-pub first-named : packed_same (same_outcome (SecondRefused (refusal 2 0))) ≡ packed_same (same_outcome (FirstRefused (refusal 2 0))) → ⊥
+pub first-named : packed_same (same_outcome (Err (Second (refusal 2 0)))) ≡ packed_same (same_outcome (Err (First (refusal 2 0)))) → ⊥
 unfolding packed_same packed
 first-named e = omega arith
 
-pub refusal-different : packed_same (same_outcome (FirstRefused (refusal 2 0))) ≡ packed_same (same_outcome Different) → ⊥
+pub refusal-different : packed_same (same_outcome (Err (First (refusal 2 0)))) ≡ packed_same (same_outcome (Ok false)) → ⊥
 unfolding packed_same packed
 refusal-different e = omega arith
 
-pub same-different : packed_same (same_outcome Same) ≡ packed_same (same_outcome Different) → ⊥
+pub same-different : packed_same (same_outcome (Ok true)) ≡ packed_same (same_outcome (Ok false)) → ⊥
 unfolding packed_same packed
 same-different e = omega arith
 
 -- ---- of merging: Basic named for Advanced, or for both together; the records of memory left out, or told as octets of the room
-pub basic-named : packed_merge (merge_outcome (AdvancedRefused (refusal 2 0))) ≡ packed_merge (merge_outcome (BasicRefused (refusal 2 0))) → ⊥
+pub basic-named : packed_merge (merge_outcome (Err (Advanced (refusal 2 0)))) ≡ packed_merge (merge_outcome (Err (Basic (refusal 2 0)))) → ⊥
 unfolding packed_merge packed
 basic-named e = omega arith
 
-pub both-named : packed_merge (merge_outcome (NotMerged (refusal 20 0))) ≡ packed_merge (merge_outcome (BasicRefused (refusal 20 0))) → ⊥
+pub both-named : packed_merge (merge_outcome (Err (Neither (refusal 20 0)))) ≡ packed_merge (merge_outcome (Err (Basic (refusal 20 0)))) → ⊥
 unfolding packed_merge packed
 both-named e = omega arith
 
-pub records-left-out : packed_merge (merge_outcome (Merged 3 (as_octets 8))) ≡ 8 → ⊥
+pub records-left-out : packed_merge (merge_outcome (Ok (records_size 3 (as_octets 8)))) ≡ 8 → ⊥
 unfolding packed_merge packed
 records-left-out e = omega arith
 
-pub records-as-octets : packed_merge (merge_outcome (Merged 3 (as_octets 8))) ≡ packed_merge (merge_outcome (Merged 8 (as_octets 3))) → ⊥
+pub records-as-octets : packed_merge (merge_outcome (Ok (records_size 3 (as_octets 8)))) ≡ packed_merge (merge_outcome (Ok (records_size 8 (as_octets 3)))) → ⊥
 unfolding packed_merge packed
 records-as-octets e = omega arith
 
 -- ---- the field of a time left out; the field told as part of the place
-pub field-left-out : packed_outcome (read_outcome (NotRead (wrong_value 412 3))) ≡ packed_outcome (read_outcome (NotRead (refusal 9 412))) → ⊥
+pub field-left-out : packed_outcome (read_outcome (Err (wrong_value 412 3))) ≡ packed_outcome (read_outcome (Err (refusal 9 412))) → ⊥
 unfolding packed_outcome packed
 field-left-out e = omega arith
 
-pub field-in-place : packed_same (same_outcome (FirstRefused (wrong_value 412 3))) ≡ packed_same (same_outcome (FirstRefused (refusal 9 (412 + 3)))) → ⊥
+pub field-in-place : packed_same (same_outcome (Err (First (wrong_value 412 3)))) ≡ packed_same (same_outcome (Err (First (refusal 9 (412 + 3))))) → ⊥
 unfolding packed_same packed
 field-in-place e = omega arith
 

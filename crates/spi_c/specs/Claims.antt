@@ -1,28 +1,28 @@
 -- What each call for C answers, and what each lent list then holds: the claims of format's calls, with the answer as one number.
-use Rattle.std.specs.Prelude.{◌≡◌, Bool, true, false, List, ℕ, min, length}
+use Rattle.std.specs.Prelude.{◌≡◌, Bool, true, false, List, ℕ, min, length, Result, Ok, Err}
 use Rattle.std.proofs.lemmas.List.Edits.{sets}
 use Rattle.octets.specs.declared.counts.Octets.{Octets as OctetCount}
 use Rattle.octets.specs.Counts.{as_octets, size_of}
-use Rattle.format.specs.Answers.{read_outcome, edit_outcome, write_outcome, same_outcome}
+use Rattle.format.specs.Answers.{read_outcome, edit_outcome, write_outcome, same_outcome, check_outcome}
 use Rattle.format.specs.Judge.{judge, Judged}
 use Rattle.format.specs.Headers.{headers_of}
 use Rattle.format.specs.Calls.{Lists, places, judge_answer, read_answer, ReadClaim, span_of, write_answer, normal_answer, edit_answer}
 use Rattle.format.specs.Same.{same_answer}
 use Rattle.format.specs.State.{Memory, tree_in, tree_held}
+use Rattle.format.specs.declared.Refusal.{Refusal}
 use Rattle.state.specs.Taking.{lent_by, NormaliseClaim, taken_in, Leaves, WriteClaim, WriteStateClaim}
 use Rattle.edits.specs.Tree.{Edit}
 use Rattle.edits.specs.Calls.{edited_in}
 use Rattle.pocket.specs.Table.{data_type}
-use Rattle.pocket.specs.Gate.{gate_of, gate_outcome}
+use Rattle.pocket.specs.Gate.{gate_of}
 use Rattle.fold.specs.Packed.{packed as folded_object}
-use Rattle.fold.specs.Calls.{check_answer, check_outcome, pack_answer, PackClaim}
+use Rattle.fold.specs.Calls.{check_answer, pack_answer, PackClaim}
 use Rattle.merge.specs.declared.Services.{Services}
 use Rattle.merge.specs.declared.Services.TheVariants.{ByTag, ByBearers}
 use Rattle.merge.specs.Calls.{outcome, answer_of, MergeClaim, merge_outcome}
 use Rattle.xml.specs.Export.{export_of, export_answer, export_octets}
-use Rattle.survey.specs.declared.Needed.{Needed}
-use Rattle.survey.specs.declared.Needed.TheVariants.{Refused, Takes}
 use Rattle.survey.specs.Survey.{needed_of}
+use Rattle.survey.specs.declared.Needs.{Needs}
 use Rattle.spi_c.specs.Packed.{packed_outcome, packed_same, packed_merge, packed_span, packed_sizes}
 
 pub record ReadsC (object : List ℕ) (before after : Lists) (a : ℕ) : Type 0 where
@@ -34,9 +34,9 @@ pub record ScansC (object : List ℕ) (a : ℕ) : Type 0 where
   pub answers : a ≡ packed_outcome (read_outcome (judge_answer (headers_of object) (judge object)))
 
 -- what an object needs; nothing where it is refused (change request 2026-09)
-unfoldable pub packed_needs : Needed → ℕ
-packed_needs (Refused r) = 0
-packed_needs (Takes n sizes) = packed_sizes sizes
+unfoldable pub packed_needs : Result Needs Refusal → ℕ
+packed_needs (Err r) = 0
+packed_needs (Ok needs) = packed_sizes needs.sizes
 
 pub record SizesC (object : List ℕ) (a : ℕ) : Type 0 where
   pub answers : a ≡ packed_needs (needed_of (judge object))
@@ -72,7 +72,7 @@ pub record WritesStateC (n : ℕ) (m : Memory) (before after : List ℕ) (a : �
   pub leaves : WriteStateClaim n m before after (write_answer (size_of before) (tree_held n m))
 
 pub record GatesC (object : List ℕ) (number : ℕ) (a : ℕ) : Type 0 where
-  pub answers : a ≡ packed_outcome (gate_outcome (gate_of (data_type number) object))
+  pub answers : a ≡ packed_outcome (check_outcome (gate_of (data_type number) object))
 
 -- of the room for XML, which has no limit of its own, as many octets count as an answer can tell: 2^40 less one
 abbrev pub room_for : List ℕ → OctetCount

@@ -1,12 +1,11 @@
 -- An answer as one number of 64 bits, and how it is read back.
-use Rattle.std.specs.Prelude.{cond, ℕ, ◌+◌, ◌*◌, ◌/◌, ◌%◌, ◌<◌, eqb}
+use Rattle.std.specs.Prelude.{cond, ℕ, ◌+◌, ◌*◌, ◌/◌, ◌%◌, ◌<◌, eqb, Option, Some, None}
 use Rattle.octets.specs.Counts.{as_octets}
 use Rattle.format.specs.declared.Outcome.{Outcome}
 use Rattle.format.specs.declared.SameOutcome.{SameOutcome}
 use Rattle.format.specs.declared.Span.{Span}
-use Rattle.survey.specs.declared.measure.Measured.{Measured}
-use Rattle.survey.specs.declared.measure.Measured.TheVariants.{Over, Sizes}
 use Rattle.merge.specs.declared.MergeOutcome.{MergeOutcome}
+use Rattle.survey.specs.declared.measure.Sizes.{Sizes}
 
 -- bits 63 to 56: the number of a refusal, 0 for none; 55 to 48: the object that is refused, told by `same` and `merge` alone; 47 to 40: the field of a time
 -- that is wrong, told by 9 alone (change request 2026-04); 39 to 0: a place or a count. Where nothing is refused, bits 55 to 40 have a second count: of reading
@@ -65,9 +64,9 @@ unfoldable pub packed_span : Span → ℕ
 packed_span s = s.start * 0x1_0000_0000 + s.size
 
 -- the octets of a store and of the normal form likewise; one more than an object may have where the normal form has more (change request 2026-09)
-unfoldable pub packed_sizes : Measured → ℕ
-packed_sizes Over = 32_769
-packed_sizes (Sizes store octets) = packed_span (record { start = store.0; size = octets.0 })
+unfoldable pub packed_sizes : Option Sizes → ℕ
+packed_sizes None = 32_769
+packed_sizes (Some sizes) = packed_span (record { start = sizes.store.0; size = sizes.octets.0 })
 
 unfoldable pub span_in : ℕ → Span
 span_in a = record { start = a / 0x1_0000_0000; size = a % 0x1_0000_0000 }
@@ -90,6 +89,6 @@ pub record SmallSpan (s : Span) : Type 0 where
   pub start : s.start < 0x1_0000_0000
   pub size : s.size < 0x1_0000_0000
 
-abbrev pub SmallSizes : Measured → Type 0
-SmallSizes Over = Unit {0}
-SmallSizes (Sizes store octets) = SmallSpan (record { start = store.0; size = octets.0 })
+abbrev pub SmallSizes : Option Sizes → Type 0
+SmallSizes None = Unit {0}
+SmallSizes (Some sizes) = SmallSpan (record { start = sizes.store.0; size = sizes.octets.0 })

@@ -1,4 +1,5 @@
 // The calls for programs in C: each answers by one number of 64 bits, so that no slot for an answer is lent. spi_c_c exports them; include/spi.h declares them.
+// Kept: each list a parameter of its own, numbers and flags for enums, and answers packed in a number: the C interface (include/spi.h).
 #![tactic(auto)]
 
 ghost use Rattle.std.specs.Prelude.{◌≡◌, ◌<◌, min};
@@ -9,10 +10,11 @@ ghost use Rattle.state.specs.Taking.{memory};
 ghost use Rattle.edits.specs.Tree.Edit.{replace, remove, insert};
 ghost use Rattle.spi_c.specs.Claims.{ReadsC, ScansC, SpansC, WritesC, NormalisesC, TakesInC, EditsC, WritesStateC, GatesC, SameC, ExportsC, SizesC, ChecksPackedC, PacksC, services_of, MergesC};
 
-use format::{Outcome, SameOutcome, Span};
+use format::{Outcome, Records, RecordsMut, SameOutcome, Span};
 use merge::{MergeOutcome, Services};
 use octets::Octets;
-use survey::{Measured, Needed};
+use state::Memory;
+use survey::Sizes;
 
 fn packed(number: u8, object: u8, field: u8, value: usize) -> u64
     requires { value < 0x100_0000_0000 }
@@ -77,15 +79,15 @@ fn packed_span(s: Span) -> u64
 
 // Octets of a store and of the normal form: the first in the upper half of the number, the second in the lower. 32,769 where the normal form has more than an
 // object may have: no memory suffices then.
-fn packed_sizes(sizes: Measured) -> u64
+fn packed_sizes(sizes: Option<Sizes>) -> u64
     requires { SmallSizes sizes }
     ensures { result ≡ packed_sizes sizes }
 {
     match sizes {
-        Measured::Over => 32_769,
-        Measured::Sizes { store, octets } => packed_span(Span {
-            start: store.0,
-            size: octets.0,
+        None => 32_769,
+        Some(sizes) => packed_span(Span {
+            start: sizes.store.0,
+            size: sizes.octets.0,
         }),
     }
 }
@@ -102,8 +104,16 @@ pub fn spi_read(
 ) -> u64
     ensures { ReadsC object.now (six tags.old kinds.old depths.old parents.old starts.old sizes.old) (six tags.new kinds.new depths.new parents.new starts.new sizes.new) result }
 {
-    let answer = reader::read(object, tags, kinds, depths, parents, starts, sizes);
-    packed_outcome(answer.outcome())
+    let mut records = RecordsMut {
+        tags,
+        kinds,
+        depths,
+        parents,
+        starts,
+        sizes,
+    };
+    let answer = reader::read(object, &mut records);
+    packed_outcome(Outcome::from(answer))
 }
 
 // How many records and headers an object has, with no list: the answer of `spi_read` lent lists long enough.
@@ -111,7 +121,7 @@ pub fn spi_scan(object: &[u8]) -> u64
     ensures { ScansC object.now result }
 {
     let answer = scan::scan(object);
-    packed_outcome(answer.outcome())
+    packed_outcome(Outcome::from(answer))
 }
 
 // What is to be lent to normalise an object or to take it in, beside the places that `spi_scan` counts. 0 where the object is refused.
@@ -119,8 +129,8 @@ pub fn spi_sizes(object: &[u8]) -> u64
     ensures { SizesC object.now result }
 {
     match survey::needs_of(object) {
-        Needed::Refused(_) => 0,
-        Needed::Takes { records: _, sizes } => packed_sizes(sizes),
+        Err(_) => 0,
+        Ok(needs) => packed_sizes(needs.sizes),
     }
 }
 
@@ -146,10 +156,16 @@ pub fn spi_write(
 ) -> u64
     ensures { WritesC count (memory tags.now kinds.now depths.now parents.now starts.now sizes.now bodies.old octets.now) bodies.new room.old room.new result }
 {
-    let answer = writer::write(
-        count, tags, kinds, depths, parents, starts, sizes, bodies, octets, room,
-    );
-    packed_outcome(answer.outcome())
+    let records = Records {
+        tags,
+        kinds,
+        depths,
+        parents,
+        starts,
+        sizes,
+    };
+    let answer = writer::write(count, &records, bodies, octets, room);
+    packed_outcome(Outcome::from(answer))
 }
 
 // The normal form of an object, into `room`; the seven lists and the store then hold its loaded tree.
@@ -170,7 +186,7 @@ pub fn spi_normalise(
     let answer = writer::normalise(
         object, tags, kinds, depths, parents, starts, sizes, bodies, store, room,
     );
-    packed_outcome(answer.outcome())
+    packed_outcome(Outcome::from(answer))
 }
 
 // An object into lent memory, to be edited there: its records, the sizes of their bodies in normal form, and its texts and values.
@@ -199,7 +215,7 @@ pub fn spi_take_in(
         store,
         Octets(32_768),
     );
-    packed_outcome(answer.outcome())
+    packed_outcome(Outcome::from(answer))
 }
 
 // Another text for a record of the tree in lent memory.
@@ -221,7 +237,7 @@ pub fn spi_replace_text(
     let answer = edits::replace_text(
         count, number, text, tags, kinds, depths, parents, starts, sizes, bodies, store,
     );
-    packed_outcome(answer.outcome())
+    packed_outcome(Outcome::from(answer))
 }
 
 // A record of the tree in lent memory goes, with all below it.
@@ -242,7 +258,7 @@ pub fn spi_remove(
     let answer = edits::remove(
         count, number, tags, kinds, depths, parents, starts, sizes, bodies, store,
     );
-    packed_outcome(answer.outcome())
+    packed_outcome(Outcome::from(answer))
 }
 
 // An element comes into the tree in lent memory, with all below it, as the child element of a number of a record.
@@ -265,7 +281,7 @@ pub fn spi_insert(
     let answer = edits::insert(
         count, parent, place, element, tags, kinds, depths, parents, starts, sizes, bodies, store,
     );
-    packed_outcome(answer.outcome())
+    packed_outcome(Outcome::from(answer))
 }
 
 // The normal form of the tree in lent memory, into `room`.
@@ -283,10 +299,9 @@ pub fn spi_write_state(
 ) -> u64
     ensures { WritesStateC count (memory tags.now kinds.now depths.now parents.now starts.now sizes.now bodies.now store.now) room.old room.new result }
 {
-    let answer = writer::write_state(
-        count, tags, kinds, depths, parents, starts, sizes, bodies, store, room,
-    );
-    packed_outcome(answer.outcome())
+    let memory = Memory::of(tags, kinds, depths, parents, starts, sizes, bodies, store);
+    let answer = writer::write_state(count, &memory, room);
+    packed_outcome(Outcome::from(answer))
 }
 
 // Whether two objects mean the same; nothing is lent.
@@ -294,7 +309,7 @@ pub fn spi_same(a: &[u8], b: &[u8]) -> u64
     ensures { SameC a.now b.now result }
 {
     let answer = compare::same(a, b);
-    packed_same(answer.outcome())
+    packed_same(SameOutcome::from(answer))
 }
 
 // Whether an object may be sent to the small receiver as one of a data type: 0 SI, 1 PI, 2 GI; as any other nothing may.
@@ -302,7 +317,7 @@ pub fn spi_gate(object: &[u8], number: u8) -> u64
     ensures { GatesC object.now number result }
 {
     let answer = pocket::gate(object, pocket::data_type(number));
-    packed_outcome(answer.outcome())
+    packed_outcome(Outcome::from(answer))
 }
 
 // As many octets as an answer can tell.
@@ -321,7 +336,7 @@ pub fn spi_export(object: &[u8], room: &mut [u8]) -> u64
 {
     let most = at_most(Octets(room.len())).0;
     let answer = xml::export(object, &mut room[0..most]);
-    packed_outcome(answer.outcome())
+    packed_outcome(Outcome::from(answer))
 }
 
 // Whether an object may be passed on in place of a normal form: it has that very one and isn't longer; nothing is lent.
@@ -329,7 +344,7 @@ pub fn spi_check_packed(normal: &[u8], packed: &[u8]) -> u64
     ensures { ChecksPackedC normal.now packed.now result }
 {
     let answer = fold::check(normal, packed);
-    packed_outcome(answer.outcome())
+    packed_outcome(Outcome::from(answer))
 }
 
 // A normal form with its common words folded, into `room`.
@@ -337,7 +352,7 @@ pub fn spi_pack(normal: &[u8], room: &mut [u8]) -> u64
     ensures { PacksC normal.now room.old room.new result }
 {
     let answer = packer::pack(normal, room);
-    packed_outcome(answer.outcome())
+    packed_outcome(Outcome::from(answer))
 }
 
 // By what the services of two ensembles are told apart: the ids of their bearers, or their tag alone.
@@ -381,7 +396,7 @@ pub fn spi_merge(
         store,
         room,
     );
-    packed_merge(answer.outcome())
+    packed_merge(MergeOutcome::from(answer))
 }
 
 // Whether octets are text, in which token octets may stand or not.

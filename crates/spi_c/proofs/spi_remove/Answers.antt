@@ -4,7 +4,7 @@ use Rattle.spi_c.proofs.Calls.{leaves-small, leaves-says}
 use Rattle.spi_c.proofs.spi_remove.Goals as goal
 
 pub packed_outcome-requires : goal.packed_outcome-requires
-packed_outcome-requires c = leaves-small _ _ _ _ c.remove-answer.ensures (edit-told _ _ _ (λ i. search rules) tt) _ c.outcome.ensures
+packed_outcome-requires c = leaves-small _ _ _ _ c.remove-answer.ensures (edit-told _ _ _ (λ i. search rules) tt) _ c.from.ensures
 
 pub returns : goal.returns
-returns c = leaves-says _ _ _ _ c.remove-answer.ensures (edit-told _ _ _ (λ i. search rules) tt) _ c.outcome.ensures _ c.packed_outcome.ensures
+returns c = leaves-says _ _ _ _ c.remove-answer.ensures (edit-told _ _ _ (λ i. search rules) tt) _ c.from.ensures _ c.packed_outcome.ensures
