@@ -1,4 +1,5 @@
 -- Request 2026-06: from the claims of taking in and editing, and from the theorems about runs of them.
+use Rattle.std.specs.Prelude.{Result, Ok, Err}
 use mathlib.Core.Path.{◌≡◌, refl, sym, ap, ◌∙◌, subst}
 use mathlib.Core.Bool.{Bool, true, false, cond, false≢true}
 use mathlib.Core.Option.{Option, none, some, some-injective, none-ne-some}
@@ -15,10 +16,6 @@ use Rattle.octets.specs.Counts.{as_octets, size_of}
 use Rattle.octets.specs.Numbers.{among}
 use Rattle.octets.proofs.Tests.{never}
 use Rattle.format.specs.declared.Refusal.{Refusal}
-use Rattle.format.specs.declared.EditAnswer.{EditAnswer}
-use Rattle.format.specs.declared.EditAnswer.TheVariants.{HasRecords, NotChanged}
-use Rattle.format.specs.declared.WriteAnswer.{WriteAnswer}
-use Rattle.format.specs.declared.WriteAnswer.TheVariants.{Octets as Written, NotWritten}
 use Rattle.format.specs.Answers.{refusal, edit_outcome}
 use Rattle.format.specs.Tree.{Items, count}
 use Rattle.format.specs.Judge.{Judged, judge}
@@ -48,7 +45,7 @@ use Rattle.demands.proofs.Laws.{of-object}
 use Rattle.demands.proofs.One.{written-ends, none-set}
 
 -- ---- an outcome of a call that leaves a tree in memory
-leaves-ends : (Reason : ℕ → ℕ → ℕ → Type 0) (j : Judged) (m m' : Memory) (answer : EditAnswer) → Leaves j m m' answer
+leaves-ends : (Reason : ℕ → ℕ → ℕ → Type 0) (j : Judged) (m m' : Memory) (answer : Result ℕ Refusal) → Leaves j m m' answer
     → ((r : Refusal) → j ≡ refused r → Reason r.number r.place r.field) → Ends Reason (m' ≡ m) (edit_outcome answer)
 unfolding edit_answer left
 leaves-ends Reason (refused r) m m' answer c why =
@@ -56,28 +53,28 @@ leaves-ends Reason (refused r) m m' answer c why =
 leaves-ends Reason (accepted t) m m' answer c why = subst (λ x. Ends Reason (m' ≡ m) (edit_outcome x)) (sym c.answers) (answered (count t) 0)
 
 -- an answer is a refusal exactly where the outcome is, and else tells how many records there are
-module _ (j : Judged) (m m' : Memory) (answer : EditAnswer) (c : Leaves j m m' answer) where
-  refused-so : (r : Refusal) → answer ≡ NotChanged r → j ≡ refused r
+module _ (j : Judged) (m m' : Memory) (answer : Result ℕ Refusal) (c : Leaves j m m' answer) where
+  refused-so : (r : Refusal) → answer ≡ Err r → j ≡ refused r
   unfolding edit_answer
   refused-so r q = go j (sym c.answers ∙ q)
     where
-      go : (i : Judged) → edit_answer i ≡ NotChanged r → i ≡ refused r
+      go : (i : Judged) → edit_answer i ≡ Err r → i ≡ refused r
       go (refused s) e = let p : s ≡ r = cc in ap refused p
       go (accepted t) e = never (cc)
 
-  so-refused : (r : Refusal) → j ≡ refused r → answer ≡ NotChanged r
+  so-refused : (r : Refusal) → j ≡ refused r → answer ≡ Err r
   unfolding edit_answer
   so-refused r h = c.answers ∙ ap edit_answer h
 
-  counted-so : (k : ℕ) → answer ≡ HasRecords k → (t : Items) × (j ≡ accepted t) × (k ≡ count t)
+  counted-so : (k : ℕ) → answer ≡ Ok k → (t : Items) × (j ≡ accepted t) × (k ≡ count t)
   unfolding edit_answer
   counted-so k q = go j (sym c.answers ∙ q)
     where
-      go : (i : Judged) → edit_answer i ≡ HasRecords k → (t : Items) × (i ≡ accepted t) × (k ≡ count t)
+      go : (i : Judged) → edit_answer i ≡ Ok k → (t : Items) × (i ≡ accepted t) × (k ≡ count t)
       go (refused s) e = never (cc)
       go (accepted t) e = (t, refl, sym (ap (λ a. (edit_outcome a).count) e))
 
-  so-counted : (t : Items) → j ≡ accepted t → answer ≡ HasRecords (count t)
+  so-counted : (t : Items) → j ≡ accepted t → answer ≡ Ok (count t)
   unfolding edit_answer
   so-counted t h = c.answers ∙ ap edit_answer h
 
@@ -140,7 +137,7 @@ pub take-in-ends : TakeInEnds
 take-in-ends object most m m' answer c =
     leaves-ends (Refuses object (14 ∷ 15 ∷ [])) (taken_in most m (judge object)) m m' answer c (taken-why object most m (judge object) refl)
 
-module _ (object : List ℕ) (most : OctetCount) (m : Memory) (answer : EditAnswer) where
+module _ (object : List ℕ) (most : OctetCount) (m : Memory) (answer : Result ℕ Refusal) where
   take-in-order : (i : Judged) → judge object ≡ i → (m' : Memory) → Leaves (taken_in most m i) m m' answer → TakeInOrder i most m answer
   unfolding taken_in
   take-in-order (refused s) h m' c =
@@ -156,7 +153,8 @@ module _ (object : List ℕ) (most : OctetCount) (m : Memory) (answer : EditAnsw
   take-in-order (accepted t) h m' c =
       let u = loaded_of t in
       let ends = taken-ends most m t in
-      let over : (r : Refusal) → answer ≡ NotChanged r → Overflows most m u r = λ r q. refused-overflows most m u ends r (refused-so (taken_in most m (accepted t)) m m' answer c r q) in
+      let over : (r : Refusal) → answer ≡ Err r
+      → Overflows most m u r = λ r q. refused-overflows most m u ends r (refused-so (taken_in most m (accepted t)) m m' answer c r q) in
       record {
         of_object = λ r l. ((λ q. absurd (omega (arith, l, (overflow-between most m u r (over r q)).0))), (λ q. never (cc)));
         lacking = λ r l. (
@@ -173,7 +171,7 @@ module _ (object : List ℕ) (most : OctetCount) (m : Memory) (answer : EditAnsw
           (λ q.
               let p : q.0 ≡ t = (let z = q.1 in cc) in
               let b = so-counted (taken_in most m (accepted t)) m m' answer c u (holds-accepted most m u ends (subst (λ x. Holds most m (loaded_of x)) p q.3)) in
-              b ∙ ap HasRecords (ap (λ x. count (loaded_of x)) (sym p) ∙ sym q.2)),
+              b ∙ ap Ok (ap (λ x. count (loaded_of x)) (sym p) ∙ sym q.2)),
         );
       }
 
@@ -219,14 +217,14 @@ remove-ends i n m m' answer os c = leaves-ends (OfCall (16 ∷ 18 ∷ [])) (edit
     go none h r q = so (refusal 16 0) r (cc) (of_call 16 refl)
     go (some t) h r q = one t h (only.edit-ends m (remove i) t) refl r q
 
-module _ (answer : EditAnswer) where
-  apart : (i k : ℕ) → (i ≡ k → ⊥) → answer ≡ NotChanged (refusal i 0) → answer ≡ NotChanged (refusal k 0) → ⊥
+module _ (answer : Result ℕ Refusal) where
+  apart : (i k : ℕ) → (i ≡ k → ⊥) → answer ≡ Err (refusal i 0) → answer ≡ Err (refusal k 0) → ⊥
   apart i k f x y = let z : refusal i 0 ≡ refusal k 0 = cc in f (ap (λ w. w.number) z)
 
-  apart_low : (i : ℕ) (r : Refusal) → answer ≡ NotChanged (refusal i 0) → answer ≡ NotChanged r → r.number ≤ 15 → 15 < i → ⊥
+  apart_low : (i : ℕ) (r : Refusal) → answer ≡ Err (refusal i 0) → answer ≡ Err r → r.number ≤ 15 → 15 < i → ⊥
   apart_low i r x y l k = let z : refusal i 0 ≡ r = cc in omega (arith, ap (λ w. w.number) z)
 
-module _ (e : Edit) (t : Items) (m m' : Memory) (answer : EditAnswer) (c : Leaves (edited_in m e (some t)) m m' answer) where
+module _ (e : Edit) (t : Items) (m m' : Memory) (answer : Result ℕ Refusal) (c : Leaves (edited_in m e (some t)) m m' answer) where
   abbrev whole : Judged
   whole = edited_in m e (some t)
 
@@ -255,7 +253,7 @@ module _ (e : Edit) (t : Items) (m m' : Memory) (answer : EditAnswer) (c : Leave
 
   edit-ruled : (u : Items) → is_there e t ≡ true → edited e t ≡ some u → Fitting most m u whole → EditOrder e t m answer
   edit-ruled u p o k =
-      let over : (r : Refusal) → answer ≡ NotChanged r → Overflows most m u r = λ r q. refused-overflows most m u k r (refused-so whole m m' answer c r q) in
+      let over : (r : Refusal) → answer ≡ Err r → Overflows most m u r = λ r q. refused-overflows most m u k r (refused-so whole m m' answer c r q) in
       let same : (w : Items) → edited e t ≡ some w → w ≡ u = λ w q. some-injective w u (sym q ∙ o) in
       record {
         eighteen = (
@@ -277,7 +275,7 @@ module _ (e : Edit) (t : Items) (m m' : Memory) (answer : EditAnswer) (c : Leave
               (u, p, o, a.2 ∙ ap count (sym b.0), b.1)),
           (λ q.
               let b = so-counted whole m m' answer c u (holds-accepted most m u k (subst (Holds most m) (same q.0 q.2) q.4)) in
-              b ∙ ap HasRecords (ap count (sym (same q.0 q.2)) ∙ sym q.3)),
+              b ∙ ap Ok (ap count (sym (same q.0 q.2)) ∙ sym q.3)),
         );
       }
 
@@ -297,14 +295,14 @@ edit-in-order = record {
 pub write-state-ends : WriteStateEnds
 write-state-ends n m before after answer c = written-ends _ (size_of before) (tree_held n m) answer c.answers (λ p q. none-set before _ after c.leaves p)
 
-module _ (n : ℕ) (m : Memory) (room : OctetCount) (answer : WriteAnswer) where
+module _ (n : ℕ) (m : Memory) (room : OctetCount) (answer : Result OctetCount Refusal) where
   abbrev size : Items → ℕ
   size t = length (encode (means [] t))
 
   same-tree : (t u : Items) → tree_held n m ≡ some t → tree_held n m ≡ some u → t ≡ u
   same-tree t u h g = some-injective t u (sym h ∙ g)
 
-  no-tree : tree_held n m ≡ none → answer ≡ NotWritten (refusal 16 0) → WriteStateOrder n m room answer
+  no-tree : tree_held n m ≡ none → answer ≡ Err (refusal 16 0) → WriteStateOrder n m room answer
   no-tree h e = record {
     sixteen = ((λ q. h), (λ q. e));
     fifteen = (
@@ -314,7 +312,7 @@ module _ (n : ℕ) (m : Memory) (room : OctetCount) (answer : WriteAnswer) where
     octets = λ k. ((λ q. never (cc)), (λ q. absurd (none-ne-some q.0 (sym h ∙ q.1))));
   }
 
-  no_room : (t : Items) → tree_held n m ≡ some t → room.0 < size t → answer ≡ NotWritten (refusal 15 0) → WriteStateOrder n m room answer
+  no_room : (t : Items) → tree_held n m ≡ some t → room.0 < size t → answer ≡ Err (refusal 15 0) → WriteStateOrder n m room answer
   no_room t h l e = record {
     sixteen = (
       (λ q. let p : refusal 15 0 ≡ refusal 16 0 = cc in absurd (omega (arith, ap (λ x. x.number) p))),
@@ -324,13 +322,13 @@ module _ (n : ℕ) (m : Memory) (room : OctetCount) (answer : WriteAnswer) where
     octets = λ k. ((λ q. never (cc)), (λ q. absurd (omega (arith, l, ap (λ x. x.0) q.2, q.3, ap size (same-tree t q.0 h q.1)))));
   }
 
-  written : (t : Items) → tree_held n m ≡ some t → size t ≤ room.0 → answer ≡ Written (as_octets (size t)) → WriteStateOrder n m room answer
+  written : (t : Items) → tree_held n m ≡ some t → size t ≤ room.0 → answer ≡ Ok (as_octets (size t)) → WriteStateOrder n m room answer
   written t h l e = record {
     sixteen = ((λ q. never (cc)), (λ q. absurd (none-ne-some t (sym q ∙ h))));
     fifteen = ((λ q. never (cc)), (λ q. absurd (omega (arith, l, q.2, ap size (same-tree t q.0 h q.1)))));
     octets = λ k. (
       (λ q. let p : k.0 ≡ size t = cc in (t, h, ap as_octets p, omega arith)),
-      (λ q. e ∙ ap Written (ap (λ u. as_octets (size u)) (same-tree t q.0 h q.1) ∙ sym q.2)),
+      (λ q. e ∙ ap Ok (ap (λ u. as_octets (size u)) (same-tree t q.0 h q.1) ∙ sym q.2)),
     );
   }
 
@@ -339,7 +337,7 @@ module _ (n : ℕ) (m : Memory) (room : OctetCount) (answer : WriteAnswer) where
   write-state-order e = go (tree_held n m) refl e
     where
       one : (t : Items) → tree_held n m ≡ some t → (b : Bool) → leb (size t) (min room.0 32_768) ≡ b
-          → answer ≡ cond b (Written (as_octets (size t))) (NotWritten (refusal 15 0)) → WriteStateOrder n m room answer
+          → answer ≡ cond b (Ok (as_octets (size t))) (Err (refusal 15 0)) → WriteStateOrder n m room answer
       one t h true q e = written t h (omega (arith, leb-true (size t) (min room.0 32_768) q)) e
       one t h false q e = no_room t h (omega (arith, leb-false (size t) (min room.0 32_768) q, (held n m t h).small)) e
 

@@ -1,4 +1,5 @@
 -- The frauds, each shut out.
+use Rattle.std.specs.Prelude.{Err}
 use mathlib.Core.Path.{◌≡◌, sym, ap, ◌∙◌}
 use mathlib.Core.Bool.{true}
 use mathlib.Core.List.{List, []}
@@ -7,7 +8,6 @@ use native.Mathlib.Omega.{arith}
 use lib.ListN.{get_or}
 use Rattle.octets.specs.Counts.{as_octets}
 use Rattle.octets.proofs.Tests.{never}
-use Rattle.format.specs.declared.ReadAnswer.TheVariants.{NotRead}
 use Rattle.format.specs.Answers.{refusal}
 use Rattle.format.specs.Meaning.{means}
 use Rattle.format.specs.Calls.{row}
@@ -32,7 +32,7 @@ unfolding cases
 p10-is = ap (λ (l : List Outcome). get_or l 9 (refuses (refusal 0 0))) bench
 
 pub refuses-all : RefusesAll
-refuses-all before after r l c = let e = (bench-read p9 before after (NotRead r) c).counting 1 p9 p9-is l in never (cc)
+refuses-all before after r l c = let e = (bench-read p9 before after (Err r) c).counting 1 p9 p9-is l in never (cc)
 
 pub one-output : OneOutput
 one-output memory_a memory_a' room_a room_a' n c memory_b memory_b' room_b room_b' m d e =

@@ -1,4 +1,5 @@
 -- Request 2026-09: from the order of reading, and from format's law of how many headers there are.
+use Rattle.std.specs.Prelude.{Ok}
 use mathlib.Core.Path.{◌≡◌, refl, sym, ap}
 use mathlib.Core.List.{List, [], ◌∷◌}
 use Prim.Native.Nat.{ℕ}
@@ -11,7 +12,6 @@ use Rattle.text.specs.Tokens.{entry, or_itself, stands, expanded, present, cover
 use Rattle.values.specs.Table.{rows, kind_in, known, attribute}
 use Rattle.values.specs.Values.{fits}
 use Rattle.format.specs.declared.Counts.{Counts}
-use Rattle.format.specs.declared.ReadAnswer.TheVariants.{Records}
 use Rattle.format.specs.Tree.{Items, count}
 use Rattle.format.specs.Tree.Items.{end, item}
 use Rattle.format.specs.Judge.{Judged, is_known, is_items, is_tokens, is_text, is_value, wrong_in, is_top, allowed, latest, stage_after, limit, not_above, shown, of_top, rule, value_rule, first, kind_rules, item_rules, own, late, late_before, late_after, broken, within, waits, next, unless, followed, joined, by_kind, items, outermost, judge}
@@ -39,12 +39,13 @@ counts-headers object t h counts n i =
     let f = few-headers object t h in
     record { framed = i; half = omega (arith, i, f.half); records = omega (arith, n, i, f.records) }
 
-order-counts : (object : List ℕ) (places : ℕ) (counts : Counts) → ReadOrder (judge object) places (headers_of object) (Records counts) → CountsHeaders object counts
+order-counts : (object : List ℕ) (places : ℕ) (counts : Counts) → ReadOrder (judge object) places (headers_of object) (Ok counts) → CountsHeaders object counts
 order-counts object places counts order =
     let f = (order.records counts.records counts.items).0 refl in
     counts-headers object f.0 f.1 counts f.2 f.3
 
-judged-counts : (object : List ℕ) (counts : Counts) (j : Judged) → judge object ≡ j → Records counts ≡ judge_answer (headers_of object) j → CountsHeaders object counts
+judged-counts : (object : List ℕ) (counts : Counts) (j : Judged) → judge object ≡ j → Ok counts ≡ judge_answer (headers_of object) j
+    → CountsHeaders object counts
 unfolding judge_answer
 judged-counts object counts (refused r) h e = never (cc)
 judged-counts object counts (accepted t) h e =
@@ -53,9 +54,10 @@ judged-counts object counts (accepted t) h e =
 
 pub headers-counted : HeadersCounted
 headers-counted = record {
-  read = λ object before after counts c. order-counts object _ counts (read-in-order object before after (Records counts) c);
-  read_at_most = λ object most before after counts c. order-counts object _ counts (read-at-most-in-order object most before after (Records counts) c);
-  read_records = λ object before after slice slice' counts c. order-counts object _ counts (read-records-in-order object before after slice slice' (Records counts) c);
+  read = λ object before after counts c. order-counts object _ counts (read-in-order object before after (Ok counts) c);
+  read_at_most = λ object most before after counts c. order-counts object _ counts (read-at-most-in-order object most before after (Ok counts) c);
+  read_records =
+      λ object before after slice slice' counts c. order-counts object _ counts (read-records-in-order object before after slice slice' (Ok counts) c);
   judged = λ object counts e. judged-counts object counts (judge object) refl e;
 }
 

@@ -1,4 +1,5 @@
 -- Request 2026-06 of any memory that holds a tree, by the laws of state and edits.
+use Rattle.std.specs.Prelude.{Ok}
 use mathlib.Core.Path.{◌≡◌, refl, sym, ap, ap₂, ◌∙◌}
 use mathlib.Core.Bool.{Bool, true, false, cond}
 use mathlib.Core.Option.{Option, none, some}
@@ -17,8 +18,6 @@ use Rattle.octets.proofs.Numbers.{octets-take}
 use Rattle.octets.proofs.Lists.{part-of-sets, drop-sets}
 use Rattle.text.specs.Tokens.{Entries}
 use Rattle.values.specs.Table.{known}
-use Rattle.format.specs.declared.EditAnswer.TheVariants.{HasRecords}
-use Rattle.format.specs.declared.WriteAnswer.TheVariants.{Octets as Written}
 use Rattle.format.specs.Tree.{Items, count, records_of, bodies_of}
 use Rattle.format.specs.Tree.Items.{end, item}
 use Rattle.format.specs.Judge.{Judged, judge}
@@ -68,7 +67,7 @@ state-reads-back n m before after answer os out c t e room =
     let o = encode (means [] t) in
     let k = size_of o in
     let fits = le-leb (length o) (min (length before) 32_768) (le-min room h.small) in
-    let a : answer ≡ Written k = c.answers ∙ (ap (write_answer (size_of before)) e ∙ rw fits) in
+    let a : answer ≡ Ok k = c.answers ∙ (ap (write_answer (size_of before)) e ∙ rw fits) in
     let laid : after ≡ sets before 0 o = c.leaves ∙ (ap (λ x. sets before 0 (write_octets (size_of before) x)) e ∙ rw fits) in
     let front : take (length o) after ≡ o = ap (take (length o)) laid ∙ part-of-sets before 0 o (omega arith) in
     let again = has-meaning (take (length o) after) (means [] t) (ap meaning front ∙ held-means n m t e os) in (
@@ -207,7 +206,7 @@ pub holds_after : HoldsAfter
 unfolding loaded_into
 holds_after = record {
   taken = λ object most m m' n os c.
-      let f = ((take-in-in-order object most m m' (HasRecords n) c).records n).0 refl in
+      let f = ((take-in-in-order object most m m' (Ok n) c).records n).0 refl in
       (f.0, f.1, taken-held object os f.0 f.1 m m' n most c);
   normalised = λ object m m' room room' k os c.
       let f = normalised-is object m m' room room' k c in

@@ -1,4 +1,5 @@
 -- Request 2026-10, by the theorems of merge.
+use Rattle.std.specs.Prelude.{Result, Ok, Err}
 use mathlib.Core.Path.{◌≡◌, refl, sym, ap, ◌∙◌, subst}
 use mathlib.Core.Bool.{Bool, true, false}
 use mathlib.Core.Option.{none, some}
@@ -25,14 +26,15 @@ use Rattle.format.specs.Calls.{Lent, roomy, fits_lent}
 use Rattle.format.specs.State.{Memory, lay_tree}
 use Rattle.state.specs.Taking.{lent_by, loaded_into}
 use Rattle.merge.specs.declared.Services.{Services}
-use Rattle.merge.specs.declared.MergeAnswer.{MergeAnswer}
-use Rattle.merge.specs.declared.MergeAnswer.TheVariants.{Merged, BasicRefused, AdvancedRefused, NotMerged}
 use Rattle.merge.specs.Merged.{merged, clash, same_top, twice}
 use Rattle.merge.specs.Kept.{empty_top, Mergeable, InOrder, AnyOrder, Comes}
 use Rattle.merge.specs.Sizes.{records_in, stored_in}
-use Rattle.merge.specs.Calls.{conflict, misfit, Outcome, unless_refused, merged_into, outcome, answer_of, written_of, MergeClaim}
+use Rattle.merge.specs.Calls.{conflict, misfit, Outcome, unless_refused, merged_into, outcome, answer_of, written_of, MergeClaim, records_size}
 use Rattle.merge.specs.Calls.Outcome.{refuses, gives}
 use Rattle.merge.proofs.Results.{Fits, merge-suffices, merge-result, merge-leaves, merge-empty}
+use Rattle.merge.specs.declared.Merged.{Merged}
+use Rattle.merge.specs.declared.MergeRefusal.{MergeRefusal}
+use Rattle.merge.specs.declared.MergeRefusal.TheVariants.{Basic, Advanced, Neither}
 use Rattle.demands.specs.One.{OfCall}
 use Rattle.demands.specs.One.OfCall.{of_call}
 use Rattle.demands.specs.Merging.{Ended, MergeEnds, Suffices, Hinders, MergeOrder, MergeInOrder, MergeGives, MergeEmpty, MergeAlways}
@@ -90,7 +92,7 @@ module _ (lent : Lent) (w : Meaning) where
       rw (le-leb (records_in w) lent.records s.records, le-leb (stored_in w) lent.store.0 s.store, le-leb (length (encode w)) (min lent.room.0 32_768) (omega arith))
 
 module _ (by : Services) (lent : Lent) (m n : Meaning) where
-  hindered : (r : Refusal) → Hinders by lent m n r → merged_into by lent m n ≡ refuses (NotMerged r)
+  hindered : (r : Refusal) → Hinders by lent m n r → merged_into by lent m n ≡ refuses (Err (Neither r))
   unfolding merged_into unless_refused
   hindered r (twenty h) = rw (conflict-20 by m n h)
   hindered r (twenty_one p q h) = rw (conflict-21 by m n p q h)
@@ -99,7 +101,7 @@ module _ (by : Services) (lent : Lent) (m n : Meaning) where
 
   -- something is in the way, or nothing
   data Way : Outcome → Type 0 where
-    blocked : (r : Refusal) → Hinders by lent m n r → Way (refuses (NotMerged r))
+    blocked : (r : Refusal) → Hinders by lent m n r → Way (refuses (Err (Neither r)))
     clear : Mergeable by m n → Suffices lent (merged by m n) → Way (gives (merged by m n))
 
   way : Way (merged_into by lent m n)
@@ -144,9 +146,10 @@ room-long lent w f = let l = leb-true (length (encode w)) (min lent.room.0 32_76
 
 module _ (by : Services) (basic advanced : List ℕ) (lent : Lent) where
   data Came : Outcome → Type 0 where
-    basic-no : (r : Refusal) → judge basic ≡ refused r → Came (refuses (BasicRefused r))
-    advanced-no : (t : Items) (r : Refusal) → judge basic ≡ accepted t → judge advanced ≡ refused r → Came (refuses (AdvancedRefused r))
-    both-no : (t u : Items) (r : Refusal) → judge basic ≡ accepted t → judge advanced ≡ accepted u → Hinders by lent (meaning_of t) (meaning_of u) r → Came (refuses (NotMerged r))
+    basic-no : (r : Refusal) → judge basic ≡ refused r → Came (refuses (Err (Basic r)))
+    advanced-no : (t : Items) (r : Refusal) → judge basic ≡ accepted t → judge advanced ≡ refused r → Came (refuses (Err (Advanced r)))
+    both-no : (t u : Items) (r : Refusal) → judge basic ≡ accepted t → judge advanced ≡ accepted u → Hinders by lent (meaning_of t) (meaning_of u) r
+        → Came (refuses (Err (Neither r)))
     become : (w : Meaning) → Came (gives w)
 
   came : Came (outcome by lent (judge basic) (judge advanced))
@@ -169,7 +172,8 @@ of-hinder by lent m n r (twenty_one p q h) = of_call 21 refl
 of-hinder by lent m n r (fourteen f l) = of_call 14 refl
 of-hinder by lent m n r (fifteen f l h) = of_call 15 refl
 
-module _ (by : Services) (basic advanced : List ℕ) (m m' : Memory) (room room' : List ℕ) (answer : MergeAnswer) (c : MergeClaim by basic advanced m m' room room' answer) where
+module _ (by : Services) (basic advanced : List ℕ) (m m' : Memory) (room room' : List ℕ) (answer : Result Merged MergeRefusal)
+    (c : MergeClaim by basic advanced m m' room room' answer) where
   abbrev lent : Lent
   lent = lent_by m room
 
@@ -183,7 +187,7 @@ module _ (by : Services) (basic advanced : List ℕ) (m m' : Memory) (room room'
   told o e = c.answers ∙ ap answer_of e
 
   -- a refusal leaves all as it was
-  untouched : (a : MergeAnswer) → result ≡ refuses a → Untouched
+  untouched : (a : Result Merged MergeRefusal) → result ≡ refuses a → Untouched
   unfolding written_of loaded_into
   untouched a e = (
     c.leaves ∙ ap (λ x. loaded_into lent (judge (written_of x)) m) e ∙ ap (λ j. loaded_into lent j m) empty-refused,
@@ -195,27 +199,28 @@ module _ (by : Services) (basic advanced : List ℕ) (m m' : Memory) (room room'
   ends = subst (Ended basic advanced Untouched) (sym c.answers) (go result (came by basic advanced lent) refl)
     where
       go : (o : Outcome) → Came by basic advanced lent o → result ≡ o → Ended basic advanced Untouched (answer_of o)
-      go o (basic-no r e) q = of_basic r (of-object basic r e) (untouched (BasicRefused r) q)
-      go o (advanced-no t r e f) q = of_advanced r (of-object advanced r f) (untouched (AdvancedRefused r) q)
-      go o (both-no t u r e f h) q = of_both r (of-hinder by lent (meaning_of t) (meaning_of u) r h) (untouched (NotMerged r) q)
+      go o (basic-no r e) q = of_basic r (of-object basic r e) (untouched (Err (Basic r)) q)
+      go o (advanced-no t r e f) q = of_advanced r (of-object advanced r f) (untouched (Err (Advanced r)) q)
+      go o (both-no t u r e f h) q = of_both r (of-hinder by lent (meaning_of t) (meaning_of u) r h) (untouched (Err (Neither r)) q)
       go o (become w) q = merges (records_in w) (size_of (encode w))
 
   -- each answer by its own condition
-  from-basic : (r : Refusal) (o : Outcome) → Came by basic advanced lent o → BasicRefused r ≡ answer_of o → judge basic ≡ refused r
+  from-basic : (r : Refusal) (o : Outcome) → Came by basic advanced lent o → Err (Basic r) ≡ answer_of o → judge basic ≡ refused r
   unfolding answer_of
   from-basic r o (basic-no x e) q = let same : x ≡ r = cc in e ∙ ap refused same
   from-basic r o (advanced-no t x e f) q = never (cc)
   from-basic r o (both-no t u x e f h) q = never (cc)
   from-basic r o (become w) q = never (cc)
 
-  from-advanced : (r : Refusal) (o : Outcome) → Came by basic advanced lent o → AdvancedRefused r ≡ answer_of o → (t : Items) × (judge basic ≡ accepted t) × (judge advanced ≡ refused r)
+  from-advanced : (r : Refusal) (o : Outcome) → Came by basic advanced lent o → Err (Advanced r) ≡ answer_of o
+      → (t : Items) × (judge basic ≡ accepted t) × (judge advanced ≡ refused r)
   unfolding answer_of
   from-advanced r o (basic-no x e) q = never (cc)
   from-advanced r o (advanced-no t x e f) q = let same : x ≡ r = cc in (t, e, f ∙ ap refused same)
   from-advanced r o (both-no t u x e f h) q = never (cc)
   from-advanced r o (become w) q = never (cc)
 
-  from-both : (r : Refusal) (o : Outcome) → Came by basic advanced lent o → NotMerged r ≡ answer_of o
+  from-both : (r : Refusal) (o : Outcome) → Came by basic advanced lent o → Err (Neither r) ≡ answer_of o
       → (t : Items) × (u : Items) × (judge basic ≡ accepted t) × (judge advanced ≡ accepted u) × Hinders by lent (meaning_of t) (meaning_of u) r
   unfolding answer_of
   from-both r o (basic-no x e) q = never (cc)
@@ -226,11 +231,12 @@ module _ (by : Services) (basic advanced : List ℕ) (m m' : Memory) (room room'
   order : MergeOrder by basic advanced lent answer
   unfolding outcome answer_of
   order = record {
-    of_basic = λ r. ((λ e. from-basic r result (came by basic advanced lent) (sym e ∙ c.answers)), (λ e. told (refuses (BasicRefused r)) (rw e)));
-    of_advanced = λ r. ((λ e. from-advanced r result (came by basic advanced lent) (sym e ∙ c.answers)), (λ h. told (refuses (AdvancedRefused r)) (rw (h.1, h.2))));
+    of_basic = λ r. ((λ e. from-basic r result (came by basic advanced lent) (sym e ∙ c.answers)), (λ e. told (refuses (Err (Basic r))) (rw e)));
+    of_advanced =
+        λ r. ((λ e. from-advanced r result (came by basic advanced lent) (sym e ∙ c.answers)), (λ h. told (refuses (Err (Advanced r))) (rw (h.1, h.2))));
     of_both = λ r. (
       (λ e. from-both r result (came by basic advanced lent) (sym e ∙ c.answers)),
-      (λ h. told (refuses (NotMerged r)) (rw (h.2, h.3) (hindered by lent (meaning_of h.0) (meaning_of h.1) r h.4))),
+      (λ h. told (refuses (Err (Neither r))) (rw (h.2, h.3) (hindered by lent (meaning_of h.0) (meaning_of h.1) r h.4))),
     );
   }
 
@@ -241,15 +247,17 @@ module _ (by : Services) (basic advanced : List ℕ) (m m' : Memory) (room room'
     pub records : n ≡ records_in w
     pub octets : size ≡ size_of (encode w)
 
-  pub given : (n : ℕ) (size : OctetCount) → answer ≡ Merged n size → Given n size
+  pub given : (n : ℕ) (size : OctetCount) → answer ≡ Ok (records_size n size) → Given n size
   unfolding answer_of
   given n size a = go result (came by basic advanced lent) refl (sym a ∙ c.answers)
     where
-      go : (o : Outcome) → Came by basic advanced lent o → result ≡ o → Merged n size ≡ answer_of o → Given n size
+      go : (o : Outcome) → Came by basic advanced lent o → result ≡ o → Ok (records_size n size) ≡ answer_of o → Given n size
       go o (basic-no r e) q g = never (cc)
       go o (advanced-no t r e f) q g = never (cc)
       go o (both-no t u r e f h) q g = never (cc)
-      go o (become w) q g = record { w = w; gives-it = q; records = cc; octets = cc }
+      go o (become w) q g =
+          let same : records_size n size ≡ records_size (records_in w) (size_of (encode w)) = cc in
+          record { w = w; gives-it = q; records = ap (λ k. k.records) same; octets = ap (λ k. k.size) same }
 
   -- the room then begins with the normal form of the merged meaning
   laid : (w : Meaning) → result ≡ gives w → room' ≡ sets room 0 (encode w)
@@ -271,11 +279,12 @@ pub merge-gives : MergeGives
 unfolding normal if_accepted
 merge-gives by basic advanced os ps m m' room room' n size c =
     let lent = lent_by m room in
-    let g = given by basic advanced m m' room room' (Merged n size) c n size refl in
+    let g = given by basic advanced m m' room room' (Ok (records_size n size)) c n size refl in
     let r = merge-result by lent basic advanced g.w os ps g.gives-it in
     let out = encode g.w in
     let many : size.0 ≡ length out = ap (λ s. s.0) g.octets in
-    let octets : take size.0 room' ≡ out = ap (λ k. take k room') many ∙ written by basic advanced m m' room room' (Merged n size) c g.w g.gives-it r.both.fits in
+    let octets : take size.0 room' ≡ out = ap (λ k. take k room') many
+    ∙ written by basic advanced m m' room room' (Ok (records_size n size)) c g.w g.gives-it r.both.fits in
     let k = r.again in
     let is : meaning_of k.tree ≡ merged by (meaning_of r.both.basic) (meaning_of r.both.advanced) = k.means-it ∙ r.both.is in
     record {
@@ -288,8 +297,10 @@ merge-gives by basic advanced os ps m m' room room' n size c =
       means-it = is;
       itself = ap normal octets ∙ rw k.accepts (ap some k.itself) ∙ ap some (sym octets);
       records = g.records ∙ sym k.records;
-      memory = merge-leaves by basic advanced m m' room room' (Merged n size) g.w c g.gives-it r;
-      behind = ap (drop size.0) (laid by basic advanced m m' room room' (Merged n size) c g.w g.gives-it) ∙ drop-sets size.0 room 0 out (omega (arith, many));
+      memory = merge-leaves by basic advanced m m' room room' (Ok (records_size n size)) g.w c g.gives-it r;
+      behind =
+          ap (drop size.0) (laid by basic advanced m m' room room' (Ok (records_size n size)) c g.w g.gives-it)
+          ∙ drop-sets size.0 room 0 out (omega (arith, many));
       basic-stays = subst (InOrder (meaning_of r.both.basic)) (sym k.means-it) r.basic;
       advanced-stays = subst (λ x. AnyOrder (meaning_of r.both.advanced) x) (sym k.means-it) r.advanced;
       comes = subst (Comes (meaning_of r.both.basic) (meaning_of r.both.advanced)) (sym k.means-it) r.comes;
@@ -304,17 +315,18 @@ pub record Tree (m m' : Memory) (room room' : List ℕ) (n : ℕ) (size : OctetC
   pub fits : fits_lent (lent_by m room) tree ≡ true
 
 pub merge-tree : (by : Services) (basic advanced : List ℕ) → Octets basic → Octets advanced → (m m' : Memory) (room room' : List ℕ) (n : ℕ) (size : OctetCount)
-    → MergeClaim by basic advanced m m' room room' (Merged n size) → Tree m m' room room' n size
+    → MergeClaim by basic advanced m m' room room' (Ok (records_size n size)) → Tree m m' room room' n size
 merge-tree by basic advanced os ps m m' room room' n size c =
-    let g = given by basic advanced m m' room room' (Merged n size) c n size refl in
+    let g = given by basic advanced m m' room room' (Ok (records_size n size)) c n size refl in
     let r = merge-result by (lent_by m room) basic advanced g.w os ps g.gives-it in
     let many : size.0 ≡ length (encode g.w) = ap (λ s. s.0) g.octets in
-    let octets : take size.0 room' ≡ encode g.w = ap (λ k. take k room') many ∙ written by basic advanced m m' room room' (Merged n size) c g.w g.gives-it r.both.fits in
+    let octets : take size.0 room' ≡ encode g.w = ap (λ k. take k room') many
+    ∙ written by basic advanced m m' room room' (Ok (records_size n size)) c g.w g.gives-it r.both.fits in
     record {
       tree = r.again.tree;
       accepts = ap judge octets ∙ r.again.accepts;
       records = g.records ∙ sym r.again.records;
-      memory = merge-leaves by basic advanced m m' room room' (Merged n size) g.w c g.gives-it r;
+      memory = merge-leaves by basic advanced m m' room room' (Ok (records_size n size)) g.w c g.gives-it r;
       fits = r.fits;
     }
 
@@ -327,12 +339,13 @@ pub record Once (by : Services) (basic advanced : List ℕ) (given : List ℕ) :
   pub means-it : meaning given ≡ some (merged by first second)
 
 pub merge-once : (by : Services) (basic advanced : List ℕ) → Octets basic → Octets advanced → (m m' : Memory) (room room' : List ℕ) (n : ℕ) (size : OctetCount)
-    → MergeClaim by basic advanced m m' room room' (Merged n size) → Once by basic advanced (take size.0 room')
+    → MergeClaim by basic advanced m m' room room' (Ok (records_size n size)) → Once by basic advanced (take size.0 room')
 merge-once by basic advanced os ps m m' room room' n size c =
-    let g = given by basic advanced m m' room room' (Merged n size) c n size refl in
+    let g = given by basic advanced m m' room room' (Ok (records_size n size)) c n size refl in
     let r = merge-result by (lent_by m room) basic advanced g.w os ps g.gives-it in
     let many : size.0 ≡ length (encode g.w) = ap (λ s. s.0) g.octets in
-    let octets : take size.0 room' ≡ encode g.w = ap (λ k. take k room') many ∙ written by basic advanced m m' room room' (Merged n size) c g.w g.gives-it r.both.fits in
+    let octets : take size.0 room' ≡ encode g.w = ap (λ k. take k room') many
+    ∙ written by basic advanced m m' room room' (Ok (records_size n size)) c g.w g.gives-it r.both.fits in
     record {
       first = meaning_of r.both.basic;
       second = meaning_of r.both.advanced;
@@ -353,7 +366,7 @@ merge-with-empty by basic advanced os ps m m' room room' answer c b tag e f s k 
     subst (λ z. outcome by lent (judge basic) (judge advanced) ≡ gives z) same
     (merge-empty by lent basic advanced t y.0 tag os x.1 y.1 y.2 (subst (λ z. same_top z (empty_top tag) ≡ true) (sym same) s) (subst (λ z. twice by z ≡ false) (sym same) k)
     (subst (λ z. misfit lent z ≡ none) (sym same) (misfit-none lent b l))) in
-    let a : answer ≡ Merged (records_in b) (size_of (encode b)) = c.answers ∙ ap answer_of o in
+    let a : answer ≡ Ok (records_size (records_in b) (size_of (encode b))) = c.answers ∙ ap answer_of o in
     let r = merge-result by lent basic advanced b os ps o in
     let octets = written by basic advanced m m' room room' answer c b o r.both.fits in
     let again = accepted-means (encode b) r.again.tree r.again.accepts ∙ ap some r.again.means-it in

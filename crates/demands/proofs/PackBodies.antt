@@ -1,4 +1,5 @@
 -- Request 2026-08 of merging and packing: no body is longer than all that is written.
+use Rattle.std.specs.Prelude.{Ok}
 use mathlib.Core.Path.{◌≡◌, refl, sym, ap, ◌∙◌, subst}
 use mathlib.Core.Bool.{Bool, true, false, cond}
 use mathlib.Core.Logic.{◌⊎◌, inl, inr}
@@ -26,16 +27,16 @@ use Rattle.format.proofs.Bodies.{bodies}
 use Rattle.state.specs.Taking.{lent_by}
 use Rattle.merge.specs.Merged.{merged}
 use Rattle.merge.proofs.Results.{small, merge-gives}
+use Rattle.merge.specs.Calls.{records_size}
 use Rattle.fold.specs.Words.{words_in, chosen}
 use Rattle.fold.specs.Packed.{tokens, entries_of, table_octets, folded, refolded, folded_by, proposal, packed_if, packed}
 use Rattle.fold.proofs.Claims.{pack-hands}
 use Rattle.demands.specs.PackBodies.{MergeBodies, Refolded, Folded, PackBodies}
 use Rattle.demands.proofs.Merging.{given}
-use Rattle.merge.specs.declared.MergeAnswer.TheVariants.{Merged}
 
 pub merge-bodies : MergeBodies
 merge-bodies by basic advanced m m' room room' n size c =
-    let g = given by basic advanced m m' room room' (Merged n size) c n size refl in
+    let g = given by basic advanced m m' room room' (Ok (records_size n size)) c n size refl in
     let r = merge-gives by (lent_by m room) basic advanced g.w g.gives-it in
     let l : length (encode (merged by (meaning_of r.basic) (meaning_of r.advanced))) ≤ 32_768 = subst (λ x. length (encode x) ≤ 32_768) r.is (small (lent_by m room) g.w r.fits) in
     (r.basic, r.advanced, r.first, r.second, bodies 32_768 (merged by (meaning_of r.basic) (meaning_of r.advanced)) l)

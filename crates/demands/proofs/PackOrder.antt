@@ -1,4 +1,5 @@
 -- Request 2026-11: the answers of the check and of the packer, from their definitions and from what passing means.
+use Rattle.std.specs.Prelude.{Result, Ok, Err}
 use mathlib.Core.Path.{◌≡◌, refl, sym, ap, ◌∙◌, subst}
 use mathlib.Core.Bool.{Bool, true, false, cond}
 use mathlib.Core.Option.{Option, none, some, some-injective, none-ne-some}
@@ -11,17 +12,16 @@ use borrow.Author.Tests.{leb-true, leb-false}
 use Rattle.octets.specs.Numbers.{Octets}
 use Rattle.octets.specs.Counts.{size_of}
 use Rattle.octets.proofs.Tests.{never}
-use Rattle.format.specs.declared.WriteAnswer.{WriteAnswer}
-use Rattle.format.specs.declared.WriteAnswer.TheVariants.{Octets as Written, NotWritten}
-use Rattle.format.specs.Answers.{refusal}
+use Rattle.octets.specs.declared.counts.Octets.{Octets as OctetCount}
+use Rattle.format.specs.Answers.{refusal, check_outcome}
 use Rattle.format.specs.Judge.{judge}
 use Rattle.format.specs.Meaning.{normal_of, normal}
 use Rattle.format.specs.Calls.{roomy}
 use Rattle.format.proofs.Rules.{accepted-size}
 use Rattle.format.proofs.Normal.{accepted-is}
-use Rattle.fold.specs.declared.CheckAnswer.TheVariants.{Passes, Fails}
+use Rattle.format.specs.declared.Refusal.{Refusal}
 use Rattle.fold.specs.Packed.{packed}
-use Rattle.fold.specs.Calls.{passes, check_answer, check_outcome, pack_answer}
+use Rattle.fold.specs.Calls.{passes, check_answer, pack_answer}
 use Rattle.fold.proofs.Packs.{packed-packs, packed-exactly}
 use Rattle.demands.specs.One.{Ends}
 use Rattle.demands.specs.One.Ends.{answered, refused_at}
@@ -32,16 +32,16 @@ use Rattle.demands.proofs.Packing.{check-exactly}
 
 -- ---- the check
 module _ (form proposed : List ℕ) where
-  fails-not : check_answer form proposed ≡ Fails (refusal 22 0) → Passable form proposed → ⊥
+  fails-not : check_answer form proposed ≡ Err (refusal 22 0) → Passable form proposed → ⊥
   fails-not e p = never (let q = (check-exactly form proposed).1 p in cc)
 
-  either_way : (C : Type 0) → (check_answer form proposed ≡ Passes → C) → (check_answer form proposed ≡ Fails (refusal 22 0) → C) → C
+  either_way : (C : Type 0) → (check_answer form proposed ≡ Ok tt → C) → (check_answer form proposed ≡ Err (refusal 22 0) → C) → C
   unfolding check_answer
   either_way C f g = go (passes form proposed) refl
     where
       go : (b : Bool) → passes form proposed ≡ b → C
-      go true e = f (ap (λ c. cond c Passes (Fails (refusal 22 0))) e)
-      go false e = g (ap (λ c. cond c Passes (Fails (refusal 22 0))) e)
+      go true e = f (ap (λ c. cond c (Ok tt) (Err (refusal 22 0))) e)
+      go false e = g (ap (λ c. cond c (Ok tt) (Err (refusal 22 0))) e)
 
 pub check-ends : CheckEnds
 check-ends form proposed answer e = subst (λ a. Ends (CheckRefuses form proposed) (Unit {0}) (check_outcome a)) (sym e) (
@@ -56,15 +56,15 @@ check-in-order form proposed answer e = record {
     (λ q. either_way form proposed ((r ≡ refusal 22 0) × (Passable form proposed → ⊥))
         (λ w. never (cc))
         (λ w. ((cc), fails-not form proposed w))),
-    (λ p. either_way form proposed (answer ≡ Fails r)
+    (λ p. either_way form proposed (answer ≡ Err r)
         (λ w. absurd (p.1 ((check-exactly form proposed).0 w)))
-        (λ w. e ∙ (w ∙ ap Fails (sym p.0)))),
+        (λ w. e ∙ (w ∙ ap Err (sym p.0)))),
   );
 }
 
 -- ---- the packer
-module _ (object room : List ℕ) (os : Octets object) (answer : WriteAnswer) where
-  none-packed : packed object ≡ none → answer ≡ NotWritten (refusal 22 0) → PackedOrder object room answer
+module _ (object room : List ℕ) (os : Octets object) (answer : Result OctetCount Refusal) where
+  none-packed : packed object ≡ none → answer ≡ Err (refusal 22 0) → PackedOrder object room answer
   none-packed e a =
       let no : (p : List ℕ) → packed object ≡ some p → ⊥ = λ p q. none-ne-some p (sym e ∙ q) in
       record {
@@ -81,7 +81,7 @@ module _ (object room : List ℕ) (os : Octets object) (answer : WriteAnswer) wh
     same : (q : List ℕ) → packed object ≡ some q → p ≡ q
     same q f = some-injective p q (sym e ∙ f)
 
-    above : length room < length p → answer ≡ NotWritten (refusal 15 0) → PackedOrder object room answer
+    above : length room < length p → answer ≡ Err (refusal 15 0) → PackedOrder object room answer
     above l a = record {
       twenty_two = (
         (λ q. let w : refusal 15 0 ≡ refusal 22 0 = cc in absurd (omega (arith, ap (λ x. x.number) w))),
@@ -92,11 +92,11 @@ module _ (object room : List ℕ) (os : Octets object) (answer : WriteAnswer) wh
       given = packed-exactly object;
     }
 
-    within : length p ≤ length room → answer ≡ Written (size_of p) → PackedOrder object room answer
+    within : length p ≤ length room → answer ≡ Ok (size_of p) → PackedOrder object room answer
     within l a = record {
       twenty_two = ((λ q. never (cc)), (λ h. absurd (h ((packed-exactly object).1 (p, e)))));
       fifteen = ((λ q. never (cc)), (λ q. absurd (omega (arith, l, q.2, ap length (same q.0 q.1)))));
-      octets = λ k. ((λ q. (p, e, (cc), l)), (λ q. a ∙ ap Written (ap size_of (same q.0 q.1) ∙ sym q.2)));
+      octets = λ k. ((λ q. (p, e, (cc), l)), (λ q. a ∙ ap Ok (ap size_of (same q.0 q.1) ∙ sym q.2)));
       given = packed-exactly object;
     }
 
@@ -112,7 +112,7 @@ module _ (object room : List ℕ) (os : Octets object) (answer : WriteAnswer) wh
     unfolding pack_answer roomy
     packed-order a = go (leb (length p) (min (length room) 32_768)) refl a
       where
-        go : (b : Bool) → leb (length p) (min (length room) 32_768) ≡ b → answer ≡ cond b (Written (size_of p)) (NotWritten (refusal 15 0)) → PackedOrder object room answer
+        go : (b : Bool) → leb (length p) (min (length room) 32_768) ≡ b → answer ≡ cond b (Ok (size_of p)) (Err (refusal 15 0)) → PackedOrder object room answer
         go true q x = within (omega (arith, leb-true (length p) (min (length room) 32_768) q)) x
         go false q x = above (omega (arith, leb-false (length p) (min (length room) 32_768) q, packed-short)) x
 

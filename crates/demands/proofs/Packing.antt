@@ -1,4 +1,5 @@
 -- Request 2026-11, by the theorems of fold.
+use Rattle.std.specs.Prelude.{Result, Ok, Err}
 use mathlib.Core.Path.{◌≡◌, refl, sym, ap, ◌∙◌, subst}
 use mathlib.Core.Bool.{Bool, true, false, cond}
 use mathlib.Core.Option.{Option, none, some, none-ne-some}
@@ -10,9 +11,8 @@ use lib.ListN.{length, take}
 use borrow.Author.Tests.{leb-false, le-leb}
 use Rattle.octets.specs.Counts.{size_of}
 use Rattle.octets.proofs.Tests.{never}
+use Rattle.octets.specs.declared.counts.Octets.{Octets}
 use Rattle.text.proofs.Words.{plain-text-covered}
-use Rattle.format.specs.declared.WriteAnswer.{WriteAnswer}
-use Rattle.format.specs.declared.WriteAnswer.TheVariants.{Octets as Written, NotWritten}
 use Rattle.format.specs.Answers.{refusal, write_outcome}
 use Rattle.format.specs.Judge.{judge}
 use Rattle.format.specs.Meaning.{meaning_of, if_accepted, encode, normal_of, normal}
@@ -20,7 +20,7 @@ use Rattle.format.specs.Calls.{roomy}
 use Rattle.format.proofs.Rules.{accepted-size}
 use Rattle.format.proofs.Round.{reread}
 use Rattle.format.proofs.Normal.{accepted-is, accepted-ok}
-use Rattle.fold.specs.declared.CheckAnswer.TheVariants.{Passes, Fails}
+use Rattle.format.specs.declared.Refusal.{Refusal}
 use Rattle.fold.specs.Packed.{packed}
 use Rattle.fold.specs.Calls.{passes, check_answer, pack_answer, PackClaim}
 use Rattle.fold.proofs.Texts.{folded-expanded}
@@ -36,7 +36,10 @@ pub fold-expands : FoldExpands
 fold-expands words o t = folded-expanded words o (plain-text-covered o t)
 
 -- the answer is a yes exactly where the test is
-answer-passes : (b : Bool) → cond b Passes (Fails (refusal 22 0)) ≡ Passes → b ≡ true
+abbrev checked : Bool → Result (Unit {0}) Refusal
+checked b = cond b (Ok tt) (Err (refusal 22 0))
+
+answer-passes : (b : Bool) → checked b ≡ Ok tt → b ≡ true
 answer-passes true h = refl
 answer-passes false h = never (cc)
 
@@ -44,7 +47,9 @@ pub check-exactly : CheckExactly
 unfolding check_answer
 check-exactly form proposed = (
   (λ h. let p = (passes-exactly form proposed).0 (answer-passes (passes form proposed) h) in record { own = p.normally; has = p.packs.normally; short = p.packs.short }),
-  (λ k. ap (λ b. cond b Passes (Fails (refusal 22 0))) ((passes-exactly form proposed).1 (record { normally = k.own; packs = record { normally = k.has; short = k.short } }))),
+  (λ k.
+      ap checked
+      ((passes-exactly form proposed).1 (record { normally = k.own; packs = record { normally = k.has; short = k.short } }))),
 )
 
 pub own-form : OwnForm
@@ -57,7 +62,7 @@ own-form form proposed os e l =
 
 pub pack-passes-check : PackPasses
 unfolding check_answer
-pack-passes-check object room room' n os c = ap (λ b. cond b Passes (Fails (refusal 22 0))) (pack-passes object room room' n os c)
+pack-passes-check object room room' n os c = ap (λ b. cond b (Ok tt) (Err (refusal 22 0))) (pack-passes object room room' n os c)
 
 pub packed-as-input : PackedAsInput
 packed-as-input object room room' n os ps c =
@@ -68,8 +73,9 @@ pub pack-ends : PackEnds
 unfolding pack_answer roomy
 pack-ends object room room' answer os c = go (packed object) refl answer c c.answers
   where
-    room-ends : (p : List ℕ) → packed object ≡ some p → (answer : WriteAnswer) → PackClaim object room room' answer → (b : Bool) → leb (length p) (min (length room) 32_768) ≡ b
-        → answer ≡ cond b (Written (size_of p)) (NotWritten (refusal 15 0)) → Ends (PackRefuses object room) (room' ≡ room) (write_outcome answer)
+    room-ends : (p : List ℕ) → packed object ≡ some p → (answer : Result Octets Refusal) → PackClaim object room room' answer → (b : Bool)
+        → leb (length p) (min (length room) 32_768) ≡ b
+        → answer ≡ cond b (Ok (size_of p)) (Err (refusal 15 0)) → Ends (PackRefuses object room) (room' ≡ room) (write_outcome answer)
     room-ends p e answer c true q x = subst (λ a. Ends (PackRefuses object room) (room' ≡ room) (write_outcome a)) (sym x) (answered (length p) 0)
     room-ends p e answer c false q x =
         let k = packed-packs object os p e in
@@ -80,7 +86,8 @@ pack-ends object room room' answer os c = go (packed object) refl answer c c.ans
         subst (λ a. Ends (PackRefuses object room) (room' ≡ room) (write_outcome a)) (sym x)
         (refused_at 15 0 0 (no_room p e (omega arith)) (pack-refused object room room' (refusal 15 0) (subst (PackClaim object room room') x c)))
 
-    go : (w : Option (List ℕ)) → packed object ≡ w → (answer : WriteAnswer) → PackClaim object room room' answer → answer ≡ pack_answer (size_of room) w
+    go : (w : Option (List ℕ)) → packed object ≡ w → (answer : Result Octets Refusal) → PackClaim object room room' answer
+        → answer ≡ pack_answer (size_of room) w
         → Ends (PackRefuses object room) (room' ≡ room) (write_outcome answer)
     go none e answer c x =
         subst (λ a. Ends (PackRefuses object room) (room' ≡ room) (write_outcome a)) (sym x)

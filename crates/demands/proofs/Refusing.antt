@@ -1,4 +1,5 @@
 -- Demand 1 for the other calls that refuse, from each call's equation.
+use Rattle.std.specs.Prelude.{Some, None, Result, Ok, Err, Option as Optional}
 use mathlib.Core.Path.{◌≡◌, refl, sym, ap, ◌∙◌, subst}
 use mathlib.Core.Bool.{Bool, true, false, cond, not, ◌&&◌, ◌||◌, false≢true}
 use mathlib.Core.Option.{Option, none, some, some-injective, none-ne-some}
@@ -10,8 +11,8 @@ use lib.ListN.{length, take, drop}
 use borrow.Author.Tests.{leb-true, leb-false, ltb-true, ltb-false, eqb-true, eqb-false}
 use Rattle.octets.specs.Counts.{size_of}
 use Rattle.octets.specs.Numbers.{Octets, among}
-use Rattle.octets.specs.declared.Put.{Put}
 use Rattle.octets.proofs.Tests.{never, and_right}
+use Rattle.octets.specs.declared.PutError.{PutError}
 use Rattle.format.specs.declared.Refusal.{Refusal}
 use Rattle.format.specs.Answers.{refusal}
 use Rattle.format.specs.Tree.{Items, count}
@@ -24,19 +25,15 @@ use Rattle.format.specs.Calls.{Lent, stored_within, fits_lent}
 use Rattle.format.proofs.Rules.{same-tree}
 use Rattle.format.proofs.Same.{same-octets, octets-same}
 use Rattle.state.specs.Taking.{lent_by}
-use Rattle.survey.specs.declared.measure.Measured.TheVariants.{Over, Sizes}
-use Rattle.survey.specs.declared.Standing.{Standing}
-use Rattle.survey.specs.declared.Standing.TheVariants.{Bad, Misfit, Fits}
-use Rattle.survey.specs.declared.Needed.{Needed}
-use Rattle.survey.specs.declared.Needed.TheVariants.{Takes}
-use Rattle.survey.specs.declared.look.Sought.{Sought}
-use Rattle.survey.specs.declared.look.Sought.TheVariants.{At}
 use Rattle.survey.specs.Measure.{measured_of}
-use Rattle.survey.specs.Survey.{surveyed, needed_of}
+use Rattle.survey.specs.Survey.{surveyed, needed_of, records_sizes}
 use Rattle.survey.specs.First.{first_in, place_at, item_at, as_item, sought_by, sought_as, sought_in}
 use Rattle.survey.proofs.First.{first-told, place_inside}
 use Rattle.survey.proofs.Once.{first-place}
-use Rattle.recording.specs.declared.Opened.{Opened}
+use Rattle.survey.specs.declared.Needs.{Needs}
+use Rattle.survey.specs.declared.Unfit.{Unfit}
+use Rattle.survey.specs.declared.Unfit.TheVariants.{Bad, Misfit}
+use Rattle.survey.specs.Sizes.{store_octets}
 use Rattle.recording.specs.declared.Next.{Next}
 use Rattle.recording.specs.Recording.{mark, announced, whole}
 use Rattle.recording.specs.Calls.{open_of, short_of, step_of}
@@ -44,8 +41,8 @@ use Rattle.merge.specs.declared.Services.{Services}
 use Rattle.merge.specs.Merged.{clash, same_top, twice}
 use Rattle.merge.specs.Kept.{Mergeable}
 use Rattle.merge.specs.Calls.{conflict}
-use Rattle.merging.specs.declared.Conflict.{Conflict}
-use Rattle.merging.specs.declared.Conflict.TheVariants.{InBoth}
+use Rattle.merge.specs.declared.MergeRefusal.{MergeRefusal}
+use Rattle.merge.specs.declared.MergeRefusal.TheVariants.{Neither}
 use Rattle.merging.specs.Calls.{as_conflict, conflict_answer}
 use Rattle.demands.specs.One.{OfObject, OfCall, Refuses, Ends, Suffices, Lacks, PutEnds}
 use Rattle.demands.specs.One.OfCall.{of_call}
@@ -61,14 +58,14 @@ use Rattle.demands.specs.Refusing.Conflicts.{twenty, twenty_one}
 use Rattle.demands.specs.Refusing.StepRefuses.{is_cut}
 use Rattle.demands.proofs.Laws.{of-object, suffices-fits, fits-suffices}
 use Rattle.demands.proofs.One.{put-call-ends}
-use Rattle.demands.proofs.Needs.{needs-suffice, over-never}
+use Rattle.demands.proofs.Needs.{same-needs, same-sizes, needs-suffice, over-never}
 
 -- ---- survey
-data Surveyed (lent : Lent) : Judged → Standing → Type 0 where
-  bad : (r : Refusal) → Surveyed lent (refused r) (Bad r)
-  few : (t : Items) → lent.records < count t → Surveyed lent (accepted t) (Misfit (refusal 14 0))
-  small : (t : Items) → count t ≤ lent.records → (Suffices lent t → ⊥) → Surveyed lent (accepted t) (Misfit (refusal 15 0))
-  enough : (t : Items) → Suffices lent t → Surveyed lent (accepted t) Fits
+data Surveyed (lent : Lent) : Judged → Result (Unit {0}) Unfit → Type 0 where
+  bad : (r : Refusal) → Surveyed lent (refused r) (Err (Bad r))
+  few : (t : Items) → lent.records < count t → Surveyed lent (accepted t) (Err (Misfit (refusal 14 0)))
+  small : (t : Items) → count t ≤ lent.records → (Suffices lent t → ⊥) → Surveyed lent (accepted t) (Err (Misfit (refusal 15 0)))
+  enough : (t : Items) → Suffices lent t → Surveyed lent (accepted t) (Ok tt)
 
 fits_all : (lent : Lent) (t : Items) → leb (count t) lent.records ≡ true → stored_within lent t ≡ true → fits_lent lent t ≡ true
 unfolding fits_lent
@@ -84,7 +81,7 @@ survey-ways lent (refused r) = bad r
 survey-ways lent (accepted t) = go (leb (count t) lent.records) refl (stored_within lent t) refl
   where
     go : (a : Bool) → leb (count t) lent.records ≡ a → (b : Bool) → stored_within lent t ≡ b
-        → Surveyed lent (accepted t) (cond a (cond b Fits (Misfit (refusal 15 0))) (Misfit (refusal 14 0)))
+        → Surveyed lent (accepted t) (cond a (cond b (Ok tt) (Err (Misfit (refusal 15 0)))) (Err (Misfit (refusal 14 0))))
     go false p b q = few t (leb-false (count t) lent.records p)
     go true p true q = enough t (fits-suffices lent t (fits_all lent t p q))
     go true p false q = small t (leb-true (count t) lent.records p) (λ s. false≢true (sym q ∙ fits-stored lent t p (suffices-fits lent t s)))
@@ -93,7 +90,8 @@ pub survey-ends : SurveyEnds
 unfolding among
 survey-ends object lent answer e = subst (λ a. Ends (Refuses object (14 ∷ 15 ∷ [])) (Unit {0}) (standing_outcome a)) (sym e) (go (judge object) refl _ (survey-ways lent (judge object)))
   where
-    go : (j : Judged) → judge object ≡ j → (a : Standing) → Surveyed lent j a → Ends (Refuses object (14 ∷ 15 ∷ [])) (Unit {0}) (standing_outcome a)
+    go : (j : Judged) → judge object ≡ j → (a : Result (Unit {0}) Unfit) → Surveyed lent j a
+        → Ends (Refuses object (14 ∷ 15 ∷ [])) (Unit {0}) (standing_outcome a)
     go j h a (bad r) = refused_at r.number r.place r.field (for_object r.number r.place r.field (of-object object r h)) tt
     go j h a (few t l) = refused_at 14 0 0 (for_call 14 0 0 (of_call 14 refl)) tt
     go j h a (small t l f) = refused_at 15 0 0 (for_call 15 0 0 (of_call 15 refl)) tt
@@ -109,18 +107,18 @@ lacks-not : (lent : Lent) (t : Items) (r : Refusal) → Lacks lent t r → Suffi
 lacks-not lent t r (fourteen l) s = omega (arith, s.records)
 lacks-not lent t r (fifteen l f) s = f s
 
-module _ (lent : Lent) (answer : Standing) where
-  misfitting : (t : Items) (r : Refusal) → Lacks lent t r → answer ≡ Misfit r → SurveyOrder (accepted t) lent answer
+module _ (lent : Lent) (answer : Result (Unit {0}) Unfit) where
+  misfitting : (t : Items) (r : Refusal) → Lacks lent t r → answer ≡ Err (Misfit r) → SurveyOrder (accepted t) lent answer
   misfitting t r k e = record {
     of_object = λ s. ((λ q. never (cc)), (λ q. never (cc)));
     lacking = λ s. (
       (λ q. let p : r ≡ s = cc in (t, refl, subst (Lacks lent t) p k)),
-      (λ q. e ∙ ap Misfit (lacks-one lent t r s k (subst (λ x. Lacks lent x s) (same-tree q.0 t (sym q.1)) q.2))),
+      (λ q. e ∙ ap (λ x. Err (Misfit x)) (lacks-one lent t r s k (subst (λ x. Lacks lent x s) (same-tree q.0 t (sym q.1)) q.2))),
     );
     fits = ((λ q. never (cc)), (λ q. absurd (lacks-not lent t r k (subst (Suffices lent) (same-tree q.0 t (sym q.1)) q.2))));
   }
 
-  survey-order : (j : Judged) (a : Standing) → Surveyed lent j a → answer ≡ a → SurveyOrder j lent answer
+  survey-order : (j : Judged) (a : Result (Unit {0}) Unfit) → Surveyed lent j a → answer ≡ a → SurveyOrder j lent answer
   survey-order j a (bad r) e = record {
     of_object = λ s. ((λ q. cc), (λ q. cc));
     lacking = λ s. ((λ q. never (cc)), (λ q. never (let z = q.1 in cc)));
@@ -146,7 +144,7 @@ needs-ends object answer e = subst (λ a. Ends (OfObject object) (Unit {0}) (nee
     go (refused r) h = refused_at r.number r.place r.field (of-object object r h) tt
     go (accepted t) h = answered (count t) 0
 
-needs-order : (answer : Needed) (j : Judged) → answer ≡ needed_of j → NeedsOrder j answer
+needs-order : (answer : Result Needs Refusal) (j : Judged) → answer ≡ needed_of j → NeedsOrder j answer
 unfolding needed_of measured_of
 needs-order answer (refused r) e = record {
   of_object = λ s. ((λ q. cc), (λ q. cc));
@@ -155,23 +153,38 @@ needs-order answer (refused r) e = record {
 }
 needs-order answer (accepted t) e = go (leb (length (normal_of t)) 32_768) refl e
   where
-    go : (b : Bool) → leb (length (normal_of t)) 32_768 ≡ b → answer ≡ Takes (count t) (cond b (Sizes (size_of (store_of t)) (size_of (normal_of t))) Over) → NeedsOrder (accepted t) answer
+    go : (b : Bool) → leb (length (normal_of t)) 32_768 ≡ b
+        → answer ≡ Ok (records_sizes (count t) (cond b (Some (store_octets (size_of (store_of t)) (size_of (normal_of t)))) None))
+        → NeedsOrder (accepted t) answer
     go true p a = let l = leb-true (length (normal_of t)) 32_768 p in record {
       of_object = λ s. ((λ q. never (cc)), (λ q. never (cc)));
       sizes = λ n store octets. (
-        (λ q. (t, refl, (cc), (cc), (cc), l)),
+        (λ q.
+            let told = Some (store_octets (size_of (store_of t)) (size_of (normal_of t))) in
+            let x = same-needs n (count t) (Some (store_octets store octets)) told (sym q ∙ a) in
+            let y = same-sizes store octets (size_of (store_of t)) (size_of (normal_of t)) x.1 in
+            (t, refl, x.0, y.0, y.1, l)),
         (λ q. let z = same-tree q.0 t (sym q.1) in
             let x : n ≡ count t = q.2 ∙ ap count z in
             let y : store ≡ size_of (store_of t) = q.3 ∙ ap (λ u. size_of (store_of u)) z in
             let w : octets ≡ size_of (normal_of t) = q.4 ∙ ap (λ u. size_of (normal_of u)) z in
-            cc),
+            rw (x, y, w) a),
       );
-      over = λ n. ((λ q. never (cc)), (λ q. absurd (omega (arith, l, q.3, ap (λ u. length (normal_of u)) (same-tree q.0 t (sym q.1))))));
+      over = λ n. (
+        (λ q. let x = (same-needs n (count t) None (Some (store_octets (size_of (store_of t)) (size_of (normal_of t)))) (sym q ∙ a)).1 in never (cc)),
+        (λ q. absurd (omega (arith, l, q.3, ap (λ u. length (normal_of u)) (same-tree q.0 t (sym q.1))))),
+      );
     }
     go false p a = let l = leb-false (length (normal_of t)) 32_768 p in record {
       of_object = λ s. ((λ q. never (cc)), (λ q. never (cc)));
-      sizes = λ n store octets. ((λ q. never (cc)), (λ q. absurd (omega (arith, l, q.5, ap (λ u. length (normal_of u)) (same-tree q.0 t (sym q.1))))));
-      over = λ n. ((λ q. (t, refl, (cc), l)), (λ q. let z : n ≡ count t = q.2 ∙ ap count (same-tree q.0 t (sym q.1)) in cc));
+      sizes = λ n store octets. (
+        (λ q. let x = (same-needs n (count t) (Some (store_octets store octets)) None (sym q ∙ a)).1 in never (cc)),
+        (λ q. absurd (omega (arith, l, q.5, ap (λ u. length (normal_of u)) (same-tree q.0 t (sym q.1))))),
+      );
+      over = λ n. (
+        (λ q. (t, refl, (same-needs n (count t) None None (sym q ∙ a)).0, l)),
+        (λ q. let z : n ≡ count t = q.2 ∙ ap count (same-tree q.0 t (sym q.1)) in rw z a),
+      );
     }
 
 pub needs-in-order : NeedsInOrder
@@ -195,7 +208,7 @@ find-first-ends object rows anywhere listed answer e = subst (λ a. FoundEnds ob
     go (accepted t) h none q = found_nowhere
     go (accepted t) h (some place) q = found_at place (place_inside (sought_by listed rows anywhere) object place q)
 
-module _ (object : List ℕ) (os : Octets object) (P : ℕ → ℕ → Bool) (answer : Sought) where
+module _ (object : List ℕ) (os : Octets object) (P : ℕ → ℕ → Bool) (answer : Result (Optional ℕ) Refusal) where
   found-order : (j : Judged) → judge object ≡ j → (p : Option ℕ) → place_at P object ≡ p → answer ≡ sought_as j p → FoundOrder object P j answer
   unfolding sought_as as_item
   found-order (refused r) h p f e = record {
@@ -219,7 +232,8 @@ module _ (object : List ℕ) (os : Octets object) (P : ℕ → ℕ → Bool) (an
         of_object = λ s. ((λ q. never (cc)), (λ q. never (cc)));
         there = λ place. (
           (λ q. let z : at ≡ place = cc in (t, refl, yes ∙ ap (λ x. some (item_at object x)) z)),
-          (λ q. e ∙ ap At (some-injective at place (sym f ∙ (first-place P object os t h place).1 (ap (first_in P 0) (same-tree t q.0 q.1) ∙ q.2)))),
+          (λ q.
+              e ∙ ap (λ x. Ok (Some x)) (some-injective at place (sym f ∙ (first-place P object os t h place).1 (ap (first_in P 0) (same-tree t q.0 q.1) ∙ q.2)))),
         );
         nowhere = (
           (λ q. never (cc)),
@@ -277,7 +291,7 @@ conflict-ends by basic advanced answer e = subst (λ a. ConflictEnded basic adva
     go (accepted t) (refused r) h g = ended-advanced r (of-object advanced r g)
     go (accepted t) (accepted u) h g = both (meaning_of t) (meaning_of u) (conflict by (meaning_of t) (meaning_of u)) (settle-ways by (meaning_of t) (meaning_of u))
 
-module _ (by : Services) (answer : Conflict) where
+module _ (by : Services) (answer : Result (Unit {0}) MergeRefusal) where
   both-order : (t u : Items) (o : Option Refusal) → Settled by (meaning_of t) (meaning_of u) o → answer ≡ as_conflict o → ConflictOrder by (accepted t) (accepted u) answer
   unfolding as_conflict
   both-order t u o (blocked r k) e = record {
@@ -288,7 +302,9 @@ module _ (by : Services) (answer : Conflict) where
       (λ q.
           let x = same-tree q.0 t (sym q.2) in
           let y = same-tree q.1 u (sym q.3) in
-          e ∙ ap InBoth (conflicts-one by (meaning_of t) (meaning_of u) r s k (subst (λ v. Conflicts by (meaning_of t) (meaning_of v) s) y (subst (λ v. Conflicts by (meaning_of v) (meaning_of q.1) s) x q.4)))),
+          e
+          ∙ ap (λ x. Err (Neither x))
+          (conflicts-one by (meaning_of t) (meaning_of u) r s k (subst (λ v. Conflicts by (meaning_of t) (meaning_of v) s) y (subst (λ v. Conflicts by (meaning_of v) (meaning_of q.1) s) x q.4)))),
     );
     free = (
       (λ q. never (cc)),
@@ -331,17 +347,17 @@ pub conflict-in-order : ConflictInOrder
 conflict-in-order by basic advanced answer e = conflict-order by answer (judge basic) (judge advanced) e
 
 -- ---- open
-data Opens (octets : List ℕ) : Opened → Type 0 where
-  short : length octets < 5 → Opens octets (Opened.Refused (refusal 24 0))
-  other : 5 ≤ length octets → (take 5 octets ≡ mark → ⊥) → Opens octets (Opened.Refused (refusal 23 0))
-  fine : 5 ≤ length octets → take 5 octets ≡ mark → Opens octets (Opened.Begins 5)
+data Opens (octets : List ℕ) : Result ℕ Refusal → Type 0 where
+  short : length octets < 5 → Opens octets (Err (refusal 24 0))
+  other : 5 ≤ length octets → (take 5 octets ≡ mark → ⊥) → Opens octets (Err (refusal 23 0))
+  fine : 5 ≤ length octets → take 5 octets ≡ mark → Opens octets (Ok 5)
 
 open-ways : (octets : List ℕ) → Opens octets (open_of octets)
 unfolding open_of
 open-ways octets = go (ltb (length octets) 5) refl (same_octets (take 5 octets) mark) refl
   where
     go : (a : Bool) → ltb (length octets) 5 ≡ a → (b : Bool) → same_octets (take 5 octets) mark ≡ b
-        → Opens octets (cond a (Opened.Refused (refusal 24 0)) (cond b (Opened.Begins 5) (Opened.Refused (refusal 23 0))))
+        → Opens octets (cond a (Err (refusal 24 0)) (cond b (Ok 5) (Err (refusal 23 0))))
     go true p b q = short (ltb-true (length octets) 5 p)
     go false p true q = fine (ltb-false (length octets) 5 p) (same-octets (take 5 octets) mark q)
     go false p false q = other (ltb-false (length octets) 5 p) (λ e. false≢true (sym q ∙ (ap (λ o. same_octets o mark) e ∙ octets-same mark)))
@@ -350,12 +366,12 @@ pub open-ends : OpenEnds
 unfolding among
 open-ends octets answer e = subst (λ a. Ends (OfCall (23 ∷ 24 ∷ [])) (Unit {0}) (opened_outcome a)) (sym e) (go _ (open-ways octets))
   where
-    go : (a : Opened) → Opens octets a → Ends (OfCall (23 ∷ 24 ∷ [])) (Unit {0}) (opened_outcome a)
+    go : (a : Result ℕ Refusal) → Opens octets a → Ends (OfCall (23 ∷ 24 ∷ [])) (Unit {0}) (opened_outcome a)
     go a (short l) = refused_at 24 0 0 (of_call 24 refl) tt
     go a (other l f) = refused_at 23 0 0 (of_call 23 refl) tt
     go a (fine l f) = answered 5 0
 
-open_order : (octets : List ℕ) (answer a : Opened) → Opens octets a → answer ≡ a → OpenOrder octets answer
+open_order : (octets : List ℕ) (answer a : Result ℕ Refusal) → Opens octets a → answer ≡ a → OpenOrder octets answer
 open_order octets answer a (short l) e = record {
   twenty_four = ((λ q. l), (λ q. e));
   twenty_three = ((λ q. let z : refusal 24 0 ≡ refusal 23 0 = cc in absurd (omega (arith, ap (λ x. x.number) z))), (λ q. absurd (omega (arith, l, q.0))));
@@ -369,7 +385,7 @@ open_order octets answer a (other l f) e = record {
 open_order octets answer a (fine l f) e = record {
   twenty_four = ((λ q. never (cc)), (λ q. absurd (omega (arith, l, q))));
   twenty_three = ((λ q. never (cc)), (λ q. absurd (q.1 f)));
-  begins = λ at. ((λ q. ((cc), l, f)), (λ q. e ∙ ap Opened.Begins (sym q.0)));
+  begins = λ at. ((λ q. ((cc), l, f)), (λ q. e ∙ ap Ok (sym q.0)));
 }
 
 pub open-in-order : OpenInOrder
@@ -438,7 +454,7 @@ pub put-outcome-ends : PutOutcomeEnds
 unfolding among
 put-outcome-ends valid octets at before after answer c = go answer (put-call-ends valid octets at before after answer c)
   where
-    go : (a : Put) → PutEnds valid octets at before after a → Ends (OfCall (15 ∷ 9 ∷ [])) (after ≡ before) (put_outcome a)
+    go : (a : Result ℕ PutError) → PutEnds valid octets at before after a → Ends (OfCall (15 ∷ 9 ∷ [])) (after ≡ before) (put_outcome a)
     go a (put v l e) = answered (at + length octets) 0
     go a (lacks_room v l e) = refused_at 15 0 0 (of_call 15 refl) e
     go a (not_valid v e) = refused_at 9 0 0 (of_call 9 refl) e

@@ -1,4 +1,5 @@
 -- The cases of change requests, from format's table of slips, what the check of records answers, and what the calls say of them.
+use Rattle.std.specs.Prelude.{Result, Ok, Err}
 use mathlib.Core.Path.{◌≡◌, refl, sym, ap, ◌∙◌, subst}
 use mathlib.Core.Bool.{Bool, true, false, cond, ◌&&◌, false≢true}
 use mathlib.Core.Logic.{◌↔◌}
@@ -13,12 +14,7 @@ use Rattle.octets.specs.Numbers.{Octets}
 use Rattle.octets.proofs.Tests.{and_left, and_right}
 use Rattle.octets.specs.Counts.{size_of}
 use Rattle.octets.proofs.Numbers.{octets-none, octets-cons}
-use Rattle.format.specs.declared.ReadAnswer.{ReadAnswer}
-use Rattle.format.specs.declared.ReadAnswer.TheVariants.{Records}
-use Rattle.format.specs.declared.WriteAnswer.{WriteAnswer}
-use Rattle.format.specs.declared.WriteAnswer.TheVariants.{NotWritten}
-use Rattle.format.specs.declared.SameAnswer.{SameAnswer}
-use Rattle.format.specs.declared.SameAnswer.TheVariants.{Same, Different}
+use Rattle.octets.specs.declared.counts.Octets.{Octets as OctetCount}
 use Rattle.format.specs.Answers.{refusal, wrong_value}
 use Rattle.format.specs.Tree.{Items}
 use Rattle.format.specs.Judge.{judge}
@@ -32,6 +28,9 @@ use Rattle.format.specs.Bench.Outcome.{refuses, normally}
 use Rattle.format.proofs.Bench.{slipped}
 use Rattle.format.proofs.Defaults.{defaults-nothing}
 use Rattle.format.proofs.Normal.{normal-bare, same-normal}
+use Rattle.format.specs.declared.Counts.{Counts}
+use Rattle.format.specs.declared.Refusal.{Refusal}
+use Rattle.format.specs.declared.SameRefusal.{SameRefusal}
 use Rattle.records.specs.Check.{is_given}
 use Rattle.records.proofs.IllFormed.{ill-formed}
 use Rattle.xml.specs.Export.{export_of, export_answer}
@@ -54,15 +53,16 @@ nine-is = ap (λ (l : List Outcome). get_or l 6 (refuses (refusal 0 0))) slipped
 
 -- records that are a tree aren't refused with 16, and others are
 module _ (n : ℕ) (memory : Memory) (bodies' before after : List ℕ) where
-  given-passes : is_given (tree_in n memory) ≡ true → WriteClaim n memory bodies' before after (NotWritten (refusal 16 0)) → ⊥
+  given-passes : is_given (tree_in n memory) ≡ true → WriteClaim n memory bodies' before after (Err (refusal 16 0)) → ⊥
   unfolding is_given
   given-passes g c = go (tree_in n memory) refl g
     where
       go : (o : Option Items) → tree_in n memory ≡ o → is_given o ≡ true → ⊥
       go none e h = false≢true h
-      go (some t) e h = (write-in-order n memory bodies' before after (NotWritten (refusal 16 0)) c).sixteen.0 refl t (given-tree n memory t e)
+      go (some t) e h = (write-in-order n memory bodies' before after (Err (refusal 16 0)) c).sixteen.0 refl t (given-tree n memory t e)
 
-  not-given-fails : is_given (tree_in n memory) ≡ false → (answer : WriteAnswer) → WriteClaim n memory bodies' before after answer → answer ≡ NotWritten (refusal 16 0)
+  not-given-fails : is_given (tree_in n memory) ≡ false → (answer : Result OctetCount Refusal) → WriteClaim n memory bodies' before after answer
+      → answer ≡ Err (refusal 16 0)
   unfolding is_given
   not-given-fails g answer c =
       (write-in-order n memory bodies' before after answer c).sixteen.1 (λ t h. false≢true (sym g ∙ ap is_given (tree-given n memory t h)))
@@ -80,8 +80,8 @@ none_in n memory h = go (leb n (length memory.bodies))
     go false = refl
 
 -- so many records beside so many items
-abbrev counting : (n items : ℕ) → ReadAnswer
-counting n items = Records (record { records = n; items = items })
+abbrev counting : (n items : ℕ) → Result Counts Refusal
+counting n items = Ok (record { records = n; items = items })
 
 pub eight-pass : EightPass
 eight-pass = record {
@@ -129,7 +129,7 @@ defaults-are-nothing = record { means-same = defaults-nothing; left_out = λ obj
 
 -- two objects of the table whose normal forms are given: same answers by these
 module _ (a b : List ℕ) (n m : ℕ) (x y : List ℕ) (oa : Octets a) (ob : Octets b) (ea : outcome true a ≡ normally n x) (eb : outcome true b ≡ normally m y) (short : length x ≤ 32_768) where
-  exactly : (answer : SameAnswer) → answer ≡ same_answer (judge a) (judge b) → BothAccepted a b × (x ≡ y ↔ meaning a ≡ meaning b)
+  exactly : (answer : Result Bool SameRefusal) → answer ≡ same_answer (judge a) (judge b) → BothAccepted a b × (x ≡ y ↔ meaning a ≡ meaning b)
   exactly answer e =
       let f = table-accepted a n x ea in
       let g = table-accepted b m y eb in
@@ -143,10 +143,10 @@ module _ (a b : List ℕ) (n m : ℕ) (x y : List ℕ) (oa : Octets a) (ob : Oct
         ),
       )
 
-  pub table_same : x ≡ y → (answer : SameAnswer) → answer ≡ same_answer (judge a) (judge b) → answer ≡ Same
+  pub table_same : x ≡ y → (answer : Result Bool SameRefusal) → answer ≡ same_answer (judge a) (judge b) → answer ≡ Ok true
   table_same q answer e = let w = exactly answer e in (same-exactly a b oa ob answer e).same.1 (w.0, w.1.0 q)
 
-  pub table-different : (x ≡ y → ⊥) → (answer : SameAnswer) → answer ≡ same_answer (judge a) (judge b) → answer ≡ Different
+  pub table-different : (x ≡ y → ⊥) → (answer : Result Bool SameRefusal) → answer ≡ same_answer (judge a) (judge b) → answer ≡ Ok false
   table-different q answer e = let w = exactly answer e in (same-exactly a b oa ob answer e).different.1 (w.0, λ z. q (w.1.1 z))
 
 -- numbers that are octets

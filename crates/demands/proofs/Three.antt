@@ -1,4 +1,5 @@
 -- Demand 3: from the claims, with the theorems on meaning and normal form.
+use Rattle.std.specs.Prelude.{Result, Ok, Err}
 use mathlib.Core.Path.{◌≡◌, refl, sym, ap, ap₂, ◌∙◌, subst}
 use mathlib.Core.Bool.{Bool, true, false, cond}
 use mathlib.Core.Logic.{◌↔◌}
@@ -13,9 +14,6 @@ use Rattle.octets.specs.Counts.{as_octets}
 use Rattle.octets.specs.Numbers.{Octets}
 use Rattle.octets.proofs.Lists.{part-of-sets, drop-sets}
 use Rattle.octets.proofs.Tests.{never}
-use Rattle.format.specs.declared.WriteAnswer.TheVariants.{Octets as Written}
-use Rattle.format.specs.declared.SameAnswer.{SameAnswer}
-use Rattle.format.specs.declared.SameAnswer.TheVariants.{Same, Different, FirstRefused, SecondRefused}
 use Rattle.format.specs.Tree.{Items}
 use Rattle.format.specs.Judge.{Judged, judge}
 use Rattle.format.specs.Judge.Judged.{refused, accepted}
@@ -28,6 +26,8 @@ use Rattle.format.proofs.NormalOctets.{normal-octets}
 use Rattle.format.proofs.Takes.{of_meaning, in_records, in_store, records-means, store-means}
 use Rattle.format.proofs.Same.{same-exactly as same-meaning, different-exactly as different-meaning, normal-exactly}
 use Rattle.format.specs.State.{Memory}
+use Rattle.format.specs.declared.SameRefusal.{SameRefusal}
+use Rattle.format.specs.declared.SameRefusal.TheVariants.{First, Second}
 use Rattle.state.specs.Taking.{lent_by, NormaliseClaim}
 use Rattle.grammar.proofs.Complete.{complete}
 use Rattle.demands.specs.One.{Suffices}
@@ -44,11 +44,11 @@ pub record Normalised (object : List ℕ) (lent : Lent) (room room' : List ℕ) 
   pub suffices : Suffices lent tree
   pub behind : drop n.0 room' ≡ drop n.0 room
 
-pub normalised : (object : List ℕ) (memory memory' : Memory) (room room' : List ℕ) (n : OctetCount) → NormaliseClaim object memory memory' room room' (Written n)
+pub normalised : (object : List ℕ) (memory memory' : Memory) (room room' : List ℕ) (n : OctetCount) → NormaliseClaim object memory memory' room room' (Ok n)
     → Normalised object (lent_by memory room) room room' n
 unfolding handed
 normalised object memory memory' room room' n c =
-    let f = ((normalise-in-order object memory memory' room room' (Written n) c).octets n).0 refl in
+    let f = ((normalise-in-order object memory memory' room room' (Ok n) c).octets n).0 refl in
     let t = f.0 in
     let many : n.0 ≡ length (normal_of t) = ap (λ m. m.0) f.2 in
     let laid : room' ≡ sets room 0 (normal_of t) = c.writes ∙ rw (f.1, suffices-fits (lent_by memory room) t f.3) in
@@ -129,24 +129,25 @@ normal-again object os memory memory' room room' n c again again' room₂ room�
       room = omega arith;
       object = omega (arith, f.many, f.suffices.object);
     } in
-    let written : answer ≡ Written n = ((normalise-in-order (take n.0 room') again again' room₂ room₂' answer d).octets n).1 (u.again, ap judge f.octets ∙ u.accepts, ap as_octets long, enough) in
+    let written : answer ≡ Ok n =
+    ((normalise-in-order (take n.0 room') again again' room₂ room₂' answer d).octets n).1 (u.again, ap judge f.octets ∙ u.accepts, ap as_octets long, enough) in
     let given = subst (NormaliseClaim (take n.0 room') again again' room₂ room₂') written d in
     (written, (normal-again-if-any object os memory memory' room room' n c again again' room₂ room₂' n given).1)
 
 -- ---- comparing
-module _ (a b : List ℕ) (answer : SameAnswer) (e : answer ≡ same_answer (judge a) (judge b)) where
+module _ (a b : List ℕ) (answer : Result Bool SameRefusal) (e : answer ≡ same_answer (judge a) (judge b)) where
   -- only accepted objects are the same or different
-  both : (x : Bool) → answer ≡ cond x Same Different → BothAccepted a b
+  both : (x : Bool) → answer ≡ cond x (Ok true) (Ok false) → BothAccepted a b
   unfolding same_answer
   both x q = go (judge a) (judge b) refl refl (sym q ∙ e)
     where
-      told : (x : Bool) {A : Type 0} → (y : SameAnswer) → cond x Same Different ≡ y → (Same ≡ y → A) → (Different ≡ y → A) → A
+      told : (x : Bool) {A : Type 0} → (y : Result Bool SameRefusal) → cond x (Ok true) (Ok false) ≡ y → ((Ok true) ≡ y → A) → ((Ok false) ≡ y → A) → A
       told true y q f g = f q
       told false y q f g = g q
 
-      go : (j k : Judged) → judge a ≡ j → judge b ≡ k → cond x Same Different ≡ same_answer j k → BothAccepted a b
-      go (refused r) k h g q = told x (FirstRefused r) q (λ z. never (cc)) (λ z. never (cc))
-      go (accepted t) (refused r) h g q = told x (SecondRefused r) q (λ z. never (cc)) (λ z. never (cc))
+      go : (j k : Judged) → judge a ≡ j → judge b ≡ k → cond x (Ok true) (Ok false) ≡ same_answer j k → BothAccepted a b
+      go (refused r) k h g q = told x (Err (First r)) q (λ z. never (cc)) (λ z. never (cc))
+      go (accepted t) (refused r) h g q = told x (Err (Second r)) q (λ z. never (cc)) (λ z. never (cc))
       go (accepted t) (accepted u) h g q = record { tree_a = t; tree_b = u; accepted_a = h; accepted_b = g }
 
   meanings : (s : BothAccepted a b) → (meaning a ≡ meaning b) ↔ (meaning_of s.tree_a ≡ meaning_of s.tree_b)
@@ -156,12 +157,12 @@ module _ (a b : List ℕ) (answer : SameAnswer) (e : answer ≡ same_answer (jud
       ((λ f. some-injective (meaning_of s.tree_a) (meaning_of s.tree_b) (sym p ∙ f ∙ q)), (λ f. p ∙ ap some f ∙ sym q))
 
   module _ (os : Octets a) (ps : Octets b) where
-    same-when : (s : BothAccepted a b) → (answer ≡ Same) ↔ (meaning a ≡ meaning b)
+    same-when : (s : BothAccepted a b) → (answer ≡ Ok true) ↔ (meaning a ≡ meaning b)
     same-when s =
         let one = same-meaning a b s.tree_a s.tree_b os ps s.accepted_a s.accepted_b in
         ((λ f. (meanings s).1 (one.0 (sym e ∙ f))), (λ f. e ∙ one.1 ((meanings s).0 f)))
 
-    different-when : (s : BothAccepted a b) → (answer ≡ Different) ↔ (meaning a ≡ meaning b → ⊥)
+    different-when : (s : BothAccepted a b) → (answer ≡ Ok false) ↔ (meaning a ≡ meaning b → ⊥)
     different-when s =
         let one = different-meaning a b s.tree_a s.tree_b os ps s.accepted_a s.accepted_b in
         ((λ f g. one.0 (sym e ∙ f) ((meanings s).0 g)), (λ f. e ∙ one.1 (λ g. f ((meanings s).1 g))))

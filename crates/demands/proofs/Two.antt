@@ -1,4 +1,5 @@
 -- Demand 2: from the claims, with the grammar's agreement with the judgement.
+use Rattle.std.specs.Prelude.{Ok, Err}
 use mathlib.Core.Path.{◌≡◌, refl, sym, ap, ap₂, ◌∙◌, subst}
 use mathlib.Core.List.{List, [], ◌++◌}
 use Prim.Native.Nat.{ℕ, ◌+◌, ◌≤◌, ◌<◌, min}
@@ -12,8 +13,6 @@ use Rattle.octets.proofs.Numbers.{octets-take}
 use Rattle.octets.proofs.Tests.{never}
 use Rattle.format.specs.declared.Refusal.{Refusal}
 use Rattle.format.specs.declared.Counts.{Counts}
-use Rattle.format.specs.declared.ReadAnswer.TheVariants.{Records, NotRead}
-use Rattle.format.specs.declared.WriteAnswer.TheVariants.{Octets as Written}
 use Rattle.format.specs.Tree.{Items, count, records_of, bodies_of}
 use Rattle.format.specs.Judge.{Judged, judge}
 use Rattle.format.specs.Judge.Judged.{refused, accepted}
@@ -45,7 +44,7 @@ accepted-exactly object os before after answer c = (
     order : ReadOrder (judge object) (places before) (headers_of object) answer
     order = read-in-order object before after answer c
 
-    go : ((r : Refusal) → r.number ≤ 13 → answer ≡ NotRead r → ⊥) → (j : Judged) → judge object ≡ j → (t : Items) × Accepts object t
+    go : ((r : Refusal) → r.number ≤ 13 → answer ≡ Err r → ⊥) → (j : Judged) → judge object ≡ j → (t : Items) × Accepts object t
     go calm (refused r) h = let l = (of-object object r h).most in absurd (calm r l ((order.of_object r l).1 h))
     go calm (accepted t) h = (t, complete object t os h)
 
@@ -60,10 +59,10 @@ pub judged-exactly : JudgedExactly
 unfolding judge_answer
 judged-exactly object os answer e n items = (
   (λ q. go (judge object) refl (sym q ∙ e)),
-  (λ a. e ∙ ap (judge_answer (headers_of object)) (sound object a.0 a.1) ∙ ap₂ (λ k i. Records (record { records = k; items = i })) (sym a.2) (sym a.3)),
+  (λ a. e ∙ ap (judge_answer (headers_of object)) (sound object a.0 a.1) ∙ ap₂ (λ k i. Ok (record { records = k; items = i })) (sym a.2) (sym a.3)),
 )
   where
-    go : (j : Judged) → judge object ≡ j → Records (record { records = n; items = items }) ≡ judge_answer (headers_of object) j
+    go : (j : Judged) → judge object ≡ j → Ok (record { records = n; items = items }) ≡ judge_answer (headers_of object) j
         → (t : Items) × Accepts object t × (n ≡ count t) × (items ≡ headers_of object)
     go (refused r) h q = never (cc)
     go (accepted t) h q =
@@ -125,7 +124,7 @@ handed_out object t h before after n many room laid =
 pub tree-handed-out : TreeHandedOut
 tree-handed-out object os before after n items c t a =
     let h = sound object t a in
-    let f = ((read-in-order object before after (Records (record { records = n; items = items })) c).records n items).0 refl in
+    let f = ((read-in-order object before after (Ok (record { records = n; items = items })) c).records n items).0 refl in
     let same : f.0 ≡ t = (let z = f.1 in cc) in
     let many : n ≡ count t = f.2 ∙ ap count same in
     handed_out object t h before after n many f.4 (c.leaves ∙ ap (λ rs. lay 0 rs before) (ap (read_records (places before)) h ∙ records-read (places before) t (omega (arith, f.4))))
@@ -134,7 +133,7 @@ pub slice-handed-out : SliceHandedOut
 slice-handed-out object os before after slice slice' n items c t a =
     let m = min (length slice) (places before) in
     let h = sound object t a in
-    let f = ((read-records-in-order object before after slice slice' (Records (record { records = n; items = items })) c).records n items).0 refl in
+    let f = ((read-records-in-order object before after slice slice' (Ok (record { records = n; items = items })) c).records n items).0 refl in
     let same : f.0 ≡ t = (let z = f.1 in cc) in
     let many : n ≡ count t = f.2 ∙ ap count same in
     let handed : read_records m (judge object) ≡ records_of t = ap (read_records m) h ∙ records-read m t (omega (arith, f.4)) in (
@@ -145,7 +144,7 @@ slice-handed-out object os before after slice slice' n items c t a =
 pub written-reads-back : WrittenReadsBack
 written-reads-back n memory bodies' before after answer os out c t g room object =
     let k = size_of (encode (means [] t)) in
-    let e : answer ≡ Written k = ((write-in-order n memory bodies' before after answer c).octets k).1 (t, g, refl, le-min room object) in
+    let e : answer ≡ Ok k = ((write-in-order n memory bodies' before after answer c).octets k).1 (t, g, refl, le-min room object) in
     let d = delivered n memory bodies' before after os k (subst (WriteClaim n memory bodies' before after) e c) in
     let same : d.tree ≡ t = (let p = d.given in let q = lists-given n memory t g in cc) in
     let m = has-meaning (take k.0 after) (means [] d.tree) d.meant in (

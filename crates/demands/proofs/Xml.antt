@@ -1,4 +1,5 @@
 -- Request 2026-02: from the call's claim, and from the theorems of the crate xml.
+use Rattle.std.specs.Prelude.{Result, Ok, Err}
 use mathlib.Core.Path.{◌≡◌, refl, sym, ap, ◌∙◌, subst}
 use mathlib.Core.Bool.{Bool, true, false, cond}
 use mathlib.Core.Logic.{◌↔◌}
@@ -16,8 +17,6 @@ use Rattle.octets.specs.Numbers.{among, Octets}
 use Rattle.octets.proofs.Lists.{sets-none, drop-sets}
 use Rattle.octets.proofs.Tests.{never}
 use Rattle.format.specs.declared.Refusal.{Refusal}
-use Rattle.format.specs.declared.WriteAnswer.{WriteAnswer}
-use Rattle.format.specs.declared.WriteAnswer.TheVariants.{Octets as Written, NotWritten}
 use Rattle.format.specs.Answers.{refusal, write_outcome}
 use Rattle.format.specs.Tree.{Items}
 use Rattle.format.specs.Judge.{Judged, judge}
@@ -43,11 +42,12 @@ use Rattle.demands.proofs.Laws.{of-object}
 
 -- ---- the four ways in which a call ends
 
-data Exports (object : List ℕ) (room : OctetCount) : Judged → WriteAnswer → List ℕ → Type 0 where
-  bad : {r : Refusal} → Exports object room (refused r) (NotWritten r) []
-  plain : {t : Items} (place : ℕ) → plain_at object ≡ some place → Exports object room (accepted t) (NotWritten (refusal 17 place)) []
-  large : {t : Items} → plain_at object ≡ none → room.0 < length (xml (meaning_of t)) → Exports object room (accepted t) (NotWritten (refusal 15 0)) []
-  good : {t : Items} → plain_at object ≡ none → length (xml (meaning_of t)) ≤ room.0 → Exports object room (accepted t) (Written (size_of (xml (meaning_of t)))) (xml (meaning_of t))
+data Exports (object : List ℕ) (room : OctetCount) : Judged → Result OctetCount Refusal → List ℕ → Type 0 where
+  bad : {r : Refusal} → Exports object room (refused r) (Err r) []
+  plain : {t : Items} (place : ℕ) → plain_at object ≡ some place → Exports object room (accepted t) (Err (refusal 17 place)) []
+  large : {t : Items} → plain_at object ≡ none → room.0 < length (xml (meaning_of t)) → Exports object room (accepted t) (Err (refusal 15 0)) []
+  good : {t : Items} → plain_at object ≡ none → length (xml (meaning_of t)) ≤ room.0
+      → Exports object room (accepted t) (Ok (size_of (xml (meaning_of t)))) (xml (meaning_of t))
 
 exports : (object : List ℕ) (room : OctetCount) (j : Judged) → Exports object room j (export_answer room (export_of object j)) (export_octets room (export_of object j))
 unfolding export_of unless_plain export_answer export_octets
@@ -57,7 +57,8 @@ exports object room (accepted t) = go (plain_at object) refl
     x : List ℕ
     x = xml (meaning_of t)
 
-    fits : plain_at object ≡ none → (b : Bool) → leb (length x) room.0 ≡ b → Exports object room (accepted t) (cond b (Written (size_of x)) (NotWritten (refusal 15 0))) (cond b x [])
+    fits : plain_at object ≡ none → (b : Bool) → leb (length x) room.0 ≡ b
+        → Exports object room (accepted t) (cond b (Ok (size_of x)) (Err (refusal 15 0))) (cond b x [])
     fits p true e = good p (leb-true (length x) room.0 e)
     fits p false e = large p (leb-false (length x) room.0 e)
 
@@ -75,7 +76,8 @@ export-ends object before after answer c =
     kept : (o : List ℕ) → o ≡ [] → after ≡ sets before 0 o → after ≡ before
     kept o e l = l ∙ ap (sets before 0) e ∙ sets-none before 0
 
-    go : (j : Judged) → judge object ≡ j → (a : WriteAnswer) (o : List ℕ) → Exports object (size_of before) j a o → after ≡ sets before 0 o → Ends (ExportRefuses object) (after ≡ before) (write_outcome a)
+    go : (j : Judged) → judge object ≡ j → (a : Result OctetCount Refusal) (o : List ℕ) → Exports object (size_of before) j a o → after ≡ sets before 0 o
+        → Ends (ExportRefuses object) (after ≡ before) (write_outcome a)
     go (refused r) h a o bad l = refused_at r.number r.place r.field (as_others r.number r.place r.field (for_object r.number r.place r.field (of-object object r h))) (kept [] refl l)
     go (accepted t) h a o (plain place p) l = refused_at 17 place 0 (for_plain place (plain-inside object place p)) (kept [] refl l)
     go (accepted t) h a o (large p q) l = refused_at 15 0 0 (as_others 15 0 0 (for_call 15 0 0 (of_call 15 refl))) (kept [] refl l)
@@ -88,8 +90,8 @@ plain-place : (object : List ℕ) → Octets object → (t : Items) → judge ob
 unfolding plain_at
 plain-place = first-place plain_here
 
-module _ (object : List ℕ) (os : Octets object) (room : OctetCount) (j : Judged) (judged : judge object ≡ j) (answer : WriteAnswer) where
-  refusing : (s : Refusal) → j ≡ refused s → s.number ≤ 13 → answer ≡ NotWritten s → ExportOrder object j room answer
+module _ (object : List ℕ) (os : Octets object) (room : OctetCount) (j : Judged) (judged : judge object ≡ j) (answer : Result OctetCount Refusal) where
+  refusing : (s : Refusal) → j ≡ refused s → s.number ≤ 13 → answer ≡ Err s → ExportOrder object j room answer
   refusing s h low e = record {
     of_object = λ r l. ((λ q. cc), (λ q. cc));
     seventeen = λ place. ((λ q. let p : s ≡ refusal 17 place = cc in absurd (omega (arith, ap (λ x. x.number) p))), (λ q. never (let p = q.1 in cc)));
@@ -104,14 +106,14 @@ module _ (object : List ℕ) (os : Octets object) (room : OctetCount) (j : Judge
     same-tree : (u : Items) → j ≡ accepted u → u ≡ t
     same-tree u e = cc
 
-    plainly : (place : ℕ) → plain_at object ≡ some place → answer ≡ NotWritten (refusal 17 place) → ExportOrder object j room answer
+    plainly : (place : ℕ) → plain_at object ≡ some place → answer ≡ Err (refusal 17 place) → ExportOrder object j room answer
     plainly place p e = record {
       of_object = λ r l. ((λ q. let w : refusal 17 place ≡ r = cc in absurd (omega (arith, ap (λ x. x.number) w))), (λ q. never (cc)));
       seventeen = λ other. (
         (λ q. let w : refusal 17 place ≡ refusal 17 other = cc in (t, h, (plain-place object os t tree other).0 (p ∙ ap some (ap (λ x. x.place) w)))),
         (λ q.
             let f = subst (λ x. first_in plain_here 0 x ≡ some (item_at object other)) (same-tree q.0 q.1) q.2 in
-            e ∙ ap (λ x. NotWritten (refusal 17 x)) (some-injective place other (sym p ∙ (plain-place object os t tree other).1 f))),
+            e ∙ ap (λ x. Err (refusal 17 x)) (some-injective place other (sym p ∙ (plain-place object os t tree other).1 f))),
       );
       fifteen = ((λ q. let w : refusal 17 place ≡ refusal 15 0 = cc in absurd (omega (arith, ap (λ x. x.number) w))), (λ q. absurd (unnamed q.0 q.1 q.2)));
       octets = λ k. ((λ q. never (cc)), (λ q. absurd (unnamed q.0 q.1 q.2)));
@@ -123,7 +125,7 @@ module _ (object : List ℕ) (os : Octets object) (room : OctetCount) (j : Judge
     nowhere : plain_at object ≡ none → (place : ℕ) (u : Items) → j ≡ accepted u → first_in plain_here 0 u ≡ some (item_at object place) → ⊥
     nowhere p place u g f = none-ne-some place (sym p ∙ (plain-place object os t tree place).1 (subst (λ x. first_in plain_here 0 x ≡ some (item_at object place)) (same-tree u g) f))
 
-    longer : plain_at object ≡ none → room.0 < length (xml (meaning_of t)) → answer ≡ NotWritten (refusal 15 0) → ExportOrder object j room answer
+    longer : plain_at object ≡ none → room.0 < length (xml (meaning_of t)) → answer ≡ Err (refusal 15 0) → ExportOrder object j room answer
     longer p l e = record {
       of_object = λ r m. ((λ q. let w : refusal 15 0 ≡ r = cc in absurd (omega (arith, ap (λ x. x.number) w))), (λ q. never (cc)));
       seventeen = λ place. ((λ q. let w : refusal 15 0 ≡ refusal 17 place = cc in absurd (omega (arith, ap (λ x. x.number) w))), (λ q. absurd (nowhere p place q.0 q.1 q.2)));
@@ -131,18 +133,18 @@ module _ (object : List ℕ) (os : Octets object) (room : OctetCount) (j : Judge
       octets = λ k. ((λ q. never (cc)), (λ q. let w = ap (λ x. length (xml (meaning_of x))) (same-tree q.0 q.1) in absurd (omega (arith, ap (λ n. n.0) q.3, q.4))));
     }
 
-    fitting : plain_at object ≡ none → length (xml (meaning_of t)) ≤ room.0 → answer ≡ Written (size_of (xml (meaning_of t))) → ExportOrder object j room answer
+    fitting : plain_at object ≡ none → length (xml (meaning_of t)) ≤ room.0 → answer ≡ Ok (size_of (xml (meaning_of t))) → ExportOrder object j room answer
     fitting p l e = record {
       of_object = λ r m. ((λ q. never (cc)), (λ q. never (cc)));
       seventeen = λ place. ((λ q. never (cc)), (λ q. absurd (nowhere p place q.0 q.1 q.2)));
       fifteen = ((λ q. never (cc)), (λ q. let w = ap (λ x. length (xml (meaning_of x))) (same-tree q.0 q.1) in absurd (omega (arith, q.3))));
       octets = λ k. (
         (λ q. let w : k ≡ size_of (xml (meaning_of t)) = cc in (t, h, (named-exactly object t tree).0 p, w, omega (arith, ap (λ n. n.0) w))),
-        (λ q. e ∙ ap Written (ap (λ x. size_of (xml (meaning_of x))) (sym (same-tree q.0 q.1)) ∙ sym q.3)),
+        (λ q. e ∙ ap Ok (ap (λ x. size_of (xml (meaning_of x))) (sym (same-tree q.0 q.1)) ∙ sym q.3)),
       );
     }
 
-  ordered : (i : Judged) → j ≡ i → (a : WriteAnswer) → answer ≡ a → (o : List ℕ) → Exports object room i a o → ExportOrder object j room answer
+  ordered : (i : Judged) → j ≡ i → (a : Result OctetCount Refusal) → answer ≡ a → (o : List ℕ) → Exports object room i a o → ExportOrder object j room answer
   ordered (refused s) h a e o bad = refusing s h (of-object object s (judged ∙ h)).most e
   ordered (accepted t) h a e o (plain place p) = plainly t h place p e
   ordered (accepted t) h a e o (large p l) = longer t h p l e
@@ -161,7 +163,8 @@ xml-exactly a b oa ob t u h g room_a room_a' answer_a c enough_a room_b room_b' 
 pub xml-text : XmlText
 xml-text object os before after n c = (export-text object os before after n c, go (judge object) (export_answer (size_of before) (export_of object (judge object))) _ (exports object (size_of before) (judge object)) c.answers c.leaves)
   where
-    go : (j : Judged) (a : WriteAnswer) (o : List ℕ) → Exports object (size_of before) j a o → Written n ≡ a → after ≡ sets before 0 o → drop n.0 after ≡ drop n.0 before
+    go : (j : Judged) (a : Result OctetCount Refusal) (o : List ℕ) → Exports object (size_of before) j a o → Ok n ≡ a → after ≡ sets before 0 o
+        → drop n.0 after ≡ drop n.0 before
     go (refused r) a o bad e l = never (cc)
     go (accepted t) a o (plain place p) e l = never (cc)
     go (accepted t) a o (large p q) e l = never (cc)

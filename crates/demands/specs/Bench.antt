@@ -1,11 +1,8 @@
 -- The bench cases of document 01 marked P, its listing and the slips seen in other encoders, as what the definitions say and as what the calls answer.
-use Rattle.std.specs.Prelude.{◌≡◌, true, List, [], ◌∷◌, map, ℕ, ◌≤◌, take}
+use Rattle.std.specs.Prelude.{◌≡◌, true, List, [], ◌∷◌, map, ℕ, ◌≤◌, take, Result, Ok, Err}
 use Rattle.octets.specs.declared.counts.Octets.{Octets as OctetCount}
 use Rattle.format.specs.declared.Record.{Record}
 use Rattle.format.specs.declared.Refusal.{Refusal}
-use Rattle.format.specs.declared.ReadAnswer.{ReadAnswer}
-use Rattle.format.specs.declared.ReadAnswer.TheVariants.{Records, NotRead}
-use Rattle.format.specs.declared.WriteAnswer.TheVariants.{Octets as Written}
 use Rattle.format.specs.Judge.{judge}
 use Rattle.format.specs.Headers.{headers_of}
 use Rattle.format.specs.Writer.{tabled}
@@ -13,6 +10,7 @@ use Rattle.format.specs.Calls.{Lists, row, places, ReadClaim}
 use Rattle.format.specs.Bench.{outcome, cases, listed, slips}
 use Rattle.format.specs.Bench.Outcome.{refuses, normally}
 use Rattle.format.specs.State.{Memory}
+use Rattle.format.specs.declared.Counts.{Counts}
 use Rattle.state.specs.Taking.{NormaliseClaim}
 
 -- P1 to P14, one table under one claim: for each object the refusal, or how many records and which normal form; for the octets of a time, that they are accepted
@@ -37,21 +35,22 @@ abbrev pub Listing : Type 0
 Listing = listed (judge listed_object) ≡ listing
 
 -- read answers what the table says of an object: its refusal, or its count of records, beside that of its headers, where there are places for them
-pub record TableRead (object : List ℕ) (places : ℕ) (answer : ReadAnswer) : Type 0 where
-  pub refusing : (r : Refusal) → outcome true object ≡ refuses r → answer ≡ NotRead r
-  pub counting : (n : ℕ) (o : List ℕ) → outcome true object ≡ normally n o → n ≤ places → answer ≡ Records (record { records = n; items = headers_of object })
+pub record TableRead (object : List ℕ) (places : ℕ) (answer : Result Counts Refusal) : Type 0 where
+  pub refusing : (r : Refusal) → outcome true object ≡ refuses r → answer ≡ Err r
+  pub counting : (n : ℕ) (o : List ℕ) → outcome true object ≡ normally n o → n ≤ places → answer ≡ Ok (record { records = n; items = headers_of object })
 
 abbrev pub BenchRead : Type 0
-BenchRead = (object : List ℕ) (before after : Lists) (answer : ReadAnswer) → ReadClaim object before after answer → TableRead object (places before) answer
+BenchRead =
+    (object : List ℕ) (before after : Lists) (answer : Result Counts Refusal) → ReadClaim object before after answer → TableRead object (places before) answer
 
 -- the octets of normalise are those that the table says
 abbrev pub BenchNormalise : Type 0
 BenchNormalise =
-    (object : List ℕ) (memory memory' : Memory) (room room' : List ℕ) (n : OctetCount) → NormaliseClaim object memory memory' room room' (Written n)
+    (object : List ℕ) (memory memory' : Memory) (room room' : List ℕ) (n : OctetCount) → NormaliseClaim object memory memory' room room' (Ok n)
     → (k : ℕ) (o : List ℕ) → outcome true object ≡ normally k o → take n.0 room' ≡ o
 
 -- read with two places or more puts the listing's records into the lists
 abbrev pub ListingRead : Type 0
 ListingRead =
-    (before after : Lists) (answer : ReadAnswer) → ReadClaim listed_object before after answer → 2 ≤ places before
-    → (answer ≡ Records (record { records = 2; items = 2 })) × (tabled (row after) 2 0 ≡ listing)
+    (before after : Lists) (answer : Result Counts Refusal) → ReadClaim listed_object before after answer → 2 ≤ places before
+    → (answer ≡ Ok (record { records = 2; items = 2 })) × (tabled (row after) 2 0 ≡ listing)

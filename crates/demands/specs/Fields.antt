@@ -1,13 +1,7 @@
 -- Request 2026-04: the field of a wrong time, by every call that judges an object, and of both objects of those that judge two.
-use Rattle.std.specs.Prelude.{◌≡◌, List, [], ◌∷◌, ℕ}
+use Rattle.std.specs.Prelude.{◌≡◌, List, [], ◌∷◌, ℕ, Result, Err, Bool}
 use Rattle.octets.specs.declared.counts.Octets.{Octets as OctetCount}
 use Rattle.format.specs.declared.Refusal.{Refusal}
-use Rattle.format.specs.declared.ReadAnswer.{ReadAnswer}
-use Rattle.format.specs.declared.ReadAnswer.TheVariants.{NotRead}
-use Rattle.format.specs.declared.EditAnswer.{EditAnswer}
-use Rattle.format.specs.declared.EditAnswer.TheVariants.{NotChanged}
-use Rattle.format.specs.declared.SameAnswer.{SameAnswer}
-use Rattle.format.specs.declared.SameAnswer.TheVariants.{SecondRefused}
 use Rattle.format.specs.Answers.{wrong_value}
 use Rattle.format.specs.Tree.{Items}
 use Rattle.format.specs.Judge.{judge}
@@ -16,33 +10,36 @@ use Rattle.format.specs.Headers.{headers_of}
 use Rattle.format.specs.Calls.{judge_answer}
 use Rattle.format.specs.Same.{same_answer}
 use Rattle.format.specs.State.{Memory}
+use Rattle.format.specs.declared.Counts.{Counts}
+use Rattle.format.specs.declared.SameRefusal.{SameRefusal}
+use Rattle.format.specs.declared.SameRefusal.TheVariants.{Second}
 use Rattle.state.specs.Taking.{TakeInClaim}
-use Rattle.survey.specs.declared.Needed.{Needed}
-use Rattle.survey.specs.declared.Needed.TheVariants.{Refused as NeedsRefused}
 use Rattle.survey.specs.Survey.{needed_of}
+use Rattle.survey.specs.declared.Needs.{Needs}
 use Rattle.pocket.specs.declared.DataType.{DataType}
-use Rattle.pocket.specs.declared.GateAnswer.{GateAnswer}
-use Rattle.pocket.specs.declared.GateAnswer.TheVariants.{No}
 use Rattle.pocket.specs.Gate.{gate_of}
 use Rattle.merge.specs.declared.Services.{Services}
-use Rattle.merge.specs.declared.MergeAnswer.{MergeAnswer}
-use Rattle.merge.specs.declared.MergeAnswer.TheVariants.{BasicRefused, AdvancedRefused}
 use Rattle.merge.specs.Calls.{MergeClaim}
+use Rattle.merge.specs.declared.Merged.{Merged}
+use Rattle.merge.specs.declared.MergeRefusal.{MergeRefusal}
+use Rattle.merge.specs.declared.MergeRefusal.TheVariants.{Basic, Advanced}
 
 -- of an object that is refused so, whatever the refusal: each call says that very refusal, its number, place and field
 pub record ToldBy (object : List ℕ) (r : Refusal) : Type 0 where
-  pub judged : (answer : ReadAnswer) → answer ≡ judge_answer (headers_of object) (judge object) → answer ≡ NotRead r
-  pub taken_in : (most : OctetCount) (m m' : Memory) (answer : EditAnswer) → TakeInClaim object most m m' answer → answer ≡ NotChanged r
-  pub gated : (d : DataType) (answer : GateAnswer) → answer ≡ gate_of d object → answer ≡ No r
-  pub needed : (answer : Needed) → answer ≡ needed_of (judge object) → answer ≡ NeedsRefused r
+  pub judged : (answer : Result Counts Refusal) → answer ≡ judge_answer (headers_of object) (judge object) → answer ≡ Err r
+  pub taken_in : (most : OctetCount) (m m' : Memory) (answer : Result ℕ Refusal) → TakeInClaim object most m m' answer → answer ≡ Err r
+  pub gated : (d : DataType) (answer : Result (Unit {0}) Refusal) → answer ≡ gate_of d object → answer ≡ Err r
+  pub needed : (answer : Result Needs Refusal) → answer ≡ needed_of (judge object) → answer ≡ Err r
   pub as_second :
-      (first : List ℕ) (t : Items) → judge first ≡ accepted t → (answer : SameAnswer) → answer ≡ same_answer (judge first) (judge object) → answer ≡ SecondRefused r
+      (first : List ℕ) (t : Items) → judge first ≡ accepted t → (answer : Result Bool SameRefusal) → answer ≡ same_answer (judge first) (judge object)
+      → answer ≡ Err (Second r)
   pub as_basic :
-      (by : Services) (advanced : List ℕ) (m m' : Memory) (room room' : List ℕ) (answer : MergeAnswer) → MergeClaim by object advanced m m' room room' answer
-      → answer ≡ BasicRefused r
+      (by : Services) (advanced : List ℕ) (m m' : Memory) (room room' : List ℕ) (answer : Result Merged MergeRefusal)
+      → MergeClaim by object advanced m m' room room' answer
+      → answer ≡ Err (Basic r)
   pub as_advanced :
-      (by : Services) (basic : List ℕ) (t : Items) → judge basic ≡ accepted t → (m m' : Memory) (room room' : List ℕ) (answer : MergeAnswer)
-      → MergeClaim by basic object m m' room room' answer → answer ≡ AdvancedRefused r
+      (by : Services) (basic : List ℕ) (t : Items) → judge basic ≡ accepted t → (m m' : Memory) (room room' : List ℕ) (answer : Result Merged MergeRefusal)
+      → MergeClaim by basic object m m' room room' answer → answer ≡ Err (Advanced r)
 
 -- `scan` answers as `judge` does (2026-14), so `judged` is said of it too
 abbrev pub ToldByAll : Type 0

@@ -1,16 +1,12 @@
 -- Request 2026-06 of any memory that holds a tree (`tree_held n m ≡ some t`, format/specs/State), however it came there: by taking in, editing, normalising or merging.
 -- `tree_held` is a test that the calls make themselves, so no caller is asked for anything.
-use Rattle.std.specs.Prelude.{◌≡◌, true, cond, List, [], ◌∷◌, ◌++◌, ℕ, ◌≤◌, ◌<◌, eqb, length, take, get_or}
+use Rattle.std.specs.Prelude.{◌≡◌, true, cond, List, [], ◌∷◌, ◌++◌, ℕ, ◌≤◌, ◌<◌, eqb, length, take, get_or, Result, Ok, Err}
 use Rattle.std.proofs.Math.Option.{some}
 use Rattle.octets.specs.declared.counts.Octets.{Octets as OctetCount}
 use Rattle.octets.specs.Numbers.{Octets}
 use Rattle.text.specs.Tokens.{Entries}
 use Rattle.values.specs.Table.{known}
 use Rattle.format.specs.declared.Refusal.{Refusal}
-use Rattle.format.specs.declared.EditAnswer.{EditAnswer}
-use Rattle.format.specs.declared.EditAnswer.TheVariants.{HasRecords, NotChanged}
-use Rattle.format.specs.declared.WriteAnswer.{WriteAnswer}
-use Rattle.format.specs.declared.WriteAnswer.TheVariants.{Octets as Written}
 use Rattle.format.specs.Tree.{Items, count, records_of, bodies_of}
 use Rattle.format.specs.Tree.Items.{end, item}
 use Rattle.format.specs.Judge.{judge}
@@ -26,8 +22,7 @@ use Rattle.edits.specs.Tree.{Edit, is_there}
 use Rattle.edits.specs.Calls.{edited, EditClaim}
 use Rattle.edits.specs.Runs.{BringsOctets}
 use Rattle.merge.specs.declared.Services.{Services}
-use Rattle.merge.specs.declared.MergeAnswer.TheVariants.{Merged}
-use Rattle.merge.specs.Calls.{MergeClaim}
+use Rattle.merge.specs.Calls.{MergeClaim, records_size}
 use Rattle.demands.specs.One.{LiesIn}
 use Rattle.demands.specs.Two.{BodiesFound, ReadsBack}
 
@@ -36,9 +31,9 @@ use Rattle.demands.specs.Two.{BodiesFound, ReadsBack}
 -- what write_state writes of a tree that memory holds is accepted and means the tree, wherever the room is as long as its normal form
 abbrev pub StateReadsBack : Type 0
 StateReadsBack =
-    (n : ℕ) (m : Memory) (before after : List ℕ) (answer : WriteAnswer) → Octets m.store → Octets after → WriteStateClaim n m before after answer
+    (n : ℕ) (m : Memory) (before after : List ℕ) (answer : Result OctetCount Refusal) → Octets m.store → Octets after → WriteStateClaim n m before after answer
     → (t : Items) → tree_held n m ≡ some t → length (encode (means [] t)) ≤ length before
-    → (k : OctetCount) × (answer ≡ Written k) × ReadsBack t before after k
+    → (k : OctetCount) × (answer ≡ Ok k) × ReadsBack t before after k
 
 -- what the store has of each record, in the order of the records, of a tree whose texts have this token table: of an element that holds items nothing, of any other
 -- item its expanded text, its value in normal form or its plain octets (`stored`, format/specs/Loaded)
@@ -64,7 +59,8 @@ StateHandedOut = (n : ℕ) (m : Memory) (t : Items) → tree_held n m ≡ some t
 -- expanded text or the normal value of the object's own record of that number
 abbrev pub TakenStored : Type 0
 TakenStored =
-    (object : List ℕ) (most : OctetCount) (m m' : Memory) (n : ℕ) → Octets object → TakeInClaim object most m m' (HasRecords n) → (t : Items) → judge object ≡ accepted t
+    (object : List ℕ) (most : OctetCount) (m m' : Memory) (n : ℕ) → Octets object → TakeInClaim object most m m' (Ok n) → (t : Items)
+    → judge object ≡ accepted t
     → (i : ℕ) → i < n → body_at m'.store (span_of m'.store m'.lists.starts m'.lists.sizes i) ≡ get_or (stored_bodies (table_of t) 0 t) i []
 
 -- ---- runs of edits that begin at any memory that holds a tree
@@ -73,8 +69,8 @@ TakenStored =
 pub data Run (n₀ : ℕ) (m₀ : Memory) (t₀ : Items) : ℕ → Memory → Items → Type 0 where
   begun : Run n₀ m₀ t₀ n₀ m₀ t₀
   changed : (e : Edit) (m m' : Memory) (n n' : ℕ) (t u : Items) → Run n₀ m₀ t₀ n m t → Octets m.store → BringsOctets e
-      → EditClaim e n m m' (HasRecords n') → edited e t ≡ some u → Run n₀ m₀ t₀ n' m' u
-  stayed : (e : Edit) (m m' : Memory) (n : ℕ) (r : Refusal) (t : Items) → Run n₀ m₀ t₀ n m t → EditClaim e n m m' (NotChanged r) → Run n₀ m₀ t₀ n m' t
+      → EditClaim e n m m' (Ok n') → edited e t ≡ some u → Run n₀ m₀ t₀ n' m' u
+  stayed : (e : Edit) (m m' : Memory) (n : ℕ) (r : Refusal) (t : Items) → Run n₀ m₀ t₀ n m t → EditClaim e n m m' (Err r) → Run n₀ m₀ t₀ n m' t
 
 -- memory then holds the tree that the edits made, all stored sizes are right, and what is written of it means the very tree
 pub record RunEnds (n : ℕ) (m : Memory) (t : Items) : Type 0 where
@@ -89,21 +85,21 @@ RunFromHeld =
 -- such memory is left by take_in, by normalise and by merge: it holds the loaded tree of the object, with as many records as it is told
 pub record HoldsAfter : Type 0 where
   pub taken :
-      (object : List ℕ) (most : OctetCount) (m m' : Memory) (n : ℕ) → Octets object → TakeInClaim object most m m' (HasRecords n)
+      (object : List ℕ) (most : OctetCount) (m m' : Memory) (n : ℕ) → Octets object → TakeInClaim object most m m' (Ok n)
       → (t : Items) × (judge object ≡ accepted t) × (tree_held n m' ≡ some (loaded_of t))
   pub normalised :
-      (object : List ℕ) (m m' : Memory) (room room' : List ℕ) (k : OctetCount) → Octets object → NormaliseClaim object m m' room room' (Written k)
+      (object : List ℕ) (m m' : Memory) (room room' : List ℕ) (k : OctetCount) → Octets object → NormaliseClaim object m m' room room' (Ok k)
       → (t : Items) × (judge object ≡ accepted t) × (tree_held (count t) m' ≡ some (loaded_of t))
   pub merges :
       (by : Services) (basic advanced : List ℕ) (m m' : Memory) (room room' : List ℕ) (n : ℕ) (size : OctetCount) → Octets basic → Octets advanced → Octets room'
-      → MergeClaim by basic advanced m m' room room' (Merged n size)
+      → MergeClaim by basic advanced m m' room room' (Ok (records_size n size))
       → (t : Items) × (judge (take size.0 room') ≡ accepted t) × (tree_held n m' ≡ some (loaded_of t))
 
 -- "After any run of edits the tree writes the same octets as one built afresh with that content": two memories that hold trees of one content write the same
 abbrev pub HeldWritesAfresh : Type 0
 HeldWritesAfresh =
     (n k : ℕ) (m w : Memory) (t u : Items) → tree_held n m ≡ some t → tree_held k w ≡ some u → means [] t ≡ means [] u
-    → (room one two : List ℕ) (a b : WriteAnswer) → WriteStateClaim n m room one a → WriteStateClaim k w room two b → (a ≡ b) × (one ≡ two)
+    → (room one two : List ℕ) (a b : Result OctetCount Refusal) → WriteStateClaim n m room one a → WriteStateClaim k w room two b → (a ≡ b) × (one ≡ two)
 
 -- ---- "Room freed by an edit is used again"
 
@@ -112,24 +108,28 @@ HeldWritesAfresh =
 abbrev pub RoomUsedAgain : Type 0
 RoomUsedAgain =
     (e : Edit) (n k : ℕ) (m w : Memory) (t : Items) → tree_held n m ≡ some t → tree_held k w ≡ some t → places_in m ≡ places_in w → length m.store ≡ length w.store
-    → (m' w' : Memory) (a b : EditAnswer) → EditClaim e n m m' a → EditClaim e k w w' b → a ≡ b
+    → (m' w' : Memory) (a b : Result ℕ Refusal) → EditClaim e n m m' a → EditClaim e k w w' b → a ≡ b
 
 -- an edit takes nothing away from what is lent: places and store are as many and as long after any edit
 abbrev pub RoomStays : Type 0
-RoomStays = (e : Edit) (n : ℕ) (m m' : Memory) (answer : EditAnswer) → EditClaim e n m m' answer → (places_in m' ≡ places_in m) × (length m'.store ≡ length m.store)
+RoomStays =
+    (e : Edit) (n : ℕ) (m m' : Memory) (answer : Result ℕ Refusal) → EditClaim e n m m' answer
+    → (places_in m' ≡ places_in m) × (length m'.store ≡ length m.store)
 
 -- with 49,152 places and 32,768 octets of store an edit that names a record or place of the tree and whose result keeps the rules is refused only where the result's
 -- normal form has more than 32,768 octets
 abbrev pub EditAlways : Type 0
 EditAlways =
-    (e : Edit) (n : ℕ) (m m' : Memory) (answer : EditAnswer) → Octets m.store → BringsOctets e → EditClaim e n m m' answer → (t u : Items) → tree_held n m ≡ some t
-    → is_there e t ≡ true → edited e t ≡ some u → 49_152 ≤ places_in m → 32_768 ≤ length m.store → length (encode (means [] u)) ≤ 32_768 → answer ≡ HasRecords (count u)
+    (e : Edit) (n : ℕ) (m m' : Memory) (answer : Result ℕ Refusal) → Octets m.store → BringsOctets e → EditClaim e n m m' answer → (t u : Items)
+    → tree_held n m ≡ some t
+    → is_there e t ≡ true → edited e t ≡ some u → 49_152 ≤ places_in m → 32_768 ≤ length m.store → length (encode (means [] u)) ≤ 32_768 → answer ≡ Ok (count u)
 
 -- and with 16,384 places and 32,768 octets of store an object is taken in wherever its normal form is no longer than the caller says, and than 32,768 octets
 abbrev pub TakeInAlways : Type 0
 TakeInAlways =
-    (object : List ℕ) (most : OctetCount) (m m' : Memory) (answer : EditAnswer) → Octets object → TakeInClaim object most m m' answer → (t : Items) → judge object ≡ accepted t
-    → 16_384 ≤ places_in m → 32_768 ≤ length m.store → length (encode (meaning_of t)) ≤ most.0 → length (encode (meaning_of t)) ≤ 32_768 → answer ≡ HasRecords (count t)
+    (object : List ℕ) (most : OctetCount) (m m' : Memory) (answer : Result ℕ Refusal) → Octets object → TakeInClaim object most m m' answer → (t : Items)
+    → judge object ≡ accepted t
+    → 16_384 ≤ places_in m → 32_768 ≤ length m.store → length (encode (meaning_of t)) ≤ most.0 → length (encode (meaning_of t)) ≤ 32_768 → answer ≡ Ok (count t)
 
 -- ---- request 2026-08, "for any tree that isn't refused, edited ones too": of every tree that memory holds, written or not, no body has more than 32,768 octets
 abbrev pub HeldBodies : Type 0

@@ -1,13 +1,7 @@
 -- The cases that change requests name, as what the calls answer.
-use Rattle.std.specs.Prelude.{◌≡◌, List, [], ◌∷◌, ℕ, ◌+◌, ◌*◌, ◌≤◌, length, take}
+use Rattle.std.specs.Prelude.{◌≡◌, List, [], ◌∷◌, ℕ, ◌+◌, ◌*◌, ◌≤◌, length, take, Result, Ok, Err, Bool, true, false}
 use Rattle.octets.specs.Numbers.{Octets}
 use Rattle.octets.specs.declared.counts.Octets.{Octets as OctetCount}
-use Rattle.format.specs.declared.ReadAnswer.{ReadAnswer}
-use Rattle.format.specs.declared.ReadAnswer.TheVariants.{Records, NotRead}
-use Rattle.format.specs.declared.WriteAnswer.{WriteAnswer}
-use Rattle.format.specs.declared.WriteAnswer.TheVariants.{Octets as Written, NotWritten}
-use Rattle.format.specs.declared.SameAnswer.{SameAnswer}
-use Rattle.format.specs.declared.SameAnswer.TheVariants.{Same, Different, FirstRefused}
 use Rattle.format.specs.Answers.{refusal, wrong_value}
 use Rattle.format.specs.Tree.{Items, without_defaults}
 use Rattle.format.specs.Judge.{judge}
@@ -17,6 +11,10 @@ use Rattle.format.specs.Calls.{Lists, places, ReadClaim}
 use Rattle.format.specs.Same.{same_answer}
 use Rattle.format.specs.Bench.{accented}
 use Rattle.format.specs.State.{Memory}
+use Rattle.format.specs.declared.Counts.{Counts}
+use Rattle.format.specs.declared.Refusal.{Refusal}
+use Rattle.format.specs.declared.SameRefusal.{SameRefusal}
+use Rattle.format.specs.declared.SameRefusal.TheVariants.{First}
 use Rattle.state.specs.Taking.{WriteClaim, NormaliseClaim}
 use Rattle.xml.specs.Export.{ExportClaim}
 
@@ -41,29 +39,31 @@ named_memory n bodies = record { lists = named_records n; bodies = bodies; store
 -- eight pass: read gives the three records where there are places, normalise gives these octets again, and write doesn't find the records ill-formed
 pub record EightPass : Type 0 where
   pub read :
-      (before after : Lists) (answer : ReadAnswer) → ReadClaim (named 8) before after answer → 3 ≤ places before
-      → answer ≡ Records (record { records = 3; items = 3 })
+      (before after : Lists) (answer : Result Counts Refusal) → ReadClaim (named 8) before after answer → 3 ≤ places before
+      → answer ≡ Ok (record { records = 3; items = 3 })
   pub normalised :
-      (memory memory' : Memory) (room room' : List ℕ) (n : OctetCount) → NormaliseClaim (named 8) memory memory' room room' (Written n) → take n.0 room' ≡ named 8
-  pub written : (bodies bodies' before after : List ℕ) → 3 ≤ length bodies → WriteClaim 3 (named_memory 8 bodies) bodies' before after (NotWritten (refusal 16 0)) → ⊥
+      (memory memory' : Memory) (room room' : List ℕ) (n : OctetCount) → NormaliseClaim (named 8) memory memory' room room' (Ok n) → take n.0 room' ≡ named 8
+  pub written : (bodies bodies' before after : List ℕ) → 3 ≤ length bodies → WriteClaim 3 (named_memory 8 bodies) bodies' before after (Err (refusal 16 0)) → ⊥
 
 -- nine fail: 13 at the name's CDATA, and 16 of its records, whatever is lent
 pub record NineFail : Type 0 where
-  pub read : (before after : Lists) (answer : ReadAnswer) → ReadClaim (named 9) before after answer → answer ≡ NotRead (refusal 13 4)
+  pub read : (before after : Lists) (answer : Result Counts Refusal) → ReadClaim (named 9) before after answer → answer ≡ Err (refusal 13 4)
   pub normalised :
-      (memory memory' : Memory) (room room' : List ℕ) (answer : WriteAnswer) → NormaliseClaim (named 9) memory memory' room room' answer
-      → answer ≡ NotWritten (refusal 13 4)
+      (memory memory' : Memory) (room room' : List ℕ) (answer : Result OctetCount Refusal) → NormaliseClaim (named 9) memory memory' room room' answer
+      → answer ≡ Err (refusal 13 4)
   pub written :
-      (bodies bodies' before after : List ℕ) (answer : WriteAnswer) → WriteClaim 3 (named_memory 9 bodies) bodies' before after answer → answer ≡ NotWritten (refusal 16 0)
+      (bodies bodies' before after : List ℕ) (answer : Result OctetCount Refusal) → WriteClaim 3 (named_memory 9 bodies) bodies' before after answer
+      → answer ≡ Err (refusal 16 0)
 
 -- 2026-04: refusal 9 tells the field of a time that is wrong. What the calls answer of an object with one, whatever is lent
 pub record TellsField (object : List ℕ) (place field : ℕ) : Type 0 where
-  pub read : (before after : Lists) (answer : ReadAnswer) → ReadClaim object before after answer → answer ≡ NotRead (wrong_value place field)
+  pub read : (before after : Lists) (answer : Result Counts Refusal) → ReadClaim object before after answer → answer ≡ Err (wrong_value place field)
   pub normalised :
-      (memory memory' : Memory) (room room' : List ℕ) (answer : WriteAnswer) → NormaliseClaim object memory memory' room room' answer
-      → answer ≡ NotWritten (wrong_value place field)
-  pub compared : (other : List ℕ) (answer : SameAnswer) → answer ≡ same_answer (judge object) (judge other) → answer ≡ FirstRefused (wrong_value place field)
-  pub exported : (before after : List ℕ) (answer : WriteAnswer) → ExportClaim object before after answer → answer ≡ NotWritten (wrong_value place field)
+      (memory memory' : Memory) (room room' : List ℕ) (answer : Result OctetCount Refusal) → NormaliseClaim object memory memory' room room' answer
+      → answer ≡ Err (wrong_value place field)
+  pub compared : (other : List ℕ) (answer : Result Bool SameRefusal) → answer ≡ same_answer (judge object) (judge other)
+      → answer ≡ Err (First (wrong_value place field))
+  pub exported : (before after : List ℕ) (answer : Result OctetCount Refusal) → ExportClaim object before after answer → answer ≡ Err (wrong_value place field)
 
 -- a creation time of a wrong length, whose other fields would be wrong too; with a wrong date and all behind it; with wrong hours; minutes; seconds; and a version of
 -- a wrong length
@@ -91,10 +91,10 @@ unrecommended = 0x02 ∷ 0x04 ∷ 0x21 ∷ 0x02 ∷ 0x1C ∷ 0x00 ∷ []
 -- "no", which is the default, is read as a record, isn't in the normal form, and is the same as none; "yes" isn't
 pub record RecommendationNo : Type 0 where
   pub read :
-      (before after : Lists) (answer : ReadAnswer) → ReadClaim (recommended 1) before after answer → 4 ≤ places before
-      → answer ≡ Records (record { records = 4; items = 4 })
+      (before after : Lists) (answer : Result Counts Refusal) → ReadClaim (recommended 1) before after answer → 4 ≤ places before
+      → answer ≡ Ok (record { records = 4; items = 4 })
   pub normalised :
-      (memory memory' : Memory) (room room' : List ℕ) (n : OctetCount) → NormaliseClaim (recommended 1) memory memory' room room' (Written n)
+      (memory memory' : Memory) (room room' : List ℕ) (n : OctetCount) → NormaliseClaim (recommended 1) memory memory' room room' (Ok n)
       → take n.0 room' ≡ unrecommended
-  pub compared : (answer : SameAnswer) → answer ≡ same_answer (judge (recommended 1)) (judge unrecommended) → answer ≡ Same
-  pub yes-differs : (answer : SameAnswer) → answer ≡ same_answer (judge (recommended 2)) (judge unrecommended) → answer ≡ Different
+  pub compared : (answer : Result Bool SameRefusal) → answer ≡ same_answer (judge (recommended 1)) (judge unrecommended) → answer ≡ Ok true
+  pub yes-differs : (answer : Result Bool SameRefusal) → answer ≡ same_answer (judge (recommended 2)) (judge unrecommended) → answer ≡ Ok false

@@ -1,10 +1,9 @@
 -- Request 2026-13: no accepted object without a token table, of the same meaning, has fewer octets than the normal form, wherever that form fits document 01's
 -- limit. The meaning is that after request 2026-05: a default is nothing.
-use Rattle.std.specs.Prelude.{◌≡◌, List, [], ◌∷◌, ℕ, ◌≤◌, ◌<◌, length, take}
+use Rattle.std.specs.Prelude.{◌≡◌, List, [], ◌∷◌, ℕ, ◌≤◌, ◌<◌, length, take, Ok}
 use Rattle.std.proofs.Math.Option.{some}
 use Rattle.octets.specs.Numbers.{Octets}
 use Rattle.octets.specs.declared.counts.Octets.{Octets as OctetCount}
-use Rattle.format.specs.declared.WriteAnswer.TheVariants.{Octets as Written}
 use Rattle.format.specs.Tree.{Items}
 use Rattle.format.specs.Judge.{judge}
 use Rattle.format.specs.Judge.Judged.{accepted}
@@ -37,7 +36,8 @@ ElseNone = (object form : List ℕ) → normal object ≡ some form → 32_768 <
 -- so what normalise writes is the shortest, whatever is lent
 abbrev pub NormaliseShortest : Type 0
 NormaliseShortest =
-    (object : List ℕ) → Octets object → (memory memory' : Memory) (room room' : List ℕ) (n : OctetCount) → NormaliseClaim object memory memory' room room' (Written n)
+    (object : List ℕ) → Octets object → (memory memory' : Memory) (room room' : List ℕ) (n : OctetCount)
+    → NormaliseClaim object memory memory' room room' (Ok n)
     → ShortestPlain object (take n.0 room')
 
 -- P11 of document 01, with its token seven times: 17 octets, whose token table has "en"

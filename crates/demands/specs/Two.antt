@@ -3,16 +3,12 @@
 --
 -- The standard is the grammar (grammar/specs/Grammar): `Accepts object t` says that the octets are an object with the tree t. The premise `Octets` says that a list
 -- has numbers below 256 only: every slice of octets has, so every list that code can hand in or get back.
-use Rattle.std.specs.Prelude.{◌≡◌, ◌↔◌, List, [], ◌++◌, ℕ, suc, ◌≤◌, ◌<◌, length, take, drop, get_or}
+use Rattle.std.specs.Prelude.{◌≡◌, ◌↔◌, List, [], ◌++◌, ℕ, suc, ◌≤◌, ◌<◌, length, take, drop, get_or, Result, Ok, Err}
 use Rattle.std.proofs.lemmas.List.Edits.{sets}
 use Rattle.octets.specs.declared.counts.Octets.{Octets as OctetCount}
 use Rattle.octets.specs.Numbers.{Octets}
 use Rattle.format.specs.declared.Record.{Record}
 use Rattle.format.specs.declared.Refusal.{Refusal}
-use Rattle.format.specs.declared.ReadAnswer.{ReadAnswer}
-use Rattle.format.specs.declared.ReadAnswer.TheVariants.{Records, NotRead}
-use Rattle.format.specs.declared.WriteAnswer.{WriteAnswer}
-use Rattle.format.specs.declared.WriteAnswer.TheVariants.{Octets as Written}
 use Rattle.format.specs.Tree.{Items, count, records_of, bodies_of}
 use Rattle.format.specs.Judge.{judge}
 use Rattle.format.specs.Headers.{headers_of}
@@ -20,6 +16,7 @@ use Rattle.format.specs.Meaning.{means, table_of, meaning_of, encode}
 use Rattle.format.specs.Writer.{tree, tabled}
 use Rattle.format.specs.Calls.{Lists, row, places, judge_answer, span_of, body_at, ReadClaim, ReadRecordsClaim}
 use Rattle.format.specs.State.{Memory, body_sizes}
+use Rattle.format.specs.declared.Counts.{Counts}
 use Rattle.state.specs.Taking.{WriteClaim}
 use Rattle.grammar.specs.Grammar.{Accepts}
 use Rattle.demands.specs.One.{LiesIn, GivenTree}
@@ -29,21 +26,22 @@ use Rattle.demands.specs.One.{LiesIn, GivenTree}
 -- none of 1 to 13 is answered exactly when the octets are an object of the grammar, whatever is lent
 abbrev pub AcceptedExactly : Type 0
 AcceptedExactly =
-    (object : List ℕ) → Octets object → (before after : Lists) (answer : ReadAnswer) → ReadClaim object before after answer
-    → ((r : Refusal) → r.number ≤ 13 → answer ≡ NotRead r → ⊥) ↔ ((t : Items) × Accepts object t)
+    (object : List ℕ) → Octets object → (before after : Lists) (answer : Result Counts Refusal) → ReadClaim object before after answer
+    → ((r : Refusal) → r.number ≤ 13 → answer ≡ Err r → ⊥) ↔ ((t : Items) × Accepts object t)
 
 -- read hands out n records exactly when the octets are an object of the grammar, its tree has n known items but the token table, and there are places for them; the
 -- items that it counts are the headers of the object
 abbrev pub ReadExactly : Type 0
 ReadExactly =
-    (object : List ℕ) → Octets object → (before after : Lists) (answer : ReadAnswer) → ReadClaim object before after answer → (n items : ℕ)
-    → (answer ≡ Records (record { records = n; items = items })) ↔ ((t : Items) × Accepts object t × (n ≡ count t) × (items ≡ headers_of object) × (n ≤ places before))
+    (object : List ℕ) → Octets object → (before after : Lists) (answer : Result Counts Refusal) → ReadClaim object before after answer → (n items : ℕ)
+    → (answer ≡ Ok (record { records = n; items = items }))
+    ↔ ((t : Items) × Accepts object t × (n ≡ count t) × (items ≡ headers_of object) × (n ≤ places before))
 
 -- judge counts n records exactly when the octets are an object of the grammar whose tree has n known items but the token table; items likewise
 abbrev pub JudgedExactly : Type 0
 JudgedExactly =
-    (object : List ℕ) → Octets object → (answer : ReadAnswer) → answer ≡ judge_answer (headers_of object) (judge object) → (n items : ℕ)
-    → (answer ≡ Records (record { records = n; items = items })) ↔ ((t : Items) × Accepts object t × (n ≡ count t) × (items ≡ headers_of object))
+    (object : List ℕ) → Octets object → (answer : Result Counts Refusal) → answer ≡ judge_answer (headers_of object) (judge object) → (n items : ℕ)
+    → (answer ≡ Ok (record { records = n; items = items })) ↔ ((t : Items) × Accepts object t × (n ≡ count t) × (items ≡ headers_of object))
 
 -- ---- the tree handed out is the one those rules give
 
@@ -71,14 +69,14 @@ pub record HandedOut (object : List ℕ) (t : Items) (before after : Lists) (n :
 
 abbrev pub TreeHandedOut : Type 0
 TreeHandedOut =
-    (object : List ℕ) → Octets object → (before after : Lists) (n items : ℕ) → ReadClaim object before after (Records (record { records = n; items = items }))
+    (object : List ℕ) → Octets object → (before after : Lists) (n items : ℕ) → ReadClaim object before after (Ok (record { records = n; items = items }))
     → (t : Items) → Accepts object t → HandedOut object t before after n
 
 -- read_records: the slice too has the records, and then what it had
 abbrev pub SliceHandedOut : Type 0
 SliceHandedOut =
     (object : List ℕ) → Octets object → (before after : Lists) (slice slice' : List Record) (n items : ℕ)
-    → ReadRecordsClaim object before after slice slice' (Records (record { records = n; items = items }))
+    → ReadRecordsClaim object before after slice slice' (Ok (record { records = n; items = items }))
     → (t : Items) → Accepts object t → HandedOut object t before after n × (slice' ≡ records_of t ++ drop n slice)
 
 -- ---- a well-formed tree that fits is written so that it reads back with the same meaning
@@ -94,7 +92,7 @@ pub record ReadsBack (t : Items) (before after : List ℕ) (k : OctetCount) : Ty
 
 abbrev pub WrittenReadsBack : Type 0
 WrittenReadsBack =
-    (n : ℕ) (memory : Memory) (bodies' before after : List ℕ) (answer : WriteAnswer) → Octets memory.store → Octets after
+    (n : ℕ) (memory : Memory) (bodies' before after : List ℕ) (answer : Result OctetCount Refusal) → Octets memory.store → Octets after
     → WriteClaim n memory bodies' before after answer
     → (t : Items) → GivenTree n memory t → length (encode (means [] t)) ≤ length before → length (encode (means [] t)) ≤ 32_768
-    → (k : OctetCount) × (answer ≡ Written k) × ReadsBack t before after k × (bodies' ≡ sets memory.bodies 0 (body_sizes 0 t))
+    → (k : OctetCount) × (answer ≡ Ok k) × ReadsBack t before after k × (bodies' ≡ sets memory.bodies 0 (body_sizes 0 t))
