@@ -310,7 +310,8 @@ module _ (n i k : ℕ) (m : Memory) (t : Items) (holds : tree_held n m ≡ some 
           let same : taken ≡ store_octets (as_octets S) (as_octets A) = cc in
           let s = taken.store.0 in
           let a = taken.octets.0 in
-          enough-room q s a (ap (λ y. y.store.0) same) (ap (λ y. y.octets.0) same) (leb (used + s) (length m.store) && leb (framed_size (top_then i a m)) 32_768) refl
+          enough-room q s a (ap (λ y. y.store.0) same) (ap (λ y. y.octets.0) same)
+          (leb (used + s) (length m.store) && leb (framed_size (top_then i a m)) 32_768) refl
 
       go : (b : Bool) → leb (n + c) (places_in m) ≡ b → Fit (cond b (opened_by n used i j c m sizes) (Err NoRecords))
       go true q = measured q sizes sizes-are

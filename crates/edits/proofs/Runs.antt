@@ -100,15 +100,15 @@ pub record Written (t : Items) (room room' : List ℕ) (answer : Result OctetCou
   pub answers : answer ≡ write_answer (size_of room) (some t)
   pub leaves : room' ≡ sets room 0 (write_octets (size_of room) (some t))
 
-pub reached-written : {n : ℕ} {m : Memory} {t : Items} → Reached n m t → (room room' : List ℕ) (answer : Result OctetCount Refusal) → WriteStateClaim n m room room' answer
-    → Written t room room' answer
+pub reached-written : {n : ℕ} {m : Memory} {t : Items} → Reached n m t → (room room' : List ℕ) (answer : Result OctetCount Refusal)
+    → WriteStateClaim n m room room' answer → Written t room room' answer
 reached-written r room room' answer c =
     let e = reached-held r in
     record { answers = c.answers ∙ ap (write_answer (size_of room)) e; leaves = c.leaves ∙ ap (λ o. sets room 0 (write_octets (size_of room) o)) e }
 
 -- two runs to the same content write the same octets, whatever came before: one of them may be an object that is taken in and never edited
-pub same-written : {n k : ℕ} {m w : Memory} {t u : Items} → Reached n m t → Reached k w u → means [] t ≡ means [] u → (room one two : List ℕ) (a b : Result OctetCount Refusal)
-    → WriteStateClaim n m room one a → WriteStateClaim k w room two b → (a ≡ b) × (one ≡ two)
+pub same-written : {n k : ℕ} {m w : Memory} {t u : Items} → Reached n m t → Reached k w u → means [] t ≡ means [] u
+    → (room one two : List ℕ) (a b : Result OctetCount Refusal) → WriteStateClaim n m room one a → WriteStateClaim k w room two b → (a ≡ b) × (one ≡ two)
 unfolding write_answer write_octets
 same-written {t = t} {u = u} r q e room one two a b c d =
     let x = reached-written r room one a c in

@@ -44,7 +44,8 @@ module _ (index table body store store' : List ℕ) (at : ℕ) (answer : Result 
   text-done : (end : ℕ) → answer ≡ Ok end → BodyStored (expanded (entries table) body) store store' at end
   text-done end q = let d = put-done true (expanded (entries table) body) at store store' answer claim end q in record { ends = d.place; holds = d.laid }
 
-  text-no-room : answer ≡ Err NoRoom → at + length (expanded (entries table) body) ≤ length store → BodyStored (expanded (entries table) body) store store' at at
+  text-no-room : answer ≡ Err NoRoom
+      → at + length (expanded (entries table) body) ≤ length store → BodyStored (expanded (entries table) body) store store' at at
   text-no-room q h = put-room true (expanded (entries table) body) at store store' answer claim h q
 
   text-invalid : answer ≡ Err Invalid → BodyStored (expanded (entries table) body) store store' at at

@@ -12,13 +12,18 @@ plan_removal-requires c = subst Octets (sym (ap (λ m. m.store) c.of-memory.ensu
 
 pub resite-requires : goal.resite-requires
 resite-requires c =
-    closes-asks _ _ _ _ (c.plan_removal.ensures ∙ ap (removal_of _ _) c.of-memory.ensures) (λ i. omega (arith, c.slice_known-8-1.given i)) _ c.in_ok-gap.was (λ i. omega (arith, c.slice_known-4-1.given i))
+    let e = c.plan_removal.ensures ∙ ap (removal_of _ _) c.of-memory.ensures in
+    closes-asks _ _ _ _ e (λ i. omega (arith, c.slice_known-8-1.given i)) _ c.in_ok-gap.was (λ i. omega (arith, c.slice_known-4-1.given i))
 
 pub overflow_sub-gone : goal.overflow_sub-gone
-overflow_sub-gone c = omega (arith, closes-order _ _ _ _ (c.plan_removal.ensures ∙ ap (removal_of _ _) c.of-memory.ensures) (λ i. omega (arith, c.slice_known-8-1.given i)) _ c.in_ok-gap.was)
+overflow_sub-gone c =
+    let e = c.plan_removal.ensures ∙ ap (removal_of _ _) c.of-memory.ensures in
+    omega (arith, closes-order _ _ _ _ e (λ i. omega (arith, c.slice_known-8-1.given i)) _ c.in_ok-gap.was)
 
 pub overflow_sub-result : goal.overflow_sub-result
-overflow_sub-result c = omega (arith, closes-order _ _ _ _ (c.plan_removal.ensures ∙ ap (removal_of _ _) c.of-memory.ensures) (λ i. omega (arith, c.slice_known-8-1.given i)) _ c.in_ok-gap.was)
+overflow_sub-result c =
+    let e = c.plan_removal.ensures ∙ ap (removal_of _ _) c.of-memory.ensures in
+    omega (arith, closes-order _ _ _ _ e (λ i. omega (arith, c.slice_known-8-1.given i)) _ c.in_ok-gap.was)
 
 pub returns-in_err-gap : goal.returns-in_err-gap
 returns-in_err-gap c =
@@ -26,4 +31,6 @@ returns-in_err-gap c =
     refused-leaves _ _ _ _ (c.plan_removal.ensures ∙ ap (removal_of _ _) c.of-memory.ensures) _ c.in_err-gap.was _ (p.1 ∙ ap (λ z. Err z) p.2)
 
 pub returns : goal.returns
-returns c = closes-leaves _ _ _ _ (c.plan_removal.ensures ∙ ap (removal_of _ _) c.of-memory.ensures) (λ i. omega (arith, c.slice_known-8-1.given i)) _ c.in_ok-gap.was _ c.resite.ensures
+returns c =
+    let e = c.plan_removal.ensures ∙ ap (removal_of _ _) c.of-memory.ensures in
+    closes-leaves _ _ _ _ e (λ i. omega (arith, c.slice_known-8-1.given i)) _ c.in_ok-gap.was _ c.resite.ensures

@@ -21,19 +21,29 @@ offset_bounds-lists-number c =
     search (inside, rules)
 
 pub bounds-lists-number : goal.bounds-lists-number
-bounds-lists-number c = omega (arith, plan-number _ _ _ _ _ c.is_text_at.ensures c.if-not-is_text_at.false-raw, plan-places _ _ _ c.held.ensures _ (c.in-Some.is))
+bounds-lists-number c =
+    omega (arith, plan-number _ _ _ _ _ c.is_text_at.ensures c.if-not-is_text_at.false-raw, plan-places _ _ _ c.held.ensures _ (c.in-Some.is))
 
 pub bounds-lists-number-2 : goal.bounds-lists-number-2
-bounds-lists-number-2 c = omega (arith, plan-number _ _ _ _ _ c.is_text_at.ensures c.if-not-is_text_at.false-raw, plan-places _ _ _ c.held.ensures _ (c.in-Some.is))
+bounds-lists-number-2 c =
+    omega (arith, plan-number _ _ _ _ _ c.is_text_at.ensures c.if-not-is_text_at.false-raw, plan-places _ _ _ c.held.ensures _ (c.in-Some.is))
 
 pub returns-then-not-is_text_kept : goal.returns-then-not-is_text_kept
-returns-then-not-is_text_kept c = plan-unruled _ _ _ _ _ c.held.ensures _ (c.in-Some.is) _ c.is_text_at.ensures c.if-not-is_text_at.false-raw c.requires (λ j. omega (arith, c.type_inv.text j)) _ c.at_or-element.ensures _ c.is_text_kept.ensures c.if-not-is_text_kept.true-raw
+returns-then-not-is_text_kept c =
+    plan-unruled _ _ _ _ _ c.held.ensures _ (c.in-Some.is) _ c.is_text_at.ensures c.if-not-is_text_at.false-raw c.requires
+    (λ j. omega (arith, c.type_inv.text j)) _ c.at_or-element.ensures _ c.is_text_kept.ensures c.if-not-is_text_kept.true-raw
 
 pub text_fits-requires : goal.text_fits-requires
-text_fits-requires c = plan-sized _ _ _ _ _ c.held.ensures _ (c.in-Some.is) _ c.is_text_at.ensures c.if-not-is_text_at.false-raw c.requires (λ j. omega (arith, c.type_inv.text j)) _ c.at_or-element.ensures _ c.is_text_kept.ensures c.if-not-is_text_kept.false-raw
+text_fits-requires c =
+    plan-sized _ _ _ _ _ c.held.ensures _ (c.in-Some.is) _ c.is_text_at.ensures c.if-not-is_text_at.false-raw c.requires
+    (λ j. omega (arith, c.type_inv.text j)) _ c.at_or-element.ensures _ c.is_text_kept.ensures c.if-not-is_text_kept.false-raw
 
 pub returns-then-not-text_fits : goal.returns-then-not-text_fits
-returns-then-not-text_fits c = plan-full _ _ _ _ _ c.held.ensures _ (c.in-Some.is) _ c.is_text_at.ensures c.if-not-is_text_at.false-raw c.requires (λ j. omega (arith, c.type_inv.text j)) _ c.at_or-element.ensures _ c.is_text_kept.ensures c.if-not-is_text_kept.false-raw _ c.text_fits.ensures c.if-not-text_fits.true-raw
+returns-then-not-text_fits c =
+    plan-full _ _ _ _ _ c.held.ensures _ (c.in-Some.is) _ c.is_text_at.ensures c.if-not-is_text_at.false-raw c.requires
+    (λ j. omega (arith, c.type_inv.text j)) _ c.at_or-element.ensures _ c.is_text_kept.ensures c.if-not-is_text_kept.false-raw _ c.text_fits.ensures c.if-not-text_fits.true-raw
 
 pub returns : goal.returns
-returns c = plan-fits _ _ _ _ _ c.held.ensures _ (c.in-Some.is) _ c.is_text_at.ensures c.if-not-is_text_at.false-raw c.requires (λ j. omega (arith, c.type_inv.text j)) _ c.at_or-element.ensures _ c.is_text_kept.ensures c.if-not-is_text_kept.false-raw _ c.text_fits.ensures c.if-not-text_fits.false-raw
+returns c =
+    plan-fits _ _ _ _ _ c.held.ensures _ (c.in-Some.is) _ c.is_text_at.ensures c.if-not-is_text_at.false-raw c.requires
+    (λ j. omega (arith, c.type_inv.text j)) _ c.at_or-element.ensures _ c.is_text_kept.ensures c.if-not-is_text_kept.false-raw _ c.text_fits.ensures c.if-not-text_fits.false-raw

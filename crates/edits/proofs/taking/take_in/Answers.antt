@@ -9,15 +9,18 @@ use Rattle.edits.proofs.taking.take_in.Goals as goal
 
 pub lay-requires : goal.lay-requires
 lay-requires c =
-    take-can _ (λ i. omega (arith, c.type_inv.object i)) _ _ _ (counted _ _ _ _ _ (c.places_in-there.ensures ∙ ap (λ m. min (places m.lists) (length m.bodies)) c.of-memory.ensures) c.survey.ensures) c.in-Ok.is
+    let there = c.places_in-there.ensures ∙ ap (λ m. min (places m.lists) (length m.bodies)) c.of-memory.ensures in
+    take-can _ (λ i. omega (arith, c.type_inv.object i)) _ _ _ (counted _ _ _ _ _ there c.survey.ensures) c.in-Ok.is
 
 pub returns-in-Err-Bad : goal.returns-in-Err-Bad
 returns-in-Err-Bad c =
-    take-bad _ (λ i. omega (arith, c.type_inv.object i)) _ _ _ (counted _ _ _ _ _ (c.places_in-there.ensures ∙ ap (λ m. min (places m.lists) (length m.bodies)) c.of-memory.ensures) c.survey.ensures) _ (c.in-Err-Bad.is ∙ ap Err c.in-Err-Bad.field-0-is)
+    let there = c.places_in-there.ensures ∙ ap (λ m. min (places m.lists) (length m.bodies)) c.of-memory.ensures in
+    take-bad _ (λ i. omega (arith, c.type_inv.object i)) _ _ _ (counted _ _ _ _ _ there c.survey.ensures) _ (c.in-Err-Bad.is ∙ ap Err c.in-Err-Bad.field-0-is)
 
 pub returns-in-Err-Misfit : goal.returns-in-Err-Misfit
 returns-in-Err-Misfit c =
-    take-misfit _ (λ i. omega (arith, c.type_inv.object i)) _ _ _ (counted _ _ _ _ _ (c.places_in-there.ensures ∙ ap (λ m. min (places m.lists) (length m.bodies)) c.of-memory.ensures) c.survey.ensures) _ (c.in-Err-Misfit.is ∙ ap Err c.in-Err-Misfit.field-0-is)
+    let there = c.places_in-there.ensures ∙ ap (λ m. min (places m.lists) (length m.bodies)) c.of-memory.ensures in
+    take-misfit _ (λ i. omega (arith, c.type_inv.object i)) _ _ _ (counted _ _ _ _ _ there c.survey.ensures) _ (c.in-Err-Misfit.is ∙ ap Err c.in-Err-Misfit.field-0-is)
 
 pub shape_of-tags-in-Ok : goal.shape_of-tags-in-Ok
 shape_of-tags-in-Ok c =
@@ -49,4 +52,5 @@ shape_of-bodies-in-Ok c =
 
 pub returns-in-Ok : goal.returns-in-Ok
 returns-in-Ok c =
-    take-laid _ (λ i. omega (arith, c.type_inv.object i)) _ _ _ (counted _ _ _ _ _ (c.places_in-there.ensures ∙ ap (λ m. min (places m.lists) (length m.bodies)) c.of-memory.ensures) c.survey.ensures) c.in-Ok.is _ _ c.lay.ensures
+    let there = c.places_in-there.ensures ∙ ap (λ m. min (places m.lists) (length m.bodies)) c.of-memory.ensures in
+    take-laid _ (λ i. omega (arith, c.type_inv.object i)) _ _ _ (counted _ _ _ _ _ there c.survey.ensures) c.in-Ok.is _ _ c.lay.ensures
