@@ -5,9 +5,8 @@ ghost use Rattle.state.specs.Taking.{memory, shared_memory};
 use format::Records;
 
 // Memory to read in.
-// Kept: memory to write in is lent as eight slices, as C lends it (`spi_insert`). A struct of them was tried in small, and the borrow checker has no rule for two
-// things: to make one that holds a `RecordsMut` of C's slices, and to lend a call one of its slices to read and another to write, as raising the sizes of bodies
-// does.
+// Kept: memory to write in is lent as eight slices, as C lends it (`spi_insert`). A struct of them was tried in small, and the borrow checker has no rule for
+// two things: to make one that holds a `RecordsMut` of C's slices, and to lend a call one of its slices to read and another to write, as raising sizes does.
 #[derive(Clone, Copy)]
 pub struct Memory<'m> {
     pub records: Records<'m>,
