@@ -5,8 +5,8 @@ ghost use Rattle.state.specs.Taking.{memory, shared_memory};
 use format::Records;
 
 // Memory to read in.
-// Kept: memory to write in is lent as eight slices, as C lends it (`spi_insert`). A struct of them was tried, and the proof didn't close: each function that is
-// lent one has to promise that it holds the same references after, and the borrow checker has no rule for C's slices made into one that holds a `RecordsMut`.
+// Kept: memory to write in is lent as eight slices, as C lends it (`spi_insert`). A struct of them was tried in small, and the borrow checker has no rule for
+// two things: to make one that holds a `RecordsMut` of C's slices, and to lend a call one of its slices to read and another to write, as raising sizes does.
 #[derive(Clone, Copy)]
 pub struct Memory<'m> {
     pub records: Records<'m>,
