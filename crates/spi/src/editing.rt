@@ -29,10 +29,10 @@ struct Tree {
 }
 
 impl Tree {
-    // That of an object. Its octets in normal form are no more than an object may have.
-    fn of(object: &[u8]) -> Result<Tree, Refusal> {
-        let mut memory = Memory::new();
-        let records = edits::take_in(
+    // No more octets in normal form than an object may have.
+    fn take_in(&mut self, object: &[u8]) -> Result<(), Refusal> {
+        let memory = &mut self.memory;
+        self.records = edits::take_in(
             object,
             &mut memory.tags,
             &mut memory.kinds,
@@ -44,7 +44,7 @@ impl Tree {
             &mut memory.store,
             Octets(OBJECT),
         )?;
-        Ok(Tree { memory, records })
+        Ok(())
     }
 
     // The edit that is asked for, made by the library.
@@ -174,7 +174,12 @@ pub fn edited_form<'a>(
     input: &[u8],
     lent: &'a mut [u8],
 ) -> Result<(usize, &'a [u8]), Stop> {
-    let mut tree = Tree::of(object).map_err(|refusal| refused(rt, path, refusal))?;
+    let mut tree = Tree {
+        memory: Memory::new(),
+        records: 0,
+    };
+    tree.take_in(object)
+        .map_err(|refusal| refused(rt, path, refusal))?;
     let made = edit_lines(rt, path, input, &mut tree)?;
     Ok((made, tree.written(lent).unwrap_or(&[])))
 }
