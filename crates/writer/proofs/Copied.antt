@@ -1,4 +1,4 @@
--- Items that are written as they stand: what is known of the parts of such items, and that those of a loaded tree are such.
+-- Items that are written as they stand: what is known of the parts of such items, and that those of a tree that loading leaves as it is are such.
 use mathlib.Core.Path.{◌≡◌, refl, sym, ap, ◌∙◌, subst}
 use mathlib.Core.Bool.{Bool, true, false, cond, false≢true}
 use mathlib.Core.Option.{some, some-injective, none-ne-some}
@@ -7,27 +7,18 @@ use Prim.Native.Nat.{ℕ, ◌+◌}
 use lib.Dec.{eqb}
 use lib.ListN.{length}
 use borrow.Author.Tests.{eqb-true}
-use Rattle.octets.specs.Numbers.{Octets}
 use Rattle.octets.specs.Header.{framed}
-use Rattle.text.specs.Tokens.{Entries}
-use Rattle.text.proofs.Expansion.{Sound}
-use Rattle.values.specs.declared.Kind.{Kind}
 use Rattle.values.specs.Table.{known}
 use Rattle.values.specs.Values.{meant, octets_of}
-use Rattle.values.specs.Proper.{Proper}
-use Rattle.values.proofs.Values.{proper-means, proper-fits}
 use Rattle.format.specs.Tree.{Items, find}
 use Rattle.format.specs.Tree.Items.{end, item}
-use Rattle.format.specs.Judge.{is_value, judge}
-use Rattle.format.specs.Judge.Judged.{accepted}
-use Rattle.format.specs.Meaning.{opens, table_of}
-use Rattle.format.specs.Loaded.{stored, store_in, loaded_in, loaded_of}
-use Rattle.format.specs.Writer.{Spot, below, past, at_top, keeps, ruled}
+use Rattle.format.specs.Judge.{is_value}
+use Rattle.format.specs.Meaning.{opens}
+use Rattle.format.specs.Loaded.{stored, store_in, loaded_in}
+use Rattle.format.specs.Writer.{Spot, below, past, keeps, ruled}
 use Rattle.format.proofs.Fine.{known_is}
 use Rattle.format.proofs.Kept.{Ruled, keeps-parts, keeps-tag, ruled-parts}
-use Rattle.format.proofs.Told.{Told, ItemTold, accepted-told, accepted-sound}
-use Rattle.survey.specs.Normal.{value_octets}
-use Rattle.survey.proofs.Ways.{value-fits, item-known, told-value}
+use Rattle.survey.proofs.Ways.{value-fits, item-known}
 use Rattle.writer.specs.Steps.{Standing, AsLaid}
 
 -- an item and the items after it
@@ -89,43 +80,3 @@ held-laid (item tag from body x u) s at r e =
     go false o q inside after =
         let none : end ≡ x = cc in
         (subst (AsLaid tag) none tt, (λ n. held-own s tag body parts.rules cc), after (at + length own) parts.beside cc)
-
--- the octets of a value that is meant are its normal octets
-proper-octets : (T : Entries) (k : Kind) (body : List ℕ) → Proper k (meant T k body) → value_octets k (stored T (some k) body) ≡ stored T (some k) body
-unfolding stored
-proper-octets T k body h = value-fits k (octets_of (meant T k body)) (proper-fits h) ∙ ap octets_of (proper-means h)
-
-module _ (T : Entries) (sound : Sound T) (s : Spot) (tag : ℕ) (body : List ℕ) where
-  -- so what a told item takes of the store is written as it stands
-  stored-own : (x : Items) → ItemTold T s tag body x → eqb tag 4 ≡ false → opens tag ≡ false
-      → Standing s.parent tag (stored T (known s.parent tag) body)
-  stored-own x i f o d =
-      let k = told-value T sound s tag body x i f o in
-      rw k.1 (item-known s.parent tag (stored T (some k.0) body) k.0 f (rw k.1 at d) k.1 ∙ ap (framed tag) (proper-octets T k.0 body k.2))
-
-  abbrev Loaded : Spot → Items → Type 0
-  Loaded u t = (at : ℕ) → AsLaid u.parent (loaded_in T u.parent at t)
-
-  loaded-item : (from : ℕ) (x u : Items) → ItemTold T s tag body x → Loaded (below s tag) x → Loaded (past s tag) u → Loaded s (item tag from body x u)
-  unfolding loaded_in AsLaid below past
-  loaded-item from x u i inside after at = go (eqb tag 4) refl (opens tag) refl
-    where
-      own : List ℕ
-      own = stored T (known s.parent tag) body
-
-      go : (b : Bool) → eqb tag 4 ≡ b → (c : Bool) → opens tag ≡ c
-          → AsLaid s.parent (cond b (loaded_in T s.parent at u) (cond c (item tag 0 [] (loaded_in T tag at x) (loaded_in T s.parent (at + length (store_in T tag x)) u)) (item tag at own end (loaded_in T s.parent (at + length own) u))))
-      go true e c o = after at
-      go false e true o = (inside at, (λ n. absurd (false≢true (sym n ∙ o))), after (at + length (store_in T tag x)))
-      go false e false o = (tt, (λ n. stored-own x i e o), after (at + length own))
-
-pub loaded-laid : (T : Entries) → Sound T → (t : Items) (s : Spot) → Told T s t → (at : ℕ) → AsLaid s.parent (loaded_in T s.parent at t)
-unfolding loaded_in AsLaid
-loaded-laid T sound end s h at = tt
-loaded-laid T sound (item tag from body x u) s h at =
-    loaded-item T sound s tag body from x u h.0 (loaded-laid T sound x (below s tag) h.1) (loaded-laid T sound u (past s tag) h.2) at
-
--- the loaded tree of an accepted object
-pub accepted-laid : (o : List ℕ) (t : Items) → Octets o → judge o ≡ accepted t → AsLaid 0 (loaded_of t)
-unfolding at_top
-accepted-laid o t os h = loaded-laid (table_of t) (accepted-sound o t os h) t at_top (accepted-told o t os h) 0

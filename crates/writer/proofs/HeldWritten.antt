@@ -61,6 +61,21 @@ top-size (item tag at body x y) h c bodies n e =
     let own : normal_size 0 (item tag at body x y) ≡ framed_size (body_size 0 tag body x) + normal_size 0 y = rw counts at whole in
     ap framed_size first ∙ (omega (arith, own, none) ∙ size-whole (item tag at body x y) h)
 
+-- memory that can be written into a room as it stands
+pub record Ready (n : ℕ) (m : Memory) (room : List ℕ) : Type 0 where
+  pub holding : Holding n m.lists m.store
+  pub ordered : Ordered 0 (items_from m.lists n m.store 1 0).0
+  pub laid : AsLaid 0 (items_from m.lists n m.store 1 0).0
+  pub sizes : SizesStand n m.lists m.store m.bodies
+  pub fits : Fitting (later_octets 0 (items_from m.lists n m.store 1 0).0) 0 (length room)
+
+pub ready-as : {n : ℕ} {room : List ℕ} {m k : Memory} → k ≡ m → Ready n m room → Ready n k room
+ready-as {n = n} {room = room} e r = subst (λ x. Ready n x room) (sym e) r
+
+pub emits-as : (n : ℕ) {m k : Memory} (room after : List ℕ) (s : Reached) → k ≡ m → Emits (items_from k.lists n k.store 1 0) 0 0 room after s
+    → Emits (items_from m.lists n m.store 1 0) 0 0 room after s
+emits-as n room after s e g = subst (λ x. Emits (items_from x.lists n x.store 1 0) 0 0 room after s) e g
+
 -- ---- what write_state is told by `held`
 told_none : (o : Option Items) → None ≡ held_as o → o ≡ none
 unfolding held_as
@@ -109,21 +124,15 @@ module _ (n : ℕ) (m : Memory) (r : Optional ℕ) (e : r ≡ held_as (tree_held
       unfolding roomy
       fit = le-leb (length (encode (means [] t))) (min (length room) 32_768) (le-min (omega (arith, size_is)) is.small)
 
-      pub state-holding : Holding n m.lists m.store
-      state-holding = tree-holding n m.lists m.store t is.given
-
-      pub state-ordered : Ordered 0 (items_from m.lists n m.store 1 0).0
-      state-ordered = tree-ordered n m.lists m.store t is.given
-
-      pub state-laid : AsLaid 0 (items_from m.lists n m.store 1 0).0
+      pub state-ready : Ready n m room
       unfolding at_top
-      state-laid = subst (AsLaid 0) (sym (tree-items n m.lists m.store t is.given)) (held-laid t at_top 0 is.whole.rules is.packs)
-
-      pub state-sizes : SizesStand n m.lists m.store m.bodies
-      state-sizes = sizes-stand n m.lists m.store t is.given m.bodies is.fewer is.sizes
-
-      pub state-fits : Fitting (later_octets 0 (items_from m.lists n m.store 1 0).0) 0 (length room)
-      state-fits = tree-fits n m.lists m.store t is.given room fit
+      state-ready = record {
+        holding = tree-holding n m.lists m.store t is.given;
+        ordered = tree-ordered n m.lists m.store t is.given;
+        laid = subst (AsLaid 0) (sym (tree-items n m.lists m.store t is.given)) (held-laid t at_top 0 is.whole.rules is.packs);
+        sizes = sizes-stand n m.lists m.store t is.given m.bodies is.fewer is.sizes;
+        fits = tree-fits n m.lists m.store t is.given room fit;
+      }
 
       pub state-written : (after : List ℕ) (s : Reached) → Emits (items_from m.lists n m.store 1 0) 0 0 room after s
           → WriteStateClaim n m room after (Ok (as_octets s.end))

@@ -29,12 +29,9 @@ use Rattle.format.proofs.Loading.{loaded-means, loaded-count}
 use Rattle.survey.specs.Normal.{framed_size}
 use Rattle.state.specs.Order.{held_as}
 use Rattle.state.specs.Taking.{settled, taken_in, left, TakeInClaim, lent_by, loaded_into, NormaliseClaim, WriteStateClaim}
-use Rattle.state.proofs.HeldTree.{Fits, held, accepted-held}
+use Rattle.state.proofs.HeldTree.{Fits, accepted-held}
 use Rattle.state.proofs.Taken.{taken-ends, fitting-tree, fitting-room}
 use Rattle.edits.proofs.Surveyed.{same-overflow}
-use Rattle.writer.specs.Steps.{items_from, AsLaid}
-use Rattle.writer.proofs.Copied.{accepted-laid}
-use Rattle.writer.proofs.Whole.{tree-items}
 use Rattle.writer.proofs.HeldWritten.{tree, size_is}
 
 -- what taking in comes to, and what is answered, written and left then
@@ -143,11 +140,6 @@ module _ (o : List ℕ) (os : Octets o) (m : Memory) (room : List ℕ) where
             leaves = c.leaves ∙ is-taken comes;
             writes = y ∙ ap (sets room 0) (same-means ∙ sym told.given);
           }
-
-      pub normal-laid : AsLaid 0 (items_from m'.lists n m'.store 1 0).0
-      normal-laid =
-          let h = held n m' (loaded_of t) normal-held in
-          subst (AsLaid 0) (sym (tree-items n m'.lists m'.store (loaded_of t) h.given)) (accepted-laid o t os told.judged)
 
 -- ---- what was written lies in the room
 

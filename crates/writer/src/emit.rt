@@ -205,10 +205,17 @@ pub fn emit_items(
             Role::Element(tag) => {
                 let size = memory.bodies[i] as usize;
                 let from = put_header(room, end, tag, Octets(size));
-                let behind =
-                    emit_attributes(count, memory, i + 1, depth + 1, tag, room, from, stored);
-                let inner =
-                    emit_items(count, memory, i + 1, depth + 1, tag, room, behind, stored);
+                let behind = emit_attributes(
+                    count,
+                    memory,
+                    i + 1,
+                    depth + 1,
+                    tag,
+                    room,
+                    from,
+                    stored,
+                );
+                let inner = emit_items(count, memory, i + 1, depth + 1, tag, room, behind, stored);
                 end = inner.end;
                 i = inner.next;
             }

@@ -2,7 +2,7 @@ use Rattle.std.specs.Prelude.{Err}
 use mathlib.Core.Path.{ap}
 use native.Mathlib.Omega.{arith}
 use Rattle.state.specs.Taking.{shared_memory}
-use Rattle.writer.proofs.HeldWritten.{has_first, state-none, state-more, state-holding, state-ordered, state-laid, state-sizes, state-fits, state-written}
+use Rattle.writer.proofs.HeldWritten.{has_first, state-none, state-more, state-ready, state-written}
 use Rattle.writer.proofs.write_state.Goals as goal
 
 pub bounds-memory-0 : goal.bounds-memory-0
@@ -18,7 +18,8 @@ returns-then-framed_size-room c =
 pub emit_items-reached-requires : goal.emit_items-reached-requires
 emit_items-reached-requires c =
     let m = shared_memory c.args.memory.now in
-    record { holding = (state-holding _ m _ c.held.ensures _ c.in-Some.is c.args.room.now (omega (arith, c.if-framed_size-room.false, c.framed_size.ensures)), state-ordered _ m _ c.held.ensures _ c.in-Some.is c.args.room.now (omega (arith, c.if-framed_size-room.false, c.framed_size.ensures)), omega arith, omega arith); as_laid = (λ q. state-laid _ m _ c.held.ensures _ c.in-Some.is c.args.room.now (omega (arith, c.if-framed_size-room.false, c.framed_size.ensures))); sizes_stand = state-sizes _ m _ c.held.ensures _ c.in-Some.is c.args.room.now (omega (arith, c.if-framed_size-room.false, c.framed_size.ensures)); fitting = state-fits _ m _ c.held.ensures _ c.in-Some.is c.args.room.now (omega (arith, c.if-framed_size-room.false, c.framed_size.ensures)) }
+    let r = state-ready _ m _ c.held.ensures _ c.in-Some.is c.args.room.now (omega (arith, c.if-framed_size-room.false, c.framed_size.ensures)) in
+    record { holding = (r.holding, r.ordered, omega arith, omega arith); as_laid = λ q. r.laid; sizes_stand = r.sizes; fitting = r.fits }
 
 pub returns-in_default : goal.returns-in_default
 returns-in_default c =
