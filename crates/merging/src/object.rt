@@ -41,12 +41,7 @@ pub fn put_object(out: &mut [u8], by: Services, basic: &[u8], advanced: &[u8], e
 }
 
 // A result that takes so much, held against what is lent: places for records, octets of a store and of a room.
-pub fn fit(
-    needs: Needs,
-    places: usize,
-    store: Octets,
-    room: Octets,
-) -> Result<Merged, MergeRefusal>
+pub fn fit(needs: Needs, places: usize, store: Octets, room: Octets) -> Result<Merged, MergeRefusal>
     ensures { FitTold needs places store room result }
 {
     if needs.records > places {

@@ -86,9 +86,8 @@ fn partner_of<'a>(
     ensures { result.now ≡ partner_body by (entries_by index_a.now table_a.now) tag a.now (entries_by index_b.now table_b.now) part.now }
 {
     if merges(tag) {
-        let Some(lies) = find_partner(
-            by, tag, index_a, table_a, a, index_b, table_b, part, 0,
-        ) else {
+        let Some(lies) = find_partner(by, tag, index_a, table_a, a, index_b, table_b, part, 0)
+        else {
             return &part[0..0];
         };
         return &part[lies.from..lies.to];

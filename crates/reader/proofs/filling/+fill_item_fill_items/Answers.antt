@@ -86,9 +86,10 @@ fill_items-loop-at-smaller t c =
     omega (arith, nearer (here _ _ _ _ _ _ c.loop-at.invariant.0 c.loop-at-test.true _ c.item_at.ensures _ _ c.in-Some.is) c.loop-at.invariant.0.inside)
 
 pub fill_items-loop-at-preserved : goal.fill_items-loop-at-preserved
-fill_items-loop-at-preserved t c =
-    (again _ _ _ _ _ _ c.loop-at.invariant.0 c.loop-at-test.true _ c.item_at.ensures _ _ c.in-Some.is _ _ c.fill_item-next.ensures.fills,
-    stay-on _ _ _ c.loop-at.invariant.1 c.fill_item-next.ensures.stay)
+fill_items-loop-at-preserved t c = (
+  again _ _ _ _ _ _ c.loop-at.invariant.0 c.loop-at-test.true _ c.item_at.ensures _ _ c.in-Some.is _ _ c.fill_item-next.ensures.fills,
+  stay-on _ _ _ c.loop-at.invariant.1 c.fill_item-next.ensures.stay,
+)
 
 pub fill_items-returns : goal.fill_items-returns
 fill_items-returns t c =
