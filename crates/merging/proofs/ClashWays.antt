@@ -9,7 +9,6 @@ use native.Mathlib.Omega.{arith}
 use borrow.Author.Tests.{eq-eqb, ne_eqb}
 use Rattle.text.specs.Tokens.{Entries, expanded}
 use Rattle.format.specs.Same.{same_octets}
-use Rattle.survey.specs.Places.{span_of_tag}
 use Rattle.compare.specs.Items.{counted_span}
 use Rattle.compare.specs.Walks.{children_in}
 use Rattle.merge.specs.declared.Services.{Services}

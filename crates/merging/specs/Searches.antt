@@ -1,5 +1,5 @@
 -- Child elements, each with its tag and its body, of which one is sought by a test.
-use Rattle.std.specs.Prelude.{◌≡◌, Bool, true, false, cond, ◌||◌, List, [], ◌∷◌, ℕ, ◌≤◌, ◌<◌, length, drop, Some, None, Option as Optional}
+use Rattle.std.specs.Prelude.{◌≡◌, Bool, false, cond, ◌||◌, List, [], ◌∷◌, ℕ, ◌≤◌, ◌<◌, length, drop, Some, None, Option as Optional}
 use Rattle.std.specs.Fn.{Shared}
 use denote.Ref.{Bor}
 use Rattle.std.proofs.Math.Option.{Option, none, some}
