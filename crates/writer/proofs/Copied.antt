@@ -7,18 +7,22 @@ use Prim.Native.Nat.{ℕ, ◌+◌}
 use lib.Dec.{eqb}
 use lib.ListN.{length}
 use borrow.Author.Tests.{eqb-true}
+use Rattle.octets.specs.Numbers.{Octets}
 use Rattle.octets.specs.Header.{framed}
 use Rattle.values.specs.Table.{known}
 use Rattle.values.specs.Values.{meant, octets_of}
 use Rattle.format.specs.Tree.{Items, find}
 use Rattle.format.specs.Tree.Items.{end, item}
-use Rattle.format.specs.Judge.{is_value}
+use Rattle.format.specs.Judge.{judge, is_value}
+use Rattle.format.specs.Judge.Judged.{accepted}
 use Rattle.format.specs.Meaning.{opens}
-use Rattle.format.specs.Loaded.{stored, store_in, loaded_in}
-use Rattle.format.specs.Writer.{Spot, below, past, keeps, ruled}
+use Rattle.format.specs.Loaded.{stored, store_in, loaded_in, loaded_of}
+use Rattle.format.specs.Writer.{Spot, below, past, at_top, keeps, ruled}
 use Rattle.format.proofs.Fine.{known_is}
 use Rattle.format.proofs.Kept.{Ruled, keeps-parts, keeps-tag, ruled-parts}
+use Rattle.format.proofs.Loading.{loaded-ruled}
 use Rattle.survey.proofs.Ways.{value-fits, item-known}
+use Rattle.state.proofs.Packed.{accepted-packs}
 use Rattle.writer.specs.Steps.{Standing, AsLaid}
 
 -- an item and the items after it
@@ -80,3 +84,8 @@ held-laid (item tag from body x u) s at r e =
     go false o q inside after =
         let none : end ≡ x = cc in
         (subst (AsLaid tag) none tt, (λ n. held-own s tag body parts.rules cc), after (at + length own) parts.beside cc)
+
+-- the loaded tree of an accepted object, which loading leaves as it is
+pub accepted-laid : (o : List ℕ) (t : Items) → Octets o → judge o ≡ accepted t → AsLaid 0 (loaded_of t)
+unfolding at_top
+accepted-laid o t os h = held-laid (loaded_of t) at_top 0 (loaded-ruled o t os h) (accepted-packs o t os h)
