@@ -1,4 +1,5 @@
 -- The ways through the program's functions that aren't arithmetic alone: where octets first differ, what is handed out within its room, items of a part.
+use Rattle.std.specs.Prelude.{Some, Result, Ok, Err, Option as Optional}
 use mathlib.Core.Path.{◌≡◌, refl, ap}
 use mathlib.Core.List.{List, []}
 use Prim.Native.Nat.{ℕ, suc, ◌+◌, ◌-◌, ◌^◌, ◌≤◌, ◌<◌, min}
@@ -10,30 +11,28 @@ use lib.Dec.{leb}
 use mir.Syntax.{w64}
 use mir.Val.{Fits}
 use borrow.Author.Tests.{eq-eqb, ne_eqb, leb-true, leb-false}
-use Rattle.octets.specs.declared.counts.Octets.{Octets as OctetCount}
+use Rattle.octets.specs.declared.counts.Octets.{Octets}
 use Rattle.octets.specs.Counts.{size_of}
-use Rattle.octets.specs.declared.Lies.{Lies}
-use Rattle.octets.specs.declared.Lies.TheVariants.{Between}
 use Rattle.octets.specs.Places.{lies_at}
 use Rattle.octets.proofs.Lists.{drop-next, length_part}
 use Rattle.octets.proofs.Places.{Lying, lying, bounds, nearer}
-use Rattle.format.specs.declared.WriteAnswer.{WriteAnswer}
-use Rattle.format.specs.declared.WriteAnswer.TheVariants.{Octets, NotWritten}
+use Rattle.octets.specs.declared.Lies.{Lies}
 use Rattle.format.specs.Answers.{write_outcome, refusal}
 use Rattle.format.specs.State.{Memory, places_in, tree_held}
 use Rattle.state.specs.Taking.{NormaliseClaim, WriteStateClaim}
 use Rattle.format.specs.Tree.{Items}
 use Rattle.format.specs.Meaning.{means, encode}
 use Rattle.format.specs.Calls.{roomy, write_answer}
+use Rattle.format.specs.declared.Refusal.{Refusal}
 use Rattle.fold.specs.Packed.{packed}
 use Rattle.fold.specs.Calls.{pack_answer, PackClaim}
 use Rattle.xml.specs.Export.{ExportClaim}
 use Rattle.xml.proofs.Objects.{export-inside}
 use Rattle.writer.proofs.Normalised.{written-inside}
 use Rattle.merge.specs.declared.Services.{Services}
-use Rattle.merge.specs.declared.MergeAnswer.{MergeAnswer}
-use Rattle.merge.specs.declared.MergeAnswer.TheVariants.{Merged}
 use Rattle.merge.specs.Calls.{MergeClaim}
+use Rattle.merge.specs.declared.Merged.{Merged}
+use Rattle.merge.specs.declared.MergeRefusal.{MergeRefusal}
 use Rattle.merging.proofs.Deciding.{merge-size}
 use Rattle.spi.specs.Common.{common}
 
@@ -82,78 +81,77 @@ module _ (a b : List ℕ) (i : ℕ) (v : Shared a b i) where
         let next : common (drop i a) (drop i b) ≡ rest = rw (drop-next a i 0 h, drop-next b i 0 g, alike) in
         record { first = omega arith; second = omega arith; rest = omega (arith, v.rest) }
 
-pub ruleset shared-ways = (shared-begin, shared-end, shared-differ, shared-again)
+pub ruleset shared_ways = (shared-begin, shared-end, shared-differ, shared-again)
 
 -- ---- an XML and a normal form, packed, merged or neither
 
 -- what is handed out lies in the room
-pub normal-within : (o : List ℕ) (m m' : Memory) (room room' : List ℕ) (answer : WriteAnswer) → NormaliseClaim o m m' room room' answer
+pub normal_within : (o : List ℕ) (m m' : Memory) (room room' : List ℕ) (answer : Result Octets Refusal) → NormaliseClaim o m m' room room' answer
     → length room' ≡ length room → (write_outcome answer).count ≤ length room'
-normal-within o m m' room room' (Octets n) c e = omega (arith, written-inside o m m' room room' n c)
-normal-within o m m' room room' (NotWritten r) c e = omega arith
+normal_within o m m' room room' (Ok n) c e = omega (arith, written-inside o m m' room room' n c)
+normal_within o m m' room room' (Err r) c e = omega arith
 
-pub xml-within : (o room room' : List ℕ) (answer : WriteAnswer) → ExportClaim o room room' answer → length room' ≡ length room
+pub xml_within : (o room room' : List ℕ) (answer : Result Octets Refusal) → ExportClaim o room room' answer → length room' ≡ length room
     → (write_outcome answer).count ≤ length room'
-xml-within o room room' (Octets n) c e = omega (arith, export-inside o room room' n c)
-xml-within o room room' (NotWritten r) c e = omega arith
+xml_within o room room' (Ok n) c e = omega (arith, export-inside o room room' n c)
+xml_within o room room' (Err r) c e = omega arith
 
-pub pack-within : (o room room' : List ℕ) (answer : WriteAnswer) → PackClaim o room room' answer → length room' ≡ length room
+-- octets that are handed out where the room, and an object, has as many
+fits : (room octets : List ℕ)
+    → (write_outcome (cond (leb (length octets) (min (length room) 32_768)) (Ok (size_of octets)) (Err (refusal 15 0)))).count ≤ length room
+fits room octets = go (leb (length octets) (min (length room) 32_768)) refl
+  where
+    go : (b : Bool) → leb (length octets) (min (length room) 32_768) ≡ b
+        → (write_outcome (cond b (Ok (size_of octets)) (Err (refusal 15 0)))).count ≤ length room
+    go true h = omega (arith, leb-true (length octets) (min (length room) 32_768) h)
+    go false h = omega arith
+
+pub pack_within : (o room room' : List ℕ) (answer : Result Octets Refusal) → PackClaim o room room' answer → length room' ≡ length room
     → (write_outcome answer).count ≤ length room'
 unfolding pack_answer roomy
-pack-within o room room' answer c e = omega (arith, ap (λ a. (write_outcome a).count) c.answers, few (packed o))
+pack_within o room room' answer c e = omega (arith, ap (λ a. (write_outcome a).count) c.answers, few (packed o))
   where
     few : (p : Option (List ℕ)) → (write_outcome (pack_answer (size_of room) p)).count ≤ length room
     few none = omega arith
-    few (some p) = go (leb (length p) (min (length room) 32_768)) refl
-      where
-        go : (b : Bool) → leb (length p) (min (length room) 32_768) ≡ b
-            → (write_outcome (cond b (Octets (size_of p)) (NotWritten (refusal 15 0)))).count ≤ length room
-        go true h = omega (arith, leb-true (length p) (min (length room) 32_768) h)
-        go false h = omega arith
+    few (some p) = fits room p
 
-pub state-within : (n : ℕ) (m : Memory) (room room' : List ℕ) (answer : WriteAnswer) → WriteStateClaim n m room room' answer → length room' ≡ length room
-    → (write_outcome answer).count ≤ length room'
+pub state_within : (n : ℕ) (m : Memory) (room room' : List ℕ) (answer : Result Octets Refusal) → WriteStateClaim n m room room' answer
+    → length room' ≡ length room → (write_outcome answer).count ≤ length room'
 unfolding write_answer roomy
-state-within n m room room' answer c e = omega (arith, ap (λ a. (write_outcome a).count) c.answers, few (tree_held n m))
+state_within n m room room' answer c e = omega (arith, ap (λ a. (write_outcome a).count) c.answers, few (tree_held n m))
   where
     few : (o : Option Items) → (write_outcome (write_answer (size_of room) o)).count ≤ length room
     few none = omega arith
-    few (some t) = go (leb (length (encode (means [] t))) (min (length room) 32_768)) refl
-      where
-        go : (b : Bool) → leb (length (encode (means [] t))) (min (length room) 32_768) ≡ b
-            → (write_outcome (cond b (Octets (size_of (encode (means [] t)))) (NotWritten (refusal 15 0)))).count ≤ length room
-        go true h = omega (arith, leb-true (length (encode (means [] t))) (min (length room) 32_768) h)
-        go false h = omega arith
+    few (some t) = fits room (encode (means [] t))
 
-pub merged-within : (by : Services) (basic advanced : List ℕ) (m m' : Memory) (room room' : List ℕ) (answer : MergeAnswer)
-    → MergeClaim by basic advanced m m' room room' answer → length room' ≡ length room
-    → (records : ℕ) (size : OctetCount) → answer ≡ Merged records size → size.0 ≤ length room'
-merged-within by basic advanced m m' room room' answer c e records size q =
-    let inside = merge-size by basic advanced (places_in m) (size_of m.store) room room answer (record { answers = c.answers; leaves = refl }) records size q in
+pub merged_within : (by : Services) (basic advanced : List ℕ) (m m' : Memory) (room room' : List ℕ) (answer : Result Merged MergeRefusal)
+    → MergeClaim by basic advanced m m' room room' answer → length room' ≡ length room → (done : Merged) → answer ≡ Ok done → done.size.0 ≤ length room'
+merged_within by basic advanced m m' room room' answer c e done q =
+    let inside = merge-size by basic advanced (places_in m) (size_of m.store) room room answer (record { answers = c.answers; leaves = refl }) _ _ q in
     omega (arith, e, inside)
 
 -- ---- items in a part
 
-module _ (part : List ℕ) (at : ℕ) (r : Lies) (e : r ≡ lies_at part at) (h : at < length part) (from to : ℕ) (q : r ≡ Between from to) where
-  here : Lying part at from to
-  here = lying part at r e from to q
+module _ (part : List ℕ) (at : ℕ) (r : Optional Lies) (e : r ≡ lies_at part at) (h : at < length part) (lies : Lies) (q : r ≡ Some lies) where
+  here : Lying part at lies.from lies.to
+  here = lying part at r e _ _ q
 
-  within : (from ≤ to) × (to ≤ length part)
+  within : (lies.from ≤ lies.to) × (lies.to ≤ length part)
   within = let b = bounds here (omega arith) in (b.1, b.2)
 
-  pub item-ordered : from ≤ to
+  pub item-ordered : lies.from ≤ lies.to
   item-ordered = within.0
 
-  pub item-inside : to ≤ length part
+  pub item-inside : lies.to ≤ length part
   item-inside = within.1
 
-  pub item-nearer : length part - to < length part - at
+  pub item-nearer : length part - lies.to < length part - at
   item-nearer = nearer here (omega arith)
 
-  pub item-body : (offset : ℕ) → offset + length part < 2 ^ 63 → offset + from + length (take (to - from) (drop from part)) < 2 ^ 63
-  item-body offset b = omega (arith, length_part part from (to - from) (omega (arith, within)), within)
+  pub item-body : (offset : ℕ) → offset + length part < 2 ^ 63 → offset + lies.from + length (take (lies.to - lies.from) (drop lies.from part)) < 2 ^ 63
+  item-body offset b = omega (arith, length_part part lies.from (lies.to - lies.from) (omega (arith, within)), within)
 
-  pub item_from : (offset : ℕ) → offset + length part < 2 ^ 63 → Fits w64 (offset + from)
+  pub item_from : (offset : ℕ) → offset + length part < 2 ^ 63 → Fits w64 (offset + lies.from)
   item_from offset b = omega (arith, within)
 
-pub ruleset item-ways = (item-ordered, item-inside, item-nearer, item-body, item_from)
+pub ruleset item_ways = (item-ordered, item-inside, item-nearer, item-body, item_from)

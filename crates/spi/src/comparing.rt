@@ -4,7 +4,6 @@ use crate::memory::OBJECT;
 use crate::objects::{judged, normal_form};
 use crate::status::{Ended, Stop};
 use crate::words::shared;
-use format::SameAnswer;
 
 // Two accepted objects. They are compared whatever their normal forms have; where both can be told, so can the place of the first difference.
 fn report(
@@ -20,10 +19,7 @@ fn report(
     let mut room_b = [0u8; OBJECT];
     let normal_a = normal_form(a, &mut room_a).ok();
     let normal_b = normal_form(b, &mut room_b).ok();
-    let same = match compare::same(a, b) {
-        SameAnswer::Same => true,
-        _ => false,
-    };
+    let same = matches!(compare::same(a, b), Ok(true));
     say(
         rt,
         if same {

@@ -3,10 +3,10 @@
 use crate::asking::{Verb, number_of, octets_in, split_word};
 use crate::files::load;
 use crate::lines::{edit_refused, refused};
-use crate::memory::{FILE, OBJECT, TREE_PLACES};
+use crate::memory::{FILE, Memory, OBJECT, TREE_PLACES};
 use crate::objects::written;
 use crate::status::Stop;
-use format::{EditAnswer, Refusal};
+use format::Refusal;
 use octets::Octets;
 use streams::complain;
 
@@ -21,33 +21,100 @@ fn bring<'a>(rt: &HostRuntime, verb: Verb, rest: &'a [u8], buf: &'a mut [u8]) ->
     }
 }
 
-// The edit that is asked for, made by the library.
-fn make(
-    verb: Verb,
-    number: usize,
-    place: usize,
-    given: &[u8],
+// A tree in memory that is lent for it, of so many records.
+#[derive(Drop)]
+struct Tree {
+    memory: Memory<TREE_PLACES>,
     records: usize,
-    tags: &mut [u8],
-    kinds: &mut [u8],
-    depths: &mut [u8],
-    parents: &mut [u16],
-    starts: &mut [u16],
-    sizes: &mut [u16],
-    bodies: &mut [u16],
-    store: &mut [u8],
-) -> EditAnswer {
-    match verb {
-        Verb::Insert | Verb::InsertFile => edits::insert(
-            records, number, place, given, tags, kinds, depths, parents, starts, sizes, bodies,
-            store,
-        ),
-        Verb::Remove => edits::remove(
-            records, number, tags, kinds, depths, parents, starts, sizes, bodies, store,
-        ),
-        Verb::Text | Verb::TextHex => edits::replace_text(
-            records, number, given, tags, kinds, depths, parents, starts, sizes, bodies, store,
-        ),
+}
+
+impl Tree {
+    // That of an object. Its octets in normal form are no more than an object may have.
+    fn of(object: &[u8]) -> Result<Tree, Refusal> {
+        let mut memory = Memory::new();
+        let records = edits::take_in(
+            object,
+            &mut memory.tags,
+            &mut memory.kinds,
+            &mut memory.depths,
+            &mut memory.parents,
+            &mut memory.starts,
+            &mut memory.sizes,
+            &mut memory.bodies,
+            &mut memory.store,
+            Octets(OBJECT),
+        )?;
+        Ok(Tree { memory, records })
+    }
+
+    // The edit that is asked for, made by the library.
+    fn edit(
+        &mut self,
+        verb: Verb,
+        number: usize,
+        place: usize,
+        given: &[u8],
+    ) -> Result<(), Refusal> {
+        let memory = &mut self.memory;
+        self.records = match verb {
+            Verb::Insert | Verb::InsertFile => edits::insert(
+                self.records,
+                number,
+                place,
+                given,
+                &mut memory.tags,
+                &mut memory.kinds,
+                &mut memory.depths,
+                &mut memory.parents,
+                &mut memory.starts,
+                &mut memory.sizes,
+                &mut memory.bodies,
+                &mut memory.store,
+            )?,
+            Verb::Remove => edits::remove(
+                self.records,
+                number,
+                &mut memory.tags,
+                &mut memory.kinds,
+                &mut memory.depths,
+                &mut memory.parents,
+                &mut memory.starts,
+                &mut memory.sizes,
+                &mut memory.bodies,
+                &mut memory.store,
+            )?,
+            Verb::Text | Verb::TextHex => edits::replace_text(
+                self.records,
+                number,
+                given,
+                &memory.tags,
+                &memory.kinds,
+                &memory.depths,
+                &memory.parents,
+                &mut memory.starts,
+                &mut memory.sizes,
+                &mut memory.bodies,
+                &mut memory.store,
+            )?,
+        };
+        Ok(())
+    }
+
+    // The tree's normal form in a lent room.
+    #[tactic(auto, using(crate::proofs::Ways::state_within))]
+    fn written<'a>(&self, lent: &'a mut [u8]) -> Result<&'a [u8], Refusal> {
+        let memory = state::Memory::of(
+            &self.memory.tags,
+            &self.memory.kinds,
+            &self.memory.depths,
+            &self.memory.parents,
+            &self.memory.starts,
+            &self.memory.sizes,
+            &self.memory.bodies,
+            &self.memory.store,
+        );
+        let answer = writer::write_state(self.records, &memory, lent);
+        written(answer, lent)
     }
 }
 
@@ -58,22 +125,14 @@ fn unread(rt: &HostRuntime, path: &[u8], number: usize) -> Stop {
     Stop::Failed
 }
 
-// An edit, which is a line with something on it, of which is said why it isn't made, or else nothing: how many records there are then.
+// An edit, which is a line with something on it, of which is said why it isn't made, or else nothing.
 fn edit_line(
     rt: &HostRuntime,
     path: &[u8],
     line: &[u8],
     this: usize,
-    records: usize,
-    tags: &mut [u8],
-    kinds: &mut [u8],
-    depths: &mut [u8],
-    parents: &mut [u16],
-    starts: &mut [u16],
-    sizes: &mut [u16],
-    bodies: &mut [u16],
-    store: &mut [u8],
-) -> Result<usize, Stop> {
+    tree: &mut Tree,
+) -> Result<(), Stop> {
     let (word, behind) = split_word(line);
     let Some(verb) = Verb::named(word) else {
         return Err(unread(rt, path, this));
@@ -90,63 +149,21 @@ fn edit_line(
     else {
         return Err(unread(rt, path, this));
     };
-    let answer = make(
-        verb, number, child, given, records, tags, kinds, depths, parents, starts, sizes, bodies,
-        store,
-    );
-    match answer {
-        EditAnswer::HasRecords(count) => Ok(count),
-        EditAnswer::NotChanged(refusal) => Err(edit_refused(rt, path, this, refusal)),
-    }
+    tree.edit(verb, number, child, given)
+        .map_err(|refusal| edit_refused(rt, path, this, refusal))
 }
 
-// All lines of the input, until one isn't made: how many edits were made, and how many records there are.
-fn edit_lines(
-    rt: &HostRuntime,
-    path: &[u8],
-    input: &[u8],
-    taken: usize,
-    tags: &mut [u8],
-    kinds: &mut [u8],
-    depths: &mut [u8],
-    parents: &mut [u16],
-    starts: &mut [u16],
-    sizes: &mut [u16],
-    bodies: &mut [u16],
-    store: &mut [u8],
-) -> Result<(usize, usize), Stop> {
+// All lines of the input, until one isn't made: how many edits were made.
+fn edit_lines(rt: &HostRuntime, path: &[u8], input: &[u8], tree: &mut Tree) -> Result<usize, Stop> {
     let mut made: usize = 0;
-    let mut records = taken;
     for line in input.split(|octet| *octet == b'\n') {
         if line.is_empty() {
             continue;
         }
         made = made.saturating_add(1);
-        records = edit_line(
-            rt, path, line, made, records, tags, kinds, depths, parents, starts, sizes, bodies,
-            store,
-        )?;
+        edit_line(rt, path, line, made, tree)?;
     }
-    Ok((made, records))
-}
-
-// The tree in lent memory, in a lent room.
-fn written_form<'a>(
-    records: usize,
-    tags: &[u8],
-    kinds: &[u8],
-    depths: &[u8],
-    parents: &[u16],
-    starts: &[u16],
-    sizes: &[u16],
-    bodies: &[u16],
-    store: &[u8],
-    lent: &'a mut [u8],
-) -> Result<&'a [u8], Refusal> {
-    let answer = writer::write_state(
-        records, tags, kinds, depths, parents, starts, sizes, bodies, store, lent,
-    );
-    written(answer, lent)
+    Ok(made)
 }
 
 // An object taken in, edited by the lines of an input, and written to a lent room: how many edits were made, and its normal form.
@@ -157,46 +174,7 @@ pub fn edited_form<'a>(
     input: &[u8],
     lent: &'a mut [u8],
 ) -> Result<(usize, &'a [u8]), Stop> {
-    let mut tags = [0u8; TREE_PLACES];
-    let mut kinds = [0u8; TREE_PLACES];
-    let mut depths = [0u8; TREE_PLACES];
-    let mut parents = [0u16; TREE_PLACES];
-    let mut starts = [0u16; TREE_PLACES];
-    let mut sizes = [0u16; TREE_PLACES];
-    let mut bodies = [0u16; TREE_PLACES];
-    let mut store = [0u8; OBJECT];
-    let answer = edits::take_in(
-        object,
-        &mut tags,
-        &mut kinds,
-        &mut depths,
-        &mut parents,
-        &mut starts,
-        &mut sizes,
-        &mut bodies,
-        &mut store,
-        Octets(32_768),
-    );
-    let taken = match answer {
-        EditAnswer::HasRecords(count) => count,
-        EditAnswer::NotChanged(refusal) => return Err(refused(rt, path, refusal)),
-    };
-    let (made, records) = edit_lines(
-        rt,
-        path,
-        input,
-        taken,
-        &mut tags,
-        &mut kinds,
-        &mut depths,
-        &mut parents,
-        &mut starts,
-        &mut sizes,
-        &mut bodies,
-        &mut store,
-    )?;
-    let form = written_form(
-        records, &tags, &kinds, &depths, &parents, &starts, &sizes, &bodies, &store, lent,
-    );
-    Ok((made, form.unwrap_or(&[])))
+    let mut tree = Tree::of(object).map_err(|refusal| refused(rt, path, refusal))?;
+    let made = edit_lines(rt, path, input, &mut tree)?;
+    Ok((made, tree.written(lent).unwrap_or(&[])))
 }

@@ -1,13 +1,11 @@
 // Two objects merged (request 2026-10), a Basic and an Advanced one: the normal form of what they become is written to a file.
-ghost use Rattle.std.specs.Prelude.{◌≡◌, ℕ, ◌≤◌, length};
-ghost use Rattle.octets.specs.declared.counts.Octets.{Octets as OctetCount};
-ghost use Rattle.merge.specs.declared.MergeAnswer.TheVariants.{Merged};
+ghost use Rattle.std.specs.Prelude.{◌≤◌};
 
 use crate::files::{argument, file_argument, load, save};
 use crate::lines::{both_refused, refused, say_merged};
-use crate::memory::{FILE, NAME, OBJECT, TREE_PLACES};
-use crate::status::Ended;
-use merge::{MergeAnswer, Services};
+use crate::memory::{FILE, Memory, NAME, OBJECT, TREE_PLACES};
+use crate::status::{Ended, Stop};
+use merge::{MergeRefusal, Services};
 
 // The argument that names Basic: one further where an option stands before it. Advanced and OUT are the next two.
 pub fn basic_argument(by: Services) -> usize
@@ -21,31 +19,37 @@ pub fn basic_argument(by: Services) -> usize
 
 // What two objects are merged into, in a lent room. There are places for all records of both, and the store of a normal form is no larger than it, so that
 // only a result above the limit of an object is refused for its size.
-fn merged_form(by: Services, basic: &[u8], advanced: &[u8], lent: &mut [u8]) -> MergeAnswer
-    ensures { (records : ℕ) (size : OctetCount) → result ≡ Merged records size → size.0 ≤ length lent.new }
-{
-    let mut tags = [0u8; TREE_PLACES];
-    let mut kinds = [0u8; TREE_PLACES];
-    let mut depths = [0u8; TREE_PLACES];
-    let mut parents = [0u16; TREE_PLACES];
-    let mut starts = [0u16; TREE_PLACES];
-    let mut sizes = [0u16; TREE_PLACES];
-    let mut bodies = [0u16; TREE_PLACES];
-    let mut store = [0u8; OBJECT];
-    merging::merge(
+fn merged_form<'a>(
+    by: Services,
+    basic: &[u8],
+    advanced: &[u8],
+    lent: &'a mut [u8],
+) -> Result<&'a [u8], MergeRefusal> {
+    let mut memory = Memory::<TREE_PLACES>::new();
+    let merged = merging::merge(
         by,
         basic,
         advanced,
-        &mut tags,
-        &mut kinds,
-        &mut depths,
-        &mut parents,
-        &mut starts,
-        &mut sizes,
-        &mut bodies,
-        &mut store,
+        &mut memory.tags,
+        &mut memory.kinds,
+        &mut memory.depths,
+        &mut memory.parents,
+        &mut memory.starts,
+        &mut memory.sizes,
+        &mut memory.bodies,
+        &mut memory.store,
         lent,
-    )
+    )?;
+    Ok(&lent[..merged.size.0])
+}
+
+// The line of a refusal names the file that is refused, or both.
+fn unmerged(rt: &HostRuntime, first: &[u8], second: &[u8], refusal: MergeRefusal) -> Stop {
+    match refusal {
+        MergeRefusal::Basic(refusal) => refused(rt, first, refusal),
+        MergeRefusal::Advanced(refusal) => refused(rt, second, refusal),
+        MergeRefusal::Neither(refusal) => both_refused(rt, first, second, refusal),
+    }
 }
 
 // A merged object to the file that an argument names.
@@ -73,7 +77,7 @@ fn save_merged(
     Ok(())
 }
 
-// Two objects of files that are named. The line of a refusal names the file that is refused, or both.
+// Two objects of files that are named.
 fn merge_both(
     rt: &HostRuntime,
     by: Services,
@@ -82,25 +86,19 @@ fn merge_both(
     second: &[u8],
     advanced: &[u8],
 ) -> Ended {
-    let mut normal = [0u8; OBJECT];
-    let answer = merged_form(by, basic, advanced, &mut normal);
-    match answer {
-        MergeAnswer::BasicRefused(refusal) => Err(refused(rt, first, refusal)),
-        MergeAnswer::AdvancedRefused(refusal) => Err(refused(rt, second, refusal)),
-        MergeAnswer::NotMerged(refusal) => Err(both_refused(rt, first, second, refusal)),
-        MergeAnswer::Merged { records: _, size } => {
-            let end = size.0;
-            save_merged(
-                rt,
-                basic_argument(by) + 2,
-                first,
-                basic,
-                second,
-                advanced,
-                &normal[..end],
-            )
-        }
-    }
+    let mut room = [0u8; OBJECT];
+    let merged = merged_form(by, basic, advanced, &mut room).map_err(|refusal| unmerged(
+        rt, first, second, refusal,
+    ))?;
+    save_merged(
+        rt,
+        basic_argument(by) + 2,
+        first,
+        basic,
+        second,
+        advanced,
+        merged,
+    )
 }
 
 // A Basic object merged with that in the file that the next argument names.

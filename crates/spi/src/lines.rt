@@ -1,8 +1,9 @@
 // What is said on standard output. The script that runs the program sees whether it got there.
 use crate::status::Stop;
 use format::{Counts, Record, Refusal};
-use octets::Put;
+use octets::PutError;
 use std::fmt::Display;
+use streams::put_in;
 
 // No line of a listing is longer, and no refusal in words.
 const LINE: usize = 128;
@@ -11,17 +12,8 @@ pub fn say(rt: &HostRuntime, text: &[u8]) {
     let _ = rt.write_all(text);
 }
 
-// What was put at the start of a room; nothing where it had no room for it.
-pub fn put_in(room: &[u8], put: Put) -> &[u8] {
-    match put {
-        Put::Done(end) => room.get(..end).unwrap_or(&[]),
-        Put::NoRoom => &[],
-        Put::Invalid => &[],
-    }
-}
-
 // What `show` puts into a room for a line.
-fn say_put<F: FnOnce(&mut [u8]) -> Put>(rt: &HostRuntime, put: F)
+fn say_put<F: FnOnce(&mut [u8]) -> Result<usize, PutError>>(rt: &HostRuntime, put: F)
     requires { F.IsAlwaysCallable put }
 {
     let mut line = [0u8; LINE];

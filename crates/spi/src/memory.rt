@@ -27,3 +27,31 @@ pub fn zeros<const N: usize>() -> [u8; N]
 {
     [0; N]
 }
+
+// What the library is lent for a tree: places for so many records, the size of each one's body in normal form, and a store.
+#[derive(Drop)]
+pub struct Memory<const N: usize> {
+    pub tags: [u8; N],
+    pub kinds: [u8; N],
+    pub depths: [u8; N],
+    pub parents: [u16; N],
+    pub starts: [u16; N],
+    pub sizes: [u16; N],
+    pub bodies: [u16; N],
+    pub store: [u8; OBJECT],
+}
+
+impl<const N: usize> Memory<N> {
+    pub fn new() -> Memory<N> {
+        Memory {
+            tags: [0; N],
+            kinds: [0; N],
+            depths: [0; N],
+            parents: [0; N],
+            starts: [0; N],
+            sizes: [0; N],
+            bodies: [0; N],
+            store: [0; OBJECT],
+        }
+    }
+}

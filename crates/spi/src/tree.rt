@@ -4,9 +4,10 @@
 // A value is put in pieces, since a text may be longer than any memory that is lent: each octet of it stands for itself or for the text of its token.
 ghost use Rattle.std.specs.Prelude.{◌+◌, ◌<◌, ◌^◌, length};
 
-use crate::lines::{put_in, say};
+use crate::lines::say;
 use crate::memory::OBJECT;
-use octets::{Lies, item_at};
+use octets::item_at;
+use streams::put_in;
 use survey::table_of;
 use tags::{Listed, listed_as};
 use values::Kind;
@@ -121,12 +122,13 @@ fn show_item(
 
 // The items in a part, which is the body of an element of a tag.
 #[cycle(show_item_show_items)]
+#[tactic(auto, using(crate::proofs::Ways::item_ways))]
 fn show_items(rt: &HostRuntime, parent: u8, left: usize, part: &[u8], table: &[u8], offset: usize)
     requires { offset + length part.now < 2 ^ 63 }
 {
     let mut at: usize = 0;
     while at < part.len() {
-        let Lies::Between { from, to } = item_at(part, at) else {
+        let Some(lies) = item_at(part, at) else {
             return;
         };
         show_item(
@@ -134,12 +136,12 @@ fn show_items(rt: &HostRuntime, parent: u8, left: usize, part: &[u8], table: &[u
             parent,
             part[at],
             left,
-            &part[from..to],
+            &part[lies.from..lies.to],
             table,
             offset + at,
-            offset + from,
+            offset + lies.from,
         );
-        at = to;
+        at = lies.to;
     }
 }
 

@@ -3,6 +3,7 @@ ghost use Rattle.std.specs.Prelude.{◌≡◌};
 ghost use Rattle.spi.specs.Common.{common};
 
 // The place where two slices first differ, or where the first of them ends.
+#[tactic(auto, using(crate::proofs::Ways::shared_ways))]
 pub fn shared(a: &[u8], b: &[u8]) -> usize
     ensures { result ≡ common a.now b.now }
 {
