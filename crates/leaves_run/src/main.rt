@@ -1,8 +1,8 @@
 // Reads questions on standard input and prints a line for each, as the second program's leaves do (second/leaves.c), so that the two can be compared.
 //
 // A question is a letter, an octet that says a size, and so many octets: K the kind of an element and tag, D whether octets are the default of an attribute, U
-// whether octets are text, T a time or the field of it that is wrong, O its local time, B a bearer. What an answer says is proved where it is found, in `values`
-// and `text`; here every function is safe and ends.
+// whether octets are text, T a time or the field of it that is wrong, O its local time, B a bearer. What an answer says is proved where it is found, in
+// `values` and `text`; here every function is safe and ends.
 #![tactic(auto)]
 
 use std::fmt::{Display, Formatter};

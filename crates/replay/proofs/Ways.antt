@@ -11,7 +11,8 @@ use Rattle.recording.specs.Calls.{open_of, step_of}
 use Rattle.recording.proofs.Windows.{step-at}
 
 -- an object that step finds
-pub object_lies : (window : List ℕ) (last : Bool) (r : Next) (start size : ℕ) → r ≡ step_of window 0 last → r ≡ Next.Object start size → start + size ≤ length window
+pub object_lies : (window : List ℕ) (last : Bool) (r : Next) (start size : ℕ) → r ≡ step_of window 0 last → r ≡ Next.Object start size
+    → start + size ≤ length window
 object_lies window last r start size e q =
     let s = step-at window 0 last start size (sym e ∙ q) in
     let a = s.0 in
