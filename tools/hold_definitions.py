@@ -28,16 +28,15 @@ DEFINITIONS = {"octets": "Numbers Header Places", "text": "Text Tokens", "values
                "format": "Tree Judge Headers Meaning Writer Loaded Calls Same State", "state": "Taking", "edits": "Tree Calls"}
 
 ANSWERS = """-- What the definitions answer to a case of the stream.
-use Rattle.std.specs.Prelude.{List, [], ◌∷◌, map, ℕ, replicate}
+use Rattle.std.specs.Prelude.{Bool, true, false, List, [], ◌∷◌, map, ℕ, replicate, Result, Ok, Err}
 use Rattle.std.proofs.Math.Option.{some}
 use Rattle.octets.specs.Counts.{as_octets}
 use Rattle.format.specs.declared.Record.{Record}
-use Rattle.format.specs.declared.ReadAnswer.{ReadAnswer}
-use Rattle.format.specs.declared.ReadAnswer.TheVariants.{Records, NotRead}
-use Rattle.format.specs.declared.WriteAnswer.{WriteAnswer}
-use Rattle.format.specs.declared.WriteAnswer.TheVariants.{Octets, NotWritten}
-use Rattle.format.specs.declared.SameAnswer.{SameAnswer}
-use Rattle.format.specs.declared.SameAnswer.TheVariants.{Same, Different, FirstRefused, SecondRefused}
+use Rattle.octets.specs.declared.counts.Octets.{Octets}
+use Rattle.format.specs.declared.Refusal.{Refusal}
+use Rattle.format.specs.declared.Counts.{Counts}
+use Rattle.format.specs.declared.SameRefusal.{SameRefusal}
+use Rattle.format.specs.declared.SameRefusal.TheVariants.{First, Second}
 use Rattle.format.specs.Tree.{Items}
 use Rattle.format.specs.Judge.{Judged, judge}
 use Rattle.format.specs.Judge.Judged.{refused as is_refused, accepted as is_accepted}
@@ -69,23 +68,23 @@ pub data Answer : Type 0 where
 abbrev pub line : Record → List ℕ
 line r = r.depth ∷ r.tag ∷ r.kind ∷ r.start ∷ r.size ∷ []
 
-abbrev pub after_read : ReadAnswer → List Record → Answer
-after_read (Records n) rs = listed (map line rs)
-after_read (NotRead r) rs = refused (r.number) (r.place) (r.field)
+abbrev pub after_read : Result Counts Refusal → List Record → Answer
+after_read (Ok n) rs = listed (map line rs)
+after_read (Err r) rs = refused (r.number) (r.place) (r.field)
 
-abbrev pub after_count : ReadAnswer → Answer
-after_count (Records n) = tallied (n.records) (n.items)
-after_count (NotRead r) = refused (r.number) (r.place) (r.field)
+abbrev pub after_count : Result Counts Refusal → Answer
+after_count (Ok n) = tallied (n.records) (n.items)
+after_count (Err r) = refused (r.number) (r.place) (r.field)
 
-abbrev pub after_write : WriteAnswer → List ℕ → Answer
-after_write (Octets n) o = handed_out o
-after_write (NotWritten r) o = refused (r.number) (r.place) (r.field)
+abbrev pub after_write : Result Octets Refusal → List ℕ → Answer
+after_write (Ok n) o = handed_out o
+after_write (Err r) o = refused (r.number) (r.place) (r.field)
 
-abbrev pub after_same : SameAnswer → Answer
-after_same Same = same
-after_same Different = different
-after_same (FirstRefused r) = refused_first (r.number) (r.place) (r.field)
-after_same (SecondRefused r) = refused_second (r.number) (r.place) (r.field)
+abbrev pub after_same : Result Bool SameRefusal → Answer
+after_same (Ok true) = same
+after_same (Ok false) = different
+after_same (Err (First r)) = refused_first (r.number) (r.place) (r.field)
+after_same (Err (Second r)) = refused_second (r.number) (r.place) (r.field)
 
 -- of a case's numbers, those of a store and of a room are counts of octets
 abbrev pub lent_of : (places store room : ℕ) → Lent

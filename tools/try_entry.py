@@ -26,20 +26,16 @@ PLACES = (0, 1, 2, 3, 4, 5, 6, 8, 11, 16, 24, 64)  # the caller has 64
 CALLER = """// Lists the records that entry::read_records puts into a slice. By turns the slice and the lists have the places that a case asks for, and the others plenty.
 #![tactic(auto)]
 
-use format::{ReadAnswer, Record};
-use octets::Put;
+use format::{Record, RecordsMut};
+use octets::PutError;
 use std::io::Read;
 
 const PLENTY: usize = 64;
 const INPUT: usize = 131_072;
 const OUTPUT: usize = 1_048_576;
 
-fn end_of(put: Put, at: usize) -> usize {
-    match put {
-        Put::Done(end) => end,
-        Put::NoRoom => at,
-        Put::Invalid => at,
-    }
+fn end_of(put: Result<usize, PutError>, at: usize) -> usize {
+    put.unwrap_or(at)
 }
 
 fn number(s: &[u8]) -> usize {
@@ -108,12 +104,13 @@ fn answer(object: &[u8], tags: &mut [u8], kinds: &mut [u8], depths: &mut [u8], p
     mark_all(tags, kinds, depths, parents, starts, sizes, records);
     let mut n: usize = 0;
     let mut to = at;
-    match entry::read_records(object, tags, kinds, depths, parents, starts, sizes, records) {
-        ReadAnswer::Records(counts) => {
+    let mut lists = RecordsMut { tags: &mut *tags, kinds: &mut *kinds, depths: &mut *depths, parents: &mut *parents, starts: &mut *starts, sizes: &mut *sizes };
+    match entry::read_records(object, &mut lists, records) {
+        Ok(counts) => {
             n = counts.records;
             to = list(records, n, out, at);
         }
-        ReadAnswer::NotRead(refusal) => {
+        Err(refusal) => {
             to = end_of(show::put_refusal(out, at, refusal), at);
         }
     }
