@@ -1,76 +1,44 @@
 -- The ways through the code.
 use mathlib.Core.Path.{◌≡◌, refl, sym, ap, ◌∙◌}
-use mathlib.Core.Bool.{Bool, true, false, not, ◌&&◌}
+use mathlib.Core.Bool.{Bool, true, false, not}
 use mathlib.Core.List.{List, [], ◌∷◌}
 use Prim.Native.Nat.{ℕ, ◌+◌, ◌-◌, ◌*◌, ◌^◌, ◌≤◌, ◌<◌}
 use native.Mathlib.Omega.{arith}
 use lib.Dec.{eqb}
 use lib.ListN.{length, take, drop, get_or, length-drop}
 use borrow.Author.Tests.{lt-ltb, le-ltb, eq-eqb, ne_eqb, not-true, not-false}
+use Rattle.std.specs.List.{starts_with}
+use Rattle.std.specs.Cmp.Lexicographic.{same_text, other_text}
 use Rattle.octets.specs.Numbers.{value}
 use Rattle.octets.proofs.Lists.{drop-next}
 use Rattle.format.specs.declared.Refusal.{Refusal}
 use Rattle.format.specs.Answers.{refusal}
 use Rattle.format.specs.Same.{same_octets}
+use Rattle.format.proofs.Same.{same-octets, octets-same}
 use Rattle.recording.specs.declared.Opened.{Opened}
 use Rattle.recording.specs.declared.Next.{Next}
 use Rattle.recording.specs.Recording.{mark, announced}
 use Rattle.recording.specs.Calls.{open_of, short_of, step_of}
 use Rattle.recording.proofs.Walk.{fits_whole, short-part}
 
--- ---- is_mark
-module _ (a b c d e : ℕ) where
-  pub other-first : (a ≡ 0x53 → ⊥) → false ≡ same_octets (a ∷ b ∷ c ∷ d ∷ e ∷ []) mark
-  unfolding same_octets mark
-  other-first h = rw (ne_eqb a 0x53 h)
-
-  module _ (p : a ≡ 0x53) where
-    pub other-second : (b ≡ 0x50 → ⊥) → false ≡ same_octets (a ∷ b ∷ c ∷ d ∷ e ∷ []) mark
-    unfolding same_octets mark
-    other-second h = rw (eq-eqb a 0x53 p, ne_eqb b 0x50 h)
-
-    module _ (q : b ≡ 0x50) where
-      pub other-third : (c ≡ 0x52 → ⊥) → false ≡ same_octets (a ∷ b ∷ c ∷ d ∷ e ∷ []) mark
-      unfolding same_octets mark
-      other-third h = rw (eq-eqb a 0x53 p, eq-eqb b 0x50 q, ne_eqb c 0x52 h)
-
-      module _ (r : c ≡ 0x52) where
-        pub other-fourth : (d ≡ 0x00 → ⊥) → false ≡ same_octets (a ∷ b ∷ c ∷ d ∷ e ∷ []) mark
-        unfolding same_octets mark
-        other-fourth h = rw (eq-eqb a 0x53 p, eq-eqb b 0x50 q, eq-eqb c 0x52 r, ne_eqb d 0x00 h)
-
-        pub fifth-tells : d ≡ 0x00 → eqb e 0x01 ≡ same_octets (a ∷ b ∷ c ∷ d ∷ e ∷ []) mark
-        unfolding same_octets mark
-        fifth-tells s = rw (eq-eqb a 0x53 p, eq-eqb b 0x50 q, eq-eqb c 0x52 r, eq-eqb d 0x00 s) (go (eqb e 0x01))
-          where
-            go : (t : Bool) → t ≡ t && true
-            go true = refl
-            go false = refl
-
-pub ruleset mark-ways = (other-first, other-second, other-third, other-fourth, fifth-tells)
-
 -- ---- open
-five : (o : List ℕ) → 5 ≤ length o → take 5 o ≡ get_or o 0 0 ∷ get_or o 1 0 ∷ get_or o 2 0 ∷ get_or o 3 0 ∷ get_or o 4 0 ∷ []
-five [] h = absurd (omega arith)
-five (a ∷ []) h = absurd (omega arith)
-five (a ∷ b ∷ []) h = absurd (omega arith)
-five (a ∷ b ∷ c ∷ []) h = absurd (omega arith)
-five (a ∷ b ∷ c ∷ d ∷ []) h = absurd (omega arith)
-five (a ∷ b ∷ c ∷ d ∷ e ∷ o) h = refl
-
 module _ (o : List ℕ) where
   pub open-short : length o < 5 → (r : Refusal) → r ≡ refusal 24 0 → Opened.Refused r ≡ open_of o
   unfolding open_of
   open-short h r e = ap Opened.Refused e ∙ rw (lt-ltb (length o) 5 h)
 
-  module _ (h : 5 ≤ length o) (m : Bool) (e : m ≡ same_octets (get_or o 0 0 ∷ get_or o 1 0 ∷ get_or o 2 0 ∷ get_or o 3 0 ∷ get_or o 4 0 ∷ []) mark) where
+  module _ (h : 5 ≤ length o) (m : Bool) (e : m ≡ starts_with eqb o (0x53 ∷ 0x50 ∷ 0x52 ∷ 0x00 ∷ 0x01 ∷ [])) where
     pub open-marked : m ≡ true → Opened.Begins 5 ≡ open_of o
-    unfolding open_of
-    open-marked q = rw (le-ltb (length o) 5 h, five o h, ← e, q)
+    unfolding open_of mark
+    open-marked q = rw (le-ltb (length o) 5 h, ← same_text mark (take 5 o) (sym q ∙ e), octets-same mark)
 
     pub open-other : m ≡ false → (r : Refusal) → r ≡ refusal 23 0 → Opened.Refused r ≡ open_of o
-    unfolding open_of
-    open-other q r z = ap Opened.Refused z ∙ rw (le-ltb (length o) 5 h, five o h, ← e, q)
+    unfolding open_of mark
+    open-other q r z = ap Opened.Refused z ∙ rw (le-ltb (length o) 5 h, other (same_octets (take 5 o) mark) refl)
+      where
+        other : (b : Bool) → same_octets (take 5 o) mark ≡ b → same_octets (take 5 o) mark ≡ false
+        other true k = absurd (other_text mark (take 5 o) (sym q ∙ e) (sym (same-octets (take 5 o) mark k)))
+        other false k = k
 
 pub ruleset open-ways = (open-short, open-marked, open-other)
 

@@ -2,9 +2,7 @@
 // they are lent and answer by value, so that a program that holds one object and its size can go over a recording of any length.
 #![tactic(auto)]
 
-ghost use Rattle.std.specs.Prelude.{◌≡◌, [], ◌∷◌, ◌+◌, ◌*◌};
-ghost use Rattle.format.specs.Same.{same_octets};
-ghost use Rattle.recording.specs.Recording.{mark};
+ghost use Rattle.std.specs.Prelude.{◌≡◌, ◌+◌, ◌*◌};
 ghost use Rattle.recording.specs.Calls.{open_of, short_of, step_of};
 
 use format::{Refusal, refuse};
@@ -37,28 +35,10 @@ pub fn open(octets: &[u8]) -> Opened
     if octets.len() < 5 {
         return Opened::Refused(refuse(24, 0));
     }
-    if is_mark(octets[0], octets[1], octets[2], octets[3], octets[4]) {
+    if octets.starts_with(b"SPR\x00\x01") {
         return Opened::Begins(5);
     }
     Opened::Refused(refuse(23, 0))
-}
-
-fn is_mark(a: u8, b: u8, c: u8, d: u8, e: u8) -> bool
-    ensures { result ≡ same_octets (a ∷ b ∷ c ∷ d ∷ e ∷ []) mark }
-{
-    if a != 0x53 {
-        return false;
-    }
-    if b != 0x50 {
-        return false;
-    }
-    if c != 0x52 {
-        return false;
-    }
-    if d != 0x00 {
-        return false;
-    }
-    e == 0x01
 }
 
 // What stands at a place of a window; `last` says that nothing follows the window in the file. A window of 65,537 octets always holds a whole object, if one is
@@ -96,5 +76,5 @@ fn short(left: usize, last: bool) -> Next
 fn size_of(high: u8, low: u8) -> usize
     ensures { result ≡ high * 256 + low }
 {
-    (high as usize) * 256 + (low as usize)
+    u16::from_be_bytes([high, low]) as usize
 }

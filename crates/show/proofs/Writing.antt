@@ -1,16 +1,16 @@
 -- The ways through the calls: what is left of a text while it is stored, digits from the last one on, words, and the answers.
 use mathlib.Core.Path.{◌≡◌, refl, sym, ap, ◌∙◌}
-use mathlib.Core.Bool.{Bool, true}
+use mathlib.Core.Bool.{Bool, true, false}
 use mathlib.Core.List.{List, [], ◌∷◌, ◌++◌, append-nil}
 use Prim.Native.Nat.{ℕ, zero, suc, ◌+◌, ◌-◌, ◌*◌, ◌/◌, ◌%◌, ◌^◌, ◌≤◌, ◌<◌}
 use native.Mathlib.Numerals.{add-one}
 use native.Mathlib.Omega.{arith}
-use lib.Dec.{leb}
+use lib.Dec.{leb, ltb}
 use lib.ListN.{length, drop, get_or, set, length-append, length-set, drop_of_length-le, get_or-eq_default}
 use lib.Seq.{sets, length-sets, append_snoc}
 use mir.Syntax.{w64}
 use mir.Val.{Fits}
-use borrow.Author.Tests.{lt-ltb, le-ltb, ne_eqb, not-true, not-false}
+use borrow.Author.Tests.{ltb-true, ltb-false, lt-ltb, le-ltb, ne_eqb, not-true, not-false}
 use Rattle.show.specs.Digits.{decimal, hex_digit, two_digits, hex_lower, hex_upper}
 use Rattle.octets.specs.Puts.{Puts, Lays}
 use Rattle.octets.specs.declared.Put.{Put}
@@ -81,18 +81,27 @@ module _ (out₀ : List ℕ) (at n : ℕ) where
     size_of : length (decimal n) ≡ length (decimal rest) + length v.stored
     size_of = ap length v.whole ∙ length-append (decimal rest) v.stored
 
-    pub spell-back : 1 ≤ to
-    spell-back = omega (arith, v.place, decimal-some rest)
+    pub spell-many : at + 1 < to → 10 ≤ rest
+    spell-many h = go (ltb rest 10) refl
+      where
+        go : (b : Bool) → ltb rest 10 ≡ b → 10 ≤ rest
+        go true e = absurd (omega (arith, v.place, ap length (decimal-one rest (ltb-true rest 10 e))))
+        go false e = ltb-false rest 10 e
 
-    pub spell-in : to - 1 < length out
-    spell-in = omega (arith, v.place, v.room, long, size_of, decimal-some rest)
+    pub spell-last : to ≤ at + 1 → rest < 10
+    spell-last h = go (ltb rest 10) refl
+      where
+        go : (b : Bool) → ltb rest 10 ≡ b → rest < 10
+        go true e = ltb-true rest 10 e
+        go false e = absurd (omega (arith, v.place, length_more rest (ltb-false rest 10 e), decimal-some (rest / 10)))
 
     pub spell-first : at < length out
     spell-first = omega (arith, v.place, v.room, long, size_of, decimal-some rest)
 
-    pub spell-again : (d : ℕ) → 10 ≤ rest → d ≡ 48 + rest % 10 → Spelling out₀ at n (set out (to - 1) d) (to - 1) (rest / 10)
-    spell-again d h e =
-        let back : to ≡ suc (to - 1) = omega (arith, spell-back) in
+    pub spell-again : (d : ℕ) → at + 1 < to → d ≡ 48 + rest % 10 → Spelling out₀ at n (set out (to - 1) d) (to - 1) (rest / 10)
+    spell-again d l e =
+        let h = spell-many l in
+        let back : to ≡ suc (to - 1) = omega arith in
         record {
           stored = d ∷ v.stored;
           whole =
@@ -100,11 +109,12 @@ module _ (out₀ : List ℕ) (at n : ℕ) where
           place = omega (arith, v.place, length_more rest h);
           room = v.room;
           same =
-              ap (λ o. set o (to - 1) d) v.same ∙ set-sets out₀ to v.stored (to - 1) d (omega (arith, spell-back)) ∙ ap (λ m. sets (set out₀ (to - 1) d) m v.stored) back;
+              ap (λ o. set o (to - 1) d) v.same ∙ set-sets out₀ to v.stored (to - 1) d (omega arith) ∙ ap (λ m. sets (set out₀ (to - 1) d) m v.stored) back;
         }
 
-    pub spell-done : (size d : ℕ) → Few n size → rest < 10 → d ≡ 48 + rest → Lays (decimal n) at out₀ (set out at d) (at + size)
-    spell-done size d f h e =
+    pub spell-done : (size d : ℕ) → Few n size → to ≤ at + 1 → d ≡ 48 + rest → Lays (decimal n) at out₀ (set out at d) (at + size)
+    spell-done size d f l e =
+        let h = spell-last l in
         let one : decimal rest ≡ d ∷ [] = decimal-one rest h ∙ ap (λ m. m ∷ []) (sym e) in
         let next : to ≡ suc at = omega (arith, v.place, ap length one) in
         record {
@@ -114,7 +124,7 @@ module _ (out₀ : List ℕ) (at n : ℕ) where
               ∙ ap (sets out₀ at) (ap (λ o. o ++ v.stored) (sym one) ∙ sym v.whole);
         }
 
-pub ruleset spell-ways = (spell-begin, spell-end, spell-long, spell-back, spell-in, spell-first, spell-again, spell-done)
+pub ruleset spell-ways = (spell-begin, spell-end, spell-long, spell-last, spell-first, spell-again, spell-done)
 
 -- ---- hexadecimal digits
 

@@ -38,11 +38,12 @@ fn store_octets(out: &mut [u8], at: usize, s: &[u8]) -> usize
 fn decimal_size(n: usize) -> Octets
     ensures { Few n result.0 }
 {
+    // Kept: what is counted are divisions, and a for over the sizes up to 20 that returns from inside is no plainer; no clause of ilog10 speaks of `decimal`.
     let mut rest = n;
     let mut size: usize = 1;
     while rest >= 10 {
-        rest = rest / 10;
-        size = size + 1;
+        rest /= 10;
+        size += 1;
     }
     Octets(size)
 }
@@ -60,12 +61,10 @@ fn store_decimal(out: &mut [u8], at: usize, n: usize) -> usize
     ensures { Lays (decimal n) at out.old out.new result }
 {
     let end = at + decimal_size(n).0;
-    let mut to = end;
     let mut rest = n;
-    while rest >= 10 {
-        to = to - 1;
+    for to in (at + 1..end).rev() {
         out[to] = digit(rest % 10);
-        rest = rest / 10;
+        rest /= 10;
     }
     out[at] = digit(rest);
     end
@@ -97,10 +96,8 @@ fn store_all_hex(out: &mut [u8], at: usize, s: &[u8]) -> usize
     ensures { Lays (hex_lower s.now) at out.old out.new result }
 {
     let mut to = at;
-    let mut i: usize = 0;
-    while i < s.len() {
-        to = store_hex(out, to, LOWER, s[i]);
-        i = i + 1;
+    for b in s {
+        to = store_hex(out, to, LOWER, *b);
     }
     to
 }

@@ -16,10 +16,10 @@ use Rattle.octets.specs.Numbers.{among}
 use Rattle.text.specs.Text.{token, text}
 use Rattle.text.specs.Tokens.{Entries, entries, cut, filled, is_table, entry}
 use Rattle.text.specs.Found.{found, found_in, Inside}
-use Rattle.text.specs.Leaves.{ahead, mask_of, token_bit, filled_after, Good, Rated}
+use Rattle.text.specs.Leaves.{tag_size, ahead, mask_of, token_bit, filled_after, Good, Rated}
 use Rattle.text.specs.Weighing.{Marks, tags}
-use Rattle.text.specs.declared.tables.Piece.{Piece}
-use Rattle.text.specs.declared.tables.Piece.TheVariants.{Past, Entry}
+use Rattle.std.specs.Prelude.{Option, Some, None}
+use Rattle.text.specs.declared.tables.Entry.{Entry}
 use Rattle.text.specs.declared.expanding.Found.TheVariants.{At}
 use Rattle.octets.proofs.Lists.{part_to_end}
 use Rattle.text.proofs.Sequences.{token-facts}
@@ -85,9 +85,9 @@ pieced-entry t n o e =
     }
 
 -- what the first entry tells
-Told : List ℕ → Piece → Type 0
-Told s Past = Ended s
-Told s (Entry tag n) = Pieced s tag n
+Told : List ℕ → Option Entry → Type 0
+Told s None = Ended s
+Told s (Some e) = Pieced s e.tag e.size
 
 told : (s : List ℕ) → Told s (ahead (entries s))
 unfolding ahead entries cut Told
@@ -99,27 +99,27 @@ told (t ∷ n ∷ o) = go (leb n (length o)) refl
     go true e = subst (Pieced (t ∷ n ∷ o) t) (sym (length-take-le n o (leb-true n (length o) e))) (pieced-entry t n o e)
     go false e = ended-long t n o e
 
-module _ (s : List ℕ) (p : Piece) (e : p ≡ ahead (entries s)) where
-  is-ended : p ≡ Past → Ended s
+module _ (s : List ℕ) (p : Option Entry) (e : p ≡ ahead (entries s)) where
+  is-ended : p ≡ None → Ended s
   unfolding Told
   is-ended f = subst (Told s) (sym e ∙ f) (told s)
 
-  is-pieced : (tag n : ℕ) → p ≡ Entry tag n → Pieced s tag n
+  is-pieced : (x : Entry) → p ≡ Some x → Pieced s x.tag x.size
   unfolding Told
-  is-pieced tag n f = subst (Told s) (sym e ∙ f) (told s)
+  is-pieced x f = subst (Told s) (sym e ∙ f) (told s)
 
 -- ---- `first_entry`
-pub first_short : (s : List ℕ) → length s < 2 → Past ≡ ahead (entries s)
+pub first_short : (s : List ℕ) → length s < 2 → None ≡ ahead (entries s)
 unfolding ahead
 first_short s h = rw (ended-short s h).names
 
-pub first-long : (s : List ℕ) → 2 ≤ length s → length s - 2 < get_or s 1 0 → Past ≡ ahead (entries s)
+pub first-long : (s : List ℕ) → 2 ≤ length s → length s - 2 < get_or s 1 0 → None ≡ ahead (entries s)
 unfolding ahead
 first-long [] h g = absurd (omega arith)
 first-long (t ∷ []) h g = absurd (omega arith)
 first-long (t ∷ m ∷ o) h g = rw (ended-long t m o (lt-leb m (length o) (omega arith))).names
 
-pub first-whole : (s : List ℕ) → 2 ≤ length s → get_or s 1 0 ≤ length s - 2 → Entry (get_or s 0 0) (get_or s 1 0) ≡ ahead (entries s)
+pub first-whole : (s : List ℕ) → 2 ≤ length s → get_or s 1 0 ≤ length s - 2 → Some (tag_size (get_or s 0 0) (get_or s 1 0)) ≡ ahead (entries s)
 unfolding ahead
 first-whole [] h g = absurd (omega arith)
 first-whole (t ∷ []) h g = absurd (omega arith)
@@ -130,36 +130,36 @@ first-whole (t ∷ m ∷ o) h g =
 pub ruleset first-ways = (first_short, first-long, first-whole)
 
 -- ---- the entry at a place of a table, as `tokens_of`, `widths_of` and `index_of` meet it
-module _ (table : List ℕ) (at : ℕ) (h : at < length table) (p : Piece) (e : p ≡ ahead (entries (take (length table - at) (drop at table)))) where
+module _ (table : List ℕ) (at : ℕ) (h : at < length table) (p : Option Entry) (e : p ≡ ahead (entries (take (length table - at) (drop at table)))) where
   here : p ≡ ahead (entries (drop at table))
   here = e ∙ ap (λ q. ahead (entries q)) (part_to_end table at)
 
-  pub no_more : p ≡ Past → entries (drop at table) ≡ []
+  pub no_more : p ≡ None → entries (drop at table) ≡ []
   no_more f = (is-ended (drop at table) p here f).names
 
-  module _ (t n : ℕ) (f : p ≡ Entry t n) where
-    piece : Pieced (drop at table) t n
-    piece = is-pieced (drop at table) p here t n f
+  module _ (x : Entry) (f : p ≡ Some x) where
+    piece : Pieced (drop at table) x.tag x.size
+    piece = is-pieced (drop at table) p here x f
 
-    pub room : at + 2 + n ≤ length table
+    pub room : at + 2 + x.size ≤ length table
     room = omega (arith, piece.room, length-drop at table)
 
     pub next_fits : length table < 2 ^ 63 → Fits w64 (at + 2)
     next_fits g = record { fits = omega (arith, room) }
 
-    pub next-fits-2 : length table < 2 ^ 63 → Fits w64 (at + 2 + n)
+    pub next-fits-2 : length table < 2 ^ 63 → Fits w64 (at + 2 + x.size)
     next-fits-2 g = record { fits = omega (arith, room) }
 
-    pub next-names : entries (drop at table) ≡ (t, take n (drop 2 (drop at table))) ∷ entries (drop (at + 2 + n) table)
-    next-names = piece.names ∙ ap (λ q. (t, take n (drop 2 (drop at table))) ∷ entries q) (drop_more at n table)
+    pub next-names : entries (drop at table) ≡ (x.tag, take x.size (drop 2 (drop at table))) ∷ entries (drop (at + 2 + x.size) table)
+    next-names = piece.names ∙ ap (λ q. (x.tag, take x.size (drop 2 (drop at table))) ∷ entries q) (drop_more at x.size table)
 
-    pub text-length : length (take n (drop 2 (drop at table))) ≡ n
-    text-length = length-take-le n (drop 2 (drop at table)) (omega (arith, piece.room, length-drop 2 (drop at table)))
+    pub text-length : length (take x.size (drop 2 (drop at table))) ≡ x.size
+    text-length = length-take-le x.size (drop 2 (drop at table)) (omega (arith, piece.room, length-drop 2 (drop at table)))
 
     pub length-inside : at + 1 < length table
     length-inside = omega (arith, room)
 
-    pub length-octet : get_or table (at + 1) 0 ≡ n
+    pub length-octet : get_or table (at + 1) 0 ≡ x.size
     length-octet = sym (get_or-drop at table 1 0) ∙ piece.size
 
 -- ---- the loop of `tokens_of`
@@ -180,18 +180,18 @@ module _ (table : List ℕ) where
     unfolding entries cut
     list_done h = none_left (ap entries (drop_of_length-le table h))
 
-    module _ (h : at < length table) (p : Piece) (e : p ≡ ahead (entries (take (length table - at) (drop at table)))) where
-      pub list-past : p ≡ Past → Marks mask (tags (entries table))
+    module _ (h : at < length table) (p : Option Entry) (e : p ≡ ahead (entries (take (length table - at) (drop at table)))) where
+      pub list-past : p ≡ None → Marks mask (tags (entries table))
       list-past f = none_left (no_more table at h p e f)
 
-      pub list-again : (t n : ℕ) → p ≡ Entry t n → (r : ℕ) → r ≡ token_bit t → Listing table (bit_or mask r) (at + 2 + n)
+      pub list-again : (x : Entry) → p ≡ Some x → (r : ℕ) → r ≡ token_bit x.tag → Listing table (bit_or mask r) (at + 2 + x.size)
       unfolding tags
-      list-again t n f r k =
+      list-again x f r k =
           record {
-            within = room table at h p e t n f;
+            within = room table at h p e x f;
             marking =
-                mark-more mask t r (tags (entries (drop (at + 2 + n) table))) (tags (entries table))
-                (subst (λ es. Marking mask (tags es) (tags (entries table))) (next-names table at h p e t n f) inv.marking) k;
+                mark-more mask x.tag r (tags (entries (drop (at + 2 + x.size) table))) (tags (entries table))
+                (subst (λ es. Marking mask (tags es) (tags (entries table))) (next-names table at h p e x f) inv.marking) k;
           }
 
 pub ruleset list-ways = (list-begin, list_done, list-past, list-again, next_fits, next-fits-2)
@@ -258,49 +258,49 @@ unfolding entries
 inside table tag = inside-from (suc (length table)) table table tag 0 (omega arith)
 
 -- ---- `good_entry`
-module _ (s : List ℕ) (p : Piece) (e : p ≡ ahead (entries s)) (t n : ℕ) (f : p ≡ Entry t n) where
-  pub good-room : 2 + n ≤ length s
-  good-room = (is-pieced s p e t n f).room
+module _ (s : List ℕ) (p : Option Entry) (e : p ≡ ahead (entries s)) (x : Entry) (f : p ≡ Some x) where
+  pub good-room : 2 + x.size ≤ length s
+  good-room = (is-pieced s p e x f).room
 
-  pub good-fits : length s < 2 ^ 63 → Fits w64 (2 + n)
+  pub good-fits : length s < 2 ^ 63 → Fits w64 (2 + x.size)
   good-fits g = record { fits = omega (arith, good-room) }
 
-module _ (s : List ℕ) (mask : ℕ) (p : Piece) (e : p ≡ ahead (entries s)) where
-  pub good-past : p ≡ Past → (seen : List ℕ) → mask ≡ mask_of seen → Rated seen s Past
+module _ (s : List ℕ) (mask : ℕ) (p : Option Entry) (e : p ≡ ahead (entries s)) where
+  pub good-past : p ≡ None → (seen : List ℕ) → mask ≡ mask_of seen → Rated seen s None
   unfolding Rated
   good-past f seen m h = (is-ended s p e f).fills h seen
 
-  module _ (t n : ℕ) (f : p ≡ Entry t n) where
-    part : Pieced s t n
-    part = is-pieced s p e t n f
+  module _ (x : Entry) (f : p ≡ Some x) where
+    part : Pieced s x.tag x.size
+    part = is-pieced s p e x f
 
-    module _ (r : Bool) (k : r ≡ token t) where
-      pub good-tag : r ≡ false → (seen : List ℕ) → mask ≡ mask_of seen → Rated seen s Past
+    module _ (r : Bool) (k : r ≡ token x.tag) where
+      pub good-tag : r ≡ false → (seen : List ℕ) → mask ≡ mask_of seen → Rated seen s None
       unfolding Rated
       good-tag q seen m h = part.fills seen ∙ rw (sym k ∙ q)
 
       module _ (q : r ≡ true) where
-        seen-is : (seen : List ℕ) → mask ≡ mask_of seen → among t seen ≡ eqb (bit_and (mask / 2 ^ t) 1) 1
-        seen-is seen m = sym (ap (λ (x : ℕ). eqb (bit_and (x / 2 ^ t) 1) 1) m ∙ mask-test t seen)
+        seen-is : (seen : List ℕ) → mask ≡ mask_of seen → among x.tag seen ≡ eqb (bit_and (mask / 2 ^ x.tag) 1) 1
+        seen-is seen m = sym (ap (λ (y : ℕ). eqb (bit_and (y / 2 ^ x.tag) 1) 1) m ∙ mask-test x.tag seen)
 
-        pub good-twice : bit_and (mask / 2 ^ t) 1 ≡ 1 → (seen : List ℕ) → mask ≡ mask_of seen → Rated seen s Past
+        pub good-twice : bit_and (mask / 2 ^ x.tag) 1 ≡ 1 → (seen : List ℕ) → mask ≡ mask_of seen → Rated seen s None
         unfolding Rated
         good-twice g seen m h = part.fills seen ∙ rw (sym k ∙ q, seen-is seen m, g)
 
-        module _ (g : bit_and (mask / 2 ^ t) 1 ≡ 1 → ⊥) (v : Bool) (w : v ≡ text false (take (2 + n - 2) (drop 2 s))) where
-          text-is : text false (take n (drop 2 s)) ≡ v
-          text-is = let d : 2 + n - 2 ≡ n = omega arith in sym (rw d at w)
+        module _ (g : bit_and (mask / 2 ^ x.tag) 1 ≡ 1 → ⊥) (v : Bool) (w : v ≡ text false (take (2 + x.size - 2) (drop 2 s))) where
+          text-is : text false (take x.size (drop 2 s)) ≡ v
+          text-is = let d : 2 + x.size - 2 ≡ x.size = omega arith in sym (rw d at w)
 
-          step_is : (seen : List ℕ) → mask ≡ mask_of seen → filled_after seen s ≡ v && filled_after (t ∷ seen) (drop n (drop 2 s))
-          step_is seen m = part.fills seen ∙ rw (sym k ∙ q, seen-is seen m, ne_eqb (bit_and (mask / 2 ^ t) 1) 1 g, text-is)
+          step_is : (seen : List ℕ) → mask ≡ mask_of seen → filled_after seen s ≡ v && filled_after (x.tag ∷ seen) (drop x.size (drop 2 s))
+          step_is seen m = part.fills seen ∙ rw (sym k ∙ q, seen-is seen m, ne_eqb (bit_and (mask / 2 ^ x.tag) 1) 1 g, text-is)
 
-          pub good-text : v ≡ false → (seen : List ℕ) → mask ≡ mask_of seen → Rated seen s Past
+          pub good-text : v ≡ false → (seen : List ℕ) → mask ≡ mask_of seen → Rated seen s None
           unfolding Rated
           good-text z seen m h = step_is seen m ∙ rw z
 
-          pub good-yes : v ≡ true → (seen : List ℕ) → mask ≡ mask_of seen → Rated seen s (Entry t n)
+          pub good-yes : v ≡ true → (seen : List ℕ) → mask ≡ mask_of seen → Rated seen s (Some x)
           unfolding Rated
-          good-yes z seen m = record { room = part.room; small = omega (arith, (token-facts t (sym k ∙ q)).1); same = step_is seen m ∙ rw z }
+          good-yes z seen m = record { room = part.room; small = omega (arith, (token-facts x.tag (sym k ∙ q)).1); same = step_is seen m ∙ rw z }
 
 pub ruleset good-ways = (good-past, good-tag, good-twice, good-text, good-yes)
 
@@ -320,39 +320,39 @@ module _ (s : List ℕ) where
   unfolding filled_after filled
   table_done at mask inv h = sym (inv.same ∙ ap (filled_after inv.seen) (drop_of_length-le s h))
 
-  module _ (at mask : ℕ) (inv : Tabling s at mask) (h : at < length s) (p : Piece)
+  module _ (at mask : ℕ) (inv : Tabling s at mask) (h : at < length s) (p : Option Entry)
       (e : (tags : List ℕ) → mask ≡ mask_of tags → Rated tags (take (length s - at) (drop at s)) p) where
     rated : Rated inv.seen (drop at s) p
     rated = subst (λ q. Rated inv.seen q p) (part_to_end s at) (e inv.seen inv.mark)
 
-    pub table-past : p ≡ Past → false ≡ is_table s
+    pub table-past : p ≡ None → false ≡ is_table s
     unfolding Rated
     table-past f = sym (inv.same ∙ subst (Rated inv.seen (drop at s)) f rated (omega (arith, length-drop at s)))
 
-    module _ (t n : ℕ) (f : p ≡ Entry t n) where
-      good : Good inv.seen (drop at s) t n
+    module _ (x : Entry) (f : p ≡ Some x) where
+      good : Good inv.seen (drop at s) x.tag x.size
       unfolding Rated
       good = subst (Rated inv.seen (drop at s)) f rated
 
-      pub table-room : at + 2 + n ≤ length s
+      pub table-room : at + 2 + x.size ≤ length s
       table-room = omega (arith, good.room, length-drop at s)
 
       pub table_fits : length s < 2 ^ 63 → Fits w64 (at + 2)
       table_fits g = record { fits = omega (arith, table-room) }
 
-      pub table-fits-2 : length s < 2 ^ 63 → Fits w64 (at + 2 + n)
+      pub table-fits-2 : length s < 2 ^ 63 → Fits w64 (at + 2 + x.size)
       table-fits-2 g = record { fits = omega (arith, table-room) }
 
-      pub table-bit : t < 32
+      pub table-bit : x.tag < 32
       table-bit = omega (arith, good.small)
 
-      pub table-again : Tabling s (at + 2 + n) (bit_or mask (1 * 2 ^ t % 2 ^ 32))
+      pub table-again : Tabling s (at + 2 + x.size) (bit_or mask (1 * 2 ^ x.tag % 2 ^ 32))
       table-again =
           record {
             within = table-room;
-            seen = t ∷ inv.seen;
-            mark = ap (λ (x : ℕ). bit_or x (1 * 2 ^ t % 2 ^ 32)) inv.mark ∙ mask-more 32 t inv.seen good.small;
-            same = inv.same ∙ good.same ∙ ap (filled_after (t ∷ inv.seen)) (drop_more at n s);
+            seen = x.tag ∷ inv.seen;
+            mark = ap (λ (y : ℕ). bit_or y (1 * 2 ^ x.tag % 2 ^ 32)) inv.mark ∙ mask-more 32 x.tag inv.seen good.small;
+            same = inv.same ∙ good.same ∙ ap (filled_after (x.tag ∷ inv.seen)) (drop_more at x.size s);
           }
 
 pub ruleset table-ways = (table-begin, table_done, table-past, table-again)

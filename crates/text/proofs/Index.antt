@@ -24,8 +24,8 @@ use Rattle.text.specs.Leaves.{ahead, replaced_by}
 use Rattle.text.specs.Index.{start_of, longest, Indexes, noted, usable, place_at, place_by, with_place, entries_below, entries_by, Bounds}
 use Rattle.text.specs.declared.expanding.Found.{Found}
 use Rattle.text.specs.declared.expanding.Found.TheVariants.{At, Nothing}
-use Rattle.text.specs.declared.tables.Piece.{Piece}
-use Rattle.text.specs.declared.tables.Piece.TheVariants.{Past, Entry}
+use Rattle.std.specs.Prelude.{Option, Some, None}
+use Rattle.text.specs.declared.tables.Entry.{Entry}
 use Rattle.text.proofs.Sequences.{token-facts, token-bit}
 use Rattle.text.proofs.Entries.{named, inside, no_more, room, next-names, text-length, next_fits, next-fits-2}
 
@@ -178,11 +178,17 @@ module _ (table : List ℕ) where
     unfolding entries cut
     index-done h = none_left (ap entries (drop_of_length-le table h))
 
-    module _ (h : at < length table) (p : Piece) (e : p ≡ ahead (entries (take (length table - at) (drop at table)))) where
-      pub index-past : p ≡ Past → Indexes (entries table) index
+    module _ (h : at < length table) (p : Option Entry) (e : p ≡ ahead (entries (take (length table - at) (drop at table)))) where
+      pub index-past : p ≡ None → Indexes (entries table) index
       index-past f = none_left (no_more table at h p e f)
 
-      module _ (t n : ℕ) (f : p ≡ Entry t n) where
+      module _ (x : Entry) (f : p ≡ Some x) where
+        abbrev t : ℕ
+        t = x.tag
+
+        abbrev n : ℕ
+        n = x.size
+
         abbrev text : List ℕ
         text = take n (drop 2 (drop at table))
 
@@ -193,7 +199,7 @@ module _ (table : List ℕ) where
         next = noted index t (at + 2)
 
         size : length text ≡ n
-        size = text-length table at h p e t n f
+        size = text-length table at h p e x f
 
         first-kept : get_or next 0 0 ≡ get_or index 0 0
         first-kept = note-keeps index t (at + 2) 0 (go (token t) refl)
@@ -210,20 +216,20 @@ module _ (table : List ℕ) where
         next-widest =
             max-three (get_or next 0 0) n (longest left)
             ∙ ap₂ (λ (a b : ℕ). max a (max b (longest left))) first-kept (sym size)
-            ∙ ap (λ es. max (get_or index 0 0) (longest es)) (sym (next-names table at h p e t n f)) ∙ inv.widest
+            ∙ ap (λ es. max (get_or index 0 0) (longest es)) (sym (next-names table at h p e x f)) ∙ inv.widest
 
         next-each : (k : ℕ) → 0 < k → k < 32 → or_later (get_or next k 0) (later (at + 2 + n) left k) ≡ start_of (replaced_by (entries table) k)
         next-each k g l =
             ap (λ (m : ℕ). or_later (get_or next k 0) (later (at + 2 + m) left k)) (sym size)
             ∙ note_step index inv.long t text left at k l
-            ∙ ap (λ es. or_later (get_or index k 0) (later at es k)) (sym (next-names table at h p e t n f)) ∙ inv.each k g l
+            ∙ ap (λ es. or_later (get_or index k 0) (later at es k)) (sym (next-names table at h p e x f)) ∙ inv.each k g l
 
-        pub index-again : (x : List ℕ) → x ≡ noted index t (at + 2) → (m : ℕ) → m ≡ max (get_or x 0 0) n → Indexing table (set x 0 m) (at + 2 + n)
-        index-again x q m z =
+        pub index-again : (o : List ℕ) → o ≡ noted index t (at + 2) → (m : ℕ) → m ≡ max (get_or o 0 0) n → Indexing table (set o 0 m) (at + 2 + n)
+        index-again o q m z =
             rw (z, q)
             (let stored : get_or (set next 0 (max (get_or next 0 0) n)) 0 0 ≡ max (get_or next 0 0) n = get_or-set_same next 0 (max (get_or next 0 0) n) 0 (omega (arith, next-long)) in
             record {
-              within = room table at h p e t n f;
+              within = room table at h p e x f;
               long = length-set next 0 (max (get_or next 0 0) n) ∙ next-long;
               some = omega (arith, stored, le-max_left (get_or next 0 0) n, first-kept, inv.some);
               widest = ap (λ (a : ℕ). max a (longest left)) stored ∙ next-widest;

@@ -9,6 +9,7 @@ pub mod Index
 pub mod ShownLaws
 pub mod Replaced
 pub mod Laws
+pub mod Chunks
 pub mod RunLaws
 pub mod LinkLaws
 pub mod WeighLaws

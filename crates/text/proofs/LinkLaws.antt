@@ -115,14 +115,17 @@ sixteen-at s at r e = e ∙ rw (part_to_end s (at - 2), part_to_end s (at - 1), 
 
 -- ---- the loop of `links_end`
 module _ (s : List ℕ) (at : ℕ) where
-  pub links-begin : at ≤ length s → LinkedTo s at at
-  links-begin h = record { onward = omega arith; inside = h; each = λ i p q. absurd (omega arith) }
+  pub links-begin : at ≤ length s → LinkedTo s at (at + 0)
+  links-begin h = record { onward = omega arith; inside = omega arith; each = λ i p q. absurd (omega arith) }
 
-  module _ (end : ℕ) (inv : LinkedTo s at end) (r : Bool) (y : r ≡ true) where
+  module _ (n : ℕ) (inv : LinkedTo s at (at + 16 * n)) (r : Bool) (y : r ≡ true) where
+    abbrev so_far : ℕ
+    so_far = at + 16 * n
+
     -- the sixteen may begin before the end so far
-    window : (from : ℕ) → 2 ≤ from → from ≤ end → end ≤ from + 16 → from + 16 ≤ length s → r ≡ linked_at s from → LinkedTo s at (from + 16)
+    window : (from : ℕ) → 2 ≤ from → from ≤ so_far → so_far ≤ from + 16 → from + 16 ≤ length s → r ≡ linked_at s from → LinkedTo s at (from + 16)
     window from two h g l e =
-        record { onward = omega (arith, inv.onward); inside = l; each = λ i p q. go i p q (ltb i end) refl }
+        record { onward = omega (arith, inv.onward); inside = l; each = λ i p q. go i p q (ltb i so_far) refl }
       where
         one : (k : ℕ) → k < 16 → linked (get_or s (from - 2 + k) 0) (get_or s (from - 1 + k) 0) (get_or s (from + k) 0) ≡ true
         one k q =
@@ -130,22 +133,24 @@ module _ (s : List ℕ) (at : ℕ) where
             (links-each 16 (drop (from - 2) s) (drop (from - 1) s) (drop from s) (omega (arith, length-drop (from - 2) s)) (omega (arith, length-drop (from - 1) s))
             (omega (arith, length-drop from s)) (sym e ∙ y) k q)
 
-        go : (i : ℕ) → at ≤ i → i < from + 16 → (b : Bool) → ltb i end ≡ b → linked (get_or s (i - 2) 0) (get_or s (i - 1) 0) (get_or s i 0) ≡ true
-        go i p q true t = inv.each i p (ltb-true i end t)
+        go : (i : ℕ) → at ≤ i → i < from + 16 → (b : Bool) → ltb i so_far ≡ b → linked (get_or s (i - 2) 0) (get_or s (i - 1) 0) (get_or s i 0) ≡ true
+        go i p q true t = inv.each i p (ltb-true i so_far t)
         go i p q false t =
-            let past : end ≤ i = ltb-false i end t in
+            let past : so_far ≤ i = ltb-false i so_far t in
             let a : from - 2 + (i - from) ≡ i - 2 = omega arith in
             let b : from - 1 + (i - from) ≡ i - 1 = omega arith in
             let c : from + (i - from) ≡ i = omega arith in
             rw (a, b, c) at (one (i - from) (omega arith))
 
-    pub links-more : 2 ≤ at → 16 ≤ length s - end → r ≡ linked_at s end → LinkedTo s at (end + 16)
-    links-more two h e = window end (omega (arith, inv.onward)) (omega arith) (omega arith) (omega (arith, inv.inside)) e
+    pub links-more : 2 ≤ at → n < (length s - at) / 16 → r ≡ linked_at s (at + 16 * n) → LinkedTo s at (at + 16 * (n + 1))
+    links-more two h e =
+        let to : at + 16 * n + 16 ≡ at + 16 * (n + 1) = omega arith in
+        subst (λ (k : ℕ). LinkedTo s at k) to (window so_far (omega arith) (omega arith) (omega arith) (omega (arith, inv.inside)) e)
 
-    pub links-last : 18 ≤ length s → length s - end < 16 → r ≡ linked_at s (length s - 16) → LinkedTo s at (length s)
+    pub links-last : 18 ≤ length s → (length s - at) / 16 ≤ n → r ≡ linked_at s (length s - 16) → LinkedTo s at (length s)
     links-last l h e =
         let to : length s - 16 + 16 ≡ length s = omega arith in
-        subst (λ (n : ℕ). LinkedTo s at n) to (window (length s - 16) (omega arith) (omega arith) (omega (arith, inv.inside)) (omega arith) e)
+        subst (λ (k : ℕ). LinkedTo s at k) to (window (length s - 16) (omega arith) (omega arith) (omega (arith, inv.inside)) (omega arith) e)
 
 pub ruleset link-ways = (links-begin, links-more, links-last)
 

@@ -1,5 +1,5 @@
 -- Texts with their tokens replaced: what the definitions are on each way through src/expanding.rt.
-use Prim.Native.Nat.{ℕ, ◌+◌, ◌-◌, ◌≤◌, ◌<◌, ◌^◌, min}
+use Prim.Native.Nat.{ℕ, ◌+◌, ◌-◌, ◌*◌, ◌/◌, ◌≤◌, ◌<◌, ◌^◌, min}
 use mathlib.Core.Path.{◌≡◌, refl, sym, ap, subst, ◌∙◌}
 use mathlib.Core.List.{List, [], ◌∷◌, ◌++◌}
 use mathlib.Core.Bool.{Bool, true, false, ◌&&◌, ◌||◌, cond, false≢true, or-true}
@@ -8,7 +8,7 @@ use lib.ListN.{length, get_or, take, drop, set, length-append, drop_of_length-le
 use lib.Seq.{sets}
 use lib.Dec.{eqb, leb}
 use lib.Bits.{bit_or, bit_and}
-use native.Mathlib.Nat.{min-eq_left, min-eq_right}
+use native.Mathlib.Nat.{add-zero, min-eq_left, min-eq_right}
 use native.Mathlib.Omega.{arith}
 use mir.Val.{Fits}
 use mir.Syntax.{w64}
@@ -28,11 +28,13 @@ use Rattle.text.specs.Index.{place_by, entries_by}
 use Rattle.text.specs.Runs.{UntokenedTo}
 use Rattle.text.specs.declared.expanding.Found.{Found}
 use Rattle.text.specs.declared.expanding.Found.TheVariants.{At, Nothing}
+use Rattle.std.specs.Simd.{first_chunks}
 use Rattle.octets.proofs.Lists.{drop-next}
 use Rattle.octets.proofs.Left.{Left, left-begin, left-done, left-room, left-more}
 use Rattle.text.proofs.Masks.{bit-none, kept-within, within-kept, Marking, mark-begin, mark-done, mark-more}
 use Rattle.text.proofs.Index.{self-by, part_by, inside-by, width-by}
 use Rattle.text.proofs.Widths.{width-next, width-eight}
+use Rattle.text.proofs.Chunks.{left_from, chunk-is, chunks-long, behind-is}
 use Rattle.text.proofs.RunLaws.{run_length, expanded-run, weight-run}
 
 -- ---- the loop of `tokens_in`
@@ -142,16 +144,16 @@ module _ (rest : List ℕ → ℕ) (s : List ℕ) (whole most total at : ℕ) (i
 
 -- ---- the loops of `size_singly` and `size_from`: the width of what is left
 module _ (w s : List ℕ) (most : ℕ) where
-  pub size-begin : (before from : ℕ) → from ≤ length s → before ≤ most → Adding (weight w) s (before + weight w (drop from s)) most before from
-  size-begin before from h g = record { within = h; short = g; same = refl }
+  pub size-begin : (before : ℕ) → before ≤ most → Adding (weight w) s (before + weight w s) most before 0
+  size-begin before g = record { within = omega arith; short = g; same = refl }
+
+  pub eights-begin : (from : ℕ) → from ≤ length s → from ≤ most → Adding (weight w) s (from + weight w (drop from s)) most from (from + 8 * 0)
+  eights-begin from h g = record { within = omega arith; short = g; same = rw add-zero }
 
   module _ (whole total at : ℕ) (inv : Adding (weight w) s whole most total at) where
     pub size-done : length s ≤ at → total ≡ min most whole
     unfolding weight
     size-done h = add_done (weight w) s whole most total at inv refl h
-
-    pub size-rest : (r : ℕ) → r ≡ min most (total + weight w (drop at s)) → r ≡ min most whole
-    size-rest r e = e ∙ ap (min most) inv.same
 
     module _ (h : at < length s) (size : ℕ) (e : size ≡ width_at w (get_or s at 0)) where
       pub size-stop : most - total ≤ size → most ≡ min most whole
@@ -160,16 +162,32 @@ module _ (w s : List ℕ) (most : ℕ) where
       pub size-again : size < most - total → Adding (weight w) s whole most (total + size) (at + 1)
       size-again = add-again (weight w) s whole most total at inv size 1 (width-next w s at h size e) (omega arith)
 
-    module _ (h : 8 ≤ length s - at) (size : ℕ) (e : size ≡ weight w (take 8 (take (length s - at) (drop at s)))) where
-      pub size-eight-stop : most - total ≤ size → most ≡ min most whole
-      size-eight-stop = add-stop (weight w) s whole most total at inv size 8 (width-eight w s at size e)
+  -- a chunk more, where the chunks before it are added up
+  module _ (whole from : ℕ) (chunks : List (List ℕ)) (front : chunks ≡ first_chunks 8 (length (left_from s from) / 8) (left_from s from))
+      (count : length chunks ≡ length (left_from s from) / 8) (total i : ℕ) (inv : Adding (weight w) s whole most total (from + 8 * i)) where
+    pub eights-done : length chunks ≤ i → i ≤ length chunks → (rest : List ℕ) → rest ≡ drop (length (left_from s from) / 8 * 8) (left_from s from)
+        → (r : ℕ) → r ≡ min most (total + weight w rest) → r ≡ min most whole
+    eights-done h g rest d r e =
+        let all : i ≡ length chunks = omega arith in
+        e ∙ ap (λ q. min most (total + weight w q)) (behind-is 8 s from chunks front count rest d ∙ ap (λ (n : ℕ). drop (from + 8 * n) s) (sym all))
+        ∙ ap (min most) inv.same
 
-      pub size-eight-again : size < most - total → Adding (weight w) s whole most (total + size) (at + 8)
-      size-eight-again = add-again (weight w) s whole most total at inv size 8 (width-eight w s at size e) (omega arith)
+    module _ (h : i < length chunks) (size : ℕ) (e : size ≡ weight w (take 8 (get_or chunks i []))) where
+      eight : weight w (drop (from + 8 * i) s) ≡ size + weight w (drop (from + 8 * i + 8) s)
+      eight = width-eight w s (from + 8 * i) size (e ∙ ap (weight w) (chunk-is 8 s from chunks front count i h))
+
+      pub eights-stop : most - total ≤ size → most ≡ min most whole
+      eights-stop = add-stop (weight w) s whole most total (from + 8 * i) inv size 8 eight
+
+      pub eights-again : size < most - total → Adding (weight w) s whole most (total + size) (from + 8 * (i + 1))
+      eights-again g =
+          let place : from + 8 * i + 8 ≡ from + 8 * (i + 1) = omega arith in
+          subst (λ (n : ℕ). Adding (weight w) s whole most (total + size) n) place
+          (add-again (weight w) s whole most total (from + 8 * i) inv size 8 eight (omega (arith, chunks-long 8 s from chunks front count)) g)
 
 pub ruleset size-ways = (size-begin, size-done, size-stop, size-again)
 
-pub ruleset size-eight-ways = (size-begin, size-rest, size-eight-stop, size-eight-again)
+pub ruleset eights-ways = (eights-begin, eights-done, eights-stop, eights-again)
 
 -- ---- `expanded_size`
 module _ (w s : List ℕ) (most : Octets) where

@@ -1,11 +1,12 @@
 -- Runs of octets: how the code finds where they end, what a text is without one, and the loop of `check`, which passes over them.
-use Prim.Native.Nat.{ℕ, zero, suc, ◌+◌, ◌-◌, ◌/◌, ◌≤◌, ◌<◌}
+use Prim.Native.Nat.{ℕ, zero, suc, ◌+◌, ◌-◌, ◌*◌, ◌/◌, ◌≤◌, ◌<◌}
 use mathlib.Core.Path.{◌≡◌, refl, sym, ap, ap₂, subst, ◌∙◌}
 use mathlib.Core.List.{List, [], ◌∷◌, ◌++◌}
 use mathlib.Core.Bool.{Bool, true, false, ◌&&◌, and_assoc}
 use lib.ListN.{length, get_or, take, drop, length-drop, drop_of_length-le, take-append-drop}
 use lib.Seq.{drop-drop}
 use lib.Dec.{leb}
+use native.Mathlib.Nat.{add-zero}
 use native.Mathlib.Omega.{arith}
 use borrow.Author.Tests.{leb-true}
 use Rattle.octets.proofs.Tests.{and_left, and_right, and-true}
@@ -19,6 +20,8 @@ use Rattle.text.specs.Weighing.{weight, shown_by}
 use Rattle.text.proofs.Widths.{width-high}
 use Rattle.text.proofs.ShownLaws.{shown-on, shown-first}
 use Rattle.text.proofs.Words.{high-octet, covered-cons}
+use Rattle.std.specs.Simd.{first_chunks}
+use Rattle.text.proofs.Chunks.{left_from, chunk-is, chunks-long}
 use Rattle.text.proofs.Laws.{ascii-text, expanded-append, bare-expanded}
 
 -- ---- what `are_eight_within` answers
@@ -79,10 +82,6 @@ module _ (least most : ℕ) where
             all = rw (size, part-split s at (end - at) n, place) (all_append (take (end - at) (drop at s)) (take n (drop end s)) run.all w);
           }
 
-      pub run-eight : 8 ≤ length s - end → (r : Bool) → r ≡ all_within least most (take 8 (take (length s - end) (drop end s))) → r ≡ true
-          → RunTo least most s at (end + 8)
-      run-eight h r e y = run_more 8 (omega (arith, run.inside)) (ap (λ q. all_within least most (take 8 q)) (sym (part_to_end s end)) ∙ sym e ∙ y)
-
       -- the last sixteen octets of the text, of which the run has the first already
       pub run-last : 16 ≤ length s → length s - end < 16 → (r : Bool)
           → r ≡ all_within least most (take 16 (take (length s - (length s - 16)) (drop (length s - 16) s))) → r ≡ true → RunTo least most s at (length s)
@@ -99,17 +98,36 @@ module _ (least most : ℕ) where
           let rest = all_right (take old (drop last s)) (take left (drop end s)) (ap (all_within least most) (sym split) ∙ whole) in
           subst (λ (n : ℕ). RunTo least most s at n) to (run_more left (omega (arith, run.inside)) rest)
 
-      pub run-sixteen : 16 ≤ length s - end → (r : Bool) → r ≡ all_within least most (take 16 (take (length s - end) (drop end s))) → r ≡ true
-          → RunTo least most s at (end + 16)
-      run-sixteen h r e y = run_more 16 (omega (arith, run.inside)) (ap (λ q. all_within least most (take 16 q)) (sym (part_to_end s end)) ∙ sym e ∙ y)
-
       pub run-one : end < length s → (r : Bool) → r ≡ within least most (get_or s end 0) → r ≡ true → RunTo least most s at (end + 1)
       unfolding all_within
       run-one h r e y = run_more 1 (omega arith) (ap (λ q. all_within least most (take 1 q)) (drop-next s end 0 h) ∙ rw (← e, y))
 
-pub ruleset run-ways = (run-begin, run-eight, run-one)
+    pub run-none : at < length s → RunTo least most s at (at + 0)
+    run-none h = rw add-zero (run-begin h)
 
-pub ruleset sixteen-ways = (run-begin, run-sixteen, run-last)
+    -- a chunk more, where the chunks before it are the run
+    module _ (chunks : List (List ℕ)) (i : ℕ) (h : i < length chunks) where
+      pub run-eight : chunks ≡ first_chunks 8 (length (left_from s at) / 8) (left_from s at) → length chunks ≡ length (left_from s at) / 8
+          → RunTo least most s at (at + 8 * i) → (r : Bool) → r ≡ all_within least most (take 8 (get_or chunks i [])) → r ≡ true
+          → RunTo least most s at (at + 8 * (i + 1))
+      run-eight front count run r e y =
+          let place : at + 8 * i + 8 ≡ at + 8 * (i + 1) = omega arith in
+          let all = ap (all_within least most) (chunk-is 8 s at chunks front count i h) in
+          subst (λ (n : ℕ). RunTo least most s at n) place
+          (run_more (at + 8 * i) run 8 (omega (arith, run.onward, chunks-long 8 s at chunks front count)) (sym all ∙ sym e ∙ y))
+
+      pub run-sixteen : chunks ≡ first_chunks 16 (length (left_from s at) / 16) (left_from s at) → length chunks ≡ length (left_from s at) / 16
+          → RunTo least most s at (at + 16 * i) → (r : Bool) → r ≡ all_within least most (take 16 (get_or chunks i [])) → r ≡ true
+          → RunTo least most s at (at + 16 * (i + 1))
+      run-sixteen front count run r e y =
+          let place : at + 16 * i + 16 ≡ at + 16 * (i + 1) = omega arith in
+          let all = ap (all_within least most) (chunk-is 16 s at chunks front count i h) in
+          subst (λ (n : ℕ). RunTo least most s at n) place
+          (run_more (at + 16 * i) run 16 (omega (arith, run.onward, chunks-long 16 s at chunks front count)) (sym all ∙ sym e ∙ y))
+
+pub ruleset run-ways = (run-begin, run-none, run-eight, run-one)
+
+pub ruleset sixteen-ways = (run-none, run-sixteen, run-last)
 
 -- ---- what `are_sixteen_plain` answers
 all_both : (least most : ℕ) (a b : List ℕ) → all_within least most (a ++ b) ≡ all_within least most a && all_within least most b

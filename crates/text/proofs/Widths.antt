@@ -10,13 +10,13 @@ use lib.Bits.{bit_or, bit_and}
 use native.Mathlib.Omega.{arith}
 use borrow.Author.Tests.{eqb-true, eqb-false, ne_eqb, lt-ltb, le-ltb, ltb-true, ltb-false}
 use Rattle.octets.proofs.Tests.{cond_same}
-use Rattle.octets.proofs.Lists.{part_to_end, drop-next}
+use Rattle.octets.proofs.Lists.{drop-next}
 use Rattle.text.specs.Text.{token}
 use Rattle.text.specs.Tokens.{Entries, entries, cut, entry, or_itself, stands, expanded}
 use Rattle.text.specs.Leaves.{ahead, token_bit, place_of}
 use Rattle.text.specs.Weighing.{bit, Widths, width_at, weight}
-use Rattle.text.specs.declared.tables.Piece.{Piece}
-use Rattle.text.specs.declared.tables.Piece.TheVariants.{Past, Entry}
+use Rattle.std.specs.Prelude.{Option, Some, None}
+use Rattle.text.specs.declared.tables.Entry.{Entry}
 use Rattle.text.proofs.Words.{high-octet}
 use Rattle.text.proofs.Sequences.{token-facts}
 use Rattle.text.proofs.Masks.{bit-none, bit_test, mark-one}
@@ -152,20 +152,21 @@ module _ (table : List ℕ) where
     unfolding entries cut
     measure-done h = none_left (ap entries (drop_of_length-le table h))
 
-    module _ (h : at < length table) (p : Piece) (e : p ≡ ahead (entries (take (length table - at) (drop at table)))) where
-      pub measure-past : p ≡ Past → Widths 31 (entries table) widths
+    module _ (h : at < length table) (p : Option Entry) (e : p ≡ ahead (entries (take (length table - at) (drop at table)))) where
+      pub measure-past : p ≡ None → Widths 31 (entries table) widths
       measure-past f = none_left (no_more table at h p e f)
 
-      pub measure-again : (t n : ℕ) → p ≡ Entry t n → (place : ℕ) → place ≡ place_of seen t → (r : ℕ) → r ≡ token_bit t
-          → Measuring table (set widths place (get_or table (at + 1) 0)) (bit_or seen r) (at + 2 + n)
-      measure-again t n f place q r z =
-          rw (q, z, length-octet table at h p e t n f)
+      pub measure-again : (x : Entry) → p ≡ Some x → (place : ℕ) → place ≡ place_of seen x.tag → (r : ℕ) → r ≡ token_bit x.tag
+          → Measuring table (set widths place (get_or table (at + 1) 0)) (bit_or seen r) (at + 2 + x.size)
+      measure-again x f place q r z =
+          rw (q, z, length-octet table at h p e x f)
           record {
-            within = room table at h p e t n f;
-            long = length-set widths (place_of seen t) n ∙ inv.long;
+            within = room table at h p e x f;
+            long = length-set widths (place_of seen x.tag) x.size ∙ inv.long;
             each = λ k l.
-                known_more (entries table) (entries (drop (at + 2 + n) table)) t (take n (drop 2 (drop at table))) widths seen n (text-length table at h p e t n f) inv.long k l
-                (subst (λ es. Known (entries table) es k (get_or widths k 0) (bit seen k)) (next-names table at h p e t n f) (inv.each k l));
+                known_more (entries table) (entries (drop (at + 2 + x.size) table)) x.tag (take x.size (drop 2 (drop at table))) widths seen x.size
+                (text-length table at h p e x f) inv.long k l
+                (subst (λ es. Known (entries table) es k (get_or widths k 0) (bit seen k)) (next-names table at h p e x f) (inv.each k l));
           }
 
 -- ---- `widths_of`: the place that entries without a place were kept at gets the width of its octet
@@ -215,11 +216,11 @@ module _ (w s : List ℕ) (at : ℕ) where
   unfolding weight
   width-next h size e = ap (weight w) (drop-next s at 0 h) ∙ rw e
 
-  pub width-eight : (size : ℕ) → size ≡ weight w (take 8 (take (length s - at) (drop at s))) → weight w (drop at s) ≡ size + weight w (drop (at + 8) s)
+  pub width-eight : (size : ℕ) → size ≡ weight w (take 8 (drop at s)) → weight w (drop at s) ≡ size + weight w (drop (at + 8) s)
   width-eight size e =
       ap (weight w) (sym (take-append-drop 8 (drop at s)))
       ∙ width-append w (take 8 (drop at s)) (drop 8 (drop at s))
-      ∙ ap₂ (λ (m n : ℕ). m + n) (sym (e ∙ ap (λ q. weight w (take 8 q)) (part_to_end s at))) (ap (weight w) (drop-drop 8 at s))
+      ∙ ap₂ (λ (m n : ℕ). m + n) (sym e) (ap (weight w) (drop-drop 8 at s))
 
 -- ---- a text by such widths
 pub weight_is : (es : Entries) (w : List ℕ) → Widths 32 es w → (s : List ℕ) → weight w s ≡ length (expanded es s)

@@ -1,5 +1,6 @@
 -- What the private functions tell the public ones: text a character at a time, a table an entry at a time.
-use Rattle.std.specs.Prelude.{◌≡◌, Bool, true, false, cond, not, ◌&&◌, List, [], ◌∷◌, ℕ, zero, suc, ◌+◌, ◌-◌, ◌*◌, ◌/◌, ◌%◌, ◌^◌, ◌≤◌, ◌<◌, eqb, ltb, length, get_or, take, drop}
+use Rattle.std.specs.Prelude.{◌≡◌, Bool, true, false, cond, not, ◌&&◌, List, [], ◌∷◌, length, get_or, take, drop, Option, Some, None}
+use Rattle.std.specs.Prelude.{ℕ, zero, suc, ◌+◌, ◌-◌, ◌*◌, ◌/◌, ◌%◌, ◌^◌, ◌≤◌, ◌<◌, eqb, ltb}
 use Rattle.std.specs.Int.Bits.{bit_and, bit_or}
 use Rattle.text.specs.Text.{token, character, text}
 use Rattle.text.specs.Tokens.{Entries, filled}
@@ -8,8 +9,7 @@ use Rattle.text.specs.Runs.{all_within}
 use Rattle.text.specs.Weighing.{bit}
 use Rattle.text.specs.declared.expanding.Found.{Found}
 use Rattle.text.specs.declared.expanding.Found.TheVariants.{Nothing}
-use Rattle.text.specs.declared.tables.Piece.{Piece}
-use Rattle.text.specs.declared.tables.Piece.TheVariants.{Past, Entry}
+use Rattle.text.specs.declared.tables.Entry.{Entry}
 
 -- the octets that come after those of a character that made the bits so far: each begins with the bits 10, and with all of them it is a code point that may
 -- be written in the form of that least one
@@ -45,10 +45,13 @@ pub record Steps (tokens : Bool) (s : List ℕ) (n : ℕ) : Type 0 where
   pub begun : get_or s 0 0 / 64 ≡ 2 → n ≡ 0
   pub high : all_within 0x80 0xBF (take (n - 1) (drop 1 s)) ≡ true
 
+abbrev pub tag_size : ℕ → ℕ → Entry
+tag_size tag size = record { tag = tag; size = size }
+
 -- the entry with which a table begins
-unfoldable pub ahead : Entries → Piece
-ahead [] = Past
-ahead (e ∷ es) = Entry e.0 (length e.1)
+unfoldable pub ahead : Entries → Option Entry
+ahead [] = None
+ahead (e ∷ es) = Some (tag_size e.0 (length e.1))
 
 -- a bit for each tag
 unfoldable pub mask_of : List ℕ → ℕ
@@ -74,12 +77,12 @@ pub record Good (seen s : List ℕ) (tag n : ℕ) : Type 0 where
   pub same : filled_after seen s ≡ filled_after (tag ∷ seen) (drop n (drop 2 s))
 
 -- what is left is no table, or it begins with a good entry
-unfoldable pub Rated : List ℕ → List ℕ → Piece → Type 0
-Rated seen s Past = 0 < length s → filled_after seen s ≡ false
-Rated seen s (Entry tag n) = Good seen s tag n
+unfoldable pub Rated : List ℕ → List ℕ → Option Entry → Type 0
+Rated seen s None = 0 < length s → filled_after seen s ≡ false
+Rated seen s (Some e) = Good seen s e.tag e.size
 
 -- the same where the tags seen are kept as a mask
-abbrev pub RatedBy : ℕ → List ℕ → Piece → Type 0
+abbrev pub RatedBy : ℕ → List ℕ → Option Entry → Type 0
 RatedBy mask s p = (seen : List ℕ) → mask ≡ mask_of seen → Rated seen s p
 
 -- where the text lies that stands for an octet; Nothing: the octet stands for itself

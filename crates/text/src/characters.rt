@@ -96,14 +96,11 @@ fn follows(rest: &[u8], bits: u8, least: u32) -> bool
     ensures { result ≡ following least bits rest.now }
 {
     let mut c = bits as u32;
-    let mut i: usize = 0;
-    while i < rest.len() {
-        let b = rest[i];
-        if b / 64 != 2 {
+    for b in rest {
+        if *b / 64 != 2 {
             return false;
         }
-        c = c * 64 + (b as u32) % 64;
-        i += 1;
+        c = c * 64 + (*b as u32) % 64;
     }
     character_ok(least, c)
 }

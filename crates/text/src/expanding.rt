@@ -20,10 +20,8 @@ fn tokens_in(s: &[u8]) -> u32
     ensures { Marks result s.now }
 {
     let mut mask: u32 = 0;
-    let mut at: usize = 0;
-    while at < s.len() {
-        mask = mask | token_bit(s[at]);
-        at += 1;
+    for b in s {
+        mask |= token_bit(*b);
     }
     mask
 }
@@ -71,22 +69,18 @@ fn width_of_eight(widths: &[u8; 32], s: &[u8]) -> Octets
     Octets(sum)
 }
 
-// A width before a place and that of the octets from there on, by the widths of a table and octet by octet, or `most` where that is less: there it
-// stops.
-fn size_singly(widths: &[u8; 32], s: &[u8], from: usize, before: Octets, most: Octets) -> Octets
-    requires from_in_bounds { from ≤ length s.now }
-    requires before_le_most { before.0 ≤ most.0 }
-    ensures { result.0 ≡ min most.0 (before.0 + weight widths.now (drop from s.now)) }
+// A width before a text and that of the text, by the widths of a table and octet by octet, or `most` where that is less: there it stops.
+fn size_singly(widths: &[u8; 32], s: &[u8], before: Octets, most: Octets) -> Octets
+    requires { before.0 ≤ most.0 }
+    ensures { result.0 ≡ min most.0 (before.0 + weight widths.now s.now) }
 {
     let mut total = before.0;
-    let mut at = from;
-    while at < s.len() {
-        let more = width_by(widths, s[at]);
+    for b in s {
+        let more = width_by(widths, *b);
         if most.0 - total <= more.0 {
             return most;
         }
         total += more.0;
-        at += 1;
     }
     Octets(total)
 }
@@ -98,17 +92,16 @@ fn size_from(widths: &[u8; 32], s: &[u8], from: usize, most: Octets) -> Octets
     requires from_le_most { from ≤ most.0 }
     ensures { result.0 ≡ min most.0 (from + weight widths.now (drop from s.now)) }
 {
+    let (eights, rest) = s[from..].as_chunks::<8>();
     let mut total = from;
-    let mut at = from;
-    while s.len() - at >= 8 {
-        let more = width_of_eight(widths, &s[at..]);
+    for eight in eights {
+        let more = width_of_eight(widths, eight);
         if most.0 - total <= more.0 {
             return most;
         }
         total += more.0;
-        at += 8;
     }
-    size_singly(widths, s, at, Octets(total), most)
+    size_singly(widths, rest, Octets(total), most)
 }
 
 // How many octets the expansion of a text takes, by the widths of a table, or `most` where that is less. The run with which the text begins needs
@@ -134,11 +127,8 @@ fn copy(part: &[u8], out: &mut [u8], at: usize)
     requires { at + length part.now ≤ length out.old }
     ensures { out.new ≡ sets out.old at part.now }
 {
-    let mut i: usize = 0;
-    while i < part.len() {
-        out[at + i] = part[i];
-        i += 1;
-    }
+    let end = at + part.len();
+    out[at..end].copy_from_slice(part);
 }
 
 // Where the text of an entry begins in its table, and how long it is.
@@ -227,14 +217,12 @@ fn size_by(index: &[usize; 32], table: &[u8], s: &[u8], most: Octets) -> Octets
     ensures { result.0 ≡ min most.0 (expanded_size (entries_by index.now table.now) s.now).0 }
 {
     let mut total: usize = 0;
-    let mut at: usize = 0;
-    while at < s.len() {
-        let more = indexed_width(index, table, s[at]);
+    for b in s {
+        let more = indexed_width(index, table, *b);
         if most.0 - total <= more.0 {
             return most;
         }
         total += more.0;
-        at += 1;
     }
     Octets(total)
 }

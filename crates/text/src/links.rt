@@ -66,17 +66,16 @@ fn links_end(s: &[u8], at: usize) -> usize
     requires at_in_bounds { at ≤ length s.now }
     ensures { LinkedTo s.now at result }
 {
-    let mut end = at;
-    while s.len() - end >= 16 {
-        if !are_linked_at(s, end) {
-            return end;
+    let sixteens = (s.len() - at) / 16;
+    for n in 0..sixteens {
+        if !are_linked_at(s, at + 16 * n) {
+            return at + 16 * n;
         }
-        end += 16;
     }
     if are_linked_at(s, s.len() - 16) {
         return s.len();
     }
-    end
+    at + 16 * sixteens
 }
 
 // The end of the whole characters that begin at a place. The first two octets have nothing before them that counts; a character that isn't complete at the

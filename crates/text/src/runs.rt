@@ -29,14 +29,13 @@ fn eights_end(s: &[u8], at: usize, least: u8, most: u8) -> usize
     requires { at < length s.now }
     ensures { RunTo least most s.now at result }
 {
-    let mut end = at;
-    while s.len() - end >= 8 {
-        if !are_eight_within(&s[end..], least, most) {
-            return end;
+    let (eights, _) = s[at..].as_chunks::<8>();
+    for (n, eight) in eights.iter().enumerate() {
+        if !are_eight_within(eight, least, most) {
+            return at + 8 * n;
         }
-        end += 8;
     }
-    end
+    at + 8 * eights.len()
 }
 
 // The end of the run that begins at a place: by eights as far as they go, then by single octets.
@@ -44,14 +43,12 @@ fn run_end(s: &[u8], at: usize, least: u8, most: u8) -> usize
     requires { at < length s.now }
     ensures { RunTo least most s.now at result }
 {
-    let mut end = eights_end(s, at, least, most);
-    while end < s.len() {
+    for end in eights_end(s, at, least, most)..s.len() {
         if !is_within(s[end], least, most) {
             return end;
         }
-        end += 1;
     }
-    end
+    s.len()
 }
 
 // The functions below give the bounds as constants, which the compiler needs to make one comparison of eight tests or sixteen. `plain_end` and
@@ -82,17 +79,16 @@ pub fn sixteens_end(s: &[u8], at: usize) -> usize
     requires at_in_bounds { at < length s.now }
     ensures { PlainTo s.now at result }
 {
-    let mut end = at;
-    while s.len() - end >= 16 {
-        if !are_sixteen_plain(&s[end..]) {
-            return end;
+    let (sixteens, _) = s[at..].as_chunks::<16>();
+    for (n, sixteen) in sixteens.iter().enumerate() {
+        if !are_sixteen_plain(sixteen) {
+            return at + 16 * n;
         }
-        end += 16;
     }
     if are_sixteen_plain(&s[s.len() - 16..]) {
         return s.len();
     }
-    end
+    at + 16 * sixteens.len()
 }
 
 // The end of the run of octets above the last token.

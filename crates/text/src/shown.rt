@@ -15,10 +15,8 @@ fn starts_of(part: &[u8]) -> Characters
     ensures { result.0 ≡ starts part.now }
 {
     let mut n: usize = 0;
-    let mut i: usize = 0;
-    while i < part.len() {
-        n += begun(part[i]).0;
-        i += 1;
+    for b in part {
+        n += begun(*b).0;
     }
     Characters(n)
 }
@@ -49,10 +47,8 @@ pub fn characters_of(table: &[u8]) -> [u8; 32]
         return shows;
     }
     let index = index_of(table);
-    let mut b: u8 = 0;
-    while b < 0x14 {
+    for b in 0..0x14u8 {
         shows[b as usize] = count_of(&index, table, b).0 as u8;
-        b += 1;
     }
     shows
 }

@@ -1,31 +1,31 @@
 // The token table, an entry at a time.
-ghost use Rattle.std.specs.Prelude.{◌≡◌, ◌<◌, max};
+ghost use Rattle.std.specs.Prelude.{◌≡◌, ◌<◌};
 ghost use Rattle.text.specs.Tokens.{entries, is_table};
 ghost use Rattle.text.specs.Leaves.{ahead, place_of, RatedBy};
 ghost use Rattle.text.specs.Weighing.{tags, Marks, Widths};
 ghost use Rattle.text.specs.Index.{noted, Indexes};
 
 use crate::characters::{check, is_token, token_bit};
-use octets::Octets;
 
-// The entry with which a part of a table begins: its tag, and the size of its text, which lies inside that part.
+// An entry of a table: its tag, and the size of its text.
 #[derive(Clone, Copy)]
-enum Piece {
-    Past,
-    Entry { tag: u8, size: usize },
+struct Entry {
+    tag: u8,
+    size: usize,
 }
 
-fn first_entry(rest: &[u8]) -> Piece
+// The entry with which a part of a table begins, where its text lies inside that part.
+fn first_entry(rest: &[u8]) -> Option<Entry>
     ensures { result ≡ ahead (entries rest.now) }
 {
     if rest.len() < 2 {
-        return Piece::Past;
+        return None;
     }
     let size = rest[1] as usize;
     if rest.len() - 2 < size {
-        return Piece::Past;
+        return None;
     }
-    Piece::Entry { tag: rest[0], size }
+    Some(Entry { tag: rest[0], size })
 }
 
 // The tokens that have an entry, a bit each.
@@ -35,15 +35,11 @@ pub fn tokens_of(table: &[u8]) -> u32
     let mut mask: u32 = 0;
     let mut at: usize = 0;
     while at < table.len() {
-        match first_entry(&table[at..]) {
-            Piece::Past => {
-                return mask;
-            }
-            Piece::Entry { tag, size } => {
-                mask = mask | token_bit(tag);
-                at = at + 2 + size;
-            }
-        }
+        let Some(entry) = first_entry(&table[at..]) else {
+            return mask;
+        };
+        mask |= token_bit(entry.tag);
+        at = at + 2 + entry.size;
     }
     mask
 }
@@ -71,16 +67,12 @@ fn entry_widths(table: &[u8]) -> [u8; 32]
     let mut seen: u32 = 0;
     let mut at: usize = 0;
     while at < table.len() {
-        match first_entry(&table[at..]) {
-            Piece::Past => {
-                return widths;
-            }
-            Piece::Entry { tag, size } => {
-                widths[place_of(tag, seen)] = table[at + 1];
-                seen = seen | token_bit(tag);
-                at = at + 2 + size;
-            }
-        }
+        let Some(entry) = first_entry(&table[at..]) else {
+            return widths;
+        };
+        widths[place_of(entry.tag, seen)] = table[at + 1];
+        seen |= token_bit(entry.tag);
+        at = at + 2 + entry.size;
     }
     widths
 }
@@ -108,15 +100,6 @@ fn note(index: &mut [usize; 32], tag: u8, start: usize)
     index[k] = start;
 }
 
-fn longer(a: Octets, b: Octets) -> Octets
-    ensures { result.0 ≡ max a.0 b.0 }
-{
-    if a.0 < b.0 {
-        return b;
-    }
-    a
-}
-
 // A table gone through once, so that an entry is found without a search. At the place of a token stands where the text of its first entry begins
 // in the table, or 0 where it has no entry: no text begins there. At the place of 0, which is no token, stands how many octets the longest text has.
 // It takes a step for each entry, and a table that passes `is_table` has at most 16 (proofs/Sixteen, sixteen).
@@ -127,42 +110,32 @@ pub fn index_of(table: &[u8]) -> [usize; 32]
     index[0] = 1;
     let mut at: usize = 0;
     while at < table.len() {
-        match first_entry(&table[at..]) {
-            Piece::Past => {
-                return index;
-            }
-            Piece::Entry { tag, size } => {
-                note(&mut index, tag, at + 2);
-                let longest = index[0];
-                index[0] = longer(Octets(longest), Octets(size)).0;
-                at = at + 2 + size;
-            }
-        }
+        let Some(entry) = first_entry(&table[at..]) else {
+            return index;
+        };
+        note(&mut index, entry.tag, at + 2);
+        index[0] = index[0].max(entry.size);
+        at = at + 2 + entry.size;
     }
     index
 }
 
-// Rule 11 for the first entry of what is left of a table, after entries whose tags are the bits of a mask: the entry, or Past where it breaks
-// the rule.
-fn good_entry(rest: &[u8], seen: u32) -> Piece
+// Rule 11 for the first entry of what is left of a table, after entries whose tags are the bits of a mask: the entry, where it keeps the rule.
+fn good_entry(rest: &[u8], seen: u32) -> Option<Entry>
     ensures { RatedBy seen rest.now result }
 {
-    match first_entry(rest) {
-        Piece::Past => Piece::Past,
-        Piece::Entry { tag, size } => {
-            if !is_token(tag) {
-                return Piece::Past;
-            }
-            if (seen >> (tag as u32)) & 1 == 1 {
-                return Piece::Past;
-            }
-            let end = 2 + size;
-            if !check(&rest[2..end], false) {
-                return Piece::Past;
-            }
-            Piece::Entry { tag, size }
-        }
+    let entry = first_entry(rest)?;
+    if !is_token(entry.tag) {
+        return None;
     }
+    if (seen >> (entry.tag as u32)) & 1 == 1 {
+        return None;
+    }
+    let end = 2 + entry.size;
+    if !check(&rest[2..end], false) {
+        return None;
+    }
+    Some(entry)
 }
 
 // Octets that are a token table (rule 11), in one pass over them.
@@ -172,15 +145,11 @@ pub fn is_table(s: &[u8]) -> bool
     let mut at: usize = 0;
     let mut seen: u32 = 0;
     while at < s.len() {
-        match good_entry(&s[at..], seen) {
-            Piece::Past => {
-                return false;
-            }
-            Piece::Entry { tag, size } => {
-                seen = seen | (1u32 << (tag as u32));
-                at = at + 2 + size;
-            }
-        }
+        let Some(entry) = good_entry(&s[at..], seen) else {
+            return false;
+        };
+        seen |= 1u32 << (entry.tag as u32);
+        at = at + 2 + entry.size;
     }
     true
 }

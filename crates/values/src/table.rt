@@ -139,10 +139,8 @@ fn row_of(pairs: &[u32; 113], from: usize, to: usize) -> u32
     ensures { result ≡ row_of pairs.now from to }
 {
     let mut codes = pairs[from] & 0xF;
-    let mut i = from + 1;
-    while i < to {
-        codes = codes | digit_of(pairs[i]);
-        i = i + 1;
+    for i in from + 1..to {
+        codes |= digit_of(pairs[i]);
     }
     codes
 }

@@ -1,12 +1,9 @@
-use Prim.Native.Nat.{◌-◌}
-use lib.ListN.{length}
+use Rattle.std.specs.Prelude.{List, ℕ}
 use Rattle.text.specs.Tokens.{expanded_size}
 use Rattle.text.specs.Index.{entries_by}
 use Rattle.text.proofs.Replaced.{Adding}
 use Rattle.text.proofs.expanding.size_by.Given as goal
 
-abbrev pub invariant-loop-at : goal.invariant-loop-at
-invariant-loop-at l = Adding (λ q. (expanded_size (entries_by l.index l.table) q).0) l.s (expanded_size (entries_by l.index l.table) l.s).0 l.most.0 l.total l.at
-
-abbrev pub decreases-loop-at : goal.decreases-loop-at
-decreases-loop-at l = length l.s - l.at
+abbrev pub invariant-loop-b : goal.invariant-loop-b
+invariant-loop-b l =
+    let size = λ (s : List ℕ). (expanded_size (entries_by l.index l.table) s).0 in Adding size l.s (size l.s) l.most.0 l.total l.b-index

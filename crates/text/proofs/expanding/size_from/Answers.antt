@@ -1,15 +1,15 @@
-use Rattle.text.proofs.Replaced.{size-eight-ways}
+use Rattle.text.proofs.Replaced.{eights-ways}
 use borrow.Author.Rules.{rules}
 use Rattle.text.proofs.expanding.size_from.Goals as goal
 
-pub loop-at-init : goal.loop-at-init
-loop-at-init c = search (size-eight-ways, rules)
+pub loop-eight-init : goal.loop-eight-init
+loop-eight-init c = search (eights-ways, rules)
 
 pub returns-then-most-total : goal.returns-then-most-total
-returns-then-most-total c = search (size-eight-ways, rules)
+returns-then-most-total c = search (eights-ways, rules)
 
-pub loop-at-preserved : goal.loop-at-preserved
-loop-at-preserved c = search (size-eight-ways, rules)
+pub loop-eight-preserved : goal.loop-eight-preserved
+loop-eight-preserved c = search (eights-ways, rules)
 
 pub returns : goal.returns
-returns c = search (size-eight-ways, rules)
+returns c = search (eights-ways, rules)

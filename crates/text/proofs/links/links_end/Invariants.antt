@@ -1,10 +1,6 @@
-use Prim.Native.Nat.{◌-◌}
-use lib.ListN.{length}
+use Prim.Native.Nat.{◌+◌, ◌*◌}
 use Rattle.text.specs.Links.{LinkedTo}
 use Rattle.text.proofs.links.links_end.Given as goal
 
-abbrev pub invariant-loop-end : goal.invariant-loop-end
-invariant-loop-end l = LinkedTo l.s l.at l.end
-
-abbrev pub decreases-loop-end : goal.decreases-loop-end
-decreases-loop-end l = length l.s - l.end
+abbrev pub invariant-loop-n : goal.invariant-loop-n
+invariant-loop-n l = LinkedTo l.s l.at (l.at + 16 * l.n)

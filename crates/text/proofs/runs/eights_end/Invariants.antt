@@ -1,10 +1,6 @@
-use Prim.Native.Nat.{◌-◌}
-use lib.ListN.{length}
+use Prim.Native.Nat.{◌+◌, ◌*◌}
 use Rattle.text.specs.Runs.{RunTo}
 use Rattle.text.proofs.runs.eights_end.Given as goal
 
-abbrev pub invariant-loop-end : goal.invariant-loop-end
-invariant-loop-end l = RunTo l.least l.most l.s l.at l.end
-
-abbrev pub decreases-loop-end : goal.decreases-loop-end
-decreases-loop-end l = length l.s - l.end
+abbrev pub invariant-loop-n : goal.invariant-loop-n
+invariant-loop-n l = RunTo l.least l.most l.s l.at (l.at + 8 * l.n)

@@ -5,8 +5,8 @@ use Rattle.text.proofs.tables.is_table.Goals as goal
 pub loop-at-init : goal.loop-at-init
 loop-at-init c = search (table-ways, rules)
 
-pub returns-in-Past : goal.returns-in-Past
-returns-in-Past c = search (table-ways, rules)
+pub returns-in_default : goal.returns-in_default
+returns-in_default c = search (table-ways, rules)
 
 pub overflow_shl-seen : goal.overflow_shl-seen
 overflow_shl-seen c = search (table-bit, rules)
@@ -14,9 +14,9 @@ overflow_shl-seen c = search (table-bit, rules)
 pub overflow_add-at : goal.overflow_add-at
 overflow_add-at c = search (table_fits, rules)
 
-pub overflow_add-at-in-Entry : goal.overflow_add-at-in-Entry
-overflow_add-at-in-Entry c =
-    table-fits-2 _ _ _ c.loop-at.invariant c.loop-at-test.true _ c.good_entry.ensures _ _ c.in-Entry.is (search rules)
+pub overflow_add-at-in-loop-at : goal.overflow_add-at-in-loop-at
+overflow_add-at-in-loop-at c =
+    table-fits-2 _ _ _ c.loop-at.invariant c.loop-at-test.true _ c.good_entry.ensures _ c.in-Some.is (search rules)
 
 pub loop-at-preserved : goal.loop-at-preserved
 loop-at-preserved c = search (table-ways, rules)
