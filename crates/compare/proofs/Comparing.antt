@@ -155,16 +155,6 @@ pub ruleset same-child-ways = (child-octets, child-text, child-deep, child-sets,
 
 -- ---- same_children
 
-pub end-yes : (c : Child) → c ≡ End → true ≡ is_ended c
-unfolding is_ended
-end-yes c e = rw e refl
-
-pub end-no : (c : Child) (at from to : ℕ) → c ≡ Found at from to → false ≡ is_ended c
-unfolding is_ended
-end-no c at from to e = rw e refl
-
-pub ruleset end-ways = (end-yes, end-no)
-
 module _ (part : List ℕ) (at : ℕ) (c : Child) (x : Children part at c) where
   none_left : c ≡ End → children_in (drop at part) ≡ []
   unfolding Children

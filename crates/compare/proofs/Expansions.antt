@@ -2,13 +2,13 @@
 use mathlib.Core.Path.{◌≡◌, refl, sym, ap, ap₂, ◌∙◌, subst}
 use mathlib.Core.Bool.{Bool, true, false, cond, ◌&&◌, false≢true, and-false}
 use mathlib.Core.List.{List, [], ◌∷◌, ◌++◌, append_assoc}
-use Prim.Native.Nat.{ℕ, zero, suc, ◌+◌, ◌-◌, ◌^◌, ◌≤◌, ◌<◌, min}
+use Prim.Native.Nat.{ℕ, zero, suc, ◌+◌, ◌-◌, ◌*◌, ◌^◌, ◌≤◌, ◌<◌, min}
 use native.Mathlib.Nat.{add-zero}
 use native.Mathlib.Omega.{arith}
 use lib.Dec.{eqb, leb, ltb}
 use lib.ListN.{length, take, drop, get_or, length-append, length-drop, drop_of_length-le}
 use lib.Seq.{drop-drop, length-take-le, get_or-take, get_or-drop}
-use borrow.Author.Tests.{ltb-true, ltb-false, lt-ltb, le-ltb, lt-leb, leb-true, leb-false, eqb-true, eqb-false, eq-eqb, ne_eqb}
+use borrow.Author.Tests.{ltb-true, ltb-false, lt-ltb, le-ltb, lt-leb, leb-true, leb-false, eqb-true, eq-eqb, ne_eqb}
 use Rattle.octets.specs.declared.Lies.{Lies}
 use Rattle.octets.specs.declared.Lies.TheVariants.{Outside, Between}
 use Rattle.octets.specs.Places.{between}
@@ -22,7 +22,7 @@ use Rattle.text.proofs.Sequences.{token-bit}
 use Rattle.format.specs.Same.{same_octets}
 use Rattle.compare.specs.declared.texts.Rest.{Rest}
 use Rattle.compare.specs.Bodies.{all_by}
-use Rattle.compare.specs.Texts.{Entry, Standing, left, Inside, Opened, ahead, beyond, is_over, or_one, shared, Shared, Common}
+use Rattle.compare.specs.Texts.{Entry, Standing, left, Inside, Opened, ahead, beyond, is_over, shared, Shared, Common}
 
 -- ---- what stands for an octet
 
@@ -91,85 +91,51 @@ left-text : (es : Entries) (table s : List ℕ) (r : Rest) → r.to ≤ r.from �
 unfolding left
 left-text es table s r h = ap (λ o. o ++ expanded es (drop r.at s)) (nothing-between table r.from r.to h)
 
-pub record Opening (es : Entries) (table s : List ℕ) (r q : Rest) : Type 0 where
+-- a rest with the text from a place on, and the same left as at first
+pub record Opening (es : Entries) (table s : List ℕ) (r q : Rest) (i : ℕ) : Type 0 where
   pub places : Inside table s q
   pub same : left es table s r ≡ left es table s q
+  pub at_is : q.at ≡ i
 
 module _ (es : Entries) (table s : List ℕ) (r : Rest) where
-  pub open-begin : Inside table s r → Opening es table s r r
-  open-begin i = record { places = i; same = refl }
+  pub open-begin : Inside table s r → Opening es table s r r r.at
+  open-begin i = record { places = i; same = refl; at_is = refl }
 
-  module _ (q : Rest) (inv : Opening es table s r q) where
-    pub open-ended : length s ≤ q.at → Opened es table s r q
-    open-ended h = record { places = inv.places; same = inv.same; plain = λ e l. absurd (omega arith) }
+  module _ (q : Rest) (i : ℕ) (inv : Opening es table s r q i) where
+    pub open-ended : length s ≤ i → Opened es table s r q
+    open-ended h = record { places = inv.places; same = inv.same; plain = λ e l. absurd (omega (arith, inv.at_is)) }
 
     pub open-entry : q.from < q.to → Opened es table s r q
     open-entry h = record { places = inv.places; same = inv.same; plain = λ e l. absurd (omega arith) }
 
-    module _ (h : q.at < length s) (e : q.to ≤ q.from) (l : Lies) (d : Standing es table (get_or s q.at 0) l) where
+    module _ (h : i < length s) (e : q.to ≤ q.from) (l : Lies) (d : Standing es table (get_or s i 0) l) where
+      stands-at : Standing es table (get_or s q.at 0) l
+      stands-at = subst (λ k. Standing es table (get_or s k 0) l) (sym inv.at_is) d
+
       pub open_plain : l ≡ Outside → Opened es table s r q
       unfolding Standing
-      open_plain x = record { places = inv.places; same = inv.same; plain = λ y z. subst (Standing es table (get_or s q.at 0)) x d }
+      open_plain x = record { places = inv.places; same = inv.same; plain = λ y z. subst (Standing es table (get_or s q.at 0)) x stands-at }
 
       module _ (from to : ℕ) (x : l ≡ Between from to) where
-        met : Entry es table (get_or s q.at 0) from to
+        met : Entry es table (get_or s i 0) from to
         unfolding Standing
-        met = subst (Standing es table (get_or s q.at 0)) x d
+        met = subst (Standing es table (get_or s i 0)) x d
 
-        pub open-again : Opening es table s r (record { from = from; to = to; at = q.at + 1 })
+        pub open-again : Opening es table s r (record { from = from; to = to; at = i + 1 }) (i + 1)
         unfolding left
         open-again = record {
           places = record { ordered = met.ordered; entry = met.inside; text = omega arith };
-          same = inv.same ∙ left-text es table s q e ∙ expanded-from es s q.at h ∙ ap (λ o. o ++ expanded es (drop (q.at + 1) s)) met.is;
+          same =
+              inv.same ∙ left-text es table s q e ∙ ap (λ k. expanded es (drop k s)) inv.at_is ∙ expanded-from es s i h
+              ∙ ap (λ o. o ++ expanded es (drop (i + 1) s)) met.is;
+          at_is = refl;
         }
 
 pub ruleset open-ways = (open-begin, open-ended, open-entry, open_plain, open-again)
 
--- ---- beyond, is_over, are_over, or_one
-
-module _ (r : Rest) (n : ℕ) where
-  pub beyond-entry : r.from < r.to → record { from = r.from + n; to = r.to; at = r.at } ≡ beyond r n
-  unfolding beyond
-  beyond-entry h = rw (lt-ltb r.from r.to h)
-
-  pub beyond-text : r.to ≤ r.from → record { from = r.from; to = r.to; at = r.at + n } ≡ beyond r n
-  unfolding beyond
-  beyond-text h = rw (le-ltb r.from r.to h)
-
-pub ruleset beyond-ways = (beyond-entry, beyond-text)
-
-module _ (s : List ℕ) (r : Rest) where
-  pub over-entry : r.from < r.to → false ≡ is_over s r
-  unfolding is_over
-  over-entry h = rw (lt-ltb r.from r.to h)
-
-  pub over-text : r.to ≤ r.from → leb (length s) r.at ≡ is_over s r
-  unfolding is_over
-  over-text h = rw (le-ltb r.from r.to h)
-
-pub ruleset over-ways = (over-entry, over-text)
-
-module _ (a b : List ℕ) (p q : Rest) (t : Bool) (e : t ≡ is_over a p) where
-  pub over-both : t ≡ true → (r : Bool) → r ≡ is_over b q → r ≡ is_over a p && is_over b q
-  over-both y r f = f ∙ ap (λ x. x && is_over b q) (sym y ∙ e)
-
-  pub over-not : t ≡ false → false ≡ is_over a p && is_over b q
-  over-not n = ap (λ x. x && is_over b q) (sym n ∙ e)
-
-pub one-first : (n : ℕ) → n ≡ 0 → 1 ≡ or_one n
-unfolding or_one
-one-first n e = rw (eq-eqb n 0 e)
-
-pub one_later : (n : ℕ) → (n ≡ 0 → ⊥) → n ≡ or_one n
-unfolding or_one
-one_later n e = rw (ne_eqb n 0 e)
-
 -- ---- common
 
 module _ (a b : List ℕ) where
-  pub share-begin : Shared a b 0
-  share-begin = record { first = omega arith; second = omega arith; same = refl; high = λ i h. absurd (omega arith) }
-
   module _ (n : ℕ) (inv : Shared a b n) where
     module _ (h : n < length a) (g : n < length b) (e : get_or a n 0 ≡ get_or b n 0) where
       on : take (n + 1) a ≡ take (n + 1) b
@@ -181,37 +147,6 @@ module _ (a b : List ℕ) where
           go : (i : ℕ) → i < n + 1 → (t : Bool) → ltb i n ≡ t → 0x14 ≤ get_or a i 0
           go i k true t = inv.high i (ltb-true i n t)
           go i k false t = let q : n ≡ i = omega (arith, ltb-false i n t) in subst (λ j. 0x14 ≤ get_or a j 0) q l
-
-    -- they are all that the pieces have in common
-    no-further : (n ≡ 0 → 0 < length a → 0 < length b → get_or a 0 0 ≡ get_or b 0 0 → ⊥) → Common a b n
-    no-further d = record { first = inv.first; second = inv.second; same = inv.same; high = λ i p k. inv.high i k; differ = d }
-
-    pub common-first : length a ≤ n → Common a b n
-    common-first h = no-further λ z p q e. omega arith
-
-    pub common-second : length b ≤ n → Common a b n
-    common-second h = no-further λ z p q e. omega arith
-
-    pub common-differ : (get_or a n 0 ≡ get_or b n 0 → ⊥) → Common a b n
-    common-differ d = no-further λ z p q e. d (ap (λ i. get_or a i 0) z ∙ e ∙ ap (λ i. get_or b i 0) (sym z))
-
-    pub common-low : n < length a → n < length b → get_or a n 0 ≡ get_or b n 0 → (r : ℕ) → r ≡ or_one n → Common a b r
-    unfolding or_one
-    common-low h g e r q = subst (Common a b) (sym q) (go (eqb n 0) refl)
-      where
-        go : (t : Bool) → eqb n 0 ≡ t → Common a b (cond t 1 n)
-        go true t =
-            let z = eqb-true n 0 t in
-            record {
-              first = omega arith;
-              second = omega arith;
-              same = subst (λ k. take (k + 1) a ≡ take (k + 1) b) z (on h g e);
-              high = λ i p k. absurd (omega arith);
-              differ = λ y. absurd (omega arith);
-            }
-        go false t = no-further λ z. absurd (eqb-false n 0 t z)
-
-pub ruleset common-ways = (share_again, common-first, common-second, common-differ, common-low)
 
 -- ---- eights
 
@@ -229,19 +164,12 @@ module _ (a b : List ℕ) where
       let m : n + k + 1 ≡ n + suc k = omega arith in
       subst (Shared a b) m (share_again a b (n + k) before (omega arith) (omega arith) s l)
 
-  module _ (n : ℕ) (inv : Shared a b n) where
-    pub eights-first : n ≤ length a
-    eights-first = inv.first
-
-    pub eights-second : n ≤ length b
-    eights-second = inv.second
-
-    pub eights-again : 8 ≤ length a - n → 8 ≤ length b - n → (r : Bool) → r ≡ all_by shared 8 (take (length a - n) (drop n a)) (take (length b - n) (drop n b)) → r ≡ true
-        → Shared a b (n + 8)
-    eights-again h g r e q =
-        share-more 8 n inv (omega (arith, inv.first)) (omega (arith, inv.second)) (ap₂ (all_by shared 8) (sym (part_to_end a n)) (sym (part_to_end b n)) ∙ sym e ∙ q)
-
-pub ruleset eights-ways = (share-begin, eights-first, eights-second)
+  pub eights-again : (i : ℕ) → Shared a b (8 * i) → 8 * (i + 1) ≤ length a → 8 * (i + 1) ≤ length b → (r : Bool)
+      → r ≡ all_by shared 8 (take (length a - 8 * i) (drop (8 * i) a)) (take (length b - 8 * i) (drop (8 * i) b)) → r ≡ true → Shared a b (8 * (i + 1))
+  eights-again i inv h g r e q =
+      let n : 8 * i + 8 ≡ 8 * (i + 1) = omega arith in
+      let parts = ap₂ (all_by shared 8) (sym (part_to_end a (8 * i))) (sym (part_to_end b (8 * i))) in
+      subst (Shared a b) n (share-more 8 (8 * i) inv (omega arith) (omega arith) (parts ∙ sym e ∙ q))
 
 -- ---- what comes next
 
@@ -259,23 +187,6 @@ module _ (table s : List ℕ) (r : Rest) where
 
   text-width : r.to ≤ r.from → length (ahead table s r) ≡ length s - r.at
   text-width h = ap length (ahead-text h) ∙ length-drop r.at s
-
-  module _ (x : List ℕ) (n : ℕ) where
-    pub second-entry : r.from < r.to → Common x (between table r.from r.to) n → Common x (ahead table s r) n
-    second-entry h c = subst (λ y. Common x y n) (sym (ahead-entry h)) c
-
-    pub second-text : r.to ≤ r.from → Common x (take (length s - r.at) (drop r.at s)) n → Common x (ahead table s r) n
-    second-text h c = subst (λ y. Common x y n) (part_to_end s r.at ∙ sym (ahead-text h)) c
-
-    pub first_entry : r.from < r.to → Common (between table r.from r.to) x n → Common (ahead table s r) x n
-    first_entry h c = subst (λ y. Common y x n) (sym (ahead-entry h)) c
-
-    pub first-text : r.to ≤ r.from → Common (take (length s - r.at) (drop r.at s)) x n → Common (ahead table s r) x n
-    first-text h c = subst (λ y. Common y x n) (part_to_end s r.at ∙ sym (ahead-text h)) c
-
-pub ruleset second-ways = (second-entry, second-text)
-
-pub ruleset first-ways = (first_entry, first-text)
 
 -- octets that stand for themselves
 itself-run : (es : Entries) (n : ℕ) (s : List ℕ) → n ≤ length s → ((i : ℕ) → i < n → stands es (get_or s i 0) ≡ get_or s i 0 ∷ []) → expanded es s ≡ take n s ++ expanded es (drop n s)

@@ -39,16 +39,6 @@ use Rattle.compare.specs.Bodies.{same_body}
 use Rattle.compare.specs.Items.{counted_body, counted_of_tag, counted_lies, counted_span, is_absent, same_found, same_from, same_sets, same_text}
 use Rattle.survey.proofs.Seeking.{Sought, sought, missing, span-says, span-ordered, span-inside}
 
-pub absent-yes : (r : Lies) → r ≡ Outside → true ≡ is_absent r
-unfolding is_absent
-absent-yes r e = rw e refl
-
-pub absent-no : (r : Lies) (from to : ℕ) → r ≡ Between from to → false ≡ is_absent r
-unfolding is_absent
-absent-no r from to e = rw e refl
-
-pub ruleset absent-ways = (absent-yes, absent-no)
-
 -- ---- what is asked of every two trees
 
 -- of two trees: the first part's in an element of a tag, the second's in one of another, each at some depth and offset
@@ -296,13 +286,12 @@ from_past zero tag parent es a fs b h = refl
 from_past (suc n) tag parent es a fs b h = rw (none_above parent tag h) (from_past n (suc tag) parent es a fs b (omega arith))
 
 pub record Sets (parent : ℕ) (es : Entries) (a : List ℕ) (fs : Entries) (b : List ℕ) (tag : ℕ) : Type 0 where
-  pub high : tag ≤ 0x87
   pub goes : same_sets parent es a fs b ≡ same_from (0x100 - tag) tag parent es a fs b
 
 module _ (parent : ℕ) (es : Entries) (a : List ℕ) (fs : Entries) (b : List ℕ) where
   pub sets-begin : Sets parent es a fs b 0x80
   unfolding same_sets
-  sets-begin = record { high = omega arith; goes = refl }
+  sets-begin = record { goes = refl }
 
   module _ (tag : ℕ) (inv : Sets parent es a fs b tag) where
     pub sets-ended : 0x87 ≤ tag → true ≡ same_sets parent es a fs b
@@ -319,7 +308,7 @@ module _ (parent : ℕ) (es : Entries) (a : List ℕ) (fs : Entries) (b : List �
       sets-differ q = sym (turn ∙ rw q)
 
       pub sets-again : r ≡ true → Sets parent es a fs b (tag + 1)
-      sets-again q = record { high = omega arith; goes = turn ∙ rw q }
+      sets-again q = record { goes = turn ∙ rw q }
 
 pub ruleset sets-ways = (sets-begin, sets-ended, sets-differ, sets-again)
 

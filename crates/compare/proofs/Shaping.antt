@@ -6,8 +6,8 @@ use mathlib.Core.List.{List, [], ◌∷◌, ◌++◌}
 use Prim.Native.Nat.{ℕ, zero, suc, ◌+◌, ◌-◌, ◌*◌, ◌≤◌, ◌<◌}
 use native.Mathlib.Nat.{zero-add}
 use native.Mathlib.Omega.{arith}
-use lib.Dec.{eqb, leb, ltb}
-use lib.ListN.{length, take, drop, get_or, length-append, length-drop, length-take, drop_of_length-le}
+use lib.Dec.{eqb, leb}
+use lib.ListN.{length, take, drop, get_or, length-append, length-drop, drop_of_length-le}
 use lib.Seq.{sets-eq, take_at}
 use borrow.Author.Tests.{eqb-true, eq-eqb, ne_eqb, le-leb}
 use Rattle.octets.specs.Numbers.{Octets}
@@ -96,9 +96,6 @@ shaped-at p last (tag ∷ rest) h =
 
 -- ---- values
 
-pub front-is : (room body : List ℕ) (end : ℕ) (r : Bool) → r ≡ same_octets (take (end - 0) (drop 0 room)) body → r ≡ same_octets (take end room) body
-front-is room body end r e = let n : end - 0 ≡ end = omega arith in e ∙ ap (λ k. same_octets (take k room) body) n
-
 module _ (k : Kind) (o before after : List ℕ) (a : Put) (p : Puts (fits k o) (normal_octets k o) 0 before after a) (l : length before ≡ 8) where
   abbrev whole : Bool
   whole = fits k o && leb (length (normal_octets k o)) 8 && same_octets (normal_octets k o) o
@@ -145,27 +142,6 @@ module _ (k : Kind) (o before after : List ℕ) (a : Put) (p : Puts (fits k o) (
         rw (done.is, s) (e ∙ ap (λ x. same_octets x o) w)
 
 pub ruleset rewritten-ways = (rewritten-bad, rewritten-none, rewritten-room, rewritten-done)
-
--- ---- is_rising and later_tag
-
-module _ (last tag : ℕ) (a : Bool) (e : a ≡ attribute tag) where
-  pub rising-attribute : a ≡ true → ltb last tag ≡ is_rising last tag
-  unfolding is_rising
-  rising-attribute q = rw (sym e ∙ q)
-
-  pub rising-other : a ≡ false → true ≡ is_rising last tag
-  unfolding is_rising
-  rising-other q = rw (sym e ∙ q)
-
-  pub later-attribute : a ≡ true → tag ≡ cond (attribute tag) tag last
-  later-attribute q = rw (sym e ∙ q)
-
-  pub later-other : a ≡ false → last ≡ cond (attribute tag) tag last
-  later-other q = rw (sym e ∙ q)
-
-pub ruleset rising-ways = (rising-attribute, rising-other)
-
-pub ruleset later-ways = (later-attribute, later-other)
 
 -- ---- is_own
 
@@ -320,9 +296,6 @@ module _ (p : ℕ) (part : List ℕ) where
 
         pub shapes-nearer : length part - to < length part - at
         shapes-nearer = omega (arith, edges)
-
-        pub shapes-less : length (between part from to) + length (between part from to) + 1 < length part + length part
-        shapes-less = omega (arith, edges, length-take (to - from) (drop from part), length-drop from part)
 
         abbrev tag : ℕ
         tag = get_or part at 0

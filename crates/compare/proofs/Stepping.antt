@@ -1,18 +1,19 @@
 -- The attributes of two elements gone over in step: the ways through the functions of steps.
 use mathlib.Core.Path.{◌≡◌, refl, sym, ap, ap₂, ◌∙◌, subst}
 use mathlib.Core.Bool.{Bool, true, false, cond, not, ◌&&◌, false≢true, and-false}
-use mathlib.Core.Option.{Option, none, some}
+use mathlib.Core.Option.{Option as Maybe, none, some}
 use mathlib.Core.List.{List}
 use Prim.Native.Nat.{ℕ, zero, suc, ◌+◌, ◌-◌, ◌≤◌, ◌<◌}
 use native.Mathlib.Omega.{arith}
 use lib.Dec.{eqb, ltb}
 use lib.ListN.{length, get_or}
-use borrow.Author.Tests.{eqb-true, eqb-false, eq-eqb, ne_eqb, ltb-true, ltb-false, lt-ltb, le-ltb}
+use borrow.Author.Tests.{eqb-true, eqb-false, ltb-true, ltb-false, lt-ltb}
+use Rattle.std.specs.Prelude.{Option, None, Some, Ok, Err}
 use Rattle.octets.specs.declared.Lies.{Lies}
 use Rattle.octets.specs.declared.Lies.TheVariants.{Outside, Between}
 use Rattle.octets.specs.Places.{lies_at, between}
 use Rattle.octets.proofs.Places.{lying, bounds}
-use Rattle.octets.proofs.Tests.{and_left, never}
+use Rattle.octets.proofs.Tests.{never}
 use Rattle.text.specs.Tokens.{Entries}
 use Rattle.values.specs.declared.Kind.{Kind}
 use Rattle.values.specs.declared.KnownKind.{KnownKind}
@@ -25,70 +26,12 @@ use Rattle.survey.specs.Places.{span_of_tag, body_of_tag}
 use Rattle.survey.proofs.Rising.{known-few}
 use Rattle.survey.proofs.Seeking.{Spans, span-begin, span-ended, span-behind, span-found, span-again}
 use Rattle.compare.specs.declared.steps.Due.{Due}
-use Rattle.compare.specs.declared.steps.Due.TheVariants.{None, Lost, Found}
-use Rattle.compare.specs.declared.steps.InStep.{InStep}
-use Rattle.compare.specs.declared.steps.InStep.TheVariants.{Same, Different, Astray}
 use Rattle.compare.specs.Bodies.{same_body}
 use Rattle.compare.specs.Items.{counted_body, counted_of_tag, same_found, same_from, same_sets}
-use Rattle.compare.specs.Steps.{attribute_at, due_as, due_at, item_of, ends_by, Walked}
+use Rattle.compare.specs.Steps.{attribute_at, astray, due_as, due_at, item_of}
 use Rattle.compare.proofs.Sets.{body-none, body-some, both-counted}
 
--- ---- is_due, due, item_of
-
-module _ (part : List ℕ) (at : ℕ) where
-  pub at-end : length part ≤ at → false ≡ attribute_at part at
-  unfolding attribute_at
-  at-end h = rw (le-ltb at (length part) h)
-
-  pub at_item : at < length part → (r : Bool) → r ≡ attribute (get_or part at 0) → r ≡ attribute_at part at
-  unfolding attribute_at
-  at_item h r e = e ∙ rw (lt-ltb at (length part) h)
-
-pub ruleset at-ways = (at-end, at_item)
-
-module _ (part : List ℕ) (at last : ℕ) (b : Bool) (be : b ≡ attribute_at part at) where
-  pub due-none : b ≡ false → None ≡ due_at part at last
-  unfolding due_at
-  due-none q = rw (sym be ∙ q)
-
-  module _ (q : b ≡ true) where
-    pub due-begins : at < length part
-    unfolding attribute_at
-    due-begins = ltb-true at (length part) (and_left (ltb at (length part)) (attribute (get_or part at 0)) (sym be ∙ q))
-
-    pub due-low : get_or part at 0 ≤ last → Lost ≡ due_at part at last
-    unfolding due_at
-    due-low h = rw (sym be ∙ q, le-ltb last (get_or part at 0) h)
-
-    module _ (h : last < get_or part at 0) (r : Lies) (re : r ≡ lies_at part at) where
-      due-lies : (l : Lies) → r ≡ l → due_as (get_or part at 0) l ≡ due_at part at last
-      unfolding due_at
-      due-lies l e = ap (due_as (get_or part at 0)) (sym e ∙ re) ∙ rw (sym be ∙ q, lt-ltb last (get_or part at 0) h)
-
-      pub due-outside : r ≡ Outside → Lost ≡ due_at part at last
-      unfolding due_as
-      due-outside e = due-lies Outside e
-
-      pub due-found : (from to : ℕ) → r ≡ Between from to → Found (get_or part at 0) from to ≡ due_at part at last
-      unfolding due_as
-      due-found from to e = due-lies (Between from to) e
-
-pub ruleset due-ways = (due-none, due-begins, due-low, due-outside, due-found)
-
-module _ (part : List ℕ) (at tag : ℕ) where
-  pub of_none : length part ≤ at → Outside ≡ item_of part at tag
-  unfolding item_of
-  of_none h = rw (le-ltb at (length part) h)
-
-  pub of_other : at < length part → (get_or part at 0 ≡ tag → ⊥) → Outside ≡ item_of part at tag
-  unfolding item_of
-  of_other h d = rw (lt-ltb at (length part) h, ne_eqb (get_or part at 0) tag d)
-
-  pub of-item : at < length part → get_or part at 0 ≡ tag → (r : Lies) → r ≡ lies_at part at → r ≡ item_of part at tag
-  unfolding item_of
-  of-item h e r q = q ∙ rw (lt-ltb at (length part) h, eq-eqb (get_or part at 0) tag e)
-
-pub ruleset of-ways = (of_none, of_other, of-item)
+-- ---- due_at, item_of
 
 -- what they tell: an item of a tag lies at a place
 pub record Tagged (part : List ℕ) (at tag from to : ℕ) : Type 0 where
@@ -96,36 +39,39 @@ pub record Tagged (part : List ℕ) (at tag from to : ℕ) : Type 0 where
   pub tagged : get_or part at 0 ≡ tag
   pub lies : Between from to ≡ lies_at part at
 
-module _ (part : List ℕ) (at last : ℕ) (r : Due) (e : r ≡ due_at part at last) where
-  due-over : r ≡ None → attribute_at part at ≡ false
+module _ (part : List ℕ) (at last : ℕ) (v : Option Due) (e : Ok v ≡ due_at part at last) where
+  due-over : v ≡ None → attribute_at part at ≡ false
   unfolding due_at due_as
-  due-over q = go (attribute_at part at) (ltb last (get_or part at 0)) (lies_at part at) (sym q ∙ e)
+  due-over q = go (attribute_at part at) (ltb last (get_or part at 0)) (lies_at part at) (ap Ok (sym q) ∙ e)
     where
-      go : (b c : Bool) (l : Lies) → None ≡ cond b (cond c (due_as (get_or part at 0) l) Lost) None → b ≡ false
+      go : (b c : Bool) (l : Lies) → Ok None ≡ cond b (cond c (due_as (get_or part at 0) l) (Err astray)) (Ok None) → b ≡ false
       go true true Outside p = never (cc)
       go true true (Between from to) p = never (cc)
       go true false l p = never (cc)
       go false c l p = refl
 
-  module _ (tag from to : ℕ) (q : r ≡ Found tag from to) where
-    due-facts : Tagged part at tag from to × (attribute tag ≡ true) × (last < tag)
+  module _ (d : Due) (q : v ≡ Some d) where
+    due-facts : Tagged part at d.tag d.from d.to × (attribute d.tag ≡ true) × (last < d.tag)
     unfolding due_at due_as attribute_at
-    due-facts = go (ltb at (length part)) refl (attribute (get_or part at 0)) refl (ltb last (get_or part at 0)) refl (lies_at part at) refl (sym q ∙ e)
+    due-facts =
+        go (ltb at (length part)) refl (attribute (get_or part at 0)) refl (ltb last (get_or part at 0)) refl (lies_at part at) refl (ap Ok (sym q) ∙ e)
       where
         x : ℕ
         x = get_or part at 0
 
         go : (b : Bool) → ltb at (length part) ≡ b → (k : Bool) → attribute x ≡ k → (c : Bool) → ltb last x ≡ c → (l : Lies) → lies_at part at ≡ l
-            → Found tag from to ≡ cond (b && k) (cond c (due_as x l) Lost) None → Tagged part at tag from to × (attribute tag ≡ true) × (last < tag)
+            → Ok (Some d) ≡ cond (b && k) (cond c (due_as x l) (Err astray)) (Ok None) → Tagged part at d.tag d.from d.to × (attribute d.tag ≡ true) × (last < d.tag)
         go true t true k true c (Between f g) l p =
-            let y : x ≡ tag = cc in
-            let u : from ≡ f = cc in
-            let v : to ≡ g = cc in
-            (record { begins = ltb-true at (length part) t; tagged = y; lies = ap₂ Between u v ∙ sym l }, subst (λ z. attribute z ≡ true) y k, subst (λ z. last < z) y (ltb-true last x c))
+            let w : d ≡ record { tag = x; from = f; to = g } = cc in
+            let y : x ≡ d.tag = sym (ap (λ z. z.tag) w) in (
+              record { begins = ltb-true at (length part) t; tagged = y; lies = ap₂ Between (ap (λ z. z.from) w) (ap (λ z. z.to) w) ∙ sym l },
+              subst (λ z. attribute z ≡ true) y k,
+              subst (λ z. last < z) y (ltb-true last x c),
+            )
         go true t true k true c Outside l p = never (cc)
         go true t true k false c l m p = never (cc)
-        go true t false k c d l m p = never (cc)
-        go false t k d c f l m p = never (cc)
+        go true t false k c o l m p = never (cc)
+        go false t k o c f l m p = never (cc)
 
 module _ (part : List ℕ) (at tag : ℕ) (r : Lies) (e : r ≡ item_of part at tag) (from to : ℕ) (q : r ≡ Between from to) where
   of-facts : Tagged part at tag from to
@@ -154,17 +100,17 @@ module _ (part : List ℕ) (at tag from to : ℕ) (g : Tagged part at tag from t
     span-on : (t ≡ tag → ⊥) → Spans part t to
     span-on d = span-again part t at s false unbarred refl (Between from to) g.lies from to refl (λ e. d (sym e ∙ g.tagged))
 
-module _ (part : List ℕ) (at last : ℕ) (r : Due) (e : r ≡ due_at part at last) (tag from to : ℕ) (q : r ≡ Found tag from to) where
-  due-edges : (at + 2 ≤ from) × (from ≤ to) × (to ≤ length part)
-  due-edges = edges part at tag from to (due-facts part at last r e tag from to q).0
+module _ (part : List ℕ) (at last : ℕ) (v : Option Due) (e : Ok v ≡ due_at part at last) (d : Due) (q : v ≡ Some d) where
+  due-edges : (at + 2 ≤ d.from) × (d.from ≤ d.to) × (d.to ≤ length part)
+  due-edges = edges part at d.tag d.from d.to (due-facts part at last v e d q).0
 
-  pub due-ordered : from ≤ to
+  pub due-ordered : d.from ≤ d.to
   due-ordered = due-edges.1
 
-  pub due-inside : to ≤ length part
+  pub due-inside : d.to ≤ length part
   due-inside = due-edges.2
 
-  pub due-nearer : length part - to < length part - at
+  pub due-nearer : length part - d.to < length part - at
   due-nearer = omega (arith, due-edges)
 
 module _ (part : List ℕ) (at tag : ℕ) (r : Lies) (e : r ≡ item_of part at tag) (from to : ℕ) (q : r ≡ Between from to) where
@@ -197,26 +143,6 @@ module _ (parent tag : ℕ) (es : Entries) (a : List ℕ) (fs : Entries) (b : Li
 
 pub ruleset values-ways = (values-unknown, values-known)
 
--- ---- ends_by
-
-pub ends_more : (d : Due) (more : Bool) → d ≡ None → more ≡ true → Astray ≡ ends_by d more
-unfolding ends_by
-ends_more d more e q = rw (e, q)
-
-pub ends_same : (d : Due) (more : Bool) → d ≡ None → more ≡ false → Same ≡ ends_by d more
-unfolding ends_by
-ends_same d more e q = rw (e, q)
-
-pub ends-lost : (d : Due) (more : Bool) → d ≡ Lost → Astray ≡ ends_by d more
-unfolding ends_by
-ends-lost d more e = rw e
-
-pub ends_found : (d : Due) (more : Bool) (tag from to : ℕ) → d ≡ Found tag from to → Astray ≡ ends_by d more
-unfolding ends_by
-ends_found d more tag from to e = rw e
-
-pub ruleset ends-ways = (ends_more, ends_same, ends-lost, ends_found)
-
 -- ---- all attributes
 
 module _ (parent : ℕ) (es : Entries) (a : List ℕ) (fs : Entries) (b : List ℕ) where
@@ -248,7 +174,7 @@ module _ (parent : ℕ) (es : Entries) (a : List ℕ) (fs : Entries) (b : List �
   unfolding counted_of_tag counted_body same_found same_maybe
   one-absent t e f = ap₂ (λ x y. same_found es fs (known parent t) (counted_body parent t x) (counted_body parent t y)) e f ∙ go (known parent t)
     where
-      go : (k : Option Kind) → same_found es fs k none none ≡ true
+      go : (k : Maybe Kind) → same_found es fs k none none ≡ true
       go none = refl
       go (some k) = refl
 
@@ -256,7 +182,7 @@ module _ (parent : ℕ) (es : Entries) (a : List ℕ) (fs : Entries) (b : List �
   unfolding same_sets attribute
   sets-different t y e = go (known parent t) refl
     where
-      go : (k : Option Kind) → known parent t ≡ k → whole ≡ false
+      go : (k : Maybe Kind) → known parent t ≡ k → whole ≡ false
       go none q = absurd (false≢true (sym e ∙ one-unknown t q))
       go (some k) q = from-different 128 0x80 t (omega (arith, ltb-true 0x7F t y)) (omega (arith, known-few parent t k q)) e
 
@@ -274,30 +200,27 @@ module _ (parent : ℕ) (es : Entries) (a : List ℕ) (fs : Entries) (b : List �
   pub pace-begin : Pace 0 0 0x7F
   pace-begin = record { met = λ t y. ahead (span-begin a t) (span-begin b t); first = λ t h. span-begin a t; second = λ t h. span-begin b t }
 
-  pub astray : Walked whole Astray
-  astray = record { same = λ e. never (cc); different = λ e. never (cc) }
+  settle : (i j t : ℕ) → attribute t ≡ true → attribute_at a i ≡ false → attribute_at b j ≡ false → Met i j t → one t ≡ true
+  settle i j t y m n (settled e) = e
+  settle i j t y m n (ahead p q) = one-absent t (span_none a t i p y m) (span_none b t j q y n)
 
-  module _ (i j last : ℕ) (inv : Pace i j last) (d : Due) (de : d ≡ due_at a i last) where
-    settle : (t : ℕ) → attribute t ≡ true → attribute_at a i ≡ false → attribute_at b j ≡ false → Met i j t → one t ≡ true
-    settle t y m n (settled e) = e
-    settle t y m n (ahead p q) = one-absent t (span_none a t i p y m) (span_none b t j q y n)
+  module _ (i j last : ℕ) (inv : Pace i j last) (v : Option Due) (de : Ok v ≡ due_at a i last) where
+    pub pace-ended : v ≡ None → (more : Bool) → more ≡ attribute_at b j → more ≡ false → true ≡ whole
+    unfolding same_sets
+    pace-ended q more me m = sym (from-same 128 0x80 (omega arith) (λ t y. settle i j t y (due-over a i last v de q) (sym me ∙ m) (inv.met t y)))
 
-    pub pace-ended : (more : Bool) → more ≡ attribute_at b j → (r : InStep) → r ≡ ends_by d more → Walked whole r
-    unfolding ends_by same_sets
-    pace-ended more me r re = subst (Walked whole) (sym re) (go d refl more refl)
-      where
-        go : (f : Due) → d ≡ f → (m : Bool) → more ≡ m → Walked whole (ends_by f m)
-        go None f true m = astray
-        go None f false m = record {
-          same = λ e. from-same 128 0x80 (omega arith) (λ t y. settle t y (due-over a i last d de f) (sym me ∙ m) (inv.met t y));
-          different = λ e. never (cc);
-        }
-        go Lost f m n = astray
-        go (Found tag from to) f m n = astray
+    module _ (d : Due) (dq : v ≡ Some d) (l : Lies) (le : l ≡ item_of b j d.tag) (start end : ℕ) (lq : l ≡ Between start end) where
+      abbrev tag : ℕ
+      tag = d.tag
 
-    module _ (tag from to : ℕ) (dq : d ≡ Found tag from to) (l : Lies) (le : l ≡ item_of b j tag) (start end : ℕ) (lq : l ≡ Between start end) where
+      abbrev from : ℕ
+      from = d.from
+
+      abbrev to : ℕ
+      to = d.to
+
       facts : Tagged a i tag from to × (attribute tag ≡ true) × (last < tag)
-      facts = due-facts a i last d de tag from to dq
+      facts = due-facts a i last v de d dq
 
       other : Tagged b j tag start end
       other = of-facts b j tag l le start end lq
@@ -310,8 +233,8 @@ module _ (parent : ℕ) (es : Entries) (a : List ℕ) (fs : Entries) (b : List �
             (span-here a i tag from to facts.0 facts.1 tag (inv.first tag facts.2) refl) (span-here b j tag start end other facts.1 tag (inv.second tag facts.2) refl)
             ∙ both-counted es fs parent tag (between a from to) (between b start end) ∙ sym re
 
-        pub pace-different : r ≡ false → Walked whole Different
-        pace-different q = record { same = λ e. never (cc); different = λ e. sets-different tag facts.1 (turn ∙ q) }
+        pub pace-different : r ≡ false → false ≡ whole
+        pace-different q = sym (sets-different tag facts.1 (turn ∙ q))
 
         pub pace-again : r ≡ true → Pace to end tag
         pace-again q = record {
@@ -326,14 +249,4 @@ module _ (parent : ℕ) (es : Entries) (a : List ℕ) (fs : Entries) (b : List �
             go t false c (ahead x y) =
                 ahead (span-on a i tag from to facts.0 facts.1 t x (eqb-false t tag c)) (span-on b j tag start end other facts.1 t y (eqb-false t tag c))
 
-pub ruleset pace-ways = (pace-begin, astray, pace-ended, pace-different, pace-again)
-
--- what the walk says
-module _ (whole : Bool) (r : InStep) (w : Walked whole r) where
-  pub walk_same : r ≡ Same → true ≡ whole
-  walk_same q = sym (w.same q)
-
-  pub walk-different : r ≡ Different → false ≡ whole
-  walk-different q = sym (w.different q)
-
-pub ruleset walk-ways = (walk_same, walk-different)
+pub ruleset pace-ways = (pace-begin, pace-ended, pace-different, pace-again)

@@ -1,26 +1,18 @@
 -- Two bodies of one kind: the ways through the functions of bodies.
 use mathlib.Core.Path.{◌≡◌, refl, sym, ap, ap₂, ◌∙◌, subst}
-use mathlib.Core.Bool.{Bool, true, false, not, ◌&&◌, false≢true, and-false}
-use mathlib.Core.List.{List, []}
-use Prim.Native.Nat.{ℕ, zero, suc, ◌+◌, ◌-◌, ◌≤◌, ◌<◌}
-use native.Mathlib.Numerals.{add-one}
-use native.Mathlib.Nat.{add-zero}
-use native.Mathlib.Omega.{arith}
+use mathlib.Core.Bool.{Bool, true, false, ◌&&◌, and-false}
+use mathlib.Core.List.{List, [], ◌∷◌}
+use Prim.Native.Nat.{ℕ}
 use lib.Dec.{eqb}
-use lib.ListN.{length, take, drop, get_or, drop_of_length-le}
-use lib.Seq.{drop-cons, get_or-drop}
-use borrow.Author.Tests.{eqb-true, eq-eqb, ne_eqb}
+use lib.Pointwise.{pointwise}
+use lib.ListN.{length}
 use Rattle.octets.specs.Numbers.{value, digits, Octets}
-use Rattle.octets.proofs.Tests.{and_left, and_right, never}
-use Rattle.octets.proofs.Lists.{part_to_end}
 use Rattle.text.specs.Tokens.{Entries, expanded}
 use Rattle.values.specs.declared.Kind.{Kind}
 use Rattle.values.specs.declared.Kind.TheVariants.{HoldsItems, HoldsTokens, HoldsText, HoldsPlain, HoldsTime, HoldsBearer, HoldsNumber}
 use Rattle.values.specs.declared.NumberKind.{NumberKind}
 use Rattle.values.specs.declared.Time.{Time}
 use Rattle.values.specs.declared.Bearer.{Bearer}
-use Rattle.values.specs.declared.Ensemble.{Ensemble}
-use Rattle.values.specs.declared.Ensemble.TheVariants.{Absent, Present}
 use Rattle.values.specs.declared.TakenTime.{TakenTime}
 use Rattle.values.specs.declared.TakenTime.TheVariants as of_time
 use Rattle.values.specs.declared.TakenBearer.{TakenBearer}
@@ -36,159 +28,18 @@ use Rattle.values.proofs.Times.{time-ok}
 use Rattle.values.proofs.Bearers.{bearer-ok}
 use Rattle.values.proofs.Laws.{number-normal, time-taken, time-refused, bearer-taken, bearer-refused}
 use Rattle.format.specs.Same.{same_octets, same_value}
-use Rattle.compare.specs.Bodies.{same_body, same_standing, Tells, all_by, Alike}
-use Rattle.format.proofs.Same.{same-octets, tests_agree, value-exactly}
+use Rattle.compare.specs.Bodies.{same_body, same_standing, Tells}
+use Rattle.format.proofs.Same.{tests_agree, value-exactly}
 
 -- ---- octets
 
--- eight tests of two octets each
-pub eight-by : (t : ℕ → ℕ → Bool) (x y : List ℕ) (a b c d e f g h : Bool)
-    → a ≡ t (get_or x 0 0) (get_or y 0 0) → b ≡ t (get_or x 1 0) (get_or y 1 0) → c ≡ t (get_or x 2 0) (get_or y 2 0) → d ≡ t (get_or x 3 0) (get_or y 3 0)
-    → e ≡ t (get_or x 4 0) (get_or y 4 0) → f ≡ t (get_or x 5 0) (get_or y 5 0) → g ≡ t (get_or x 6 0) (get_or y 6 0) → h ≡ t (get_or x 7 0) (get_or y 7 0)
-    → a && b && c && d && e && f && g && h ≡ all_by t 8 x y
-unfolding all_by
-eight-by t x y a b c d e f g h ea eb ec ed ee ef eg eh = rw (ea, eb, ec, ed, ee, ef, eg, eh)
-
-module _ (a b : List ℕ) where
-  pub alike-longer : (length a ≡ length b → ⊥) → false ≡ same_octets a b
-  alike-longer h = go (same_octets a b) refl
-    where
-      go : (t : Bool) → same_octets a b ≡ t → false ≡ same_octets a b
-      go true e = absurd (h (ap length (same-octets a b e)))
-      go false e = sym e
-
-  pub alike-begin : length a ≡ length b → Alike a b 0
-  alike-begin h = record { inside = omega arith; long = h; same = refl }
-
-  module _ (i : ℕ) (inv : Alike a b i) where
-    pub alike-ended : length a ≤ i → true ≡ same_octets a b
-    unfolding same_octets
-    alike-ended h = let g : length b ≤ i = omega (arith, inv.long) in sym (inv.same ∙ ap₂ same_octets (drop_of_length-le a h) (drop_of_length-le b g))
-
-    module _ (h : i < length a) where
-      pub alike-other : i < length b
-      alike-other = let l = inv.long in omega arith
-
-      step : same_octets a b ≡ eqb (get_or a i 0) (get_or b i 0) && same_octets (drop (suc i) a) (drop (suc i) b)
-      unfolding same_octets
-      step = inv.same ∙ ap₂ same_octets (drop-cons a i 0 h) (drop-cons b i 0 alike-other)
-
-      pub alike-differ : (get_or a i 0 ≡ get_or b i 0 → ⊥) → false ≡ same_octets a b
-      alike-differ d = sym (step ∙ rw (ne_eqb (get_or a i 0) (get_or b i 0) d))
-
-      pub alike-again : get_or a i 0 ≡ get_or b i 0 → Alike a b (i + 1)
-      alike-again e = record { inside = omega arith; long = inv.long; same = rw add-one (step ∙ rw (eq-eqb (get_or a i 0) (get_or b i 0) e)) }
-
-pub ruleset alike-ways = (alike-longer, alike-ended, alike-other, alike-differ, alike-again)
-
-module _ (a b : List ℕ) where
-  alike-more : (k i : ℕ) → Alike a b i → i + k ≤ length a → all_by eqb k (drop i a) (drop i b) ≡ true → Alike a b (i + k)
-  unfolding all_by
-  alike-more zero i inv h e = rw add-zero inv
-  alike-more (suc k) i inv h e =
-      let x = get_or (drop i a) k 0 in
-      let y = get_or (drop i b) k 0 in
-      let last = eqb-true x y (and_right (all_by eqb k (drop i a) (drop i b)) (eqb x y) e) in
-      let before = alike-more k i inv (omega arith) (and_left (all_by eqb k (drop i a) (drop i b)) (eqb x y) e) in
-      let m : i + k + 1 ≡ i + suc k = omega arith in
-      subst (Alike a b) m (alike-again a b (i + k) before (omega arith) (sym (get_or-drop i a k 0) ∙ last ∙ get_or-drop i b k 0))
-
-  module _ (i : ℕ) (inv : Alike a b i) where
-    pub alike-inside : i ≤ length a
-    alike-inside = inv.inside
-
-    pub alike-inside-second : i ≤ length b
-    alike-inside-second = omega (arith, inv.inside, inv.long)
-
-    pub alike-eight-second : 8 ≤ length a - i → 8 ≤ length b - i
-    alike-eight-second h = omega (arith, inv.long)
-
-    pub alike-eight : 8 ≤ length a - i → (r : Bool) → r ≡ all_by eqb 8 (take (length a - i) (drop i a)) (take (length b - i) (drop i b)) → r ≡ true → Alike a b (i + 8)
-    alike-eight h r e q = alike-more 8 i inv (omega (arith, inv.inside)) (ap₂ (all_by eqb 8) (sym (part_to_end a i)) (sym (part_to_end b i)) ∙ sym e ∙ q)
-
-pub ruleset eights-ways = (alike-begin, alike-inside, alike-inside-second, alike-eight-second)
-
--- ---- answers that tell equality
-
-unequal : {A : Type 0} (a b : A) → (a ≡ b → ⊥) → Tells a b false
-unequal a b d = record { equal = λ e. absurd (false≢true e); told = λ e. absurd (d e) }
-
-equal : {A : Type 0} (a b : A) → a ≡ b → Tells a b true
-equal a b e = record { equal = λ t. e; told = λ t. refl }
-
-pub flag-on : (a b : Bool) → a ≡ true → Tells a b b
-flag-on a b e = record { equal = λ t. e ∙ sym t; told = λ t. sym t ∙ e }
-
-pub flag_off : (a b : Bool) → a ≡ false → Tells a b (not b)
-flag_off a true e = record { equal = λ t. absurd (false≢true t); told = λ t. absurd (false≢true (sym e ∙ t)) }
-flag_off a false e = record { equal = λ t. e; told = λ t. refl }
-
-pub ruleset flag-ways = (flag-on, flag_off)
-
-module _ (t u : Time) where
-  pub day-differs : (t.day ≡ u.day → ⊥) → Tells t u false
-  day-differs d = unequal t u (λ e. d (ap (λ x. x.day) e))
-
-  pub hour-differs : (t.hour ≡ u.hour → ⊥) → Tells t u false
-  hour-differs d = unequal t u (λ e. d (ap (λ x. x.hour) e))
-
-  pub minute-differs : (t.minute ≡ u.minute → ⊥) → Tells t u false
-  minute-differs d = unequal t u (λ e. d (ap (λ x. x.minute) e))
-
-  pub second-differs : (t.second ≡ u.second → ⊥) → Tells t u false
-  second-differs d = unequal t u (λ e. d (ap (λ x. x.second) e))
-
-  pub halves-differ : (t.halves ≡ u.halves → ⊥) → Tells t u false
-  halves-differ d = unequal t u (λ e. d (ap (λ x. x.halves) e))
-
-  pub times-told : t.day ≡ u.day → t.hour ≡ u.hour → t.minute ≡ u.minute → t.second ≡ u.second → t.halves ≡ u.halves → (r : Bool) → Tells t.minus u.minus r → Tells t u r
-  times-told d h m s l r k = record {
-    equal = λ e. λ i. record { day = d i; hour = h i; minute = m i; second = s i; minus = k.equal e i; halves = l i };
-    told = λ e. k.told (ap (λ x. x.minus) e);
-  }
-
-pub ruleset times-ways = (day-differs, hour-differs, minute-differs, second-differs, halves-differ, times-told)
-
-module _ (a b : Ensemble) where
-  pub both-absent : a ≡ Absent → b ≡ Absent → Tells a b true
-  both-absent p q = equal a b (p ∙ sym q)
-
-  pub first_absent : (ecc eid : ℕ) → a ≡ Absent → b ≡ Present ecc eid → Tells a b false
-  first_absent ecc eid p q = unequal a b (λ e. never (cc))
-
-  pub second-absent : (ecc eid : ℕ) → a ≡ Present ecc eid → b ≡ Absent → Tells a b false
-  second-absent ecc eid p q = unequal a b (λ e. never (cc))
-
-  module _ (x y x' y' : ℕ) (p : a ≡ Present x y) (q : b ≡ Present x' y') where
-    pub ecc-differs : (x ≡ x' → ⊥) → Tells a b false
-    ecc-differs d = unequal a b (λ e. d (let z : Present x y ≡ Present x' y' = sym p ∙ e ∙ q in cc))
-
-    pub eids-told : x ≡ x' → Tells a b (eqb y y')
-    eids-told d = record {
-      equal = λ t. p ∙ ap₂ Present d (eqb-true y y' t) ∙ sym q;
-      told = λ e. eq-eqb y y' (let z : Present x y ≡ Present x' y' = sym p ∙ e ∙ q in cc);
-    }
-
-pub ruleset ensembles-ways = (both-absent, first_absent, second-absent, ecc-differs, eids-told)
-
-module _ (a b : Bearer) where
-  pub sid-differs : (a.sid ≡ b.sid → ⊥) → Tells a b false
-  sid-differs d = unequal a b (λ e. d (ap (λ x. x.sid) e))
-
-  pub scids-differ : (a.scids ≡ b.scids → ⊥) → Tells a b false
-  scids-differ d = unequal a b (λ e. d (ap (λ x. x.scids) e))
-
-  module _ (f : Bool) (k : Tells a.long b.long f) where
-    pub width-differs : f ≡ false → Tells a b false
-    width-differs t = unequal a b (λ e. false≢true (sym t ∙ k.told (ap (λ x. x.long) e)))
-
-    pub bearers-told : f ≡ true → a.sid ≡ b.sid → a.scids ≡ b.scids → (r : Bool) → Tells a.ensemble b.ensemble r → Tells a b r
-    bearers-told t s c r m = record {
-      equal = λ e. λ i. record { ensemble = m.equal e i; long = k.equal t i; sid = s i; scids = c i };
-      told = λ e. m.told (ap (λ x. x.ensemble) e);
-    }
-
-pub ruleset bearers-ways = (sid-differs, scids-differ, width-differs, bearers-told)
+-- the library's test of two slices is that of octets
+pub octets_told : (a b : List ℕ) → pointwise eqb a b ≡ same_octets a b
+unfolding same_octets
+octets_told [] [] = refl
+octets_told [] (y ∷ b) = refl
+octets_told (x ∷ a) [] = refl
+octets_told (x ∷ a) (y ∷ b) = ap (λ t. eqb x y && t) (octets_told a b)
 
 -- ---- values
 
@@ -249,20 +100,6 @@ module _ (a b : List ℕ) (r : TakenBearer) (re : r ≡ taken_bearer a) where
         ∙ sym (both HoldsBearer a b f.fit g.fit)
 
 pub ruleset taken-bearers = (bearers-first, bearers-second, bearers-both)
-
--- same_plainly
-module _ (k : Kind) (a b : List ℕ) (x : Bool) (xe : x ≡ fits k a) where
-  pub plainly-first : x ≡ false → false ≡ fits k a && fits k b && same_octets a b
-  plainly-first q = rw (sym xe ∙ q)
-
-  module _ (xq : x ≡ true) (y : Bool) (ye : y ≡ fits k b) where
-    pub plainly-second : y ≡ false → false ≡ fits k a && fits k b && same_octets a b
-    plainly-second q = rw (sym xe ∙ xq, sym ye ∙ q)
-
-    pub plainly-both : y ≡ true → (r : Bool) → r ≡ same_octets a b → r ≡ fits k a && fits k b && same_octets a b
-    plainly-both q r e = rw (sym xe ∙ xq, sym ye ∙ q) e
-
-pub ruleset plainly-ways = (plainly-first, plainly-second, plainly-both)
 
 -- same_bodies
 module _ (es fs : Entries) (k : Kind) (a b : List ℕ) (r : Bool) where

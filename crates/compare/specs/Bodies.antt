@@ -1,9 +1,9 @@
 -- Two bodies of one kind, and what the functions that compare their fields and their octets tell.
-use Rattle.std.specs.Prelude.{◌≡◌, Bool, true, ◌&&◌, List, [], ℕ, zero, suc, ◌≤◌, length, drop, get_or}
+use Rattle.std.specs.Prelude.{◌≡◌, Bool, true, ◌&&◌, List, [], ℕ, zero, suc, get_or}
 use Rattle.text.specs.Tokens.{Entries}
 use Rattle.values.specs.declared.Kind.{Kind}
 use Rattle.values.specs.Values.{fits, meant}
-use Rattle.format.specs.Same.{same_octets, same_value}
+use Rattle.format.specs.Same.{same_value}
 
 -- both are values of the kind and mean the same, each under the entries of its own token table (document 01, Values)
 unfoldable pub same_body : Entries → Entries → Kind → List ℕ → List ℕ → Bool
@@ -22,9 +22,3 @@ pub record Tells {A : Type 0} (a b : A) (r : Bool) : Type 0 where
 unfoldable pub all_by : (ℕ → ℕ → Bool) → ℕ → List ℕ → List ℕ → Bool
 all_by f zero a b = true
 all_by f (suc n) a b = all_by f n a b && f (get_or a n 0) (get_or b n 0)
-
--- lists of one length are the same exactly where they are from a place on
-pub record Alike (a b : List ℕ) (i : ℕ) : Type 0 where
-  pub inside : i ≤ length a
-  pub long : length a ≡ length b
-  pub same : same_octets a b ≡ same_octets (drop i a) (drop i b)

@@ -44,9 +44,6 @@ beyond r n = cond (ltb r.from r.to) (record { from = r.from + n; to = r.to; at =
 unfoldable pub is_over : List ℕ → Rest → Bool
 is_over s r = cond (ltb r.from r.to) false (leb (length s) r.at)
 
-unfoldable pub or_one : ℕ → ℕ
-or_one n = cond (eqb n 0) 1 n
-
 -- two octets are the same and can be no token
 unfoldable pub shared : ℕ → ℕ → Bool
 shared x y = eqb x y && leb 0x14 x

@@ -1,70 +1,21 @@
 // The bodies of two items of one kind: whether they mean the same value (document 01, Values). Texts stand each under its own token table; no other kind needs
 // one.
-ghost use Rattle.std.specs.Prelude.{◌≡◌, ◌&&◌, ◌≤◌, eqb, length};
+ghost use Rattle.std.specs.Prelude.{◌≡◌, ◌&&◌};
 ghost use Rattle.text.specs.Index.{entries_by};
 ghost use Rattle.values.specs.declared.Kind.TheVariants.{HoldsTime, HoldsBearer};
 ghost use Rattle.values.specs.Values.{fits};
 ghost use Rattle.format.specs.Same.{same_octets};
-ghost use Rattle.compare.specs.Bodies.{Tells, same_body, same_standing, all_by, Alike};
+ghost use Rattle.compare.specs.Bodies.{Tells, same_body, same_standing};
 
 use crate::texts::same_texts;
 use values::{Bearer, Ensemble, Kind, TakenBearer, TakenTime, Time, fits_kind};
 
-// The first eight octets. Nothing is decided between their tests, so that the compiler makes one comparison of all eight.
-fn are_eight_same(a: &[u8], b: &[u8]) -> bool
-    requires in_bounds { 8 ≤ length a.now }
-    requires in_bounds_2 { 8 ≤ length b.now }
-    ensures { result ≡ all_by eqb 8 a.now b.now }
-{
-    (a[0] == b[0])
-        & (a[1] == b[1])
-        & (a[2] == b[2])
-        & (a[3] == b[3])
-        & (a[4] == b[4])
-        & (a[5] == b[5])
-        & (a[6] == b[6])
-        & (a[7] == b[7])
-}
-
-// How far octets of one length are the same, by eights alone.
-fn same_eights(a: &[u8], b: &[u8]) -> usize
-    requires { length a.now ≡ length b.now }
-    ensures { Alike a.now b.now result }
-{
-    let mut i: usize = 0;
-    while a.len() - i >= 8 {
-        if !are_eight_same(&a[i..], &b[i..]) {
-            return i;
-        }
-        i = i + 8;
-    }
-    i
-}
-
-// Octets as they stand: by eights as far as they go, then one by one.
+// Octets as they stand.
+#[tactic(auto, using(crate::proofs::Telling::octets_told))]
 pub fn same_octets(a: &[u8], b: &[u8]) -> bool
     ensures { result ≡ same_octets a.now b.now }
 {
-    if a.len() != b.len() {
-        return false;
-    }
-    let mut i = same_eights(a, b);
-    while i < a.len() {
-        if a[i] != b[i] {
-            return false;
-        }
-        i = i + 1;
-    }
-    true
-}
-
-fn are_flags_same(a: bool, b: bool) -> bool
-    ensures { Tells a b result }
-{
-    if a {
-        return b;
-    }
-    !b
+    a == b
 }
 
 fn are_times_same(t: Time, u: Time) -> bool
@@ -85,7 +36,7 @@ fn are_times_same(t: Time, u: Time) -> bool
     if t.halves != u.halves {
         return false;
     }
-    are_flags_same(t.minus, u.minus)
+    t.minus == u.minus
 }
 
 fn are_ensembles_same(a: Ensemble, b: Ensemble) -> bool
@@ -120,12 +71,10 @@ fn are_bearers_same(a: Bearer, b: Bearer) -> bool
     if a.scids != b.scids {
         return false;
     }
-    if !are_flags_same(a.long, b.long) {
+    if a.long != b.long {
         return false;
     }
-    let first = a.ensemble;
-    let second = b.ensemble;
-    are_ensembles_same(first, second)
+    are_ensembles_same(a.ensemble, b.ensemble)
 }
 
 fn same_times(a: &[u8], b: &[u8]) -> bool

@@ -9,7 +9,7 @@ ghost use Rattle.compare.specs.Items.{counted_of_tag, same_found, same_sets, sam
 ghost use Rattle.survey.specs.Places.{body_of_tag};
 
 use crate::bodies::{same_bodies, same_octets};
-use crate::steps::{InStep, compare_in_step};
+use crate::steps::{Astray, compare_in_step};
 use crate::texts::same_texts;
 use crate::walks::{Child, next_child};
 use octets::Lies;
@@ -17,6 +17,7 @@ use survey::find_item;
 use tags::{Listed, listed_as};
 use values::{Kind, KnownKind, is_default, known_kind};
 
+#[tactic(auto, unfolding(crate::specs::Items::is_absent))]
 fn is_absent(found: Lies) -> bool
     ensures { result ≡ is_absent found }
 {
@@ -88,12 +89,10 @@ fn same_by_tags(
 ) -> bool
     ensures { result ≡ same_sets parent (entries_by index_a.now table_a.now) a.now (entries_by index_b.now table_b.now) b.now }
 {
-    let mut tag: u8 = 0x80;
-    while tag < 0x87 {
+    for tag in 0x80..0x87 {
         if !same_attribute(parent, tag, index_a, table_a, a, index_b, table_b, b) {
             return false;
         }
-        tag = tag + 1;
     }
     true
 }
@@ -111,9 +110,8 @@ pub fn same_attributes(
     ensures { result ≡ same_sets parent (entries_by index_a.now table_a.now) a.now (entries_by index_b.now table_b.now) b.now }
 {
     match compare_in_step(parent, index_a, table_a, a, index_b, table_b, b) {
-        InStep::Same => true,
-        InStep::Different => false,
-        InStep::Astray => same_by_tags(parent, index_a, table_a, a, index_b, table_b, b),
+        Ok(same) => same,
+        Err(Astray) => same_by_tags(parent, index_a, table_a, a, index_b, table_b, b),
     }
 }
 
@@ -202,6 +200,7 @@ pub fn same_child(
     }
 }
 
+#[tactic(auto, unfolding(crate::specs::Items::is_ended))]
 fn is_end(child: Child) -> bool
     ensures { result ≡ is_ended child }
 {

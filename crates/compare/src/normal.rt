@@ -51,6 +51,7 @@ pub fn is_own(kind: Kind, body: &[u8]) -> bool
 }
 
 // An attribute comes behind one of a lower tag, or behind none (0x7F).
+#[tactic(auto, unfolding(crate::specs::Normal::is_rising))]
 fn is_rising(last: u8, tag: u8) -> bool
     ensures { result ≡ is_rising last tag }
 {

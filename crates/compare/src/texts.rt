@@ -5,7 +5,7 @@ ghost use Rattle.text.specs.Tokens.{expanded};
 ghost use Rattle.text.specs.Index.{entries_by};
 ghost use Rattle.format.specs.Same.{same_octets};
 ghost use Rattle.compare.specs.Bodies.{all_by};
-ghost use Rattle.compare.specs.Texts.{Standing, Inside, Opened, ahead, beyond, is_over, or_one, shared, Shared, Common};
+ghost use Rattle.compare.specs.Texts.{Standing, Inside, Opened, ahead, beyond, is_over, shared, Shared, Common};
 
 use octets::Lies;
 use text::is_token;
@@ -53,11 +53,10 @@ fn opened(index: &[usize; 32], table: &[u8], s: &[u8], rest: Rest) -> Rest
     ensures { Opened (entries_by index.now table.now) table.now s.now rest result }
 {
     let mut r = rest;
-    while r.at < s.len() {
+    for at in rest.at..s.len() {
         if r.from < r.to {
             return r;
         }
-        let at = r.at;
         let Lies::Between { from, to } = entry_of(index, table, s[at]) else {
             return r;
         };
@@ -71,6 +70,7 @@ fn opened(index: &[usize; 32], table: &[u8], s: &[u8], rest: Rest) -> Rest
 }
 
 // A rest from a place in its next octets on, which are all of the table or all of the text.
+#[tactic(auto, unfolding(crate::specs::Texts::beyond))]
 fn beyond(r: Rest, n: usize) -> Rest
     requires n_bound { r.from + n < 2 ^ 64 }
     requires n_bound_2 { r.at + n < 2 ^ 64 }
@@ -91,6 +91,7 @@ fn beyond(r: Rest, n: usize) -> Rest
 }
 
 // Nothing is left.
+#[tactic(auto, unfolding(crate::specs::Texts::is_over))]
 fn is_over(s: &[u8], r: Rest) -> bool
     ensures { result ≡ is_over s.now r }
 {
@@ -100,17 +101,8 @@ fn is_over(s: &[u8], r: Rest) -> bool
     r.at >= s.len()
 }
 
-// The place of an octet in common that could be a token (below 0x14), or the place behind it where it is the first, which is known to stand for itself.
-fn or_one(n: usize) -> usize
-    ensures { result ≡ or_one n }
-{
-    if n == 0 {
-        return 1;
-    }
-    n
-}
-
 // Two octets are the same and can be no token.
+#[tactic(auto, unfolding(crate::specs::Texts::shared))]
 fn is_shared(x: u8, y: u8) -> bool
     ensures { result ≡ shared x y }
 {
@@ -118,6 +110,7 @@ fn is_shared(x: u8, y: u8) -> bool
 }
 
 // The first eight octets. Nothing is decided between their tests, so that the compiler makes one comparison of all eight.
+#[tactic(auto, unfolding(crate::specs::Bodies::all_by))]
 fn are_eight_shared(a: &[u8], b: &[u8]) -> bool
     requires in_bounds { 8 ≤ length a.now }
     requires in_bounds_2 { 8 ≤ length b.now }
@@ -137,41 +130,35 @@ fn are_eight_shared(a: &[u8], b: &[u8]) -> bool
 fn eights(a: &[u8], b: &[u8]) -> usize
     ensures { Shared a.now b.now result }
 {
-    let mut n: usize = 0;
-    while a.len() - n >= 8 {
-        if b.len() - n < 8 {
-            return n;
-        }
+    let whole = a.len().min(b.len()) / 8;
+    for i in 0..whole {
+        let n = 8 * i;
         if !are_eight_shared(&a[n..], &b[n..]) {
             return n;
         }
-        n = n + 8;
     }
-    n
+    8 * whole
 }
 
 // How far two pieces are the same from the beginning on, up to the second or a later octet that could be a token: by eights as far as they go, then by single
-// octets. Where they part is a place in both.
+// octets. Where they part is a place in both, or behind the first octet, which is known to stand for itself.
 fn common(a: &[u8], b: &[u8]) -> usize
     ensures { Common a.now b.now result }
 {
-    let mut n = eights(a, b);
-    while n < a.len() {
-        if n >= b.len() {
-            return n;
-        }
+    let end = a.len().min(b.len());
+    for n in eights(a, b)..end {
         if a[n] != b[n] {
             return n;
         }
         if a[n] < 0x14 {
-            return or_one(n);
+            return n.max(1);
         }
-        n = n + 1;
     }
-    n
+    end
 }
 
 // How far a piece and what comes next in a rest are the same.
+#[tactic(auto, using(octets::proofs::Lists::part_to_end), unfolding(crate::specs::Texts::ahead))]
 fn common_with(x: &[u8], table: &[u8], s: &[u8], r: Rest) -> usize
     requires { Inside table.now s.now r }
     ensures { Common x.now (ahead table.now s.now r) result }
@@ -186,6 +173,7 @@ fn common_with(x: &[u8], table: &[u8], s: &[u8], r: Rest) -> usize
 }
 
 // How far what comes next in two rests is the same.
+#[tactic(auto, using(octets::proofs::Lists::part_to_end), unfolding(crate::specs::Texts::ahead))]
 fn common_ahead(table_a: &[u8], a: &[u8], p: Rest, table_b: &[u8], b: &[u8], q: Rest) -> usize
     requires inside { Inside table_a.now a.now p }
     requires inside_2 { Inside table_b.now b.now q }

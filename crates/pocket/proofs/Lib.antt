@@ -1,3 +1,2 @@
-pub mod Gating
 pub mod Passing
 pub mod Examples

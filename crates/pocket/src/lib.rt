@@ -51,6 +51,7 @@ impl GateAnswer {
     }
 }
 
+#[tactic(auto, unfolding(crate::specs::Gate::gate_of, crate::specs::Gate::gate_answer))]
 pub fn gate(object: &[u8], subject: DataType) -> GateAnswer
     ensures { result ≡ gate_of subject object.now }
 {
@@ -62,6 +63,8 @@ pub fn gate(object: &[u8], subject: DataType) -> GateAnswer
 }
 
 // The data type that a caller names by number: 0 SI, 1 PI, 2 GI.
+// Kept: a number of the C interface (gate's in spi_c), and a function, no From, since docs/CALLS.md promises `data_type`, the call as well as the definition.
+#[tactic(auto, unfolding(crate::specs::Table::data_type))]
 pub fn data_type(number: u8) -> DataType
     ensures { result ≡ data_type number }
 {

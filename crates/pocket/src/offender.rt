@@ -105,6 +105,7 @@ const NONE: [u16; 0] = [];
 // What stands in any element.
 const ANYWHERE: [u16; 1] = [0x01]; // CDATA
 
+#[tactic(auto, unfolding(crate::specs::Gate::offends))]
 pub fn find_offender(object: &[u8], subject: DataType) -> Sought
     ensures { result ≡ sought_in (offends subject) object.now }
 {

@@ -1,7 +1,7 @@
 -- The ways through look_item and look_items, whatever the test is.
 use mathlib.Core.Path.{◌≡◌, refl, sym, ap, ◌∙◌}
 use mathlib.Core.Bool.{Bool, true, false, cond}
-use mathlib.Core.Option.{Option, none, some}
+use mathlib.Core.Option.{Option as Maybe, none, some}
 use mathlib.Core.List.{List, [], ◌∷◌}
 use Prim.Native.Nat.{ℕ, zero, suc, ◌+◌, ◌-◌, ◌^◌, ◌≤◌, ◌<◌}
 use native.Mathlib.Nat.{add-zero}
@@ -9,6 +9,7 @@ use native.Mathlib.Omega.{arith}
 use lib.ListN.{length, take, drop, get_or, length-drop, drop_of_length-le}
 use mir.Syntax.{w64}
 use mir.Val.{Fits}
+use Rattle.std.specs.Prelude.{Option, None, Some}
 use Rattle.octets.specs.Header.{header_size, body_size}
 use Rattle.octets.specs.declared.Lies.{Lies}
 use Rattle.octets.specs.declared.Lies.TheVariants.{Outside, Between}
@@ -21,8 +22,6 @@ use Rattle.format.specs.Tree.{Items}
 use Rattle.format.specs.Judge.{is_items}
 use Rattle.reader.specs.Filling.{Accepts}
 use Rattle.reader.proofs.Opening.{lies-inside, met}
-use Rattle.survey.specs.declared.look.Place.{Place}
-use Rattle.survey.specs.declared.look.Place.TheVariants.{Nowhere, At}
 use Rattle.survey.specs.declared.look.Step.{Step}
 use Rattle.survey.specs.declared.look.Step.TheVariants.{Past, Into, Picked}
 use Rattle.survey.specs.First.{or_else, picks, place_in}
@@ -58,19 +57,19 @@ module _ (P : ℕ → ℕ → Bool) (parent tag left place from : ℕ) (body : L
   unfolding step_of
   says = told (picks P parent tag) (is_items (known parent tag)) s e
 
-  pub item-past : s ≡ Past → ItemLooked P parent tag left body place from Nowhere
+  pub item-past : s ≡ Past → ItemLooked P parent tag left body place from None
   unfolding ItemLooked place_of
   item-past q depth u k l m a = rw ((says.past q).0, (says.past q).1)
 
-  pub item-picked : s ≡ Picked → ItemLooked P parent tag left body place from (At place)
+  pub item-picked : s ≡ Picked → ItemLooked P parent tag left body place from (Some place)
   unfolding ItemLooked place_of
   item-picked q depth u k l m a = rw (says.picked q)
 
-  pub item-deep : s ≡ Into → left ≡ 0 → (r : Place) → ItemLooked P parent tag left body place from r
+  pub item-deep : s ≡ Into → left ≡ 0 → (r : Option ℕ) → ItemLooked P parent tag left body place from r
   unfolding ItemLooked
   item-deep q z r depth u k l m a = absurd (omega (arith, (a (says.into q).1).0))
 
-  pub item-inside : s ≡ Into → (left ≡ 0 → ⊥) → (r : Place) → ItemsLooked P tag (left - 1) body from r → ItemLooked P parent tag left body place from r
+  pub item-inside : s ≡ Into → (left ≡ 0 → ⊥) → (r : Option ℕ) → ItemsLooked P tag (left - 1) body from r → ItemLooked P parent tag left body place from r
   unfolding ItemLooked ItemsLooked
   item-inside q z r w depth u k l m a =
       let i = a (says.into q).1 in
@@ -105,14 +104,14 @@ none_left P zero parent at = refl
 none_left P (suc k) parent at = refl
 
 -- the answer of an item, and then of the rest
-place_here : (p i : Bool) (place : ℕ) (inner later : Option ℕ) (found : ℕ) → At found ≡ place_of (cond p (some place) (cond i inner none)) → At found ≡ place_of (cond p (some place) (or_else (cond i inner none) later))
+place_here : (p i : Bool) (place : ℕ) (inner later : Maybe ℕ) (found : ℕ) → Some found ≡ place_of (cond p (some place) (cond i inner none)) → Some found ≡ place_of (cond p (some place) (or_else (cond i inner none) later))
 unfolding place_of or_else
 place_here true i place inner later found e = e
 place_here false true place none later found e = never (cc)
 place_here false true place (some x) later found e = e
 place_here false false place inner later found e = never (cc)
 
-place-later : (p i : Bool) (place : ℕ) (inner later : Option ℕ) → Nowhere ≡ place_of (cond p (some place) (cond i inner none)) → cond p (some place) (or_else (cond i inner none) later) ≡ later
+place-later : (p i : Bool) (place : ℕ) (inner later : Maybe ℕ) → None ≡ place_of (cond p (some place) (cond i inner none)) → cond p (some place) (or_else (cond i inner none) later) ≡ later
 unfolding place_of or_else
 place-later true i place inner later e = never (cc)
 place-later false true place none later e = refl
@@ -124,7 +123,7 @@ module _ (P : ℕ → ℕ → Bool) (parent left : ℕ) (part : List ℕ) (offse
   look-begin = record { inside = omega arith; goes = λ depth t k l m a. record { rest = t; fuel = k; enough = m; accepts = rw (add-zero offset) a; same = rw (add-zero offset) } }
 
   module _ (at : ℕ) (inv : Looks P parent left part offset at) where
-    pub look-end : length part ≤ at → ItemsLooked P parent left part offset Nowhere
+    pub look-end : length part ≤ at → ItemsLooked P parent left part offset None
     unfolding ItemsLooked place_of
     look-end h depth t k l m a =
         let g = inv.goes depth t k l m a in
@@ -132,7 +131,7 @@ module _ (P : ℕ → ℕ → Bool) (parent left : ℕ) (part : List ℕ) (offse
         sym (ap place_of e)
 
     module _ (h : at < length part) (r : Lies) (re : r ≡ lies_at part at) where
-      pub look-past : r ≡ Outside → (s : Place) → ItemsLooked P parent left part offset s
+      pub look-past : r ≡ Outside → (s : Option ℕ) → ItemsLooked P parent left part offset s
       unfolding ItemsLooked
       look-past q s depth t k l m a = let g = inv.goes depth t k l m a in absurd (lies-inside part at r re h q parent depth (offset + at) g.rest g.accepts)
 
@@ -168,7 +167,7 @@ module _ (P : ℕ → ℕ → Bool) (parent left : ℕ) (part : List ℕ) (offse
             let y : offset + at + header_size (drop at part) + body_size (drop at part) ≡ offset + to = omega (arith, here.ends) in
             rw (tag-is here inv.inside, y, x, body_is here inv.inside, later-is here inv.inside) at (look-step P (drop at part) n parent (offset + at) (omega (arith, length-drop at part)))
 
-        module _ (v : Place) (w : ItemLooked P parent tag left body (offset + at) (offset + from) v) where
+        module _ (v : Option ℕ) (w : ItemLooked P parent tag left body (offset + at) (offset + from) v) where
           record Turn (depth k : ℕ) (t : Items) : Type 0 where
             next : Items
             less : ℕ
@@ -198,14 +197,14 @@ module _ (P : ℕ → ℕ → Bool) (parent left : ℕ) (part : List ℕ) (offse
                     own = w depth o.u n l (omega (arith, g.enough, length-drop at part, length_part part from (to - from) (omega (arith, b)), b)) (λ i. (o.deep i, o.inside i));
                   }
 
-          pub look-found : (place : ℕ) → v ≡ At place → ItemsLooked P parent left part offset (At place)
+          pub look-found : (place : ℕ) → v ≡ Some place → ItemsLooked P parent left part offset (Some place)
           unfolding ItemsLooked
           look-found place e depth t k l m a =
               let g = turn depth t k l m a in
               place_here (picks P parent tag) (is_items (known parent tag)) (offset + at) (place_in g.less P tag (offset + from) body) (place_in g.less P parent (offset + to) (drop to part)) place (sym e ∙ g.own)
               ∙ sym (ap place_of g.whole)
 
-          pub look-again : v ≡ Nowhere → Looks P parent left part offset to
+          pub look-again : v ≡ None → Looks P parent left part offset to
           look-again e = record {
             inside = look-to;
             goes = λ depth t k l m a.
@@ -221,12 +220,12 @@ module _ (P : ℕ → ℕ → Bool) (parent left : ℕ) (part : List ℕ) (offse
 
 pub ruleset look-ways = (look-begin, look-end, look-past, look-to, look-ordered, look-less, look-body, look-from, look-found, look-again)
 
-pub place_none : (o : Option ℕ) → Nowhere ≡ place_of o → o ≡ none
+pub place_none : (o : Maybe ℕ) → None ≡ place_of o → o ≡ none
 unfolding place_of
 place_none none e = refl
 place_none (some x) e = never (cc)
 
-pub place-some : (o : Option ℕ) (place : ℕ) → At place ≡ place_of o → o ≡ some place
+pub place-some : (o : Maybe ℕ) (place : ℕ) → Some place ≡ place_of o → o ≡ some place
 unfolding place_of
 place-some none place e = never (cc)
 place-some (some x) place e = let z : x ≡ place = cc in ap some z

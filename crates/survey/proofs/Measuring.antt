@@ -132,9 +132,6 @@ module _ (T : Entries) (p tag left : ℕ) (body : List ℕ) (x : Part) (xe : x �
         bounded : (s.0 ≤ n.0 + length body) × (n.0 ≤ 32_768)
         bounded = subst (Small (length body)) w m.small
 
-        pub inside-few : n.0 ≤ 32_769
-        inside-few = omega (arith, bounded.1)
-
         pub item-inside : (r : Measured) → r ≡ sizes_of s.0 (framed_size n.0) → ItemMeasured T p tag left body r
         item-inside r e = record {
           small = subst (Small (length body)) (sym e) (small-sizes (length body) s.0 (framed_size n.0) (omega (arith, bounded.0, framed-more n.0)));

@@ -27,15 +27,6 @@ use Rattle.reader.specs.Filling.{Accepts, share}
 use Rattle.reader.proofs.Opening.{Opened, opened-end, lies-inside, met}
 use Rattle.survey.specs.Places.{span_within, span_of_tag}
 
-module _ (sought met : ℕ) (a : Bool) (ae : a ≡ attribute sought) where
-  pub behind-no : a ≡ false → false ≡ attribute sought && not (attribute met)
-  behind-no q = rw (sym ae ∙ q)
-
-  pub behind-by : a ≡ true → (b : Bool) → b ≡ attribute met → not b ≡ attribute sought && not (attribute met)
-  behind-by q b e = rw (sym ae ∙ q) (ap not e)
-
-pub ruleset behind-ways = (behind-no, behind-by)
-
 -- the order of items (rule 6): an attribute does not come where the order is past the attributes, nor behind an item that is none
 abbrev Barred : ℕ → Context → ℕ → List ℕ → Items → Type 0
 Barred tag c at part t = attribute tag ≡ true → ltb 0 c.stage || not (attribute (get_or part 0 0)) ≡ true → find tag t ≡ none

@@ -7,7 +7,6 @@ use native.Mathlib.Omega.{arith}
 use lib.Dec.{leb}
 use lib.ListN.{length}
 use borrow.Author.Tests.{leb-true, leb-false, le-leb, lt-leb}
-use Rattle.octets.specs.declared.counts.Octets.{Octets as OctetCount}
 use Rattle.octets.specs.Counts.{size_of}
 use Rattle.format.specs.declared.Refusal.{Refusal}
 use Rattle.format.specs.declared.Counts.{Counts}
@@ -109,23 +108,5 @@ module _ (element depth : ℕ) (o : List ℕ) (v : ReadAnswer) (e : v ≡ judge_
       ap₂ (λ n x. Takes n x) w.many (g w.tree w.is) ∙ sym (ap (needed_by element) w.is)
 
 pub ruleset needed-ways = (needed-refused, needed-items)
-
--- ---- is_sufficient
-
-module _ (m : Measured) (store room : OctetCount) where
-  pub sufficient-over : m ≡ Over → false ≡ sufficient m store room
-  unfolding sufficient
-  sufficient-over q = rw q
-
-  module _ (s n : OctetCount) (q : m ≡ Sizes s n) where
-    pub sufficient-store : store.0 < s.0 → false ≡ sufficient m store room
-    unfolding sufficient
-    sufficient-store h = rw (q, lt-leb s.0 store.0 h)
-
-    pub sufficient-room : s.0 ≤ store.0 → leb n.0 room.0 ≡ sufficient m store room
-    unfolding sufficient
-    sufficient-room h = rw (q, le-leb s.0 store.0 h)
-
-pub ruleset sufficient-ways = (sufficient-over, sufficient-store, sufficient-room)
 
 pub ruleset survey-ways = (survey-bad, survey-full, survey-fits, survey-small)

@@ -10,10 +10,7 @@ use values::is_attribute;
 fn is_behind(sought: u8, met: u8) -> bool
     ensures { result ≡ attribute sought && not (attribute met) }
 {
-    if is_attribute(sought) {
-        return !is_attribute(met);
-    }
-    false
+    is_attribute(sought) && !is_attribute(met)
 }
 
 // Where the body of the first item of a tag lies, in any octets.

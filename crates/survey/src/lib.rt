@@ -39,6 +39,7 @@ pub enum Needed {
     Takes { records: usize, sizes: Measured },
 }
 
+#[tactic(auto, unfolding(crate::specs::Survey::sufficient))]
 fn is_sufficient(needs: Measured, store: Octets, room: Octets) -> bool
     ensures { result ≡ sufficient needs store room }
 {

@@ -1,6 +1,5 @@
-// The first known item of an object, in reading order, that a list has or that it lacks. A test can't be handed to code, so it is handed as numbers (specs/First, sought_by).
+// The first known item of an object, in reading order, that a list has or that it lacks. The test is handed as numbers (specs/First, sought_by).
 ghost use Rattle.std.specs.Prelude.{◌≡◌, ◌+◌, ◌<◌, ◌^◌, length};
-ghost use Rattle.octets.specs.Numbers.{among};
 ghost use Rattle.survey.specs.First.{sought_by, sought_in};
 ghost use Rattle.survey.specs.Looks.{step_of, ItemLooked, ItemsLooked};
 
@@ -17,13 +16,6 @@ pub enum Sought {
     At(usize),
 }
 
-// The same of a part of an accepted object.
-#[derive(Clone, Copy)]
-enum Place {
-    Nowhere,
-    At(usize),
-}
-
 // What is to be done with an item: it is passed over, looked into, or it is the one.
 #[derive(Clone, Copy)]
 enum Step {
@@ -32,29 +24,12 @@ enum Step {
     Picked,
 }
 
-fn is_among(number: u16, list: &[u16]) -> bool
-    ensures { result ≡ among number list.now }
-{
-    let mut i: usize = 0;
-    while i < list.len() {
-        if list[i] == number {
-            return true;
-        }
-        i = i + 1;
-    }
-    false
-}
-
 fn is_sought(rows: &[u16], anywhere: &[u16], listed: bool, parent: u8, tag: u8) -> bool
     ensures { result ≡ sought_by listed rows.now anywhere.now parent tag }
 {
-    if is_among(tag as u16, anywhere) {
-        return listed;
-    }
-    if is_among(parent as u16 * 256 + tag as u16, rows) {
-        return listed;
-    }
-    !listed
+    let row = parent as u16 * 256 + tag as u16;
+    let found = anywhere.contains(&(tag as u16)) || rows.contains(&row);
+    found == listed
 }
 
 fn step_of(rows: &[u16], anywhere: &[u16], listed: bool, parent: u8, tag: u8) -> Step
@@ -85,16 +60,16 @@ fn look_item(
     body: &[u8],
     place: usize,
     from: usize,
-) -> Place
+) -> Option<usize>
     requires { from + length body.now < 2 ^ 63 }
     ensures { ItemLooked (sought_by listed rows.now anywhere.now) parent tag left body.now place from result }
 {
     match step_of(rows, anywhere, listed, parent, tag) {
-        Step::Past => Place::Nowhere,
-        Step::Picked => Place::At(place),
+        Step::Past => None,
+        Step::Picked => Some(place),
         Step::Into => {
             if left == 0 {
-                return Place::Nowhere;
+                return None;
             }
             look_items(rows, anywhere, listed, tag, left - 1, body, from)
         }
@@ -111,16 +86,16 @@ fn look_items(
     left: usize,
     part: &[u8],
     offset: usize,
-) -> Place
+) -> Option<usize>
     requires { offset + length part.now < 2 ^ 63 }
     ensures { ItemsLooked (sought_by listed rows.now anywhere.now) parent left part.now offset result }
 {
     let mut at: usize = 0;
     while at < part.len() {
         let Lies::Between { from, to } = item_at(part, at) else {
-            return Place::Nowhere;
+            return None;
         };
-        if let Place::At(place) = look_item(
+        if let Some(place) = look_item(
             rows,
             anywhere,
             listed,
@@ -131,22 +106,23 @@ fn look_items(
             offset + at,
             offset + from,
         ) {
-            return Place::At(place);
+            return Some(place);
         }
         at = to;
     }
-    Place::Nowhere
+    None
 }
 
 // The object itself counts as an element with the tag 0, whose one item is the top at depth 1.
+// Kept: lists and a flag, no closure, since what this public call promises is `sought_by` of its lists (docs/CALLS.md), and pocket's and xml's tables are such.
 pub fn find_first(object: &[u8], rows: &[u16], anywhere: &[u16], listed: bool) -> Sought
     ensures { result ≡ sought_in (sought_by listed rows.now anywhere.now) object.now }
 {
     match judge(object) {
         ReadAnswer::NotRead(refusal) => Sought::Refused(refusal),
         ReadAnswer::Records(_) => match look_items(rows, anywhere, listed, 0, 16, object, 0) {
-            Place::Nowhere => Sought::Nowhere,
-            Place::At(place) => Sought::At(place),
+            None => Sought::Nowhere,
+            Some(place) => Sought::At(place),
         },
     }
 }

@@ -3,44 +3,14 @@ use borrow.Author.Tests.{not-true, not-false}
 use Rattle.compare.proofs.Comparing.{same-child-ways, abreast-again, abreast-ways, found-ways}
 use Rattle.compare.proofs.items.+same_child_same_children.Goals as goal
 
-pub same_child-content_of-requires : goal.same_child-content_of-requires
-same_child-content_of-requires t c = search (same-child-ways, rules)
-
-pub same_child-enum_told-1 : goal.same_child-enum_told-1
-same_child-enum_told-1 t c = search (same-child-ways, not-true, not-false, rules)
-
-pub same_child-same_octets-requires : goal.same_child-same_octets-requires
-same_child-same_octets-requires t c = search (same-child-ways, rules)
-
-pub same_child-enum_told-in-Text : goal.same_child-enum_told-in-Text
-same_child-enum_told-in-Text t c = search (same-child-ways, not-true, not-false, rules)
-
-pub same_child-same_texts-requires : goal.same_child-same_texts-requires
-same_child-same_texts-requires t c = search (same-child-ways, rules)
-
-pub same_child-enum_told-in-Items : goal.same_child-enum_told-in-Items
-same_child-enum_told-in-Items t c = search (same-child-ways, not-true, not-false, rules)
-
 pub same_child-returns-then-levels-eq0 : goal.same_child-returns-then-levels-eq0
 same_child-returns-then-levels-eq0 t c = search (same-child-ways, rules)
-
-pub same_child-same_attributes-requires : goal.same_child-same_attributes-requires
-same_child-same_attributes-requires t c = search (same-child-ways, rules)
 
 pub same_child-returns-then-not-same_attributes : goal.same_child-returns-then-not-same_attributes
 same_child-returns-then-not-same_attributes t c = search (same-child-ways, not-true, not-false, rules)
 
-pub same_child-same_cdata-requires : goal.same_child-same_cdata-requires
-same_child-same_cdata-requires t c = search (same-child-ways, rules)
-
 pub same_child-returns-then-not-same_cdata : goal.same_child-returns-then-not-same_cdata
 same_child-returns-then-not-same_cdata t c = search (same-child-ways, not-true, not-false, rules)
-
-pub same_child-overflow_sub-levels : goal.same_child-overflow_sub-levels
-same_child-overflow_sub-levels t c = search (same-child-ways, not-true, not-false, rules)
-
-pub same_child-same_children-requires : goal.same_child-same_children-requires
-same_child-same_children-requires t c = search (same-child-ways, not-true, not-false, rules)
 
 pub same_child-returns-in-Octets : goal.same_child-returns-in-Octets
 same_child-returns-in-Octets t c = search (same-child-ways, rules)
@@ -54,32 +24,8 @@ same_child-returns-else-not-same_cdata t c = search (same-child-ways, not-false,
 pub same_children-loop-at-init : goal.same_children-loop-at-init
 same_children-loop-at-init t c = search (abreast-ways, found-ways, rules)
 
-pub same_children-next_child-requires : goal.same_children-next_child-requires
-same_children-next_child-requires t c = search (abreast-ways, found-ways, rules)
-
-pub same_children-enum_known-at : goal.same_children-enum_known-at
-same_children-enum_known-at t c = search (abreast-ways, found-ways, not-true, not-false, rules)
-
-pub same_children-enum_told-1 : goal.same_children-enum_told-1
-same_children-enum_told-1 t c = search (abreast-ways, found-ways, not-true, not-false, rules)
-
-pub same_children-next_child-requires-in_default : goal.same_children-next_child-requires-in_default
-same_children-next_child-requires-in_default t c = search (abreast-ways, found-ways, rules)
-
-pub same_children-is_end-requires : goal.same_children-is_end-requires
-same_children-is_end-requires t c = search (abreast-ways, found-ways, rules)
-
 pub same_children-returns-in_default : goal.same_children-returns-in_default
 same_children-returns-in_default t c = search (abreast-ways, found-ways, rules)
-
-pub same_children-next_child-requires-in-loop-at : goal.same_children-next_child-requires-in-loop-at
-same_children-next_child-requires-in-loop-at t c = search (abreast-ways, found-ways, rules)
-
-pub same_children-enum_known-place : goal.same_children-enum_known-place
-same_children-enum_known-place t c = search (abreast-ways, found-ways, not-true, not-false, rules)
-
-pub same_children-enum_told-in_default-next_child : goal.same_children-enum_told-in_default-next_child
-same_children-enum_told-in_default-next_child t c = search (abreast-ways, found-ways, not-true, not-false, rules)
 
 pub same_children-returns-in_default-next_child : goal.same_children-returns-in_default-next_child
 same_children-returns-in_default-next_child t c = search (abreast-ways, found-ways, rules)
@@ -110,9 +56,6 @@ same_children-slice_bounds-same_child-start-in-loop-at t c = search (abreast-way
 
 pub same_children-slice_bounds-same_child-end-in-loop-at : goal.same_children-slice_bounds-same_child-end-in-loop-at
 same_children-slice_bounds-same_child-end-in-loop-at t c = search (abreast-ways, found-ways, not-true, not-false, rules)
-
-pub same_children-same_child-requires : goal.same_children-same_child-requires
-same_children-same_child-requires t c = search (abreast-ways, found-ways, not-true, not-false, rules)
 
 pub same_children-returns-then-not-same_child : goal.same_children-returns-then-not-same_child
 same_children-returns-then-not-same_child t c = search (abreast-ways, found-ways, not-true, rules)

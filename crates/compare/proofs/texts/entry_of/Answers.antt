@@ -1,6 +1,3 @@
-use native.Mathlib.Omega.{arith}
-use Prim.Native.Nat.{◌-◌}
-use lib.ListN.{get_or}
 use Rattle.compare.proofs.Expansions.{stand-ways}
 use borrow.Author.Tests.{not-true, not-false}
 use borrow.Author.Rules.{rules}
@@ -17,10 +14,6 @@ returns-then-from-eq0 c = search (stand-ways, not-true, not-false, rules)
 
 pub returns-then-from-table : goal.returns-then-from-table
 returns-then-from-table c = search (stand-ways, not-true, not-false, rules)
-
-pub overflow_cast-size : goal.overflow_cast-size
-overflow_cast-size c =
-    let args = c.args in omega (arith, c.type_inv.table (get_or args.index.now args.b 0 - 1))
 
 pub returns-then-size-table : goal.returns-then-size-table
 returns-then-size-table c = search (stand-ways, not-true, not-false, rules)

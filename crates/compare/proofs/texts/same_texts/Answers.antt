@@ -5,18 +5,6 @@ use Rattle.compare.proofs.texts.same_texts.Goals as goal
 pub loop-p-init : goal.loop-p-init
 loop-p-init c = search (meet-ways, rules)
 
-pub opened-p-requires : goal.opened-p-requires
-opened-p-requires c = search (meet-ways, rules)
-
-pub opened-q-requires : goal.opened-q-requires
-opened-q-requires c = search (meet-ways, rules)
-
-pub common_ahead-n-requires : goal.common_ahead-n-requires
-common_ahead-n-requires c = search (meet-ways, rules)
-
-pub are_over-requires : goal.are_over-requires
-are_over-requires c = search (meet-ways, rules)
-
 pub returns-then-n-eq0 : goal.returns-then-n-eq0
 returns-then-n-eq0 c = search (meet-ways, rules)
 

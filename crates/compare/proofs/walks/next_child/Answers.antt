@@ -2,26 +2,8 @@ use Rattle.compare.proofs.Walking.{skip-ways, skip-nearer, skip-again}
 use borrow.Author.Rules.{rules}
 use Rattle.compare.proofs.walks.next_child.Goals as goal
 
-pub loop-i-init : goal.loop-i-init
-loop-i-init c = search (skip-ways, rules)
-
-pub item_at-requires : goal.item_at-requires
-item_at-requires c = search (skip-ways, rules)
-
-pub enum_known-from : goal.enum_known-from
-enum_known-from c = search (skip-ways, rules)
-
-pub enum_told-1 : goal.enum_told-1
-enum_told-1 c = search (skip-ways, rules)
-
 pub returns-in_default : goal.returns-in_default
 returns-in_default c = search (skip-ways, rules)
-
-pub bounds-part-i : goal.bounds-part-i
-bounds-part-i c = search (skip-ways, rules)
-
-pub is_meant-requires : goal.is_meant-requires
-is_meant-requires c = search (skip-ways, rules)
 
 pub returns-then-is_meant : goal.returns-then-is_meant
 returns-then-is_meant c = search (skip-ways, rules)

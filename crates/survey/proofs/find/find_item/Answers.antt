@@ -5,29 +5,11 @@ use Rattle.survey.proofs.find.find_item.Goals as goal
 pub loop-at-init : goal.loop-at-init
 loop-at-init c = search (span-ways, rules)
 
-pub bounds-part-at : goal.bounds-part-at
-bounds-part-at c = search (span-ways, rules)
-
-pub is_behind-requires : goal.is_behind-requires
-is_behind-requires c = search (span-ways, rules)
-
 pub returns-then-is_behind : goal.returns-then-is_behind
 returns-then-is_behind c = search (span-ways, rules)
 
-pub item_at-requires : goal.item_at-requires
-item_at-requires c = search (span-ways, rules)
-
-pub enum_known-from : goal.enum_known-from
-enum_known-from c = search (span-ways, rules)
-
-pub enum_told-1 : goal.enum_told-1
-enum_told-1 c = search (span-ways, rules)
-
 pub returns-in_default : goal.returns-in_default
 returns-in_default c = search (span-ways, rules)
-
-pub bounds-part-at-in-loop-at : goal.bounds-part-at-in-loop-at
-bounds-part-at-in-loop-at c = search (span-ways, rules)
 
 pub returns-then-part-at : goal.returns-then-part-at
 returns-then-part-at c =

@@ -6,8 +6,8 @@ use Rattle.survey.proofs.look.find_first.Goals as goal
 pub returns-in-NotRead : goal.returns-in-NotRead
 returns-in-NotRead c = search (first-ways, rules)
 
-pub returns-in-Nowhere : goal.returns-in-Nowhere
-returns-in-Nowhere c = search (first-ways, rules)
+pub returns-in-None : goal.returns-in-None
+returns-in-None c = search (first-ways, rules)
 
-pub returns-in-At : goal.returns-in-At
-returns-in-At c = search (first-ways, rules)
+pub returns-in-Some : goal.returns-in-Some
+returns-in-Some c = search (first-ways, rules)

@@ -1,13 +1,10 @@
-use Rattle.survey.proofs.Listing.{sought-ways}
-use borrow.Author.Rules.{rules}
-use borrow.Author.Rules.{rules}
+use Rattle.survey.proofs.Listing.{sought-anywhere, sought-row}
 use Rattle.survey.proofs.look.is_sought.Goals as goal
-
-pub returns-then-is_among : goal.returns-then-is_among
-returns-then-is_among c = search (sought-ways, rules)
-
-pub returns-then-is_among-2 : goal.returns-then-is_among-2
-returns-then-is_among-2 c = search (sought-ways, rules)
+use Rattle.survey.proofs.look.is_sought.Goals.{then-contains, else-contains}
 
 pub returns : goal.returns
-returns c = search (sought-ways, rules)
+returns c =
+    elim c.if-contains.branch [
+      | then-contains w ↦ sought-anywhere _ _ _ _ _ _ c.contains.ensures.value w.if-contains.true _ w.found-is
+      | else-contains w ↦ sought-row _ _ _ _ _ _ c.contains.ensures.value w.if-contains.false _ w.contains-found.ensures.value _ w.found-is
+    ]

@@ -1,7 +1,6 @@
-use native.Mathlib.Omega.{arith}
 use Rattle.octets.proofs.Places.{to_inside, ordered, nearer}
-use Rattle.survey.proofs.Measuring.{item-nothing, item-kept, octets-few, item-octets, item-deep, item-over, inside-few, item-inside}
-use Rattle.survey.proofs.Measuring.{begin, ended, no_item, here, item-too-long, store-fits, octets-fit, too_long, again}
+use Rattle.survey.proofs.Measuring.{item-nothing, item-kept, octets-few, item-octets, item-deep, item-over, item-inside}
+use Rattle.survey.proofs.Measuring.{begin, ended, no_item, here, item-too-long, store-fits, too_long, again}
 use Rattle.survey.proofs.measure.+measure_item_measure_items.Goals as goal
 
 pub measure_item-framed-requires : goal.measure_item-framed-requires
@@ -11,14 +10,6 @@ measure_item-framed-requires t c =
 pub measure_item-returns-then-left-eq0 : goal.measure_item-returns-then-left-eq0
 measure_item-returns-then-left-eq0 t c =
     item-deep _ _ _ _ _ _ c.part_of.ensures c.in-Inside.is c.if-left-eq0.true
-
-pub measure_item-measure_items-requires : goal.measure_item-measure_items-requires
-measure_item-measure_items-requires t c =
-    (omega (arith, c.decreases, c.if-left-eq0.false), c.requires)
-
-pub measure_item-framed-requires-in-Sizes : goal.measure_item-framed-requires-in-Sizes
-measure_item-framed-requires-in-Sizes t c =
-    inside-few _ _ _ _ _ _ c.part_of.ensures c.in-Inside.is c.if-left-eq0.false _ c.measure_items.ensures _ _ c.in-Sizes.is
 
 pub measure_item-returns-in-Nothing : goal.measure_item-returns-in-Nothing
 measure_item-returns-in-Nothing t c =
@@ -48,10 +39,6 @@ pub measure_items-returns-in_default : goal.measure_items-returns-in_default
 measure_items-returns-in_default t c =
     no_item _ _ _ _ _ _ _ c.loop-at.invariant c.loop-at-test.true _ c.item_at.ensures c.in_default.is
 
-pub measure_items-bounds-part-at : goal.measure_items-bounds-part-at
-measure_items-bounds-part-at t c =
-    c.loop-at-test.true
-
 pub measure_items-slice_bounds-measure_item-count : goal.measure_items-slice_bounds-measure_item-count
 measure_items-slice_bounds-measure_item-count t c =
     ordered (here _ _ _ _ _ _ _ c.loop-at.invariant c.loop-at-test.true _ c.item_at.ensures _ _ c.in-Between.is) c.loop-at.invariant.inside
@@ -64,10 +51,6 @@ pub measure_items-slice_bounds-measure_item-end : goal.measure_items-slice_bound
 measure_items-slice_bounds-measure_item-end t c =
     to_inside (here _ _ _ _ _ _ _ c.loop-at.invariant c.loop-at-test.true _ c.item_at.ensures _ _ c.in-Between.is) c.loop-at.invariant.inside
 
-pub measure_items-measure_item-item-requires : goal.measure_items-measure_item-item-requires
-measure_items-measure_item-item-requires t c =
-    (omega (arith, c.decreases), c.requires)
-
 pub measure_items-returns-in_default-item : goal.measure_items-returns-in_default-item
 measure_items-returns-in_default-item t c =
     item-too-long _ _ _ _ _ _ _ c.loop-at.invariant c.loop-at-test.true _ c.item_at.ensures _ _ c.in-Between.is _ c.measure_item-item.ensures c.in_default-item.is
@@ -75,10 +58,6 @@ measure_items-returns-in_default-item t c =
 pub measure_items-overflow_add-store : goal.measure_items-overflow_add-store
 measure_items-overflow_add-store t c =
     store-fits _ _ _ _ _ _ _ c.loop-at.invariant c.loop-at-test.true _ c.item_at.ensures _ _ c.in-Between.is _ c.measure_item-item.ensures _ _ c.in-Sizes.is c.well_formed.1.1.0.1
-
-pub measure_items-overflow_add-octets : goal.measure_items-overflow_add-octets
-measure_items-overflow_add-octets t c =
-    octets-fit _ _ _ _ _ _ _ c.loop-at.invariant c.loop-at-test.true _ c.item_at.ensures _ _ c.in-Between.is _ c.measure_item-item.ensures _ _ c.in-Sizes.is
 
 pub measure_items-returns-then-octets-gt32768 : goal.measure_items-returns-then-octets-gt32768
 measure_items-returns-then-octets-gt32768 t c =

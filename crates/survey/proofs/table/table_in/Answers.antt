@@ -1,9 +1,6 @@
 use Rattle.octets.proofs.Places.{to_inside, ordered, nearer}
-use Rattle.survey.proofs.Tables.{begin, no_table, no_item, here, is-table, again}
+use Rattle.survey.proofs.Tables.{no_table, no_item, here, is-table, again}
 use Rattle.survey.proofs.table.table_in.Goals as goal
-
-pub loop-at-init : goal.loop-at-init
-loop-at-init c = begin _
 
 pub returns-in_default : goal.returns-in_default
 returns-in_default c =
