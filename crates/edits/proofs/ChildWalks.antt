@@ -16,7 +16,7 @@ use Rattle.format.specs.Loaded.{loaded_in}
 use Rattle.format.proofs.Tabled.{count-item}
 use Rattle.edits.specs.Sites.{Site, inner, beyond, records_at}
 use Rattle.edits.specs.Extents.{deeper}
-use Rattle.edits.specs.declared.inserting.Child.{Child}
+use Rattle.std.specs.Prelude.{Option}
 use Rattle.edits.specs.Insertion.{counts_at, stops_at, left_after, found_at, child_from}
 use Rattle.edits.proofs.Swaps.{Plain}
 use Rattle.edits.proofs.Sites.{record_here, records-here}
@@ -26,7 +26,7 @@ use Rattle.edits.proofs.Extents.{here-open, here-shut, here-depth}
 abbrev pub fields : (Record → ℕ) → List Record → List ℕ → List ℕ
 fields f rs rest = map f rs ++ rest
 
-abbrev pub walked : (d k j : ℕ) → List Record → (tags depths : List ℕ) → Child
+abbrev pub walked : (d k j : ℕ) → List Record → (tags depths : List ℕ) → Option ℕ
 walked d k j rs tags depths = child_from d k j (fields (λ r. r.tag) rs tags) (fields (λ r. r.depth) rs depths)
 
 -- ---- one record
@@ -102,7 +102,7 @@ skip (item tag at body x y) s p d h k j tags depths =
     ∙ (skip y (beyond s tag body x) p.3 d h k (suc j + count x) tags depths ∙ ap (λ n. child_from d k n tags depths) n)))
 
 module _ (s : Site) (tag at : ℕ) (body : List ℕ) (x y : Items) (p : Plain (item tag at body x y)) (d k : ℕ) (h : s.spot.depth ≡ suc d) (tags depths : List ℕ) where
-  abbrev behind : ℕ → Child
+  abbrev behind : ℕ → Option ℕ
   behind k = walked d k (beyond s tag body x).number (records_at (beyond s tag body x) y) tags depths
 
   later : (k : ℕ) → walked d k (suc s.number) (records_at (inner s tag) x) (fields (λ r. r.tag) (records_at (beyond s tag body x) y) tags)

@@ -1,10 +1,14 @@
 -- The loops that go up from an element to the top.
 use mathlib.Core.Path.{◌≡◌, refl, sym, ap, ◌∙◌, subst}
+use mathlib.Core.Bool.{false}
 use mathlib.Core.List.{List, [], ◌∷◌}
-use Prim.Native.Nat.{ℕ, zero, suc, ◌+◌, ◌-◌, ◌≤◌, ◌<◌, min}
+use Prim.Native.Nat.{ℕ, zero, suc, ◌+◌, ◌-◌, ◌≤◌, ◌<◌}
 use native.Mathlib.Omega.{arith}
+use lib.Dec.{leb}
 use lib.ListN.{length, get_or, set, length-set}
 use lib.Seq.{get_or-set_other, get_or-set_same}
+use borrow.Author.Tests.{lt-leb}
+use Rattle.octets.specs.declared.counts.Octets.{Octets as OctetCount}
 use Rattle.octets.proofs.Answers.{size-four}
 use Rattle.survey.specs.Normal.{framed_size}
 use Rattle.edits.specs.Sizes.{raised, around, up_from, Climbs}
@@ -144,10 +148,11 @@ module _ (parents bodies : List ℕ) (element was is g old new : ℕ) (m : Tops 
   tops-asks = (climbs-was parents bodies g old m.climbs, m.small)
 
   -- too much at some element is too much for the top
-  pub tops-over : (grown : ℕ) → grown ≡ get_or bodies g 0 - old + new → 32_768 < grown → 32_769 ≡ min 32_769 (get_or (raised (up_from parents element) was is bodies) 0 0)
+  pub tops-over : (grown : ℕ) → grown ≡ get_or bodies g 0 - old + new → 32_768 < grown
+      → false ≡ leb (framed_size (get_or (raised (up_from parents element) was is bodies) 0 0)) 32_768
   tops-over grown q h =
       let a : get_or bodies g 0 - old + new ≤ all = subst (λ z. get_or bodies g 0 - old + new ≤ z) (sym m.whole) (outermost-more m.climbs new m.size) in
-      omega arith
+      sym (lt-leb (framed_size all) 32_768 (omega (arith, framed-more all)))
 
   pub tops_next : 0 < g → (grown new' old' : ℕ) → grown ≡ get_or bodies g 0 - old + new → grown ≤ 32_768 → old' ≡ framed_size (get_or bodies g 0) → new' ≡ framed_size grown
       → Tops parents bodies element was is (get_or parents g 0) old' new'
@@ -170,14 +175,16 @@ module _ (parents bodies : List ℕ) (element was is g old new : ℕ) (m : Tops 
     pub tops-asks-top : (old ≤ get_or bodies 0 0) × (new < 65_536)
     tops-asks-top = subst (λ k. (old ≤ get_or bodies k 0) × (new < 65_536)) at_top tops-asks
 
-    pub tops-over-top : (grown : ℕ) → grown ≡ get_or bodies 0 0 - old + new → 32_768 < grown → 32_769 ≡ min 32_769 (get_or (raised (up_from parents element) was is bodies) 0 0)
+    pub tops-over-top : (grown : ℕ) → grown ≡ get_or bodies 0 0 - old + new → 32_768 < grown
+        → false ≡ leb (framed_size (get_or (raised (up_from parents element) was is bodies) 0 0)) 32_768
     tops-over-top grown q h = tops-over grown (q ∙ ap (λ k. get_or bodies k 0 - old + new) (sym at_top)) h
 
-    pub tops-end : (grown : ℕ) → grown ≡ get_or bodies 0 0 - old + new → grown ≤ 32_768 → grown ≡ min 32_769 (get_or (raised (up_from parents element) was is bodies) 0 0)
-    tops-end grown q h =
+    pub tops-end : (grown : ℕ) → grown ≡ get_or bodies 0 0 - old + new → (framed : OctetCount) → framed.0 ≡ framed_size grown
+        → leb framed.0 32_768 ≡ leb (framed_size (get_or (raised (up_from parents element) was is bodies) 0 0)) 32_768
+    tops-end grown q framed e =
         let w : all ≡ get_or bodies 0 0 - old + new =
         m.whole ∙ (ap (λ k. outermost (up_from parents k) old new bodies m.size) at_top ∙ outermost-top parents old new bodies m.size) in
-        omega arith
+        ap (λ k. leb k 32_768) (e ∙ ap framed_size (q ∙ sym w))
 
 -- ---- storing: what raising from the element at hand on leaves is what it was to leave from the first on
 pub record Raises (parents before : List ℕ) (element was is : ℕ) (bodies : List ℕ) (g old new : ℕ) : Type 0 where

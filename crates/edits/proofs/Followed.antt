@@ -1,22 +1,16 @@
 -- Numbers of parents and places in the store that follow what moves: the leaves, and the states of the loops.
-use mathlib.Core.Path.{◌≡◌, refl, sym, ap, ap₂, ◌∙◌}
-use mathlib.Core.Bool.{false}
+use mathlib.Core.Path.{◌≡◌, sym, ap, ap₂, ◌∙◌}
+use mathlib.Core.Bool.{Bool, true, false}
 use mathlib.Core.List.{List, ◌∷◌, map}
 use Prim.Native.Nat.{ℕ, ◌+◌, ◌-◌, ◌≤◌, ◌<◌}
 use native.Mathlib.Numerals.{add-one}
 use native.Mathlib.Omega.{arith}
-use lib.ListN.{length, take, get_or, set, length-set}
+use lib.ListN.{length, take, get_or, set}
 use lib.Seq.{sets, get_or-set_other, drop-set-lt}
 use Rattle.octets.specs.Places.{between}
 use Rattle.octets.proofs.Lists.{sets-none}
 use Rattle.octets.proofs.Upward.{part_none, part-first}
-use Rattle.values.specs.declared.Kind.{Kind}
-use Rattle.values.specs.Table.{known}
 use Rattle.format.specs.Meaning.{opens}
-use Rattle.tags.specs.declared.Listed.{Listed}
-use Rattle.tags.specs.declared.Listed.TheVariants.{Nothing, Inside, Value}
-use Rattle.tags.specs.Listed.{listed_as}
-use Rattle.tags.proofs.Listing.{is-nothing, is-inside, is-value}
 use Rattle.edits.specs.Sites.{shifted, start_after, shifted_starts}
 use Rattle.edits.specs.Moves.{Renumbers, Movable, Shifts}
 use Rattle.edits.proofs.Sites.{shifted-low, shifted-high}
@@ -34,36 +28,19 @@ parent-fits from to parent s h = omega (arith, parent-high from to parent h)
 pub ruleset parent-ways = (parent-low, parent-high)
 
 -- ---- one place in the store
-module _ (was is tag start : ℕ) (r : Listed) (e : r ≡ listed_as (known 0 tag)) where
-  pub open_kept : r ≡ Inside → start ≡ start_after was is tag start
-  unfolding start_after opens
-  open_kept q = rw (is-inside (known 0 tag) (sym q ∙ e)).0
-
-  nothing-shut : r ≡ Nothing → opens tag ≡ false
-  unfolding opens
-  nothing-shut q = (is-nothing (known 0 tag) (sym q ∙ e)).0
-
-  value-shut : (k : Kind) → r ≡ Value k → opens tag ≡ false
-  unfolding opens
-  value-shut k q = (is-value (known 0 tag) k (sym q ∙ e)).shut
-
-  shut-moved : opens tag ≡ false → (s : ℕ) → s ≡ start - was + is → s ≡ start_after was is tag start
+module _ (was is tag start : ℕ) (b : Bool) (e : b ≡ opens tag) where
+  pub open_kept : b ≡ true → start ≡ start_after was is tag start
   unfolding start_after
-  shut-moved o s h = rw o h
+  open_kept q = rw (sym e ∙ q)
 
-  pub nothing-moves : r ≡ Nothing → Movable was is tag start → (was ≤ start) × (start - was + is ≤ 65_535)
-  nothing-moves q m = m (nothing-shut q)
+  pub shut-moves : b ≡ false → Movable was is tag start → (was ≤ start) × (start - was + is ≤ 65_535)
+  shut-moves q m = m (sym e ∙ q)
 
-  pub value-moves : (k : Kind) → r ≡ Value k → Movable was is tag start → (was ≤ start) × (start - was + is ≤ 65_535)
-  value-moves k q m = m (value-shut k q)
+  pub shut-moved : b ≡ false → (s : ℕ) → s ≡ start - was + is → s ≡ start_after was is tag start
+  unfolding start_after
+  shut-moved q s h = rw (sym e ∙ q) h
 
-  pub nothing-moved : r ≡ Nothing → (s : ℕ) → s ≡ start - was + is → s ≡ start_after was is tag start
-  nothing-moved q s h = shut-moved (nothing-shut q) s h
-
-  pub value-moved : (k : Kind) → r ≡ Value k → (s : ℕ) → s ≡ start - was + is → s ≡ start_after was is tag start
-  value-moved k q s h = shut-moved (value-shut k q) s h
-
-pub ruleset start-ways = (open_kept, nothing-moves, value-moves, nothing-moved, value-moved)
+pub ruleset start-ways = (open_kept, shut-moves, shut-moved)
 
 -- ---- a part of a list, from its first number on
 pub part-later : (i n : ℕ) (l : List ℕ) (x : ℕ) → between (set l i x) (i + 1) n ≡ between l (i + 1) n
@@ -75,46 +52,23 @@ module _ (from to : ℕ) where
   renumbered first last l = sets l first (map (shifted from to) (between l first last))
 
   pub record Renumbering (first last : ℕ) (before parents : List ℕ) (i : ℕ) : Type 0 where
-    pub low : first ≤ i
-    pub high : i ≤ last
-    pub long : length parents ≡ length before
     pub behind : (k : ℕ) → i ≤ k → get_or parents k 0 ≡ get_or before k 0
     pub holds : sets parents i (map (shifted from to) (between parents i last)) ≡ sets before first (map (shifted from to) (between before first last))
 
   module _ (first last : ℕ) (before : List ℕ) (s : Renumbers first last from to before) where
-    pub renumbering-start : Renumbering first last before before first
-    renumbering-start = record { low = omega arith; high = s.order; long = refl; behind = λ k h. refl; holds = refl }
-
     module _ (parents : List ℕ) (i : ℕ) (m : Renumbering first last before parents i) where
-      pub renumbering-end : last ≤ i → parents ≡ sets before first (map (shifted from to) (between before first last))
-      renumbering-end h =
-          let e : i ≡ last = omega (arith, m.high) in
-          let none : renumbered i last parents ≡ parents =
-          ap (λ k. renumbered i k parents) (sym e) ∙ (ap (λ z. sets parents i (map (shifted from to) z)) (part_none i parents) ∙ sets-none parents i) in
-          sym none ∙ m.holds
-
-      module _ (h : i < last) where
-        pub renumbering-place : i < length parents
-        renumbering-place = omega (arith, m.long, s.inside)
-
-        pub renumbering-small : shifted from to (get_or parents i 0) ≤ 65_535
-        renumbering-small = rw (m.behind i (omega arith)) (s.small i m.low h)
-
-        pub renumbering-next : (v : ℕ) → v ≡ shifted from to (get_or parents i 0) → Renumbering first last before (set parents i v) (i + 1)
-        renumbering-next v e = record {
-          low = omega (arith, m.low);
-          high = omega arith;
-          long = length-set parents i v ∙ m.long;
-          behind = λ k q. get_or-set_other parents i k v 0 (λ z. omega arith) ∙ m.behind k (omega arith);
-          holds =
-              let p = part-first i last parents h (omega (arith, m.long, s.inside)) in
-              let rest = map (shifted from to) (between parents (i + 1) last) in
-              let whole : renumbered i last parents ≡ sets parents i (shifted from to (get_or parents i 0) ∷ rest) = ap (λ b. sets parents i (map (shifted from to) b)) p in
-              ap (λ z. sets (set parents i v) (i + 1) (map (shifted from to) z)) (part-later i last parents v)
-              ∙ (ap (λ k. sets (set parents i v) k rest) (add-one i) ∙ (ap (λ z. sets parents i (z ∷ rest)) e ∙ (sym whole ∙ m.holds)));
-        }
-
-pub ruleset renumbering-ways = (renumbering-start, renumbering-end, renumbering-place, renumbering-small, renumbering-next)
+      pub renumbering-next : i < last → length parents ≡ length before → (v : ℕ) → v ≡ shifted from to (get_or parents i 0)
+          → Renumbering first last before (set parents i v) (i + 1)
+      renumbering-next h long v e = record {
+        behind = λ k q. get_or-set_other parents i k v 0 (λ z. omega arith) ∙ m.behind k (omega arith);
+        holds =
+            let p = part-first i last parents h (omega (arith, long, s.inside)) in
+            let rest = map (shifted from to) (between parents (i + 1) last) in
+            let whole : renumbered i last parents ≡ sets parents i (shifted from to (get_or parents i 0) ∷ rest) =
+            ap (λ b. sets parents i (map (shifted from to) b)) p in
+            ap (λ z. sets (set parents i v) (i + 1) (map (shifted from to) z)) (part-later i last parents v)
+            ∙ (ap (λ k. sets (set parents i v) k rest) (add-one i) ∙ (ap (λ z. sets parents i (z ∷ rest)) e ∙ (sym whole ∙ m.holds)));
+      }
 
 -- ---- the starts, likewise
 module _ (was is : ℕ) (tags : List ℕ) where
@@ -122,51 +76,30 @@ module _ (was is : ℕ) (tags : List ℕ) where
   restarted first last l = sets l first (shifted_starts was is (between tags first last) (between l first last))
 
   pub record Shifting (first last : ℕ) (before starts : List ℕ) (i : ℕ) : Type 0 where
-    pub low : first ≤ i
-    pub high : i ≤ last
-    pub long : length starts ≡ length before
     pub behind : (k : ℕ) → i ≤ k → get_or starts k 0 ≡ get_or before k 0
     pub holds : sets starts i (shifted_starts was is (between tags i last) (between starts i last)) ≡ sets before first (shifted_starts was is (between tags first last) (between before first last))
 
   module _ (first last : ℕ) (before : List ℕ) (s : Shifts first last was is tags before) where
-    pub shifting-start : Shifting first last before before first
-    shifting-start = record { low = omega arith; high = s.order; long = refl; behind = λ k h. refl; holds = refl }
-
     module _ (starts : List ℕ) (i : ℕ) (m : Shifting first last before starts i) where
-      pub shifting-end : last ≤ i → starts ≡ sets before first (shifted_starts was is (between tags first last) (between before first last))
+      pub shifting-end : i ≡ last → starts ≡ sets before first (shifted_starts was is (between tags first last) (between before first last))
       unfolding shifted_starts
-      shifting-end h =
-          let e : i ≡ last = omega (arith, m.high) in
+      shifting-end e =
           let none : restarted i last starts ≡ starts =
           ap (λ k. restarted i k starts) (sym e)
           ∙ (ap (λ z. sets starts i (shifted_starts was is z (between starts i i))) (part_none i tags) ∙ sets-none starts i) in
           sym none ∙ m.holds
 
-      module _ (h : i < last) where
-        pub shifting-tag : i < length tags
-        shifting-tag = omega (arith, s.tagged)
-
-        pub shifting-place : i < length starts
-        shifting-place = omega (arith, m.long, s.inside)
-
-        pub shifting-movable : Movable was is (get_or tags i 0) (get_or starts i 0)
-        shifting-movable o = rw (m.behind i (omega arith)) (s.movable i m.low h o)
-
-        pub shifting-next : (v : ℕ) → v ≡ start_after was is (get_or tags i 0) (get_or starts i 0) → Shifting first last before (set starts i v) (i + 1)
-        unfolding shifted_starts
-        shifting-next v e = record {
-          low = omega (arith, m.low);
-          high = omega arith;
-          long = length-set starts i v ∙ m.long;
-          behind = λ k q. get_or-set_other starts i k v 0 (λ z. omega arith) ∙ m.behind k (omega arith);
-          holds =
-              let t = part-first i last tags h s.tagged in
-              let p = part-first i last starts h (omega (arith, m.long, s.inside)) in
-              let rest = shifted_starts was is (between tags (i + 1) last) (between starts (i + 1) last) in
-              let whole : restarted i last starts ≡ sets starts i (start_after was is (get_or tags i 0) (get_or starts i 0) ∷ rest) =
-              ap₂ (λ a b. sets starts i (shifted_starts was is a b)) t p in
-              ap (λ z. sets (set starts i v) (i + 1) (shifted_starts was is (between tags (i + 1) last) z)) (part-later i last starts v)
-              ∙ (ap (λ k. sets (set starts i v) k rest) (add-one i) ∙ (ap (λ z. sets starts i (z ∷ rest)) e ∙ (sym whole ∙ m.holds)));
-        }
-
-pub ruleset shifting-ways = (shifting-start, shifting-end, shifting-tag, shifting-place, shifting-movable, shifting-next)
+      pub shifting-next : i < last → length starts ≡ length before → (v : ℕ) → v ≡ start_after was is (get_or tags i 0) (get_or starts i 0)
+          → Shifting first last before (set starts i v) (i + 1)
+      unfolding shifted_starts
+      shifting-next h long v e = record {
+        behind = λ k q. get_or-set_other starts i k v 0 (λ z. omega arith) ∙ m.behind k (omega arith);
+        holds =
+            let t = part-first i last tags h s.tagged in
+            let p = part-first i last starts h (omega (arith, long, s.inside)) in
+            let rest = shifted_starts was is (between tags (i + 1) last) (between starts (i + 1) last) in
+            let whole : restarted i last starts ≡ sets starts i (start_after was is (get_or tags i 0) (get_or starts i 0) ∷ rest) =
+            ap₂ (λ a b. sets starts i (shifted_starts was is a b)) t p in
+            ap (λ z. sets (set starts i v) (i + 1) (shifted_starts was is (between tags (i + 1) last) z)) (part-later i last starts v)
+            ∙ (ap (λ k. sets (set starts i v) k rest) (add-one i) ∙ (ap (λ z. sets starts i (z ∷ rest)) e ∙ (sym whole ∙ m.holds)));
+      }

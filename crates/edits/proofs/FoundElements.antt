@@ -24,9 +24,11 @@ use Rattle.survey.specs.declared.Needed.TheVariants.{Takes}
 use Rattle.survey.specs.Measure.{measured_in}
 use Rattle.survey.specs.Survey.{needed_by}
 use Rattle.edits.specs.Tree.{first_tag, without, is_one_item, first_element, element_of}
-use Rattle.edits.specs.declared.inserting.Admission.{Admission}
-use Rattle.edits.specs.declared.inserting.Admission.TheVariants.{Denied, Admitted}
-use Rattle.edits.specs.Insertion.{is_element, as_admitted}
+use Rattle.std.specs.Prelude.{Result, Ok, Err}
+use Rattle.edits.specs.declared.inserting.Admitted.{Admitted}
+use Rattle.edits.specs.declared.EditError.{EditError}
+use Rattle.edits.specs.declared.EditError.TheVariants.{BreaksRule}
+use Rattle.edits.specs.Insertion.{is_element, admitted as as_record, as_admitted}
 use Rattle.edits.proofs.Elements.{later-none, single, child-four}
 
 -- ---- the first item of octets that are one item alone
@@ -90,9 +92,9 @@ module _ (p d : ℕ) (o : List ℕ) where
     pub many : n ≡ count (item tag at body x end)
     pub takes : sizes ≡ measured_in p (item tag at body x end)
 
-  pub data Judgement (j : ℕ) : Admission → Type 0 where
-    denied : element_of c o ≡ none → Judgement j (Denied 16)
-    admitted : (n : ℕ) (sizes : Measured) → Accepted n sizes → Judgement j (Admitted j n sizes)
+  pub data Judgement (j : ℕ) : Result Admitted EditError → Type 0 where
+    denied : element_of c o ≡ none → Judgement j (Err BreaksRule)
+    admitted : (n : ℕ) (sizes : Measured) → Accepted n sizes → Judgement j (Ok (as_record j n sizes))
 
   pub judged : is_element o ≡ true → (j : ℕ) → Judgement j (as_admitted j (needed_by p (judge_inside p d o)))
   unfolding is_element element_of first_element needed_by as_admitted first_tag is_end count without

@@ -27,7 +27,7 @@ use Rattle.edits.specs.Tree.{record_at, first_tag, first_inside, children, is_th
 use Rattle.edits.specs.Tree.Edit.{insert}
 use Rattle.edits.specs.Sites.{Site, top_site, inner, beyond, records_at, Swapped}
 use Rattle.edits.specs.Extents.{deeper, sum_of}
-use Rattle.edits.specs.declared.inserting.Child.TheVariants.{Nowhere}
+use Rattle.std.specs.Prelude.{None}
 use Rattle.edits.specs.Insertion.{found_at, child_from, child_behind, child_of, tag_there, comes_between}
 use Rattle.edits.proofs.Swaps.{Plain, ruled-plain, swapped-plain, swapped-rules}
 use Rattle.edits.proofs.Sites.{record_here, records-here}
@@ -176,7 +176,7 @@ module _ (n : ℕ) (m : Memory) (t : Items) (held : Held n m t) (i k : ℕ) (f :
         let b = (split (λ r. r.depth) m.lists.depths (λ j. refl) (enough n m t held).depths).1 in
         (λ z. child_from (own-depth z) k (suc (sym number z)) (a z) (b z)) ∙ p.finds d refl plain.2 tags' depths' stops
 
-    pub child-found : child_of n i k m.lists.tags m.lists.depths ≡ cond (opens g.tag) (found_at p.lacks p.site.number) Nowhere
+    pub child-found : child_of n i k m.lists.tags m.lists.depths ≡ cond (opens g.tag) (found_at p.lacks p.site.number) None
     unfolding child_of
     child-found = rw (lt-ltb i n in-lists, own-tag, found)
 

@@ -8,6 +8,7 @@ use native.Mathlib.Omega.{arith}
 use lib.Dec.{eqb, leb}
 use lib.ListN.{length, get_or}
 use borrow.Author.Tests.{not-true, not-false, eq-eqb, ne_eqb, leb-false, le-leb, lt-leb, lt-ltb, le-ltb}
+use Rattle.std.specs.Prelude.{Option, Some, None, Result, Ok, Err}
 use Rattle.octets.specs.Header.{header_size, body_size}
 use Rattle.octets.specs.declared.Lies.{Lies}
 use Rattle.octets.specs.declared.Lies.TheVariants.{Outside, Between}
@@ -23,12 +24,12 @@ use Rattle.survey.specs.declared.measure.Measured.{Measured}
 use Rattle.survey.specs.declared.Needed.{Needed}
 use Rattle.survey.specs.declared.Needed.TheVariants.{Refused as Broken, Takes}
 use Rattle.survey.specs.Survey.{needed_by}
-use Rattle.edits.specs.declared.inserting.Child.{Child}
-use Rattle.edits.specs.declared.inserting.Child.TheVariants.{Nowhere, Before}
-use Rattle.edits.specs.declared.inserting.Admission.{Admission}
-use Rattle.edits.specs.declared.inserting.Admission.TheVariants.{Denied, Admitted}
+use Rattle.edits.specs.declared.inserting.Admitted.{Admitted}
+use Rattle.edits.specs.declared.EditError.{EditError}
+use Rattle.edits.specs.declared.EditError.TheVariants.{NoPlace, BreaksRule}
 use Rattle.edits.specs.Tree.{is_one_item}
-use Rattle.edits.specs.Insertion.{counts_at, stops_at, left_after, found_at, child_from, child_behind, child_of, tag_there, comes_between, is_element, as_admitted, admitted_at, admitted_by, admission}
+use Rattle.edits.specs.Insertion.{counts_at, stops_at, left_after, found_at, child_from, child_behind, child_of}
+use Rattle.edits.specs.Insertion.{tag_there, comes_between, is_element, admitted, as_admitted, admitted_at, admitted_by, admission}
 
 -- ---- is_child
 module _ (tag : ℕ) (a : Bool) (e : a ≡ attribute tag) where
@@ -102,11 +103,11 @@ pub ruleset stops-ways = (stops-high, stops-none, stops-here, stops-cdata)
 pub ruleset left-ways = (left-none, left-fewer, left-same)
 
 -- ---- found_at
-pub found_here : (k j : ℕ) → k ≡ 0 → Before j ≡ found_at k j
+pub found_here : (k j : ℕ) → k ≡ 0 → Some j ≡ found_at k j
 unfolding found_at
 found_here k j z = rw (eq-eqb k 0 z)
 
-pub found_nowhere : (k j : ℕ) → (k ≡ 0 → ⊥) → Nowhere ≡ found_at k j
+pub found_nowhere : (k j : ℕ) → (k ≡ 0 → ⊥) → None ≡ found_at k j
 unfolding found_at
 found_nowhere k j z = rw (ne_eqb k 0 z)
 
@@ -114,21 +115,18 @@ pub ruleset found-ways = (found_here, found_nowhere)
 
 -- ---- child_behind: what is found from record j on is what was to be found
 pub record Walking (n i k : ℕ) (tags depths : List ℕ) (left j : ℕ) : Type 0 where
-  pub low : i < j
-  pub high : j ≤ n
   pub holds : child_from (get_or depths i 0) left j (between tags j n) (between depths j n) ≡ child_behind n i k tags depths
 
 module _ (n i k : ℕ) (tags depths : List ℕ) (asks : (i < n) × (n ≤ length tags) × (n ≤ length depths)) where
   pub walking_start : Walking n i k tags depths k (i + 1)
-  walking_start = record { low = omega arith; high = omega (arith, asks.0); holds = rw (add-one i) }
+  walking_start = record { holds = rw (add-one i) }
 
   module _ (left j : ℕ) (w : Walking n i k tags depths left j) where
-    pub walking-end : n ≤ j → (r : Child) → r ≡ found_at left j → r ≡ child_behind n i k tags depths
+    pub walking-end : j ≡ n → (r : Option ℕ) → r ≡ found_at left n → r ≡ child_behind n i k tags depths
     unfolding child_from
-    walking-end h r e =
-        let z : n ≡ j = omega (arith, w.high) in
-        let none : between tags j n ≡ [] = ap (λ x. between tags j x) z ∙ part_none j tags in
-        e ∙ (sym (ap (λ x. child_from (get_or depths i 0) left j x (between depths j n)) none) ∙ w.holds)
+    walking-end z r e =
+        let none : between tags j n ≡ [] = ap (λ x. between tags j x) (sym z) ∙ part_none j tags in
+        e ∙ ap (found_at left) (sym z) ∙ (sym (ap (λ x. child_from (get_or depths i 0) left j x (between depths j n)) none) ∙ w.holds)
 
     module _ (h : j < n) where
       first-record : child_from (get_or depths i 0) left j (between tags j n) (between depths j n)
@@ -138,13 +136,11 @@ module _ (n i k : ℕ) (tags depths : List ℕ) (asks : (i < n) × (n ≤ length
       first-record = ap₂ (child_from (get_or depths i 0) left j) (part-first j n tags h asks.1) (part-first j n depths h asks.2)
 
       module _ (s : Bool) (e : s ≡ stops_at (get_or depths i 0) (get_or depths j 0) (get_or tags j 0) left) where
-        pub walking-stop : s ≡ true → (r : Child) → r ≡ found_at left j → r ≡ child_behind n i k tags depths
+        pub walking-stop : s ≡ true → (r : Option ℕ) → r ≡ found_at left j → r ≡ child_behind n i k tags depths
         walking-stop q r f = f ∙ (sym (first-record ∙ rw (sym e ∙ q)) ∙ w.holds)
 
         pub walking-next : s ≡ false → (left' : ℕ) → left' ≡ left_after (get_or depths i 0) (get_or depths j 0) (get_or tags j 0) left → Walking n i k tags depths left' (j + 1)
         walking-next q left' f = record {
-          low = omega (arith, w.low);
-          high = omega arith;
           holds = ap₂ (λ x y. child_from (get_or depths i 0) x y (between tags (j + 1) n) (between depths (j + 1) n)) f (add-one j) ∙ (sym (first-record ∙ rw (sym e ∙ q)) ∙ w.holds);
         }
 
@@ -152,16 +148,16 @@ pub ruleset walking-ways = (walking_start, walking-end, walking-stop, walking-ne
 
 -- ---- child_of
 module _ (n i k : ℕ) (tags depths : List ℕ) where
-  pub of_none : n ≤ i → Nowhere ≡ child_of n i k tags depths
+  pub of_none : n ≤ i → None ≡ child_of n i k tags depths
   unfolding child_of
   of_none h = rw (le-ltb i n h)
 
   module _ (h : i < n) (b : Bool) (e : b ≡ opens (get_or tags i 0)) where
-    pub of-shut : not b ≡ true → Nowhere ≡ child_of n i k tags depths
+    pub of-shut : not b ≡ true → None ≡ child_of n i k tags depths
     unfolding child_of
     of-shut q = rw (lt-ltb i n h, sym e ∙ not-true b q)
 
-    pub of-open : not b ≡ false → (r : Child) → r ≡ child_behind n i k tags depths → r ≡ child_of n i k tags depths
+    pub of-open : not b ≡ false → (r : Option ℕ) → r ≡ child_behind n i k tags depths → r ≡ child_of n i k tags depths
     unfolding child_of
     of-open q r f = f ∙ rw (lt-ltb i n h, sym e ∙ not-false b q)
 
@@ -244,12 +240,12 @@ pub ruleset element-ways = (element-none, element-child)
 
 -- ---- admitted_at
 module _ (j k later tag depth : ℕ) (o : List ℕ) (a : Bool) (ae : a ≡ is_element o) where
-  pub admits-none : not a ≡ true → Denied 16 ≡ admitted_at j k later tag depth o
+  pub admits-none : not a ≡ true → Err BreaksRule ≡ admitted_at j k later tag depth o
   unfolding admitted_at
   admits-none q = rw (sym ae ∙ not-true a q)
 
   module _ (q : not a ≡ false) (own : ℕ) (oe : own ≡ get_or o 0 0) (b : Bool) (be : b ≡ comes_between k own later) where
-    pub admits-order : not b ≡ true → Denied 16 ≡ admitted_at j k later tag depth o
+    pub admits-order : not b ≡ true → Err BreaksRule ≡ admitted_at j k later tag depth o
     unfolding admitted_at
     admits-order z = rw (sym ae ∙ not-false a q, ap (λ x. comes_between k x later) (sym oe) ∙ (sym be ∙ not-true b z))
 
@@ -258,33 +254,34 @@ module _ (j k later tag depth : ℕ) (o : List ℕ) (a : Bool) (ae : a ≡ is_el
       unfolding admitted_at
       by-needs = rw (sym ae ∙ not-false a q, ap (λ x. comes_between k x later) (sym oe) ∙ (sym be ∙ not-false b z)) (ap (as_admitted j) re)
 
-      pub admits-broken : (x : Refusal) → r ≡ Broken x → Denied 16 ≡ admitted_at j k later tag depth o
+      pub admits-broken : (x : Refusal) → r ≡ Broken x → Err BreaksRule ≡ admitted_at j k later tag depth o
       unfolding as_admitted
       admits-broken x f = sym (ap (as_admitted j) f) ∙ by-needs
 
       module _ (c : ℕ) (m : Measured) (f : r ≡ Takes c m) where
-        pub admits-unknown : c ≡ 0 → Denied 16 ≡ admitted_at j k later tag depth o
+        pub admits-unknown : c ≡ 0 → Err BreaksRule ≡ admitted_at j k later tag depth o
         unfolding as_admitted
         admits-unknown y = sym (ap (λ n. as_admitted j (Takes n m)) y) ∙ (sym (ap (as_admitted j) f) ∙ by-needs)
 
-        pub admits-it : (c ≡ 0 → ⊥) → Admitted j c m ≡ admitted_at j k later tag depth o
+        pub admits-it : (c ≡ 0 → ⊥) → Ok (admitted j c m) ≡ admitted_at j k later tag depth o
         unfolding as_admitted
         admits-it y = known-one c y ∙ (sym (ap (as_admitted j) f) ∙ by-needs)
           where
-            known-one : (n : ℕ) → (n ≡ 0 → ⊥) → Admitted j n m ≡ as_admitted j (Takes n m)
+            known-one : (n : ℕ) → (n ≡ 0 → ⊥) → Ok (admitted j n m) ≡ as_admitted j (Takes n m)
             known-one zero z = absurd (z refl)
             known-one (suc n) z = refl
 
 pub ruleset admits-ways = (admits-none, admits-order, admits-broken, admits-unknown, admits-it)
 
 -- ---- admit
-module _ (n i k : ℕ) (o tags depths : List ℕ) (c : Child) (ce : c ≡ child_of n i k tags depths) where
-  pub admit-nowhere : c ≡ Nowhere → Denied 18 ≡ admission n i k o tags depths
+module _ (n i k : ℕ) (o tags depths : List ℕ) (c : Option ℕ) (ce : c ≡ child_of n i k tags depths) where
+  pub admit-nowhere : c ≡ None → Err NoPlace ≡ admission n i k o tags depths
   unfolding admitted_by
   admit-nowhere q = sym (ap (admitted_by n i k o tags depths) (sym ce ∙ q))
 
-  pub admit-before : (j : ℕ) → c ≡ Before j → (depth : ℕ) → depth ≡ get_or depths i 0 → (later : ℕ) → later ≡ tag_there n j depth tags depths → (tag : ℕ) → tag ≡ get_or tags i 0
-      → (r : Admission) → r ≡ admitted_at j k later tag depth o → r ≡ admission n i k o tags depths
+  pub admit-before : (j : ℕ) → c ≡ Some j → (depth : ℕ) → depth ≡ get_or depths i 0 → (later : ℕ) → later ≡ tag_there n j depth tags depths → (tag : ℕ)
+      → tag ≡ get_or tags i 0
+      → (r : Result Admitted EditError) → r ≡ admitted_at j k later tag depth o → r ≡ admission n i k o tags depths
   unfolding admitted_by
   admit-before j q depth d later l tag t r f =
       let l' : later ≡ tag_there n j (get_or depths i 0) tags depths = l ∙ ap (λ x. tag_there n j x tags depths) d in

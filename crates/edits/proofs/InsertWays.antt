@@ -1,13 +1,13 @@
 -- The ways through measuring whether an element fits, through the plan of inserting, and through the call.
 use mathlib.Core.Path.{◌≡◌, refl, sym, ap, ◌∙◌, subst}
-use mathlib.Core.Bool.{Bool, true, false, and-false}
+use mathlib.Core.Bool.{Bool, true, false, not, and-false}
 use mathlib.Core.Option.{Option, none, some}
 use mathlib.Core.List.{List}
 use Prim.Native.Nat.{ℕ, ◌+◌, ◌-◌, ◌≤◌, ◌<◌, min}
 use native.Mathlib.Omega.{arith}
 use lib.Dec.{leb}
 use lib.ListN.{length, take, drop, get_or}
-use borrow.Author.Tests.{leb-true, leb-false, le-leb, lt-leb}
+use borrow.Author.Tests.{le-leb, lt-leb, not-true}
 use Rattle.octets.specs.declared.counts.Octets.{Octets as OctetCount}
 use Rattle.octets.specs.Counts.{as_octets}
 use Rattle.octets.specs.Numbers.{Octets}
@@ -16,7 +16,6 @@ use Rattle.text.specs.Tokens.{entries}
 use Rattle.judge.proofs.AllWays.{no-entries}
 use Rattle.format.specs.declared.EditAnswer.{EditAnswer}
 use Rattle.format.specs.declared.EditAnswer.TheVariants.{HasRecords, NotChanged}
-use Rattle.format.specs.Answers.{refusal}
 use Rattle.format.specs.Tree.{Items}
 use Rattle.format.specs.Judge.{rule, unless}
 use Rattle.format.specs.Judge.Judged.{refused, accepted}
@@ -30,21 +29,20 @@ use Rattle.state.specs.declared.Filled.TheVariants.{Apart, Upto}
 use Rattle.state.specs.Order.{held_as}
 use Rattle.state.specs.Taking.{left}
 use Rattle.edits.specs.declared.resite.Gap.{Gap}
-use Rattle.edits.specs.declared.inserting.Child.{Child}
-use Rattle.edits.specs.declared.inserting.Child.TheVariants.{Nowhere, Before}
-use Rattle.edits.specs.declared.inserting.Admission.{Admission}
-use Rattle.edits.specs.declared.inserting.Admission.TheVariants.{Denied, Admitted}
-use Rattle.edits.specs.declared.inserting.Insertion.{Insertion}
-use Rattle.edits.specs.declared.inserting.Insertion.TheVariants.{Refused, Opens}
+use Rattle.std.specs.Prelude.{Option as Optional, Some, None, Result, Ok, Err}
+use Rattle.edits.specs.declared.inserting.Admitted.{Admitted}
+use Rattle.edits.specs.declared.EditError.{EditError}
+use Rattle.edits.specs.declared.EditError.TheVariants.{NoTree, NoPlace, BreaksRule, NoRecords, NoRoom}
+use Rattle.edits.specs.Errors.{refusal_of}
 use Rattle.edits.specs.Tree.Edit.{insert}
 use Rattle.edits.specs.Calls.{edited_in, EditClaim}
 use Rattle.edits.specs.Extents.{sum_of}
 use Rattle.edits.specs.Sizes.{Climbs}
-use Rattle.edits.specs.Insertion.{child_of, tag_there, admitted_at, admitted_by, admission, top_then, gap_for, opened_by, fitted_by, insertion_in, insertion_of, SmallSizes, Fittable, level_of, begun, PutsIn, PutIn}
+use Rattle.edits.specs.Insertion.{child_of, tag_there, admitted, admitted_at, admitted_by, admission, top_then, gap_for, opened_by}
+use Rattle.edits.specs.Insertion.{fitted_by, insertion_in, insertion_of, SmallSizes, Fittable, level_of, begun, PutsIn, PutIn}
 use Rattle.edits.specs.Resites.{Resited}
 use Rattle.edits.specs.declared.lay.Laid.{Laid}
 use Rattle.edits.specs.Lay.{ItemsLayable, ItemsLay}
-use Rattle.edits.proofs.Climbing.{framed-more}
 use Rattle.edits.proofs.Inserted.{there-nowhere, Verdict, verdict, Ready}
 use Rattle.edits.proofs.Inserted.Verdict.{breaks, stands}
 use Rattle.octets.proofs.Tests.{never}
@@ -59,7 +57,14 @@ unfolding places_in places
 sizes-long m = omega arith
 
 -- ---- fit
-module _ (n used i j c : ℕ) (takes : Measured) (m : Memory) (f : Fittable n used i j takes m) (there : ℕ) (te : there ≡ min (places m.lists) (length m.bodies)) where
+module _ (n used i : ℕ) (it : Admitted) (m : Memory) (f : Fittable n used i it m) (there : ℕ)
+    (te : there ≡ min (places m.lists) (length m.bodies)) where
+  abbrev j : ℕ
+  j = it.next
+
+  abbrev c : ℕ
+  c = it.records
+
   there-is : there ≡ places_in m
   unfolding places_in
   there-is = te
@@ -67,104 +72,95 @@ module _ (n used i j c : ℕ) (takes : Measured) (m : Memory) (f : Fittable n us
   pub fit-order : n ≤ there
   fit-order = omega (arith, there-is, f.all)
 
-  pub fit-full : there - n < c → Refused 14 ≡ fitted_by n used i m (Admitted j c takes)
+  pub fit-full : there - n < c → Err NoRecords ≡ fitted_by n used i m (Ok it)
   unfolding fitted_by
   fit-full h = rw (lt-leb (n + c) (places_in m) (omega (arith, there-is, f.all)))
 
   module _ (h : c ≤ there - n) where
-    by-sizes : opened_by n used i j c m takes ≡ fitted_by n used i m (Admitted j c takes)
+    by-sizes : opened_by n used i j c m it.sizes ≡ fitted_by n used i m (Ok it)
     unfolding fitted_by
     by-sizes = rw (le-leb (n + c) (places_in m) (omega (arith, there-is, f.all)))
 
     pub fit_next : j + c ≤ there
     fit_next = omega (arith, fit-order, f.low)
 
-    pub fit-over : takes ≡ Over → Refused 15 ≡ fitted_by n used i m (Admitted j c takes)
+    pub fit-over : it.sizes ≡ Over → Err NoRoom ≡ fitted_by n used i m (Ok it)
     unfolding opened_by
     fit-over q = sym (ap (opened_by n used i j c m) q) ∙ by-sizes
 
-    module _ (s a : OctetCount) (q : takes ≡ Sizes s a) where
+    module _ (s a : OctetCount) (q : it.sizes ≡ Sizes s a) where
       pub fit-store-order : used ≤ length m.store
       fit-store-order = f.filled
 
-      pub fit-store : length m.store - used < s.0 → Refused 15 ≡ fitted_by n used i m (Admitted j c takes)
+      pub fit-store : length m.store - used < s.0 → Err NoRoom ≡ fitted_by n used i m (Ok it)
       unfolding opened_by
       fit-store l = rw (← by-sizes, q, lt-leb (used + s.0) (length m.store) (omega (arith, f.filled)))
 
       pub fit-asks : Climbs m.lists.parents m.bodies i 0 × (a.0 < 65_536)
       fit-asks = let w : (a.0 ≤ 32_768) × (s.0 ≤ 32_770) = subst SmallSizes q f.small in (f.climbs, omega (arith, w.0))
 
-      module _ (l : s.0 ≤ length m.store - used) (top : OctetCount) (pe : top.0 ≡ min 32_769 (top_then i a.0 m)) where
-        module _ (r : OctetCount) (re : r.0 ≡ framed_size top.0) where
-          pub fit-large : 32_768 < r.0 → Refused 15 ≡ fitted_by n used i m (Admitted j c takes)
-          unfolding opened_by
-          fit-large z =
-              let w : leb (framed_size (top_then i a.0 m)) 32_768 ≡ false = lt-leb (framed_size (top_then i a.0 m)) 32_768 (large (leb (top_then i a.0 m) 32_769) refl) in
-              rw (← by-sizes, q, w, and-false (leb (used + s.0) (length m.store)))
+      module _ (l : s.0 ≤ length m.store - used) (r : Bool) (re : r ≡ leb (framed_size (top_then i a.0 m)) 32_768) where
+        pub fit-large : not r ≡ true → Err NoRoom ≡ fitted_by n used i m (Ok it)
+        unfolding opened_by
+        fit-large z =
+            let w : leb (framed_size (top_then i a.0 m)) 32_768 ≡ false = sym re ∙ not-true r z in
+            rw (← by-sizes, q, w, and-false (leb (used + s.0) (length m.store)))
+
+        module _ (z : r ≡ true) where
+          pub fit-sum : (0 ≤ j) × (j ≤ length m.lists.sizes) × (sum_of (between m.lists.sizes 0 j) ≤ 65_535)
+          fit-sum = (omega arith, long f.low f.all (sizes-long m), f.place)
             where
-              large : (b : Bool) → leb (top_then i a.0 m) 32_769 ≡ b → 32_768 < framed_size (top_then i a.0 m)
-              large true e =
-                  let same : top.0 ≡ top_then i a.0 m = omega (arith, leb-true (top_then i a.0 m) 32_769 e) in
-                  omega (arith, ap framed_size same)
-              large false e = omega (arith, leb-false (top_then i a.0 m) 32_769 e, framed-more (top_then i a.0 m))
+              long : j ≤ n → n ≤ places_in m → places_in m ≤ length m.lists.sizes → j ≤ length m.lists.sizes
+              long a b d = omega arith
 
-          module _ (z : r.0 ≤ 32_768) where
-            top-is : top.0 ≡ top_then i a.0 m
-            top-is = omega (arith, framed-more top.0)
+          pub fit-place : (place : OctetCount) → place.0 ≡ sum_of (between m.lists.sizes 0 j) → place.0 + s.0 ≤ 98_305
+          fit-place place e = let w : (a.0 ≤ 32_768) × (s.0 ≤ 32_770) = subst SmallSizes q f.small in omega (arith, f.place, w.1)
 
-            pub fit-sum : (0 ≤ j) × (j ≤ length m.lists.sizes) × (sum_of (between m.lists.sizes 0 j) ≤ 65_535)
-            fit-sum = (omega arith, long f.low f.all (sizes-long m), f.place)
-              where
-                long : j ≤ n → n ≤ places_in m → places_in m ≤ length m.lists.sizes → j ≤ length m.lists.sizes
-                long a b d = omega arith
-
-            pub fit-place : (place : OctetCount) → place.0 ≡ sum_of (between m.lists.sizes 0 j) → place.0 + s.0 ≤ 98_305
-            fit-place place e = let w : (a.0 ≤ 32_768) × (s.0 ≤ 32_770) = subst SmallSizes q f.small in omega (arith, f.place, w.1)
-
-            pub fit-opens : (place : OctetCount) → place.0 ≡ sum_of (between m.lists.sizes 0 j)
-                → Opens (record {
-                  records = record { from = j; end = n; to = j + c };
-                  octets = record { from = place.0; end = used; to = place.0 + s.0 };
-                  element = i;
-                  was = as_octets 0;
-                  is = a;
-                }) ≡ fitted_by n used i m (Admitted j c takes)
-            unfolding opened_by gap_for
-            fit-opens place e =
-                let u : leb (used + s.0) (length m.store) ≡ true = le-leb (used + s.0) (length m.store) (omega (arith, f.filled)) in
-                let v : leb (framed_size (top_then i a.0 m)) 32_768 ≡ true = le-leb (framed_size (top_then i a.0 m)) 32_768 (omega (arith, ap framed_size top-is)) in
-                rw (← by-sizes, q, u, v)
-                (λ y. Opens (record {
-                  records = record { from = j; end = n; to = j + c };
-                  octets = record { from = e y; end = used; to = e y + s.0 };
-                  element = i;
-                  was = as_octets 0;
-                  is = a;
-                }))
+          pub fit-opens : (place : OctetCount) → place.0 ≡ sum_of (between m.lists.sizes 0 j)
+              → Ok (record {
+                records = record { from = j; end = n; to = j + c };
+                octets = record { from = place.0; end = used; to = place.0 + s.0 };
+                element = i;
+                was = as_octets 0;
+                is = a;
+              }) ≡ fitted_by n used i m (Ok it)
+          unfolding opened_by gap_for
+          fit-opens place e =
+              let u : leb (used + s.0) (length m.store) ≡ true = le-leb (used + s.0) (length m.store) (omega (arith, f.filled)) in
+              let v : leb (framed_size (top_then i a.0 m)) 32_768 ≡ true = sym re ∙ z in
+              rw (← by-sizes, q, u, v)
+              (λ y. Ok (record {
+                records = record { from = j; end = n; to = j + c };
+                octets = record { from = e y; end = used; to = e y + s.0 };
+                element = i;
+                was = as_octets 0;
+                is = a;
+              }))
 
 pub ruleset fit-ways = (fit-order, fit-full, fit-over, fit-store-order, fit-store, fit-asks, fit-large, fit-sum, fit-opens)
 
 -- ---- how putting in ends
 module _ (n i k : ℕ) (o : List ℕ) (m : Memory) where
   abbrev Found : ℕ → Type 0
-  Found j = child_of n i k m.lists.tags m.lists.depths ≡ Before j
+  Found j = child_of n i k m.lists.tags m.lists.depths ≡ Some j
 
   -- what is said of the octets, in a tree that memory holds
-  data Says (t : Items) (holds : tree_held n m ≡ some t) : Admission → Type 0 where
-    denies : (z : ℕ) → edited_in m (insert i k o) (some t) ≡ refused (refusal z 0) → Says t holds (Denied z)
-    admits : (j : ℕ) (found : Found j) (c : ℕ) (sizes : Measured) → Ready n i k m t holds o j found c sizes → Says t holds (Admitted j c sizes)
+  data Says (t : Items) (holds : tree_held n m ≡ some t) : Result Admitted EditError → Type 0 where
+    denies : (z : EditError) → edited_in m (insert i k o) (some t) ≡ refused (refusal_of z) → Says t holds (Err z)
+    admits : (j : ℕ) (found : Found j) (c : ℕ) (sizes : Measured) → Ready n i k m t holds o j found c sizes → Says t holds (Ok (admitted j c sizes))
 
   says : (t : Items) (holds : tree_held n m ≡ some t) → Octets o → Says t holds (admission n i k o m.lists.tags m.lists.depths)
   unfolding admitted_by edited_in rule unless
   says t holds bo = go (child_of n i k m.lists.tags m.lists.depths) refl
     where
-      by : (j : ℕ) (found : Found j) (a : Admission) → Verdict n i k m t holds o j found a → Says t holds a
-      by j found a (breaks e) = denies 16 e
+      by : (j : ℕ) (found : Found j) (a : Result Admitted EditError) → Verdict n i k m t holds o j found a → Says t holds a
+      by j found a (breaks e) = denies BreaksRule e
       by j found a (stands c sizes r) = admits j found c sizes r
 
-      go : (x : Child) → child_of n i k m.lists.tags m.lists.depths ≡ x → Says t holds (admitted_by n i k o m.lists.tags m.lists.depths x)
-      go Nowhere e = denies 18 (rw (there-nowhere n i k m t holds o e))
-      go (Before j) e = by j e (admitted_at j k (tag_there n j (get_or m.lists.depths i 0) m.lists.tags m.lists.depths) (get_or m.lists.tags i 0) (get_or m.lists.depths i 0) o) (verdict n i k m t holds o j e bo)
+      go : (x : Optional ℕ) → child_of n i k m.lists.tags m.lists.depths ≡ x → Says t holds (admitted_by n i k o m.lists.tags m.lists.depths x)
+      go None e = denies NoPlace (rw (there-nowhere n i k m t holds o e))
+      go (Some j) e = by j e (admitted_at j k (tag_there n j (get_or m.lists.depths i 0) m.lists.tags m.lists.depths) (get_or m.lists.tags i 0)
+          (get_or m.lists.depths i 0) o) (verdict n i k m t holds o j e bo)
 
   -- an element that goes in
   pub record Going (os : Octets m.store) (bo : Octets o) (g : Gap) : Type 0 where
@@ -180,16 +176,16 @@ module _ (n i k : ℕ) (o : List ℕ) (m : Memory) where
     pub room : Room n i k m tree holds os o bo next found records sizes ready stored octets
     pub is : g ≡ gap_for n (length (packed_store tree)) i next records stored octets m.lists.sizes
 
-  pub data Ends (os : Octets m.store) (bo : Octets o) : Insertion → Type 0 where
-    refused-so : (z : ℕ) → edited_in m (insert i k o) (tree_held n m) ≡ refused (refusal z 0) → Ends os bo (Refused z)
-    going : (g : Gap) → Going os bo g → Ends os bo (Opens g)
+  pub data Ends (os : Octets m.store) (bo : Octets o) : Result Gap EditError → Type 0 where
+    refused-so : (z : EditError) → edited_in m (insert i k o) (tree_held n m) ≡ refused (refusal_of z) → Ends os bo (Err z)
+    going : (g : Gap) → Going os bo g → Ends os bo (Ok g)
 
   pub insertion-ends : (os : Octets m.store) (bo : Octets o) → Ends os bo (insertion_of n i k o m)
   unfolding insertion_in held_as fitted_by edited_in
   insertion-ends os bo = go (tree_held n m) refl
     where
       fit-ends : (t : Items) (holds : tree_held n m ≡ some t) (j : ℕ) (found : Found j) (c : ℕ) (sizes : Measured) (ready : Ready n i k m t holds o j found c sizes)
-          → (x : Insertion) → Fit n i k m t holds os o bo j found c sizes ready x → Ends os bo x
+          → (x : Result Gap EditError) → Fit n i k m t holds os o bo j found c sizes ready x → Ends os bo x
       fit-ends t holds j found c sizes ready x (refuses z e) = refused-so z (ap (edited_in m (insert i k o)) holds ∙ e)
       fit-ends t holds j found c sizes ready x (goes_in s a r) = going (gap_for n (length (packed_store t)) i j c s a m.lists.sizes) (record {
         tree = t;
@@ -205,13 +201,15 @@ module _ (n i k : ℕ) (o : List ℕ) (m : Memory) where
         is = refl;
       })
 
-      by : (t : Items) (holds : tree_held n m ≡ some t) (a : Admission) → Says t holds a → Ends os bo (fitted_by n (length (packed_store t)) i m a)
+      by : (t : Items) (holds : tree_held n m ≡ some t) (a : Result Admitted EditError) → Says t holds a
+          → Ends os bo (fitted_by n (length (packed_store t)) i m a)
       by t holds a (denies z e) = refused-so z (ap (edited_in m (insert i k o)) holds ∙ e)
       by t holds a (admits j found c sizes ready) =
-          fit-ends t holds j found c sizes ready (fitted_by n (length (packed_store t)) i m (Admitted j c sizes)) (fits n i k m t holds os o bo j found c sizes ready)
+          fit-ends t holds j found c sizes ready (fitted_by n (length (packed_store t)) i m (Ok (admitted j c sizes)))
+          (fits n i k m t holds os o bo j found c sizes ready)
 
       go : (x : Option Items) → tree_held n m ≡ x → Ends os bo (insertion_in n i k o m (held_as x))
-      go none e = refused-so 16 (ap (edited_in m (insert i k o)) e)
+      go none e = refused-so NoTree (ap (edited_in m (insert i k o)) e)
       go (some t) e = by t e (admission n i k o m.lists.tags m.lists.depths) (says t e bo)
 
 -- ---- plan
@@ -222,7 +220,7 @@ plan-asks n m x e used q =
     (k.tags, k.depths)
 
 module _ (n i k : ℕ) (o : List ℕ) (m : Memory) (x : Filled) (e : x ≡ held_as (tree_held n m)) where
-  pub plan-none : x ≡ Apart → Refused 16 ≡ insertion_of n i k o m
+  pub plan-none : x ≡ Apart → Err NoTree ≡ insertion_of n i k o m
   unfolding insertion_in
   plan-none q = sym (ap (insertion_in n i k o m) (sym e ∙ q))
 
@@ -230,25 +228,23 @@ module _ (n i k : ℕ) (o : List ℕ) (m : Memory) (x : Filled) (e : x ≡ held_
     in_memory : (t : Items) × (tree_held n m ≡ some t) × (length (packed_store t) ≡ used)
     in_memory = held-as (tree_held n m) used (sym e ∙ q)
 
-    module _ (a : Admission) (ae : a ≡ admission n i k o m.lists.tags m.lists.depths) where
-      pub plan-denied : (z : ℕ) → a ≡ Denied z → Refused z ≡ insertion_of n i k o m
+    module _ (a : Result Admitted EditError) (ae : a ≡ admission n i k o m.lists.tags m.lists.depths) where
+      pub plan-denied : (z : EditError) → a ≡ Err z → Err z ≡ insertion_of n i k o m
       unfolding insertion_in fitted_by
       plan-denied z d = sym (ap (insertion_in n i k o m) (sym e ∙ q) ∙ ap (fitted_by n used i m) (sym ae ∙ d))
 
-      module _ (j c : ℕ) (sizes : Measured) (d : a ≡ Admitted j c sizes) where
-        pub plan-fit-asks : Octets m.store → Octets o → Fittable n used i j sizes m
+      module _ (it : Admitted) (d : a ≡ Ok it) where
+        pub plan-fit-asks : Octets m.store → Octets o → Fittable n used i it m
         plan-fit-asks os bo = by (admission n i k o m.lists.tags m.lists.depths) (says n i k o m in_memory.0 in_memory.1 bo) (sym ae ∙ d)
           where
-            by : (z : Admission) → Says n i k o m in_memory.0 in_memory.1 z → z ≡ Admitted j c sizes → Fittable n used i j sizes m
+            by : (z : Result Admitted EditError) → Says n i k o m in_memory.0 in_memory.1 z → z ≡ Ok it → Fittable n used i it m
             by z (denies w f) g = never (cc)
-            by z (admits j₁ found c₁ sizes₁ ready) g =
-                let je : j₁ ≡ j = cc in
-                let se : sizes₁ ≡ sizes = cc in
-                let f = can-fit n i k m in_memory.0 in_memory.1 os o bo j₁ found c₁ sizes₁ ready in
-                subst (λ u. Fittable n u i j sizes m) in_memory.2 (subst (λ u. Fittable n (length (packed_store in_memory.0)) i u sizes m) je
-                (subst (λ u. Fittable n (length (packed_store in_memory.0)) i j₁ u m) se f))
+            by z (admits j found c sizes ready) g =
+                let same : admitted j c sizes ≡ it = cc in
+                let f = can-fit n i k m in_memory.0 in_memory.1 os o bo j found c sizes ready in
+                subst (λ u. Fittable n u i it m) in_memory.2 (subst (λ z. Fittable n (length (packed_store in_memory.0)) i z m) same f)
 
-        pub plan-fits : (r : Insertion) → r ≡ fitted_by n used i m (Admitted j c sizes) → r ≡ insertion_of n i k o m
+        pub plan-fits : (r : Result Gap EditError) → r ≡ fitted_by n used i m (Ok it) → r ≡ insertion_of n i k o m
         unfolding insertion_in
         plan-fits r f = f ∙ sym (ap (insertion_in n i k o m) (sym e ∙ q) ∙ ap (fitted_by n used i m) (sym ae ∙ d))
 
@@ -261,22 +257,22 @@ module _ (g : Gap) (i : ℕ) (o : List ℕ) (m : Memory) where
   put-leaves m₁ m' r a b = record { between-both = m₁; opened = a; end = r; laid = rw (no-entries o) at b }
 
 -- ---- insert
-module _ (n i k : ℕ) (o : List ℕ) (m : Memory) (os : Octets m.store) (bo : Octets o) (r : Insertion) (e : r ≡ insertion_of n i k o m) where
-  pub refused-leaves : (z : ℕ) → r ≡ Refused z → (answer : EditAnswer) → answer ≡ NotChanged (refusal z 0) → EditClaim (insert i k o) n m m answer
+module _ (n i k : ℕ) (o : List ℕ) (m : Memory) (os : Octets m.store) (bo : Octets o) (r : Result Gap EditError) (e : r ≡ insertion_of n i k o m) where
+  pub refused-leaves : (z : EditError) → r ≡ Err z → (answer : EditAnswer) → answer ≡ NotChanged (refusal_of z) → EditClaim (insert i k o) n m m answer
   unfolding left edit_answer
   refused-leaves z q answer f = by (insertion_of n i k o m) (insertion-ends n i k o m os bo) (sym e ∙ q)
     where
-      by : (y : Insertion) → Ends n i k o m os bo y → y ≡ Refused z → EditClaim (insert i k o) n m m answer
+      by : (y : Result Gap EditError) → Ends n i k o m os bo y → y ≡ Err z → EditClaim (insert i k o) n m m answer
       by y (going g w) d = never (cc)
       by y (refused-so u w) d =
           let v : u ≡ z = cc in
-          record { answers = f ∙ (ap (λ j. NotChanged (refusal j 0)) (sym v) ∙ sym (ap edit_answer w)); leaves = sym (ap (λ j. left j m) w) }
+          record { answers = f ∙ (ap (λ j. NotChanged (refusal_of j)) (sym v) ∙ sym (ap edit_answer w)); leaves = sym (ap (λ j. left j m) w) }
 
-  module _ (g : Gap) (q : r ≡ Opens g) where
+  module _ (g : Gap) (q : r ≡ Ok g) where
     goes : Going n i k o m os bo g
     goes = by (insertion_of n i k o m) (insertion-ends n i k o m os bo) (sym e ∙ q)
       where
-        by : (y : Insertion) → Ends n i k o m os bo y → y ≡ Opens g → Going n i k o m os bo g
+        by : (y : Result Gap EditError) → Ends n i k o m os bo y → y ≡ Ok g → Going n i k o m os bo g
         by y (refused-so u w) d = never (cc)
         by y (going g₁ w) d = subst (Going n i k o m os bo) (cc) w
 

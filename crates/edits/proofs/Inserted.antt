@@ -25,14 +25,15 @@ use Rattle.survey.specs.declared.measure.Measured.{Measured}
 use Rattle.survey.specs.Survey.{needed_by}
 use Rattle.state.specs.Taking.{overflow, settled}
 use Rattle.state.proofs.HeldTree.{Held, held}
-use Rattle.edits.specs.declared.inserting.Child.TheVariants.{Nowhere, Before}
-use Rattle.edits.specs.declared.inserting.Admission.{Admission}
-use Rattle.edits.specs.declared.inserting.Admission.TheVariants.{Denied, Admitted}
+use Rattle.std.specs.Prelude.{Some, None, Result, Ok, Err}
+use Rattle.edits.specs.declared.inserting.Admitted.{Admitted}
+use Rattle.edits.specs.declared.EditError.{EditError}
+use Rattle.edits.specs.declared.EditError.TheVariants.{BreaksRule}
 use Rattle.edits.specs.Tree.{record_at, change_at, holding, put_child, first_tag, first_inside, children, is_there, inside_of, element_of, changed}
 use Rattle.edits.specs.Tree.Edit.{insert}
 use Rattle.edits.specs.Calls.{edited, edited_in}
 use Rattle.edits.specs.Sites.{top_site, inner}
-use Rattle.edits.specs.Insertion.{found_at, child_of, tag_there, comes_between, is_element, as_admitted, admitted_at}
+use Rattle.edits.specs.Insertion.{found_at, child_of, tag_there, comes_between, is_element, admitted as as_record, as_admitted, admitted_at}
 use Rattle.edits.proofs.Stores.{held-count}
 use Rattle.edits.proofs.Found.{Stands, found_number, at-record}
 use Rattle.edits.proofs.Putting.{Place, place, comes_at}
@@ -54,12 +55,12 @@ settles m u = go (leb (count u) (places_in m)) (leb (length (packed_store u)) (l
     go true false = refl
     go false b = refl
 
-pub before-is : (b c : Bool) (x j : ℕ) → cond b (cond c (Before x) Nowhere) Nowhere ≡ Before j → (b ≡ true) × (c ≡ true) × (x ≡ j)
+pub before-is : (b c : Bool) (x j : ℕ) → cond b (cond c (Some x) None) None ≡ Some j → (b ≡ true) × (c ≡ true) × (x ≡ j)
 before-is true true x j e = (refl, refl, cc)
 before-is true false x j e = let z : ◌≡◌ {A = ℕ} 0 1 = cc in absurd (omega arith)
 before-is false c x j e = let z : ◌≡◌ {A = ℕ} 0 1 = cc in absurd (omega arith)
 
-nowhere-is : (b c : Bool) (x : ℕ) → cond b (cond c (Before x) Nowhere) Nowhere ≡ Nowhere → b && c ≡ false
+nowhere-is : (b c : Bool) (x : ℕ) → cond b (cond c (Some x) None) None ≡ None → b && c ≡ false
 nowhere-is true true x e = let z : ◌≡◌ {A = ℕ} 0 1 = cc in absurd (omega arith)
 nowhere-is true false x e = refl
 nowhere-is false c x e = refl
@@ -88,7 +89,7 @@ module _ (n i k : ℕ) (m : Memory) (t : Items) (holds : tree_held n m ≡ some 
     there : Place k end (inner any.site any.tag) any.x
     there = place end any.x k (inner any.site any.tag)
 
-    by_place : child_of n i k tags depths ≡ cond (opens any.tag) (found_at there.lacks there.site.number) Nowhere
+    by_place : child_of n i k tags depths ≡ cond (opens any.tag) (found_at there.lacks there.site.number) None
     by_place = child-found n m t K i k (holding (put_child k end)) any end there
 
     is-there : is_there (insert i k o) t ≡ (opens any.tag && eqb there.lacks 0)
@@ -103,7 +104,7 @@ module _ (n i k : ℕ) (m : Memory) (t : Items) (holds : tree_held n m ≡ some 
       go false q = refl
       go true q = absurd (omega (arith, found_number t rules i (opens-zero (first_tag (record_at i t).items) q), counted))
 
-  pub there-nowhere : child_of n i k tags depths ≡ Nowhere → is_there (insert i k o) t ≡ false
+  pub there-nowhere : child_of n i k tags depths ≡ None → is_there (insert i k o) t ≡ false
   unfolding found_at
   there-nowhere e = go (ltb i n) refl
     where
@@ -113,7 +114,7 @@ module _ (n i k : ℕ) (m : Memory) (t : Items) (holds : tree_held n m ≡ some 
           let l = ltb-true i n q in
           is-there l ∙ nowhere-is (opens (any l).tag) (eqb (there l).lacks 0) (there l).site.number (sym (by_place l) ∙ e)
 
-  module _ (j : ℕ) (e : child_of n i k tags depths ≡ Before j) where
+  module _ (j : ℕ) (e : child_of n i k tags depths ≡ Some j) where
     number : i < n
     unfolding child_of
     number = go (ltb i n) refl
@@ -121,7 +122,7 @@ module _ (n i k : ℕ) (m : Memory) (t : Items) (holds : tree_held n m ≡ some 
         go : (b : Bool) → ltb i n ≡ b → i < n
         go true q = ltb-true i n q
         go false q =
-            let w : Nowhere ≡ Before j = sym (rw q) ∙ e in
+            let w : None ≡ Some j = sym (rw q) ∙ e in
             let z : ◌≡◌ {A = ℕ} 0 1 = cc in
             absurd (omega arith)
 
@@ -172,7 +173,7 @@ module _ (n i k : ℕ) (m : Memory) (t : Items) (holds : tree_held n m ≡ some 
         ∙ (comes-there n m t K i k (holding (put_child k e)) g e pl (eqb-true pl.lacks 0 b.1) b.0 tag c
         ∙ ap (λ z. comes_between k tag (tag_there n z (get_or depths i 0) tags depths)) b.2))
       where
-        e₀ : child_of n i k tags depths ≡ Before j
+        e₀ : child_of n i k tags depths ≡ Some j
         e₀ = e
 
     -- what is said of the octets there
@@ -180,9 +181,9 @@ module _ (n i k : ℕ) (m : Memory) (t : Items) (holds : tree_held n m ≡ some 
       pub element : Accepted (get_or tags i 0) (get_or depths i 0) o c sizes
       pub keeps : ruled at_top (change_at (holding (put_child k (item element.tag element.at element.body element.x end))) i t) ≡ true
 
-    pub data Verdict : Admission → Type 0 where
-      breaks : edited_in m (insert i k o) (some t) ≡ refused (refusal 16 0) → Verdict (Denied 16)
-      stands : (c : ℕ) (sizes : Measured) → Ready c sizes → Verdict (Admitted j c sizes)
+    pub data Verdict : Result Admitted EditError → Type 0 where
+      breaks : edited_in m (insert i k o) (some t) ≡ refused (refusal 16 0) → Verdict (Err BreaksRule)
+      stands : (c : ℕ) (sizes : Measured) → Ready c sizes → Verdict (Ok (as_record j c sizes))
 
     pub verdict : Octets o → Verdict (admitted_at j k (tag_there n j (get_or depths i 0) tags depths) (get_or tags i 0) (get_or depths i 0) o)
     unfolding admitted_at
@@ -197,16 +198,19 @@ module _ (n i k : ℕ) (m : Memory) (t : Items) (holds : tree_held n m ≡ some 
         later : ℕ
         later = tag_there n j d tags depths
 
-        in_order : (a : Admission) → Judgement p d o j a → (b : Bool) → comes_between k (get_or o 0 0) later ≡ b → Verdict (cond b a (Denied 16))
+        in_order : (a : Result Admitted EditError) → Judgement p d o j a → (b : Bool) → comes_between k (get_or o 0 0) later ≡ b
+            → Verdict (cond b a (Err BreaksRule))
         in_order a (denied q) true c = breaks (none-ends q)
         in_order a (denied q) false c = breaks (none-ends q)
         in_order a (admitted n₁ sizes x) b c =
             by_order b (order_is bo x.tag x.at x.body x.x x.is x.child ∙ (ap (λ z. comes_between k z later) x.first ∙ c))
           where
-            by_order : (b : Bool) → ruled at_top (change_at (holding (put_child k (item x.tag x.at x.body x.x end))) i t) ≡ b → Verdict (cond b (Admitted j n₁ sizes) (Denied 16))
+            by_order : (b : Bool) → ruled at_top (change_at (holding (put_child k (item x.tag x.at x.body x.x end))) i t) ≡ b
+                → Verdict (cond b (Ok (as_record j n₁ sizes)) (Err BreaksRule))
             by_order true r = stands n₁ sizes (record { element = x; keeps = r })
             by_order false r = breaks (unruled-ends (item x.tag x.at x.body x.x end) x.is r)
 
-        go : (b : Bool) → is_element o ≡ b → Verdict (cond (b && comes_between k (get_or o 0 0) later) (as_admitted j (needed_by p (judge_inside p d o))) (Denied 16))
+        go : (b : Bool) → is_element o ≡ b
+            → Verdict (cond (b && comes_between k (get_or o 0 0) later) (as_admitted j (needed_by p (judge_inside p d o))) (Err BreaksRule))
         go false q = breaks (none-ends (not-element p d o q))
         go true q = in_order (as_admitted j (needed_by p (judge_inside p d o))) (judged p d o q j) (comes_between k (get_or o 0 0) later) refl

@@ -48,10 +48,10 @@ use Rattle.state.proofs.HeldTree.{Held, sizes-count}
 use Rattle.state.proofs.Packed.{loaded-again}
 use Rattle.state.proofs.SizesHeld.{own-packed}
 use Rattle.state.proofs.BodySizes.{body_size, size-item}
-use Rattle.edits.specs.declared.inserting.Child.TheVariants.{Before}
-use Rattle.edits.specs.declared.inserting.Admission.TheVariants.{Admitted}
-use Rattle.edits.specs.declared.inserting.Insertion.{Insertion}
-use Rattle.edits.specs.declared.inserting.Insertion.TheVariants.{Refused, Opens}
+use Rattle.std.specs.Prelude.{Some, Result, Ok, Err}
+use Rattle.edits.specs.declared.EditError.{EditError}
+use Rattle.edits.specs.declared.EditError.TheVariants.{NoRecords, NoRoom}
+use Rattle.edits.specs.Errors.{refusal_of}
 use Rattle.edits.specs.Tree.{record_at, change_at, holding, put_child, first_tag, inside_of, element_of, changed}
 use Rattle.edits.specs.Tree.Edit.{insert}
 use Rattle.edits.specs.Calls.{edited_in}
@@ -63,7 +63,7 @@ use Rattle.edits.specs.Resites.{Resites, Resited}
 use Rattle.edits.specs.Lay.{added_in, own_sizes, Space, ItemsLeft, ItemsLayable, ItemsLay}
 use Rattle.edits.specs.declared.lay.Level.{Level}
 use Rattle.edits.specs.declared.lay.Laid.{Laid}
-use Rattle.edits.specs.Insertion.{found_at, child_of, top_then, gap_for, opened_by, fitted_by, SmallSizes, Fittable, level_of, begun, PutsIn}
+use Rattle.edits.specs.Insertion.{found_at, child_of, admitted, top_then, gap_for, opened_by, fitted_by, SmallSizes, Fittable, level_of, begun, PutsIn}
 use Rattle.edits.proofs.Swaps.{Plain, ruled-plain, swapped-count, swapped-rules}
 use Rattle.edits.proofs.Records.{records-length, StoreSwapped, swapped-store}
 use Rattle.edits.proofs.Sites.{plain-count, record_here, records-here, store-here, shifted-low, shifted-high}
@@ -84,7 +84,7 @@ use Rattle.edits.proofs.InsertSizes.{few-records, part-less, records-low, low-at
 use Rattle.edits.proofs.Inserted.{settles, before-is, K, rules, counted, there-before, inside_is, ruled-ends, Ready}
 
 module _ (n i k : ℕ) (m : Memory) (t : Items) (holds : tree_held n m ≡ some t) (os : Octets m.store) (o : List ℕ) (bo : Octets o) (j : ℕ)
-    (found : child_of n i k m.lists.tags m.lists.depths ≡ Before j) (c : ℕ) (sizes : Measured) (ready : Ready n i k m t holds o j found c sizes) where
+    (found : child_of n i k m.lists.tags m.lists.depths ≡ Some j) (c : ℕ) (sizes : Measured) (ready : Ready n i k m t holds o j found c sizes) where
   abbrev p : ℕ
   p = get_or m.lists.tags i 0
 
@@ -262,11 +262,11 @@ module _ (n i k : ℕ) (m : Memory) (t : Items) (holds : tree_held n m ≡ some 
     pub small : framed_size (top_then i (normal_size p element) m) ≤ 32_768
     pub is : edited_in m (insert i k o) (some t) ≡ accepted (packed after)
 
-  pub data Fit : Insertion → Type 0 where
-    refuses : (q : ℕ) → edited_in m (insert i k o) (some t) ≡ refused (refusal q 0) → Fit (Refused q)
-    goes_in : (s a : ℕ) → Room s a → Fit (Opens (gap_for n used i j c s a m.lists.sizes))
+  pub data Fit : Result Gap EditError → Type 0 where
+    refuses : (q : EditError) → edited_in m (insert i k o) (some t) ≡ refused (refusal_of q) → Fit (Err q)
+    goes_in : (s a : ℕ) → Room s a → Fit (Ok (gap_for n used i j c s a m.lists.sizes))
 
-  pub fits : Fit (fitted_by n used i m (Admitted j c sizes))
+  pub fits : Fit (fitted_by n used i m (Ok (admitted j c sizes)))
   unfolding fitted_by opened_by sizes_of
   fits = go (leb (n + c) (places_in m)) refl
     where
@@ -281,14 +281,15 @@ module _ (n i k : ℕ) (m : Memory) (t : Items) (holds : tree_held n m ≡ some 
       over q b e z = ends ∙ rw (q, e ∙ z)
 
       enough-room : leb (n + c) (places_in m) ≡ true → (s a : ℕ) → s ≡ S → a ≡ A → (b : Bool) → leb (used + s) (length m.store) && leb (framed_size (top_then i a m)) 32_768 ≡ b
-          → Fit (cond b (Opens (gap_for n used i j c s a m.lists.sizes)) (Refused 15))
+          → Fit (cond b (Ok (gap_for n used i j c s a m.lists.sizes)) (Err NoRoom))
       enough-room q s a se ae b e =
           let f : leb (used + S) (length m.store) && leb (framed_size (top_then i A m)) 32_768 ≡ b =
           (λ z. leb (used + sym se z) (length m.store) && leb (framed_size (top_then i (sym ae z) m)) 32_768) ∙ e in
           by b f
         where
-          by : (b : Bool) → leb (used + S) (length m.store) && leb (framed_size (top_then i A m)) 32_768 ≡ b → Fit (cond b (Opens (gap_for n used i j c s a m.lists.sizes)) (Refused 15))
-          by false f = refuses 15 (over q false f refl)
+          by : (b : Bool) → leb (used + S) (length m.store) && leb (framed_size (top_then i A m)) 32_768 ≡ b
+              → Fit (cond b (Ok (gap_for n used i j c s a m.lists.sizes)) (Err NoRoom))
+          by false f = refuses NoRoom (over q false f refl)
           by true f = goes_in s a (record {
             stored = se;
             octets = ae;
@@ -303,7 +304,7 @@ module _ (n i k : ℕ) (m : Memory) (t : Items) (holds : tree_held n m ≡ some 
           let w = not_chosen (leb A 32_768) e (λ y. never (cc)) in
           let f : leb (used + S) (length m.store) && leb (framed_size (top_then i A m)) 32_768 ≡ false =
           ap (λ b. leb (used + S) (length m.store) && b) (too_large (leb-false A 32_768 w.0)) ∙ and-false (leb (used + S) (length m.store)) in
-          refuses 15 (over q false f refl)
+          refuses NoRoom (over q false f refl)
       measured q (Sizes s a) e =
           let w = chosen (leb A 32_768) e (λ y. never (cc)) in
           let u = w.1 in
@@ -311,9 +312,9 @@ module _ (n i k : ℕ) (m : Memory) (t : Items) (holds : tree_held n m ≡ some 
           let ae : a ≡ as_octets A = cc in
           enough-room q s.0 a.0 (ap (λ y. y.0) se) (ap (λ y. y.0) ae) (leb (used + s.0) (length m.store) && leb (framed_size (top_then i a.0 m)) 32_768) refl
 
-      go : (b : Bool) → leb (n + c) (places_in m) ≡ b → Fit (cond b (opened_by n used i j c m sizes) (Refused 14))
+      go : (b : Bool) → leb (n + c) (places_in m) ≡ b → Fit (cond b (opened_by n used i j c m sizes) (Err NoRecords))
       go true q = measured q sizes sizes-are
-      go false q = refuses 14 (ends ∙ rw q)
+      go false q = refuses NoRecords (ends ∙ rw q)
 
   -- ---- the element as it is loaded at its site
   abbrev q : ℕ
@@ -343,7 +344,7 @@ module _ (n i k : ℕ) (m : Memory) (t : Items) (holds : tree_held n m ≡ some 
   unfolding places_in
   all-places = le-min (held-places n m t held-tree) held-tree.fewer
 
-  pub can-fit : Fittable n used i j sizes m
+  pub can-fit : Fittable n used i (admitted j c sizes) m
   unfolding sizes_of
   can-fit = record {
     all = all-places;

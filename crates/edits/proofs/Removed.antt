@@ -9,6 +9,7 @@ use native.Mathlib.Omega.{arith}
 use lib.Dec.{ltb}
 use lib.ListN.{length, get_or}
 use borrow.Author.Tests.{lt-ltb, le-ltb, ltb-true, ltb-false}
+use Rattle.std.specs.Prelude.{Result, Ok, Err}
 use Rattle.octets.specs.declared.counts.Octets.{Octets as OctetCount}
 use Rattle.octets.specs.Counts.{as_octets}
 use Rattle.octets.specs.Numbers.{Octets}
@@ -16,7 +17,6 @@ use Rattle.octets.specs.Places.{between}
 use Rattle.octets.proofs.Tests.{and_left, and_right, and-true}
 use Rattle.format.specs.declared.EditAnswer.{EditAnswer}
 use Rattle.format.specs.declared.EditAnswer.TheVariants.{HasRecords, NotChanged}
-use Rattle.format.specs.Answers.{refusal}
 use Rattle.format.specs.Tree.{Items, count}
 use Rattle.format.specs.Judge.{rule, unless}
 use Rattle.format.specs.Judge.Judged.{accepted}
@@ -33,8 +33,9 @@ use Rattle.state.specs.Order.{nth, held_as, added_by}
 use Rattle.state.specs.Taking.{left, Leaves}
 use Rattle.state.proofs.HeldTree.{Held, held, sizes-count}
 use Rattle.edits.specs.declared.resite.Gap.{Gap}
-use Rattle.edits.specs.declared.removing.Removal.{Removal}
-use Rattle.edits.specs.declared.removing.Removal.TheVariants.{Refused, Closes}
+use Rattle.edits.specs.declared.EditError.{EditError}
+use Rattle.edits.specs.declared.EditError.TheVariants.{NoTree, NoPlace}
+use Rattle.edits.specs.Errors.{refusal_of}
 use Rattle.edits.specs.Tree.{change_at, without, is_there, changed}
 use Rattle.edits.specs.Tree.Edit.{remove}
 use Rattle.edits.specs.Calls.{edited_in, EditClaim}
@@ -259,7 +260,7 @@ module _ (n i : ℕ) (m : Memory) (t : Items) (holds : tree_held n m ≡ some t)
 
 -- ---- plan
 module _ (n i : ℕ) (m : Memory) (x : Filled) (e : x ≡ held_as (tree_held n m)) where
-  pub plan-none : x ≡ Apart → Refused 16 ≡ removal_of n i m
+  pub plan-none : x ≡ Apart → Err NoTree ≡ removal_of n i m
   unfolding removal_in
   plan-none q = sym (ap (removal_in n i m) (sym e ∙ q))
 
@@ -267,11 +268,11 @@ module _ (n i : ℕ) (m : Memory) (x : Filled) (e : x ≡ held_as (tree_held n m
     as-held : held_as (tree_held n m) ≡ Upto used
     as-held = sym e ∙ q
 
-    pub plan-top : i ≡ 0 → Refused 18 ≡ removal_of n i m
+    pub plan-top : i ≡ 0 → Err NoPlace ≡ removal_of n i m
     unfolding removal_in
     plan-top z = sym (ap (removal_in n i m) as-held ∙ rw (le-ltb 0 i (omega arith)))
 
-    pub plan-past : n ≤ i → Refused 18 ≡ removal_of n i m
+    pub plan-past : n ≤ i → Err NoPlace ≡ removal_of n i m
     unfolding removal_in
     plan-past z = sym (ap (removal_in n i m) as-held ∙ rw (le-ltb i n z, and-false (ltb 0 i)))
 
@@ -283,26 +284,26 @@ module _ (n i : ℕ) (m : Memory) (x : Filled) (e : x ≡ held_as (tree_held n m
       plan-asks os = let w = held-as (tree_held n m) used as-held in can-close n i m w.0 w.1 os above_zero b
 
       pub plan-gap : (g : Gap) → g ≡ gap_of n i used m.lists.tags m.lists.depths m.lists.parents m.lists.starts m.lists.sizes m.bodies m.store
-          → Closes g ≡ removal_of n i m
+          → Ok g ≡ removal_of n i m
       unfolding removal_in
-      plan-gap g f = ap Closes f ∙ sym (ap (removal_in n i m) as-held ∙ rw (lt-ltb 0 i above_zero, lt-ltb i n b))
+      plan-gap g f = ap (λ z. Ok z) f ∙ sym (ap (removal_in n i m) as-held ∙ rw (lt-ltb 0 i above_zero, lt-ltb i n b))
 
 -- ---- remove
-module _ (n i : ℕ) (m : Memory) (r : Removal) (e : r ≡ removal_of n i m) where
-  pub refused-leaves : (z : ℕ) → r ≡ Refused z → (answer : EditAnswer) → answer ≡ NotChanged (refusal z 0) → EditClaim (remove i) n m m answer
+module _ (n i : ℕ) (m : Memory) (r : Result Gap EditError) (e : r ≡ removal_of n i m) where
+  pub refused-leaves : (z : EditError) → r ≡ Err z → (answer : EditAnswer) → answer ≡ NotChanged (refusal_of z) → EditClaim (remove i) n m m answer
   unfolding held_as removal_in edited_in is_there unless rule left edit_answer
   refused-leaves z q answer f = go (tree_held n m) refl (sym q ∙ e)
     where
-      outside : (t : Items) → tree_held n m ≡ some t → (g : Gap) (b : Bool) → ltb 0 i && ltb i n ≡ b → Refused z ≡ cond b (Closes g) (Refused 18)
+      outside : (t : Items) → tree_held n m ≡ some t → (g : Gap) (b : Bool) → ltb 0 i && ltb i n ≡ b → Err z ≡ cond b (Ok g) (Err NoPlace)
           → Leaves (edited_in m (remove i) (some t)) m m answer
       outside t h g true c d = let w : ◌≡◌ {A = ℕ} 0 1 = cc in absurd (omega arith)
       outside t h g false c d =
           let n-is : count t ≡ n = held-count n m t h in
-          let w : z ≡ 18 = cc in
-          rw (n-is, c) (record { answers = f ∙ ap (λ j. NotChanged (refusal j 0)) w; leaves = refl })
+          let w : z ≡ NoPlace = cc in
+          rw (n-is, c) (record { answers = f ∙ ap (λ j. NotChanged (refusal_of j)) w; leaves = refl })
 
-      go : (o : Option Items) → tree_held n m ≡ o → Refused z ≡ removal_in n i m (held_as o) → Leaves (edited_in m (remove i) o) m m answer
-      go none h d = let w : z ≡ 16 = cc in record { answers = f ∙ ap (λ j. NotChanged (refusal j 0)) w; leaves = refl }
+      go : (o : Option Items) → tree_held n m ≡ o → Err z ≡ removal_in n i m (held_as o) → Leaves (edited_in m (remove i) o) m m answer
+      go none h d = let w : z ≡ NoTree = cc in record { answers = f ∙ ap (λ j. NotChanged (refusal_of j)) w; leaves = refl }
       go (some t) h d = outside t h _ (ltb 0 i && ltb i n) refl d
 
   -- a gap is closed in a tree that memory holds, below its top
@@ -313,17 +314,18 @@ module _ (n i : ℕ) (m : Memory) (r : Removal) (e : r ≡ removal_of n i m) whe
     number : i < n
     is : g ≡ gap_of n i (length (packed_store tree)) m.lists.tags m.lists.depths m.lists.parents m.lists.starts m.lists.sizes m.bodies m.store
 
-  closing : (g : Gap) → r ≡ Closes g → Closing g
+  closing : (g : Gap) → r ≡ Ok g → Closing g
   unfolding held_as removal_in
   closing g q = go (tree_held n m) refl (sym q ∙ e)
     where
-      go : (o : Option Items) → tree_held n m ≡ o → Closes g ≡ removal_in n i m (held_as o) → Closing g
+      go : (o : Option Items) → tree_held n m ≡ o → Ok g ≡ removal_in n i m (held_as o) → Closing g
       go none h d = let w : ◌≡◌ {A = ℕ} 0 1 = cc in absurd (omega arith)
       go (some t) h d = inside (ltb 0 i && ltb i n) refl d
         where
           inside : (b : Bool) → ltb 0 i && ltb i n ≡ b
-              → Closes g ≡ cond b (Closes (gap_of n i (length (packed_store t)) m.lists.tags m.lists.depths m.lists.parents m.lists.starts m.lists.sizes m.bodies m.store))
-              (Refused 18) → Closing g
+              → Ok g ≡ cond b (Ok (gap_of n i (length (packed_store t)) m.lists.tags m.lists.depths m.lists.parents m.lists.starts m.lists.sizes m.bodies
+              m.store))
+              (Err NoPlace) → Closing g
           inside false c d = let w : ◌≡◌ {A = ℕ} 0 1 = cc in absurd (omega arith)
           inside true c d = record {
             tree = t;
@@ -333,7 +335,7 @@ module _ (n i : ℕ) (m : Memory) (r : Removal) (e : r ≡ removal_of n i m) whe
             is = cc;
           }
 
-  module _ (os : Octets m.store) (g : Gap) (q : r ≡ Closes g) where
+  module _ (os : Octets m.store) (g : Gap) (q : r ≡ Ok g) where
     pub closes-asks : ((j : ℕ) → get_or m.lists.parents j 0 < 65_536) → Resites g m
     closes-asks small = let c = closing g q in gap-resites n i m c.tree c.holds os c.above c.number g c.is small
 

@@ -8,11 +8,13 @@ use native.Mathlib.Omega.{arith}
 use lib.Dec.{ltb}
 use lib.ListN.{length, get_or}
 use borrow.Author.Tests.{ltb-true, not-true, not-false}
+use Rattle.std.specs.Prelude.{Result, Ok, Err}
 use Rattle.octets.specs.Counts.{as_octets}
 use Rattle.octets.specs.Numbers.{Octets}
 use Rattle.octets.proofs.Tests.{and_left, and_right}
 use Rattle.text.specs.Text.{text}
 use Rattle.text.specs.Tokens.{shown_length}
+use Rattle.format.specs.declared.Refusal.{Refusal}
 use Rattle.format.specs.declared.EditAnswer.{EditAnswer}
 use Rattle.format.specs.declared.EditAnswer.TheVariants.{HasRecords, NotChanged}
 use Rattle.format.specs.Answers.{refusal}
@@ -30,12 +32,12 @@ use Rattle.state.specs.Taking.{settled, left, Leaves}
 use Rattle.state.proofs.HeldTree.{held}
 use Rattle.state.proofs.Taken.{Fitting}
 use Rattle.state.proofs.Taken.Fitting.{crowded, overfull, fits}
-use Rattle.edits.specs.declared.replacing.Replacement.{Replacement}
-use Rattle.edits.specs.declared.replacing.Replacement.TheVariants.{Refused, Fits}
+use Rattle.edits.specs.declared.EditError.{EditError}
+use Rattle.edits.specs.Errors.{refusal_of, planned}
 use Rattle.edits.specs.Tree.{change_at, with_body, is_there, changed}
 use Rattle.edits.specs.Tree.Edit.{replace}
 use Rattle.edits.specs.Calls.{edited, edited_in, EditClaim}
-use Rattle.edits.specs.Texts.{replacement_in, is_text_at, text_fits, Sized, Settable, TextSet}
+use Rattle.edits.specs.Texts.{replacement_in, replacement_of, is_text_at, text_fits, Sized, Settable, TextSet}
 use Rattle.edits.proofs.Stores.{held-as}
 use Rattle.edits.proofs.CutLists.{enough}
 use Rattle.edits.proofs.Local.{is_new_text}
@@ -45,27 +47,29 @@ use Rattle.edits.proofs.Only.Ends.{nowhere, unruled, ruled as ends-ruled}
 use Rattle.edits.proofs.NewTexts.{there-is, text-above, text-below, text-sized, text-judged, text-settable, text-set, text-count}
 
 -- ---- how an edit of a text ends, by what was planned
-untreed : (i : ℕ) (o : List ℕ) (m : Memory) (z : ℕ) (answer : EditAnswer) → answer ≡ NotChanged (refusal z 0) → Refused z ≡ replacement_in none (edited_in m (replace i o) none)
+untreed : (i : ℕ) (o : List ℕ) (m : Memory) (z : Refusal) (answer : EditAnswer) → answer ≡ NotChanged z
+    → Err z ≡ replacement_in none (edited_in m (replace i o) none)
     → Leaves (edited_in m (replace i o) none) m m answer
 unfolding replacement_in edited_in left edit_answer
-untreed i o m z answer f h = let w : z ≡ 16 = cc in record { answers = f ∙ ap (λ k. NotChanged (refusal k 0)) w; leaves = refl }
+untreed i o m z answer f h = let w : z ≡ refusal 16 0 = cc in record { answers = f ∙ ap NotChanged w; leaves = refl }
 
-refused_as : (m : Memory) (z k : ℕ) (answer : EditAnswer) → answer ≡ NotChanged (refusal z 0) → z ≡ k → Leaves (refused (refusal k 0)) m m answer
+refused_as : (m : Memory) (z k : Refusal) (answer : EditAnswer) → answer ≡ NotChanged z → z ≡ k → Leaves (refused k) m m answer
 unfolding left edit_answer
-refused_as m z k answer f w = record { answers = f ∙ ap (λ j. NotChanged (refusal j 0)) w; leaves = refl }
+refused_as m z k answer f w = record { answers = f ∙ ap NotChanged w; leaves = refl }
 
-fitting-leaves : (m : Memory) (t u : Items) (z : ℕ) (answer : EditAnswer) → answer ≡ NotChanged (refusal z 0) → {j : Judged} → Fitting (as_octets 32_768) m u j
-    → Refused z ≡ replacement_in (some t) j → Leaves j m m answer
+fitting-leaves : (m : Memory) (t u : Items) (z : Refusal) (answer : EditAnswer) → answer ≡ NotChanged z → {j : Judged} → Fitting (as_octets 32_768) m u j
+    → Err z ≡ replacement_in (some t) j → Leaves j m m answer
 unfolding replacement_in
-fitting-leaves m t u z answer f (crowded a) h = refused_as m z 14 answer f (cc)
-fitting-leaves m t u z answer f (overfull a b) h = refused_as m z 15 answer f (cc)
+fitting-leaves m t u z answer f (crowded a) h = refused_as m z (refusal 14 0) answer f (cc)
+fitting-leaves m t u z answer f (overfull a b) h = refused_as m z (refusal 15 0) answer f (cc)
 fitting-leaves m t u z answer f (fits a b) h = let w : ◌≡◌ {A = ℕ} 0 1 = cc in absurd (omega arith)
 
-ends-leaves : (i : ℕ) (o : List ℕ) (m : Memory) (t : Items) (z : ℕ) (answer : EditAnswer) → answer ≡ NotChanged (refusal z 0) → {j : Judged} → Ends m (replace i o) t j
-    → Refused z ≡ replacement_in (some t) j → Leaves j m m answer
+ends-leaves : (i : ℕ) (o : List ℕ) (m : Memory) (t : Items) (z : Refusal) (answer : EditAnswer) → answer ≡ NotChanged z → {j : Judged}
+    → Ends m (replace i o) t j
+    → Err z ≡ replacement_in (some t) j → Leaves j m m answer
 unfolding replacement_in
-ends-leaves i o m t z answer f (nowhere a) h = refused_as m z 18 answer f (cc)
-ends-leaves i o m t z answer f (unruled a b) h = refused_as m z 16 answer f (cc)
+ends-leaves i o m t z answer f (nowhere a) h = refused_as m z (refusal 18 0) answer f (cc)
+ends-leaves i o m t z answer f (unruled a b) h = refused_as m z (refusal 16 0) answer f (cc)
 ends-leaves i o m t z answer f (ends-ruled u j a b c) h = fitting-leaves m t u z answer f c h
 
 -- a tree that memory holds, in which a text is to be set
@@ -91,20 +95,21 @@ record Kept (i : ℕ) (o : List ℕ) (t : Items) (used : ℕ) : Type 0 where
   rules : ruled at_top (change_at (with_body o) i t) ≡ true
 
 fitting-kept : (i : ℕ) (o : List ℕ) (m : Memory) (t u : Items) (used : ℕ) → is_there (replace i o) t ≡ true → edited (replace i o) t ≡ some u → {j : Judged} → Fitting (as_octets 32_768) m u j
-    → Fits used ≡ replacement_in (some t) j → Kept i o t used
+    → Ok used ≡ replacement_in (some t) j → Kept i o t used
 unfolding replacement_in
 fitting-kept i o m t u used a b (crowded c) h = let w : ◌≡◌ {A = ℕ} 0 1 = cc in absurd (omega arith)
 fitting-kept i o m t u used a b (overfull c d) h = let w : ◌≡◌ {A = ℕ} 0 1 = cc in absurd (omega arith)
 fitting-kept i o m t u used a b (fits c d) h = record { taken = cc; there = a; rules = edited-rules i o t u b }
 
-ends-kept : (i : ℕ) (o : List ℕ) (m : Memory) (t : Items) (used : ℕ) → {j : Judged} → Ends m (replace i o) t j → Fits used ≡ replacement_in (some t) j → Kept i o t used
+ends-kept : (i : ℕ) (o : List ℕ) (m : Memory) (t : Items) (used : ℕ) → {j : Judged} → Ends m (replace i o) t j → Ok used ≡ replacement_in (some t) j
+    → Kept i o t used
 unfolding replacement_in
 ends-kept i o m t used (nowhere a) h = let w : ◌≡◌ {A = ℕ} 0 1 = cc in absurd (omega arith)
 ends-kept i o m t used (unruled a b) h = let w : ◌≡◌ {A = ℕ} 0 1 = cc in absurd (omega arith)
 ends-kept i o m t used (ends-ruled u j a b c) h = fitting-kept i o m t u used a b c h
 
 fine_of : (n i : ℕ) (o : List ℕ) (m : Memory) (used : ℕ) → Octets m.store → Octets o → (a : Option Items) → tree_held n m ≡ a
-    → Fits used ≡ replacement_in a (edited_in m (replace i o) a) → Fine n i o m used
+    → Ok used ≡ replacement_in a (edited_in m (replace i o) a) → Fine n i o m used
 unfolding replacement_in
 fine_of n i o m used os ot none h q = let w : ◌≡◌ {A = ℕ} 0 1 = cc in absurd (omega arith)
 fine_of n i o m used os ot (some t) h q =
@@ -115,7 +120,7 @@ fine_of n i o m used os ot (some t) h q =
     go c true e = refl
     go c false e =
         let j = text-judged n i o m t h os ot c.there c.rules false e in
-        let z : Fits used ≡ Refused 15 = q ∙ ap (replacement_in (some t)) j in
+        let z : ◌≡◌ {A = Result ℕ Refusal} (Ok used) (Err (refusal 15 0)) = q ∙ ap (replacement_in (some t)) j in
         let w : ◌≡◌ {A = ℕ} 0 1 = cc in
         absurd (omega arith)
 
@@ -131,14 +136,11 @@ unfolding is_text_at
 plan-number n i tags parents b e z = ltb-true i n (and_right (ltb 0 i) (ltb i n) (and_left (ltb 0 i && ltb i n) _ (sym e ∙ not-false b z)))
 
 module _ (n i : ℕ) (o : List ℕ) (m : Memory) (x : Filled) (e : x ≡ held_as (tree_held n m)) where
-  abbrev planned : Replacement
-  planned = replacement_in (tree_held n m) (edited_in m (replace i o) (tree_held n m))
-
-  pub plan-apart : x ≡ Apart → Refused 16 ≡ replacement_in (tree_held n m) (edited_in m (replace i o) (tree_held n m))
+  pub plan-apart : x ≡ Apart → Err (refusal 16 0) ≡ replacement_of n i o m
   unfolding held_as replacement_in
   plan-apart q = go (tree_held n m) (sym q ∙ e)
     where
-      go : (a : Option Items) → Apart ≡ held_as a → Refused 16 ≡ replacement_in a (edited_in m (replace i o) a)
+      go : (a : Option Items) → Apart ≡ held_as a → Err (refusal 16 0) ≡ replacement_in a (edited_in m (replace i o) a)
       go none h = refl
       go (some t) h = let z : ◌≡◌ {A = ℕ} 0 1 = cc in absurd (omega arith)
 
@@ -149,14 +151,14 @@ module _ (n i : ℕ) (o : List ℕ) (m : Memory) (x : Filled) (e : x ≡ held_as
     abbrev t : Items
     t = tree.0
 
-    planned-as : (j : Judged) → edited_in m (replace i o) (some t) ≡ j → replacement_in (some t) j ≡ planned
+    planned-as : (j : Judged) → edited_in m (replace i o) (some t) ≡ j → replacement_in (some t) j ≡ replacement_of n i o m
     planned-as j h = sym (ap (λ a. replacement_in a (edited_in m (replace i o) a)) tree.1 ∙ ap (replacement_in (some t)) h)
 
     module _ (b : Bool) (be : b ≡ is_text_at n i m.lists.tags m.lists.parents) where
       there-as : is_there (replace i o) t ≡ b
       there-as = there-is n i o m t tree.1 ∙ sym be
 
-      pub plan-nowhere : not b ≡ true → Refused 18 ≡ replacement_in (tree_held n m) (edited_in m (replace i o) (tree_held n m))
+      pub plan-nowhere : not b ≡ true → Err (refusal 18 0) ≡ replacement_of n i o m
       unfolding replacement_in edited_in rule unless
       plan-nowhere z = planned-as (refused (refusal 18 0)) (rw (there-as ∙ not-true b z))
 
@@ -175,7 +177,7 @@ module _ (n i : ℕ) (o : List ℕ) (m : Memory) (x : Filled) (e : x ≡ held_as
               text-ruled n m t (held n m t tree.1) i (text-above n i o m t tree.1 os ot there) (text-below n i o m t tree.1 os ot there) o there
               ∙ sym (ce ∙ ap (λ z. text false o && shown z (get_or m.lists.tags i 0) (shown_length [] o)) ge)
 
-          pub plan-unruled : not c ≡ true → Refused 16 ≡ replacement_in (tree_held n m) (edited_in m (replace i o) (tree_held n m))
+          pub plan-unruled : not c ≡ true → Err (refusal 16 0) ≡ replacement_of n i o m
           unfolding replacement_in edited_in rule unless settled edited kept changed
           plan-unruled z = planned-as (refused (refusal 16 0)) (rw (there, rules-as ∙ not-true c z))
 
@@ -192,26 +194,27 @@ module _ (n i : ℕ) (o : List ℕ) (m : Memory) (x : Filled) (e : x ≡ held_as
                   text-judged n i o m t tree.1 os ot there rules d
                   (ap (λ z. text_fits i (length o) z (length m.store) m.lists.parents m.lists.sizes m.bodies) tree.2 ∙ sym de)
 
-              pub plan-full : not d ≡ true → Refused 15 ≡ replacement_in (tree_held n m) (edited_in m (replace i o) (tree_held n m))
+              pub plan-full : not d ≡ true → Err (refusal 15 0) ≡ replacement_of n i o m
               unfolding replacement_in
               plan-full z = planned-as (refused (refusal 15 0)) (judged-as ∙ rw (not-true d z))
 
-              pub plan-fits : not d ≡ false → Fits used ≡ replacement_in (tree_held n m) (edited_in m (replace i o) (tree_held n m))
+              pub plan-fits : not d ≡ false → Ok used ≡ replacement_of n i o m
               unfolding replacement_in
-              plan-fits z = ap Fits (sym tree.2) ∙ planned-as (accepted (packed new)) (judged-as ∙ rw (not-false d z))
+              plan-fits z = ap (λ k. Ok k) (sym tree.2) ∙ planned-as (accepted (packed new)) (judged-as ∙ rw (not-false d z))
 
 -- ---- replace_text
-module _ (n i : ℕ) (o : List ℕ) (m : Memory) (r : Replacement) (e : r ≡ replacement_in (tree_held n m) (edited_in m (replace i o) (tree_held n m))) where
-  pub refused-leaves : (z : ℕ) → r ≡ Refused z → (answer : EditAnswer) → answer ≡ NotChanged (refusal z 0) → EditClaim (replace i o) n m m answer
-  refused-leaves z q answer f = go (tree_held n m) (sym q ∙ e)
+module _ (n i : ℕ) (o : List ℕ) (m : Memory) (r : Result ℕ EditError)
+    (e : planned r ≡ replacement_of n i o m) where
+  pub refused-leaves : (z : EditError) → r ≡ Err z → (answer : EditAnswer) → answer ≡ NotChanged (refusal_of z) → EditClaim (replace i o) n m m answer
+  refused-leaves z q answer f = go (tree_held n m) (sym (ap planned q) ∙ e)
     where
-      go : (a : Option Items) → Refused z ≡ replacement_in a (edited_in m (replace i o) a) → Leaves (edited_in m (replace i o) a) m m answer
-      go none h = untreed i o m z answer f h
-      go (some t) h = ends-leaves i o m t z answer f (edit-ends m (replace i o) t) h
+      go : (a : Option Items) → Err (refusal_of z) ≡ replacement_in a (edited_in m (replace i o) a) → Leaves (edited_in m (replace i o) a) m m answer
+      go none h = untreed i o m (refusal_of z) answer f h
+      go (some t) h = ends-leaves i o m t (refusal_of z) answer f (edit-ends m (replace i o) t) h
 
-  module _ (used : ℕ) (q : r ≡ Fits used) (os : Octets m.store) (ot : Octets o) where
+  module _ (used : ℕ) (q : r ≡ Ok used) (os : Octets m.store) (ot : Octets o) where
     fine : Fine n i o m used
-    fine = fine_of n i o m used os ot (tree_held n m) refl (sym q ∙ e)
+    fine = fine_of n i o m used os ot (tree_held n m) refl (sym (ap planned q) ∙ e)
 
     pub fits-asks : Settable n i used o m.lists.tags m.lists.parents m.lists.starts m.lists.sizes m.bodies m.store
     fits-asks =

@@ -1,5 +1,5 @@
 -- The ways through the functions of store.rt.
-use mathlib.Core.Path.{◌≡◌, refl, sym, ◌∙◌, subst}
+use mathlib.Core.Path.{◌≡◌, refl, sym, ap, ◌∙◌, subst}
 use mathlib.Core.Bool.{Bool, true, false}
 use mathlib.Core.Option.{some, some-injective}
 use mathlib.Core.List.{List}
@@ -51,6 +51,20 @@ module _ (kind : Kind) (body store store' : List ℕ) (at : ℕ) (answer : Put) 
   value-invalid q = put-there (fits kind body) (normal_octets kind body) at store store' answer p s.fit q
 
 -- ---- a body
+
+pub text-is : (kind : Kind) → kind ≡ HoldsText → true ≡ is_text (some kind)
+unfolding is_text
+text-is kind q = sym (ap (λ z. is_text (some z)) q)
+
+pub text-not : (kind : Kind) → (kind ≡ HoldsText → ⊥) → false ≡ is_text (some kind)
+unfolding is_text
+text-not HoldsItems h = refl
+text-not HoldsTokens h = refl
+text-not HoldsText h = absurd (h refl)
+text-not HoldsPlain h = refl
+text-not HoldsTime h = refl
+text-not HoldsBearer h = refl
+text-not (HoldsNumber n) h = refl
 
 stored-text : (T : Entries) (kind : Kind) (body : List ℕ) → is_text (some kind) ≡ true → stored T (some kind) body ≡ expanded T body
 unfolding stored meant octets_of

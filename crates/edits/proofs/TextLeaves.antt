@@ -1,14 +1,14 @@
 -- Replacing a text: the ways through the leaves.
-use mathlib.Core.Path.{◌≡◌, refl, sym, ap, ap₂, ◌∙◌, subst}
+use mathlib.Core.Path.{◌≡◌, sym, ap, ap₂, ◌∙◌, subst}
 use mathlib.Core.Bool.{Bool, true, false, and-false}
 use mathlib.Core.List.{List}
-use Prim.Native.Nat.{ℕ, ◌+◌, ◌-◌, ◌≤◌, ◌<◌, min}
+use Prim.Native.Nat.{ℕ, ◌+◌, ◌-◌, ◌≤◌, ◌<◌}
 use native.Mathlib.Numerals.{add-one}
 use native.Mathlib.Omega.{arith}
 use lib.Dec.{leb, ltb}
 use lib.ListN.{length, get_or, set}
 use lib.Seq.{sets}
-use borrow.Author.Tests.{le-leb, lt-leb, leb-true, leb-false, lt-ltb, le-ltb}
+use borrow.Author.Tests.{le-leb, lt-leb, lt-ltb, le-ltb}
 use Rattle.octets.specs.declared.Put.{Put}
 use Rattle.octets.specs.declared.counts.Octets.{Octets as OctetCount}
 use Rattle.octets.specs.Places.{between}
@@ -22,7 +22,7 @@ use Rattle.edits.specs.Sites.{shifted_starts}
 use Rattle.edits.specs.Sizes.{raised, up_from, Climbs}
 use Rattle.edits.specs.Moves.{Shifts}
 use Rattle.edits.specs.Texts.{is_text_at, around, text_fits, Sized, Settable, TextSet}
-use Rattle.edits.proofs.Climbing.{framed-more, framed-short}
+use Rattle.edits.proofs.Climbing.{framed-short}
 use Rattle.edits.proofs.Carrying.{raised-length}
 
 -- ---- is_text_at
@@ -56,23 +56,12 @@ module _ (i long used room : ℕ) (parents sizes bodies : List ℕ) where
       pub fits-climbs : Sized i used parents sizes bodies → Climbs parents bodies (get_or parents i 0) was.0 × (is.0 < 65_536)
       fits-climbs c = (subst (λ k. Climbs parents bodies (get_or parents i 0) k) (sym we) c.climbs, omega (arith, framed-short long))
 
-      module _ (top : OctetCount) (te : top.0 ≡ min 32_769 (get_or (raised (up_from parents (get_or parents i 0)) was.0 is.0 bodies) 0 0)) where
-        pub fits-top : (all : OctetCount) → all.0 ≡ framed_size top.0 → (r : Bool) → r ≡ leb all.0 32_768 → r ≡ text_fits i long used room parents sizes bodies
-        unfolding text_fits
-        fits-top all ae r re =
-            let size = get_or (around i long parents sizes bodies) 0 0 in
-            let same : get_or (raised (up_from parents (get_or parents i 0)) was.0 is.0 bodies) 0 0 ≡ size =
-            ap₂ (λ x y. get_or (raised (up_from parents (get_or parents i 0)) x y bodies) 0 0) we ie in
-            re ∙ (ap (λ k. leb k 32_768) ae ∙ (go size (te ∙ ap (min 32_769) same) ∙ sym (rw (le-leb long 32_768 a, le-leb (used - get_or sizes i 0 + long) room b))))
-          where
-            go : (size : ℕ) → top.0 ≡ min 32_769 size → leb (framed_size top.0) 32_768 ≡ leb (framed_size size) 32_768
-            go size e = small (leb size 32_768) refl
-              where
-                small : (b : Bool) → leb size 32_768 ≡ b → leb (framed_size top.0) 32_768 ≡ leb (framed_size size) 32_768
-                small true q = let z : top.0 ≡ size = omega (arith, leb-true size 32_768 q) in ap (λ k. leb (framed_size k) 32_768) z
-                small false q =
-                    let w = leb-false size 32_768 q in
-                    lt-leb (framed_size top.0) 32_768 (omega (arith, framed-more top.0)) ∙ sym (lt-leb (framed_size size) 32_768 (omega (arith, framed-more size)))
+      pub fits-top : (r : Bool) → r ≡ leb (framed_size (get_or (raised (up_from parents (get_or parents i 0)) was.0 is.0 bodies) 0 0)) 32_768
+          → r ≡ text_fits i long used room parents sizes bodies
+      unfolding text_fits
+      fits-top r re =
+          re ∙ (ap₂ (λ x y. leb (framed_size (get_or (raised (up_from parents (get_or parents i 0)) x y bodies) 0 0)) 32_768) we ie
+          ∙ sym (rw (le-leb long 32_768 a, le-leb (used - get_or sizes i 0 + long) room b)))
 
 -- ---- put_text
 pub put-fits : (octets : List ℕ) (at : ℕ) (before after : List ℕ) (answer : Put) → Puts true octets at before after answer → at + length octets ≤ length before

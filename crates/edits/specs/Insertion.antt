@@ -1,6 +1,7 @@
 -- Putting an element in, by the lists of memory that holds a tree: before which record it comes, whether it may stand there, what it needs, and the gap that is opened
 -- for it. Who reads the request has to believe none of this.
-use Rattle.std.specs.Prelude.{Bool, cond, not, ◌&&◌, ◌||◌, List, [], ◌∷◌, ℕ, zero, suc, ◌+◌, ◌-◌, ◌≤◌, ◌<◌, eqb, leb, ltb, length, get_or}
+use Rattle.std.specs.Prelude.{Bool, cond, not, ◌&&◌, ◌||◌, List, [], ◌∷◌, ℕ, zero, suc, ◌+◌, ◌-◌}
+use Rattle.std.specs.Prelude.{◌≤◌, ◌<◌, eqb, leb, ltb, length, get_or, Option, Some, None, Result, Ok, Err}
 use Rattle.octets.specs.Counts.{as_octets}
 use Rattle.octets.specs.Places.{between}
 use Rattle.values.specs.Table.{attribute}
@@ -19,12 +20,9 @@ use Rattle.state.specs.Order.{held_as}
 use Rattle.edits.specs.declared.resite.Gap.{Gap}
 use Rattle.edits.specs.declared.lay.Level.{Level}
 use Rattle.edits.specs.declared.lay.Laid.{Laid}
-use Rattle.edits.specs.declared.inserting.Child.{Child}
-use Rattle.edits.specs.declared.inserting.Child.TheVariants.{Nowhere, Before}
-use Rattle.edits.specs.declared.inserting.Admission.{Admission}
-use Rattle.edits.specs.declared.inserting.Admission.TheVariants.{Denied, Admitted}
-use Rattle.edits.specs.declared.inserting.Insertion.{Insertion}
-use Rattle.edits.specs.declared.inserting.Insertion.TheVariants.{Refused, Opens}
+use Rattle.edits.specs.declared.inserting.Admitted.{Admitted}
+use Rattle.edits.specs.declared.EditError.{EditError}
+use Rattle.edits.specs.declared.EditError.TheVariants.{NoTree, NoPlace, BreaksRule, NoRecords, NoRoom}
 use Rattle.edits.specs.Tree.{is_one_item}
 use Rattle.edits.specs.Sizes.{raised, up_from, Climbs}
 use Rattle.edits.specs.Extents.{sum_of}
@@ -44,21 +42,21 @@ stops_at level depth tag k = leb depth level || (counts_at level depth tag && (e
 unfoldable pub left_after : (level depth tag k : ℕ) → ℕ
 left_after level depth tag k = cond (counts_at level depth tag) (k - 1) k
 
-unfoldable pub found_at : (k j : ℕ) → Child
-found_at k j = cond (eqb k 0) (Before j) Nowhere
+unfoldable pub found_at : (k j : ℕ) → Option ℕ
+found_at k j = cond (eqb k 0) (Some j) None
 
 -- records from number j on
-unfoldable pub child_from : (level k j : ℕ) → (tags depths : List ℕ) → Child
+unfoldable pub child_from : (level k j : ℕ) → (tags depths : List ℕ) → Option ℕ
 child_from level k j [] depths = found_at k j
 child_from level k j (tag ∷ tags) [] = found_at k j
 child_from level k j (tag ∷ tags) (depth ∷ depths) =
     cond (stops_at level depth tag k) (found_at k j) (child_from level (left_after level depth tag k) (suc j) tags depths)
 
-abbrev pub child_behind : (n i k : ℕ) → (tags depths : List ℕ) → Child
+abbrev pub child_behind : (n i k : ℕ) → (tags depths : List ℕ) → Option ℕ
 child_behind n i k tags depths = child_from (get_or depths i 0) k (suc i) (between tags (suc i) n) (between depths (suc i) n)
 
-unfoldable pub child_of : (n i k : ℕ) → (tags depths : List ℕ) → Child
-child_of n i k tags depths = cond (ltb i n && opens (get_or tags i 0)) (child_behind n i k tags depths) Nowhere
+unfoldable pub child_of : (n i k : ℕ) → (tags depths : List ℕ) → Option ℕ
+child_of n i k tags depths = cond (ltb i n && opens (get_or tags i 0)) (child_behind n i k tags depths) None
 
 -- the tag of the item there, 0 where the element has none
 unfoldable pub tag_there : (n j level : ℕ) → (tags depths : List ℕ) → ℕ
@@ -74,19 +72,23 @@ unfoldable pub is_element : List ℕ → Bool
 is_element o = is_one_item o && is_child (get_or o 0 0)
 
 -- an unknown element gives no record
-unfoldable pub as_admitted : (j : ℕ) → Needed → Admission
-as_admitted j (Broken r) = Denied 16
-as_admitted j (Takes zero sizes) = Denied 16
-as_admitted j (Takes (suc c) sizes) = Admitted j (suc c) sizes
+abbrev pub admitted : (j c : ℕ) → Measured → Admitted
+admitted j c sizes = record { next = j; records = c; sizes = sizes }
 
-unfoldable pub admitted_at : (j k later tag depth : ℕ) → List ℕ → Admission
-admitted_at j k later tag depth o = cond (is_element o && comes_between k (get_or o 0 0) later) (as_admitted j (needed_by tag (judge_inside tag depth o))) (Denied 16)
+unfoldable pub as_admitted : (j : ℕ) → Needed → Result Admitted EditError
+as_admitted j (Broken r) = Err BreaksRule
+as_admitted j (Takes zero sizes) = Err BreaksRule
+as_admitted j (Takes (suc c) sizes) = Ok (admitted j (suc c) sizes)
 
-unfoldable pub admitted_by : (n i k : ℕ) → List ℕ → (tags depths : List ℕ) → Child → Admission
-admitted_by n i k o tags depths Nowhere = Denied 18
-admitted_by n i k o tags depths (Before j) = admitted_at j k (tag_there n j (get_or depths i 0) tags depths) (get_or tags i 0) (get_or depths i 0) o
+unfoldable pub admitted_at : (j k later tag depth : ℕ) → List ℕ → Result Admitted EditError
+admitted_at j k later tag depth o = cond (is_element o && comes_between k (get_or o 0 0) later) (as_admitted j (needed_by tag (judge_inside tag depth o)))
+    (Err BreaksRule)
 
-abbrev pub admission : (n i k : ℕ) → List ℕ → (tags depths : List ℕ) → Admission
+unfoldable pub admitted_by : (n i k : ℕ) → List ℕ → (tags depths : List ℕ) → Option ℕ → Result Admitted EditError
+admitted_by n i k o tags depths None = Err NoPlace
+admitted_by n i k o tags depths (Some j) = admitted_at j k (tag_there n j (get_or depths i 0) tags depths) (get_or tags i 0) (get_or depths i 0) o
+
+abbrev pub admission : (n i k : ℕ) → List ℕ → (tags depths : List ℕ) → Result Admitted EditError
 admission n i k o tags depths = admitted_by n i k o tags depths (child_of n i k tags depths)
 
 -- ---- whether it fits, and the gap
@@ -104,21 +106,21 @@ gap_for n used i j c stored octets sizes = record {
 abbrev pub top_then : (i octets : ℕ) → Memory → ℕ
 top_then i octets m = get_or (raised (up_from m.lists.parents i) 0 octets m.bodies) 0 0
 
-unfoldable pub opened_by : (n used i j c : ℕ) → Memory → Measured → Insertion
-opened_by n used i j c m Over = Refused 15
+unfoldable pub opened_by : (n used i j c : ℕ) → Memory → Measured → Result Gap EditError
+opened_by n used i j c m Over = Err NoRoom
 opened_by n used i j c m (Sizes stored octets) =
     cond (leb (used + stored.0) (length m.store) && leb (framed_size (top_then i octets.0 m)) 32_768)
-    (Opens (gap_for n used i j c stored.0 octets.0 m.lists.sizes)) (Refused 15)
+    (Ok (gap_for n used i j c stored.0 octets.0 m.lists.sizes)) (Err NoRoom)
 
-unfoldable pub fitted_by : (n used i : ℕ) → Memory → Admission → Insertion
-fitted_by n used i m (Denied q) = Refused q
-fitted_by n used i m (Admitted j c sizes) = cond (leb (n + c) (places_in m)) (opened_by n used i j c m sizes) (Refused 14)
+unfoldable pub fitted_by : (n used i : ℕ) → Memory → Result Admitted EditError → Result Gap EditError
+fitted_by n used i m (Err q) = Err q
+fitted_by n used i m (Ok a) = cond (leb (n + a.records) (places_in m)) (opened_by n used i a.next a.records m a.sizes) (Err NoRecords)
 
-unfoldable pub insertion_in : (n i k : ℕ) → List ℕ → Memory → Filled → Insertion
-insertion_in n i k o m Apart = Refused 16
+unfoldable pub insertion_in : (n i k : ℕ) → List ℕ → Memory → Filled → Result Gap EditError
+insertion_in n i k o m Apart = Err NoTree
 insertion_in n i k o m (Upto used) = fitted_by n used i m (admission n i k o m.lists.tags m.lists.depths)
 
-abbrev pub insertion_of : (n i k : ℕ) → List ℕ → Memory → Insertion
+abbrev pub insertion_of : (n i k : ℕ) → List ℕ → Memory → Result Gap EditError
 insertion_of n i k o m = insertion_in n i k o m (held_as (tree_held n m))
 
 -- what measuring whether it fits asks: memory has the tree's places, and the sizes of the elements around can be followed
@@ -126,13 +128,13 @@ abbrev pub SmallSizes : Measured → Type 0
 SmallSizes Over = Unit {0}
 SmallSizes (Sizes stored octets) = (octets.0 ≤ 32_768) × (stored.0 ≤ 32_770)
 
-pub record Fittable (n used i j : ℕ) (sizes : Measured) (m : Memory) : Type 0 where
+pub record Fittable (n used i : ℕ) (a : Admitted) (m : Memory) : Type 0 where
   pub all : n ≤ places_in m
   pub filled : used ≤ length m.store
   pub climbs : Climbs m.lists.parents m.bodies i 0
-  pub small : SmallSizes sizes
-  pub low : j ≤ n
-  pub place : sum_of (between m.lists.sizes 0 j) ≤ 65_535
+  pub small : SmallSizes a.sizes
+  pub low : a.next ≤ n
+  pub place : sum_of (between m.lists.sizes 0 a.next) ≤ 65_535
 
 -- ---- the gap is opened, and the element laid in it
 

@@ -1,5 +1,6 @@
 pub mod Tree
 pub mod Calls
+pub mod Errors
 pub mod Runs
 pub mod Sites
 pub mod Sizes

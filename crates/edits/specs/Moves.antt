@@ -1,21 +1,20 @@
 -- How lists and the store follow a cut: what lies behind it moves as one part, and numbers that point there follow. Who reads the request has to believe none of
 -- this.
-use Rattle.std.specs.Prelude.{◌≡◌, false, List, ℕ, ◌+◌, ◌-◌, ◌≤◌, ◌<◌, length, get_or}
+use Rattle.std.specs.Prelude.{◌≡◌, false, List, ℕ, ◌+◌, ◌-◌, ◌≤◌, ◌<◌, length, get_or, take, drop}
 use Rattle.std.proofs.lemmas.List.Edits.{sets}
-use Rattle.octets.specs.Places.{between}
 use Rattle.format.specs.Meaning.{opens}
 use Rattle.edits.specs.declared.moving.Move.{Move}
 use Rattle.edits.specs.Sites.{shifted}
 
 -- the part from one place up to another has its places, there and where it goes
-pub record Carries (m : Move) (l : List ℕ) : Type 0 where
+pub record Carries {A : Type 0} (m : Move) (l : List A) : Type 0 where
   pub order : m.from ≤ m.end
   pub inside : m.end ≤ length l
   pub room : m.to + (m.end - m.from) ≤ length l
 
 -- it lies there then, changed as said
-abbrev pub carried : Move → (List ℕ → List ℕ) → List ℕ → List ℕ
-carried m f l = sets l m.to (f (between l m.from m.end))
+abbrev pub carried : {A : Type 0} → Move → (List A → List A) → List A → List A
+carried m f l = sets l m.to (f (take (m.end - m.from) (drop m.from l)))
 
 -- each number of a part has its place and can be stored
 pub record Renumbers (first last from to : ℕ) (parents : List ℕ) : Type 0 where

@@ -1,14 +1,14 @@
 -- Removing a record: what it comes to, by what memory holds, a refusal or the gap that is to be closed behind the item and all below it. Who reads the request has to
 -- believe none of this.
-use Rattle.std.specs.Prelude.{cond, ◌&&◌, List, ℕ, suc, ◌+◌, ◌≤◌, ◌<◌, ltb, length, get_or}
+use Rattle.std.specs.Prelude.{cond, ◌&&◌, List, ℕ, suc, ◌+◌, ◌≤◌, ◌<◌, ltb, length, get_or, Result, Ok, Err}
 use Rattle.octets.specs.Counts.{as_octets}
 use Rattle.octets.specs.Places.{between}
 use Rattle.format.specs.State.{Memory, tree_held}
 use Rattle.state.specs.declared.Filled.{Filled}
 use Rattle.state.specs.declared.Filled.TheVariants.{Apart, Upto}
 use Rattle.state.specs.Order.{held_as, added_by}
-use Rattle.edits.specs.declared.removing.Removal.{Removal}
-use Rattle.edits.specs.declared.removing.Removal.TheVariants.{Refused, Closes}
+use Rattle.edits.specs.declared.EditError.{EditError}
+use Rattle.edits.specs.declared.EditError.TheVariants.{NoTree, NoPlace}
 use Rattle.edits.specs.declared.resite.Gap.{Gap}
 use Rattle.edits.specs.Extents.{deeper, sum_of}
 
@@ -38,12 +38,12 @@ pub record Closable (n i : ℕ) (tags depths parents starts sizes bodies : List 
   pub before : sum_of (between sizes 0 i) ≤ 65_535
   pub taken : sum_of (between sizes i (past_item n i depths)) ≤ 65_535
 
--- 16 where memory holds no tree, 18 where there is no such record below the top
-unfoldable pub removal_in : (n i : ℕ) → Memory → Filled → Removal
-removal_in n i m Apart = Refused 16
+-- there is a tree, and such a record below its top
+unfoldable pub removal_in : (n i : ℕ) → Memory → Filled → Result Gap EditError
+removal_in n i m Apart = Err NoTree
 removal_in n i m (Upto used) =
     let l = m.lists in
-    cond (ltb 0 i && ltb i n) (Closes (gap_of n i used l.tags l.depths l.parents l.starts l.sizes m.bodies m.store)) (Refused 18)
+    cond (ltb 0 i && ltb i n) (Ok (gap_of n i used l.tags l.depths l.parents l.starts l.sizes m.bodies m.store)) (Err NoPlace)
 
-abbrev pub removal_of : (n i : ℕ) → Memory → Removal
+abbrev pub removal_of : (n i : ℕ) → Memory → Result Gap EditError
 removal_of n i m = removal_in n i m (held_as (tree_held n m))

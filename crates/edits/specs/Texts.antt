@@ -1,26 +1,31 @@
 -- A text that becomes another one where it lies, by the lists of memory that holds a tree: whether it is there, whether the new one has room, and what is left. Who reads
 -- the request has to believe none of this.
-use Rattle.std.specs.Prelude.{◌≡◌, Bool, ◌&&◌, List, ◌++◌, ℕ, suc, ◌+◌, ◌-◌, ◌≤◌, ◌<◌, leb, ltb, length, get_or, set}
+use Rattle.std.specs.Prelude.{◌≡◌, Bool, ◌&&◌, List, ◌++◌, ℕ, suc, ◌+◌, ◌-◌, ◌≤◌, ◌<◌, leb, ltb, length, get_or, set, Result, Ok, Err}
 use Rattle.std.proofs.Math.Option.{Option, none, some}
 use Rattle.std.proofs.lemmas.List.Edits.{sets}
 use Rattle.octets.specs.Places.{between}
 use Rattle.values.specs.Table.{known}
+use Rattle.format.specs.declared.Refusal.{Refusal}
+use Rattle.format.specs.Answers.{refusal}
 use Rattle.format.specs.Tree.{Items}
 use Rattle.format.specs.Judge.{Judged, is_text}
 use Rattle.format.specs.Judge.Judged.{refused, accepted}
-use Rattle.format.specs.State.{packed_store}
+use Rattle.format.specs.State.{Memory, packed_store, tree_held}
 use Rattle.survey.specs.Normal.{framed_size}
-use Rattle.edits.specs.declared.replacing.Replacement.{Replacement}
-use Rattle.edits.specs.declared.replacing.Replacement.TheVariants.{Refused, Fits}
+use Rattle.edits.specs.Tree.Edit.{replace}
+use Rattle.edits.specs.Calls.{edited_in}
 use Rattle.edits.specs.Sites.{shifted_starts}
 use Rattle.edits.specs.Sizes.{raised, up_from, Climbs}
 use Rattle.edits.specs.Moves.{Shifts}
 
--- what an edit comes to: 16 where there is no tree, the number of the refusal, or how much of the store the tree takes that is to be edited
-unfoldable pub replacement_in : Option Items → Judged → Replacement
-replacement_in none j = Refused 16
-replacement_in (some t) (refused r) = Refused r.number
-replacement_in (some t) (accepted u) = Fits (length (packed_store t))
+-- what an edit comes to: 16 where there is no tree, the refusal, or how much of the store the tree takes that is to be edited
+unfoldable pub replacement_in : Option Items → Judged → Result ℕ Refusal
+replacement_in none j = Err (refusal 16 0)
+replacement_in (some t) (refused r) = Err r
+replacement_in (some t) (accepted u) = Ok (length (packed_store t))
+
+abbrev pub replacement_of : (n i : ℕ) → List ℕ → Memory → Result ℕ Refusal
+replacement_of n i o m = replacement_in (tree_held n m) (edited_in m (replace i o) (tree_held n m))
 
 -- record i of n is a text below the top: its tag and that of its parent's record tell
 unfoldable pub is_text_at : (n i : ℕ) → (tags parents : List ℕ) → Bool

@@ -11,14 +11,12 @@ pub fn end_of(n: usize, depths: &[u8], number: usize) -> usize
     ensures { result ≡ suc number + deeper (get_or depths.now number 0) (between depths.now (suc number) n) }
 {
     let depth = depths[number];
-    let mut j = number + 1;
-    while j < n {
+    for j in number + 1..n {
         if depths[j] <= depth {
             return j;
         }
-        j = j + 1;
     }
-    j
+    n
 }
 
 // What the records from a number up to another take of the store: one that holds items has the size 0.
@@ -27,10 +25,8 @@ pub fn sum_of(sizes: &[u16], first: usize, last: usize) -> Octets
     ensures { result.0 ≡ sum_of (between sizes.now first last) }
 {
     let mut total: usize = 0;
-    let mut j = first;
-    while j < last {
-        total = total + sizes[j] as usize;
-        j = j + 1;
+    for size in &sizes[first..last] {
+        total += *size as usize;
     }
     Octets(total)
 }

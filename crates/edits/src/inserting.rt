@@ -1,51 +1,33 @@
 // `insert`: an element put into a tree in lent memory, with all below it, at a place among the child elements of a record.
-ghost use Rattle.std.specs.Prelude.{◌≡◌, ◌≤◌, ◌<◌, length};
+ghost use Rattle.std.specs.Prelude.{◌≡◌, ◌≤◌, ◌<◌, length, Ok};
 ghost use Rattle.format.specs.Meaning.{is_child};
 ghost use Rattle.state.specs.Taking.{memory};
 ghost use Rattle.edits.specs.Tree.{is_one_item};
 ghost use Rattle.edits.specs.Tree.Edit.{insert as insertion};
 ghost use Rattle.edits.specs.Calls.{EditClaim};
 ghost use Rattle.edits.specs.Insertion.{counts_at, stops_at, left_after, found_at, child_behind, child_of, tag_there, comes_between, is_element, admitted_at, admission, fitted_by, insertion_of, Fittable, PutsIn, PutIn};
-ghost use Rattle.edits.specs.declared.inserting.Admission.TheVariants.{Admitted};
 
 use crate::extent::sum_of;
 use crate::lay::{Laid, Level, lay_items};
 use crate::moving::Move;
-use crate::raising::top_size;
-use crate::refused;
+use crate::raising::top_fits;
 use crate::resite::{Gap, resite};
 use crate::taking::places_in;
+use crate::{EditError, refused};
 use format::{EditAnswer, octet_at};
 use octets::{Lies, Octets, item_at};
-use state::{Filled, framed_size, held};
+use state::{Filled, held};
 use survey::{Measured, Needed, survey_inside};
 use tags::holds_items;
 use text::index_of;
 use values::is_attribute;
 
-// Where a child element comes: before the record of a number, which is the element's next or the first behind it; or there is no such place.
+// An element that may stand at a place: before which record it comes, how many records it has, and what they take.
 #[derive(Clone, Copy)]
-enum Child {
-    Nowhere,
-    Before(usize),
-}
-
-// What is said of octets at a place: the number of the refusal, or before which record they come, how many they have, and what they take.
-#[derive(Clone, Copy)]
-enum Admission {
-    Denied(u8),
-    Admitted {
-        next: usize,
-        records: usize,
-        sizes: Measured,
-    },
-}
-
-// What putting them in comes to: the number of the refusal, or the gap.
-#[derive(Clone, Copy)]
-enum Insertion {
-    Refused(u8),
-    Opens(Gap),
+struct Admitted {
+    next: usize,
+    records: usize,
+    sizes: Measured,
 }
 
 fn is_child(tag: u8) -> bool
@@ -104,43 +86,42 @@ fn left_after(level: u8, depth: u8, tag: u8, left: usize) -> usize
     left
 }
 
-fn found_at(left: usize, number: usize) -> Child
+fn found_at(left: usize, number: usize) -> Option<usize>
     ensures { result ≡ found_at left number }
 {
     if left == 0 {
-        return Child::Before(number);
+        return Some(number);
     }
-    Child::Nowhere
+    None
 }
 
-// The records behind that of an element are looked at until `place` child elements of it are passed.
-fn child_behind(n: usize, number: usize, place: usize, tags: &[u8], depths: &[u8]) -> Child
+// Before which record a child element comes: the element's next, or the first behind it. The records behind that of an element are looked at until `place`
+// child elements of it are passed.
+fn child_behind(n: usize, number: usize, place: usize, tags: &[u8], depths: &[u8]) -> Option<usize>
     requires { (number < n) × (n ≤ length tags.now) × (n ≤ length depths.now) }
     ensures { result ≡ child_behind n number place tags.now depths.now }
 {
     let level = depths[number];
     let mut left = place;
-    let mut next = number + 1;
-    while next < n {
+    for next in number + 1..n {
         if stops_at(level, depths[next], tags[next], left) {
             return found_at(left, next);
         }
         left = left_after(level, depths[next], tags[next], left);
-        next = next + 1;
     }
-    found_at(left, next)
+    found_at(left, n)
 }
 
 // Only a record that holds items has such places.
-fn child_of(n: usize, number: usize, place: usize, tags: &[u8], depths: &[u8]) -> Child
+fn child_of(n: usize, number: usize, place: usize, tags: &[u8], depths: &[u8]) -> Option<usize>
     requires { (n ≤ length tags.now) × (n ≤ length depths.now) }
     ensures { result ≡ child_of n number place tags.now depths.now }
 {
     if number >= n {
-        return Child::Nowhere;
+        return None;
     }
     if !holds_items(tags[number]) {
-        return Child::Nowhere;
+        return None;
     }
     child_behind(n, number, place, tags, depths)
 }
@@ -202,31 +183,30 @@ fn admitted_at(
     tag: u8,
     depth: u8,
     element: &[u8],
-) -> Admission
+) -> Result<Admitted, EditError>
     ensures { result ≡ admitted_at next place later tag depth element.now }
 {
     if !is_element(element) {
-        return Admission::Denied(16);
+        return Err(EditError::BreaksRule);
     }
     if !comes_between(place, octet_at(element, 0), later) {
-        return Admission::Denied(16);
+        return Err(EditError::BreaksRule);
     }
     match survey_inside(tag, depth, element) {
-        Needed::Refused(_) => Admission::Denied(16),
+        Needed::Refused(_) => Err(EditError::BreaksRule),
         Needed::Takes { records, sizes } => {
             if records == 0 {
-                return Admission::Denied(16);
+                return Err(EditError::BreaksRule);
             }
-            Admission::Admitted {
+            Ok(Admitted {
                 next,
                 records,
                 sizes,
-            }
+            })
         }
     }
 }
 
-// 18 where there is no such place, 16 where the element may not stand there.
 fn admit(
     n: usize,
     number: usize,
@@ -234,26 +214,24 @@ fn admit(
     element: &[u8],
     tags: &[u8],
     depths: &[u8],
-) -> Admission
+) -> Result<Admitted, EditError>
     requires { (n ≤ length tags.now) × (n ≤ length depths.now) }
     ensures { result ≡ admission n number place element.now tags.now depths.now }
 {
-    let Child::Before(next) = child_of(n, number, place, tags, depths) else {
-        return Admission::Denied(18);
+    let Some(next) = child_of(n, number, place, tags, depths) else {
+        return Err(EditError::NoPlace);
     };
     let depth = octet_at(depths, number);
     let later = tag_there(n, next, depth, tags, depths);
     admitted_at(next, place, later, octet_at(tags, number), depth, element)
 }
 
-// Whether the element has its places and octets, and the gap for it: 14 where a list of the seven is too short, 15 where the store is or the normal form is too long.
+// The gap for an element that has its places in the lists and its octets in the store.
 fn fit(
     n: usize,
     used: usize,
     number: usize,
-    next: usize,
-    records: usize,
-    takes: Measured,
+    admitted: Admitted,
     tags: &[u8],
     kinds: &[u8],
     depths: &[u8],
@@ -262,26 +240,26 @@ fn fit(
     sizes: &[u16],
     bodies: &[u16],
     store: &[u8],
-) -> Insertion
-    requires { Fittable n used number next takes (memory tags.now kinds.now depths.now parents.now starts.now sizes.now bodies.now store.now) }
-    ensures { result ≡ fitted_by n used number (memory tags.now kinds.now depths.now parents.now starts.now sizes.now bodies.now store.now) (Admitted next records takes) }
+) -> Result<Gap, EditError>
+    requires { Fittable n used number admitted (memory tags.now kinds.now depths.now parents.now starts.now sizes.now bodies.now store.now) }
+    ensures { result ≡ fitted_by n used number (memory tags.now kinds.now depths.now parents.now starts.now sizes.now bodies.now store.now) (Ok admitted) }
 {
+    let Admitted { next, records, .. } = admitted;
     if records > places_in(tags, kinds, depths, parents, starts, sizes, bodies) - n {
-        return Insertion::Refused(14);
+        return Err(EditError::NoRecords);
     }
     let Measured::Sizes {
         store: stored,
         octets,
-    } = takes
+    } = admitted.sizes
     else {
-        return Insertion::Refused(15);
+        return Err(EditError::NoRoom);
     };
     if stored.0 > store.len() - used {
-        return Insertion::Refused(15);
+        return Err(EditError::NoRoom);
     }
-    let top = top_size(parents, bodies, number, Octets(0), octets);
-    if framed_size(top.0 as u16).0 > 32_768 {
-        return Insertion::Refused(15);
+    if !top_fits(parents, bodies, number, Octets(0), octets) {
+        return Err(EditError::NoRoom);
     }
     let place = sum_of(sizes, 0, next).0;
     let moved = Move {
@@ -294,7 +272,7 @@ fn fit(
         end: used,
         to: place + stored.0,
     };
-    Insertion::Opens(Gap {
+    Ok(Gap {
         records: moved,
         octets: raised,
         element: number,
@@ -303,7 +281,7 @@ fn fit(
     })
 }
 
-// Nothing is written: 16 where memory holds no tree, 18 where there is no such place, 16 where the element may not stand there, 14, 15.
+// The gap for the element, where memory holds a tree with such a place, and the element may stand there and has room. Nothing is written.
 fn plan_insertion(
     n: usize,
     number: usize,
@@ -317,25 +295,18 @@ fn plan_insertion(
     sizes: &[u16],
     bodies: &[u16],
     store: &[u8],
-) -> Insertion
+) -> Result<Gap, EditError>
     ensures { result ≡ insertion_of n number place element.now (memory tags.now kinds.now depths.now parents.now starts.now sizes.now bodies.now store.now) }
 {
     let Filled::Upto(used) = held(
         n, tags, kinds, depths, parents, starts, sizes, bodies, store,
     ) else {
-        return Insertion::Refused(16);
+        return Err(EditError::NoTree);
     };
-    match admit(n, number, place, element, tags, depths) {
-        Admission::Denied(refusal) => Insertion::Refused(refusal),
-        Admission::Admitted {
-            next,
-            records,
-            sizes: takes,
-        } => fit(
-            n, used, number, next, records, takes, tags, kinds, depths, parents, starts, sizes,
-            bodies, store,
-        ),
-    }
+    let admitted = admit(n, number, place, element, tags, depths)?;
+    fit(
+        n, used, number, admitted, tags, kinds, depths, parents, starts, sizes, bodies, store,
+    )
 }
 
 // The gap is opened, and the element laid in it as an item of record `number`.
@@ -399,8 +370,8 @@ pub fn insert(
     match plan_insertion(
         n, number, place, element, tags, kinds, depths, parents, starts, sizes, bodies, store,
     ) {
-        Insertion::Refused(refusal) => refused(refusal),
-        Insertion::Opens(gap) => {
+        Err(error) => refused(error),
+        Ok(gap) => {
             put_in(
                 gap, number, element, tags, kinds, depths, parents, starts, sizes, bodies, store,
             );

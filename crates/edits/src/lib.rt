@@ -5,9 +5,9 @@
 
 ghost use Rattle.std.specs.Prelude.{◌≡◌};
 ghost use Rattle.format.specs.declared.EditAnswer.TheVariants.{NotChanged};
-ghost use Rattle.format.specs.Answers.{refusal};
+ghost use Rattle.edits.specs.Errors.{refusal_of};
 
-use format::{EditAnswer, refuse};
+use format::{EditAnswer, Refusal, refuse};
 
 mod extent;
 mod inserting;
@@ -26,8 +26,37 @@ pub use removing::remove;
 pub use replacing::replace_text;
 pub use taking::{places_in, take_in};
 
-fn refused(number: u8) -> EditAnswer
-    ensures { result ≡ NotChanged (refusal number 0) }
+// Why an edit is refused.
+#[derive(Clone, Copy)]
+enum EditError {
+    // Memory holds no tree.
+    NoTree,
+    // There is no such record or place.
+    NoPlace,
+    // What is put in may not stand there.
+    BreaksRule,
+    // A list is too short.
+    NoRecords,
+    // The store is too short, or the normal form would be too long.
+    NoRoom,
+}
+
+impl From<EditError> for Refusal {
+    ghost from_gives = { λ error refusal. refusal ≡ refusal_of error };
+
+    fn from(error: EditError) -> Refusal {
+        match error {
+            EditError::NoTree => refuse(16, 0),
+            EditError::NoPlace => refuse(18, 0),
+            EditError::BreaksRule => refuse(16, 0),
+            EditError::NoRecords => refuse(14, 0),
+            EditError::NoRoom => refuse(15, 0),
+        }
+    }
+}
+
+fn refused(error: EditError) -> EditAnswer
+    ensures { result ≡ NotChanged (refusal_of error) }
 {
-    EditAnswer::NotChanged(refuse(number, 0))
+    EditAnswer::NotChanged(Refusal::from(error))
 }

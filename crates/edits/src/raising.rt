@@ -1,5 +1,6 @@
 // The sizes of the elements around an edit: each body grows or shrinks by what the item in it does, with its header, whose form may change too.
-ghost use Rattle.std.specs.Prelude.{◌≡◌, ◌+◌, ◌-◌, ◌≤◌, ◌<◌, min, get_or};
+ghost use Rattle.std.specs.Prelude.{◌≡◌, ◌+◌, ◌-◌, ◌≤◌, ◌<◌, leb, get_or};
+ghost use Rattle.survey.specs.Normal.{framed_size};
 ghost use Rattle.edits.specs.Sizes.{raised, up_from, Climbs};
 
 use octets::Octets;
@@ -13,10 +14,10 @@ fn regrown(size: u16, old: Octets, new: Octets) -> Octets
     Octets(size as usize - old.0 + new.0)
 }
 
-// The size that the top's body would have, stopped at 32,769. Nothing is touched.
-pub fn top_size(parents: &[u16], bodies: &[u16], element: usize, was: Octets, is: Octets) -> Octets
+// Whether the top, with its header, would have no more octets than an object may. Nothing is touched.
+pub fn top_fits(parents: &[u16], bodies: &[u16], element: usize, was: Octets, is: Octets) -> bool
     requires { Climbs parents.now bodies.now element was.0 × (is.0 < 65_536) }
-    ensures { result.0 ≡ min 32_769 (get_or (raised (up_from parents.now element) was.0 is.0 bodies.now) 0 0) }
+    ensures { result ≡ leb (framed_size (get_or (raised (up_from parents.now element) was.0 is.0 bodies.now) 0 0)) 32_768 }
 {
     let mut g = element;
     let mut old = was;
@@ -25,7 +26,7 @@ pub fn top_size(parents: &[u16], bodies: &[u16], element: usize, was: Octets, is
         let size = bodies[g];
         let grown = regrown(size, old, new);
         if grown.0 > 32_768 {
-            return Octets(32_769);
+            return false;
         }
         old = framed_size(size);
         new = framed_size(grown.0 as u16);
@@ -33,9 +34,9 @@ pub fn top_size(parents: &[u16], bodies: &[u16], element: usize, was: Octets, is
     }
     let all = regrown(bodies[0], old, new);
     if all.0 > 32_768 {
-        return Octets(32_769);
+        return false;
     }
-    all
+    framed_size(all.0 as u16).0 <= 32_768
 }
 
 // The new sizes of all elements around a place, from the innermost to the top.

@@ -7,8 +7,8 @@ ghost use Rattle.edits.specs.Removal.{gap_of, Closable, removal_of};
 
 use crate::extent::{end_of, sum_of};
 use crate::moving::Move;
-use crate::refused;
 use crate::resite::{Gap, resite};
+use crate::{EditError, refused};
 use format::{EditAnswer, octet_at};
 use octets::Octets;
 use state::{Filled, added_by, held};
@@ -60,14 +60,7 @@ fn gap_of(
     }
 }
 
-// What removing comes to: the number of the refusal, or the gap.
-#[derive(Clone, Copy)]
-enum Removal {
-    Refused(u8),
-    Closes(Gap),
-}
-
-// Nothing is written: 16 where memory holds no tree, 18 where there is no such record below the top.
+// The gap that removing closes, where memory holds a tree with such a record below the top. Nothing is written.
 fn plan_removal(
     n: usize,
     number: usize,
@@ -79,21 +72,21 @@ fn plan_removal(
     sizes: &[u16],
     bodies: &[u16],
     store: &[u8],
-) -> Removal
+) -> Result<Gap, EditError>
     ensures { result ≡ removal_of n number (memory tags.now kinds.now depths.now parents.now starts.now sizes.now bodies.now store.now) }
 {
     let Filled::Upto(used) = held(
         n, tags, kinds, depths, parents, starts, sizes, bodies, store,
     ) else {
-        return Removal::Refused(16);
+        return Err(EditError::NoTree);
     };
     if number == 0 {
-        return Removal::Refused(18);
+        return Err(EditError::NoPlace);
     }
     if number >= n {
-        return Removal::Refused(18);
+        return Err(EditError::NoPlace);
     }
-    Removal::Closes(gap_of(
+    Ok(gap_of(
         n, number, used, tags, depths, parents, starts, sizes, bodies, store,
     ))
 }
@@ -117,8 +110,8 @@ pub fn remove(
     match plan_removal(
         n, number, tags, kinds, depths, parents, starts, sizes, bodies, store,
     ) {
-        Removal::Refused(refusal) => refused(refusal),
-        Removal::Closes(gap) => {
+        Err(error) => refused(error),
+        Ok(gap) => {
             resite(
                 gap, tags, kinds, depths, parents, starts, sizes, bodies, store,
             );

@@ -1,27 +1,20 @@
 // `replace_text`: a text of a tree in lent memory becomes another one.
 ghost use Rattle.std.specs.Prelude.{◌≡◌, ◌+◌, ◌≤◌, ◌<◌, length, set};
 ghost use Rattle.std.proofs.lemmas.List.Edits.{sets};
-ghost use Rattle.format.specs.State.{tree_held};
 ghost use Rattle.edits.specs.Tree.Edit.{replace};
-ghost use Rattle.edits.specs.Calls.{edited_in, EditClaim};
+ghost use Rattle.edits.specs.Calls.{EditClaim};
 ghost use Rattle.state.specs.Taking.{memory};
-ghost use Rattle.edits.specs.Texts.{replacement_in, is_text_at, text_fits, Sized, Settable, TextSet};
+ghost use Rattle.edits.specs.Errors.{planned};
+ghost use Rattle.edits.specs.Texts.{replacement_of, is_text_at, text_fits, Sized, Settable, TextSet};
 
 use crate::moving::{Move, move_to};
-use crate::raising::{raise, top_size};
-use crate::refused;
+use crate::raising::{raise, top_fits};
 use crate::shifting::shift_starts;
+use crate::{EditError, refused};
 use format::{EditAnswer, octet_at};
 use octets::Octets;
 use state::{Filled, framed_size, held};
 use tags::holds_text;
-
-// What replacing comes to: the number of the refusal, or how much of the store is taken before.
-#[derive(Clone, Copy)]
-enum Replacement {
-    Refused(u8),
-    Fits(usize),
-}
 
 // Record `number` of `n` is a text below the top.
 fn is_text_at(n: usize, number: usize, tags: &[u8], parents: &[u16]) -> bool
@@ -57,17 +50,16 @@ fn text_fits(
     if used - size as usize + long.0 > room.0 {
         return false;
     }
-    let top = top_size(
+    top_fits(
         parents,
         bodies,
         parents[number] as usize,
         framed_size(size),
         framed_size(long.0 as u16),
-    );
-    framed_size(top.0 as u16).0 <= 32_768
+    )
 }
 
-// Nothing is written: 16 where memory holds no tree, 18 where there is no such text, 16 where the new one breaks a rule, 15 where it has no room.
+// How much of the store is taken before, where there is such a text and the new one may stand there and has room. Nothing is written.
 fn plan_text(
     n: usize,
     number: usize,
@@ -80,27 +72,27 @@ fn plan_text(
     sizes: &[u16],
     bodies: &[u16],
     store: &[u8],
-) -> Replacement
-    ensures { result ≡ replacement_in (tree_held n (memory tags.now kinds.now depths.now parents.now starts.now sizes.now bodies.now store.now)) (edited_in (memory tags.now kinds.now depths.now parents.now starts.now sizes.now bodies.now store.now) (replace number text.now) (tree_held n (memory tags.now kinds.now depths.now parents.now starts.now sizes.now bodies.now store.now))) }
+) -> Result<usize, EditError>
+    ensures { planned result ≡ replacement_of n number text.now (memory tags.now kinds.now depths.now parents.now starts.now sizes.now bodies.now store.now) }
 {
     let Filled::Upto(used) = held(
         n, tags, kinds, depths, parents, starts, sizes, bodies, store,
     ) else {
-        return Replacement::Refused(16);
+        return Err(EditError::NoTree);
     };
     if !is_text_at(n, number, tags, parents) {
-        return Replacement::Refused(18);
+        return Err(EditError::NoPlace);
     }
     let element = octet_at(tags, parents[number] as usize);
     if !records::is_text_kept(element, tags[number], text) {
-        return Replacement::Refused(16);
+        return Err(EditError::BreaksRule);
     }
     let long = Octets(text.len());
     let room = Octets(store.len());
     if !text_fits(number, long, used, room, parents, sizes, bodies) {
-        return Replacement::Refused(15);
+        return Err(EditError::NoRoom);
     }
-    Replacement::Fits(used)
+    Ok(used)
 }
 
 // Octets put at a place where they fit.
@@ -180,8 +172,8 @@ pub fn replace_text(
     match plan_text(
         n, number, text, tags, kinds, depths, parents, starts, sizes, bodies, store,
     ) {
-        Replacement::Refused(refusal) => refused(refusal),
-        Replacement::Fits(used) => {
+        Err(error) => refused(error),
+        Ok(used) => {
             set_text(
                 n, number, used, text, tags, parents, starts, sizes, bodies, store,
             );

@@ -2,7 +2,7 @@
 ghost use Rattle.state.specs.Taking.{memory};
 ghost use Rattle.edits.specs.Resites.{Resites, Resited};
 
-use crate::moving::{Move, move_to, move_to16};
+use crate::moving::{Move, move_to};
 use crate::raising::raise;
 use crate::shifting::{carry_parents, carry_starts};
 use octets::Octets;
@@ -41,6 +41,6 @@ pub fn resite(
     move_to(depths, records);
     carry_parents(parents, records);
     carry_starts(tags, starts, records, octets.from, octets.to);
-    move_to16(sizes, records);
-    move_to16(bodies, records);
+    move_to(sizes, records);
+    move_to(bodies, records);
 }

@@ -5,8 +5,8 @@ ghost use Rattle.octets.specs.Places.{between};
 ghost use Rattle.edits.specs.Sites.{shifted, start_after, shifted_starts};
 ghost use Rattle.edits.specs.Moves.{carried, Renumbers, CarriesParents, Movable, Shifts, CarriesStarts};
 
-use crate::moving::{Move, move_to16};
-use tags::{Listed, listed_as};
+use crate::moving::{Move, move_to};
+use tags::holds_items;
 
 // The number of a parent, where the records from `from` on are those from `to` on.
 fn next_parent(parent: u16, from: usize, to: usize) -> u16
@@ -25,10 +25,8 @@ pub fn shift_parents(parents: &mut [u16], first: usize, last: usize, from: usize
     requires { Renumbers first last from to parents.old }
     ensures { parents.new ≡ sets parents.old first (map (shifted from to) (between parents.old first last)) }
 {
-    let mut i = first;
-    while i < last {
+    for i in first..last {
         parents[i] = next_parent(parents[i], from, to);
-        i = i + 1;
     }
 }
 
@@ -44,11 +42,10 @@ fn next_start(tag: u8, start: u16, was: usize, is: usize) -> u16
     requires { Movable was is tag start }
     ensures { result ≡ start_after was is tag start }
 {
-    match listed_as(0, tag) {
-        Listed::Nothing => move_start(start, was, is),
-        Listed::Inside => start,
-        Listed::Value(_) => move_start(start, was, is),
+    if holds_items(tag) {
+        return start;
     }
+    move_start(start, was, is)
 }
 
 // The starts of the records from one number up to another.
@@ -63,10 +60,8 @@ pub fn shift_starts(
     requires { Shifts first last was is tags.now starts.old }
     ensures { starts.new ≡ sets starts.old first (shifted_starts was is (between tags.now first last) (between starts.old first last)) }
 {
-    let mut i = first;
-    while i < last {
+    for i in first..last {
         starts[i] = next_start(tags[i], starts[i], was, is);
-        i = i + 1;
     }
 }
 
@@ -75,7 +70,7 @@ pub fn carry_parents(parents: &mut [u16], part: Move)
     requires { CarriesParents part parents.old }
     ensures { parents.new ≡ carried part (map (shifted part.from part.to)) parents.old }
 {
-    move_to16(parents, part);
+    move_to(parents, part);
     let last = part.to + (part.end - part.from);
     shift_parents(parents, part.to, last, part.from, part.to);
 }
@@ -85,7 +80,7 @@ pub fn carry_starts(tags: &[u8], starts: &mut [u16], part: Move, was: usize, is:
     requires { CarriesStarts part was is tags.now starts.old }
     ensures { starts.new ≡ carried part (shifted_starts was is (between tags.now part.to (part.to + (part.end - part.from)))) starts.old }
 {
-    move_to16(starts, part);
+    move_to(starts, part);
     let last = part.to + (part.end - part.from);
     shift_starts(tags, starts, part.to, last, was, is);
 }

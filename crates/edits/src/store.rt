@@ -15,15 +15,7 @@ use values::{Kind, put_normal};
 fn is_text(kind: Kind) -> bool
     ensures { result ≡ is_text (some kind) }
 {
-    match kind {
-        Kind::HoldsItems => false,
-        Kind::HoldsTokens => false,
-        Kind::HoldsText => true,
-        Kind::HoldsPlain => false,
-        Kind::HoldsTime => false,
-        Kind::HoldsBearer => false,
-        Kind::HoldsNumber(_) => false,
-    }
+    matches!(kind, Kind::HoldsText)
 }
 
 // A text's expansion, by the index of the table in force: written from a place on where it fits, and the place after it.

@@ -3,14 +3,15 @@ use mathlib.Core.Path.{◌≡◌, refl, sym, ap, ◌∙◌}
 use mathlib.Core.Bool.{Bool, true, false, cond, ◌&&◌, and-false}
 use mathlib.Core.Option.{Option, none, some}
 use mathlib.Core.List.{List}
-use Prim.Native.Nat.{ℕ, suc, ◌+◌, ◌-◌, ◌≤◌, ◌<◌, min}
+use Prim.Native.Nat.{ℕ, suc, ◌+◌, ◌-◌, ◌≤◌, ◌<◌}
 use native.Mathlib.Nat.{add-sub_cancel_left}
 use native.Mathlib.Numerals.{add-one}
 use native.Mathlib.Omega.{arith}
 use lib.Dec.{eqb, leb}
-use lib.ListN.{length, take, drop, set, length-set}
+use lib.ListN.{length, take, drop, set}
 use lib.Seq.{set_out}
-use borrow.Author.Tests.{eq-eqb, ne_eqb, eqb-true, le-leb, lt-leb}
+use borrow.Author.Tests.{eq-eqb, ne_eqb, eqb-true, le-leb, lt-leb, leb-true, leb-false}
+use Rattle.std.specs.Prelude.{Option as Optional, Some, None}
 use Rattle.octets.specs.declared.counts.Octets.{Octets as OctetCount}
 use Rattle.octets.specs.Counts.{as_octets}
 use Rattle.octets.specs.Header.{length_field}
@@ -22,13 +23,12 @@ use Rattle.format.specs.Writer.{onward}
 use Rattle.tags.specs.declared.Listed.{Listed}
 use Rattle.tags.specs.declared.Listed.TheVariants.{Nothing, Inside, Value}
 use Rattle.tags.specs.Listed.{listed_as}
-use Rattle.tags.proofs.Listing.{is-nothing, is-inside, is-value}
 use Rattle.survey.specs.Normal.{framed_size}
 use Rattle.survey.proofs.Parts.{framed_is}
 use Rattle.compare.specs.Normal.{is_written}
 use Rattle.state.specs.declared.Filled.{Filled}
 use Rattle.state.specs.declared.Filled.TheVariants.{Apart, Upto}
-use Rattle.state.specs.Order.{nth, lies_to, filled_from, as_filled, item_adds, added_by, right_below, no_sums}
+use Rattle.state.specs.Order.{nth, lies_to, filled_from, as_filled, item_adds, added_by, right_below, no_sums, short}
 
 -- ---- value_to
 module _ (k : Kind) (at : ℕ) (lent : List ℕ) (start size : ℕ) where
@@ -92,7 +92,6 @@ told-apart (some j) q = let z : ◌≡◌ {A = ℕ} 0 1 = cc in absurd (omega ar
 
 -- what was to be known from the first record on is what is to be known from here on
 pub record Lying (tags parents starts sizes lent : List ℕ) (n i at : ℕ) : Type 0 where
-  pub high : i ≤ n
   pub rest : filled_from (nth tags) (nth parents) (nth starts) (nth sizes) lent n 0 0 ≡ filled_from (nth tags) (nth parents) (nth starts) (nth sizes) lent (n - i) i at
 
 module _ (tags parents starts sizes lent : List ℕ) (n : ℕ) where
@@ -100,7 +99,7 @@ module _ (tags parents starts sizes lent : List ℕ) (n : ℕ) where
   from m i at = filled_from (nth tags) (nth parents) (nth starts) (nth sizes) lent m i at
 
   pub lying-start : Lying tags parents starts sizes lent n 0 0
-  lying-start = let z : n ≡ n - 0 = omega arith in record { high = omega arith; rest = ap (λ m. from m 0 0) z }
+  lying-start = let z : n ≡ n - 0 = omega arith in record { rest = ap (λ m. from m 0 0) z }
 
   module _ (i at : ℕ) (v : Lying tags parents starts sizes lent n i at) where
     pub lying-end : n ≤ i → Upto at ≡ as_filled (filled_from (nth tags) (nth parents) (nth starts) (nth sizes) lent n 0 0)
@@ -125,7 +124,6 @@ module _ (tags parents starts sizes lent : List ℕ) (n : ℕ) where
       pub lying-next : (k : ℕ) → r ≡ Upto k → Lying tags parents starts sizes lent n (i + 1) k
       unfolding onward
       lying-next k q = record {
-        high = omega arith;
         rest = step ∙ (ap (λ o. onward o (λ j. from (n - suc i) (suc i) j)) (told-upto one k (sym is_one ∙ q)) ∙ ap (λ j. from (n - j) j k) (sym (add-one i)));
       }
 
@@ -159,41 +157,32 @@ pub ruleset added-ways = (added-beyond, added-inside)
 pub put-beyond : (sums : List ℕ) (d sum : ℕ) → length sums ≤ d → sums ≡ set sums d sum
 put-beyond sums d sum h = sym (set_out sums d sum h)
 
-module _ (tag : ℕ) (r : Listed) (e : r ≡ listed_as (known 0 tag)) (sums : List ℕ) (depth size : ℕ) where
-  pub own-nothing : r ≡ Nothing → size ≡ cond (opens tag) (nth sums (suc depth)) size
-  unfolding opens
-  own-nothing q = rw (is-nothing (known 0 tag) (sym q ∙ e)).0
+module _ (sums : List ℕ) (depth tag size : ℕ) (b : Bool) (e : b ≡ opens tag) where
+  pub own-inside : b ≡ true → (w : OctetCount) → w.0 ≡ nth sums (depth + 1) → w.0 ≡ cond (opens tag) (nth sums (suc depth)) size
+  own-inside q w we = rw (sym e ∙ q) (we ∙ ap (nth sums) (add-one depth))
 
-  pub own-inside : r ≡ Inside → (w : OctetCount) → w.0 ≡ nth sums (depth + 1) → w.0 ≡ cond (opens tag) (nth sums (suc depth)) size
-  unfolding opens
-  own-inside q w we = rw (is-inside (known 0 tag) (sym q ∙ e)).0 (we ∙ ap (nth sums) (add-one depth))
+  pub own_value : b ≡ false → size ≡ cond (opens tag) (nth sums (suc depth)) size
+  own_value q = rw (sym e ∙ q)
 
-  pub own_value : (k : Kind) → r ≡ Value k → size ≡ cond (opens tag) (nth sums (suc depth)) size
-  unfolding opens
-  own_value k q = rw (is-value (known 0 tag) k (sym q ∙ e)).shut
-
-pub ruleset own-ways = (own-nothing, own-inside, own_value)
-
-module _ (sums : List ℕ) (depth part : ℕ) (s : OctetCount) (sum_is_lem : s.0 ≡ nth sums depth) where
-  pub sum_over : 32_768 < s.0 → 32_769 ≡ min 32_769 (nth sums depth + part)
-  sum_over h = omega (arith, sum_is_lem)
-
-  pub sum_more : 32_768 - s.0 < part → 32_769 ≡ min 32_769 (nth sums depth + part)
-  sum_more h = omega (arith, sum_is_lem)
-
-  pub sum_low : s.0 ≤ 32_768 → part ≤ 32_768 - s.0 → s.0 + part ≡ min 32_769 (nth sums depth + part)
-  sum_low h g = omega (arith, sum_is_lem)
-
-pub ruleset sum-ways = (sum_over, sum_more, sum_low)
-
--- ---- sum_up
-pub summed-up : (sums : List ℕ) (depth sum : ℕ) (a : List ℕ) → a ≡ set sums (depth + 1) 0 → (b : List ℕ) → b ≡ set a depth sum → b ≡ set (set sums (suc depth) 0) depth sum
-summed-up sums depth sum a ae b be = be ∙ ap (λ x. set x depth sum) (ae ∙ ap (λ x. set sums x 0) (add-one depth))
+pub ruleset own-ways = (own-inside, own_value)
 
 -- ---- are_right
+-- what is short is itself
+pub short-is : (n : ℕ) (size : OctetCount) → short n ≡ Some size → (size.0 ≡ n) × (n ≤ 32_768)
+short-is n size e = go (leb n 32_768) refl e
+  where
+    go : (b : Bool) → leb n 32_768 ≡ b → cond b (Some (as_octets n)) None ≡ Some size → (size.0 ≡ n) × (n ≤ 32_768)
+    go true t q = (cc, leb-true n 32_768 t)
+    go false t q = cc
+
+pub short-not : (n : ℕ) → short n ≡ None → 32_768 < n
+short-not n e = go (leb n 32_768) refl e
+  where
+    go : (b : Bool) → leb n 32_768 ≡ b → cond b (Some (as_octets n)) None ≡ None → 32_768 < n
+    go true t q = cc
+    go false t q = omega (arith, leb-false n 32_768 t)
+
 pub record Righting (tags depths parents starts sizes bodies lent : List ℕ) (n i : ℕ) (sums : List ℕ) : Type 0 where
-  pub high : i ≤ n
-  pub long : length sums ≡ 18
   pub rest : right_below (nth tags) (nth depths) (nth parents) (nth starts) (nth sizes) (nth bodies) lent n no_sums ≡ right_below (nth tags) (nth depths) (nth parents) (nth starts) (nth sizes) (nth bodies) lent i sums
 
 module _ (tags depths parents starts sizes bodies lent : List ℕ) (n : ℕ) where
@@ -201,7 +190,7 @@ module _ (tags depths parents starts sizes bodies lent : List ℕ) (n : ℕ) whe
   right i sums = right_below (nth tags) (nth depths) (nth parents) (nth starts) (nth sizes) (nth bodies) lent i sums
 
   pub righting-start : Righting tags depths parents starts sizes bodies lent n n no_sums
-  righting-start = record { high = omega arith; long = refl; rest = refl }
+  righting-start = record { rest = refl }
 
   module _ (i : ℕ) (sums : List ℕ) (v : Righting tags depths parents starts sizes bodies lent n i sums) where
     pub righting-end : i ≤ 0 → true ≡ right_below (nth tags) (nth depths) (nth parents) (nth starts) (nth sizes) (nth bodies) lent n no_sums
@@ -224,21 +213,21 @@ module _ (tags depths parents starts sizes bodies lent : List ℕ) (n : ℕ) whe
 
       module _ (q : nth bodies (i - 1) ≡ o.0) (g : ℕ) (ge : g ≡ nth tags (nth parents (i - 1)))
           (part : OctetCount) (pe : part.0 ≡ added_by g (nth tags (i - 1)) (nth starts (i - 1)) (nth sizes (i - 1)) lent (nth bodies (i - 1)))
-          (total : OctetCount) (te : total.0 ≡ min 32_769 (nth sums (nth depths (i - 1)) + part.0)) where
-        total-is : total.0 ≡ min 32_769 sum
-        total-is =
-            te ∙ ap (λ z. min 32_769 (nth sums (nth depths (i - 1)) + z)) (pe
+          (r : Optional OctetCount) (re : r ≡ short (nth sums (nth depths (i - 1)) + part.0)) where
+        sum-is : r ≡ short sum
+        sum-is =
+            re ∙ ap (λ z. short (nth sums (nth depths (i - 1)) + z)) (pe
             ∙ ap (λ z. added_by z (nth tags (i - 1)) (nth starts (i - 1)) (nth sizes (i - 1)) lent (nth bodies (i - 1))) ge)
 
-        pub righting-over : 32_768 < total.0 → false ≡ right_below (nth tags) (nth depths) (nth parents) (nth starts) (nth sizes) (nth bodies) lent n no_sums
-        righting-over l = sym (right-step ∙ rw (eq-eqb (nth bodies (i - 1)) o.0 q, lt-leb sum 32_768 (omega (arith, total-is))))
+        pub righting-over : r ≡ None → false ≡ right_below (nth tags) (nth depths) (nth parents) (nth starts) (nth sizes) (nth bodies) lent n no_sums
+        righting-over l = sym (right-step ∙ rw (eq-eqb (nth bodies (i - 1)) o.0 q, lt-leb sum 32_768 (short-not sum (sym sum-is ∙ l))))
 
-        pub righting-next : total.0 ≤ 32_768 → (b : List ℕ) → b ≡ set (set sums (suc (nth depths (i - 1))) 0) (nth depths (i - 1)) total.0
+        pub righting-next : (total : OctetCount) → r ≡ Some total → (b : List ℕ) → b ≡ set (set sums (suc (nth depths (i - 1))) 0) (nth depths (i - 1)) total.0
             → Righting tags depths parents starts sizes bodies lent n (i - 1) b
-        righting-next l b be =
-            let s : total.0 ≡ sum = omega (arith, total-is) in
+        righting-next total l b be =
+            let whole = short-is sum total (sym sum-is ∙ l) in
+            let s : total.0 ≡ sum = whole.0 in
             let same : b ≡ after = be ∙ ap (set (set sums (suc (nth depths (i - 1))) 0) (nth depths (i - 1))) s in
-            let kept : length after ≡ 18 = length-set (set sums (suc (nth depths (i - 1))) 0) (nth depths (i - 1)) sum ∙ (length-set sums (suc (nth depths (i - 1))) 0 ∙ v.long) in
-            record { high = omega (arith, v.high); long = ap length same ∙ kept; rest = right-step ∙ rw (eq-eqb (nth bodies (i - 1)) o.0 q, le-leb sum 32_768 (omega arith)) (ap (right (i - 1)) (sym same)) }
+            record { rest = right-step ∙ rw (eq-eqb (nth bodies (i - 1)) o.0 q, le-leb sum 32_768 whole.1) (ap (right (i - 1)) (sym same)) }
 
 pub ruleset righting-ways = (righting-start, righting-end, righting-wrong, righting-over, righting-next)

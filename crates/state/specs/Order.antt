@@ -1,7 +1,10 @@
 -- Whether records lie as a packed tree leaves them with all sizes right, record by record: what the code looks at. That it says of the records' tree what `in_order`
 -- asks is proved (proofs/Order, proofs/SizesHeld), so of all this only `held_as` has to be believed.
-use Rattle.std.specs.Prelude.{Bool, true, cond, ◌&&◌, List, ℕ, zero, suc, ◌+◌, eqb, leb, length, take, drop, get_or, set, replicate}
+use Rattle.std.specs.Prelude.{Bool, true, cond, ◌&&◌, List, ℕ, zero, suc, ◌+◌, eqb}
+use Rattle.std.specs.Prelude.{leb, length, take, drop, get_or, set, replicate, Option as Optional, Some, None}
 use Rattle.std.proofs.Math.Option.{Option, none, some}
+use Rattle.octets.specs.declared.counts.Octets.{Octets as OctetCount}
+use Rattle.octets.specs.Counts.{as_octets}
 use Rattle.values.specs.Table.{known}
 use Rattle.values.specs.Calls.{default_octets}
 use Rattle.format.specs.Tree.{Items}
@@ -70,3 +73,7 @@ right_below tags depths parents starts sizes bodies lent (suc i) sums =
 -- no sum yet: items stand at the depths 1 to 17
 abbrev pub no_sums : List ℕ
 no_sums = replicate 18 0
+
+-- so many octets, where an object may have so many
+abbrev pub short : ℕ → Optional OctetCount
+short n = cond (leb n 32_768) (Some (as_octets n)) None

@@ -1,6 +1,6 @@
 // Whether memory holds a tree as it takes it: well-formed records over a packed store, with all sizes right. Nothing is written.
 // Cost: three looks at each record, one of `is_well_formed` and one each for its size and its place, and two at the octets of a time or a bearer.
-ghost use Rattle.std.specs.Prelude.{◌≡◌, cond, suc, ◌+◌, ◌≤◌, min, length, set};
+ghost use Rattle.std.specs.Prelude.{◌≡◌, cond, suc, ◌+◌, ◌≤◌, length, set};
 ghost use Rattle.values.specs.Table.{known};
 ghost use Rattle.format.specs.Meaning.{opens};
 ghost use Rattle.format.specs.State.{tree_held};
@@ -8,13 +8,13 @@ ghost use Rattle.tags.specs.declared.Listed.TheVariants.{Value};
 ghost use Rattle.tags.specs.Listed.{listed_as};
 ghost use Rattle.survey.specs.Normal.{framed_size};
 ghost use Rattle.state.specs.Taking.{memory};
-ghost use Rattle.state.specs.Order.{held_as, nth, lies_to, filled_from, as_filled, item_adds, added_by, right_below, no_sums};
+ghost use Rattle.state.specs.Order.{held_as, nth, lies_to, filled_from, as_filled, item_adds, added_by, right_below, no_sums, short};
 
 use crate::Filled;
 use compare::is_own;
 use format::octet_at;
 use octets::{Octets, header_size};
-use tags::{Listed, listed_as};
+use tags::{Listed, holds_items, listed_as};
 use values::{Kind, is_default};
 
 // A value, where the store is filled up to `at`.
@@ -63,25 +63,13 @@ fn lie_all(
     requires { (n ≤ length tags.now) × (n ≤ length parents.now) × (n ≤ length starts.now) × (n ≤ length sizes.now) }
     ensures { result ≡ as_filled (filled_from (nth tags.now) (nth parents.now) (nth starts.now) (nth sizes.now) store.now n 0 0) }
 {
-    let mut i: usize = 0;
     let mut at: usize = 0;
-    while i < n {
-        match lies_to(
-            octet_at(tags, parents[i] as usize),
-            at,
-            store,
-            tags[i],
-            starts[i],
-            sizes[i],
-        ) {
-            Filled::Apart => {
-                return Filled::Apart;
-            }
-            Filled::Upto(end) => {
-                at = end;
-                i = i + 1;
-            }
-        }
+    for i in 0..n {
+        let element = octet_at(tags, parents[i] as usize);
+        let Filled::Upto(end) = lies_to(element, at, store, tags[i], starts[i], sizes[i]) else {
+            return Filled::Apart;
+        };
+        at = end;
     }
     Filled::Upto(at)
 }
@@ -130,25 +118,21 @@ fn sum_at(sums: &[usize], depth: usize) -> Octets
 fn own_size(sums: &[usize], depth: u8, tag: u8, size: u16) -> Octets
     ensures { result.0 ≡ cond (opens tag) (nth sums.now (suc depth)) size }
 {
-    match listed_as(0, tag) {
-        Listed::Nothing => Octets(size as usize),
-        Listed::Inside => sum_at(sums, depth as usize + 1),
-        Listed::Value(_) => Octets(size as usize),
+    if holds_items(tag) {
+        return sum_at(sums, depth as usize + 1);
     }
+    Octets(size as usize)
 }
 
-// The sum at a depth with one part more, stopped at 32,769.
-fn sum_with(sums: &[usize], depth: u8, part: Octets) -> Octets
-    ensures { result.0 ≡ min 32_769 (nth sums.now depth + part.0) }
+// The sum at a depth with one part more, where an object may have so many octets.
+fn sum_with(sums: &[usize], depth: u8, part: Octets) -> Option<Octets>
+    ensures { result ≡ short (nth sums.now depth + part.0) }
 {
-    let sum = sum_at(sums, depth as usize);
-    if sum.0 > 32_768 {
-        return Octets(32_769);
+    let sum = sum_at(sums, depth as usize).0.checked_add(part.0)?;
+    if sum > 32_768 {
+        return None;
     }
-    if part.0 > 32_768 - sum.0 {
-        return Octets(32_769);
-    }
-    Octets(sum.0 + part.0)
+    Some(Octets(sum))
 }
 
 fn put_sum(sums: &mut [usize], depth: usize, sum: Octets)
@@ -183,9 +167,7 @@ fn are_right(
     ensures { result ≡ right_below (nth tags.now) (nth depths.now) (nth parents.now) (nth starts.now) (nth sizes.now) (nth bodies.now) store.now n no_sums }
 {
     let mut sums: [usize; 18] = [0; 18];
-    let mut i = n;
-    while i > 0 {
-        i = i - 1;
+    for i in (0..n).rev() {
         let tag = tags[i];
         let depth = depths[i];
         let size = sizes[i];
@@ -195,10 +177,9 @@ fn are_right(
         }
         let element = octet_at(tags, parents[i] as usize);
         let part = added_by(element, tag, starts[i], size, store, body);
-        let sum = sum_with(&sums, depth, part);
-        if sum.0 > 32_768 {
+        let Some(sum) = sum_with(&sums, depth, part) else {
             return false;
-        }
+        };
         sum_up(&mut sums, depth, sum);
     }
     true

@@ -1,30 +1,15 @@
-use Rattle.edits.proofs.Scans.{scanning-ways}
-use borrow.Author.Rules.{rules}
+use native.Mathlib.Omega.{arith}
+use Rattle.edits.proofs.Scans.{scanning-start, scanning-stop, scanning-next, scanning-end}
 use Rattle.edits.proofs.extent.end_of.Goals as goal
 
-pub bounds-depths-number : goal.bounds-depths-number
-bounds-depths-number c = search (scanning-ways, rules)
-
-pub overflow_add-j : goal.overflow_add-j
-overflow_add-j c = search (scanning-ways, rules)
-
 pub loop-j-init : goal.loop-j-init
-loop-j-init c = search (scanning-ways, rules)
-
-pub bounds-depths-j : goal.bounds-depths-j
-bounds-depths-j c = search (scanning-ways, rules)
+loop-j-init c = scanning-start _ _ _ c.requires.0 c.requires.1
 
 pub returns-then-depths-j : goal.returns-then-depths-j
-returns-then-depths-j c = search (scanning-ways, rules)
-
-pub overflow_add-j-in-loop-j : goal.overflow_add-j-in-loop-j
-overflow_add-j-in-loop-j c = search (scanning-ways, rules)
-
-pub loop-j-smaller : goal.loop-j-smaller
-loop-j-smaller c = search (scanning-ways, rules)
+returns-then-depths-j c = scanning-stop _ _ _ c.requires.0 c.requires.1 _ c.loop-j.invariant c.loop-j-test.true c.if-depths-j.true
 
 pub loop-j-preserved : goal.loop-j-preserved
-loop-j-preserved c = search (scanning-ways, rules)
+loop-j-preserved c = scanning-next _ _ _ c.requires.0 c.requires.1 _ c.loop-j.invariant c.loop-j-test.true c.if-depths-j.false
 
 pub returns : goal.returns
-returns c = search (scanning-ways, rules)
+returns c = scanning-end _ _ _ c.requires.0 c.requires.1 _ c.loop-j.invariant (omega arith)

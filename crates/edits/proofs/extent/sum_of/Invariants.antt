@@ -1,9 +1,6 @@
-use Prim.Native.Nat.{◌-◌}
-use Rattle.edits.proofs.Scans.{Summing}
+use Rattle.std.specs.Prelude.{◌≡◌, ◌+◌, drop}
+use Rattle.edits.specs.Extents.{sum_of}
 use Rattle.edits.proofs.extent.sum_of.Given as goal
 
-abbrev pub invariant-loop-j : goal.invariant-loop-j
-invariant-loop-j l = Summing l.sizes l.first l.last l.total l.j
-
-abbrev pub decreases-loop-j : goal.decreases-loop-j
-decreases-loop-j l = l.last - l.j
+abbrev pub invariant-loop-size : goal.invariant-loop-size
+invariant-loop-size l = l.total + sum_of (drop l.size-index l.size-items) ≡ sum_of l.size-items

@@ -1,12 +1,8 @@
-use Rattle.edits.proofs.Parts.{to-ways}
-use borrow.Author.Rules.{rules}
+use Rattle.edits.proofs.Parts.{moved_to, to_same}
 use Rattle.edits.proofs.moving.move_to.Goals as goal
 
 pub returns-then-part : goal.returns-then-part
-returns-then-part c = search (to-ways, rules)
+returns-then-part g c = moved_to _ _ c.requires _ c.copy_within.ensures.after
 
-pub returns-then-part-2 : goal.returns-then-part-2
-returns-then-part-2 c = search (to-ways, rules)
-
-pub returns-else-part-2 : goal.returns-else-part-2
-returns-else-part-2 c = search (to-ways, rules)
+pub returns-else-part : goal.returns-else-part
+returns-else-part g c = to_same _ _ c.if-part.false

@@ -29,9 +29,6 @@ offset_bounds-parents-g c = omega (arith, raises-parent _ _ _ _ _ _ _ _ _ c.loop
 pub bounds-parents-g : goal.bounds-parents-g
 bounds-parents-g c = omega (arith, raises-parent _ _ _ _ _ _ _ _ _ c.loop-g.invariant c.loop-g-test.true)
 
-pub overflow_cast-g : goal.overflow_cast-g
-overflow_cast-g c = omega (arith, c.type_inv.parents c.loop-g.g)
-
 pub loop-g-smaller : goal.loop-g-smaller
 loop-g-smaller c = raises-less _ _ _ _ _ _ _ _ _ c.loop-g.invariant c.loop-g-test.true
 

@@ -8,8 +8,5 @@ sum_of-requires c = gap-taken _ _ _ _ _ _ _ _ c.requires _ c.end_of-next.ensures
 pub overflow_add-end : goal.overflow_add-end
 overflow_add-end c = omega (arith, gap-fits _ _ _ _ _ _ _ _ c.requires _ c.end_of-next.ensures _ c.sum_of-place.ensures _ c.sum_of.ensures)
 
-pub overflow_cast-element : goal.overflow_cast-element
-overflow_cast-element c = omega (arith, c.type_inv.parents c.args.number)
-
 pub returns : goal.returns
 returns c = gap_is _ _ _ _ _ _ _ _ c.requires _ c.end_of-next.ensures _ c.sum_of-place.ensures _ c.sum_of.ensures _ _ _ c.octet_at.ensures _ c.added_by-was.ensures

@@ -1,4 +1,3 @@
-use native.Mathlib.Omega.{arith}
 use Rattle.edits.proofs.TextLeaves.{at-ways}
 use borrow.Author.Rules.{rules}
 use Rattle.edits.proofs.replacing.is_text_at.Goals as goal
@@ -8,9 +7,6 @@ returns-then-number-eq0 c = search (at-ways, rules)
 
 pub returns-then-number-n : goal.returns-then-number-n
 returns-then-number-n c = search (at-ways, rules)
-
-pub overflow_cast-parents : goal.overflow_cast-parents
-overflow_cast-parents c = omega (arith, c.type_inv.parents c.args.number)
 
 pub returns : goal.returns
 returns c = search (at-ways, rules)

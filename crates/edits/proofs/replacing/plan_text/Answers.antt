@@ -17,9 +17,6 @@ offset_bounds-parents-number c = omega (arith, plan-number _ _ _ _ _ c.is_text_a
 pub bounds-parents-number : goal.bounds-parents-number
 bounds-parents-number c = omega (arith, plan-number _ _ _ _ _ c.is_text_at.ensures c.if-not-is_text_at.false-raw, plan-places _ _ _ c.held.ensures _ (c.in-Upto.is))
 
-pub overflow_cast-parents : goal.overflow_cast-parents
-overflow_cast-parents c = omega (arith, c.type_inv.parents c.args.number)
-
 pub bounds-tags-number : goal.bounds-tags-number
 bounds-tags-number c = omega (arith, plan-number _ _ _ _ _ c.is_text_at.ensures c.if-not-is_text_at.false-raw, plan-places _ _ _ c.held.ensures _ (c.in-Upto.is))
 

@@ -1,12 +1,8 @@
-use native.Mathlib.Omega.{arith}
 use Rattle.edits.proofs.TextLeaves.{set-shifts, set-raises, set-raised, set-done}
 use Rattle.edits.proofs.replacing.set_text.Goals as goal
 
 pub shift_starts-requires : goal.shift_starts-requires
 shift_starts-requires c = set-shifts _ _ _ _ _ _ _ _ _ _ c.requires
-
-pub overflow_cast-parents : goal.overflow_cast-parents
-overflow_cast-parents c = omega (arith, c.type_inv.parents c.args.number)
 
 pub raise-requires : goal.raise-requires
 raise-requires c = set-raises _ _ _ _ _ _ _ _ _ _ c.requires _ c.framed_size.ensures _ c.framed_size-2.ensures

@@ -1,5 +1,3 @@
-use mathlib.Core.Path.{refl}
-use native.Mathlib.Omega.{arith}
 use Rattle.edits.proofs.TextLeaves.{fits-long, fits-store, fits-climbs, fits-top}
 use Rattle.edits.proofs.replacing.text_fits.Goals as goal
 
@@ -9,11 +7,8 @@ returns-then-long-gt32768 c = fits-long _ _ _ _ _ _ _ c.if-long-gt32768.true
 pub returns-then-used-size : goal.returns-then-used-size
 returns-then-used-size c = fits-store _ _ _ _ _ _ _ c.if-long-gt32768.false c.if-used-size.true
 
-pub overflow_cast-parents : goal.overflow_cast-parents
-overflow_cast-parents c = omega (arith, c.type_inv.parents c.args.number)
-
-pub top_size-top-requires : goal.top_size-top-requires
-top_size-top-requires c = fits-climbs _ _ _ _ _ _ _ c.if-long-gt32768.false c.if-used-size.false _ c.framed_size.ensures _ c.framed_size-2.ensures c.requires
+pub top_fits-requires : goal.top_fits-requires
+top_fits-requires c = fits-climbs _ _ _ _ _ _ _ c.if-long-gt32768.false c.if-used-size.false _ c.framed_size.ensures _ c.framed_size-2.ensures c.requires
 
 pub returns : goal.returns
-returns c = fits-top _ _ _ _ _ _ _ c.if-long-gt32768.false c.if-used-size.false _ c.framed_size.ensures _ c.framed_size-2.ensures _ c.top_size-top.ensures _ c.framed_size-3.ensures _ refl
+returns c = fits-top _ _ _ _ _ _ _ c.if-long-gt32768.false c.if-used-size.false _ c.framed_size.ensures _ c.framed_size-2.ensures _ c.top_fits.ensures

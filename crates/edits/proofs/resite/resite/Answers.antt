@@ -22,11 +22,12 @@ carry_parents-requires c = c.requires.parents
 pub carry_starts-requires : goal.carry_starts-requires
 carry_starts-requires c = starts-carry _ _ c.requires _ c.move_to-2.ensures
 
-pub move_to16-requires : goal.move_to16-requires
-move_to16-requires c = c.requires.sizes
+pub move_to-requires-5 : goal.move_to-requires-5
+move_to-requires-5 c = c.requires.sizes
 
-pub move_to16-requires-2 : goal.move_to16-requires-2
-move_to16-requires-2 c = bodies-carry _ _ c.requires _ c.raise.ensures
+pub move_to-requires-6 : goal.move_to-requires-6
+move_to-requires-6 c = bodies-carry _ _ c.requires _ c.raise.ensures
 
 pub returns : goal.returns
-returns c = resited _ _ c.requires _ _ _ _ _ _ _ _ _ c.raise.ensures c.move_to.ensures c.move_to-2.ensures c.move_to-3.ensures c.move_to-4.ensures c.carry_parents.ensures c.carry_starts.ensures c.move_to16.ensures c.move_to16-2.ensures
+returns c = resited _ _ c.requires _ _ _ _ _ _ _ _ _ c.raise.ensures c.move_to.ensures c.move_to-2.ensures c.move_to-3.ensures c.move_to-4.ensures
+    c.carry_parents.ensures c.carry_starts.ensures c.move_to-5.ensures c.move_to-6.ensures

@@ -1,9 +1,5 @@
-use Prim.Native.Nat.{◌-◌}
 use Rattle.edits.proofs.Followed.{Renumbering}
 use Rattle.edits.proofs.shifting.shift_parents.Given as goal
 
 abbrev pub invariant-loop-i : goal.invariant-loop-i
 invariant-loop-i l = Renumbering l.from l.to l.first l.last l.initial.parents l.parents l.i
-
-abbrev pub decreases-loop-i : goal.decreases-loop-i
-decreases-loop-i l = l.last - l.i

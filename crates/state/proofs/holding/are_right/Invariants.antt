@@ -3,6 +3,3 @@ use Rattle.state.proofs.holding.are_right.Given as goal
 
 abbrev pub invariant-loop-i : goal.invariant-loop-i
 invariant-loop-i l = Righting l.tags l.depths l.parents l.starts l.sizes l.bodies l.store l.n l.i l.sums
-
-abbrev pub decreases-loop-i : goal.decreases-loop-i
-decreases-loop-i l = l.i

@@ -10,6 +10,3 @@ returns-in-Nothing c = search (lies-ways, rules)
 
 pub returns-else-start-size-eq0 : goal.returns-else-start-size-eq0
 returns-else-start-size-eq0 c = search (lies-ways, rules)
-
-pub returns-in-Value : goal.returns-in-Value
-returns-in-Value c = search (lies-ways, rules)

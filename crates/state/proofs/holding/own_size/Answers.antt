@@ -2,11 +2,8 @@ use Rattle.state.proofs.Checks.{own-ways}
 use borrow.Author.Rules.{rules}
 use Rattle.state.proofs.holding.own_size.Goals as goal
 
-pub returns-in-Nothing : goal.returns-in-Nothing
-returns-in-Nothing c = search (own-ways, rules)
+pub returns-then-holds_items : goal.returns-then-holds_items
+returns-then-holds_items c = search (own-ways, rules)
 
-pub returns-in-Inside : goal.returns-in-Inside
-returns-in-Inside c = search (own-ways, rules)
-
-pub returns-in-Value : goal.returns-in-Value
-returns-in-Value c = search (own-ways, rules)
+pub returns : goal.returns
+returns c = search (own-ways, rules)

@@ -1,6 +1,6 @@
 use native.Mathlib.Omega.{arith}
 use Rattle.edits.proofs.Climbing.{tops_start, tops-body, tops-parent, tops-less, tops-asks, tops-over, tops_next, tops_first, tops-asks-top, tops-over-top, tops-end}
-use Rattle.edits.proofs.raising.top_size.Goals as goal
+use Rattle.edits.proofs.raising.top_fits.Goals as goal
 
 pub loop-g-init : goal.loop-g-init
 loop-g-init c = tops_start _ _ _ _ _ (c.requires.0) (c.requires.1)
@@ -23,9 +23,6 @@ offset_bounds-parents-g c = omega (arith, tops-parent _ _ _ _ _ _ _ _ c.loop-g.i
 pub bounds-parents-g : goal.bounds-parents-g
 bounds-parents-g c = omega (arith, tops-parent _ _ _ _ _ _ _ _ c.loop-g.invariant c.loop-g-test.true)
 
-pub overflow_cast-g : goal.overflow_cast-g
-overflow_cast-g c = omega (arith, c.type_inv.parents c.loop-g.g)
-
 pub loop-g-smaller : goal.loop-g-smaller
 loop-g-smaller c = tops-less _ _ _ _ _ _ _ _ c.loop-g.invariant c.loop-g-test.true
 
@@ -42,4 +39,4 @@ pub returns-then-all-gt32768 : goal.returns-then-all-gt32768
 returns-then-all-gt32768 c = tops-over-top _ _ _ _ _ _ _ _ c.loop-g.invariant c.loop-g-test.false _ c.regrown-all.ensures c.if-all-gt32768.true
 
 pub returns : goal.returns
-returns c = tops-end _ _ _ _ _ _ _ _ c.loop-g.invariant c.loop-g-test.false _ c.regrown-all.ensures c.if-all-gt32768.false
+returns c = tops-end _ _ _ _ _ _ _ _ c.loop-g.invariant c.loop-g-test.false _ c.regrown-all.ensures _ c.framed_size.ensures
