@@ -1,12 +1,10 @@
--- The ways through the loops over the child elements of a part, and what they say of an accepted one.
+-- The ways through is_same, and what the walks over the child elements of a part say of an accepted one.
 use mathlib.Core.Path.{◌≡◌, refl, sym, ap, ap₂, ◌∙◌, subst}
 use mathlib.Core.Bool.{Bool, true, false, cond, ◌&&◌, ◌||◌, false≢true, and-true}
 use mathlib.Core.List.{List}
 use Prim.Native.Nat.{ℕ, ◌+◌, ◌≤◌}
 use lib.Dec.{eqb}
-use lib.ListN.{get_or}
-use borrow.Author.Tests.{eqb-true, eqb-false, eq-eqb, ne_eqb, not-true, not-false}
-use Rattle.octets.specs.Places.{between}
+use borrow.Author.Tests.{eqb-true, eqb-false, eq-eqb, ne_eqb}
 use Rattle.text.specs.Tokens.{Entries}
 use Rattle.values.specs.Table.{rows, kind_in, known, attribute}
 use Rattle.format.specs.Tree.{Items}
@@ -16,17 +14,14 @@ use Rattle.format.specs.Meaning.{Meaning, opens, is_child, attributes_in, cdata_
 use Rattle.format.specs.Meaning.Meaning.{nothing, element, leaf}
 use Rattle.format.specs.Same.{same_meaning}
 use Rattle.reader.specs.Filling.{Accepts}
-use Rattle.compare.specs.declared.walks.Child.{Child}
-use Rattle.compare.specs.declared.walks.Child.TheVariants.{End, Found}
-use Rattle.compare.specs.Walks.{children_in, Children}
+use Rattle.compare.specs.Walks.{children_in}
 use Rattle.compare.specs.Items.{same_element}
 use Rattle.compare.proofs.Walking.{Told, children-told}
 use Rattle.compare.proofs.Walking.Told.{over, comes}
-use Rattle.compare.proofs.Comparing.{same_inside, tags-differ, tags-same, element-says, found-ways}
+use Rattle.compare.proofs.Comparing.{same_inside, tags-differ, tags-same, element-says}
 use Rattle.merge.specs.Keys.{has_equal}
 use Rattle.merge.specs.Merged.{has_language}
 use Rattle.merging.specs.Searches.{any_child}
-use Rattle.merging.proofs.Searching.{Passed, pass-begin, pass-ended, pass-found, pass-again}
 use Rattle.merging.specs.Among.{is_equal, equal_in, is_language, language_in}
 
 -- ---- is_same
@@ -41,35 +36,6 @@ module _ (tag other levels : ℕ) (es : Entries) (a : List ℕ) (fs : Entries) (
   same-tagged h r e = e ∙ rw (eq-eqb tag other h)
 
 pub ruleset same-ways = (same-apart, same-tagged)
-
--- ---- the loops
-
-module _ (levels : ℕ) (es : Entries) (tag : ℕ) (a : List ℕ) (fs : Entries) (part : List ℕ) (i : ℕ) (inv : Passed (is_equal levels es tag a fs) part i) (c : Child) (x : Children part i c) where
-  pub equal-ended : c ≡ End → false ≡ equal_in levels es tag a fs part
-  unfolding equal_in
-  equal-ended q = pass-ended (is_equal levels es tag a fs) part i inv c x q
-
-  pub equal-found : (at from to : ℕ) → c ≡ Found at from to → (r : Bool) → r ≡ is_equal levels es tag a fs (get_or part at 0) (between part from to) → r ≡ true → true ≡ equal_in levels es tag a fs part
-  unfolding equal_in
-  equal-found at from to q r e h = pass-found (is_equal levels es tag a fs) part i inv c x at from to q r e h
-
-pub ruleset equal-ways = (pass-begin, pass-again, equal-ended, equal-found, found-ways, not-true, not-false)
-
-module _ (part : List ℕ) (i : ℕ) (inv : Passed is_language part i) (c : Child) (x : Children part i c) where
-  pub language-ended : c ≡ End → false ≡ language_in part
-  unfolding language_in
-  language-ended q = pass-ended is_language part i inv c x q
-
-  module _ (at from to : ℕ) (q : c ≡ Found at from to) where
-    pub language-found : get_or part at 0 ≡ 6 → true ≡ language_in part
-    unfolding language_in is_language
-    language-found h = pass-found is_language part i inv c x at from to q (eqb (get_or part at 0) 6) refl (eq-eqb (get_or part at 0) 6 h)
-
-    pub language-again : (get_or part at 0 ≡ 6 → ⊥) → Passed is_language part to
-    unfolding is_language
-    language-again h = pass-again is_language part i inv c x at from to q (eqb (get_or part at 0) 6) refl (ne_eqb (get_or part at 0) 6 h)
-
-pub ruleset language-ways = (pass-begin, language-ended, language-found, language-again, found-ways)
 
 -- ---- what they say of an accepted part
 

@@ -36,8 +36,8 @@ use Rattle.merge.specs.Keys.{merges, same_attribute, partners}
 use Rattle.merge.specs.Merged.{apart, any_apart, both_there, other_language, clashing, clash}
 use Rattle.merge.proofs.Fine.{partners-tag}
 use Rattle.merge.proofs.Advanced.{merges-opens}
-use Rattle.merging.specs.Searches.{any_child}
-use Rattle.merging.specs.Clashing.{is_found, is_apart, any_apart_from, both_cdata, is_other, pair_clash, item_clash, clash_among, clash_below}
+use Rattle.merging.specs.Searches.{any_child, is_found}
+use Rattle.merging.specs.Clashing.{is_apart, any_apart_from, both_cdata, is_other, pair_clash, item_clash, clash_among, clash_below}
 use Rattle.merging.specs.Calls.{HasClash}
 use Rattle.merging.proofs.Among.{open-not-six}
 use Rattle.merging.proofs.Searching.{is_there}

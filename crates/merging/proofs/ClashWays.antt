@@ -15,9 +15,9 @@ use Rattle.compare.specs.Items.{counted_span}
 use Rattle.compare.specs.Walks.{children_in}
 use Rattle.merge.specs.declared.Services.{Services}
 use Rattle.merge.specs.Keys.{merges}
-use Rattle.merging.specs.Searches.{any_child}
+use Rattle.merging.specs.Searches.{any_child, is_found}
 use Rattle.merging.specs.Keyed.{same_at, is_partner}
-use Rattle.merging.specs.Clashing.{is_found, is_apart, any_apart_from, both_cdata, is_other, pair_clash, item_clash, clash_among, clash_below}
+use Rattle.merging.specs.Clashing.{is_apart, any_apart_from, both_cdata, is_other, pair_clash, item_clash, clash_among, clash_below}
 
 -- ---- is_found, is_apart, is_any_apart
 

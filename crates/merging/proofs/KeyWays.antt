@@ -7,7 +7,6 @@ use native.Mathlib.Omega.{arith}
 use lib.ListN.{drop, get_or}
 use borrow.Author.Tests.{eq-eqb, ne_eqb}
 use Rattle.octets.specs.declared.Lies.{Lies}
-use Rattle.octets.specs.declared.Lies.TheVariants.{Outside, Between}
 use Rattle.octets.specs.Places.{between}
 use Rattle.text.specs.Tokens.{Entries}
 use Rattle.format.specs.Judge.{is_top}
@@ -18,9 +17,9 @@ use Rattle.compare.specs.Walks.{children_in, Children}
 use Rattle.merge.specs.declared.Services.{Services}
 use Rattle.merge.specs.declared.Services.TheVariants.{ByTag, ByBearers}
 use Rattle.merge.specs.Keys.{merges, key_attribute}
-use Rattle.merging.specs.Searches.{any_child, FindsChild}
+use Rattle.merging.specs.Searches.{any_child, FindsChild, is_found}
 use Rattle.merging.specs.Keyed.{same_at, is_bearer_of, is_foreign, has_foreign, same_bearers, same_service_in, same_key_in, is_partner, is_again, twice_among, twice_inside}
-use Rattle.merging.proofs.Searching.{none_left, one_more, none_found, one_found}
+use Rattle.merging.proofs.Searching.{none_left, one_more, found-any}
 
 -- ---- is_bearer_of, is_foreign
 
@@ -110,16 +109,12 @@ module _ (by : Services) (T : Entries) (tag : ℕ) (body part : List ℕ) (behin
   unfolding is_again
   again-cannot h = rw (sym ae ∙ h)
 
-  module _ (h : a ≡ true) (r : Lies) (s : FindsChild (is_partner by tag T body T) part behind r) where
-    pub again-none : r ≡ Outside → false ≡ is_again by T tag body (children_in (drop behind part))
-    unfolding is_again
-    again-none q = rw (sym ae ∙ h, none_found (is_partner by tag T body T) part behind r s q)
+  pub again-found : a ≡ true → (r : Lies) → FindsChild (is_partner by tag T body T) part behind r → (b : Bool) → b ≡ is_found r
+      → b ≡ is_again by T tag body (children_in (drop behind part))
+  unfolding is_again
+  again-found h r s b e = e ∙ (found-any (is_partner by tag T body T) part behind r s ∙ rw (sym ae ∙ h))
 
-    pub again-one : (from to : ℕ) → r ≡ Between from to → true ≡ is_again by T tag body (children_in (drop behind part))
-    unfolding is_again
-    again-one from to q = rw (sym ae ∙ h, one_found (is_partner by tag T body T) part behind r s from to q)
-
-pub ruleset again-ways = (again-cannot, again-none, again-one)
+pub ruleset again-ways = (again-cannot, again-found)
 
 module _ (by : Services) (T : Entries) (levels tag : ℕ) (body : List ℕ) where
   pub inside-deep : levels ≡ 0 → false ≡ twice_inside by T levels tag body

@@ -1,4 +1,3 @@
-pub mod Tests
 pub mod Searching
 pub mod KeyWays
 pub mod Shown

@@ -31,13 +31,12 @@ use Rattle.merge.proofs.Empty.{either-none, united-none, children-nothing}
 use Rattle.merge.proofs.Fine.{partners-tag}
 use Rattle.merge.proofs.Self.{paired-alone, cannot}
 use Rattle.merge.proofs.Advanced.{merges-opens}
-use Rattle.merging.specs.Searches.{any_child, first_child, Inside, FindsChild}
+use Rattle.merging.specs.Searches.{any_child, first_child, Inside, FindsChild, is_found}
 use Rattle.merging.specs.Keyed.{is_partner}
-use Rattle.merging.proofs.Searching.{none_found, one_found}
+use Rattle.merging.proofs.Searching.{found-any}
 use Rattle.merging.proofs.Shown.{Shows, shows}
 use Rattle.merging.proofs.Shown.Shows.{over, holds, single}
 use Rattle.merging.proofs.KeySays.{partner-says, partner-shut, partners-say}
-use Rattle.merging.specs.Clashing.{is_found}
 use Rattle.merging.specs.declared.partners.Role.{Role}
 use Rattle.merging.specs.declared.partners.Role.TheVariants.{Language, Own, Added}
 use Rattle.merging.specs.Among.{equal_in, language_in}
@@ -57,12 +56,7 @@ module _ (by : Services) (levels tag : ℕ) (es : Entries) (a : List ℕ) (fs : 
     partnered = rw (sym me ∙ q)
 
     pub added-partner : (r : Bool) → r ≡ is_found l → not r ≡ not stays
-    unfolding is_found
-    added-partner r e = ap not (e ∙ go l refl ∙ sym partnered)
-      where
-        go : (x : Lies) → l ≡ x → is_found x ≡ any_child (is_partner by tag es a fs) (children_in part)
-        go Outside w = sym (none_found (is_partner by tag es a fs) part 0 l f w)
-        go (Between from to) w = sym (one_found (is_partner by tag es a fs) part 0 l f from to w)
+    added-partner r e = ap not (e ∙ found-any (is_partner by tag es a fs) part 0 l f ∙ sym partnered)
 
   module _ (q : m ≡ false) where
     pub added-language : tag ≡ 6 → false ≡ not stays
@@ -74,15 +68,6 @@ module _ (by : Services) (levels tag : ℕ) (es : Entries) (a : List ℕ) (fs : 
     added-other n r e = rw (sym me ∙ q, ne_eqb tag 6 n) (ap not e)
 
 pub ruleset added-ways = (added-partner, added-language, added-other)
-
-module _ (tag : ℕ) (part : List ℕ) where
-  pub language-other : (tag ≡ 6 → ⊥) → false ≡ eqb tag 6 && not (language_in part)
-  language-other n = rw (ne_eqb tag 6 n)
-
-  pub language-new : tag ≡ 6 → (r : Bool) → r ≡ language_in part → not r ≡ eqb tag 6 && not (language_in part)
-  language-new e r f = rw (eq-eqb tag 6 e) (ap not f)
-
-pub ruleset new-language-ways = (language-other, language-new)
 
 module _ (role : Role) (by : Services) (levels tag : ℕ) (es : Entries) (a : List ℕ) (fs : Entries) (part : List ℕ) where
   pub put-language : role ≡ Language → (r : Bool) → r ≡ eqb tag 6 && not (language_in part) → r ≡ is_put role by levels es tag a fs part

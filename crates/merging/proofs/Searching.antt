@@ -1,4 +1,4 @@
--- The ways through a loop that goes over the child elements in a part until one passes a test.
+-- The ways through the loop that goes over the child elements in a part until one passes a test.
 use mathlib.Core.Path.{◌≡◌, refl, sym, ap, ◌∙◌, subst}
 use mathlib.Core.Bool.{Bool, true, false, cond, ◌||◌}
 use mathlib.Core.Option.{Option, none, some}
@@ -12,7 +12,7 @@ use Rattle.survey.specs.Places.{body_by}
 use Rattle.compare.specs.declared.walks.Child.{Child}
 use Rattle.compare.specs.declared.walks.Child.TheVariants.{End, Found}
 use Rattle.compare.specs.Walks.{children_in, ChildFound, Children}
-use Rattle.merging.specs.Searches.{any_child, first_child, FindsChild}
+use Rattle.merging.specs.Searches.{any_child, first_child, FindsChild, is_found}
 
 -- ---- where a child was found
 
@@ -29,43 +29,12 @@ module _ (part : List ℕ) (at : ℕ) (c : Child) (x : Children part at c) where
     pub one_more : children_in (drop at part) ≡ (get_or part place 0, between part from to) ∷ children_in (drop to part)
     one_more = found.children
 
--- ---- whether there is one
-
--- none was met up to a place
-pub record Passed (f : ℕ → List ℕ → Bool) (part : List ℕ) (i : ℕ) : Type 0 where
-  pub goes : any_child f (children_in part) ≡ any_child f (children_in (drop i part))
-
-module _ (f : ℕ → List ℕ → Bool) (part : List ℕ) where
-  pub pass-begin : Passed f part 0
-  pass-begin = record { goes = refl }
-
-  module _ (i : ℕ) (inv : Passed f part i) (c : Child) (x : Children part i c) where
-    pub pass-ended : c ≡ End → false ≡ any_child f (children_in part)
-    unfolding any_child
-    pass-ended q = sym (inv.goes ∙ ap (any_child f) (none_left part i c x q))
-
-    module _ (place from to : ℕ) (q : c ≡ Found place from to) (r : Bool) (e : r ≡ f (get_or part place 0) (between part from to)) where
-      turn : any_child f (children_in part) ≡ r || any_child f (children_in (drop to part))
-      unfolding any_child
-      turn = inv.goes ∙ ap (any_child f) (one_more part i c x place from to q) ∙ ap (λ b. b || any_child f (children_in (drop to part))) (sym e)
-
-      pub pass-found : r ≡ true → true ≡ any_child f (children_in part)
-      pass-found h = sym (turn ∙ rw h)
-
-      pub pass-again : r ≡ false → Passed f part to
-      pass-again h = record { goes = turn ∙ rw h }
-
-pub ruleset pass-ways = (pass-begin, pass-ended, pass-found, pass-again)
-
 -- ---- which is the first
 
 pub record Sought (f : ℕ → List ℕ → Bool) (part : List ℕ) (start i : ℕ) : Type 0 where
   pub goes : first_child f (children_in (drop start part)) ≡ first_child f (children_in (drop i part))
 
 module _ (f : ℕ → List ℕ → Bool) (part : List ℕ) (start : ℕ) where
-  pub seek-begin : Sought f part start start
-  seek-begin = record { goes = refl }
-
   module _ (i : ℕ) (inv : Sought f part start i) (c : Child) (x : Children part i c) where
     pub seek-ended : c ≡ End → FindsChild f part start Outside
     unfolding first_child body_by
@@ -85,8 +54,6 @@ module _ (f : ℕ → List ℕ → Bool) (part : List ℕ) (start : ℕ) where
       pub seek-again : r ≡ false → Sought f part start to
       seek-again h = record { goes = step ∙ rw h }
 
-pub ruleset seek-ways = (seek-begin, seek-ended, seek_found, seek-again)
-
 -- one is found exactly where there is one
 unfoldable pub is_there : {A : Type 0} → Option A → Bool
 is_there none = false
@@ -102,10 +69,10 @@ first_any f (p ∷ ps) = go (f p.0 p.1) (first_any f ps)
     go false ih = ih
 
 module _ (f : ℕ → List ℕ → Bool) (part : List ℕ) (start : ℕ) (r : Lies) (s : FindsChild f part start r) where
-  pub none_found : r ≡ Outside → any_child f (children_in (drop start part)) ≡ false
-  unfolding body_by is_there
-  none_found q = sym (first_any f (children_in (drop start part))) ∙ ap is_there (sym s.body ∙ ap (body_by part) q)
-
-  pub one_found : (from to : ℕ) → r ≡ Between from to → any_child f (children_in (drop start part)) ≡ true
-  unfolding body_by is_there
-  one_found from to q = sym (first_any f (children_in (drop start part))) ∙ ap is_there (sym s.body ∙ ap (body_by part) q)
+  pub found-any : is_found r ≡ any_child f (children_in (drop start part))
+  unfolding is_found is_there body_by
+  found-any = go r ∙ (ap is_there s.body ∙ first_any f (children_in (drop start part)))
+    where
+      go : (l : Lies) → is_found l ≡ is_there (body_by part l)
+      go Outside = refl
+      go (Between from to) = refl

@@ -1,8 +1,6 @@
 -- What clashes in partners, told of octets, each part under the entries of its own token table. That it is what clashes in their meanings, of accepted octets,
 -- is proved (proofs/ClashSays), so nobody has to believe it.
-use Rattle.std.specs.Prelude.{Bool, true, false, cond, not, ◌&&◌, ◌||◌, List, ℕ, zero, suc, eqb}
-use Rattle.octets.specs.declared.Lies.{Lies}
-use Rattle.octets.specs.declared.Lies.TheVariants.{Outside, Between}
+use Rattle.std.specs.Prelude.{Bool, false, cond, not, ◌&&◌, ◌||◌, List, ℕ, zero, suc, eqb}
 use Rattle.text.specs.Tokens.{Entries, expanded}
 use Rattle.format.specs.Same.{same_octets}
 use Rattle.survey.specs.Places.{span_of_tag}
@@ -10,12 +8,8 @@ use Rattle.compare.specs.Items.{counted_span}
 use Rattle.compare.specs.Walks.{children_in}
 use Rattle.merge.specs.declared.Services.{Services}
 use Rattle.merge.specs.Keys.{merges}
-use Rattle.merging.specs.Searches.{any_child}
+use Rattle.merging.specs.Searches.{any_child, is_found}
 use Rattle.merging.specs.Keyed.{same_at, is_partner}
-
-unfoldable pub is_found : Lies → Bool
-is_found Outside = false
-is_found (Between from to) = true
 
 -- one attribute of two elements of a tag with two different values
 unfoldable pub is_apart : (tag a : ℕ) → Entries → List ℕ → Entries → List ℕ → Bool

@@ -4,22 +4,13 @@ ghost use Rattle.std.specs.Prelude.{◌≡◌};
 ghost use Rattle.text.specs.Index.{entries_by};
 ghost use Rattle.compare.specs.Walks.{children_in};
 ghost use Rattle.merging.specs.Searches.{any_child};
-ghost use Rattle.merging.specs.Clashing.{is_found, is_apart, any_apart_from, both_cdata, is_other, pair_clash, item_clash, clash_below, clash_among};
+ghost use Rattle.merging.specs.Clashing.{is_apart, any_apart_from, both_cdata, is_other, pair_clash, item_clash, clash_below, clash_among};
 
+use crate::children::{any_child, is_found};
 use crate::keys::{is_partner, merges};
-use compare::{Child, find_counted, next_child, same_attribute, same_texts};
+use compare::{find_counted, same_attribute, same_texts};
 use merge::Services;
-use octets::Lies;
 use survey::find_item;
-
-pub fn is_found(found: Lies) -> bool
-    ensures { result ≡ is_found found }
-{
-    match found {
-        Lies::Outside => false,
-        Lies::Between { from: _, to: _ } => true,
-    }
-}
 
 // One attribute of two elements of a tag with two different values; a default is absent.
 fn is_apart(
@@ -55,12 +46,10 @@ fn is_any_apart(
 ) -> bool
     ensures { result ≡ any_apart_from 7 0x80 tag (entries_by index_x.now table_x.now) x.now (entries_by index_y.now table_y.now) y.now }
 {
-    let mut key: u8 = 0x80;
-    while key < 0x87 {
+    for key in 0x80..0x87 {
         if is_apart(tag, key, index_x, table_x, x, index_y, table_y, y) {
             return true;
         }
-        key = key + 1;
     }
     false
 }
@@ -103,25 +92,9 @@ fn has_other(
 ) -> bool
     ensures { result ≡ any_child (is_other (entries_by index_x.now table_x.now) language.now (entries_by index_y.now table_y.now)) (children_in part.now) }
 {
-    let mut i: usize = 0;
-    loop {
-        let Child::Found { at, from, to } = next_child(part, i) else {
-            return false;
-        };
-        let tag = part[at];
-        if is_other(
-            index_x,
-            table_x,
-            language,
-            tag,
-            index_y,
-            table_y,
-            &part[from..to],
-        ) {
-            return true;
-        }
-        i = to;
-    }
+    any_child(part, |tag, body| {
+        is_other(index_x, table_x, language, tag, index_y, table_y, body)
+    })
 }
 
 // An element that can have a partner and another child element: they are partners, and clash, or what is below them does, as deep as `levels` levels of
@@ -139,7 +112,9 @@ fn is_pair_clash(
     table_y: &[u8],
     y: &[u8],
 ) -> bool
-    ensures { result ≡ pair_clash by tag (clash_below by (entries_by index_x.now table_x.now) (entries_by index_y.now table_y.now) levels) (entries_by index_x.now table_x.now) x.now (entries_by index_y.now table_y.now) other y.now }
+    ensures { let T = entries_by index_x.now table_x.now in
+        let U = entries_by index_y.now table_y.now in
+        result ≡ pair_clash by tag (clash_below by T U levels) T x.now U other y.now }
 {
     if !is_partner(by, tag, index_x, table_x, x, other, index_y, table_y, y) {
         return false;
@@ -169,30 +144,22 @@ fn has_pair_clash(
     table_y: &[u8],
     y: &[u8],
 ) -> bool
-    ensures { result ≡ any_child (pair_clash by tag (clash_below by (entries_by index_x.now table_x.now) (entries_by index_y.now table_y.now) levels) (entries_by index_x.now table_x.now) x.now (entries_by index_y.now table_y.now)) (children_in y.now) }
+    ensures { let T = entries_by index_x.now table_x.now in
+        let U = entries_by index_y.now table_y.now in
+        result ≡ any_child (pair_clash by tag (clash_below by T U levels) T x.now U) (children_in y.now) }
 {
-    let mut i: usize = 0;
-    loop {
-        let Child::Found { at, from, to } = next_child(y, i) else {
-            return false;
-        };
-        let other = y[at];
-        if is_pair_clash(
-            by,
-            levels,
-            tag,
-            index_x,
-            table_x,
-            x,
-            other,
-            index_y,
-            table_y,
-            &y[from..to],
-        ) {
-            return true;
-        }
-        i = to;
-    }
+    any_child(
+        y,
+        |other, body|
+            ensures { let T = entries_by index_x.entry.now table_x.entry.now in
+                let U = entries_by index_y.entry.now table_y.entry.now in
+                result ≡ pair_clash by tag (clash_below by T U levels) T x.entry.now U other body.now }
+        {
+            is_pair_clash(
+                by, levels, tag, index_x, table_x, x, other, index_y, table_y, body,
+            )
+        },
+    )
 }
 
 // A child element of Basic and those in a part of Advanced.
@@ -208,7 +175,9 @@ fn is_item_clash(
     table_y: &[u8],
     y: &[u8],
 ) -> bool
-    ensures { result ≡ item_clash by (entries_by index_x.now table_x.now) (entries_by index_y.now table_y.now) (clash_below by (entries_by index_x.now table_x.now) (entries_by index_y.now table_y.now) levels) (children_in y.now) tag x.now }
+    ensures { let T = entries_by index_x.now table_x.now in
+        let U = entries_by index_y.now table_y.now in
+        result ≡ item_clash by T U (clash_below by T U levels) (children_in y.now) tag x.now }
 {
     if tag == 6 {
         return has_other(index_x, table_x, x, index_y, table_y, y);
@@ -231,27 +200,16 @@ pub fn is_clash(
     table_y: &[u8],
     y: &[u8],
 ) -> bool
-    ensures { result ≡ clash_among by (entries_by index_x.now table_x.now) (entries_by index_y.now table_y.now) (clash_below by (entries_by index_x.now table_x.now) (entries_by index_y.now table_y.now) levels) x.now y.now }
+    ensures { let T = entries_by index_x.now table_x.now in
+        let U = entries_by index_y.now table_y.now in
+        result ≡ clash_among by T U (clash_below by T U levels) x.now y.now }
 {
-    let mut i: usize = 0;
-    loop {
-        let Child::Found { at, from, to } = next_child(x, i) else {
-            return false;
-        };
-        let tag = x[at];
-        if is_item_clash(
-            by,
-            levels,
-            tag,
-            index_x,
-            table_x,
-            &x[from..to],
-            index_y,
-            table_y,
-            y,
-        ) {
-            return true;
-        }
-        i = to;
-    }
+    any_child(
+        x,
+        |tag, body|
+            ensures { let T = entries_by index_x.entry.now table_x.entry.now in
+                let U = entries_by index_y.entry.now table_y.entry.now in
+                result ≡ item_clash by T U (clash_below by T U levels) (children_in y.entry.now) tag body.now }
+        { is_item_clash(by, levels, tag, index_x, table_x, body, index_y, table_y, y) },
+    )
 }

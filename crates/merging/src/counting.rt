@@ -18,13 +18,7 @@ pub struct Needs {
 fn sum(a: usize, b: usize) -> usize
     ensures { result ≡ min most (a + b) }
 {
-    if a >= MOST {
-        return MOST;
-    }
-    if b >= MOST - a {
-        return MOST;
-    }
-    a + b
+    a.saturating_add(b).min(MOST)
 }
 
 // More of each.
@@ -51,18 +45,12 @@ pub fn keep(needs: Needs) -> Needs
 pub fn stopped(size: Octets) -> Octets
     ensures { result.0 ≡ min most size.0 }
 {
-    if size.0 > MOST {
-        return Octets(MOST);
-    }
-    size
+    Octets(size.0.min(MOST))
 }
 
 // How far a count lies above another; 0 where it doesn't.
 pub fn excess(count: Octets, other: Octets) -> Octets
     ensures { result.0 ≡ count.0 - other.0 }
 {
-    if count.0 < other.0 {
-        return Octets(0);
-    }
-    Octets(count.0 - other.0)
+    Octets(count.0.saturating_sub(other.0))
 }

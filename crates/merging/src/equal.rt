@@ -3,7 +3,8 @@ ghost use Rattle.std.specs.Prelude.{◌≡◌};
 ghost use Rattle.text.specs.Index.{entries_by};
 ghost use Rattle.merging.specs.Among.{is_equal, equal_in, language_in};
 
-use compare::{Child, next_child, same_child};
+use crate::children::any_child;
+use compare::same_child;
 
 // Two elements of any tags with these bodies. `levels` as `same_child` has it.
 fn is_same(
@@ -38,40 +39,16 @@ pub fn has_equal(
 ) -> bool
     ensures { result ≡ equal_in levels (entries_by index_a.now table_a.now) tag a.now (entries_by index_b.now table_b.now) part.now }
 {
-    let mut i: usize = 0;
-    loop {
-        let Child::Found { at, from, to } = next_child(part, i) else {
-            return false;
-        };
-        if is_same(
-            tag,
-            part[at],
-            levels,
-            index_a,
-            table_a,
-            a,
-            index_b,
-            table_b,
-            &part[from..to],
-        ) {
-            return true;
-        }
-        i = to;
-    }
+    any_child(part, |other, body| {
+        is_same(
+            tag, other, levels, index_a, table_a, a, index_b, table_b, body,
+        )
+    })
 }
 
 // Among the child elements of a part is a default language.
 pub fn has_language(part: &[u8]) -> bool
     ensures { result ≡ language_in part.now }
 {
-    let mut i: usize = 0;
-    loop {
-        let Child::Found { at, from: _, to } = next_child(part, i) else {
-            return false;
-        };
-        if part[at] == 6 {
-            return true;
-        }
-        i = to;
-    }
+    any_child(part, |tag, _| tag == 6)
 }

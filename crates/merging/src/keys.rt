@@ -8,7 +8,8 @@ ghost use Rattle.merge.specs.Keys.{merges as can_merge, key_attribute};
 ghost use Rattle.merging.specs.Searches.{any_child, FindsChild};
 ghost use Rattle.merging.specs.Keyed.{is_bearer_of, is_foreign, has_foreign, same_bearers, same_service_in, same_key_in, is_partner};
 
-use compare::{Child, next_child, same_attribute};
+use crate::children::{any_child, find_child};
+use compare::same_attribute;
 use merge::Services;
 use octets::Lies;
 use tags::is_top;
@@ -17,61 +18,37 @@ use tags::is_top;
 fn is_of_service(tag: u8) -> bool
     ensures { result ≡ (eqb tag 0x26 || eqb tag 0x28 || eqb tag 0x29) }
 {
-    if tag == 0x26 {
-        return true;
-    }
-    if tag == 0x28 {
-        return true;
-    }
-    tag == 0x29
+    matches!(tag, 0x26 | 0x28 | 0x29)
 }
 
 // schedule, programme.
 fn is_of_schedule(tag: u8) -> bool
     ensures { result ≡ (eqb tag 0x21 || eqb tag 0x1C) }
 {
-    if tag == 0x21 {
-        return true;
-    }
-    tag == 0x1C
+    matches!(tag, 0x21 | 0x1C)
 }
 
 // programmeGroups, programmeGroup.
 fn is_of_groups(tag: u8) -> bool
     ensures { result ≡ (eqb tag 0x20 || eqb tag 0x23) }
 {
-    if tag == 0x20 {
-        return true;
-    }
-    tag == 0x23
+    matches!(tag, 0x20 | 0x23)
 }
 
 // An element that can have a partner.
 pub fn merges(tag: u8) -> bool
     ensures { result ≡ can_merge tag }
 {
-    if is_top(tag) {
-        return true;
-    }
-    if is_of_service(tag) {
-        return true;
-    }
-    if is_of_schedule(tag) {
-        return true;
-    }
-    is_of_groups(tag)
+    is_top(tag) || is_of_service(tag) || is_of_schedule(tag) || is_of_groups(tag)
 }
 
 fn key_attribute(tag: u8) -> u8
     ensures { result ≡ key_attribute tag }
 {
-    if tag == 0x1C {
-        return 0x81;
+    match tag {
+        0x1C | 0x23 => 0x81,
+        _ => 0x80,
     }
-    if tag == 0x23 {
-        return 0x81;
-    }
-    0x80
 }
 
 // A bearer with the id of this one, given by its body.
@@ -103,25 +80,9 @@ fn has_bearer(
 ) -> bool
     ensures { result ≡ any_child (is_bearer_of (entries_by index_x.now table_x.now) bearer.now (entries_by index_y.now table_y.now)) (children_in part.now) }
 {
-    let mut i: usize = 0;
-    loop {
-        let Child::Found { at, from, to } = next_child(part, i) else {
-            return false;
-        };
-        let tag = part[at];
-        if is_bearer_of(
-            index_x,
-            table_x,
-            bearer,
-            tag,
-            index_y,
-            table_y,
-            &part[from..to],
-        ) {
-            return true;
-        }
-        i = to;
-    }
+    any_child(part, |tag, body| {
+        is_bearer_of(index_x, table_x, bearer, tag, index_y, table_y, body)
+    })
 }
 
 // A bearer whose id none of the child elements in a part has.
@@ -153,17 +114,9 @@ fn has_foreign(
 ) -> bool
     ensures { result ≡ has_foreign (entries_by index_x.now table_x.now) x.now (entries_by index_y.now table_y.now) y.now }
 {
-    let mut i: usize = 0;
-    loop {
-        let Child::Found { at, from, to } = next_child(x, i) else {
-            return false;
-        };
-        let tag = x[at];
-        if is_foreign(index_x, table_x, tag, &x[from..to], index_y, table_y, y) {
-            return true;
-        }
-        i = to;
-    }
+    any_child(x, |tag, body| {
+        is_foreign(index_x, table_x, tag, body, index_y, table_y, y)
+    })
 }
 
 // The bearers in two parts have the same ids.
@@ -258,25 +211,7 @@ pub fn find_partner(
 ) -> Lies
     ensures { FindsChild (is_partner by tag (entries_by index_x.now table_x.now) x.now (entries_by index_y.now table_y.now)) part.now start result }
 {
-    let mut i = start;
-    loop {
-        let Child::Found { at, from, to } = next_child(part, i) else {
-            return Lies::Outside;
-        };
-        let other = part[at];
-        if is_partner(
-            by,
-            tag,
-            index_x,
-            table_x,
-            x,
-            other,
-            index_y,
-            table_y,
-            &part[from..to],
-        ) {
-            return Lies::Between { from, to };
-        }
-        i = to;
-    }
+    find_child(part, start, |other, body| {
+        is_partner(by, tag, index_x, table_x, x, other, index_y, table_y, body)
+    })
 }

@@ -8,6 +8,7 @@ ghost use Rattle.merging.specs.Calls.{HasTwice, HasClash, Settles, conflict_answ
 ghost use Rattle.format.specs.Answers.{refusal};
 ghost use Rattle.merging.specs.declared.Conflict.TheVariants.{InBoth};
 
+mod children;
 mod clash;
 mod counting;
 mod equal;

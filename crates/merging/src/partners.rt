@@ -4,7 +4,7 @@ ghost use Rattle.text.specs.Index.{entries_by};
 ghost use Rattle.merging.specs.Among.{language_in};
 ghost use Rattle.merging.specs.Roles.{stays_in, is_put, partner_body, partner_in};
 
-use crate::clash::is_found;
+use crate::children::is_found;
 use crate::equal::{has_equal, has_language};
 use crate::keys::{find_partner, merges};
 use merge::Services;
@@ -12,6 +12,7 @@ use octets::Lies;
 
 // What the child elements of a part are walked over for. Language: Advanced's default language, where Basic has none. Own: Basic's, each become one with its
 // partner. Added: Advanced's others that come behind.
+// Kept: a role is no closure. The three ask of the same nine arguments, within a cycle of calls, where a closure needs a clause of its own for each.
 #[derive(Clone, Copy)]
 pub enum Role {
     Language,

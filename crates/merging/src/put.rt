@@ -1,5 +1,7 @@
 // Single items of the result: an item that holds none, by its octets in one of the two objects. Each function counts, and where `emit` says so it puts the
 // octets into the room as well: behind those that were counted before.
+// Kept: `emit` beside `out` is no Option of a room. Each clause tells of the room before and after a call (`out.old`, `out.new`), which behind an Option
+// have no names of their own, and each of the sixteen functions that take the two would open it anew.
 ghost use Rattle.std.specs.Prelude.{◌≡◌, min, length};
 ghost use Rattle.std.proofs.Math.Option.{some};
 ghost use Rattle.text.specs.Tokens.{entries, expanded};
@@ -166,12 +168,10 @@ pub fn put_attributes(
     ensures { AttributesPut emit parent index_a.now table_a.now a.now index_b.now table_b.now b.now needs out.old out.new result }
 {
     let mut done = keep(needs);
-    let mut tag: u8 = 0x80;
-    while tag < 0x87 {
+    for tag in 0x80..0x87 {
         done = put_either(
             out, done, parent, tag, index_a, table_a, a, index_b, table_b, b, emit,
         );
-        tag = tag + 1;
     }
     done
 }

@@ -4,10 +4,10 @@ ghost use Rattle.text.specs.Index.{entries_by};
 ghost use Rattle.compare.specs.Walks.{children_in};
 ghost use Rattle.merging.specs.Keyed.{is_again, twice_inside, twice_among};
 
+use crate::children::is_found;
 use crate::keys::{find_partner, merges};
 use compare::{Child, next_child};
 use merge::Services;
-use octets::Lies;
 use tags::holds_items;
 
 // An element can have a partner, and has one among the child elements of its own parent from a place on.
@@ -25,10 +25,7 @@ fn is_again(
     if !merges(tag) {
         return false;
     }
-    match find_partner(by, tag, index, table, body, index, table, part, behind) {
-        Lies::Outside => false,
-        Lies::Between { from: _, to: _ } => true,
-    }
+    is_found(find_partner(by, tag, index, table, body, index, table, part, behind))
 }
 
 // A key twice inside an element, as deep as `levels` levels of elements.
@@ -57,6 +54,7 @@ fn is_inside_twice(
 pub fn is_twice(by: Services, levels: usize, index: &[usize; 32], table: &[u8], part: &[u8]) -> bool
     ensures { result ≡ twice_among by (entries_by index.now table.now) (twice_inside by (entries_by index.now table.now) levels) (children_in part.now) }
 {
+    // Kept: this walk's step is data, and it asks of what lies behind the child too, which find_child doesn't tell its test.
     let mut i: usize = 0;
     loop {
         let Child::Found { at, from, to } = next_child(part, i) else {

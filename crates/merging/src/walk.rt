@@ -221,6 +221,7 @@ pub fn put_children(
     ensures { ChildrenPut emit role by left index_a.now table_a.now a.now index_b.now table_b.now b.now needs out.old out.new result }
 {
     let mut done = keep(needs);
+    // Kept: this walk's step is data, and each turn puts into the room and counts on, which a test that find_child asks can't.
     let mut i: usize = 0;
     loop {
         let Child::Found { at, from, to } = next_child(a, i) else {

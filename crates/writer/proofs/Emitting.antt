@@ -8,8 +8,9 @@ use native.Mathlib.Nat.{add-sub_cancel_left}
 use lib.Dec.{eqb}
 use lib.ListN.{length, take, drop, get_or}
 use borrow.Author.Tests.{eqb-true, le-ltb, eq-eqb, ne_eqb}
+use Rattle.std.specs.Prelude.{Option, None, Some}
 use Rattle.octets.specs.Header.{length_field, framed}
-use Rattle.octets.proofs.Left.{lays-none, lays-append, lays-length}
+use Rattle.octets.proofs.Left.{lays-none, lays-append}
 use Rattle.octets.specs.Puts.{Lays}
 use Rattle.values.specs.Table.{attribute}
 use Rattle.values.proofs.Known.{high-attribute}
@@ -25,10 +26,11 @@ use Rattle.writer.specs.declared.emit.Role.{Role}
 use Rattle.writer.specs.declared.emit.Role.TheVariants.{Gone, Element, Attribute, Other}
 use Rattle.writer.specs.declared.emit.Reached.{Reached}
 use Rattle.survey.specs.Normal.{item_octets, attribute_octets, later_octets}
-use Rattle.writer.specs.Steps.{four_of, items_from, Holding, role_of, body_at, BodyAt, Fitting, Ordered, Stands, FindsLowest, body_octets, element_octets, SizesStand, Emits, Standing, AsLaid}
+use Rattle.writer.specs.Steps.{four_of, items_from, Holding, role_of, body_at, BodyAt, Fitting, Ordered, limit_of, Stands, FindsLowest, body_octets}
+use Rattle.writer.specs.Steps.{element_octets, SizesStand, Emits, Standing, AsLaid}
 use Rattle.survey.proofs.Rising.{rising-seven, rising-skip}
 use Rattle.writer.proofs.Copied.{laid-inside, laid-own, laid-after, laid-found}
-use Rattle.writer.proofs.Finding.{found-octets, none_between, found-body}
+use Rattle.writer.proofs.Finding.{tag-most, found-octets, none_between, found-body}
 use Rattle.survey.proofs.Sizes.{opens-no-attribute}
 use Rattle.writer.proofs.Lays.{fitting-left, fitting-right}
 use Rattle.writer.proofs.Heading.{head_small, head-fits, one-fits, other_fits as other-fits-behind, headed-laid}
@@ -78,20 +80,21 @@ module _ (p n : ℕ) (tags depths starts sizes lent : List ℕ) (at depth : ℕ)
   inside = (items_from (four_of tags depths starts sizes) n lent depth at).0
 
   -- the loop's invariant: the attributes before the next one are written, the others are left
-  pub record Risen (to : ℕ) (before room : List ℕ) (stop : ℕ) (a : Lowest) : Type 0 where
-    pub high : 0x80 ≤ a.tag
-    pub stands : Stands n tags depths at depth a
+  pub record Risen (to : ℕ) (before room : List ℕ) (stop : ℕ) (a : Option Lowest) : Type 0 where
+    pub high : 0x80 ≤ limit_of a
+    pub stands : (found : Lowest) → a ≡ Some found → Stands n tags depths at depth found
     pub done : List ℕ
     pub lays : Lays done to before room stop
-    pub left : attribute_octets p inside ≡ done ++ rising (0x87 - a.tag) a.tag (attributes_in [] p inside)
+    pub left : attribute_octets p inside ≡ done ++ rising (0x87 - limit_of a) (limit_of a) (attributes_in [] p inside)
 
   -- up to the next attribute from a tag on there is none
-  skipped : Ordered p inside → (least : ℕ) (a : Lowest) → 0x80 ≤ least → FindsLowest n tags depths at depth least a
-      → rising (0x87 - least) least (attributes_in [] p inside) ≡ rising (0x87 - a.tag) a.tag (attributes_in [] p inside)
+  skipped : Ordered p inside → (least : ℕ) (a : Option Lowest) → 0x80 ≤ least → FindsLowest n tags depths at depth least a
+      → rising (0x87 - least) least (attributes_in [] p inside) ≡ rising (0x87 - limit_of a) (limit_of a) (attributes_in [] p inside)
   skipped o least a h f =
-      rising-skip least a.tag (attributes_in [] p inside) f.from f.stands.most (none_between p n tags depths starts sizes lent at depth o a least h f)
+      rising-skip least (limit_of a) (attributes_in [] p inside) f.from (tag-most n tags depths at depth a f.stands)
+      (none_between p n tags depths starts sizes lent at depth o a least h f)
 
-  pub risen-start : Ordered p inside → (to : ℕ) (room : List ℕ) (a : Lowest) → FindsLowest n tags depths at depth 0x80 a → Risen to room room to a
+  pub risen-start : Ordered p inside → (to : ℕ) (room : List ℕ) (a : Option Lowest) → FindsLowest n tags depths at depth 0x80 a → Risen to room room to a
   risen-start o to room a f = record {
     high = f.from;
     stands = f.stands;
@@ -100,21 +103,25 @@ module _ (p n : ℕ) (tags depths starts sizes lent : List ℕ) (at depth : ℕ)
     left = rising-seven p inside ∙ skipped o 0x80 a (omega arith) f;
   }
 
-  module _ (to : ℕ) (before room : List ℕ) (stop : ℕ) (a : Lowest) (inv : Risen to before room stop a) where
-    pub risen-length : length room ≡ length before
-    risen-length = lays-length inv.done to before room stop inv.lays
-
-    pub risen-end : 0x87 ≤ a.tag → Lays (attribute_octets p inside) to before room stop
+  module _ (to : ℕ) (before room : List ℕ) (stop : ℕ) (next : Option Lowest) (inv : Risen to before room stop next) where
+    pub risen-end : next ≡ None → Lays (attribute_octets p inside) to before room stop
     unfolding rising
     risen-end h =
-        let z : 0x87 - a.tag ≡ 0 = omega arith in
-        let e : attribute_octets p inside ≡ inv.done = inv.left ∙ (ap (λ n. inv.done ++ rising n a.tag (attributes_in [] p inside)) z ∙ append-nil inv.done) in
+        let e : attribute_octets p inside ≡ inv.done =
+        inv.left ∙ (ap (λ b. inv.done ++ rising (0x87 - limit_of b) (limit_of b) (attributes_in [] p inside)) h ∙ append-nil inv.done) in
         rw e inv.lays
 
-    pub risen-less : a.tag < 0x87 → (b : Lowest) → FindsLowest n tags depths at depth (a.tag + 1) b → 0x87 - b.tag < 0x87 - a.tag
-    risen-less lt b f = omega (arith, f.from)
+    module _ (a : Lowest) (is : next ≡ Some a) where
+      abbrev found : Stands n tags depths at depth a
+      found = inv.stands a is
 
-    module _ (o : Ordered p inside) (lt : a.tag < 0x87) where
+      limit-tag : limit_of next ≡ a.tag
+      limit-tag = ap limit_of is
+
+      pub risen-high : (0x80 ≤ a.tag) × (a.tag < 0x87)
+      risen-high = (omega (arith, inv.high, limit-tag), found.most)
+
+    module _ (o : Ordered p inside) (a : Lowest) (is : next ≡ Some a) where
       abbrev one : List ℕ
       one = item_octets p a.tag (body_at a.place starts sizes lent)
 
@@ -124,39 +131,41 @@ module _ (p n : ℕ) (tags depths starts sizes lent : List ℕ) (at depth : ℕ)
       step : attribute_octets p inside ≡ inv.done ++ (one ++ rest)
       unfolding rising
       step =
-          let z : 0x87 - a.tag ≡ suc (0x87 - (a.tag + 1)) = omega arith in
+          let z : 0x87 - a.tag ≡ suc (0x87 - (a.tag + 1)) = omega (arith, risen-high a is) in
           let w : suc a.tag ≡ a.tag + 1 = omega arith in
           inv.left
-          ∙ (ap (λ n. inv.done ++ rising n a.tag (attributes_in [] p inside)) z
-          ∙ rw (w, found-octets p n tags depths starts sizes lent at depth o a inv.stands inv.high lt))
+          ∙ (ap (λ t. inv.done ++ rising (0x87 - t) t (attributes_in [] p inside)) (limit-tag a is)
+          ∙ ap (λ n. inv.done ++ rising n a.tag (attributes_in [] p inside)) z
+          ∙ rw (w, found-octets p n tags depths starts sizes lent at depth o a (found a is) (risen-high a is).0))
 
       risen-stands : AsLaid p inside → Standing p a.tag (body_at a.place starts sizes lent)
       unfolding body_in body_at
       risen-stands s =
-          let shut : opens a.tag ≡ false = attribute-shut a.tag (high-attribute a.tag inv.high) in
-          laid-found p a.tag shut inside (body_at a.place starts sizes lent) s (inv.stands.body lt starts sizes lent o.spot o.rules)
+          let shut : opens a.tag ≡ false = attribute-shut a.tag (high-attribute a.tag (risen-high a is).0) in
+          laid-found p a.tag shut inside (body_at a.place starts sizes lent) s ((found a is).body starts sizes lent o.spot o.rules)
 
       pub risen-fits : (stored : Bool) → Holding n (four_of tags depths starts sizes) lent → (stored ≡ true → AsLaid p inside) → Fitting (attribute_octets p inside) to (length before)
           → BodyAt a.place starts sizes lent × ((stored ≡ true → Standing p a.tag (body_at a.place starts sizes lent)) × Fitting one stop (length room))
       risen-fits stored h s f =
           let all : Fitting (inv.done ++ (one ++ rest)) to (length before) = rw step at f in (
-            found-body n tags depths starts sizes lent at depth h a inv.stands lt,
+            found-body n tags depths starts sizes lent at depth h a (found a is),
             (
               (λ q. risen-stands (s q)),
               fitting-left one rest stop (length room) (fitting-right inv.done (one ++ rest) to before room stop all inv.lays),
             ),
           )
 
-      pub risen-next : (after : List ℕ) (next : ℕ) → Lays one stop room after next → (b : Lowest) → FindsLowest n tags depths at depth (a.tag + 1) b → Risen to before after next b
+      pub risen-next : (after : List ℕ) (next : ℕ) → Lays one stop room after next → (b : Option Lowest) → FindsLowest n tags depths at depth (a.tag + 1) b
+          → Risen to before after next b
       risen-next after next h b f = record {
-        high = let g = f.from in let i = inv.high in omega arith;
+        high = let g = f.from in let i = risen-high a is in omega arith;
         stands = f.stands;
         done = inv.done ++ one;
         lays = lays-append inv.done one to before room stop after next inv.lays h;
         left =
             step
-            ∙ (ap (λ x. inv.done ++ (one ++ x)) (skipped o (a.tag + 1) b (let i = inv.high in omega arith) f)
-            ∙ sym (append_assoc inv.done one (rising (0x87 - b.tag) b.tag (attributes_in [] p inside))));
+            ∙ (ap (λ x. inv.done ++ (one ++ x)) (skipped o (a.tag + 1) b (let i = risen-high a is in omega arith) f)
+            ∙ sym (append_assoc inv.done one (rising (0x87 - limit_of b) (limit_of b) (attributes_in [] p inside))));
       }
 
 -- what a role says of the record
@@ -190,14 +199,7 @@ pub record Written (stored : Bool) (l : Lists) (n : ℕ) (lent : List ℕ) (p de
   pub left : later l n lent p depth at ≡ done ++ later l n lent p depth i
   pub same : (items_from l n lent depth at).1 ≡ (items_from l n lent depth i).1
 
-pub written_start : (stored : Bool) (l : Lists) (n : ℕ) (lent : List ℕ) (p depth at to : ℕ) (room : List ℕ) → Ordered p (items_from l n lent depth at).0 → at ≤ n
-    → (stored ≡ true → AsLaid p (items_from l n lent depth at).0) → Written stored l n lent p depth at to room room at to
-written_start stored l n lent p depth at to room o h s = record { low = omega arith; high = h; ordered = o; stands = s; done = []; lays = lays-none to room; left = refl; same = refl }
-
 module _ (stored : Bool) (l : Lists) (n : ℕ) (lent : List ℕ) (p depth at to : ℕ) (before room : List ℕ) (i stop : ℕ) (inv : Written stored l n lent p depth at to before room i stop) where
-  pub written-length : length room ≡ length before
-  written-length = lays-length inv.done to before room stop inv.lays
-
   ended : here (row l) n depth i ≡ false → Emits (items_from l n lent depth at) p to before room (record { end = stop; next = i })
   unfolding later_octets
   ended e =

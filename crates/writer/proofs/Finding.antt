@@ -7,7 +7,9 @@ use Prim.Native.Nat.{ℕ, ◌+◌, ◌≤◌, ◌<◌}
 use native.Mathlib.Omega.{arith}
 use lib.Dec.{eqb, leb, ltb}
 use lib.ListN.{get_or}
+use Rattle.std.proofs.lemmas.Option.{same_Some}
 use borrow.Author.Tests.{eqb-true, eq-eqb, ne_eqb, lt-ltb, le-ltb, lt-leb, le-leb, ltb-true, ltb-false, leb-true, leb-false}
+use Rattle.std.specs.Prelude.{Option, None, Some}
 use Rattle.octets.specs.Header.{framed}
 use Rattle.values.specs.Table.{known, attribute}
 use Rattle.values.specs.declared.Kind.{Kind}
@@ -27,47 +29,48 @@ use Rattle.format.proofs.Defaults.{present-attribute}
 use Rattle.format.proofs.Walk.{here_end, here-not, here-is}
 use Rattle.writer.specs.declared.emit.Lowest.{Lowest}
 use Rattle.survey.specs.Normal.{item_octets}
-use Rattle.writer.specs.Steps.{four_of, items_from, Holding, lower_of, Stands, FindsLowest, body_at, BodyAt, Ordered}
+use Rattle.writer.specs.Steps.{four_of, items_from, Holding, limit_of, lowest, lower_of, Stands, FindsLowest, body_at, BodyAt, Ordered}
 use Rattle.survey.proofs.Ways.{value-fits, item-known, item-default}
 use Rattle.survey.proofs.Rising.{one_attribute}
 use Rattle.survey.proofs.Found.{none-behind}
 use Rattle.writer.proofs.Rows.{from-stop, from-single, from-item}
 
 -- one record more
-module _ (a : Lowest) (least tag i : ℕ) where
+module _ (a : Option Lowest) (least tag i : ℕ) where
   pub lower-below : tag < least → a ≡ lower_of a least tag i
   unfolding lower_of
   lower-below h = rw (lt-leb least tag h)
 
-  pub lower-taken : least ≤ tag → tag < a.tag → record { tag = tag; place = i } ≡ lower_of a least tag i
+  pub lower-taken : least ≤ tag → tag < limit_of a → Some (lowest tag i) ≡ lower_of a least tag i
   unfolding lower_of
-  lower-taken h q = rw (le-leb least tag h, lt-ltb tag a.tag q)
+  lower-taken h q = rw (le-leb least tag h, lt-ltb tag (limit_of a) q)
 
-  pub lower-kept : least ≤ tag → a.tag ≤ tag → a ≡ lower_of a least tag i
+  pub lower-kept : least ≤ tag → limit_of a ≤ tag → a ≡ lower_of a least tag i
   unfolding lower_of
-  lower-kept h q = rw (le-leb least tag h, le-ltb tag a.tag q)
+  lower-kept h q = rw (le-leb least tag h, le-ltb tag (limit_of a) q)
+
+-- a tag that was found, or the limit of all
+pub tag-most : (n : ℕ) (tags depths : List ℕ) (at depth : ℕ) (a : Option Lowest) → ((found : Lowest) → a ≡ Some found
+    → Stands n tags depths at depth found) → limit_of a ≤ 0x87
+tag-most n tags depths at depth None s = omega arith
+tag-most n tags depths at depth (Some a) s = let m = (s a refl).most in omega arith
 
 module _ (n : ℕ) (tags depths : List ℕ) (at depth least : ℕ) where
   abbrev items_at : (starts sizes lent : List ℕ) → ℕ → Items
   items_at starts sizes lent i = (items_from (four_of tags depths starts sizes) n lent depth i).0
 
   -- the loop's invariant: attributes below the lowest so far are found from record i on as from the first, and the items from there keep the rules too
-  pub record Passed (a : Lowest) (i : ℕ) : Type 0 where
-    pub from : least ≤ a.tag
-    pub stands : Stands n tags depths at depth a
-    pub same : (t : ℕ) → least ≤ t → t < a.tag → (starts sizes lent : List ℕ) (s : Spot) → ruled s (items_at starts sizes lent at) ≡ true
+  pub record Passed (a : Option Lowest) (i : ℕ) : Type 0 where
+    pub from : least ≤ limit_of a
+    pub stands : (found : Lowest) → a ≡ Some found → Stands n tags depths at depth found
+    pub same : (t : ℕ) → least ≤ t → t < limit_of a → (starts sizes lent : List ℕ) (s : Spot) → ruled s (items_at starts sizes lent at) ≡ true
         → find t (items_at starts sizes lent at) ≡ find t (items_at starts sizes lent i)
     pub kept : (starts sizes lent : List ℕ) (s : Spot) → ruled s (items_at starts sizes lent at) ≡ true → (u : Spot) × (ruled u (items_at starts sizes lent i) ≡ true)
 
-  pub pass-start : least ≤ 0x87 → (place : ℕ) → Passed (record { tag = 0x87; place = place }) at
-  pass-start h place = record {
-    from = h;
-    stands = record { most = omega arith; within = λ q. absurd (omega arith); body = λ q. absurd (omega arith) };
-    same = λ t x y a b o s z. refl;
-    kept = λ a b o s z. (s, z);
-  }
+  module _ (a : Option Lowest) (i : ℕ) (inv : Passed a i) where
+    limit-most : limit_of a ≤ 0x87
+    limit-most = tag-most n tags depths at depth a inv.stands
 
-  module _ (a : Lowest) (i : ℕ) (inv : Passed a i) where
     concluded : ((t : ℕ) → least ≤ t → (starts sizes lent : List ℕ) (s : Spot) → ruled s (items_at starts sizes lent at) ≡ true → find t (items_at starts sizes lent i) ≡ none)
         → FindsLowest n tags depths at depth least a
     concluded f = record { from = inv.from; stands = inv.stands; between = λ t x y b c o s z. inv.same t x y b c o s z ∙ f t x b c o s z }
@@ -115,7 +118,8 @@ module _ (n : ℕ) (tags depths : List ℕ) (at depth least : ℕ) where
               let w : ruled u.0 (item (row l i).tag (row l i).start (body_in o (row l i)) end (items_at b c o (i + 1))) ≡ true = rw (single b c o) at u.1 in
               (past u.0 (row l i).tag, (ruled-parts u.0 (row l i).tag (row l i).start (body_in o (row l i)) end (items_at b c o (i + 1)) w).beside)
 
-          on : (x : Lowest) → least ≤ x.tag → Stands n tags depths at depth x → x.tag ≤ a.tag → ((t : ℕ) → least ≤ t → t < x.tag → t ≡ get_or tags i 0 → ⊥) → Passed x (i + 1)
+          on : (x : Option Lowest) → least ≤ limit_of x → ((found : Lowest) → x ≡ Some found → Stands n tags depths at depth found)
+              → limit_of x ≤ limit_of a → ((t : ℕ) → least ≤ t → t < limit_of x → t ≡ get_or tags i 0 → ⊥) → Passed x (i + 1)
           on x f st le ne = record {
             from = f;
             stands = st;
@@ -123,24 +127,27 @@ module _ (n : ℕ) (tags depths : List ℕ) (at depth least : ℕ) where
             kept = kept_on;
           }
 
-          here_found : least ≤ get_or tags i 0 → get_or tags i 0 < a.tag → Stands n tags depths at depth (record { tag = get_or tags i 0; place = i })
+          here_found : least ≤ get_or tags i 0 → get_or tags i 0 < limit_of a → (found : Lowest) → Some (lowest (get_or tags i 0) i) ≡ Some found
+              → Stands n tags depths at depth found
           unfolding find
-          here_found g h = record {
-            most = let m = inv.stands.most in omega arith;
-            within = λ q. lt;
-            body = λ q b c o s r. inv.same (get_or tags i 0) g h b c o s r ∙ (ap (find (get_or tags i 0)) (single b c o) ∙ rw (eq-eqb (get_or tags i 0) (get_or tags i 0) refl));
-          }
+          here_found g h found q = subst (Stands n tags depths at depth) (same_Some (lowest (get_or tags i 0) i) found q) (record {
+            most = omega (arith, limit-most);
+            within = lt;
+            body = λ b c o s r. inv.same (get_or tags i 0) g h b c o s r ∙ (ap (find (get_or tags i 0)) (single b c o)
+                ∙ rw (eq-eqb (get_or tags i 0) (get_or tags i 0) refl));
+          })
 
-          pub pass-next : (x : Lowest) → x ≡ lower_of a least (get_or tags i 0) i → Passed x (i + 1)
+          pub pass-next : (x : Option Lowest) → x ≡ lower_of a least (get_or tags i 0) i → Passed x (i + 1)
           unfolding lower_of
-          pass-next x e = rw e (go (leb least (get_or tags i 0)) (ltb (get_or tags i 0) a.tag) refl refl)
+          pass-next x e = rw e (go (leb least (get_or tags i 0)) (ltb (get_or tags i 0) (limit_of a)) refl refl)
             where
-              go : (b c : Bool) → leb least (get_or tags i 0) ≡ b → ltb (get_or tags i 0) a.tag ≡ c → Passed (cond (b && c) (record { tag = get_or tags i 0; place = i }) a) (i + 1)
+              go : (b c : Bool) → leb least (get_or tags i 0) ≡ b → ltb (get_or tags i 0) (limit_of a) ≡ c
+                  → Passed (cond (b && c) (Some (lowest (get_or tags i 0) i)) a) (i + 1)
               go true true g h =
                   let p = leb-true least (get_or tags i 0) g in
-                  let q = ltb-true (get_or tags i 0) a.tag h in
-                  on (record { tag = get_or tags i 0; place = i }) p (here_found p q) (omega arith) (λ t y z w. omega arith)
-              go true false g h = let q = ltb-false (get_or tags i 0) a.tag h in on a inv.from inv.stands (omega arith) (λ t y z w. omega arith)
+                  let q = ltb-true (get_or tags i 0) (limit_of a) h in
+                  on (Some (lowest (get_or tags i 0) i)) p (here_found p q) (omega arith) (λ t y z w. omega arith)
+              go true false g h = let q = ltb-false (get_or tags i 0) (limit_of a) h in on a inv.from inv.stands (omega arith) (λ t y z w. omega arith)
               go false c g h = let q = leb-false least (get_or tags i 0) g in on a inv.from inv.stands (omega arith) (λ t y z w. omega arith)
 
 -- an item that is found in items that keep the rules keeps them by kind
@@ -170,20 +177,22 @@ module _ (p : ℕ) (t : Items) (tag : ℕ) (a : attribute tag ≡ true) where
       go k e i false d = sym (item-known p tag body k (ne_eqb tag 4 (λ z. omega (arith, attribute-high tag a))) d e ∙ ap (framed tag) (value-fits k body i))
 
 -- the attribute that was found, and that there is none before it
-module _ (p n : ℕ) (tags depths starts sizes lent : List ℕ) (at depth : ℕ) (o : Ordered p (items_from (four_of tags depths starts sizes) n lent depth at).0) (a : Lowest) where
-  pub found-octets : Stands n tags depths at depth a → 0x80 ≤ a.tag → a.tag < 0x87
+module _ (p n : ℕ) (tags depths starts sizes lent : List ℕ) (at depth : ℕ) (o : Ordered p (items_from
+    (four_of tags depths starts sizes) n lent depth at).0) where
+  pub found-octets : (a : Lowest) → Stands n tags depths at depth a → 0x80 ≤ a.tag
       → one_attribute a.tag (attributes_in [] p (items_from (four_of tags depths starts sizes) n lent depth at).0 a.tag) ≡ item_octets p a.tag (body_at a.place starts sizes lent)
   unfolding body_in body_at
-  found-octets f g h = attribute-some p _ a.tag (high-attribute a.tag g) o (body_at a.place starts sizes lent) (f.body h starts sizes lent o.spot o.rules)
+  found-octets a f g = attribute-some p _ a.tag (high-attribute a.tag g) o (body_at a.place starts sizes lent) (f.body starts sizes lent o.spot o.rules)
 
-  pub none_between : (least : ℕ) → 0x80 ≤ least → FindsLowest n tags depths at depth least a → (t : ℕ) → least ≤ t → t < a.tag
+  pub none_between : (a : Option Lowest) (least : ℕ) → 0x80 ≤ least → FindsLowest n tags depths at depth least a → (t : ℕ) → least ≤ t → t < limit_of a
       → attributes_in [] p (items_from (four_of tags depths starts sizes) n lent depth at).0 t ≡ none
-  none_between least g f t x y = absent-attribute [] p _ t (λ _. f.between t x y starts sizes lent o.spot o.rules)
+  none_between a least g f t x y = absent-attribute [] p _ t (λ _. f.between t x y starts sizes lent o.spot o.rules)
 
-pub found-body : (n : ℕ) (tags depths starts sizes lent : List ℕ) (at depth : ℕ) → Holding n (four_of tags depths starts sizes) lent → (a : Lowest) → Stands n tags depths at depth a → a.tag < 0x87
+pub found-body : (n : ℕ) (tags depths starts sizes lent : List ℕ) (at depth : ℕ) → Holding n (four_of tags depths starts sizes) lent → (a : Lowest)
+    → Stands n tags depths at depth a
     → BodyAt a.place starts sizes lent
-found-body n tags depths starts sizes lent at depth h a f g =
-    let lt = f.within g in
+found-body n tags depths starts sizes lent at depth h a f =
+    let lt = f.within in
     let x = h.starts in
     let y = h.sizes in
     record { start = omega arith; size = omega arith; inside = h.bodies a.place lt }

@@ -9,7 +9,7 @@ use native.Mathlib.Nat.{min-le_left, min-le_right, le-min}
 use lib.ListN.{length, take}
 use lib.Seq.{sets, length-sets}
 use borrow.Author.Tests.{le-leb, lt-leb, not-true, not-false}
-use Rattle.octets.specs.declared.counts.Octets.{Octets as OctetCount}
+use Rattle.std.specs.Prelude.{Option as Maybe, None, Some}
 use Rattle.octets.specs.Counts.{as_octets, size_of}
 use Rattle.octets.proofs.Lists.{part-of-sets}
 use Rattle.format.specs.declared.WriteAnswer.{WriteAnswer}
@@ -22,8 +22,7 @@ use Rattle.format.specs.State.{Memory, body_sizes, tree_in}
 use Rattle.records.specs.Check.{is_given}
 use Rattle.survey.specs.Normal.{normal_size, later_octets}
 use Rattle.state.specs.Taking.{write_sizes, WriteClaim}
-use Rattle.writer.specs.declared.size.Sized.{Sized}
-use Rattle.writer.specs.declared.size.Sized.TheVariants.{Over, Size}
+use Rattle.writer.specs.declared.size.Extent.{Extent}
 use Rattle.writer.specs.declared.emit.Reached.{Reached}
 use Rattle.writer.specs.Steps.{items_from, Holding, Ordered, Fitting, Sizes, SizesStand, Emits}
 use Rattle.writer.proofs.Rows.{four_in}
@@ -102,23 +101,24 @@ module _ (n : ℕ) (m : Memory) where
       given-size = tree-size n m.lists m.store t given
 
       -- what is measured where nothing is stored
-      module _ (nowhere nowhere' : List ℕ) (v : Sized) (z : Sizes n (four_in m.lists) m.store 0 1 0 nowhere nowhere' v) where
-        pub given-over : v ≡ Over → (room : List ℕ) (a : WriteAnswer) → a ≡ NotWritten (refusal 15 0) → WriteClaim n m m.bodies room room a
+      module _ (nowhere nowhere' : List ℕ) (v : Maybe Extent) (z : Sizes n (four_in m.lists) m.store 0 1 0 nowhere nowhere' v) where
+        pub given-over : v ≡ None → (room : List ℕ) (a : WriteAnswer) → a ≡ NotWritten (refusal 15 0) → WriteClaim n m m.bodies room room a
         given-over f room = unfit room (omega (arith, size-over _ _ v z.answers f, given-size, min-le_right (length room) 32_768))
 
-        module _ (total : OctetCount) (next : ℕ) (f : v ≡ Size total next) (room : List ℕ) where
-          told : (normal_size 0 items ≡ total.0) × ((items_from (four_in m.lists) n m.store 1 0).1 ≡ next) × (total.0 ≤ 32_768)
-          told = size-told _ _ v z.answers total next f
+        module _ (all : Extent) (f : v ≡ Some all) (room : List ℕ) where
+          told : (normal_size 0 items ≡ all.total.0) × ((items_from (four_in m.lists) n m.store 1 0).1 ≡ all.next) × (all.total.0 ≤ 32_768)
+          told = size-told _ _ v z.answers all f
 
-          pub given-more : length room < total.0 → (a : WriteAnswer) → a ≡ NotWritten (refusal 15 0) → WriteClaim n m m.bodies room room a
+          pub given-more : length room < all.total.0 → (a : WriteAnswer) → a ≡ NotWritten (refusal 15 0) → WriteClaim n m m.bodies room room a
           given-more l = unfit room (omega (arith, told.0, given-size, min-le_left (length room) 32_768))
 
           -- all fits: the sizes are stored, and all is written by them
-          module _ (enough : total.0 ≤ length room) (bodies' : List ℕ) (w : Sized) (y : Sizes n (four_in m.lists) m.store 0 1 0 m.bodies bodies' w) where
+          module _ (enough : all.total.0 ≤ length room) (bodies' : List ℕ) (w : Maybe Extent) (y : Sizes n
+              (four_in m.lists) m.store 0 1 0 m.bodies bodies' w) where
             fit : roomy (size_of room) (encode (means [] t)) ≡ true
             unfolding roomy
             fit =
-                let k : length (encode (means [] t)) ≡ total.0 = sym given-size ∙ told.0 in
+                let k : length (encode (means [] t)) ≡ all.total.0 = sym given-size ∙ told.0 in
                 le-leb (length (encode (means [] t))) (min (length room) 32_768) (le-min (omega (arith, k)) (omega (arith, k, told.2)))
 
             stored : bodies' ≡ sets m.bodies 0 (body_sizes 0 t)

@@ -118,26 +118,7 @@ module _ (p tag to : ℕ) (body room : List ℕ) (r : KnownKind) (e : r ≡ as_k
       pub standing-laid : (after : List ℕ) (end : ℕ) → Lays (framed tag body) to room after end → Lays (item_octets p tag body) to room after end
       standing-laid after end h = rw (stands (written-kind p tag body r e k q).counts) h
 
--- an item whose body is written as it stands
-module _ (tag to : ℕ) (body room : List ℕ) (f : Fitting (framed tag body) to (length room)) where
-  stored-fits : Fitting ((tag ∷ length_field (length body)) ++ body) to (length room)
-  unfolding framed
-  stored-fits = f
-
-  pub stored-header : (length body ≤ 32_768) × Fitting (tag ∷ length_field (length body)) to (length room)
-  stored-header =
-      let x = stored-fits.in_object in
-      let l = length-append (tag ∷ length_field (length body)) body in
-      (omega arith, fitting-left (tag ∷ length_field (length body)) body to (length room) stored-fits)
-
-  plain-octets : value_octets HoldsPlain body ≡ body
-  unfolding value_octets fits meant octets_of
-  plain-octets = refl
-
-  module _ (mid : List ℕ) (at : ℕ) (h : Lays (tag ∷ length_field (length body)) to room mid at) where
-    pub stored-body : Fitting (value_octets HoldsPlain body) at (length mid)
-    stored-body = rw plain-octets (fitting-right (tag ∷ length_field (length body)) body to room mid at stored-fits h)
-
-    pub stored-laid : (after : List ℕ) (end : ℕ) → Lays (value_octets HoldsPlain body) at mid after end → Lays (framed tag body) to room after end
-    unfolding framed
-    stored-laid after end g = lays-append (tag ∷ length_field (length body)) body to room mid at after end h (rw plain-octets at g)
+-- the octets of a body that is written as it stands
+pub plain-octets : (body : List ℕ) → value_octets HoldsPlain body ≡ body
+unfolding value_octets fits meant octets_of
+plain-octets body = refl

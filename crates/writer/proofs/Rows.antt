@@ -15,7 +15,7 @@ use Rattle.format.specs.State.{body_sizes}
 use Rattle.format.proofs.Kept.{Ruled, ruled-parts}
 use Rattle.format.proofs.Walk.{here-less}
 use Rattle.format.proofs.Trees.{tree-stop, tree-single, tree-nested, tree-ahead, tree-within}
-use Rattle.writer.specs.Steps.{four_of, items_from, Holding, Ordered}
+use Rattle.writer.specs.Steps.{four_of, items_from, Ordered}
 
 module _ (l : Lists) (n : ℕ) (lent : List ℕ) (d i : ℕ) where
   -- the items from record i on: none, one that holds no items, one that does
@@ -91,15 +91,6 @@ module _ (p tag at : ℕ) (body : List ℕ) (x y : Items) (o : Ordered p (item t
   pub ordered-behind : Ordered p y
   unfolding past
   ordered-behind = record { spot = past o.spot tag; element = o.element; rules = ordered-first.beside }
-
--- fewer records have their places too
-pub holding-at : (n i : ℕ) (l : Lists) (lent : List ℕ) → Holding n l lent → i < n → Holding (i + 1) l lent
-holding-at n i l lent h q =
-    let a = h.tags in
-    let b = h.depths in
-    let c = h.starts in
-    let d = h.sizes in
-    record { tags = omega arith; depths = omega arith; starts = omega arith; sizes = omega arith; bodies = λ j k. h.bodies j (omega arith) }
 
 -- the tree goes by four of the lists alone
 abbrev pub four_in : Lists → Lists

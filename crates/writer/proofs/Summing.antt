@@ -8,10 +8,11 @@ use native.Mathlib.Nat.{add-sub_cancel_left}
 use native.Mathlib.Numerals.{add-one}
 use lib.Dec.{eqb, leb}
 use lib.ListN.{length, take, drop, get_or, set, length-take}
-use lib.Seq.{sets, length-sets}
+use lib.Seq.{sets}
 use borrow.Author.Tests.{lt-leb, le-leb, leb-false, leb-true, eq-eqb, ne_eqb}
 use mir.Syntax.{w16, w64}
 use mir.Val.{Fits}
+use Rattle.std.specs.Prelude.{Option, None, Some}
 use Rattle.octets.specs.declared.counts.Octets.{Octets}
 use Rattle.octets.specs.Counts.{as_octets}
 use Rattle.octets.proofs.Lists.{sets-append, set-sets}
@@ -41,9 +42,8 @@ use Rattle.state.specs.Order.{item_adds}
 use Rattle.state.proofs.BodySizes.{body_size, size-item, size-open, size-shut, framed-few}
 use Rattle.writer.specs.declared.size.Part.{Part}
 use Rattle.writer.specs.declared.size.Part.TheVariants.{Past, Holds, Single}
-use Rattle.writer.specs.declared.size.Sized.{Sized}
-use Rattle.writer.specs.declared.size.Sized.TheVariants.{Over, Size}
-use Rattle.writer.specs.Steps.{items_from, part_listed, part_of, part_at, sized_of, Ordered, Sizes}
+use Rattle.writer.specs.declared.size.Extent.{Extent}
+use Rattle.writer.specs.Steps.{items_from, part_listed, part_of, part_at, extent, sized_of, Ordered, Sizes}
 use Rattle.writer.proofs.Items.{value-short}
 use Rattle.writer.proofs.Rows.{from-stop, from-single, from-nested, from-ahead, from-within, from-many, ordered-first, ordered-inside, ordered-behind}
 
@@ -127,31 +127,31 @@ abbrev next : Lists → ℕ → List ℕ → (d i : ℕ) → ℕ
 next l n lent d i = (items_from l n lent d i).1
 
 -- what a size says
-unfoldable SizeTells : ℕ → ℕ → Sized → Type 0
-SizeTells m j Over = 32_768 < m
-SizeTells m j (Size t k) = (m ≡ t.0) × (j ≡ k) × (t.0 ≤ 32_768)
+unfoldable SizeTells : ℕ → ℕ → Option Extent → Type 0
+SizeTells m j None = 32_768 < m
+SizeTells m j (Some e) = (m ≡ e.total.0) × (j ≡ e.next) × (e.total.0 ≤ 32_768)
 
-size-tells : (m j : ℕ) (v : Sized) → v ≡ sized_of m j → SizeTells m j v
+size-tells : (m j : ℕ) (v : Option Extent) → v ≡ sized_of m j → SizeTells m j v
 unfolding sized_of SizeTells
 size-tells m j v e = subst (SizeTells m j) (sym e) (go (leb m 32_768) refl)
   where
-    go : (b : Bool) → leb m 32_768 ≡ b → SizeTells m j (cond b (Size (as_octets m) j) Over)
+    go : (b : Bool) → leb m 32_768 ≡ b → SizeTells m j (cond b (Some (extent m j)) None)
     go true q = (refl, refl, leb-true _ _ q)
     go false q = leb-false m 32_768 q
 
-pub size-over : (m j : ℕ) (v : Sized) → v ≡ sized_of m j → v ≡ Over → 32_768 < m
+pub size-over : (m j : ℕ) (v : Option Extent) → v ≡ sized_of m j → v ≡ None → 32_768 < m
 unfolding SizeTells
 size-over m j v e q = subst (SizeTells m j) q (size-tells m j v e)
 
-pub size-told : (m j : ℕ) (v : Sized) → v ≡ sized_of m j → (t : Octets) (k : ℕ) → v ≡ Size t k → (m ≡ t.0) × (j ≡ k) × (t.0 ≤ 32_768)
+pub size-told : (m j : ℕ) (v : Option Extent) → v ≡ sized_of m j → (x : Extent) → v ≡ Some x → (m ≡ x.total.0) × (j ≡ x.next) × (x.total.0 ≤ 32_768)
 unfolding SizeTells
-size-told m j v e t k q = subst (SizeTells m j) q (size-tells m j v e)
+size-told m j v e x q = subst (SizeTells m j) q (size-tells m j v e)
 
-over-is : (m j : ℕ) → 32_768 < m → Over ≡ sized_of m j
+over-is : (m j : ℕ) → 32_768 < m → None ≡ sized_of m j
 unfolding sized_of
 over-is m j h = rw (lt-leb m 32_768 h)
 
-size_is : (m j t k : ℕ) → m ≡ t → j ≡ k → t ≤ 32_768 → Size (as_octets t) k ≡ sized_of m j
+size_is : (m j t k : ℕ) → m ≡ t → j ≡ k → t ≤ 32_768 → Some (extent t k) ≡ sized_of m j
 unfolding sized_of
 size_is m j t k e f h = rw (e, f, le-leb t 32_768 h)
 
@@ -163,10 +163,6 @@ own_behind : (l : List ℕ) (i size : ℕ) (xs ys : List ℕ) → sets l i (size
 own_behind l i size xs ys =
     ap (λ j. sets (set l i size) j (xs ++ ys)) (sym (add-one i))
     ∙ (sym (sets-append (set l i size) (i + 1) xs ys) ∙ ap (λ o. sets o (i + 1 + length xs) ys) (sym (set-sets l (i + 1) xs i size (omega arith))))
-
--- stores change no length
-stood-length : (before bodies : List ℕ) (at i : ℕ) (xs ys : List ℕ) → sets before at xs ≡ sets bodies i ys → length bodies ≡ length before
-stood-length before bodies at i xs ys e = sym (length-sets bodies i ys) ∙ (ap length (sym e) ∙ length-sets before at xs)
 
 -- the loop's invariant: the size so far with the size from record i on is the size of all, both end at one record, and what is left keeps the rules. Its sizes of
 -- bodies, stored in the list from record i on, leave what all of them leave
@@ -188,20 +184,13 @@ pub record Added (l : Lists) (n : ℕ) (lent : List ℕ) (at depth p : ℕ) (bef
   pub same : next l n lent depth at ≡ next l n lent depth j
   pub stands : sets before at (own l n lent p depth at) ≡ sets bodies j (own l n lent p depth j)
 
-pub sums-start : (l : Lists) (n : ℕ) (lent : List ℕ) (at depth p : ℕ) (bodies : List ℕ) → at ≤ n → Ordered p (items_from l n lent depth at).0
-    → Sums l n lent at depth p bodies bodies at 0
-sums-start l n lent at depth p bodies h o =
-    record { low = omega arith; high = h; small = omega arith; ordered = o; added = omega arith; same = refl; stands = refl }
-
 -- a sum that no object may have leaves nothing to say of the list
-sizes-over : (l : Lists) (n : ℕ) (lent : List ℕ) (at depth p : ℕ) (before bodies : List ℕ) → 32_768 < sum l n lent p depth at → Sizes n l lent p depth at before bodies Over
+sizes-over : (l : Lists) (n : ℕ) (lent : List ℕ) (at depth p : ℕ) (before bodies : List ℕ) → 32_768 < sum l n lent p depth at
+    → Sizes n l lent p depth at before bodies None
 sizes-over l n lent at depth p before bodies h = record { answers = over-is _ _ h; stands = λ q. absurd (omega (arith, h, q)) }
 
 module _ (l : Lists) (n : ℕ) (lent : List ℕ) (at depth p : ℕ) (before bodies : List ℕ) (i total : ℕ) (inv : Sums l n lent at depth p before bodies i total) where
-  pub sums-length : length bodies ≡ length before
-  sums-length = stood-length before bodies at i (own l n lent p depth at) (own l n lent p depth i) inv.stands
-
-  ended : here (row l) n depth i ≡ false → Sizes n l lent p depth at before bodies (Size (as_octets total) i)
+  ended : here (row l) n depth i ≡ false → Sizes n l lent p depth at before bodies (Some (extent total i))
   unfolding normal_size body_sizes
   ended e =
       let t = from-stop l n lent depth i e in
@@ -212,7 +201,7 @@ module _ (l : Lists) (n : ℕ) (lent : List ℕ) (at depth p : ℕ) (before bodi
         stands = λ q. sym (inv.stands ∙ ap (λ x. sets bodies i (body_sizes p x.0)) t);
       }
 
-  pub sums-end : n ≤ i → Sizes n l lent p depth at before bodies (Size (as_octets total) i)
+  pub sums-end : n ≤ i → Sizes n l lent p depth at before bodies (Some (extent total i))
   sums-end h = ended (here_end (row l) n depth i h)
 
   module _ (lt : i < n) (x : Part) (xe : x ≡ part_at p depth lent (row l i)) where
@@ -222,7 +211,7 @@ module _ (l : Lists) (n : ℕ) (lent : List ℕ) (at depth p : ℕ) (before bodi
     abbrev body-here : List ℕ
     body-here = body_in lent (row l i)
 
-    pub sums-past : x ≡ Past → Sizes n l lent p depth at before bodies (Size (as_octets total) i)
+    pub sums-past : x ≡ Past → Sizes n l lent p depth at before bodies (Some (extent total i))
     unfolding Tells
     sums-past f = ended (here-not (row l) n depth i (subst (Tells p depth lent (row l i)) f (tells p depth lent (row l i) x xe)))
 
@@ -316,20 +305,26 @@ module _ (l : Lists) (n : ℕ) (lent : List ℕ) (at depth p : ℕ) (before bodi
           let u = ordered-first p tag-here (row l i).start body-here inside behind o in
           size-open o.spot p tag-here body-here inside holds-says.1 u.within ∙ ap (λ k. normal_size k inside) (sym holds-says.2)
 
-      module _ (mid : List ℕ) (v : Sized) (g : Sizes n l lent tag (depth + 1) (i + 1) bodies mid v) where
-        pub holds-over : v ≡ Over → Sizes n l lent p depth at before mid Over
+      module _ (mid : List ℕ) (v : Option Extent) (g : Sizes n l lent tag (depth + 1) (i + 1) bodies mid v) where
+        pub holds-over : v ≡ None → Sizes n l lent p depth at before mid None
         unfolding framed_size
         holds-over q = sizes-over l n lent at depth p before mid (omega (arith, size-over _ _ v g.answers q, holds-sum, inv.added))
 
-        module _ (t : Octets) (j : ℕ) (q : v ≡ Size t j) where
+        module _ (e : Extent) (q : v ≡ Some e) where
+          abbrev t : Octets
+          t = e.total
+
+          abbrev j : ℕ
+          j = e.next
+
           within : (normal_size tag inside ≡ t.0) × (stop ≡ j) × (t.0 ≤ 32_768)
-          within = size-told _ _ v g.answers t j q
+          within = size-told _ _ v g.answers e q
 
           pub inner-small : Fits w16 t.0
           inner-small = omega (arith, within.2)
 
           pub inner-fits : (m : Octets) → m.0 ≡ framed_size t.0 → Fits w64 (total + m.0)
-          inner-fits m e = omega (arith, e, inv.small, within.2, framed-few t.0)
+          inner-fits m f = omega (arith, f, inv.small, within.2, framed-few t.0)
 
           nested-stands : sets bodies i (own l n lent p depth i) ≡ sets (set mid i t.0) stop (own l n lent p depth stop)
           unfolding body_sizes
@@ -344,10 +339,10 @@ module _ (l : Lists) (n : ℕ) (lent : List ℕ) (at depth p : ℕ) (before bodi
 
           pub holds-added : (bodies' : List ℕ) → bodies' ≡ set mid i t.0 → (m : Octets) → m.0 ≡ framed_size t.0 → (k o : ℕ) → k ≡ j → o ≡ total + m.0
               → Added l n lent at depth p before bodies' i k o
-          holds-added bodies' b m me k o e h =
+          holds-added bodies' b m me k o f h =
               let w = within in
               let s : framed_size (normal_size tag inside) ≡ m.0 = ap framed_size w.0 ∙ sym me in
-              rw (e ∙ sym w.1, h, b)
+              rw (f ∙ sym w.1, h, b)
               (record {
                 ahead = omega (arith, from-ahead l n lent (depth + 1) (i + 1));
                 within = from-within l n lent (depth + 1) (i + 1) (omega arith);
@@ -358,10 +353,7 @@ module _ (l : Lists) (n : ℕ) (lent : List ℕ) (at depth p : ℕ) (before bodi
               })
 
   module _ (bodies' : List ℕ) (j t : ℕ) (a : Added l n lent at depth p before bodies' i j t) where
-    pub added-length : length bodies' ≡ length before
-    added-length = stood-length before bodies' at j (own l n lent p depth at) (own l n lent p depth j) a.stands
-
-    pub added-over : 32_768 < t → Sizes n l lent p depth at before bodies' Over
+    pub added-over : 32_768 < t → Sizes n l lent p depth at before bodies' None
     added-over h = sizes-over l n lent at depth p before bodies' (omega (arith, a.added, h))
 
     pub added-less : n - j < n - i

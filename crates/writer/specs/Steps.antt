@@ -1,5 +1,6 @@
 -- What the parts of the writer answer, and what the room then holds: measuring and writing the items of an element from a record on.
-use Rattle.std.specs.Prelude.{◌≡◌, true, false, cond, ◌&&◌, List, [], ◌++◌, ℕ, suc, ◌+◌, ◌-◌, ◌≤◌, ◌<◌, eqb, leb, ltb, length, take, drop, get_or}
+use Rattle.std.specs.Prelude.{◌≡◌, true, false, cond, ◌&&◌, List, [], ◌++◌, ℕ, suc, ◌+◌, ◌-◌, ◌≤◌, ◌<◌, eqb, leb, ltb, length, take, drop, get_or, Option}
+use Rattle.std.specs.Prelude.{None, Some}
 use Rattle.std.proofs.Math.Option.{none, some}
 use Rattle.std.proofs.lemmas.List.Edits.{sets}
 pub use Rattle.octets.specs.Puts.{Lays}
@@ -21,8 +22,7 @@ use Rattle.survey.specs.Normal.{value_octets, item_octets, normal_size, attribut
 use Rattle.state.specs.Order.{item_adds}
 use Rattle.writer.specs.declared.size.Part.{Part}
 use Rattle.writer.specs.declared.size.Part.TheVariants.{Past, Holds, Single}
-use Rattle.writer.specs.declared.size.Sized.{Sized}
-use Rattle.writer.specs.declared.size.Sized.TheVariants.{Over, Size}
+use Rattle.writer.specs.declared.size.Extent.{Extent}
 use Rattle.writer.specs.declared.emit.Lowest.{Lowest}
 use Rattle.writer.specs.declared.emit.Reached.{Reached}
 use Rattle.writer.specs.declared.emit.Role.{Role}
@@ -60,14 +60,17 @@ unfoldable pub part_at : (parent depth : ℕ) → List ℕ → Record → Part
 part_at parent depth lent r = cond (eqb r.depth depth) (part_of parent r.tag (body_in lent r)) Past
 
 -- a size that an object may have, and where the items end; no size above 32,768 is told
-unfoldable pub sized_of : ℕ → ℕ → Sized
-sized_of total next = cond (leb total 32_768) (Size (as_octets total) next) Over
+abbrev pub extent : ℕ → ℕ → Extent
+extent total next = record { total = as_octets total; next = next }
 
-abbrev pub sized_from : Lists → ℕ → List ℕ → (parent depth i : ℕ) → Sized
+unfoldable pub sized_of : ℕ → ℕ → Option Extent
+sized_of total next = cond (leb total 32_768) (Some (extent total next)) None
+
+abbrev pub sized_from : Lists → ℕ → List ℕ → (parent depth i : ℕ) → Option Extent
 sized_from l n lent parent depth i = sized_of (normal_size parent (items_from l n lent depth i).0) (items_from l n lent depth i).1
 
 -- the items of an element from record i on are measured: where an object may have their size, the size of each record's body stands in a list, if that has a place for it
-pub record Sizes (n : ℕ) (l : Lists) (lent : List ℕ) (parent depth i : ℕ) (before after : List ℕ) (answer : Sized) : Type 0 where
+pub record Sizes (n : ℕ) (l : Lists) (lent : List ℕ) (parent depth i : ℕ) (before after : List ℕ) (answer : Option Extent) : Type 0 where
   pub answers : answer ≡ sized_from l n lent parent depth i
   pub stands : normal_size parent (items_from l n lent depth i).0 ≤ 32_768 → after ≡ sets before i (body_sizes parent (items_from l n lent depth i).0)
 
@@ -120,20 +123,28 @@ pub record Emits (t : Items × ℕ) (parent to : ℕ) (before after : List ℕ) 
   pub lays : Lays (later_octets parent t.0) to before after answer.end
   pub next : answer.next ≡ t.1
 
+-- the tag of the lowest attribute so far; 0x87 where there is none: the table of items knows no attribute from there on
+abbrev pub limit_of : Option Lowest → ℕ
+limit_of None = 0x87
+limit_of (Some a) = a.tag
+
+abbrev pub lowest : (tag place : ℕ) → Lowest
+lowest tag place = record { tag = tag; place = place }
+
 -- the lowest attribute so far, or that of record i where its tag is lower, and none below the tag that was asked for
-unfoldable pub lower_of : Lowest → (least tag i : ℕ) → Lowest
-lower_of a least tag i = cond (leb least tag && ltb tag a.tag) (record { tag = tag; place = i }) a
+unfoldable pub lower_of : Option Lowest → (least tag i : ℕ) → Option Lowest
+lower_of a least tag i = cond (leb least tag && ltb tag (limit_of a)) (Some (lowest tag i)) a
 
 -- the items of an element have an attribute's tag, below 0x87, at its record, whatever their bodies are, as long as they keep the rules
 pub record Stands (n : ℕ) (tags depths : List ℕ) (at depth : ℕ) (a : Lowest) : Type 0 where
-  pub most : a.tag ≤ 0x87
-  pub within : a.tag < 0x87 → a.place < n
-  pub body : a.tag < 0x87 → (starts sizes lent : List ℕ) (s : Spot) → ruled s (items_from (four_of tags depths starts sizes) n lent depth at).0 ≡ true
+  pub most : a.tag < 0x87
+  pub within : a.place < n
+  pub body : (starts sizes lent : List ℕ) (s : Spot) → ruled s (items_from (four_of tags depths starts sizes) n lent depth at).0 ≡ true
       → find a.tag (items_from (four_of tags depths starts sizes) n lent depth at).0 ≡ some (body_in lent (row (four_of tags depths starts sizes) a.place))
 
 -- and none of a tag below it, from the one that was asked for on
-pub record FindsLowest (n : ℕ) (tags depths : List ℕ) (at depth least : ℕ) (a : Lowest) : Type 0 where
-  pub from : least ≤ a.tag
-  pub stands : Stands n tags depths at depth a
-  pub between : (t : ℕ) → least ≤ t → t < a.tag → (starts sizes lent : List ℕ) (s : Spot)
+pub record FindsLowest (n : ℕ) (tags depths : List ℕ) (at depth least : ℕ) (a : Option Lowest) : Type 0 where
+  pub from : least ≤ limit_of a
+  pub stands : (found : Lowest) → a ≡ Some found → Stands n tags depths at depth found
+  pub between : (t : ℕ) → least ≤ t → t < limit_of a → (starts sizes lent : List ℕ) (s : Spot)
       → ruled s (items_from (four_of tags depths starts sizes) n lent depth at).0 ≡ true → find t (items_from (four_of tags depths starts sizes) n lent depth at).0 ≡ none

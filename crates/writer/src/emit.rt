@@ -5,7 +5,7 @@
 ghost use Rattle.std.specs.Prelude.{◌≡◌, true, ◌+◌, ◌≤◌, ◌<◌, length, get_or};
 ghost use Rattle.octets.specs.Puts.{Lays};
 ghost use Rattle.survey.specs.Normal.{item_octets, attribute_octets, later_octets};
-ghost use Rattle.writer.specs.Steps.{four_of, items_from, Holding, Ordered, Fitting, lower_of, FindsLowest, BodyAt, body_at};
+ghost use Rattle.writer.specs.Steps.{four_of, items_from, Holding, Ordered, Fitting, limit_of, lower_of, FindsLowest, BodyAt, body_at};
 ghost use Rattle.writer.specs.Steps.{role_of, Emits, Standing, AsLaid, SizesStand};
 
 use crate::item::{put_header, put_item, put_stored};
@@ -14,8 +14,7 @@ use survey::written_as;
 use tags::holds_items;
 use values::KnownKind;
 
-// An attribute and its record: the one with the lowest tag of those that were asked for. With the tag 0x87 there is none: the table of
-// items knows no attribute from there on.
+// An attribute and its record: the one with the lowest tag of those that were asked for.
 #[derive(Clone, Copy)]
 pub struct Lowest {
     pub tag: u8,
@@ -38,15 +37,25 @@ pub struct Reached {
     pub next: usize,
 }
 
+// The tag that a lower attribute has to be below: the table of items knows no attribute from 0x87 on.
+fn limit_of(lowest: Option<Lowest>) -> u8
+    ensures { result ≡ limit_of lowest }
+{
+    match lowest {
+        Some(found) => found.tag,
+        None => 0x87,
+    }
+}
+
 // The lowest attribute so far, or that of record `i`, if its tag is lower and one of those asked for, from `least` on.
-fn lower(lowest: Lowest, least: u8, tag: u8, i: usize) -> Lowest
+fn lower(lowest: Option<Lowest>, least: u8, tag: u8, i: usize) -> Option<Lowest>
     ensures { result ≡ lower_of lowest least tag i }
 {
     if tag < least {
         return lowest;
     }
-    if tag < lowest.tag {
-        return Lowest { tag, place: i };
+    if tag < limit_of(lowest) {
+        return Some(Lowest { tag, place: i });
     }
     lowest
 }
@@ -60,16 +69,12 @@ fn next_attribute(
     at: usize,
     depth: usize,
     least: u8,
-) -> Lowest
+) -> Option<Lowest>
     requires { (count ≤ length tags.now) × (count ≤ length depths.now) × (0x80 ≤ least) × (least ≤ 0x87) }
     ensures { FindsLowest count tags.now depths.now at depth least result }
 {
-    let mut lowest = Lowest {
-        tag: 0x87,
-        place: at,
-    };
-    let mut i = at;
-    while i < count {
+    let mut lowest = None;
+    for i in at..count {
         if depths[i] as usize != depth {
             return lowest;
         }
@@ -78,11 +83,11 @@ fn next_attribute(
             return lowest;
         }
         lowest = lower(lowest, least, tag, i);
-        i = i + 1;
     }
     lowest
 }
 
+// Kept: `stored` is no closure that puts a body. It would go through the same four functions, each with a clause more that says what it may answer.
 // A body as an item of a tag, if it is written: that is asked of a stored body too, which is then copied.
 fn put_written(room: &mut [u8], to: usize, parent: u8, tag: u8, body: &[u8], stored: bool) -> usize
     requires standing { stored ≡ true → Standing parent tag body.now }
@@ -142,11 +147,19 @@ fn emit_attributes(
 {
     let mut end = to;
     let mut next = next_attribute(count, tags, depths, at, depth, 0x80);
-    while next.tag < 0x87 {
+    while let Some(lowest) = next {
         end = put_body(
-            room, end, parent, next.tag, starts, sizes, octets, next.place, stored,
+            room,
+            end,
+            parent,
+            lowest.tag,
+            starts,
+            sizes,
+            octets,
+            lowest.place,
+            stored,
         );
-        next = next_attribute(count, tags, depths, at, depth, next.tag + 1);
+        next = next_attribute(count, tags, depths, at, depth, lowest.tag + 1);
     }
     end
 }
@@ -193,6 +206,7 @@ pub fn emit_items(
     requires fitting { Fitting (later_octets parent (items_from (four_of tags.now depths.now starts.now sizes.now) count octets.now depth at).0) to (length room.old) }
     ensures { Emits (items_from (four_of tags.now depths.now starts.now sizes.now) count octets.now depth at) parent to room.old room.new result }
 {
+    // Kept: this walk's step is data, as many records as an element holds, so no range has its numbers.
     let mut i = at;
     let mut end = to;
     while i < count {
@@ -201,11 +215,11 @@ pub fn emit_items(
                 return Reached { end, next: i };
             }
             Role::Attribute => {
-                i = i + 1;
+                i += 1;
             }
             Role::Other(tag) => {
                 end = put_body(room, end, parent, tag, starts, sizes, octets, i, stored);
-                i = i + 1;
+                i += 1;
             }
             Role::Element(tag) => {
                 let size = bodies[i] as usize;

@@ -47,6 +47,5 @@ pub fn put_stored(room: &mut [u8], to: usize, tag: u8, body: &[u8]) -> usize
     requires { Fitting (framed tag body.now) to (length room.old) }
     ensures { Lays (framed tag body.now) to room.old room.new result }
 {
-    let at = put_header(room, to, tag, Octets(body.len()));
-    put_value(room, at, Kind::HoldsPlain, body)
+    put_item(room, to, Kind::HoldsPlain, tag, body)
 }

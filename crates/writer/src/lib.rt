@@ -14,7 +14,7 @@ mod item;
 mod size;
 
 use crate::emit::emit_items;
-use crate::size::{Sized, size_items};
+use crate::size::size_items;
 use edits::take_in;
 use format::{EditAnswer, WriteAnswer, refuse};
 use octets::Octets;
@@ -51,7 +51,7 @@ pub fn write(
         return refused(16);
     }
     let mut nowhere: [u16; 1] = [0; 1];
-    match size_items(
+    let Some(all) = size_items(
         count,
         tags,
         depths,
@@ -62,19 +62,17 @@ pub fn write(
         0,
         1,
         0,
-    ) {
-        Sized::Over => refused(15),
-        Sized::Size { total, next: _ } => {
-            if total.0 > room.len() {
-                return refused(15);
-            }
-            size_items(count, tags, depths, starts, sizes, bodies, octets, 0, 1, 0);
-            let reached = emit_items(
-                count, tags, depths, starts, sizes, bodies, octets, 0, 1, 0, room, 0, false,
-            );
-            WriteAnswer::Octets(Octets(reached.end))
-        }
+    ) else {
+        return refused(15);
+    };
+    if all.total.0 > room.len() {
+        return refused(15);
     }
+    size_items(count, tags, depths, starts, sizes, bodies, octets, 0, 1, 0);
+    let reached = emit_items(
+        count, tags, depths, starts, sizes, bodies, octets, 0, 1, 0, room, 0, false,
+    );
+    WriteAnswer::Octets(Octets(reached.end))
 }
 
 // The normal form of the tree that memory holds, written to `room` front to back. 16: memory holds no tree of `count` records. 15: the octets are more than the room.

@@ -18,11 +18,11 @@ pub enum Part {
     Single { size: u16, adds: Octets },
 }
 
-// The size of the items of an element, and the number of the first record past them. Over: above 32,768.
+// The size of the items of an element, and the number of the first record past them.
 #[derive(Clone, Copy)]
-pub enum Sized {
-    Over,
-    Size { total: Octets, next: usize },
+pub struct Extent {
+    pub total: Octets,
+    pub next: usize,
 }
 
 // One lookup tells whether an item holds items, and as what it is written. The size of a default is told too, though it adds nothing.
@@ -74,7 +74,7 @@ fn put_size(bodies: &mut [u16], i: usize, size: u16)
     }
 }
 
-// The items of an element of a tag from record `at` on, at a depth.
+// The items of an element of a tag from record `at` on, at a depth. None: their size is above 32,768.
 pub fn size_items(
     count: usize,
     tags: &[u8],
@@ -86,27 +86,28 @@ pub fn size_items(
     at: usize,
     depth: usize,
     parent: u8,
-) -> Sized
+) -> Option<Extent>
     requires { Holding count (four_of tags.now depths.now starts.now sizes.now) octets.now × Ordered parent (items_from (four_of tags.now depths.now starts.now sizes.now) count octets.now depth at).0 × (at ≤ count) × (depth ≤ at + 1) }
     ensures { Sizes count (four_of tags.now depths.now starts.now sizes.now) octets.now parent depth at bodies.old bodies.new result }
 {
+    // Kept: this walk's step is data, as many records as an element holds, so no range has its numbers.
     let mut i = at;
     let mut total: usize = 0;
     while i < count {
         match part_at(tags, depths, starts, sizes, octets, i, depth, parent) {
             Part::Past => {
-                return Sized::Size {
+                return Some(Extent {
                     total: Octets(total),
                     next: i,
-                };
+                });
             }
             Part::Single { size, adds } => {
                 put_size(bodies, i, size);
-                total = total + adds.0;
-                i = i + 1;
+                total += adds.0;
+                i += 1;
             }
             Part::Holds(tag) => {
-                let Sized::Size { total: inner, next } = size_items(
+                let inner = size_items(
                     count,
                     tags,
                     depths,
@@ -117,21 +118,19 @@ pub fn size_items(
                     i + 1,
                     depth + 1,
                     tag,
-                ) else {
-                    return Sized::Over;
-                };
-                let size = inner.0 as u16;
+                )?;
+                let size = inner.total.0 as u16;
                 put_size(bodies, i, size);
-                total = total + framed_size(size).0;
-                i = next;
+                total += framed_size(size).0;
+                i = inner.next;
             }
         }
         if total > 32768 {
-            return Sized::Over;
+            return None;
         }
     }
-    Sized::Size {
+    Some(Extent {
         total: Octets(total),
         next: i,
-    }
+    })
 }

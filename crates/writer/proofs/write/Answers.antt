@@ -22,14 +22,15 @@ size_items-requires c =
     let m = memory a.tags.now a.kinds.now a.depths.now a.parents.now a.starts.now a.sizes.now a.bodies.now a.octets.now in
     (given-holding _ m c.if-count-bodies.false _ c.is_well_formed.ensures c.if-not-is_well_formed.false-raw, given-ordered _ m c.if-count-bodies.false _ c.is_well_formed.ensures c.if-not-is_well_formed.false-raw, omega arith, omega arith)
 
-pub returns-then-total-room : goal.returns-then-total-room
-returns-then-total-room c =
+pub returns-then-all-room : goal.returns-then-all-room
+returns-then-all-room c =
     let a = c.args in
     let m = memory a.tags.now a.kinds.now a.depths.now a.parents.now a.starts.now a.sizes.now a.bodies.now a.octets.now in
-    given-more _ m c.if-count-bodies.false _ c.is_well_formed.ensures c.if-not-is_well_formed.false-raw _ _ _ c.size_items.ensures _ _ c.in-Size.is a.room.now c.if-total-room.true _ c.refused-then-total-room.ensures
+    given-more _ m c.if-count-bodies.false _ c.is_well_formed.ensures c.if-not-is_well_formed.false-raw _ _ _ c.size_items.ensures _ c.in-Some.is a.room.now
+    c.if-all-room.true _ c.refused-then-all-room.ensures
 
-pub size_items-requires-in-Size : goal.size_items-requires-in-Size
-size_items-requires-in-Size c =
+pub size_items-requires-2 : goal.size_items-requires-2
+size_items-requires-2 c =
     let a = c.args in
     let m = memory a.tags.now a.kinds.now a.depths.now a.parents.now a.starts.now a.sizes.now a.bodies.now a.octets.now in
     (given-holding _ m c.if-count-bodies.false _ c.is_well_formed.ensures c.if-not-is_well_formed.false-raw, given-ordered _ m c.if-count-bodies.false _ c.is_well_formed.ensures c.if-not-is_well_formed.false-raw, omega arith, omega arith)
@@ -38,16 +39,31 @@ pub emit_items-reached-requires : goal.emit_items-reached-requires
 emit_items-reached-requires c =
     let a = c.args in
     let m = memory a.tags.now a.kinds.now a.depths.now a.parents.now a.starts.now a.sizes.now a.bodies.now a.octets.now in
-    record { holding = (given-holding _ m c.if-count-bodies.false _ c.is_well_formed.ensures c.if-not-is_well_formed.false-raw, given-ordered _ m c.if-count-bodies.false _ c.is_well_formed.ensures c.if-not-is_well_formed.false-raw, omega arith, omega arith); as_laid = (λ q. absurd (false≢true q)); sizes_stand = given-stand _ m c.if-count-bodies.false _ c.is_well_formed.ensures c.if-not-is_well_formed.false-raw _ _ _ c.size_items.ensures _ _ c.in-Size.is a.room.now c.if-total-room.false _ _ c.size_items-in-Size.ensures; fitting = given-fits _ m c.if-count-bodies.false _ c.is_well_formed.ensures c.if-not-is_well_formed.false-raw _ _ _ c.size_items.ensures _ _ c.in-Size.is a.room.now c.if-total-room.false _ _ c.size_items-in-Size.ensures }
+    record {
+      holding = (
+        given-holding _ m c.if-count-bodies.false _ c.is_well_formed.ensures c.if-not-is_well_formed.false-raw,
+        given-ordered _ m
+            c.if-count-bodies.false _ c.is_well_formed.ensures c.if-not-is_well_formed.false-raw,
+        omega arith,
+        omega arith,
+      );
+      as_laid = (λ q. absurd (false≢true q));
+      sizes_stand = given-stand _ m c.if-count-bodies.false _ c.is_well_formed.ensures
+          c.if-not-is_well_formed.false-raw _ _ _ c.size_items.ensures _ c.in-Some.is a.room.now c.if-all-room.false _ _ c.size_items-2.ensures;
+      fitting = given-fits _ m c.if-count-bodies.false _ c.is_well_formed.ensures c.if-not-is_well_formed.false-raw _ _ _ c.size_items.ensures _
+          c.in-Some.is a.room.now c.if-all-room.false _ _ c.size_items-2.ensures;
+    }
 
-pub returns-in-Over : goal.returns-in-Over
-returns-in-Over c =
+pub returns-in_default : goal.returns-in_default
+returns-in_default c =
     let a = c.args in
     let m = memory a.tags.now a.kinds.now a.depths.now a.parents.now a.starts.now a.sizes.now a.bodies.now a.octets.now in
-    given-over _ m c.if-count-bodies.false _ c.is_well_formed.ensures c.if-not-is_well_formed.false-raw _ _ _ c.size_items.ensures c.in-Over.is _ _ c.refused-in-Over.ensures
+    given-over _ m c.if-count-bodies.false _ c.is_well_formed.ensures c.if-not-is_well_formed.false-raw _ _ _ c.size_items.ensures c.in_default.is _ _
+    c.refused-in_default.ensures
 
-pub returns-else-total-room : goal.returns-else-total-room
-returns-else-total-room c =
+pub returns : goal.returns
+returns c =
     let a = c.args in
     let m = memory a.tags.now a.kinds.now a.depths.now a.parents.now a.starts.now a.sizes.now a.bodies.now a.octets.now in
-    given-written _ m c.if-count-bodies.false _ c.is_well_formed.ensures c.if-not-is_well_formed.false-raw _ _ _ c.size_items.ensures _ _ c.in-Size.is a.room.now c.if-total-room.false _ _ c.size_items-in-Size.ensures _ _ c.emit_items-reached.ensures
+    given-written _ m c.if-count-bodies.false _ c.is_well_formed.ensures c.if-not-is_well_formed.false-raw _ _ _ c.size_items.ensures _ c.in-Some.is
+    a.room.now c.if-all-room.false _ _ c.size_items-2.ensures _ _ c.emit_items-reached.ensures

@@ -1,12 +1,12 @@
-use Rattle.merging.proofs.Tests.{key-ways}
-use borrow.Author.Rules.{rules}
+use Rattle.std.proofs.Common.{arith}
+use Rattle.std.proofs.lemmas.Bool.Decides.{nat_tests}
+use Rattle.merge.specs.Keys.{key_attribute}
 use Rattle.merging.proofs.keys.key_attribute.Goals as goal
 
-pub returns-then-tag-eq28 : goal.returns-then-tag-eq28
-returns-then-tag-eq28 c = search (key-ways, rules)
+pub returns-in-28 : goal.returns-in-28
+unfolding key_attribute
+returns-in-28 c = grind (arith, nat_tests)
 
-pub returns-then-tag-eq35 : goal.returns-then-tag-eq35
-returns-then-tag-eq35 c = search (key-ways, rules)
-
-pub returns : goal.returns
-returns c = search (key-ways, rules)
+pub returns-in_default : goal.returns-in_default
+unfolding key_attribute
+returns-in_default c = grind (arith, nat_tests)

@@ -1,15 +1,12 @@
-use Rattle.merging.proofs.Tests.{merges-ways}
-use borrow.Author.Rules.{rules}
+use Rattle.merge.specs.Keys.{merges}
+use Rattle.std.proofs.lemmas.Grind.{common_steps}
+use Rattle.std.proofs.Common.{arith}
 use Rattle.merging.proofs.keys.merges.Goals as goal
 
-pub returns-then-is_top : goal.returns-then-is_top
-returns-then-is_top c = search (merges-ways, rules)
-
-pub returns-then-is_of_service : goal.returns-then-is_of_service
-returns-then-is_of_service c = search (merges-ways, rules)
-
 pub returns-then-is_of_schedule : goal.returns-then-is_of_schedule
-returns-then-is_of_schedule c = search (merges-ways, rules)
+unfolding merges
+returns-then-is_of_schedule c = grind (arith, common_steps)
 
-pub returns : goal.returns
-returns c = search (merges-ways, rules)
+pub returns-else-is_of_schedule : goal.returns-else-is_of_schedule
+unfolding merges
+returns-else-is_of_schedule c = grind (arith, common_steps)

@@ -5,15 +5,6 @@ use Rattle.merging.proofs.partners.partner_of.Goals as goal
 pub returns-in_default : goal.returns-in_default
 returns-in_default c = search (partner-ways, rules)
 
-pub slice_bounds-result-count-then-merges : goal.slice_bounds-result-count-then-merges
-slice_bounds-result-count-then-merges c = search (partner-ways, rules)
-
-pub slice_bounds-result-start-then-merges : goal.slice_bounds-result-start-then-merges
-slice_bounds-result-start-then-merges c = search (partner-ways, rules)
-
-pub slice_bounds-result-end-then-merges : goal.slice_bounds-result-end-then-merges
-slice_bounds-result-end-then-merges c = search (partner-ways, rules)
-
 pub returns-then-merges : goal.returns-then-merges
 returns-then-merges c = search (partner-ways, rules)
 

@@ -7,32 +7,11 @@ use Rattle.merging.proofs.twice.+is_inside_twice_is_twice.Goals as goal
 pub is_inside_twice-returns-then-levels-eq0 : goal.is_inside_twice-returns-then-levels-eq0
 is_inside_twice-returns-then-levels-eq0 t c = search (inside-ways, not-true, not-false, rules)
 
-pub is_inside_twice-holds_items-requires : goal.is_inside_twice-holds_items-requires
-is_inside_twice-holds_items-requires t c = search (inside-ways, not-true, not-false, rules)
-
 pub is_inside_twice-returns-then-not-holds_items : goal.is_inside_twice-returns-then-not-holds_items
 is_inside_twice-returns-then-not-holds_items t c = search (inside-ways, not-true, not-false, rules)
 
-pub is_inside_twice-overflow_sub-levels : goal.is_inside_twice-overflow_sub-levels
-is_inside_twice-overflow_sub-levels t c = search (inside-ways, not-true, not-false, rules)
-
-pub is_inside_twice-is_twice-requires : goal.is_inside_twice-is_twice-requires
-is_inside_twice-is_twice-requires t c = search (inside-ways, not-true, not-false, rules)
-
 pub is_inside_twice-returns : goal.is_inside_twice-returns
 is_inside_twice-returns t c = search (inside-ways, not-true, not-false, rules)
-
-pub is_twice-loop-at-init : goal.is_twice-loop-at-init
-is_twice-loop-at-init t c = search (once-ways, found-ways, rules)
-
-pub is_twice-next_child-requires : goal.is_twice-next_child-requires
-is_twice-next_child-requires t c = search (once-ways, found-ways, rules)
-
-pub is_twice-enum_known-at : goal.is_twice-enum_known-at
-is_twice-enum_known-at t c = search (once-ways, found-ways, rules)
-
-pub is_twice-enum_told-1 : goal.is_twice-enum_told-1
-is_twice-enum_told-1 t c = search (once-ways, found-ways, rules)
 
 pub is_twice-returns-in_default : goal.is_twice-returns-in_default
 is_twice-returns-in_default t c = search (once-ways, found-ways, rules)
@@ -49,9 +28,6 @@ is_twice-slice_bounds-is_again-start t c = search (once-ways, found-ways, rules)
 pub is_twice-slice_bounds-is_again-end : goal.is_twice-slice_bounds-is_again-end
 is_twice-slice_bounds-is_again-end t c = search (once-ways, found-ways, rules)
 
-pub is_twice-is_again-requires : goal.is_twice-is_again-requires
-is_twice-is_again-requires t c = search (once-ways, found-ways, rules)
-
 pub is_twice-returns-then-is_again : goal.is_twice-returns-then-is_again
 is_twice-returns-then-is_again t c = search (once-ways, found-ways, rules)
 
@@ -63,9 +39,6 @@ is_twice-slice_bounds-is_inside_twice-start t c = search (once-ways, found-ways,
 
 pub is_twice-slice_bounds-is_inside_twice-end : goal.is_twice-slice_bounds-is_inside_twice-end
 is_twice-slice_bounds-is_inside_twice-end t c = search (once-ways, found-ways, rules)
-
-pub is_twice-is_inside_twice-requires : goal.is_twice-is_inside_twice-requires
-is_twice-is_inside_twice-requires t c = search (once-ways, found-ways, rules)
 
 pub is_twice-returns-then-is_inside_twice : goal.is_twice-returns-then-is_inside_twice
 is_twice-returns-then-is_inside_twice t c = search (once-ways, found-ways, rules)

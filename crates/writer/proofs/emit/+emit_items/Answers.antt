@@ -1,19 +1,8 @@
-use Rattle.writer.proofs.Emitting.{written_start, written-length, written-gone, written-end, attribute-next, other_fits, other-next, element-ordered, element-stands, header-ready, attributes-ready, later-ready, headed-less, headed-next}
+use Rattle.writer.proofs.Emitting.{written-gone, written-end, attribute-next, other_fits, other-next, element-ordered, element-stands, header-ready}
+use Rattle.writer.proofs.Emitting.{attributes-ready, later-ready, headed-less, headed-next}
 use Rattle.writer.proofs.Summing.{falls-within, deeper}
 use native.Mathlib.Omega.{arith}
 use Rattle.writer.proofs.emit.+emit_items.Goals as goal
-
-pub loop-i-init : goal.loop-i-init
-loop-i-init t c =
-    written_start _ _ _ _ _ _ _ _ _ c.requires.holding.1 c.requires.holding.2 c.requires.as_laid
-
-pub role_at-requires : goal.role_at-requires
-role_at-requires t c =
-    let h = c.requires.holding.0 in let x = h.tags in let y = h.depths in (omega (arith, c.loop-i-test), omega (arith, c.loop-i-test))
-
-pub shape_of-room-in-Gone : goal.shape_of-room-in-Gone
-shape_of-room-in-Gone t c =
-    written-length _ _ _ _ _ _ _ _ _ _ _ _ c.loop-i.invariant
 
 pub returns-in-Gone : goal.returns-in-Gone
 returns-in-Gone t c =
@@ -32,14 +21,6 @@ pub loop-i-preserved-in-Other : goal.loop-i-preserved-in-Other
 loop-i-preserved-in-Other t c =
     other-next _ _ _ _ _ _ _ _ _ _ _ _ c.loop-i.invariant c.loop-i-test.true _ c.role_at.ensures _ c.in-Other.is _ _ c.put_body-end.ensures
 
-pub bounds-bodies-i : goal.bounds-bodies-i
-bounds-bodies-i t c =
-    (header-ready _ _ _ _ _ _ _ _ c.args.room.now c.loop-i.room _ _ c.loop-i.invariant c.loop-i-test.true _ c.role_at.ensures _ c.in-Element.is _ c.requires.sizes_stand c.requires.fitting).0
-
-pub overflow_cast-size : goal.overflow_cast-size
-overflow_cast-size t c =
-    omega (arith, c.type_inv.bodies c.loop-i.i)
-
 pub put_header-from-requires : goal.put_header-from-requires
 put_header-from-requires t c =
     let h = header-ready _ _ _ _ _ _ _ _ c.args.room.now c.loop-i.room _ _ c.loop-i.invariant c.loop-i-test.true _ c.role_at.ensures _ c.in-Element.is _ c.requires.sizes_stand c.requires.fitting in record { n_bound = h.1; fitting = h.2 }
@@ -47,10 +28,6 @@ put_header-from-requires t c =
 pub emit_attributes-behind-requires : goal.emit_attributes-behind-requires
 emit_attributes-behind-requires t c =
     record { holding = (c.requires.holding.0, element-ordered _ _ _ _ _ _ _ _ c.args.room.now c.loop-i.room _ _ c.loop-i.invariant c.loop-i-test.true _ c.role_at.ensures _ c.in-Element.is); as_laid = element-stands _ _ _ _ _ _ _ _ c.args.room.now c.loop-i.room _ _ c.loop-i.invariant c.loop-i-test.true _ c.role_at.ensures _ c.in-Element.is; fitting = attributes-ready _ _ _ _ _ _ _ _ c.args.room.now c.loop-i.room _ _ c.loop-i.invariant c.loop-i-test.true _ c.role_at.ensures _ c.in-Element.is _ c.requires.sizes_stand c.requires.fitting _ _ c.put_header-from.ensures }
-
-pub overflow_add-depth-in-Element : goal.overflow_add-depth-in-Element
-overflow_add-depth-in-Element t c =
-    record { fits = omega (arith, c.requires.holding.3, c.loop-i.invariant.low, c.loop-i-test.true, c.requires.holding.0.tags, c.well_formed) }
 
 pub emit_items-inner-requires : goal.emit_items-inner-requires
 emit_items-inner-requires t c =
@@ -63,10 +40,6 @@ loop-i-smaller t c =
 pub loop-i-preserved : goal.loop-i-preserved
 loop-i-preserved t c =
     headed-next _ _ _ _ _ _ _ _ c.args.room.now c.loop-i.room _ _ c.loop-i.invariant c.loop-i-test.true _ c.role_at.ensures _ c.in-Element.is _ c.requires.sizes_stand c.requires.fitting _ _ c.put_header-from.ensures _ _ c.emit_attributes-behind.ensures _ _ c.emit_items-inner.ensures
-
-pub shape_of-room : goal.shape_of-room
-shape_of-room t c =
-    written-length _ _ _ _ _ _ _ _ _ _ _ _ c.loop-i.invariant
 
 pub returns : goal.returns
 returns t c =

@@ -1,5 +1,4 @@
-use Rattle.writer.proofs.Emitting.{risen-start, risen-fits, risen-less, risen-next, risen-length, risen-end}
-use native.Mathlib.Omega.{arith}
+use Rattle.writer.proofs.Emitting.{risen-start, risen-fits, risen-next, risen-end}
 use Rattle.writer.proofs.emit.emit_attributes.Goals as goal
 
 pub loop-next-init : goal.loop-next-init
@@ -8,29 +7,15 @@ loop-next-init c =
 
 pub put_body-end-requires : goal.put_body-end-requires
 put_body-end-requires c =
-    let fits = risen-fits _ _ _ _ _ _ _ _ _ _ c.args.room.now c.loop-next.room _ _ c.loop-next.invariant c.requires.holding.1 c.loop-next-test.true _ c.requires.holding.0 c.requires.as_laid c.requires.fitting in
+    let fits = risen-fits _ _ _ _ _ _ _ _ _ _ c.args.room.now c.loop-next.room _ _ c.loop-next.invariant c.requires.holding.1 _ c.in-Some.is _
+    c.requires.holding.0 c.requires.as_laid c.requires.fitting in
     record { body_at = fits.0; standing = fits.1.0; fitting = fits.1.1 }
-
-pub overflow_add-next : goal.overflow_add-next
-overflow_add-next c =
-    omega (arith, c.loop-next-test.true)
-
-pub next_attribute-next-requires-in-loop-next : goal.next_attribute-next-requires-in-loop-next
-next_attribute-next-requires-in-loop-next c =
-    (c.requires.holding.0.tags, c.requires.holding.0.depths, omega (arith, c.loop-next.invariant.high), omega (arith, c.loop-next-test.true))
-
-pub loop-next-smaller : goal.loop-next-smaller
-loop-next-smaller c =
-    risen-less _ _ _ _ _ _ _ _ _ _ _ _ _ _ c.loop-next.invariant c.loop-next-test.true _ c.next_attribute-next-in-loop-next.ensures
 
 pub loop-next-preserved : goal.loop-next-preserved
 loop-next-preserved c =
-    risen-next _ _ _ _ _ _ _ _ _ _ _ _ _ _ c.loop-next.invariant c.requires.holding.1 c.loop-next-test.true _ _ c.put_body-end.ensures _ c.next_attribute-next-in-loop-next.ensures
-
-pub shape_of-room : goal.shape_of-room
-shape_of-room c =
-    risen-length _ _ _ _ _ _ _ _ _ _ _ _ _ _ c.loop-next.invariant
+    risen-next _ _ _ _ _ _ _ _ _ _ _ _ _ _ c.loop-next.invariant c.requires.holding.1 _ c.in-Some.is _ _ c.put_body-end.ensures _
+    c.next_attribute-next-in-Some.ensures
 
 pub returns : goal.returns
 returns c =
-    risen-end _ _ _ _ _ _ _ _ _ _ _ _ _ _ c.loop-next.invariant c.loop-next-test.false
+    risen-end _ _ _ _ _ _ _ _ _ _ _ _ _ _ c.loop-next.invariant c.in_default.is

@@ -1,14 +1,5 @@
-use Rattle.writer.proofs.Finding.{pass-start, pass-gone, pass-other, pass-next, pass-end}
-use native.Mathlib.Omega.{arith}
+use Rattle.writer.proofs.Finding.{pass-gone, pass-other, pass-next, pass-end}
 use Rattle.writer.proofs.emit.next_attribute.Goals as goal
-
-pub loop-i-init : goal.loop-i-init
-loop-i-init c =
-    pass-start _ _ _ _ _ _ c.requires.3 _
-
-pub overflow_cast-depths : goal.overflow_cast-depths
-overflow_cast-depths c =
-    omega (arith, c.type_inv.depths c.loop-i.i)
 
 pub returns-then-depths-i : goal.returns-then-depths-i
 returns-then-depths-i c =

@@ -1,10 +1,5 @@
 use Rattle.writer.proofs.Emitting.{role-gone, role-element, role-attribute, role-other}
-use native.Mathlib.Omega.{arith}
 use Rattle.writer.proofs.emit.role_at.Goals as goal
-
-pub overflow_cast-depths : goal.overflow_cast-depths
-overflow_cast-depths c =
-    omega (arith, c.type_inv.depths c.args.i)
 
 pub returns-then-depths-i : goal.returns-then-depths-i
 returns-then-depths-i c =

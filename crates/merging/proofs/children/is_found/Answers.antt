@@ -1,6 +1,6 @@
 use Rattle.merging.proofs.ClashWays.{is-found-ways}
 use borrow.Author.Rules.{rules}
-use Rattle.merging.proofs.clash.is_found.Goals as goal
+use Rattle.merging.proofs.children.is_found.Goals as goal
 
 pub returns-in-Outside : goal.returns-in-Outside
 returns-in-Outside c = search (is-found-ways, rules)
