@@ -14,7 +14,7 @@ use Rattle.fold.specs.Words.{uses, is_among, Tally, tallied, saved_by, saved, in
 use Rattle.format.proofs.Same.{same-octets, octets-same}
 use Rattle.packer.specs.declared.ranking.Word.{Word}
 use Rattle.packer.specs.declared.ranking.Best.{Best}
-use Rattle.packer.specs.Ranks.{listed, kept, Kept, Keeps}
+use Rattle.packer.specs.Ranks.{listed, kept, Keeps}
 use Rattle.packer.specs.Counting.{word_at, words_from, Noted, Counts, Shown, Shows, Chooses, AllInside, Taken, IsEmpty}
 use Rattle.packer.proofs.Counted.{words-next, words-done}
 
@@ -83,15 +83,6 @@ module _ (object starts sizes : List ℕ) (n : ℕ) where
     next : words_from object starts sizes i (n - i) ≡ at i ∷ words_from object starts sizes (i + 1) (n - (i + 1))
     next = words-next object starts sizes i n h
 
-    pub consider-place : i < length done
-    consider-place = omega (arith, v.places)
-
-    pub consider-room : n ≤ length done
-    consider-room = v.places
-
-    pub consider-kept : Kept best
-    consider-kept = v.keeps
-
     -- a word that came before
     module _ (d : get_or done i 0 ≡ 0 → ⊥) where
       before : is_among (at i) v.seen ≡ true
@@ -126,9 +117,6 @@ module _ (object starts sizes : List ℕ) (n : ℕ) where
           go : (b : Bool) → true ≡ not b → b ≡ false
           go true q = absurd (false≢true (sym q))
           go false q = refl
-
-      pub consider-uses : r ≤ 32_768
-      consider-uses = k.small
 
       module _ (start size : ℕ) (es : start ≡ get_or starts i 0) (ez : size ≡ get_or sizes i 0) where
         pub consider-size : size ≤ 255
@@ -210,5 +198,3 @@ module _ (object starts sizes : List ℕ) (n : ℕ) where
       are = words-shown (listed best) (take 16 v.all) v.shows
           ∙ ap (λ us. map (λ (u : Tally). u.0) (take 16 us)) (sym (v.same ∙ ap (λ ws. ranked v.all (tallied v.seen ws)) (words-done object starts sizes i n h)));
     }
-
-pub ruleset choose-ways = (consider-place, consider-room, consider-kept, consider-skip, consider-uses, consider-size, consider-add, choose-begin, choose-done)

@@ -8,7 +8,7 @@ use native.Mathlib.Omega.{arith}
 use lib.Dec.{eqb}
 use lib.ListN.{length, get_or, take, drop, set, length-set, drop_of_length-le}
 use lib.Seq.{get_or-set_same, get_or-set_other}
-use mir.Syntax.{w8, w64}
+use mir.Syntax.{w64}
 use mir.Val.{Fits}
 use borrow.Author.Tests.{eqb-true, eqb-false}
 use Rattle.octets.proofs.Lists.{length_part, drop-next}
@@ -54,13 +54,7 @@ module _ (w : List ℕ) where
     pub key_fits : Fits w64 (key * 31)
     key_fits = record { fits = omega (arith, v.low) }
 
-    pub key-octet : Fits w8 key
-    key-octet = record { fits = omega (arith, v.low) }
-
     module _ (h : i < length w) (b : ℕ) (e : b ≡ get_or w i 0) where
-      pub key-sum : b < 256 → Fits w64 (key * 31 + b)
-      key-sum l = record { fits = omega (arith, v.low) }
-
       pub key-again : Keying w ((key * 31 + b) % 251) (i + 1)
       unfolding key_from
       key-again = record {
@@ -68,26 +62,6 @@ module _ (w : List ℕ) where
         low = omega arith;
         same = ap (λ x. key_from ((key * 31 + x) % 251) (drop (i + 1) w)) e ∙ (sym (ap (key_from key) (drop-next w i 0 h)) ∙ v.same);
       }
-
-pub ruleset key-ways = (key-begin, key-done, key_fits, key-octet, key-sum, key-again)
-
--- ---- `next_keyed`
-
-module _ (keys : List ℕ) (key at n : ℕ) where
-  pub pass-begin : at ≤ n → Passes keys key at n at
-  pass-begin h = record { onward = omega arith; within = h; differ = λ k p q. absurd (omega arith) }
-
-  pub pass-again : (j : ℕ) → Passes keys key at n j → j < n → (get_or keys j 0 ≡ key → ⊥) → Passes keys key at n (j + 1)
-  pass-again j v h d = record { onward = omega (arith, v.onward); within = omega arith; differ = λ k p q. go k p q (eqb k j) refl }
-    where
-      go : (k : ℕ) → at ≤ k → k < j + 1 → (b : Bool) → eqb k j ≡ b → get_or keys k 0 ≡ key → ⊥
-      go k p q true x e = d (ap (λ m. get_or keys m 0) (sym (eqb-true k j x)) ∙ e)
-      go k p q false x e = let y = eqb-false k j x in v.differ k p (omega arith) e
-
-  pub pass-inside : (j : ℕ) → Passes keys key at n j → j < n → n ≤ length keys → j < length keys
-  pass-inside j v h l = omega arith
-
-pub ruleset pass-ways = (pass-begin, pass-again, pass-inside)
 
 -- ---- `fill_keys`
 
@@ -186,9 +160,6 @@ module _ (object starts sizes : List ℕ) where
     pub rest : (k : ℕ) → j ≤ k → get_or after k 0 ≡ get_or before k 0
 
   module _ (before : List ℕ) (i n : ℕ) (noted : Noted object starts sizes n) (hi : i < n) (room : n ≤ length before) where
-    pub count-begin : Counting before before i n 0 i
-    count-begin = record { onward = omega arith; within = omega arith; few = omega arith; long = refl; total = omega arith; marked = λ k p q. absurd (omega arith); rest = λ k p. refl }
-
     module _ (after : List ℕ) (count j : ℕ) (v : Counting before after i n count j) where
       pub count-done : n ≤ j → Counts object starts sizes before after i n count
       unfolding uses
@@ -205,55 +176,27 @@ module _ (object starts sizes : List ℕ) where
         pub count-place : j < length after
         count-place = omega (arith, v.long)
 
-        module _ (r : Bool) (e : r ≡ same_octets (at i) (at j)) where
-          pub count_fits : Fits w64 (count + cond r 1 0)
-          count_fits = go r
-            where
-              go : (b : Bool) → Fits w64 (count + cond b 1 0)
-              go true = record { fits = omega (arith, v.few, v.within, noted.few) }
-              go false = record { fits = omega (arith, v.few, v.within, noted.few) }
-
-          bound : cond r 1 0 ≤ 1
-          bound = go r
-            where
-              go : (b : Bool) → cond b 1 0 ≤ 1
-              go true = omega arith
-              go false = omega arith
-
-          pub count-again : Counting before (set after j (cond r 1 (get_or after j 0))) i n (count + cond r 1 0) (j + 1)
-          unfolding uses
-          count-again = record {
-            onward = omega (arith, v.onward);
-            within = omega arith;
-            few = omega (arith, v.few, v.onward, bound);
-            long = length-set after j (cond r 1 (get_or after j 0)) ∙ v.long;
-            total =
-                let t : uses (at i) (words_from object starts sizes j (n - j)) ≡ cond r 1 0 + uses (at i) (words_from object starts sizes (j + 1) (n - (j + 1))) =
-                ap (uses (at i)) (words-next j n h) ∙ rw (← e) in
-                omega (arith, v.total);
-            marked = λ k p q. go k p q (eqb k j) refl;
-            rest = λ k p. get_or-set_other after j k (cond r 1 (get_or after j 0)) 0 (λ x. omega arith) ∙ v.rest k (omega arith);
-          }
-            where
-              go : (k : ℕ) → i ≤ k → k < j + 1 → (b : Bool) → eqb k j ≡ b → get_or (set after j (cond r 1 (get_or after j 0))) k 0 ≡ cond (same_octets (at i) (at k)) 1 (get_or before k 0)
-              go k p q true x =
-                  let y : k ≡ j = eqb-true k j x in
-                  ap (λ m. get_or (set after j (cond r 1 (get_or after j 0))) m 0) y
-                  ∙ (get_or-set_same after j (cond r 1 (get_or after j 0)) 0 count-place
-                  ∙ (ap₂ (λ b m. cond b 1 m) (e ∙ ap (λ m. same_octets (at i) (at m)) (sym y)) (v.rest j (omega arith) ∙ ap (λ m. get_or before m 0) (sym y))))
-              go k p q false x =
-                  let y = eqb-false k j x in
-                  get_or-set_other after j k (cond r 1 (get_or after j 0)) 0 y ∙ v.marked k p (omega arith)
-
-          -- the same in the words of the code
-          module _ (one : ℕ) (o : one ≡ cond r 1 0) where
-            pub turn-fits : Fits w64 (count + one)
-            turn-fits = subst (λ m. Fits w64 (count + m)) (sym o) count_fits
-
-            turn : (mark : ℕ) → mark ≡ cond r 1 (get_or after j 0) → Counting before (set after j mark) i n (count + one) (j + 1)
-            turn mark m =
-                subst (λ a. Counting before (set after j a) i n (count + one) (j + 1)) (sym m)
-                (subst (λ b. Counting before (set after j (cond r 1 (get_or after j 0))) i n (count + b) (j + 1)) (sym o) count-again)
+        count-again : true ≡ same_octets (at i) (at j) → Counting before (set after j 1) i n (count + 1) (j + 1)
+        unfolding uses
+        count-again e = record {
+          onward = omega (arith, v.onward);
+          within = omega arith;
+          few = omega (arith, v.few, v.onward);
+          long = length-set after j 1 ∙ v.long;
+          total =
+              let t : uses (at i) (words_from object starts sizes j (n - j)) ≡ 1 + uses (at i) (words_from object starts sizes (j + 1) (n - (j + 1))) =
+              ap (uses (at i)) (words-next j n h) ∙ rw (← e) in
+              omega (arith, v.total);
+          marked = λ k p q. go k p q (eqb k j) refl;
+          rest = λ k p. get_or-set_other after j k 1 0 (λ x. omega arith) ∙ v.rest k (omega arith);
+        }
+          where
+            go : (k : ℕ) → i ≤ k → k < j + 1 → (b : Bool) → eqb k j ≡ b → get_or (set after j 1) k 0 ≡ cond (same_octets (at i) (at k)) 1 (get_or before k 0)
+            go k p q true x =
+                let y : k ≡ j = eqb-true k j x in
+                ap (λ m. get_or (set after j 1) m 0) y
+                ∙ (get_or-set_same after j 1 0 count-place ∙ ap (λ b. cond b 1 (get_or before k 0)) (e ∙ ap (λ m. same_octets (at i) (at m)) (sym y)))
+            go k p q false x = let y = eqb-false k j x in get_or-set_other after j k 1 0 y ∙ v.marked k p (omega arith)
 
     -- words that differ are passed over
     pass-one : (after : List ℕ) (count j : ℕ) → Counting before after i n count j → j < n → same_octets (at i) (at j) ≡ false → Counting before after i n count (j + 1)
@@ -283,17 +226,18 @@ module _ (object starts sizes : List ℕ) where
         subst (Counting before after i n count) (let e : j + 1 + m ≡ j + suc m = omega arith in e)
         (pass_all m after count (j + 1) (pass-one after count j v (omega arith) (d j (omega arith) (omega arith))) (omega arith) (λ k p q. d k (omega arith) (omega arith)))
 
-    module _ (keys : List ℕ) (keyed : Keyed object starts sizes keys n) (after : List ℕ) (count j : ℕ) (v : Counting before after i n count j) (h : j < n)
-        (r : Bool) (e : r ≡ same_octets (at i) (at j)) (one : ℕ) (o : one ≡ cond r 1 0) (mark : ℕ) (m : mark ≡ cond r 1 (get_or after j 0)) where
-      pub count_next : (q : ℕ) → Passes keys (get_or keys i 0) (j + 1) n q → Counting before (set after j mark) i n (count + one) q
-      count_next q p =
+    module _ (keys : List ℕ) (keyed : Keyed object starts sizes keys n) (q j : ℕ) (p : Passes keys (get_or keys i 0) (j + 1) n q) where
+      pass-keyed : (after : List ℕ) (count : ℕ) → Counting before after i n count (j + 1) → Counting before after i n count q
+      pass-keyed after count v =
           let w = p.within in
           let x : j + 1 + (q - (j + 1)) ≡ q = omega (arith, p.onward) in
-          subst (Counting before (set after j mark) i n (count + one)) x
-          (pass_all (q - (j + 1)) (set after j mark) (count + one) (j + 1) (turn after count j v h r e one o mark m) (omega arith)
+          subst (Counting before after i n count) x
+          (pass_all (q - (j + 1)) after count (j + 1) v (omega arith)
           (λ k a b. sym (again-not object starts sizes keys n noted keyed i k hi (omega arith) (λ z. p.differ k a (omega arith) (sym z)))))
 
-    pub next-less : (j q : ℕ) → j < n → (keys : List ℕ) (key : ℕ) → Passes keys key (j + 1) n q → n - q < n - j
-    next-less j q h keys key p = omega (arith, p.onward, p.within)
+      module _ (after : List ℕ) (count : ℕ) (v : Counting before after i n count j) (h : j < n) (after' : List ℕ) (count' : ℕ) where
+        pub count-same : true ≡ same_octets (at i) (at j) → after' ≡ set after j 1 → count' ≡ count + 1 → Counting before after' i n count' q
+        count-same e m o = rw (m, o) (pass-keyed (set after j 1) (count + 1) (count-again after count j v h e))
 
-pub ruleset count-ways = (count-begin, count-done, count-place, turn-fits, count_next, next-less)
+        pub count-other : false ≡ same_octets (at i) (at j) → after' ≡ after → count' ≡ count → Counting before after' i n count' q
+        count-other e m o = rw (m, o) (pass-keyed after count (pass-one after count j v h (sym e)))

@@ -7,7 +7,8 @@ use native.Mathlib.Omega.{arith}
 use lib.Dec.{leb, ltb}
 use lib.ListN.{length, take, drop, length-append, drop_of_length-le}
 use lib.Seq.{sets, length-sets}
-use borrow.Author.Tests.{le-leb, lt-ltb, not-true, not-false}
+use borrow.Author.Tests.{le-leb, lt-ltb}
+use Rattle.std.specs.Prelude.{Option, None, Some}
 use Rattle.octets.specs.Header.{length_field}
 use Rattle.octets.specs.Puts.{put_answer, put_out, Puts}
 use Rattle.octets.specs.declared.Put.{Put}
@@ -15,8 +16,6 @@ use Rattle.octets.proofs.Lists.{sets-append, sets-none}
 use Rattle.text.specs.Tokens.{Entries}
 use Rattle.fold.specs.Words.{all_letters}
 use Rattle.fold.specs.Packed.{tag_of, tagged, folded}
-use Rattle.packer.specs.declared.lookup.Tag.{Tag}
-use Rattle.packer.specs.declared.lookup.Tag.TheVariants.{Nothing, Is}
 use Rattle.packer.specs.Leaves.{PieceTo, as_tag}
 use Rattle.packer.specs.Laying.{Placed}
 use Rattle.packer.proofs.Cutting.{folded-end, folded-piece, piece-letters}
@@ -96,14 +95,14 @@ module _ (es : Entries) (w before after : List ℕ) (at r : ℕ) (b : Bool) (f :
   pub put_other : b ≡ false → Placed w before after at r → Placed (tagged es w) before after at r
   put_other q x = placed_same w (tagged es w) before after at r (piece-other es w b f q) x
 
-  module _ (l : 2 ≤ length w → all_letters w ≡ true) (q : b ≡ true) (t : Tag) (g : t ≡ as_tag (tag_of es w)) where
-    pub put_word : t ≡ Nothing → Placed w before after at r → Placed (tagged es w) before after at r
+  module _ (l : 2 ≤ length w → all_letters w ≡ true) (q : b ≡ true) (t : Option ℕ) (g : t ≡ as_tag (tag_of es w)) where
+    pub put_word : t ≡ None → Placed w before after at r → Placed (tagged es w) before after at r
     put_word p x = placed_same w (tagged es w) before after at r (piece-word es w l b f q t g p) x
 
-    pub put-tag : (n : ℕ) → t ≡ Is n → Placed (n ∷ []) before after at r → Placed (tagged es w) before after at r
+    pub put-tag : (n : ℕ) → t ≡ Some n → Placed (n ∷ []) before after at r → Placed (tagged es w) before after at r
     put-tag n p x = placed_same (n ∷ []) (tagged es w) before after at r (piece-tag es w l b f q t g n p) x
 
-pub ruleset piece-ways = (put_other, put_word, put-tag, not-true, not-false)
+pub ruleset piece-ways = (put_other, put_word, put-tag)
 
 -- ---- the loop of `put_text`
 

@@ -2,11 +2,11 @@
 use mathlib.Core.Path.{◌≡◌, refl, sym, ap, ap₂, subst, ◌∙◌}
 use mathlib.Core.Bool.{Bool, true, false, cond, ◌&&◌}
 use mathlib.Core.List.{List, [], ◌∷◌, ◌++◌, append_assoc, append-nil, map}
-use Prim.Native.Nat.{ℕ, zero, suc, ◌+◌, ◌*◌, ◌-◌, ◌≤◌, ◌<◌}
+use Prim.Native.Nat.{ℕ, zero, suc, ◌+◌, ◌*◌, ◌≤◌, ◌<◌}
 use native.Mathlib.Numerals.{add-one}
 use native.Mathlib.Omega.{arith}
 use lib.Dec.{eqb, ltb}
-use lib.ListN.{length, get_or, take, drop, set, length-append, length-set, length-map}
+use lib.ListN.{length, get_or, take, drop, length-append, length-map}
 use lib.Seq.{sets, length-sets, take_all, length-take-le, get_or-take}
 use borrow.Author.Tests.{eqb-true, lt-ltb, le-ltb}
 use Rattle.octets.proofs.Tests.{and_left, and_right}
@@ -17,7 +17,6 @@ use Rattle.packer.specs.declared.ranking.Word.{Word}
 use Rattle.packer.specs.declared.ranking.Best.{Best}
 use Rattle.packer.specs.Ranks.{listed, Kept}
 use Rattle.packer.specs.Counting.{AllInside}
-use Rattle.packer.specs.Laying.{Placed}
 use Rattle.packer.specs.Tables.{word_of, table_by, Tabled}
 
 -- ---- `token_at`
@@ -50,42 +49,7 @@ token-second i h g l = rw (le-ltb i 8 g, lt-ltb i 10 l) at (token-is i h)
 pub token-third : (i : ℕ) → i < 16 → 8 ≤ i → 10 ≤ i → i + 4 ≡ get_or tokens i 0
 token-third i h g l = rw (le-ltb i 8 g, le-ltb i 10 l) at (token-is i h)
 
-pub ruleset token-ways = (token-first, token-second, token-third)
-
--- ---- `put_entry`
-
-entry-put : (table o : List ℕ) (tag start size at : ℕ) (after : List ℕ) → start + size ≤ length o
-    → after ≡ sets (set (set table at tag) (at + 1) size) (at + 2) (take (start + size - start) (drop start o)) → after ≡ sets table at (tag ∷ size ∷ take size (drop start o))
-entry-put table o tag start size at after h e =
-    let n : start + size - start ≡ size = omega arith in
-    let a : at + 1 ≡ suc at = add-one at in
-    let b : at + 2 ≡ suc (suc at) = omega arith in
-    e ∙ (ap (λ m. sets (set (set table at tag) (at + 1) size) (at + 2) (take m (drop start o))) n
-    ∙ ap₂ (λ x y. sets (set (set table at tag) x size) y (take size (drop start o))) a b)
-
-entry-room : (table o : List ℕ) (tag start size at : ℕ) → start + size ≤ length o → at + 2 + size ≤ length table
-    → at + 2 + length (take (start + size - start) (drop start o)) ≤ length (set (set table at tag) (at + 1) size)
-entry-room table o tag start size at h g =
-    let n : start + size - start ≡ size = omega arith in
-    rw (n, length_part o start size h, length-set (set table at tag) (at + 1) size, length-set table at tag) g
-
-pub entry-second : (table : List ℕ) (tag size at : ℕ) → at + 2 + size ≤ length table → at + 1 < length (set table at tag)
-entry-second table tag size at g = rw (length-set table at tag) (omega arith)
-
-module _ (table o : List ℕ) (tag start size at : ℕ) (h : start + size ≤ length o) (g : at + 2 + size ≤ length table) (after : List ℕ) (r : ℕ)
-    (x : Placed (take (start + size - start) (drop start o)) (set (set table at tag) (at + 1) size) after (at + 2) r) where
-  pub entry-out : after ≡ sets table at (tag ∷ size ∷ take size (drop start o))
-  entry-out = entry-put table o tag start size at after h (x.laid (entry-room table o tag start size at h g))
-
-  pub entry-end : r ≡ at + 2 + size
-  entry-end =
-      let n : start + size - start ≡ size = omega arith in
-      x.ends (entry-room table o tag start size at h g) ∙ ap (λ m. at + 2 + m) (ap (λ m. length (take m (drop start o))) n ∙ length_part o start size h)
-
-  pub entry-long : length after ≡ length table
-  entry-long = x.long ∙ (length-set (set table at tag) (at + 1) size ∙ length-set table at tag)
-
-pub ruleset entry-ways = (entry-second, entry-out, entry-end, entry-long)
+pub ruleset token_ways = (token-first, token-second, token-third)
 
 -- ---- the loop of `make_table`
 

@@ -1,7 +1,7 @@
 -- A text folded by a token table: the ways of one piece, and the loops over the pieces.
 use mathlib.Core.Path.{◌≡◌, refl, sym, ap, ◌∙◌}
 use mathlib.Core.Bool.{Bool, true, false, cond, ◌&&◌}
-use mathlib.Core.Option.{Option, none, some}
+use mathlib.Core.Option.{Option as Maybe, none, some}
 use mathlib.Core.List.{List, [], ◌∷◌, ◌++◌}
 use Prim.Native.Nat.{ℕ, suc, ◌+◌, ◌-◌, ◌^◌, ◌≤◌, ◌<◌}
 use native.Mathlib.Omega.{arith}
@@ -10,14 +10,13 @@ use lib.ListN.{length, take, drop, length-append, drop_of_length-le}
 use mir.Syntax.{w64}
 use mir.Val.{Fits}
 use borrow.Author.Tests.{leb-true}
+use Rattle.std.specs.Prelude.{Option, None, Some}
 use Rattle.octets.proofs.Tests.{and_left}
 use Rattle.octets.proofs.Lists.{length_part}
 use Rattle.text.specs.Tokens.{Entries}
 use Rattle.fold.specs.Words.{letter, all_letters, pieces, is_word}
 use Rattle.fold.specs.Packed.{tag_of, or_word, tagged, tagged_all, folded}
 use Rattle.fold.proofs.Texts.{tagged-other}
-use Rattle.packer.specs.declared.lookup.Tag.{Tag}
-use Rattle.packer.specs.declared.lookup.Tag.TheVariants.{Nothing, Is}
 use Rattle.packer.specs.Leaves.{PieceTo, as_tag}
 use Rattle.packer.proofs.Cutting.{folded-end, folded-piece, piece-letters}
 
@@ -45,27 +44,27 @@ module _ (es : Entries) (w : List ℕ) where
         let n = leb-true 4 (length w) (and_left (leb 4 (length w)) (leb (length w) 255) s) in
         rw (s, l (omega arith))
 
-    module _ (t : Tag) (f : t ≡ as_tag (tag_of es w)) where
-      pub piece-word : t ≡ Nothing → tagged es w ≡ w
+    module _ (t : Option ℕ) (f : t ≡ as_tag (tag_of es w)) where
+      pub piece-word : t ≡ None → tagged es w ≡ w
       unfolding tagged as_tag or_word
       piece-word p = rw word-holds (go (tag_of es w) (sym p ∙ f))
         where
-          go : (o : Option ℕ) → Nothing ≡ as_tag o → or_word o w ≡ w
+          go : (o : Maybe ℕ) → None ≡ as_tag o → or_word o w ≡ w
           go none x = refl
           go (some n) x = let z : ◌≡◌ {A = ℕ} 0 1 = cc in absurd (omega arith)
 
-      pub piece-tag : (n : ℕ) → t ≡ Is n → tagged es w ≡ n ∷ []
+      pub piece-tag : (n : ℕ) → t ≡ Some n → tagged es w ≡ n ∷ []
       unfolding tagged as_tag or_word
       piece-tag n p = rw word-holds (go (tag_of es w) (sym p ∙ f))
         where
-          go : (o : Option ℕ) → Is n ≡ as_tag o → or_word o w ≡ n ∷ []
+          go : (o : Maybe ℕ) → Some n ≡ as_tag o → or_word o w ≡ n ∷ []
           go none x = let z : ◌≡◌ {A = ℕ} 0 1 = cc in absurd (omega arith)
           go (some m) x = let y : n ≡ m = cc in ap (λ k. k ∷ []) (sym y)
 
-      pub size_word : t ≡ Nothing → length w ≡ length (tagged es w)
+      pub size_word : t ≡ None → length w ≡ length (tagged es w)
       size_word p = rw (piece-word p)
 
-      pub size-tag : (n : ℕ) → t ≡ Is n → 1 ≡ length (tagged es w)
+      pub size-tag : (n : ℕ) → t ≡ Some n → 1 ≡ length (tagged es w)
       size-tag n p = rw (piece-tag n p)
 
   pub size-other : (r : Bool) → r ≡ leb 4 (length w) && leb (length w) 255 → r ≡ false → length w ≡ length (tagged es w)
@@ -76,7 +75,7 @@ module _ (es : Entries) (w : List ℕ) where
   unfolding tagged is_word
   tagged-shorter = go (leb 4 (length w)) refl (leb (length w) 255) (all_letters w) (tag_of es w)
     where
-      go : (a : Bool) → leb 4 (length w) ≡ a → (b c : Bool) (o : Option ℕ) → length (cond (a && b && c) (or_word o w) w) ≤ length w
+      go : (a : Bool) → leb 4 (length w) ≡ a → (b c : Bool) (o : Maybe ℕ) → length (cond (a && b && c) (or_word o w) w) ≤ length w
       go false q b c o = omega arith
       go true q false c o = omega arith
       go true q true false o = omega arith
@@ -86,7 +85,7 @@ module _ (es : Entries) (w : List ℕ) where
           stays = ap length (or-none w)
       go true q true true (some t) = omega (arith, leb-true 4 (length w) q, ap length (or_some t w))
 
-pub ruleset size-ways = (size_word, size-tag, size-other)
+pub ruleset size_ways = (size_word, size-tag, size-other)
 
 -- ---- the loop of `folded_size`
 

@@ -198,7 +198,7 @@ module _ (p tag : ℕ) (k : KnownKind) (e : k ≡ known_kind p tag) where
     unfolding sort_of is_items is_text
     sort-number n x = rw (is, x)
 
-pub ruleset sort-ways = (sort-unknown, sort-items, sort-tokens, sort-text, sort-plain, sort-time, sort-bearer, sort-number)
+pub ruleset sort_ways = (sort-unknown, sort-items, sort-tokens, sort-text, sort-plain, sort-time, sort-bearer, sort-number)
 
 -- ---- the loop of `note_words`
 

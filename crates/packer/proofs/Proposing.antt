@@ -8,7 +8,7 @@ use native.Mathlib.Omega.{arith}
 use lib.Dec.{leb}
 use lib.ListN.{length, get_or, take, replicate, length-take}
 use lib.Seq.{sets, length-sets, length-take-le}
-use borrow.Author.Tests.{le-leb, lt-leb, lt-ltb, le-ltb, leb-true, leb-false, not-true, not-false}
+use borrow.Author.Tests.{le-leb, lt-leb, lt-ltb, le-ltb, leb-true, leb-false}
 use Rattle.octets.specs.Counts.{as_octets, size_of}
 use Rattle.octets.specs.Numbers.{Octets}
 use Rattle.octets.specs.Header.{framed}
@@ -202,4 +202,4 @@ module _ (object : List ℕ) (r : Bool) (e : r ≡ is_normal object) where
       go (refused x) j h = refl
       go (accepted t) j h = rw h
 
-pub ruleset normal-ways = (normal-yes, normal-no, not-true, not-false)
+pub ruleset normal-ways = (normal-yes, normal-no)

@@ -56,7 +56,7 @@ pub framed_is : (n : ℕ) (r : OctetCount) → r ≡ as_octets (suc (length (len
 unfolding framed_size
 framed_is n r e = ap (λ m. m.0 + n) e
 
-pub ruleset framed-ways = (framed-fits, framed_is)
+pub ruleset framed_ways = (framed-fits, framed_is)
 
 pub framed-few : (n : ℕ) → framed_size n ≤ n + 4
 unfolding framed_size

@@ -74,7 +74,7 @@ module _ (p tag : ℕ) (h : tag ≤ 0x7F) (s : Sort) (e : s ≡ sort_of (known p
   pub behind-plain : s ≡ Sort.Plain → true ≡ not (attribute tag) && is_known (known p tag)
   behind-plain q = sym (is ∙ subst (Knows (known p tag)) q knows)
 
-pub ruleset behind-ways = (behind-attribute, behind-nothing, behind-items, behind-text, behind-plain)
+pub ruleset behind_ways = (behind-attribute, behind-nothing, behind-items, behind-text, behind-plain)
 
 -- ---- what comes before the table, and what behind it
 

@@ -1,9 +1,7 @@
 -- What the private functions tell the public ones: where a piece of a text ends, and which tag a word has.
-use Rattle.std.specs.Prelude.{◌≡◌, true, false, List, ◌⊎◌, ℕ, ◌+◌, ◌-◌, ◌≤◌, ◌<◌, length, get_or, take, drop}
-use Rattle.std.proofs.Math.Option.{Option, none, some}
+use Rattle.std.specs.Prelude.{◌≡◌, true, false, List, ◌⊎◌, Option, None, Some, ℕ, ◌+◌, ◌-◌, ◌≤◌, ◌<◌, length, get_or, take, drop}
+use Rattle.std.proofs.Math.Option.{Option as Maybe, none, some}
 use Rattle.fold.specs.Words.{letter, all_letters}
-use Rattle.packer.specs.declared.lookup.Tag.{Tag}
-use Rattle.packer.specs.declared.lookup.Tag.TheVariants.{Nothing, Is}
 
 -- a run of letters from a place on, which no letter follows
 pub record LettersTo (s : List ℕ) (at end : ℕ) : Type 0 where
@@ -19,6 +17,6 @@ pub record PieceTo (s : List ℕ) (at end : ℕ) : Type 0 where
   pub way : ((end ≡ at + 1) × (letter (get_or s at 0) ≡ false)) ⊎ LettersTo s at end
 
 -- a tag, if there is one
-unfoldable pub as_tag : Option ℕ → Tag
-as_tag none = Nothing
-as_tag (some t) = Is t
+unfoldable pub as_tag : Maybe ℕ → Option ℕ
+as_tag none = None
+as_tag (some t) = Some t

@@ -18,6 +18,7 @@ pub enum Sort {
     Plain,
 }
 
+#[tactic(auto, using(crate::proofs::Noting::sort_ways))]
 pub fn sort_of(parent: u8, tag: u8) -> Sort
     ensures { result ≡ sort_of (known parent tag) }
 {

@@ -1,38 +1,11 @@
 // How often each word is used, and the choice of those that save most. Words are kept by where they begin and how long they are. Each word is counted once, at
 // its first use, and marks its later uses; so the cost is the number of different words times the number of uses. Most of these pairs differ in their keys.
-ghost use Rattle.std.specs.Prelude.{◌≡◌, cond, ℕ, ◌+◌, ◌≤◌, ◌<◌, length, get_or, take, drop};
+ghost use Rattle.std.specs.Prelude.{◌≡◌, ℕ, ◌+◌, ◌≤◌, ◌<◌, length, get_or, take, drop};
 ghost use Rattle.format.specs.Same.{same_octets};
 ghost use Rattle.packer.specs.Counting.{word_at, key_of, Noted, Keyed, Passes, Counts, Chooses, Taken, IsEmpty};
 
-use crate::pieces::size_of;
 use crate::ranking::{Best, Word, insert, saved_by};
 use compare::same_octets;
-
-// A number as a place.
-fn place_of(x: u16) -> usize
-    ensures value { result ≡ x }
-    ensures upper_bound { result < 65_536 }
-{
-    x as usize
-}
-
-fn one_if(is: bool) -> usize
-    ensures { result ≡ cond is 1 0 }
-{
-    if is {
-        return 1;
-    }
-    0
-}
-
-fn mark_if(is: bool, mark: u8) -> u8
-    ensures { result ≡ cond is 1 mark }
-{
-    if is {
-        return 1;
-    }
-    mark
-}
 
 // Two parts of the object are the same word.
 fn is_use(object: &[u8], start: usize, size: usize, from: usize, other: usize) -> bool
@@ -53,10 +26,8 @@ fn key_of(word: &[u8]) -> u8
     ensures { result ≡ key_of word.now }
 {
     let mut key: usize = 0;
-    let mut i: usize = 0;
-    while i < word.len() {
-        key = (key * 31 + size_of(word[i])) % 251;
-        i += 1;
+    for b in word {
+        key = (key * 31 + usize::from(*b)) % 251;
     }
     key as u8
 }
@@ -67,12 +38,10 @@ pub fn fill_keys(object: &[u8], starts: &[u16], sizes: &[u8], keys: &mut [u8], n
     requires n_in_bounds { n ≤ length keys.old }
     ensures { Keyed object.now starts.now sizes.now keys.new n }
 {
-    let mut j: usize = 0;
-    while j < n {
-        let start = place_of(starts[j]);
-        let end = start + size_of(sizes[j]);
+    for j in 0..n {
+        let start = usize::from(starts[j]);
+        let end = start + usize::from(sizes[j]);
         keys[j] = key_of(&object[start..end]);
-        j += 1;
     }
 }
 
@@ -95,9 +64,15 @@ fn is_again(
     if keys[i] != keys[j] {
         return false;
     }
-    let start = place_of(starts[i]);
-    let size = size_of(sizes[i]);
-    is_use(object, start, size, place_of(starts[j]), size_of(sizes[j]))
+    let start = usize::from(starts[i]);
+    let size = usize::from(sizes[i]);
+    is_use(
+        object,
+        start,
+        size,
+        usize::from(starts[j]),
+        usize::from(sizes[j]),
+    )
 }
 
 // The first place from a place on that has a key, or n.
@@ -106,14 +81,12 @@ fn next_keyed(keys: &[u8], key: u8, at: usize, n: usize) -> usize
     requires n_in_bounds { n ≤ length keys.now }
     ensures { Passes keys.now key at n result }
 {
-    let mut j = at;
-    while j < n {
+    for j in at..n {
         if keys[j] == key {
             return j;
         }
-        j += 1;
     }
-    j
+    n
 }
 
 // How often the word of a number is used from there on; its uses are marked.
@@ -136,9 +109,10 @@ fn count_uses(
     let mut uses: usize = 0;
     let mut j = i;
     while j < n {
-        let same = is_again(object, starts, sizes, keys, i, j, n);
-        done[j] = mark_if(same, done[j]);
-        uses += one_if(same);
+        if is_again(object, starts, sizes, keys, i, j, n) {
+            done[j] = 1;
+            uses += 1;
+        }
         j = next_keyed(keys, key, j + 1, n);
     }
     uses
@@ -166,8 +140,8 @@ fn consider(
         return best;
     }
     let uses = count_uses(object, starts, sizes, keys, done, i, n);
-    let start = place_of(starts[i]);
-    let size = size_of(sizes[i]);
+    let start = usize::from(starts[i]);
+    let size = usize::from(sizes[i]);
     let saved = saved_by(uses, size);
     insert(best, Word { start, size, saved })
 }
@@ -201,10 +175,8 @@ pub fn choose(
     ensures { Taken object.now starts.now sizes.now n result }
 {
     let mut best = none_yet();
-    let mut i: usize = 0;
-    while i < n {
+    for i in 0..n {
         best = consider(object, starts, sizes, keys, done, best, i, n);
-        i += 1;
     }
     best
 }

@@ -4,31 +4,23 @@ ghost use Rattle.text.specs.Tokens.{entries};
 ghost use Rattle.fold.specs.Packed.{tag_of};
 ghost use Rattle.packer.specs.Leaves.{as_tag};
 
-use crate::pieces::size_of;
 use compare::same_octets;
 
-#[derive(Clone, Copy)]
-pub enum Tag {
-    Nothing,
-    Is(u8),
-}
-
 // The tag of the first entry with a text.
-pub fn tag_of(table: &[u8], w: &[u8]) -> Tag
+pub fn tag_of(table: &[u8], w: &[u8]) -> Option<u8>
     ensures { result ≡ as_tag (tag_of (entries table.now) w.now) }
 {
-    let mut at: usize = 0;
-    while table.len() - at >= 2 {
-        let from = at + 2;
-        let size = size_of(table[at + 1]);
-        if size > table.len() - from {
-            return Tag::Nothing;
+    let mut rest = table;
+    while let [tag, size, more @ ..] = rest {
+        let size = usize::from(*size);
+        if size > more.len() {
+            return None;
         }
-        let to = from + size;
-        if same_octets(&table[from..to], w) {
-            return Tag::Is(table[at]);
+        let (text, behind) = more.split_at(size);
+        if same_octets(text, w) {
+            return Some(*tag);
         }
-        at = to;
+        rest = behind;
     }
-    Tag::Nothing
+    None
 }

@@ -10,6 +10,7 @@ use crate::laying::put_octets;
 use crate::ranking::Best;
 
 // The token octet of a number.
+#[tactic(auto, using(crate::proofs::Made::token_ways))]
 fn token_at(i: usize) -> u8
     requires { i < 16 }
     ensures { result ≡ get_or tokens i 0 }
@@ -54,11 +55,9 @@ pub fn make_table(object: &[u8], best: Best, table: &mut [u8]) -> usize
     let words = best.words;
     let count = best.count;
     let mut at: usize = 0;
-    let mut i: usize = 0;
-    while i < count {
+    for i in 0..count {
         let word = words[i];
         at = put_entry(object, token_at(i), word.start, word.size, table, at);
-        i += 1;
     }
     at
 }

@@ -11,49 +11,28 @@ use crate::topping::{emit_top, top_size};
 use format::{WriteAnswer, refuse};
 use octets::{Octets, Put, copy_into};
 
-// Places for the words of any object.
-fn number_places() -> [u16; 8192]
-    ensures { 8_192 ≡ length result }
-{
-    [0; 8192]
-}
-
-fn octet_places() -> [u8; 8192]
-    ensures value { 8_192 ≡ length result }
-    ensures by_index { (j : ℕ) → get_or result j 0 ≡ 0 }
-{
-    [0; 8192]
-}
-
-// A place for the token table of any sixteen words.
-fn table_places() -> [u8; 4112]
-    ensures { 4_112 ≡ length result }
-{
-    [0; 4112]
-}
-
-// The token table of the words that are chosen.
+// The token table of the words that are chosen. There are places for the words of any object.
 fn propose(object: &[u8], table: &mut [u8]) -> usize
     requires object_len_bound { length object.now ≤ 32_768 }
     requires in_bounds { 4_112 ≤ length table.old }
     ensures { Proposed object.now table.old table.new result }
 {
-    let mut starts = number_places();
-    let mut sizes = octet_places();
-    let mut keys = octet_places();
-    let mut done = octet_places();
+    let mut starts: [u16; 8192] = [0; 8192];
+    let mut sizes: [u8; 8192] = [0; 8192];
+    let mut keys: [u8; 8192] = [0; 8192];
+    let mut done: [u8; 8192] = [0; 8192];
     let n = collect(object, &mut starts, &mut sizes);
     fill_keys(object, &starts, &sizes, &mut keys, n);
     let best = choose(object, &starts, &sizes, &keys, &mut done, n);
     make_table(object, best, table)
 }
 
-// The packed object of a normal form.
+// The packed object of a normal form. The table has a place for any sixteen words.
 pub fn pack_normal(object: &[u8], room: &mut [u8]) -> WriteAnswer
     requires { IsNormal object.now }
     ensures { PackClaim object.now room.old room.new result }
 {
-    let mut table = table_places();
+    let mut table: [u8; 4112] = [0; 4112];
     let length = propose(object, &mut table);
     let inner = top_size(object, &table[..length]);
     let size = framed_size(inner);

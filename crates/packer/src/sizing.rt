@@ -9,6 +9,7 @@ use crate::texts::folded_size;
 use octets::{Lies, Octets, header_size, item_at};
 
 // An item whose body has so many octets.
+#[tactic(auto, using(crate::proofs::Sized::framed_ways))]
 pub fn framed_size(n: usize) -> usize
     requires { n ≤ 131_072 }
     ensures { result ≡ framed_size n }

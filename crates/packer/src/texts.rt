@@ -6,9 +6,10 @@ ghost use Rattle.fold.specs.Packed.{tagged, folded};
 ghost use Rattle.packer.specs.Laying.{Placed};
 
 use crate::laying::put_octets;
-use crate::lookup::{Tag, tag_of};
+use crate::lookup::tag_of;
 use crate::pieces::{is_word_size, piece_end};
 
+#[tactic(auto, using(crate::proofs::Measuring::size_ways))]
 fn piece_size(table: &[u8], w: &[u8]) -> usize
     requires { 2 ≤ length w.now → all_letters w.now ≡ true }
     ensures { result ≡ length (tagged (entries table.now) w.now) }
@@ -17,8 +18,8 @@ fn piece_size(table: &[u8], w: &[u8]) -> usize
         return w.len();
     }
     match tag_of(table, w) {
-        Tag::Nothing => w.len(),
-        Tag::Is(_) => 1,
+        None => w.len(),
+        Some(_) => 1,
     }
 }
 
@@ -43,8 +44,8 @@ fn put_piece(table: &[u8], w: &[u8], out: &mut [u8], at: usize) -> usize
         return put_octets(out, at, w);
     }
     match tag_of(table, w) {
-        Tag::Nothing => put_octets(out, at, w),
-        Tag::Is(tag) => put_octets(out, at, &[tag]),
+        None => put_octets(out, at, w),
+        Some(tag) => put_octets(out, at, &[tag]),
     }
 }
 

@@ -12,6 +12,7 @@ use crate::sizing::{framed_size, size_items};
 use octets::{Lies, item_at};
 
 // A known item that is no attribute: the table comes before it.
+#[tactic(auto, using(crate::proofs::Topped::behind_ways))]
 fn is_behind(parent: u8, tag: u8) -> bool
     ensures { result ≡ not (attribute tag) && is_known (known parent tag) }
 {

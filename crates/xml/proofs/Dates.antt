@@ -108,16 +108,6 @@ month-size y m = go (is_leap y) (eqb m 2) (among m (4 ∷ 6 ∷ 9 ∷ 11 ∷ [])
     go a false true = omega arith
     go a false false = omega arith
 
-pub month-some : (y m : ℕ) → 28 ≤ month_days y m
-unfolding month_days among
-month-some y m = go (is_leap y) (eqb m 2) (among m (4 ∷ 6 ∷ 9 ∷ 11 ∷ []))
-  where
-    go : (a b c : Bool) → 28 ≤ cond b (cond a 29 28) (cond c 30 31)
-    go true true c = omega arith
-    go false true c = omega arith
-    go a false true = omega arith
-    go a false false = omega arith
-
 module _ (k y m n : ℕ) where
   pub month-here : n < month_days y m → month_from (suc k) y m n ≡ (m, suc n)
   unfolding month_from

@@ -20,7 +20,7 @@ use Rattle.xml.specs.declared.calendar.Part.{Part}
 use Rattle.xml.specs.Dates.{is_leap, year_days, month_days, year_from, month_from, date_of, days_to, local_date, padded, between, date_text, clock, time_text}
 use Rattle.xml.specs.Steps.{Puts, YearIs, MonthIs, LocalDay}
 use Rattle.xml.specs.Steps.LocalDay.{day_before, day_onward}
-use Rattle.xml.proofs.Dates.{year-size, month-size, month-some, year-here, year-later, month-here, month-later, months_days, months-year, YearFound, year-found, MonthFound, month-found, minutes-few, days-told}
+use Rattle.xml.proofs.Dates.{year-size, month-size, year-here, year-later, month-here, month-later, months_days, months-year, YearFound, year-found, MonthFound, month-found, minutes-few, days-told}
 use Rattle.xml.proofs.Putting.{then, reworded}
 
 -- ---- leap years
@@ -46,7 +46,7 @@ module _ (y : ℕ) where
   unfolding year_days
   days-common b e h = rw (sym e ∙ h)
 
-pub ruleset leap-ways = (leap-four, leap-hundred, leap-rest, days-leap, days-common)
+pub ruleset leap_ways = (leap-four, leap-hundred, leap-rest, days-leap, days-common)
 
 module _ (y m : ℕ) where
   pub february-leap : m ≡ 2 → (b : Bool) → b ≡ is_leap y → b ≡ true → 29 ≡ month_days y m
@@ -77,114 +77,109 @@ module _ (y m : ℕ) where
   unfolding month_days among
   long-month a b c d e = rw (ne_eqb m 2 a, ne_eqb m 4 b, ne_eqb m 6 c, ne_eqb m 9 d, ne_eqb m 11 e)
 
-pub ruleset month-ways = (february-leap, february, short-april, short-june, short-september, short-november, long-month)
+pub ruleset month_ways = (february-leap, february, short-april, short-june, short-september, short-november, long-month)
 
 -- ---- years
 
-pub record Years (days year rest size : ℕ) : Type 0 where
+pub record Years (days year rest : ℕ) : Type 0 where
   pub left : ℕ
   pub is : left + year ≡ 2133
   pub few : rest < 365 * left
   pub same : year_from 275 1858 days ≡ year_from left year rest
-  pub long : size ≡ year_days year
 
 module _ (days : ℕ) where
-  pub years-begin : (size : ℕ) → days < 100_375 → size ≡ year_days 1858 → Years days 1858 days size
-  years-begin size h e = record { left = 275; is = refl; few = h; same = refl; long = e }
+  pub years-begin : days < 100_375 → Years days 1858 days
+  years-begin h = record { left = 275; is = refl; few = h; same = refl }
 
-  pub years-small : (year rest size : ℕ) → Years days year rest size → year < 2133
-  years-small year rest size y = let a = y.few in let b = y.is in omega arith
+  module _ (year rest size : ℕ) (e : size ≡ year_days year) where
+    one_more : (left : ℕ) → left + year ≡ 2133 → rest < 365 * left → year_from 275 1858 days ≡ year_from left year rest → size ≤ rest → Years days (year + 1) (rest - size)
+    one_more zero i f s h = absurd (omega arith)
+    one_more (suc k) i f s h =
+        let z = year-size year in
+        let g : suc year ≡ year + 1 = omega arith in
+        record {
+          left = k;
+          is = omega arith;
+          few = omega arith;
+          same = s ∙ year-later k year rest (rw e at h) ∙ rw (e, g);
+        }
 
-  one_more : (left year rest size : ℕ) → left + year ≡ 2133 → rest < 365 * left → year_from 275 1858 days ≡ year_from left year rest → size ≡ year_days year → size ≤ rest → (next : ℕ) → next ≡ year_days (year + 1)
-      → Years days (year + 1) (rest - size) next
-  one_more zero year rest size i f s l h next e = absurd (omega arith)
-  one_more (suc k) year rest size i f s l h next e =
-      let z = year-size year in
-      let g : suc year ≡ year + 1 = omega arith in
-      record {
-        left = k;
-        is = omega arith;
-        few = omega arith;
-        same = s ∙ year-later k year rest (rw l at h) ∙ rw (l, g);
-        long = e;
-      }
-
-  pub years-again : (year rest size : ℕ) → Years days year rest size → size ≤ rest → (next : ℕ) → next ≡ year_days (year + 1) → Years days (year + 1) (rest - size) next
-  years-again year rest size y h next e = one_more y.left year rest size y.is y.few y.same y.long h next e
+    pub years-again : Years days year rest → size ≤ rest → Years days (year + 1) (rest - size)
+    years-again y h = one_more y.left y.is y.few y.same h
 
   ended : (left year rest : ℕ) → rest < 365 * left → rest < year_days year → year_from left year rest ≡ (year, rest)
   ended zero year rest f l = absurd (omega arith)
   ended (suc k) year rest f l = year-here k year rest l
 
-  pub years-end : (year rest size : ℕ) → Years days year rest size → rest < size → YearIs days (record { number = year; rest = rest })
-  years-end year rest size y h =
-      let e = y.same ∙ ended y.left year rest y.few (rw y.long at h) in
+  pub years-end : (year rest : ℕ) → Years days year rest → rest < year_days year → YearIs days (record { number = year; rest = rest })
+  years-end year rest y h =
+      let e = y.same ∙ ended y.left year rest y.few h in
       record { year = sym (ap (λ (p : ℕ × ℕ). p.0) e); rest = sym (ap (λ (p : ℕ × ℕ). p.1) e) }
 
-  pub years-less : (year rest size : ℕ) → Years days year rest size → size ≤ rest → rest - size < rest
-  years-less year rest size y h = omega (arith, y.long, year-size year)
+  pub years-stop : (year rest size : ℕ) → Years days year rest → size ≡ year_days year → rest < size → YearIs days (record { number = year; rest = rest })
+  years-stop year rest size y e h = years-end year rest y (rw e at h)
 
-  pub years-fit : (year rest size : ℕ) → Years days year rest size → Fits w32 (year + 1)
-  years-fit year rest size y = omega (arith, years-small year rest size y)
-
-pub ruleset year-ways = (years-begin, years-small, years-again, years-end, years-less, years-fit)
+  pub years-last : (year rest : ℕ) → Years days year rest → 2132 ≤ year → YearIs days (record { number = 2132; rest = rest })
+  years-last year rest y h =
+      let e : year ≡ 2132 = omega (arith, y.is, y.few) in
+      years-end 2132 rest (subst (λ n. Years days n rest) e y) (omega (arith, y.is, y.few, year-size 2132))
 
 -- ---- months
 
-pub record Months (year days month rest size : ℕ) : Type 0 where
+pub record Months (year days month rest : ℕ) : Type 0 where
   pub left : ℕ
   pub is : left + month ≡ 13
   pub few : rest < months_days left year month
   pub same : month_from 12 year 1 days ≡ month_from left year month rest
-  pub long : size ≡ month_days year month
 
 module _ (year days : ℕ) where
-  pub months-begin : (size : ℕ) → days < year_days year → size ≡ month_days year 1 → Months year days 1 days size
-  months-begin size h e = record { left = 12; is = refl; few = rw (months-year year) h; same = refl; long = e }
+  pub months-begin : days < year_days year → Months year days 1 days
+  months-begin h = record { left = 12; is = refl; few = rw (months-year year) h; same = refl }
 
-  pub months-small : (month rest size : ℕ) → Months year days month rest size → month < 14
-  months-small month rest size y = let b = y.is in omega arith
+  module _ (month rest size : ℕ) (e : size ≡ month_days year month) where
+    month-more : (left : ℕ) → left + month ≡ 13 → rest < months_days left year month → month_from 12 year 1 days ≡ month_from left year month rest → size ≤ rest → Months year days (month + 1) (rest - size)
+    month-more zero i f s h = absurd (omega arith)
+    month-more (suc k) i f s h =
+        let g : suc month ≡ month + 1 = omega arith in
+        let few : rest - month_days year month < months_days k year (suc month) = omega arith in
+        record {
+          left = k;
+          is = omega arith;
+          few = rw (e, sym g) few;
+          same = s ∙ month-later k year month rest (rw e at h) ∙ rw (e, g);
+        }
 
-  month-more : (left month rest size : ℕ) → left + month ≡ 13 → rest < months_days left year month → month_from 12 year 1 days ≡ month_from left year month rest → size ≡ month_days year month → size ≤ rest
-      → (next : ℕ) → next ≡ month_days year (month + 1) → Months year days (month + 1) (rest - size) next
-  month-more zero month rest size i f s l h next e = absurd (omega arith)
-  month-more (suc k) month rest size i f s l h next e =
-      let g : suc month ≡ month + 1 = omega arith in
-      let few : rest - month_days year month < months_days k year (suc month) = omega arith in
-      record {
-        left = k;
-        is = omega arith;
-        few = rw (l, sym g) few;
-        same = s ∙ month-later k year month rest (rw l at h) ∙ rw (l, g);
-        long = e;
-      }
-
-  pub months-again : (month rest size : ℕ) → Months year days month rest size → size ≤ rest → (next : ℕ) → next ≡ month_days year (month + 1) → Months year days (month + 1) (rest - size) next
-  months-again month rest size y h next e = month-more y.left month rest size y.is y.few y.same y.long h next e
+    pub months-again : Months year days month rest → size ≤ rest → Months year days (month + 1) (rest - size)
+    months-again y h = month-more y.left y.is y.few y.same h
 
   month-ended : (left month rest : ℕ) → rest < months_days left year month → rest < month_days year month → month_from left year month rest ≡ (month, suc rest)
   month-ended zero month rest f l = absurd (omega arith)
   month-ended (suc k) month rest f l = month-here k year month rest l
 
-  pub months-end : (month rest size : ℕ) → Months year days month rest size → rest < size → MonthIs year days (record { number = month; rest = rest + 1 })
-  months-end month rest size y h =
-      let e = y.same ∙ month-ended y.left month rest y.few (rw y.long at h) in
+  pub months-end : (month rest : ℕ) → Months year days month rest → rest < month_days year month → MonthIs year days (record { number = month; rest = rest + 1 })
+  months-end month rest y h =
+      let e = y.same ∙ month-ended y.left month rest y.few h in
       let n : rest + 1 ≡ suc rest = omega arith in
       record { month = sym (ap (λ (p : ℕ × ℕ). p.0) e); day = n ∙ sym (ap (λ (p : ℕ × ℕ). p.1) e) }
 
-  pub months-rest : (month rest size : ℕ) → Months year days month rest size → rest < size → rest < 31
-  months-rest month rest size y h = omega (arith, y.long, month-size year month)
+  pub months-stop : (month rest size : ℕ) → Months year days month rest → size ≡ month_days year month → rest < size → MonthIs year days (record { number = month; rest = rest + 1 })
+  months-stop month rest size y e h = months-end month rest y (rw e at h)
 
-  pub months-less : (month rest size : ℕ) → Months year days month rest size → size ≤ rest → rest - size < rest
-  months-less month rest size y h = omega (arith, y.long, month-some year month)
+  december : (month rest : ℕ) → Months year days month rest → 12 ≤ month → (month ≡ 12) × (rest < month_days year 12)
+  december month rest y h = go y.left y.is y.few
+    where
+      go : (left : ℕ) → left + month ≡ 13 → rest < months_days left year month → (month ≡ 12) × (rest < month_days year 12)
+      go zero i f = absurd (omega arith)
+      go (suc zero) i f = let e : month ≡ 12 = omega arith in let l : rest < month_days year month = omega arith in (e, rw e at l)
+      go (suc (suc k)) i f = absurd (omega arith)
 
-  pub months-fit : (month rest size : ℕ) → Months year days month rest size → Fits w32 (month + 1)
-  months-fit month rest size y = omega (arith, months-small month rest size y)
+  pub months-last : (month rest : ℕ) → Months year days month rest → 12 ≤ month → MonthIs year days (record { number = 12; rest = rest + 1 })
+  months-last month rest y h =
+      let d = december month rest y h in
+      months-end 12 rest (subst (λ m. Months year days m rest) d.0 y) d.1
 
-  pub months-rest-fit : (month rest size : ℕ) → Months year days month rest size → rest < size → Fits w32 (rest + 1)
-  months-rest-fit month rest size y h = omega (arith, months-rest month rest size y h)
-
-pub ruleset month-of-ways = (months-begin, months-again, months-end, months-less, months-fit, months-rest-fit)
+  pub months-last-fit : (month rest : ℕ) → Months year days month rest → 12 ≤ month → Fits w32 (rest + 1)
+  months-last-fit month rest y h = omega (arith, (december month rest y h).1, month-size year 12)
 
 -- ---- dates
 
@@ -242,12 +237,6 @@ unfolding between clock
 clock-put emit x y z at a b to o p q r u v w =
     let rest = between 0x3A (clock (y ∷ z ∷ [])) in
     then emit (padded 2 x) (0x3A ∷ rest) at o p r a to u (then emit (0x3A ∷ []) rest a p q r b to v w)
-
-pub offset-put : (emit : Bool) (minus : Bool) (halves s at a to : ℕ) (o p q : List ℕ) → s ≡ cond minus 0x2D 0x2B → Puts emit (s ∷ []) at o p a
-    → Puts emit (between 0x3A (clock (halves / 2 ∷ halves % 2 * 30 ∷ []))) a p q to → Puts emit (cond minus 0x2D 0x2B ∷ between 0x3A (clock (halves / 2 ∷ halves % 2 * 30 ∷ []))) at o q to
-offset-put emit minus halves s at a to o p q e u v =
-    let rest = between 0x3A (clock (halves / 2 ∷ halves % 2 * 30 ∷ [])) in
-    reworded emit (s ∷ rest) (cond minus 0x2D 0x2B ∷ rest) at o q to (ap (λ x. x ∷ rest) e) (then emit (s ∷ []) rest at o p q a to u v)
 
 module _ (t : Time) (h : in_range t ≡ true) where
   few : minutes_in_range t < 1440 * 100_002
@@ -316,7 +305,7 @@ module _ (z : ℤ) (f : SFits w64 z) (l : LocalDay z) where
     pub days-onward : 320 + nat_abs (to_z w64 (of_z w64 z)) ≡ days_to z
     days-onward = let d = day-number in rw (d.2, d.3)
 
-pub ruleset day-ways = (day-below, day-onward, day-fits, days-fit, days-onward)
+pub ruleset day_ways = (day-below, day-onward, day-fits, days-fit, days-onward)
 
 -- ---- put_time
 

@@ -156,9 +156,9 @@ module _ (emit : Bool) (parent tag at : ℕ) (k : Kind) (table : Entries) (body 
     unfolding is_worded
     kind-number n e = fitted (ap is_worded e) (ap as_it_stands e)
 
-pub ruleset fitting-ways = (fitting-value, fitting-hex)
+pub ruleset fitting_ways = (fitting-value, fitting-hex)
 
-pub ruleset kind-ways = (kind-items, kind-tokens, kind-plain, kind-text, kind-time, kind-bearer, kind-number)
+pub ruleset kind_ways = (kind-items, kind-tokens, kind-plain, kind-text, kind-time, kind-bearer, kind-number)
 
 module _ (emit : Bool) (parent tag at : ℕ) (table : Entries) (body out out' : List ℕ) (to : ℕ) (kind : KnownKind) (ke : kind ≡ known_kind parent tag) where
   pub shown-unknown : kind ≡ Unknown → Puts emit (hex_lower body) at out out' to → ShownPut emit parent tag table body at out out' to
@@ -169,7 +169,7 @@ module _ (emit : Bool) (parent tag at : ℕ) (table : Entries) (body out out' : 
   unfolding ShownPut KindPut item_value
   shown-known k q p os = let h = known-kind parent tag kind ke k q in rw h (p os h)
 
-pub ruleset shown-ways = (shown-unknown, shown-known)
+pub ruleset shown_ways = (shown-unknown, shown-known)
 
 -- ---- as in the XML
 

@@ -6,8 +6,6 @@ use Rattle.std.proofs.Math.Option.{Option, none, some}
 use Rattle.std.proofs.lemmas.List.Edits.{sets}
 use Rattle.text.specs.Tokens.{Entries, entries, entry}
 use Rattle.xml.specs.declared.calendar.Part.{Part}
-use Rattle.xml.specs.declared.rows.Row.{Row}
-use Rattle.xml.specs.declared.rows.Row.TheVariants.{Nothing, At}
 use Rattle.values.specs.declared.Kind.{Kind}
 use Rattle.values.specs.declared.Kind.TheVariants.{HoldsNumber}
 use Rattle.values.specs.declared.NumberKind.TheVariants.{Enumerated}
@@ -57,16 +55,11 @@ pub data LocalDay : ℤ → Type 0 where
   day_before : LocalDay (negsuc 0)
   day_onward : {n : ℕ} → n ≤ 100_000 → LocalDay (pos n)
 
--- a row of a table that has the form of a token table, or that there is none
-abbrev pub Finds : List ℕ → ℕ → Row → Type 0
-Finds table key Nothing = entry (entries table) key ≡ none
-Finds table key (At from to) = (from ≤ to) × (to ≤ length table) × (entry (entries table) key ≡ some (take (to - from) (drop from table)))
-
 unfoldable pub or_nothing : Option (List ℕ) → List ℕ
 or_nothing none = []
 or_nothing (some o) = o
 
--- its octets
+-- the octets of a row of a table that has the form of a token table; nothing where there is none
 unfoldable pub entry_text : List ℕ → ℕ → List ℕ
 entry_text table key = or_nothing (entry (entries table) key)
 

@@ -14,81 +14,71 @@ struct Part {
     rest: u32,
 }
 
+#[tactic(auto, using(crate::proofs::Dating::leap_ways))]
 fn is_leap(year: u32) -> bool
     ensures { result ≡ is_leap year }
 {
-    if year % 4 != 0 {
-        return false;
-    }
-    if year % 100 != 0 {
-        return true;
-    }
-    year % 400 == 0
+    year % 4 == 0 && (year % 100 != 0 || year % 400 == 0)
 }
 
+#[tactic(auto, using(crate::proofs::Dating::leap_ways))]
 fn year_days(year: u32) -> u32
     ensures { result ≡ year_days year }
 {
-    if is_leap(year) {
-        return 366;
-    }
-    365
+    if is_leap(year) { 366 } else { 365 }
 }
 
+#[tactic(auto, using(crate::proofs::Dating::month_ways))]
 fn month_days(year: u32, month: u32) -> u32
     ensures { result ≡ month_days year month }
 {
-    if month == 2 {
-        if is_leap(year) {
-            return 29;
-        }
-        return 28;
+    match month {
+        2 if is_leap(year) => 29,
+        2 => 28,
+        4 | 6 | 9 | 11 => 30,
+        _ => 31,
     }
-    if month == 4 {
-        return 30;
-    }
-    if month == 6 {
-        return 30;
-    }
-    if month == 9 {
-        return 30;
-    }
-    if month == 11 {
-        return 30;
-    }
-    31
 }
+
+// The last year that a day below 100,375 can lie in.
+const LAST_YEAR: u32 = 2132;
 
 // The year of the day so many days after 1 January 1858.
 fn year_of(days: u32) -> Part
     requires { days < 100_375 }
     ensures { YearIs days result }
 {
-    let mut year: u32 = 1858;
     let mut rest = days;
-    let mut size = year_days(year);
-    while rest >= size {
-        rest = rest - size;
-        year = year + 1;
-        size = year_days(year);
+    for year in 1858..LAST_YEAR {
+        let size = year_days(year);
+        if rest < size {
+            return Part { number: year, rest };
+        }
+        rest -= size;
     }
-    Part { number: year, rest }
+    Part {
+        number: LAST_YEAR,
+        rest,
+    }
 }
 
 fn month_of(year: u32, days: u32) -> Part
     requires { days < year_days year }
     ensures { MonthIs year days result }
 {
-    let mut month: u32 = 1;
     let mut rest = days;
-    let mut size = month_days(year, month);
-    while rest >= size {
-        rest = rest - size;
-        month = month + 1;
-        size = month_days(year, month);
+    for month in 1..12 {
+        let size = month_days(year, month);
+        if rest < size {
+            return Part {
+                number: month,
+                rest: rest + 1,
+            };
+        }
+        rest -= size;
     }
     Part {
-        number: month,
+        number: 12,
         rest: rest + 1,
     }
 }
@@ -115,6 +105,7 @@ fn put_date(out: &mut [u8], at: usize, days: u32, emit: bool) -> usize
 }
 
 // The days from 1 January 1858 to that of a local time. The only one below 0 is the day before day 0.
+#[tactic(auto, using(crate::proofs::Dating::day_ways))]
 fn days_to(local: Local) -> u32
     requires { LocalDay local.day }
     ensures { result ≡ days_to local.day }
@@ -137,10 +128,7 @@ fn put_clock(out: &mut [u8], at: usize, hour: u32, minute: u32, second: u32, emi
 fn sign(minus: bool) -> u8
     ensures { result ≡ cond minus 0x2D 0x2B }
 {
-    if minus {
-        return 0x2D;
-    }
-    0x2B
+    if minus { 0x2D } else { 0x2B }
 }
 
 fn put_offset(out: &mut [u8], at: usize, minus: bool, halves: u32, emit: bool) -> usize

@@ -41,6 +41,7 @@ pub fn put_item_name(out: &mut [u8], at: usize, parent: u8, tag: u8) -> Put
 // ---- values
 
 // A value of a kind that attributes alone have.
+#[tactic(auto, using(crate::proofs::Singled::fitting_ways))]
 fn put_fitting(
     out: &mut [u8],
     at: usize,
@@ -59,6 +60,7 @@ fn put_fitting(
     put_hex(out, at, body, emit)
 }
 
+#[tactic(auto, using(crate::proofs::Singled::kind_ways))]
 fn put_by_kind(
     out: &mut [u8],
     at: usize,
@@ -82,6 +84,7 @@ fn put_by_kind(
     }
 }
 
+#[tactic(auto, using(crate::proofs::Singled::shown_ways))]
 fn put_shown(
     out: &mut [u8],
     at: usize,

@@ -1,19 +1,9 @@
-use borrow.Author.Tests.{not-false, not-true}
 use Rattle.packer.proofs.Noting.{note-ways}
 use borrow.Author.Rules.{rules}
 use Rattle.packer.proofs.collecting.note_one.Goals as goal
 
 pub returns-then-not-is_word_size : goal.returns-then-not-is_word_size
-returns-then-not-is_word_size c = search (note-ways, not-false, not-true, rules)
-
-pub bounds-starts-count : goal.bounds-starts-count
-bounds-starts-count c = search (note-ways, not-false, not-true, rules)
-
-pub overflow_cast-sizes : goal.overflow_cast-sizes
-overflow_cast-sizes c = search (note-ways, not-false, not-true, rules)
-
-pub bounds-sizes-count : goal.bounds-sizes-count
-bounds-sizes-count c = search (note-ways, not-false, not-true, rules)
+returns-then-not-is_word_size c = search (note-ways, rules)
 
 pub returns : goal.returns
-returns c = search (note-ways, not-false, not-true, rules)
+returns c = search (note-ways, rules)

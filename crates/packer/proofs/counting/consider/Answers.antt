@@ -16,6 +16,6 @@ pub returns : goal.returns
 returns c = record {
   done_len_unchanged = c.count_uses-uses.ensures.long;
   chooses_2 = consider-add c.args.object.now c.args.starts.now c.args.sizes.now c.args.n c.args.done.now c.args.best c.args.i c.requires.noted c.requires.i_lt_n
-      c.requires.chooses c.if-done-i-ne0.false _ _ c.count_uses-uses.ensures _ _ c.place_of-start.ensures.value c.size_of-size.ensures.value _
+      c.requires.chooses c.if-done-i-ne0.false _ _ c.count_uses-uses.ensures _ _ c.from-start.ensures c.from-size.ensures _
       c.saved_by-saved.ensures _ c.insert.ensures;
 }

@@ -4,6 +4,3 @@ use Rattle.packer.proofs.counting.is_use.Goals as goal
 
 pub returns-then-size-other : goal.returns-then-size-other
 returns-then-size-other c = search (use-ways, rules)
-
-pub returns : goal.returns
-returns c = search (use-ways, rules)

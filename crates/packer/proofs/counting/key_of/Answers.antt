@@ -1,33 +1,12 @@
 use borrow.Author.Rules.{rules}
-use Rattle.packer.proofs.Counted.{key-ways}
+use Rattle.packer.proofs.Counted.{key-begin, key-again, key-done}
 use Rattle.packer.proofs.counting.key_of.Goals as goal
 
-pub loop-i-init : goal.loop-i-init
-loop-i-init c = search (key-ways, rules)
+pub loop-b-init : goal.loop-b-init
+loop-b-init c = search (key-begin, rules)
 
-pub overflow_mul-key : goal.overflow_mul-key
-overflow_mul-key c = search (key-ways, rules)
-
-pub bounds-word-i : goal.bounds-word-i
-bounds-word-i c = search (key-ways, rules)
-
-pub size_of-requires : goal.size_of-requires
-size_of-requires c = search (key-ways, rules)
-
-pub overflow_add-key : goal.overflow_add-key
-overflow_add-key c = search (key-ways, rules)
-
-pub overflow_add-i : goal.overflow_add-i
-overflow_add-i c = search (key-ways, rules)
-
-pub loop-i-smaller : goal.loop-i-smaller
-loop-i-smaller c = search (key-ways, rules)
-
-pub loop-i-preserved : goal.loop-i-preserved
-loop-i-preserved c = search (key-ways, rules)
-
-pub overflow_cast-result : goal.overflow_cast-result
-overflow_cast-result c = search (key-ways, rules)
+pub loop-b-preserved : goal.loop-b-preserved
+loop-b-preserved c = search (key-again, rules)
 
 pub returns : goal.returns
-returns c = search (key-ways, rules)
+returns c = search (key-done, rules)

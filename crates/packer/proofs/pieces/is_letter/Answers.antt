@@ -1,6 +1,7 @@
-use Rattle.packer.proofs.Cutting.{letter-is}
-use borrow.Author.Rules.{rules}
+use Rattle.text.specs.Runs.{within}
+use Rattle.fold.specs.Words.{letter}
 use Rattle.packer.proofs.pieces.is_letter.Goals as goal
 
 pub returns : goal.returns
-returns c = search (letter-is, rules)
+unfolding letter within
+returns c = c.is_ascii_alphabetic.ensures.value

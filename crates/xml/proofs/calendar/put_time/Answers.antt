@@ -2,17 +2,11 @@ use Rattle.xml.proofs.Dating.{time-ways}
 use borrow.Author.Rules.{rules}
 use Rattle.xml.proofs.calendar.put_time.Goals as goal
 
-pub local-local-requires : goal.local-local-requires
-local-local-requires c = search (time-ways, rules)
-
 pub days_to-requires : goal.days_to-requires
 days_to-requires c = search (time-ways, rules)
 
 pub put_date-a-requires : goal.put_date-a-requires
 put_date-a-requires c = search (time-ways, rules)
-
-pub put_octet-b-requires : goal.put_octet-b-requires
-put_octet-b-requires c = search (time-ways, rules)
 
 pub overflow_cast-local : goal.overflow_cast-local
 overflow_cast-local c = search (time-ways, rules)
@@ -25,9 +19,6 @@ put_clock-c-requires c = search (time-ways, rules)
 
 pub put_offset-requires : goal.put_offset-requires
 put_offset-requires c = search (time-ways, rules)
-
-pub shape_of-out : goal.shape_of-out
-shape_of-out c = search (time-ways, rules)
 
 pub returns : goal.returns
 returns c = search (time-ways, rules)

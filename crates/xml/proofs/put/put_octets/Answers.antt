@@ -10,6 +10,3 @@ returns-in-NoRoom c = search (octets-ways, rules)
 
 pub returns-in-Invalid : goal.returns-in-Invalid
 returns-in-Invalid c = search (octets-ways, rules)
-
-pub returns : goal.returns
-returns c = search (octets-ways, rules)

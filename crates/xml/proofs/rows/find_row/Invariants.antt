@@ -1,12 +1,10 @@
-use Rattle.xml.proofs.Rowing.{Seeks}
-use Prim.Native.Nat.{◌-◌}
+use mathlib.Core.Path.{◌≡◌}
 use lib.ListN.{length}
+use Rattle.text.specs.Tokens.{entries, entry}
 use Rattle.xml.proofs.rows.find_row.Given as goal
 
-abbrev pub invariant-loop-at : goal.invariant-loop-at
-invariant-loop-at l =
-    Seeks l.table l.key l.at
+abbrev pub invariant-loop-rest : goal.invariant-loop-rest
+invariant-loop-rest l = entry (entries l.table) l.key ≡ entry (entries l.rest) l.key
 
-abbrev pub decreases-loop-at : goal.decreases-loop-at
-decreases-loop-at l =
-    length l.table - l.at
+abbrev pub decreases-loop-rest : goal.decreases-loop-rest
+decreases-loop-rest l = length l.rest

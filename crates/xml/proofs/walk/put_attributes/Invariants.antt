@@ -1,10 +1,6 @@
 use Rattle.xml.proofs.Walking.{Rises}
-use Prim.Native.Nat.{◌-◌}
 use Rattle.text.specs.Tokens.{entries}
 use Rattle.xml.proofs.walk.put_attributes.Given as goal
 
 abbrev pub invariant-loop-n : goal.invariant-loop-n
 invariant-loop-n l = Rises l.emit l.parent (entries l.table) l.body l.at l.initial.out l.out l.to l.n
-
-abbrev pub decreases-loop-n : goal.decreases-loop-n
-decreases-loop-n l = 128 - l.n
