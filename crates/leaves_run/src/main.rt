@@ -1,454 +1,203 @@
 // Reads questions on standard input and prints a line for each, as the second program's leaves do (second/leaves.c), so that the two can be compared.
 //
 // A question is a letter, an octet that says a size, and so many octets: K the kind of an element and tag, D whether octets are the default of an attribute, U
-// whether octets are text, T a time or the field of it that is wrong, O its local time, B a bearer. What an answer says is proved where it is found, in `values`,
-// `text` and `show`; here every function is safe and ends.
+// whether octets are text, T a time or the field of it that is wrong, O its local time, B a bearer. What an answer says is proved where it is found, in `values`
+// and `text`; here every function is safe and ends.
 #![tactic(auto)]
 
-ghost use Rattle.std.specs.Prelude.{◌≡◌, ◌≤◌, length};
-
 use octets::Put;
-use std::io::Read;
-use values::{Bearer, Ensemble, Kind, KnownKind, Local, NumberKind, TakenBearer, TakenTime, Time};
+use std::fmt;
+use std::fmt::{Display, Formatter};
+use std::io::Result;
+use streams::read_full;
+use values::{Bearer, Ensemble, Kind, KnownKind, NumberKind, TakenBearer, TakenTime, Time};
 
 // More than all questions together have.
 const INPUT: usize = 131_072;
 
-// So much is written at once.
-const OUTPUT: usize = 65_536;
-
-// No line is longer.
-const LINE: usize = 128;
-
-// No normal form of a time or a bearer, and no number, has more octets.
+// No normal form of a time or a bearer has more octets.
 const OCTETS: usize = 8;
 
-// ---- output
+// ---- octets in hexadecimal
 
-// What standard output doesn't take is lost, and nothing is said of that.
-fn write_out(rt: &HostRuntime, lines: &[u8]) {
-    let _ = rt.write_all(lines);
-}
+#[derive(Drop)]
+struct Hex<'a>(&'a [u8]);
 
-// Room for a line: what is in use is written out where less than a line is free.
-fn make_room(rt: &HostRuntime, out: &[u8], used: usize) -> usize
-    requires { used ≤ length out.now }
-    ensures { result ≤ length out.now }
-{
-    if out.len() - used >= LINE {
-        return used;
-    }
-    write_out(rt, &out[..used]);
-    0
-}
-
-fn say(out: &mut [u8], used: usize, s: &[u8]) -> usize
-    requires { used ≤ length out.old }
-    ensures { result ≤ length out.new }
-{
-    match show::put_bytes(out, used, s) {
-        Put::Done(end) => end,
-        Put::NoRoom => used,
-        Put::Invalid => used,
+impl<'a> Display for Hex<'a> {
+    fn fmt<W: fmt::Write>(&self, f: &mut Formatter<W>) -> fmt::Result {
+        for octet in self.0 {
+            write!(f, "{octet:02x}")?;
+        }
+        Ok(())
     }
 }
 
-fn say_hex(out: &mut [u8], used: usize, s: &[u8]) -> usize
-    requires { used ≤ length out.old }
-    ensures { result ≤ length out.new }
-{
-    match show::put_hex(out, used, s) {
-        Put::Done(end) => end,
-        Put::NoRoom => used,
-        Put::Invalid => used,
+// What was put at the start of a room.
+fn put_in(room: &[u8], put: Put) -> Hex<'_> {
+    match put {
+        Put::Done(end) => Hex(room.get(..end).unwrap_or(&[])),
+        Put::NoRoom => Hex(&[]),
+        Put::Invalid => Hex(&[]),
     }
-}
-
-fn say_decimal(out: &mut [u8], used: usize, n: usize) -> usize
-    requires { used ≤ length out.old }
-    ensures { result ≤ length out.new }
-{
-    match show::put_decimal(out, used, n) {
-        Put::Done(end) => end,
-        Put::NoRoom => used,
-        Put::Invalid => used,
-    }
-}
-
-// A space and a number.
-fn say_field(out: &mut [u8], used: usize, n: usize) -> usize
-    requires { used ≤ length out.old }
-    ensures { result ≤ length out.new }
-{
-    let to = say(out, used, b" ");
-    say_decimal(out, to, n)
-}
-
-// ---- octets, put into a room of their own to be said in hexadecimal
-
-fn octet_room() -> [u8; OCTETS]
-    ensures { 8 ≡ length result }
-{
-    [0; OCTETS]
-}
-
-fn put_time(room: &mut [u8], time: Time) -> usize
-    ensures { result ≤ length room.new }
-{
-    match time.put(room, 0) {
-        Put::Done(end) => end,
-        Put::NoRoom => 0,
-        Put::Invalid => 0,
-    }
-}
-
-fn put_bearer(room: &mut [u8], bearer: Bearer) -> usize
-    ensures { result ≤ length room.new }
-{
-    match bearer.put(room, 0) {
-        Put::Done(end) => end,
-        Put::NoRoom => 0,
-        Put::Invalid => 0,
-    }
-}
-
-fn put_number(room: &mut [u8], width: octets::Octets, n: u32) -> usize
-    ensures { result ≤ length room.new }
-{
-    match octets::put_number(room, 0, width, n) {
-        Put::Done(end) => end,
-        Put::NoRoom => 0,
-        Put::Invalid => 0,
-    }
-}
-
-fn say_time_octets(out: &mut [u8], used: usize, time: Time) -> usize
-    requires { used ≤ length out.old }
-    ensures { result ≤ length out.new }
-{
-    let mut room = octet_room();
-    let size = put_time(&mut room, time);
-    say_hex(out, used, &room[..size])
-}
-
-fn say_bearer_octets(out: &mut [u8], used: usize, bearer: Bearer) -> usize
-    requires { used ≤ length out.old }
-    ensures { result ≤ length out.new }
-{
-    let mut room = octet_room();
-    let size = put_bearer(&mut room, bearer);
-    say_hex(out, used, &room[..size])
-}
-
-fn say_number_octets(out: &mut [u8], used: usize, width: octets::Octets, n: u32) -> usize
-    requires { used ≤ length out.old }
-    ensures { result ≤ length out.new }
-{
-    let mut room = octet_room();
-    let size = put_number(&mut room, width, n);
-    say_hex(out, used, &room[..size])
 }
 
 // ---- K
 
-fn say_number_kind(out: &mut [u8], used: usize, kind: NumberKind) -> usize
-    requires { used ≤ length out.old }
-    ensures { result ≤ length out.new }
-{
+fn kind_word(kind: Kind) -> &'static str {
     match kind {
-        NumberKind::Duration => say(out, used, b"kind number 2"),
-        NumberKind::ShortId => say(out, used, b"kind number 3"),
-        NumberKind::Enumerated => say(out, used, b"kind number 1"),
-        NumberKind::Integer => say(out, used, b"kind number 2"),
+        Kind::HoldsItems => "items",
+        Kind::HoldsTokens => "tokens",
+        Kind::HoldsPlain => "plain",
+        Kind::HoldsText => "text",
+        Kind::HoldsTime => "time",
+        Kind::HoldsBearer => "bearer",
+        Kind::HoldsNumber(NumberKind::Enumerated) => "number 1",
+        Kind::HoldsNumber(NumberKind::Duration | NumberKind::Integer) => "number 2",
+        Kind::HoldsNumber(NumberKind::ShortId) => "number 3",
     }
 }
 
-fn say_kind(out: &mut [u8], used: usize, kind: Kind) -> usize
-    requires { used ≤ length out.old }
-    ensures { result ≤ length out.new }
-{
-    match kind {
-        Kind::HoldsItems => say(out, used, b"kind items"),
-        Kind::HoldsTokens => say(out, used, b"kind tokens"),
-        Kind::HoldsPlain => say(out, used, b"kind plain"),
-        Kind::HoldsText => say(out, used, b"kind text"),
-        Kind::HoldsTime => say(out, used, b"kind time"),
-        Kind::HoldsBearer => say(out, used, b"kind bearer"),
-        Kind::HoldsNumber(number) => say_number_kind(out, used, number),
+fn known_kind(s: &[u8]) -> Option<Kind> {
+    let [element, tag] = s else {
+        return None;
+    };
+    match values::known_kind(*element, *tag) {
+        KnownKind::Unknown => None,
+        KnownKind::Known(kind) => Some(kind),
     }
 }
 
-fn answer_kind(s: &[u8], out: &mut [u8], used: usize) -> usize
-    requires { used ≤ length out.old }
-    ensures { result ≤ length out.new }
-{
-    if s.len() != 2 {
-        return say(out, used, b"kind unknown");
-    }
-    match values::known_kind(s[0], s[1]) {
-        KnownKind::Unknown => say(out, used, b"kind unknown"),
-        KnownKind::Known(kind) => say_kind(out, used, kind),
-    }
+fn answer_kind(rt: &HostRuntime, s: &[u8]) -> Result<()> {
+    print!(rt; "kind {}", known_kind(s).map_or("unknown", kind_word))
 }
 
-// ---- D
+// ---- D and U
+
+fn yes_or_no(yes: bool) -> &'static str {
+    if yes { "yes" } else { "no" }
+}
 
 // Whether the octets behind an element and a tag are the default of that attribute.
-fn is_default(s: &[u8]) -> bool {
-    if s.len() < 2 {
-        return false;
-    }
-    values::is_default(s[0], s[1], &s[2..])
+fn answer_default(rt: &HostRuntime, s: &[u8]) -> Result<()> {
+    let is_default = match s {
+        [element, tag, body @ ..] => values::is_default(*element, *tag, body),
+        _ => false,
+    };
+    print!(rt; "default {}", yes_or_no(is_default))
 }
-
-fn answer_default(s: &[u8], out: &mut [u8], used: usize) -> usize
-    requires { used ≤ length out.old }
-    ensures { result ≤ length out.new }
-{
-    if is_default(s) {
-        return say(out, used, b"default yes");
-    }
-    say(out, used, b"default no")
-}
-
-// ---- U
 
 // The first octet says whether token octets may stand in the text.
-fn is_text(s: &[u8]) -> bool {
-    if s.len() == 0 {
-        return false;
-    }
-    let tokens = s[0] != 0;
-    text::check(&s[1..], tokens)
-}
-
-fn answer_text(s: &[u8], out: &mut [u8], used: usize) -> usize
-    requires { used ≤ length out.old }
-    ensures { result ≤ length out.new }
-{
-    if is_text(s) {
-        return say(out, used, b"text yes");
-    }
-    say(out, used, b"text no")
+fn answer_text(rt: &HostRuntime, s: &[u8]) -> Result<()> {
+    let is_text = match s {
+        [tokens, text @ ..] => text::check(text, *tokens != 0),
+        [] => false,
+    };
+    print!(rt; "text {}", yes_or_no(is_text))
 }
 
 // ---- T and O
 
-fn say_sense(out: &mut [u8], used: usize, minus: bool) -> usize
-    requires { used ≤ length out.old }
-    ensures { result ≤ length out.new }
-{
-    if minus {
-        return say(out, used, b" minus");
-    }
-    say(out, used, b" plus")
+fn say_time(rt: &HostRuntime, time: Time) -> Result<()> {
+    let sense = if time.minus { "minus" } else { "plus" };
+    let mut room = [0u8; OCTETS];
+    let put = time.canonical().put(&mut room, 0);
+    print!(rt;
+        "time {} {} {} {} {sense} {} normal {}",
+        time.day,
+        time.hour,
+        time.minute,
+        time.second,
+        time.halves,
+        put_in(&room, put)
+    )
 }
 
-fn say_time_fields(out: &mut [u8], used: usize, time: Time) -> usize
-    requires { used ≤ length out.old }
-    ensures { result ≤ length out.new }
-{
-    let hour = say_field(out, used, time.day as usize);
-    let minute = say_field(out, hour, time.hour as usize);
-    let second = say_field(out, minute, time.minute as usize);
-    let sense = say_field(out, second, time.second as usize);
-    let halves = say_sense(out, sense, time.minus);
-    say_field(out, halves, time.halves as usize)
-}
-
-fn say_time(out: &mut [u8], used: usize, time: Time) -> usize
-    requires { used ≤ length out.old }
-    ensures { result ≤ length out.new }
-{
-    let fields = say(out, used, b"time");
-    let normal = say_time_fields(out, fields, time);
-    let octets = say(out, normal, b" normal ");
-    say_time_octets(out, octets, time.canonical())
-}
-
-// The field that is wrong, by its number.
-fn say_wrong(out: &mut [u8], used: usize, field: u8) -> usize
-    requires { used ≤ length out.old }
-    ensures { result ≤ length out.new }
-{
-    let to = say(out, used, b"time bad");
-    say_field(out, to, field as usize)
-}
-
-fn answer_time(s: &[u8], out: &mut [u8], used: usize) -> usize
-    requires { used ≤ length out.old }
-    ensures { result ≤ length out.new }
-{
+// Of octets that are no time, the field that is wrong, by its number.
+fn answer_time(rt: &HostRuntime, s: &[u8]) -> Result<()> {
     match Time::take(s) {
-        TakenTime::Good(time) => say_time(out, used, time),
-        TakenTime::Bad(field) => say_wrong(out, used, field),
+        TakenTime::Good(time) => say_time(rt, time),
+        TakenTime::Bad(field) => print!(rt; "time bad {field}"),
     }
 }
 
-// The only day below 0 is the one before it.
-fn say_local_day(out: &mut [u8], used: usize, day: i64) -> usize
-    requires { used ≤ length out.old }
-    ensures { result ≤ length out.new }
-{
-    if day < 0 {
-        return say(out, used, b" -1");
-    }
-    say_field(out, used, day as usize)
+fn say_local(rt: &HostRuntime, time: Time) -> Result<()> {
+    let local = time.local();
+    print!(rt;
+        "local {} {} {} {}",
+        local.day, local.hour, local.minute, local.second
+    )
 }
 
-fn say_local(out: &mut [u8], used: usize, local: Local) -> usize
-    requires { used ≤ length out.old }
-    ensures { result ≤ length out.new }
-{
-    let day = say(out, used, b"local");
-    let hour = say_local_day(out, day, local.day);
-    let minute = say_field(out, hour, local.hour as usize);
-    let second = say_field(out, minute, local.minute as usize);
-    say_field(out, second, local.second as usize)
-}
-
-fn answer_local(s: &[u8], out: &mut [u8], used: usize) -> usize
-    requires { used ≤ length out.old }
-    ensures { result ≤ length out.new }
-{
+fn answer_local(rt: &HostRuntime, s: &[u8]) -> Result<()> {
     match Time::take(s) {
-        TakenTime::Good(time) => say_local(out, used, time.local()),
-        TakenTime::Bad(_) => say(out, used, b"local none"),
+        TakenTime::Good(time) => say_local(rt, time),
+        TakenTime::Bad(_) => print!(rt; "local none"),
     }
 }
 
 // ---- B
 
-fn say_ensemble(out: &mut [u8], used: usize, ensemble: Ensemble) -> usize
-    requires { used ≤ length out.old }
-    ensures { result ≤ length out.new }
-{
+fn say_ensemble(rt: &HostRuntime, ensemble: Ensemble) -> Result<()> {
     match ensemble {
-        Ensemble::Absent => used,
-        Ensemble::Present { ecc, eid } => {
-            let first = say(out, used, b" ");
-            let space = say_number_octets(out, first, octets::Octets(1), ecc as u32);
-            let second = say(out, space, b" ");
-            say_number_octets(out, second, octets::Octets(2), eid as u32)
-        }
+        Ensemble::Absent => Ok(()),
+        Ensemble::Present { ecc, eid } => print!(rt; " {ecc:02x} {eid:04x}"),
     }
 }
 
-fn say_sid(out: &mut [u8], used: usize, long: bool, sid: u32) -> usize
-    requires { used ≤ length out.old }
-    ensures { result ≤ length out.new }
-{
-    let to = say(out, used, b" sid ");
+fn say_sid(rt: &HostRuntime, long: bool, sid: u32) -> Result<()> {
     if long {
-        return say_number_octets(out, to, octets::Octets(4), sid);
+        return print!(rt; " sid {sid:08x}");
     }
-    say_number_octets(out, to, octets::Octets(2), sid)
+    print!(rt; " sid {sid:04x}")
 }
 
-fn say_bearer(out: &mut [u8], used: usize, bearer: Bearer) -> usize
-    requires { used ≤ length out.old }
-    ensures { result ≤ length out.new }
-{
-    let ensemble = bearer.ensemble;
-    let first = say(out, used, b"bearer");
-    let sid = say_ensemble(out, first, ensemble);
-    let word = say_sid(out, sid, bearer.long, bearer.sid);
-    let scids = say(out, word, b" scids");
-    let normal = say_field(out, scids, bearer.scids as usize);
-    let octets = say(out, normal, b" normal ");
-    say_bearer_octets(out, octets, bearer)
+fn say_bearer(rt: &HostRuntime, bearer: Bearer) -> Result<()> {
+    let mut room = [0u8; OCTETS];
+    let put = bearer.put(&mut room, 0);
+    print!(rt; "bearer")?;
+    say_ensemble(rt, bearer.ensemble)?;
+    say_sid(rt, bearer.long, bearer.sid)?;
+    print!(rt; " scids {} normal {}", bearer.scids, put_in(&room, put))
 }
 
-fn answer_bearer(s: &[u8], out: &mut [u8], used: usize) -> usize
-    requires { used ≤ length out.old }
-    ensures { result ≤ length out.new }
-{
+fn answer_bearer(rt: &HostRuntime, s: &[u8]) -> Result<()> {
     match Bearer::take(s) {
-        TakenBearer::Good(bearer) => say_bearer(out, used, bearer),
-        TakenBearer::Bad => say(out, used, b"bearer none"),
+        TakenBearer::Good(bearer) => say_bearer(rt, bearer),
+        TakenBearer::Bad => print!(rt; "bearer none"),
     }
 }
 
 // ---- the questions
 
-fn answer(letter: u8, s: &[u8], out: &mut [u8], used: usize) -> usize
-    requires { used ≤ length out.old }
-    ensures { result ≤ length out.new }
-{
+fn answer(rt: &HostRuntime, letter: u8, s: &[u8]) -> Result<()> {
     match letter {
-        b'K' => answer_kind(s, out, used),
-        b'D' => answer_default(s, out, used),
-        b'U' => answer_text(s, out, used),
-        b'T' => answer_time(s, out, used),
-        b'O' => answer_local(s, out, used),
-        b'B' => answer_bearer(s, out, used),
-        _ => say(out, used, b"unknown question"),
+        b'K' => answer_kind(rt, s)?,
+        b'D' => answer_default(rt, s)?,
+        b'U' => answer_text(rt, s)?,
+        b'T' => answer_time(rt, s)?,
+        b'O' => answer_local(rt, s)?,
+        b'B' => answer_bearer(rt, s)?,
+        _ => print!(rt; "unknown question")?,
     }
-}
-
-fn answer_line(rt: &HostRuntime, letter: u8, s: &[u8], out: &mut [u8], used: usize) -> usize
-    requires { used ≤ length out.old }
-    ensures { result ≤ length out.new }
-{
-    let from = make_room(rt, out, used);
-    let to = answer(letter, s, out, from);
-    say(out, to, b"\n")
+    print!(rt; "\n")
 }
 
 // Up to the end of the input, or to a question that it cuts short.
-fn run(rt: &HostRuntime, input: &[u8], out: &mut [u8]) {
-    let mut used: usize = 0;
-    let mut at: usize = 0;
-    while input.len() - at >= 2 {
-        let start = at + 2;
-        let size = input[at + 1] as usize;
-        if size > input.len() - start {
+fn run(rt: &HostRuntime, input: &[u8]) -> Result<()> {
+    let mut left = input;
+    while let [letter, size, behind @ ..] = left {
+        let Some((body, next)) = behind.split_at_checked(*size as usize) else {
             break;
-        }
-        let end = start + size;
-        used = answer_line(rt, input[at], &input[start..end], out, used);
-        at = end;
+        };
+        answer(rt, *letter, body)?;
+        left = next;
     }
-    write_out(rt, &out[..used]);
+    Ok(())
 }
 
-fn input_buffer() -> [u8; INPUT]
-    ensures { 131_072 ≡ length result }
-{
-    [0; INPUT]
-}
-
-fn output_buffer() -> [u8; OUTPUT]
-    ensures { 65_536 ≡ length result }
-{
-    [0; OUTPUT]
-}
-
-// Nothing where reading fails, as where the input ends.
-fn read_some(rt: &HostRuntime, part: &mut [u8]) -> usize
-    ensures { result ≤ length part.new }
-{
-    rt.stdin().read(part).unwrap_or(0)
-}
-
-// Reads until the buffer is full, or nothing more comes.
-fn read_full(rt: &HostRuntime, buf: &mut [u8]) -> usize
-    ensures { result ≤ length buf.new }
-{
-    let mut size: usize = 0;
-    while size < buf.len() {
-        let more = read_some(rt, &mut buf[size..]);
-        if more == 0 {
-            return size;
-        }
-        size = size + more;
-    }
-    size
-}
-
+// Where reading fails, as where the input ends, nothing more is answered. What standard output doesn't take is lost, and nothing is said of that.
 fn main(rt: HostRuntime) {
-    let mut input = input_buffer();
-    let mut out = output_buffer();
-    let size = read_full(&rt, &mut input);
-    run(&rt, &input[..size], &mut out);
+    let mut input = [0u8; INPUT];
+    let (size, _) = read_full(&mut rt.stdin(), &mut input);
+    let _ = run(&rt, &input[..size]);
 }

@@ -1,58 +1,53 @@
 // The lines, put into the output, which is written out where it has no room for another.
-ghost use Rattle.std.specs.Prelude.{◌≡◌, ◌≤◌, length};
-ghost use Rattle.replay.specs.Stream.{end_of};
+ghost use Rattle.std.specs.Prelude.{◌≤◌, length};
 
 use format::{ReadAnswer, Refusal};
 use octets::Put;
 
+// So much is written at once.
+const OUTPUT: usize = 65_536;
+
 // No line is longer: four numbers of at most 20 digits.
 const LINE: usize = 128;
 
-// What standard output doesn't take is lost, and nothing is said of that.
-pub fn write_out(rt: &HostRuntime, lines: &[u8]) {
-    let _ = rt.write_all(lines);
-}
-
-// Room for a line: what is in use is written out where less than a line is free.
-fn room(rt: &HostRuntime, out: &[u8], used: usize) -> usize
-    requires { used ≤ length out.now }
-    ensures { result ≤ length out.now }
-{
-    if out.len() - used >= LINE {
-        return used;
-    }
-    write_out(rt, &out[..used]);
-    0
-}
-
-fn end_of(put: Put, at: usize) -> usize
-    ensures { result ≡ end_of put at }
-{
-    match put {
-        Put::Done(end) => end,
-        Put::NoRoom => at,
-        Put::Invalid => at,
-    }
-}
-
-pub fn say_answer(
-    rt: &HostRuntime,
-    out: &mut [u8],
+#[derive(Drop)]
+pub struct Lines {
+    octets: [u8; OUTPUT],
     used: usize,
-    number: usize,
-    answer: ReadAnswer,
-) -> usize
-    requires { used ≤ length out.old }
-    ensures { result ≤ length out.new }
-{
-    let at = room(rt, out, used);
-    end_of(recording::put_answer(out, at, number, answer), at)
+    ghost inside: { used ≤ length octets },
 }
 
-pub fn say_file(rt: &HostRuntime, out: &mut [u8], used: usize, r: Refusal) -> usize
-    requires { used ≤ length out.old }
-    ensures { result ≤ length out.new }
-{
-    let at = room(rt, out, used);
-    end_of(recording::put_file(out, at, r), at)
+impl Lines {
+    pub fn new() -> Lines {
+        Lines {
+            octets: [0; OUTPUT],
+            used: 0,
+        }
+    }
+
+    // What standard output doesn't take is lost, and nothing is said of that.
+    pub fn write_out(&mut self, rt: &HostRuntime) {
+        let _ = rt.write_all(&self.octets[..self.used]);
+        self.used = 0;
+    }
+
+    fn make_room(&mut self, rt: &HostRuntime) {
+        if self.octets.len() - self.used < LINE {
+            self.write_out(rt);
+        }
+    }
+
+    pub fn say_answer(&mut self, rt: &HostRuntime, number: usize, answer: ReadAnswer) {
+        self.make_room(rt);
+        if let Put::Done(end) = recording::put_answer(&mut self.octets, self.used, number, answer) {
+            self.used = end;
+        }
+    }
+
+    pub fn say_file(&mut self, rt: &HostRuntime, refusal: Refusal) {
+        self.make_room(rt);
+        if let Put::Done(end) = recording::put_file(&mut self.octets, self.used, refusal) {
+            self.used = end;
+        }
+    }
 }
