@@ -1,4 +1,4 @@
--- The ways through the program's functions that aren't arithmetic alone: where octets first differ, a normal form and an XML within their room, items that lie in a part.
+-- The ways through the program's functions that aren't arithmetic alone: where octets first differ, what is handed out within its room, items of a part.
 use mathlib.Core.Path.{◌≡◌, refl, ap}
 use mathlib.Core.List.{List, []}
 use Prim.Native.Nat.{ℕ, suc, ◌+◌, ◌-◌, ◌^◌, ◌≤◌, ◌<◌, min}
@@ -9,7 +9,7 @@ use lib.ListN.{length, take, drop, get_or, drop_of_length-le}
 use lib.Dec.{leb}
 use mir.Syntax.{w64}
 use mir.Val.{Fits}
-use borrow.Author.Tests.{eq-eqb, ne_eqb, leb-true}
+use borrow.Author.Tests.{eq-eqb, ne_eqb, leb-true, leb-false}
 use Rattle.octets.specs.declared.counts.Octets.{Octets as OctetCount}
 use Rattle.octets.specs.Counts.{size_of}
 use Rattle.octets.specs.declared.Lies.{Lies}
@@ -17,8 +17,6 @@ use Rattle.octets.specs.declared.Lies.TheVariants.{Between}
 use Rattle.octets.specs.Places.{lies_at}
 use Rattle.octets.proofs.Lists.{drop-next, length_part}
 use Rattle.octets.proofs.Places.{Lying, lying, bounds, nearer}
-use Rattle.io.specs.Counts.{IsPrefixLen}
-use Rattle.io.proofs.Counting.{prefix_len_of_le}
 use Rattle.format.specs.declared.WriteAnswer.{WriteAnswer}
 use Rattle.format.specs.declared.WriteAnswer.TheVariants.{Octets, NotWritten}
 use Rattle.format.specs.Answers.{write_outcome, refusal}
@@ -38,7 +36,6 @@ use Rattle.merge.specs.declared.MergeAnswer.TheVariants.{Merged}
 use Rattle.merge.specs.Calls.{MergeClaim}
 use Rattle.merging.proofs.Deciding.{merge-size}
 use Rattle.spi.specs.Common.{common}
-use Rattle.spi.specs.declared.objects.Made.{Made}
 
 -- ---- octets compared
 
@@ -52,64 +49,72 @@ pub shared-begin : (a b : List ℕ) → Shared a b 0
 shared-begin a b = record { first = omega arith; second = omega arith; rest = omega arith }
 
 module _ (a b : List ℕ) (i : ℕ) (v : Shared a b i) where
-  pub shared-first : length a ≤ i → i ≡ common a b
+  shared-first : length a ≤ i → i ≡ common a b
   unfolding common
   shared-first h = let none : common (drop i a) (drop i b) ≡ 0 = rw (drop_of_length-le a h) in omega (arith, v.rest)
 
-  module _ (h : i < length a) where
-    pub shared_second : length b ≤ i → i ≡ common a b
+  shared-second : i < length a → length b ≤ i → i ≡ common a b
+  unfolding common
+  shared-second h g =
+      let none : common (drop i a) (drop i b) ≡ 0 = rw (drop-next a i 0 h, drop_of_length-le b g) in
+      omega (arith, v.rest)
+
+  pub shared-end : (least : ℕ) → least ≡ min (length a) (length b) → least ≤ i → least ≡ common a b
+  shared-end least e h = go (leb (length a) i) refl
+    where
+      go : (long : Bool) → leb (length a) i ≡ long → least ≡ common a b
+      go true q = let first = leb-true (length a) i q in omega (arith, v.first, v.second, shared-first first)
+      go false q = let more = leb-false (length a) i q in omega (arith, v.first, v.second, shared-second (omega (arith, more)) (omega (arith, more)))
+
+  module _ (h : i < length a) (g : i < length b) where
+    pub shared-differ : (get_or a i 0 ≡ get_or b i 0 → ⊥) → i ≡ common a b
     unfolding common
-    shared_second g =
-        let none : common (drop i a) (drop i b) ≡ 0 = rw (drop-next a i 0 h, drop_of_length-le b g) in
+    shared-differ n =
+        let parted = ne_eqb (get_or a i 0) (get_or b i 0) n in
+        let none : common (drop i a) (drop i b) ≡ 0 = rw (drop-next a i 0 h, drop-next b i 0 g, parted) in
         omega (arith, v.rest)
 
-    module _ (g : i < length b) where
-      pub shared-differ : (get_or a i 0 ≡ get_or b i 0 → ⊥) → i ≡ common a b
-      unfolding common
-      shared-differ n =
-          let none : common (drop i a) (drop i b) ≡ 0 = rw (drop-next a i 0 h, drop-next b i 0 g, ne_eqb (get_or a i 0) (get_or b i 0) n) in
-          omega (arith, v.rest)
+    pub shared-again : get_or a i 0 ≡ get_or b i 0 → Shared a b (i + 1)
+    unfolding common
+    shared-again e =
+        let alike = eq-eqb (get_or a i 0) (get_or b i 0) e in
+        let rest = suc (common (drop (i + 1) a) (drop (i + 1) b)) in
+        let next : common (drop i a) (drop i b) ≡ rest = rw (drop-next a i 0 h, drop-next b i 0 g, alike) in
+        record { first = omega arith; second = omega arith; rest = omega (arith, v.rest) }
 
-      pub shared-again : get_or a i 0 ≡ get_or b i 0 → Shared a b (i + 1)
-      unfolding common
-      shared-again e =
-          let next : common (drop i a) (drop i b) ≡ suc (common (drop (i + 1) a) (drop (i + 1) b)) = rw (drop-next a i 0 h, drop-next b i 0 g, eq-eqb (get_or a i 0) (get_or b i 0) e) in
-          record { first = omega arith; second = omega arith; rest = omega (arith, v.rest) }
+pub ruleset shared-ways = (shared-begin, shared-end, shared-differ, shared-again)
 
-pub ruleset shared-ways = (shared-begin, shared-first, shared_second, shared-differ, shared-again)
-
--- ---- a normal form, packed, merged or neither, and an XML
+-- ---- an XML and a normal form, packed, merged or neither
 
 -- what is handed out lies in the room
 pub normal-within : (o : List ℕ) (m m' : Memory) (room room' : List ℕ) (answer : WriteAnswer) → NormaliseClaim o m m' room room' answer
-    → length room' ≡ length room → (r : Made) → r.size.0 ≡ (write_outcome answer).count → IsPrefixLen r.size.0 room'
-normal-within o m m' room room' (Octets n) c e r q =
-    prefix_len_of_le r.size.0 room' (omega (arith, q, written-inside o m m' room room' n c))
-normal-within o m m' room room' (NotWritten r₁) c e r q = prefix_len_of_le r.size.0 room' (omega (arith, q))
+    → length room' ≡ length room → (write_outcome answer).count ≤ length room'
+normal-within o m m' room room' (Octets n) c e = omega (arith, written-inside o m m' room room' n c)
+normal-within o m m' room room' (NotWritten r) c e = omega arith
 
 pub xml-within : (o room room' : List ℕ) (answer : WriteAnswer) → ExportClaim o room room' answer → length room' ≡ length room
-    → (r : Made) → r.size.0 ≡ (write_outcome answer).count → IsPrefixLen r.size.0 room'
-xml-within o room room' (Octets n) c e r q = prefix_len_of_le r.size.0 room' (omega (arith, q, export-inside o room room' n c))
-xml-within o room room' (NotWritten r₁) c e r q = prefix_len_of_le r.size.0 room' (omega (arith, q))
+    → (write_outcome answer).count ≤ length room'
+xml-within o room room' (Octets n) c e = omega (arith, export-inside o room room' n c)
+xml-within o room room' (NotWritten r) c e = omega arith
 
 pub pack-within : (o room room' : List ℕ) (answer : WriteAnswer) → PackClaim o room room' answer → length room' ≡ length room
-    → (r : Made) → r.size.0 ≡ (write_outcome answer).count → IsPrefixLen r.size.0 room'
+    → (write_outcome answer).count ≤ length room'
 unfolding pack_answer roomy
-pack-within o room room' answer c e r q = prefix_len_of_le r.size.0 room' (omega (arith, q, ap (λ a. (write_outcome a).count) c.answers, few (packed o)))
+pack-within o room room' answer c e = omega (arith, ap (λ a. (write_outcome a).count) c.answers, few (packed o))
   where
     few : (p : Option (List ℕ)) → (write_outcome (pack_answer (size_of room) p)).count ≤ length room
     few none = omega arith
     few (some p) = go (leb (length p) (min (length room) 32_768)) refl
       where
-        go : (b : Bool) → leb (length p) (min (length room) 32_768) ≡ b → (write_outcome (cond b (Octets (size_of p)) (NotWritten (refusal 15 0)))).count ≤ length room
+        go : (b : Bool) → leb (length p) (min (length room) 32_768) ≡ b
+            → (write_outcome (cond b (Octets (size_of p)) (NotWritten (refusal 15 0)))).count ≤ length room
         go true h = omega (arith, leb-true (length p) (min (length room) 32_768) h)
         go false h = omega arith
 
 pub state-within : (n : ℕ) (m : Memory) (room room' : List ℕ) (answer : WriteAnswer) → WriteStateClaim n m room room' answer → length room' ≡ length room
-    → (r : Made) → r.size.0 ≡ (write_outcome answer).count → IsPrefixLen r.size.0 room'
+    → (write_outcome answer).count ≤ length room'
 unfolding write_answer roomy
-state-within n m room room' answer c e r q =
-    prefix_len_of_le r.size.0 room' (omega (arith, q, ap (λ a. (write_outcome a).count) c.answers, few (tree_held n m)))
+state-within n m room room' answer c e = omega (arith, ap (λ a. (write_outcome a).count) c.answers, few (tree_held n m))
   where
     few : (o : Option Items) → (write_outcome (write_answer (size_of room) o)).count ≤ length room
     few none = omega arith
@@ -120,11 +125,12 @@ state-within n m room room' answer c e r q =
         go true h = omega (arith, leb-true (length (encode (means [] t))) (min (length room) 32_768) h)
         go false h = omega arith
 
-pub merged-within : (by : Services) (basic advanced : List ℕ) (m m' : Memory) (room room' : List ℕ) (answer : MergeAnswer) → MergeClaim by basic advanced m m' room room' answer
-    → length room' ≡ length room → (records : ℕ) (size : OctetCount) → answer ≡ Merged records size → IsPrefixLen size.0 room'
+pub merged-within : (by : Services) (basic advanced : List ℕ) (m m' : Memory) (room room' : List ℕ) (answer : MergeAnswer)
+    → MergeClaim by basic advanced m m' room room' answer → length room' ≡ length room
+    → (records : ℕ) (size : OctetCount) → answer ≡ Merged records size → size.0 ≤ length room'
 merged-within by basic advanced m m' room room' answer c e records size q =
     let inside = merge-size by basic advanced (places_in m) (size_of m.store) room room answer (record { answers = c.answers; leaves = refl }) records size q in
-    prefix_len_of_le size.0 room' (omega (arith, e, inside))
+    omega (arith, e, inside)
 
 -- ---- items in a part
 

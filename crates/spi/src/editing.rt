@@ -1,60 +1,29 @@
 // An object that is edited (request 2026-06): each line of standard input is an edit, and the tree that is left is written. The edits are made in memory that
 // is lent to the library, and each is known to be made or to leave that memory as it was.
-ghost use Rattle.std.specs.Prelude.{suc, ◌≤◌, min, length};
-ghost use Rattle.io.specs.Counts.{IsPrefixLen};
-
-use crate::asking::{Verb, behind, find, has_place, numbers_of, octets_in, verb_of};
-use crate::failing::{complain, complain_number};
-use crate::files::{Got, load};
-use crate::lines::{end_of, say_edit, say_refusal, say_refused};
-use crate::memory::{file_buffer, room, tree_numbers, tree_octets};
-use crate::objects::{Made, as_made};
-use crate::status::{BAD, FAILED, GOOD};
-use format::Outcome;
+use crate::asking::{Verb, number_of, octets_in, split_word};
+use crate::files::load;
+use crate::lines::{edit_refused, refused};
+use crate::memory::{FILE, OBJECT, TREE_PLACES};
+use crate::objects::written;
+use crate::status::Stop;
+use format::{EditAnswer, Refusal};
 use octets::Octets;
+use streams::complain;
 
-// How editing goes: the status, how many edits were made, and how many records there are.
-#[derive(Clone, Copy)]
-pub struct Edited {
-    pub status: u8,
-    pub made: usize,
-    pub records: usize,
-}
-
-// The octets that an edit brings, in a lent buffer: what is left of its line as it stands or as digits, or a file of that name. One that brings none has
-// nothing left.
-fn bring(rt: &HostRuntime, word: &[u8], rest: &[u8], buf: &mut [u8]) -> Got
-    ensures { IsPrefixLen result.size.0 buf.new }
-{
-    match verb_of(word) {
-        Verb::Text => copied(rest, buf),
-        Verb::TextHex => octets_in(rest, buf),
-        Verb::Remove => Got {
-            whole: rest.len() == 0,
-            size: Octets(0),
-        },
-        Verb::Insert => octets_in(rest, buf),
-        Verb::InsertFile => load(rt, rest, buf),
-        Verb::Unknown => Got {
-            whole: false,
-            size: Octets(0),
-        },
-    }
-}
-
-fn copied(s: &[u8], buf: &mut [u8]) -> Got
-    ensures { IsPrefixLen result.size.0 buf.new }
-{
-    let end = end_of(show::put_bytes(buf, 0, s), buf);
-    Got {
-        whole: end == s.len(),
-        size: Octets(end),
+// The octets that an edit brings, none of more than the buffer has: what is left of its line as it stands or as digits, or a file of that name. One that brings
+// none has nothing left.
+fn bring<'a>(rt: &HostRuntime, verb: Verb, rest: &'a [u8], buf: &'a mut [u8]) -> Option<&'a [u8]> {
+    match verb {
+        Verb::Text => (rest.len() <= buf.len()).then_some(rest),
+        Verb::Remove => rest.is_empty().then_some(rest),
+        Verb::TextHex | Verb::Insert => octets_in(rest, buf),
+        Verb::InsertFile => load(rt, rest, buf).ok(),
     }
 }
 
 // The edit that is asked for, made by the library.
 fn make(
-    word: &[u8],
+    verb: Verb,
     number: usize,
     place: usize,
     given: &[u8],
@@ -67,58 +36,34 @@ fn make(
     sizes: &mut [u16],
     bodies: &mut [u16],
     store: &mut [u8],
-) -> Outcome {
-    if has_place(word) {
-        let answer = edits::insert(
+) -> EditAnswer {
+    match verb {
+        Verb::Insert | Verb::InsertFile => edits::insert(
             records, number, place, given, tags, kinds, depths, parents, starts, sizes, bodies,
             store,
-        );
-        return answer.outcome();
-    }
-    match verb_of(word) {
-        Verb::Remove => {
-            let answer = edits::remove(
-                records, number, tags, kinds, depths, parents, starts, sizes, bodies, store,
-            );
-            answer.outcome()
-        }
-        _ => {
-            let answer = edits::replace_text(
-                records, number, given, tags, kinds, depths, parents, starts, sizes, bodies, store,
-            );
-            answer.outcome()
-        }
+        ),
+        Verb::Remove => edits::remove(
+            records, number, tags, kinds, depths, parents, starts, sizes, bodies, store,
+        ),
+        Verb::Text | Verb::TextHex => edits::replace_text(
+            records, number, given, tags, kinds, depths, parents, starts, sizes, bodies, store,
+        ),
     }
 }
 
 // An edit that spi doesn't know, or whose numbers, digits or file can't be read.
-fn fail_edit(rt: &HostRuntime, path: &[u8], made: usize) -> u8 {
+fn unread(rt: &HostRuntime, path: &[u8], number: usize) -> Stop {
     complain(rt, path);
-    complain(rt, b": edit ");
-    complain_number(rt, made);
-    complain(rt, b" can't be read; spi help says how edits are written\n");
-    FAILED
+    let _ = eprint!(rt; ": edit {number} can't be read; spi help says how edits are written\n");
+    Stop::Failed
 }
 
-// How many edits there are with this one; input has fewer than a million.
-fn one_more(made: usize) -> usize {
-    if made < 1_000_000 { made + 1 } else { made }
-}
-
-fn ended(status: u8, made: usize, records: usize) -> Edited {
-    Edited {
-        status,
-        made,
-        records,
-    }
-}
-
-// One line: an edit, of which is said why it isn't made, or nothing.
+// An edit, which is a line with something on it, of which is said why it isn't made, or else nothing: how many records there are then.
 fn edit_line(
     rt: &HostRuntime,
     path: &[u8],
     line: &[u8],
-    made: usize,
+    this: usize,
     records: usize,
     tags: &mut [u8],
     kinds: &mut [u8],
@@ -128,55 +73,35 @@ fn edit_line(
     sizes: &mut [u16],
     bodies: &mut [u16],
     store: &mut [u8],
-) -> Edited {
-    if line.len() == 0 {
-        return ended(GOOD, made, records);
-    }
-    let this = one_more(made);
-    let word = find(line, b' ', 0);
-    let numbers = numbers_of(line, word);
-    let from = numbers.from;
-    let mut buf = file_buffer();
-    let brought = bring(rt, &line[0..word], &line[from..], &mut buf);
-    if !(numbers.whole & brought.whole) {
-        return ended(fail_edit(rt, path, this), made, records);
-    }
-    let size = brought.size.0;
-    let came = make(
-        &line[0..word],
-        numbers.record,
-        numbers.place,
-        &buf[..size],
-        records,
-        tags,
-        kinds,
-        depths,
-        parents,
-        starts,
-        sizes,
-        bodies,
+) -> Result<usize, Stop> {
+    let (word, behind) = split_word(line);
+    let Some(verb) = Verb::named(word) else {
+        return Err(unread(rt, path, this));
+    };
+    let (record, more) = split_word(behind);
+    let (place, rest) = if verb.has_place() {
+        split_word(more)
+    } else {
+        (&b"0"[..], more)
+    };
+    let mut buf = [0u8; FILE];
+    let brought = bring(rt, verb, rest, &mut buf);
+    let (Some(number), Some(child), Some(given)) = (number_of(record), number_of(place), brought)
+    else {
+        return Err(unread(rt, path, this));
+    };
+    let answer = make(
+        verb, number, child, given, records, tags, kinds, depths, parents, starts, sizes, bodies,
         store,
     );
-    if came.number > 0 {
-        say_edit(rt, path, this);
-        say_refusal(rt, came.number, came.place, came.field);
-        return ended(BAD, made, records);
+    match answer {
+        EditAnswer::HasRecords(count) => Ok(count),
+        EditAnswer::NotChanged(refusal) => Err(edit_refused(rt, path, this, refusal)),
     }
-    ended(GOOD, this, came.count)
 }
 
-// Where the next line begins; there is none behind an edit that isn't made.
-fn next_line(input: &[u8], end: usize, status: u8) -> usize
-    ensures { (result ≤ length input.now) × (min (suc end) (length input.now) ≤ result) }
-{
-    if status > GOOD {
-        return input.len();
-    }
-    behind(input, end)
-}
-
-// All lines of the input, until one isn't made.
-pub fn edit_lines(
+// All lines of the input, until one isn't made: how many edits were made, and how many records there are.
+fn edit_lines(
     rt: &HostRuntime,
     path: &[u8],
     input: &[u8],
@@ -189,38 +114,24 @@ pub fn edit_lines(
     sizes: &mut [u16],
     bodies: &mut [u16],
     store: &mut [u8],
-) -> Edited {
-    let mut status = GOOD;
+) -> Result<(usize, usize), Stop> {
     let mut made: usize = 0;
     let mut records = taken;
-    let mut at: usize = 0;
-    while at < input.len() {
-        let end = find(input, b'\n', at);
-        let step = edit_line(
-            rt,
-            path,
-            &input[at..end],
-            made,
-            records,
-            tags,
-            kinds,
-            depths,
-            parents,
-            starts,
-            sizes,
-            bodies,
+    for line in input.split(|octet| *octet == b'\n') {
+        if line.is_empty() {
+            continue;
+        }
+        made = made.saturating_add(1);
+        records = edit_line(
+            rt, path, line, made, records, tags, kinds, depths, parents, starts, sizes, bodies,
             store,
-        );
-        status = step.status;
-        made = step.made;
-        records = step.records;
-        at = next_line(input, end, status);
+        )?;
     }
-    ended(status, made, records)
+    Ok((made, records))
 }
 
 // The tree in lent memory, in a lent room.
-fn written_form(
+fn written_form<'a>(
     records: usize,
     tags: &[u8],
     kinds: &[u8],
@@ -230,41 +141,30 @@ fn written_form(
     sizes: &[u16],
     bodies: &[u16],
     store: &[u8],
-    lent: &mut [u8],
-) -> Made
-    ensures { IsPrefixLen result.size.0 lent.new }
-{
-    as_made(writer::write_state(
+    lent: &'a mut [u8],
+) -> Result<&'a [u8], Refusal> {
+    let answer = writer::write_state(
         records, tags, kinds, depths, parents, starts, sizes, bodies, store, lent,
-    ))
+    );
+    written(answer, lent)
 }
 
-// An edited object in a lent room: how it went, how many edits were made, and how many octets its normal form has.
-#[derive(Clone, Copy)]
-pub struct Done {
-    pub status: u8,
-    pub made: usize,
-    pub size: Octets,
-}
-
-// An object taken in, edited by the lines of an input, and written to a lent room.
-pub fn edited_form(
+// An object taken in, edited by the lines of an input, and written to a lent room: how many edits were made, and its normal form.
+pub fn edited_form<'a>(
     rt: &HostRuntime,
     path: &[u8],
     object: &[u8],
     input: &[u8],
-    lent: &mut [u8],
-) -> Done
-    ensures { IsPrefixLen result.size.0 lent.new }
-{
-    let mut tags = tree_octets();
-    let mut kinds = tree_octets();
-    let mut depths = tree_octets();
-    let mut parents = tree_numbers();
-    let mut starts = tree_numbers();
-    let mut sizes = tree_numbers();
-    let mut bodies = tree_numbers();
-    let mut store = room();
+    lent: &'a mut [u8],
+) -> Result<(usize, &'a [u8]), Stop> {
+    let mut tags = [0u8; TREE_PLACES];
+    let mut kinds = [0u8; TREE_PLACES];
+    let mut depths = [0u8; TREE_PLACES];
+    let mut parents = [0u16; TREE_PLACES];
+    let mut starts = [0u16; TREE_PLACES];
+    let mut sizes = [0u16; TREE_PLACES];
+    let mut bodies = [0u16; TREE_PLACES];
+    let mut store = [0u8; OBJECT];
     let answer = edits::take_in(
         object,
         &mut tags,
@@ -277,19 +177,15 @@ pub fn edited_form(
         &mut store,
         Octets(32_768),
     );
-    let taken = answer.outcome();
-    if taken.number > 0 {
-        return Done {
-            status: say_refused(rt, path, taken.number, taken.place, taken.field),
-            made: 0,
-            size: Octets(0),
-        };
-    }
-    let edited = edit_lines(
+    let taken = match answer {
+        EditAnswer::HasRecords(count) => count,
+        EditAnswer::NotChanged(refusal) => return Err(refused(rt, path, refusal)),
+    };
+    let (made, records) = edit_lines(
         rt,
         path,
         input,
-        taken.count,
+        taken,
         &mut tags,
         &mut kinds,
         &mut depths,
@@ -298,30 +194,9 @@ pub fn edited_form(
         &mut sizes,
         &mut bodies,
         &mut store,
+    )?;
+    let form = written_form(
+        records, &tags, &kinds, &depths, &parents, &starts, &sizes, &bodies, &store, lent,
     );
-    if edited.status > GOOD {
-        return Done {
-            status: edited.status,
-            made: 0,
-            size: Octets(0),
-        };
-    }
-    let made = written_form(
-        edited.records,
-        &tags,
-        &kinds,
-        &depths,
-        &parents,
-        &starts,
-        &sizes,
-        &bodies,
-        &store,
-        lent,
-    );
-    let size = made.size;
-    Done {
-        status: GOOD,
-        made: edited.made,
-        size,
-    }
+    Ok((made, form.unwrap_or(&[])))
 }

@@ -1,15 +1,13 @@
 // Two objects merged (request 2026-10), a Basic and an Advanced one: the normal form of what they become is written to a file.
-ghost use Rattle.std.specs.Prelude.{◌≡◌, ℕ, ◌≤◌};
+ghost use Rattle.std.specs.Prelude.{◌≡◌, ℕ, ◌≤◌, length};
 ghost use Rattle.octets.specs.declared.counts.Octets.{Octets as OctetCount};
-ghost use Rattle.io.specs.Counts.{IsPrefixLen};
 ghost use Rattle.merge.specs.declared.MergeAnswer.TheVariants.{Merged};
 
-use crate::files::{argument, load_argument, save};
-use crate::lines::{say_both_refused, say_merged, say_refused};
-use crate::memory::{file_buffer, name_buffer, room, tree_numbers, tree_octets};
-use crate::status::{FAILED, GOOD};
+use crate::files::{argument, file_argument, load, save};
+use crate::lines::{both_refused, refused, say_merged};
+use crate::memory::{FILE, NAME, OBJECT, TREE_PLACES};
+use crate::status::Ended;
 use merge::{MergeAnswer, Services};
-use octets::Octets;
 
 // The argument that names Basic: one further where an option stands before it. Advanced and OUT are the next two.
 pub fn basic_argument(by: Services) -> usize
@@ -24,16 +22,16 @@ pub fn basic_argument(by: Services) -> usize
 // What two objects are merged into, in a lent room. There are places for all records of both, and the store of a normal form is no larger than it, so that
 // only a result above the limit of an object is refused for its size.
 fn merged_form(by: Services, basic: &[u8], advanced: &[u8], lent: &mut [u8]) -> MergeAnswer
-    ensures { (records : ℕ) (size : OctetCount) → result ≡ Merged records size → IsPrefixLen size.0 lent.new }
+    ensures { (records : ℕ) (size : OctetCount) → result ≡ Merged records size → size.0 ≤ length lent.new }
 {
-    let mut tags = tree_octets();
-    let mut kinds = tree_octets();
-    let mut depths = tree_octets();
-    let mut parents = tree_numbers();
-    let mut starts = tree_numbers();
-    let mut sizes = tree_numbers();
-    let mut bodies = tree_numbers();
-    let mut store = room();
+    let mut tags = [0u8; TREE_PLACES];
+    let mut kinds = [0u8; TREE_PLACES];
+    let mut depths = [0u8; TREE_PLACES];
+    let mut parents = [0u16; TREE_PLACES];
+    let mut starts = [0u16; TREE_PLACES];
+    let mut sizes = [0u16; TREE_PLACES];
+    let mut bodies = [0u16; TREE_PLACES];
+    let mut store = [0u8; OBJECT];
     merging::merge(
         by,
         basic,
@@ -59,22 +57,20 @@ fn save_merged(
     second: &[u8],
     advanced: &[u8],
     merged: &[u8],
-) -> u8 {
-    let mut out = name_buffer();
-    let name = argument(rt, i, &mut out);
-    if !save(rt, &out[..name], merged) {
-        return FAILED;
-    }
+) -> Ended {
+    let mut name = [0u8; NAME];
+    let out = argument(rt, i, &mut name);
+    save(rt, out, merged)?;
     say_merged(
         rt,
         first,
-        Octets(basic.len()),
+        basic.len(),
         second,
-        Octets(advanced.len()),
-        Octets(merged.len()),
-        &out[..name],
+        advanced.len(),
+        merged.len(),
+        out,
     );
-    GOOD
+    Ok(())
 }
 
 // Two objects of files that are named. The line of a refusal names the file that is refused, or both.
@@ -85,32 +81,13 @@ fn merge_both(
     basic: &[u8],
     second: &[u8],
     advanced: &[u8],
-) -> u8 {
-    let mut normal = room();
+) -> Ended {
+    let mut normal = [0u8; OBJECT];
     let answer = merged_form(by, basic, advanced, &mut normal);
     match answer {
-        MergeAnswer::BasicRefused(refusal) => say_refused(
-            rt,
-            first,
-            refusal.number,
-            refusal.place,
-            refusal.field,
-        ),
-        MergeAnswer::AdvancedRefused(refusal) => say_refused(
-            rt,
-            second,
-            refusal.number,
-            refusal.place,
-            refusal.field,
-        ),
-        MergeAnswer::NotMerged(refusal) => say_both_refused(
-            rt,
-            first,
-            second,
-            refusal.number,
-            refusal.place,
-            refusal.field,
-        ),
+        MergeAnswer::BasicRefused(refusal) => Err(refused(rt, first, refusal)),
+        MergeAnswer::AdvancedRefused(refusal) => Err(refused(rt, second, refusal)),
+        MergeAnswer::NotMerged(refusal) => Err(both_refused(rt, first, second, refusal)),
         MergeAnswer::Merged { records: _, size } => {
             let end = size.0;
             save_merged(
@@ -127,14 +104,10 @@ fn merge_both(
 }
 
 // A Basic object merged with that in the file that the next argument names.
-pub fn merge_with(rt: &HostRuntime, by: Services, first: &[u8], basic: &[u8]) -> u8 {
-    let mut path = name_buffer();
-    let mut advanced = file_buffer();
-    let got = load_argument(rt, basic_argument(by) + 1, &mut path, &mut advanced);
-    if !got.whole {
-        return FAILED;
-    }
-    let name = got.name.0;
-    let size = got.size.0;
-    merge_both(rt, by, first, basic, &path[..name], &advanced[..size])
+pub fn merge_with(rt: &HostRuntime, by: Services, first: &[u8], basic: &[u8]) -> Ended {
+    let mut name = [0u8; NAME];
+    let mut room = [0u8; FILE];
+    let second = file_argument(rt, basic_argument(by) + 1, &mut name)?;
+    let advanced = load(rt, second, &mut room)?;
+    merge_both(rt, by, first, basic, second, advanced)
 }

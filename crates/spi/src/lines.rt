@@ -1,11 +1,8 @@
 // What is said on standard output. The script that runs the program sees whether it got there.
-ghost use Rattle.io.specs.Counts.{IsPrefixLen};
-
-use crate::objects::Made;
-use crate::status::BAD;
-use format::Record;
-use octets::{Octets, Put};
-use survey::Measured;
+use crate::status::Stop;
+use format::{Counts, Record, Refusal};
+use octets::Put;
+use std::fmt::Display;
 
 // No line of a listing is longer, and no refusal in words.
 const LINE: usize = 128;
@@ -14,119 +11,90 @@ pub fn say(rt: &HostRuntime, text: &[u8]) {
     let _ = rt.write_all(text);
 }
 
-pub fn say_number(rt: &HostRuntime, n: usize) {
-    let _ = rt.print(n);
-}
-
-fn say_octets(rt: &HostRuntime, n: Octets) {
-    say_number(rt, n.0);
-    say(rt, b" octets");
-}
-
-// Where a text ended that was put into a line. `show` ends it within the line; to ask once more spares each caller a proof.
-pub fn end_of(put: Put, line: &[u8]) -> usize
-    ensures { IsPrefixLen result line.now }
-{
+// What was put at the start of a room; nothing where it had no room for it.
+pub fn put_in(room: &[u8], put: Put) -> &[u8] {
     match put {
-        Put::Done(end) => if end <= line.len() { end } else { 0 },
-        Put::NoRoom => 0,
-        Put::Invalid => 0,
+        Put::Done(end) => room.get(..end).unwrap_or(&[]),
+        Put::NoRoom => &[],
+        Put::Invalid => &[],
     }
 }
 
-pub fn say_header(rt: &HostRuntime) {
+// What `show` puts into a room for a line.
+fn say_put<F: FnOnce(&mut [u8]) -> Put>(rt: &HostRuntime, put: F)
+    requires { F.IsAlwaysCallable put }
+{
     let mut line = [0u8; LINE];
-    let end = end_of(show::put_header(&mut line, 0), &line);
-    say(rt, &line[..end]);
+    let done = put(&mut line);
+    say(rt, put_in(&line, done));
+}
+
+pub fn say_header(rt: &HostRuntime) {
+    say_put(rt, |line| show::put_header(line, 0));
 }
 
 pub fn say_record(rt: &HostRuntime, r: Record) {
-    let mut line = [0u8; LINE];
-    let end = end_of(show::put_record_line(&mut line, 0, r), &line);
-    say(rt, &line[..end]);
+    say_put(rt, |line| show::put_record_line(line, 0, r));
 }
 
 pub fn say_records(rt: &HostRuntime, n: usize) {
-    let mut line = [0u8; LINE];
-    let end = end_of(show::put_records(&mut line, 0, n), &line);
-    say(rt, &line[..end]);
-}
-
-fn say_words(rt: &HostRuntime, number: u8, field: u8) {
-    let mut line = [0u8; LINE];
-    let end = end_of(show::put_refusal_words(&mut line, 0, number, field), &line);
-    say(rt, &line[..end]);
-}
-
-// The line of a refused file, and the status.
-pub fn say_refused(rt: &HostRuntime, path: &[u8], number: u8, place: usize, field: u8) -> u8 {
-    say(rt, path);
-    say_refusal(rt, number, place, field);
-    BAD
-}
-
-// The line of two files that are refused together, and the status.
-pub fn say_both_refused(
-    rt: &HostRuntime,
-    first: &[u8],
-    second: &[u8],
-    number: u8,
-    place: usize,
-    field: u8,
-) -> u8 {
-    say(rt, first);
-    say(rt, b" and ");
-    say_refused(rt, second, number, place, field)
-}
-
-// Which edit of a file a line is about.
-pub fn say_edit(rt: &HostRuntime, path: &[u8], made: usize) {
-    say(rt, path);
-    say(rt, b": edit ");
-    say_number(rt, made);
+    say_put(rt, |line| show::put_records(line, 0, n));
 }
 
 // The rest of a line about a refusal. The field of a time that is wrong is told in words.
-pub fn say_refusal(rt: &HostRuntime, number: u8, place: usize, field: u8) {
-    say(rt, b": refused ");
-    say_number(rt, number as usize);
-    say(rt, b" at ");
-    say_number(rt, place);
-    say(rt, b": ");
-    say_words(rt, number, field);
+pub fn say_refusal(rt: &HostRuntime, refusal: Refusal) {
+    let number = refusal.number;
+    let _ = print!(rt; ": refused {number} at {}: ", refusal.place);
+    say_put(
+        rt,
+        |line| show::put_refusal_words(line, 0, number, refusal.field),
+    );
     say(rt, b"\n");
+}
+
+// The line of a refused file.
+pub fn refused(rt: &HostRuntime, path: &[u8], refusal: Refusal) -> Stop {
+    say(rt, path);
+    say_refusal(rt, refusal);
+    Stop::Bad
+}
+
+// The line of two files that are refused together.
+pub fn both_refused(rt: &HostRuntime, first: &[u8], second: &[u8], refusal: Refusal) -> Stop {
+    say(rt, first);
+    say(rt, b" and ");
+    refused(rt, second, refusal)
+}
+
+// The line of an edit that is refused.
+pub fn edit_refused(rt: &HostRuntime, path: &[u8], number: usize, refusal: Refusal) -> Stop {
+    say(rt, path);
+    let _ = print!(rt; ": edit {number}");
+    say_refusal(rt, refusal);
+    Stop::Bad
+}
+
+// How many octets a normal form has, up to the limit of an object.
+fn say_normal(rt: &HostRuntime, size: Option<usize>) {
+    let _ = match size {
+        Some(octets) => print!(rt; "{octets} octets\n"),
+        None => print!(rt; "above 32768 octets\n"),
+    };
 }
 
 pub fn say_accepted(
     rt: &HostRuntime,
     path: &[u8],
-    records: usize,
-    items: usize,
-    size: Octets,
-    sizes: Measured,
+    counts: Counts,
+    size: usize,
+    normal: Option<usize>,
 ) {
     say(rt, path);
-    say(rt, b": ok, ");
-    say_number(rt, records);
-    say(rt, b" records, ");
-    say_number(rt, items);
-    say(rt, b" items, ");
-    say_octets(rt, size);
-    say(rt, b", normal form ");
-    say_measured(rt, sizes);
-    say(rt, b"\n");
-}
-
-fn say_above(rt: &HostRuntime) {
-    say(rt, b"above 32768 octets");
-}
-
-// How many octets a normal form has that was measured and not made.
-fn say_measured(rt: &HostRuntime, sizes: Measured) {
-    match sizes {
-        Measured::Over => say_above(rt),
-        Measured::Sizes { store: _, octets } => say_octets(rt, octets),
-    }
+    let _ = print!(rt;
+        ": ok, {} records, {} items, {size} octets, normal form ",
+        counts.records, counts.items
+    );
+    say_normal(rt, normal);
 }
 
 pub fn say_passed(rt: &HostRuntime, path: &[u8]) {
@@ -134,37 +102,15 @@ pub fn say_passed(rt: &HostRuntime, path: &[u8]) {
     say(rt, b": yes\n");
 }
 
-// What is made of an edited object, in words.
-pub fn edited_words(made: usize, words: &mut [u8]) -> usize
-    ensures { IsPrefixLen result words.new }
-{
-    let number = end_of(show::put_bytes(words, 0, b"normal form after edit "), words);
-    end_of(show::put_decimal(words, number, made), words)
-}
-
-// What is made of a normal form that is packed, in words.
-pub fn packed_words(normal: Octets, words: &mut [u8]) -> usize
-    ensures { IsPrefixLen result words.new }
-{
-    let number = end_of(show::put_bytes(words, 0, b"normal form of "), words);
-    let behind = end_of(show::put_decimal(words, number, normal.0), words);
-    end_of(show::put_bytes(words, behind, b" octets, packed"), words)
-}
-
 // A file and its octets.
-fn say_file(rt: &HostRuntime, path: &[u8], size: Octets) {
+fn say_file(rt: &HostRuntime, path: &[u8], size: usize) {
     say(rt, path);
-    say(rt, b": ");
-    say_octets(rt, size);
+    let _ = print!(rt; ": {size} octets");
 }
 
 // What was made, in words, and where it was written.
-fn say_written(rt: &HostRuntime, made: &[u8], size: Octets, out: &[u8]) {
-    say(rt, b"; ");
-    say(rt, made);
-    say(rt, b": ");
-    say_octets(rt, size);
-    say(rt, b", written to ");
+fn say_written(rt: &HostRuntime, made: impl Display + Drop, size: usize, out: &[u8]) {
+    let _ = print!(rt; "; {made}: {size} octets, written to ");
     say(rt, out);
     say(rt, b"\n");
 }
@@ -173,9 +119,9 @@ fn say_written(rt: &HostRuntime, made: &[u8], size: Octets, out: &[u8]) {
 pub fn say_saved(
     rt: &HostRuntime,
     path: &[u8],
-    size: Octets,
-    made: &[u8],
-    made_size: Octets,
+    size: usize,
+    made: impl Display + Drop,
+    made_size: usize,
     out: &[u8],
 ) {
     say_file(rt, path, size);
@@ -186,32 +132,26 @@ pub fn say_saved(
 pub fn say_merged(
     rt: &HostRuntime,
     first: &[u8],
-    size: Octets,
+    size: usize,
     second: &[u8],
-    second_size: Octets,
-    made_size: Octets,
+    second_size: usize,
+    made_size: usize,
     out: &[u8],
 ) {
     say_file(rt, first, size);
     say(rt, b"; ");
     say_file(rt, second, second_size);
-    say_written(rt, b"normal form of both, merged", made_size, out);
+    say_written(rt, "normal form of both, merged", made_size, out);
 }
 
-// How many octets a normal form has. What is refused of an accepted object, to which all the memory is lent that it can need, has more than an object may have.
-fn say_normal(rt: &HostRuntime, made: Made) {
-    if made.number > 0 {
-        say_above(rt);
-        return;
-    }
-    say_octets(rt, made.size)
-}
-
-pub fn say_sizes(rt: &HostRuntime, path: &[u8], size: Octets, records: usize, made: Made) {
+pub fn say_sizes(
+    rt: &HostRuntime,
+    path: &[u8],
+    size: usize,
+    records: usize,
+    normal: Option<usize>,
+) {
     say_file(rt, path, size);
-    say(rt, b", ");
-    say_number(rt, records);
-    say(rt, b" records, normal form ");
-    say_normal(rt, made);
-    say(rt, b"\n");
+    let _ = print!(rt; ", {records} records, normal form ");
+    say_normal(rt, normal);
 }

@@ -10,7 +10,6 @@
 mod asking;
 mod comparing;
 mod editing;
-mod failing;
 mod files;
 mod joining;
 mod lines;
@@ -22,41 +21,25 @@ mod words;
 
 use crate::comparing::compare;
 use crate::editing::edited_form;
-use crate::failing::complain;
-use crate::files::{argument, argument_count, load_argument, load_input, save};
+use crate::files::{argument, argument_count, file_argument, load, load_input, save};
 use crate::joining::{basic_argument, merge_with};
-use crate::lines::{edited_words, packed_words, say, say_number, say_refused, say_saved};
-use crate::memory::{file_buffer, input_buffer, name_buffer, room, text_room};
+use crate::lines::{refused, say, say_saved};
+use crate::memory::{FILE, INPUT, NAME, OBJECT, TEXT, zeros};
 use crate::objects::{check, list, normal_form, outline, packed_form, pass, xml_text};
-use crate::status::{FAILED, GOOD, worse};
-use crate::words::{is_word, shared};
+use crate::status::{Ended, Stop, status_of};
 use merge::Services;
-use octets::Octets;
 use pocket::DataType;
+use std::fmt::Display;
+use streams::complain;
 
-// What is to be done with a file.
-#[derive(Clone, Copy)]
-enum Task {
-    Check,
-    Gate(DataType),
-    List,
-    Show,
-    Normal,
-    Pack,
-    Xml,
-    Edit,
-    Compare,
-    Merge(Services),
-}
-
-fn usage(rt: &HostRuntime, text: &[u8]) -> u8 {
+fn usage(rt: &HostRuntime, text: &[u8]) -> Ended {
     complain(rt, b"usage: spi ");
     complain(rt, text);
     complain(rt, b"\n");
-    FAILED
+    Err(Stop::Failed)
 }
 
-fn usage_of_all(rt: &HostRuntime) -> u8 {
+fn usage_of_all(rt: &HostRuntime) -> Ended {
     usage(
         rt,
         b"check | gate | list | show | normal | pack | xml | edit | compare | merge | replay | help",
@@ -113,7 +96,7 @@ fn help_merge(rt: &HostRuntime) {
     );
 }
 
-fn help(rt: &HostRuntime) -> u8 {
+fn help(rt: &HostRuntime) {
     say(
         rt,
         b"spi check FILE..        for each file: ok, its records, items, octets and those of its normal form, or why it is refused and where\n",
@@ -158,270 +141,211 @@ fn help(rt: &HostRuntime) -> u8 {
         rt,
         b"status: 0 ok or same, 1 refused or different, 2 no such command or file\n",
     );
-    GOOD
 }
 
-// What was made of an object to the file that the third argument names.
-fn save_made(rt: &HostRuntime, path: &[u8], object: &[u8], words: &[u8], made: &[u8]) -> u8 {
-    let mut out = name_buffer();
-    let name = argument(rt, 3, &mut out);
-    if !save(rt, &out[..name], made) {
-        return FAILED;
-    }
-    say_saved(
-        rt,
-        path,
-        Octets(object.len()),
-        words,
-        Octets(made.len()),
-        &out[..name],
-    );
-    GOOD
+// ---- objects that are made and saved
+
+// What was made of an object, in words, to the file that the third argument names.
+fn save_made(
+    rt: &HostRuntime,
+    path: &[u8],
+    object: &[u8],
+    words: impl Display + Drop,
+    made: &[u8],
+) -> Ended {
+    let mut name = [0u8; NAME];
+    let out = argument(rt, 3, &mut name);
+    save(rt, out, made)?;
+    say_saved(rt, path, object.len(), words, made.len(), out);
+    Ok(())
 }
 
-fn save_normal(rt: &HostRuntime, path: &[u8], object: &[u8]) -> u8 {
-    let mut normal = room();
-    let made = normal_form(object, &mut normal);
-    if made.number > 0 {
-        return say_refused(rt, path, made.number, made.place, made.field);
-    }
-    let size = made.size.0;
-    save_made(rt, path, object, b"normal form", &normal[..size])
+fn save_normal(rt: &HostRuntime, path: &[u8], object: &[u8]) -> Ended {
+    let mut room = [0u8; OBJECT];
+    let normal = normal_form(object, &mut room).map_err(|refusal| refused(rt, path, refusal))?;
+    save_made(rt, path, object, "normal form", normal)
 }
 
 // The normal form has the limit of an object, and a room as long suffices, so the packer refuses nothing here.
-fn save_packed(rt: &HostRuntime, path: &[u8], object: &[u8]) -> u8 {
-    let mut normal = room();
-    let made = normal_form(object, &mut normal);
-    if made.number > 0 {
-        return say_refused(rt, path, made.number, made.place, made.field);
-    }
-    let size = made.size.0;
-    let mut packed = room();
-    let folded = packed_form(&normal[..size], &mut packed);
-    if folded.number > 0 {
-        return say_refused(rt, path, folded.number, folded.place, folded.field);
-    }
-    let shorter = folded.size.0;
-    let mut words = name_buffer();
-    let end = packed_words(made.size, &mut words);
-    save_made(rt, path, object, &words[..end], &packed[..shorter])
+fn save_packed(rt: &HostRuntime, path: &[u8], object: &[u8]) -> Ended {
+    let mut room = [0u8; OBJECT];
+    let normal = normal_form(object, &mut room).map_err(|refusal| refused(rt, path, refusal))?;
+    let mut shorter = [0u8; OBJECT];
+    let packed = packed_form(normal, &mut shorter).map_err(|refusal| refused(rt, path, refusal))?;
+    let size = normal.len();
+    let words = format_args!("normal form of {size} octets, packed");
+    save_made(rt, path, object, words, packed)
 }
 
-fn save_xml(rt: &HostRuntime, path: &[u8], object: &[u8]) -> u8 {
-    let mut text = text_room();
-    let made = xml_text(object, &mut text);
-    if made.number > 0 {
-        return say_refused(rt, path, made.number, made.place, made.field);
-    }
-    let size = made.size.0;
-    save_made(rt, path, object, b"XML", &text[..size])
+fn save_xml(rt: &HostRuntime, path: &[u8], object: &[u8]) -> Ended {
+    let mut room = zeros::<TEXT>();
+    let text = xml_text(object, &mut room).map_err(|refusal| refused(rt, path, refusal))?;
+    save_made(rt, path, object, "XML", text)
 }
 
 // An object edited as standard input says.
-fn save_edited(rt: &HostRuntime, path: &[u8], object: &[u8]) -> u8 {
-    let mut input = input_buffer();
-    let got = load_input(rt, &mut input);
-    if !got.whole {
-        return FAILED;
-    }
-    let lines = got.size.0;
-    let mut normal = room();
-    let done = edited_form(rt, path, object, &input[..lines], &mut normal);
-    if done.status > GOOD {
-        return done.status;
-    }
-    let size = done.size.0;
-    let mut words = name_buffer();
-    let end = edited_words(done.made, &mut words);
-    save_made(rt, path, object, &words[..end], &normal[..size])
+fn save_edited(rt: &HostRuntime, path: &[u8], object: &[u8]) -> Ended {
+    let mut input = zeros::<INPUT>();
+    let lines = load_input(rt, &mut input)?;
+    let mut room = [0u8; OBJECT];
+    let (made, normal) = edited_form(rt, path, object, lines, &mut room)?;
+    let words = format_args!("normal form after edit {made}");
+    save_made(rt, path, object, words, normal)
 }
 
 // An object compared with that in the file that the third argument names.
-fn compare_with(rt: &HostRuntime, first: &[u8], a: &[u8]) -> u8 {
-    let mut path = name_buffer();
-    let mut object = file_buffer();
-    let got = load_argument(rt, 3, &mut path, &mut object);
-    if !got.whole {
-        return FAILED;
-    }
-    let name = got.name.0;
-    let size = got.size.0;
-    compare(rt, first, a, &path[..name], &object[..size])
+fn compare_with(rt: &HostRuntime, first: &[u8], a: &[u8]) -> Ended {
+    let mut name = [0u8; NAME];
+    let mut room = [0u8; FILE];
+    let second = file_argument(rt, 3, &mut name)?;
+    let b = load(rt, second, &mut room)?;
+    compare(rt, first, a, second, b)
 }
 
-fn treat(rt: &HostRuntime, task: Task, path: &[u8], object: &[u8]) -> u8 {
-    match task {
-        Task::Check => check(rt, path, object),
-        Task::Gate(subject) => pass(rt, path, object, subject),
-        Task::List => list(rt, path, object),
-        Task::Show => outline(rt, path, object),
-        Task::Normal => save_normal(rt, path, object),
-        Task::Pack => save_packed(rt, path, object),
-        Task::Xml => save_xml(rt, path, object),
-        Task::Edit => save_edited(rt, path, object),
-        Task::Compare => compare_with(rt, path, object),
-        Task::Merge(by) => merge_with(rt, by, path, object),
-    }
-}
+// ---- tasks: each is done with a file, by its name and its octets
 
 // A task on the file that an argument names.
-fn treat_argument(rt: &HostRuntime, task: Task, i: usize) -> u8 {
-    let mut path = name_buffer();
-    let mut object = file_buffer();
-    let got = load_argument(rt, i, &mut path, &mut object);
-    if !got.whole {
-        return FAILED;
-    }
-    let name = got.name.0;
-    let size = got.size.0;
-    treat(rt, task, &path[..name], &object[..size])
+fn treat_argument<F: Fn(&HostRuntime, &[u8], &[u8]) -> Ended>(
+    rt: &HostRuntime,
+    i: usize,
+    task: &F,
+) -> Ended
+    requires { F.IsAlwaysCallable task.now }
+{
+    let mut name = [0u8; NAME];
+    let mut room = [0u8; FILE];
+    let path = file_argument(rt, i, &mut name)?;
+    let object = load(rt, path, &mut room)?;
+    task(rt, path, object)
 }
 
-// A task on each file from an argument on.
-fn treat_all(rt: &HostRuntime, task: Task, from: usize, count: usize) -> u8 {
-    let mut status = GOOD;
-    let mut i = from;
-    while i < count {
-        status = worse(status, treat_argument(rt, task, i));
-        i = i + 1;
+// A task on each file from an argument on. It ends as the worst of these.
+fn treat_all<F: Fn(&HostRuntime, &[u8], &[u8]) -> Ended>(
+    rt: &HostRuntime,
+    from: usize,
+    count: usize,
+    task: &F,
+) -> Ended
+    requires { F.IsAlwaysCallable task.now }
+{
+    let mut worst = Ok(());
+    for i in from..count {
+        worst = worst.max(treat_argument(rt, i, task));
     }
-    status
+    worst
 }
 
-// The data type that a word names, or none.
-fn data_type(word: &[u8]) -> DataType {
-    if is_word(word, b"SI") {
-        return DataType::Service;
+// A task on a command's first file, where the command has all its words.
+fn treat_first<F: Fn(&HostRuntime, &[u8], &[u8]) -> Ended>(
+    rt: &HostRuntime,
+    whole: bool,
+    words: &[u8],
+    task: &F,
+) -> Ended
+    requires { F.IsAlwaysCallable task.now }
+{
+    if !whole {
+        return usage(rt, words);
     }
-    if is_word(word, b"PI") {
-        return DataType::Programme;
-    }
-    if is_word(word, b"GI") {
-        return DataType::Group;
-    }
-    DataType::Untabled
+    treat_argument(rt, 2, task)
 }
 
-fn usage_of_gate(rt: &HostRuntime) -> u8 {
-    usage(rt, b"gate SI|PI|GI FILE..")
+// The data type that a word names.
+fn data_type(word: &[u8]) -> Option<DataType> {
+    match word {
+        b"SI" => Some(DataType::Service),
+        b"PI" => Some(DataType::Programme),
+        b"GI" => Some(DataType::Group),
+        _ => None,
+    }
 }
 
-fn gate_all(rt: &HostRuntime, count: usize) -> u8 {
-    if count < 4 {
-        return usage_of_gate(rt);
-    }
-    let mut word = name_buffer();
-    let n = argument(rt, 2, &mut word);
-    let subject = data_type(&word[..n]);
-    match subject {
-        DataType::Untabled => usage_of_gate(rt),
-        _ => treat_all(rt, Task::Gate(subject), 3, count),
+fn gate_all(rt: &HostRuntime, count: usize) -> Ended {
+    let mut word = [0u8; NAME];
+    match data_type(argument(rt, 2, &mut word)) {
+        Some(subject) if count > 3 => treat_all(
+            rt,
+            3,
+            count,
+            &|rt, path, object| { pass(rt, path, object, subject) },
+        ),
+        _ => usage(rt, b"gate SI|PI|GI FILE.."),
     }
 }
 
 // By what services are told apart, as the word before the files says.
 fn services_asked(rt: &HostRuntime) -> Services {
-    let mut word = name_buffer();
-    let n = argument(rt, 2, &mut word);
-    if is_word(&word[..n], b"--services-by-bearers") {
-        return Services::ByBearers;
+    let mut word = [0u8; NAME];
+    match argument(rt, 2, &mut word) {
+        b"--services-by-bearers" => Services::ByBearers,
+        _ => Services::ByTag,
     }
-    Services::ByTag
 }
 
 // A word with two dashes is an option, so that one that isn't known, or stands behind the files, doesn't pass as the name of a file.
 fn is_option(rt: &HostRuntime, i: usize) -> bool {
-    let mut word = name_buffer();
-    let n = argument(rt, i, &mut word);
-    shared(&word[..n], b"--") == 2
+    let mut word = [0u8; NAME];
+    argument(rt, i, &mut word).starts_with(b"--")
 }
 
-fn merge_files(rt: &HostRuntime, count: usize) -> u8 {
+fn merge_files(rt: &HostRuntime, count: usize) -> Ended {
     let by = services_asked(rt);
     let first = basic_argument(by);
-    let strange = is_option(rt, first) | is_option(rt, first + 1) | is_option(rt, first + 2);
-    if strange | (count != first + 3) {
+    if count != first + 3 || (first..count).any(|i| is_option(rt, i)) {
         return usage(rt, b"merge [--services-by-bearers] BASIC ADVANCED OUT");
     }
-    treat_argument(rt, Task::Merge(by), first)
+    treat_argument(
+        rt,
+        first,
+        &|rt, path, object| { merge_with(rt, by, path, object) },
+    )
 }
 
-fn no_such_command(rt: &HostRuntime, command: &[u8]) -> u8 {
+fn no_such_command(rt: &HostRuntime, command: &[u8]) -> Ended {
     complain(rt, b"spi: no such command: ");
     complain(rt, command);
     complain(rt, b"\n");
     usage_of_all(rt)
 }
 
-// A task on a command's first file, where the command has all its words.
-fn treat_first(rt: &HostRuntime, task: Task, whole: bool, words: &[u8]) -> u8 {
-    if !whole {
-        return usage(rt, words);
-    }
-    treat_argument(rt, task, 2)
-}
-
 // `count` counts the program's name and the command too.
-fn obey(rt: &HostRuntime, command: &[u8], count: usize) -> u8 {
-    if is_word(command, b"check") {
-        return if count > 2 {
-            treat_all(rt, Task::Check, 2, count)
-        } else {
-            usage(rt, b"check FILE..")
-        };
-    }
-    if is_word(command, b"gate") {
-        return gate_all(rt, count);
-    }
-    if is_word(command, b"list") {
-        return treat_first(rt, Task::List, count == 3, b"list FILE");
-    }
-    if is_word(command, b"show") {
-        return treat_first(rt, Task::Show, count == 3, b"show FILE");
-    }
-    if is_word(command, b"normal") {
-        return treat_first(rt, Task::Normal, count == 4, b"normal FILE OUT");
-    }
-    if is_word(command, b"pack") {
-        return treat_first(rt, Task::Pack, count == 4, b"pack FILE OUT");
-    }
-    if is_word(command, b"xml") {
-        return treat_first(rt, Task::Xml, count == 4, b"xml FILE OUT");
-    }
-    if is_word(command, b"edit") {
-        return treat_first(rt, Task::Edit, count == 4, b"edit FILE OUT [EDIT]");
-    }
-    if is_word(command, b"compare") {
-        return treat_first(
+fn obey(rt: &HostRuntime, command: &[u8], count: usize) -> Ended {
+    match command {
+        b"check" if count > 2 => treat_all(rt, 2, count, &check),
+        b"check" => usage(rt, b"check FILE.."),
+        b"gate" => gate_all(rt, count),
+        b"list" => treat_first(rt, count == 3, b"list FILE", &list),
+        b"show" => treat_first(rt, count == 3, b"show FILE", &outline),
+        b"normal" => treat_first(rt, count == 4, b"normal FILE OUT", &save_normal),
+        b"pack" => treat_first(rt, count == 4, b"pack FILE OUT", &save_packed),
+        b"xml" => treat_first(rt, count == 4, b"xml FILE OUT", &save_xml),
+        b"edit" => treat_first(rt, count == 4, b"edit FILE OUT [EDIT]", &save_edited),
+        b"compare" => treat_first(
             rt,
-            Task::Compare,
             count == 4,
             b"compare FILE FILE, or DIR DIR",
-        );
+            &compare_with,
+        ),
+        b"merge" => merge_files(rt, count),
+        b"help" => {
+            help(rt);
+            Ok(())
+        }
+        _ => no_such_command(rt, command),
     }
-    if is_word(command, b"merge") {
-        return merge_files(rt, count);
-    }
-    if is_word(command, b"help") {
-        return help(rt);
-    }
-    no_such_command(rt, command)
 }
 
-fn run(rt: &HostRuntime) -> u8 {
+fn run(rt: &HostRuntime) -> Ended {
     let count = argument_count(rt);
     if count < 2 {
         return usage_of_all(rt);
     }
-    let mut command = name_buffer();
-    let n = argument(rt, 1, &mut command);
-    obey(rt, &command[..n], count)
+    let mut word = [0u8; NAME];
+    let command = argument(rt, 1, &mut word);
+    obey(rt, command, count)
 }
 
 fn main(rt: HostRuntime) {
-    let status = run(&rt);
-    say(&rt, b"spi status ");
-    say_number(&rt, status as usize);
-    say(&rt, b"\n");
+    let status = status_of(run(&rt));
+    let _ = print!(rt; "spi status {status}\n");
 }

@@ -1,90 +1,58 @@
 // What the library says of one object.
-ghost use Rattle.std.specs.Prelude.{◌≡◌};
+ghost use Rattle.std.specs.Prelude.{◌≤◌, length};
 ghost use Rattle.format.specs.Answers.{write_outcome};
-ghost use Rattle.io.specs.Counts.{IsPrefixLen};
 
-use crate::lines::{say_accepted, say_header, say_passed, say_record, say_records, say_refused};
-use crate::memory::{number_places, octet_places, room};
-use crate::status::GOOD;
+use crate::lines::{refused, say_accepted, say_header, say_passed, say_record, say_records};
+use crate::memory::{OBJECT, PLACES};
+use crate::status::{Ended, Stop};
 use crate::tree::show_tree;
-use format::{WriteAnswer, record_at};
-use octets::Octets;
-use pocket::DataType;
+use format::{Counts, ReadAnswer, Refusal, WriteAnswer, record_at};
+use pocket::{DataType, GateAnswer};
 use survey::{Measured, Needed};
 
-// A normal form or an XML in a lent room: how many octets it has. Where there is none, the number, the place and the field of the refusal, and no octets.
-#[derive(Clone, Copy)]
-pub struct Made {
-    pub number: u8,
-    pub place: usize,
-    pub field: u8,
-    pub size: Octets,
+// What the judgement counts of an object that it accepts.
+pub fn judged(rt: &HostRuntime, path: &[u8], object: &[u8]) -> Result<Counts, Stop> {
+    match judge::judge(object) {
+        ReadAnswer::Records(counts) => Ok(counts),
+        ReadAnswer::NotRead(refusal) => Err(refused(rt, path, refusal)),
+    }
 }
 
-// The octets of an accepted object in a store and in normal form. What is refused has none that could be told.
-fn sizes_of(object: &[u8]) -> Measured {
+// How many octets the normal form of an accepted object has, up to the limit of an object.
+fn normal_size(object: &[u8]) -> Option<usize> {
     match survey::needs_of(object) {
-        Needed::Refused(_) => Measured::Over,
-        Needed::Takes { records: _, sizes } => sizes,
+        Needed::Takes {
+            records: _,
+            sizes: Measured::Sizes { store: _, octets },
+        } => Some(octets.0),
+        _ => None,
     }
 }
 
-pub fn check(rt: &HostRuntime, path: &[u8], object: &[u8]) -> u8 {
-    let judged = judge::judge(object).outcome();
-    if judged.number > 0 {
-        return say_refused(rt, path, judged.number, judged.place, judged.field);
-    }
-    let sizes = sizes_of(object);
-    say_accepted(
-        rt,
-        path,
-        judged.count,
-        judged.items,
-        Octets(object.len()),
-        sizes,
-    );
-    GOOD
+pub fn check(rt: &HostRuntime, path: &[u8], object: &[u8]) -> Ended {
+    let counts = judged(rt, path, object)?;
+    say_accepted(rt, path, counts, object.len(), normal_size(object));
+    Ok(())
 }
 
 // Whether an object may be sent to the small receiver.
-pub fn pass(rt: &HostRuntime, path: &[u8], object: &[u8], subject: DataType) -> u8 {
-    let gated = pocket::gate(object, subject).outcome();
-    if gated.number > 0 {
-        return say_refused(rt, path, gated.number, gated.place, gated.field);
+pub fn pass(rt: &HostRuntime, path: &[u8], object: &[u8], subject: DataType) -> Ended {
+    match pocket::gate(object, subject) {
+        GateAnswer::Yes => {
+            say_passed(rt, path);
+            Ok(())
+        }
+        GateAnswer::No(refusal) => Err(refused(rt, path, refusal)),
     }
-    say_passed(rt, path);
-    GOOD
 }
 
-fn say_listing(
-    rt: &HostRuntime,
-    tags: &[u8],
-    kinds: &[u8],
-    depths: &[u8],
-    parents: &[u16],
-    starts: &[u16],
-    sizes: &[u16],
-    n: usize,
-) {
-    say_header(rt);
-    let mut i: usize = 0;
-    while i < n {
-        say_record(
-            rt,
-            record_at(tags, kinds, depths, parents, starts, sizes, i),
-        );
-        i = i + 1;
-    }
-    say_records(rt, n);
-}
-
-pub fn list(rt: &HostRuntime, path: &[u8], object: &[u8]) -> u8 {
-    let mut tags = octet_places();
-    let mut kinds = octet_places();
-    let mut depths = octet_places();
-    let mut parents = number_places();
-    let mut starts = number_places();
-    let mut sizes = number_places();
+pub fn list(rt: &HostRuntime, path: &[u8], object: &[u8]) -> Ended {
+    let mut tags = [0u8; PLACES];
+    let mut kinds = [0u8; PLACES];
+    let mut depths = [0u8; PLACES];
+    let mut parents = [0u16; PLACES];
+    let mut starts = [0u16; PLACES];
+    let mut sizes = [0u16; PLACES];
     let answer = reader::read(
         object,
         &mut tags,
@@ -94,56 +62,47 @@ pub fn list(rt: &HostRuntime, path: &[u8], object: &[u8]) -> u8 {
         &mut starts,
         &mut sizes,
     );
-    let read = answer.outcome();
-    if read.number > 0 {
-        return say_refused(rt, path, read.number, read.place, read.field);
+    let count = match answer {
+        ReadAnswer::Records(counts) => counts.records,
+        ReadAnswer::NotRead(refusal) => return Err(refused(rt, path, refusal)),
+    };
+    say_header(rt);
+    for i in 0..count {
+        say_record(
+            rt,
+            record_at(&tags, &kinds, &depths, &parents, &starts, &sizes, i),
+        );
     }
-    say_listing(
-        rt, &tags, &kinds, &depths, &parents, &starts, &sizes, read.count,
-    );
-    GOOD
+    say_records(rt, count);
+    Ok(())
 }
 
-pub fn outline(rt: &HostRuntime, path: &[u8], object: &[u8]) -> u8 {
-    let judged = judge::judge(object).outcome();
-    if judged.number > 0 {
-        return say_refused(rt, path, judged.number, judged.place, judged.field);
-    }
+pub fn outline(rt: &HostRuntime, path: &[u8], object: &[u8]) -> Ended {
+    judged(rt, path, object)?;
     show_tree(rt, object);
-    GOOD
+    Ok(())
 }
 
-pub fn as_made(answer: WriteAnswer) -> Made
-    ensures { result.size.0 ≡ (write_outcome answer).count }
+// What was written to a lent room.
+pub fn written(answer: WriteAnswer, lent: &[u8]) -> Result<&[u8], Refusal>
+    requires { (write_outcome answer).count ≤ length lent.now }
 {
     match answer {
-        WriteAnswer::Octets(size) => Made {
-            number: 0,
-            place: 0,
-            field: 0,
-            size,
-        },
-        WriteAnswer::NotWritten(refusal) => Made {
-            number: refusal.number,
-            place: refusal.place,
-            field: refusal.field,
-            size: Octets(0),
-        },
+        WriteAnswer::Octets(size) => Ok(&lent[..size.0]),
+        WriteAnswer::NotWritten(refusal) => Err(refusal),
     }
 }
 
 // The normal form of an object in a lent room.
-pub fn normal_form(object: &[u8], lent: &mut [u8]) -> Made
-    ensures { IsPrefixLen result.size.0 lent.new }
-{
-    let mut tags = octet_places();
-    let mut kinds = octet_places();
-    let mut depths = octet_places();
-    let mut parents = number_places();
-    let mut starts = number_places();
-    let mut sizes = number_places();
-    let mut bodies = number_places();
-    let mut store = room();
+pub fn normal_form<'a>(object: &[u8], lent: &'a mut [u8]) -> Result<&'a [u8], Refusal> {
+    let mut tags = [0u8; PLACES];
+    let mut kinds = [0u8; PLACES];
+    let mut depths = [0u8; PLACES];
+    let mut parents = [0u16; PLACES];
+    let mut starts = [0u16; PLACES];
+    let mut sizes = [0u16; PLACES];
+    let mut bodies = [0u16; PLACES];
+    let mut store = [0u8; OBJECT];
     let answer = writer::normalise(
         object,
         &mut tags,
@@ -156,19 +115,17 @@ pub fn normal_form(object: &[u8], lent: &mut [u8]) -> Made
         &mut store,
         lent,
     );
-    as_made(answer)
+    written(answer, lent)
 }
 
-// The XML of an object in a lent room, likewise.
-pub fn xml_text(object: &[u8], lent: &mut [u8]) -> Made
-    ensures { IsPrefixLen result.size.0 lent.new }
-{
-    as_made(xml::export(object, lent))
+// The XML of an object in a lent room.
+pub fn xml_text<'a>(object: &[u8], lent: &'a mut [u8]) -> Result<&'a [u8], Refusal> {
+    let answer = xml::export(object, lent);
+    written(answer, lent)
 }
 
-// The packed object of a normal form in a lent room, likewise.
-pub fn packed_form(normal: &[u8], lent: &mut [u8]) -> Made
-    ensures { IsPrefixLen result.size.0 lent.new }
-{
-    as_made(packer::pack(normal, lent))
+// The packed object of a normal form in a lent room.
+pub fn packed_form<'a>(normal: &[u8], lent: &'a mut [u8]) -> Result<&'a [u8], Refusal> {
+    let answer = packer::pack(normal, lent);
+    written(answer, lent)
 }

@@ -1,14 +1,21 @@
-// How a command ends; the worse is the larger.
+// How a command ends.
 
-// Accepted, or the same.
-pub const GOOD: u8 = 0;
+// Why it doesn't end well; the worse is the greater. What there is to say of it has been said.
+#[derive(Clone, Copy, PartialEq, Eq, PartialOrd, Ord)]
+pub enum Stop {
+    // Refused, or different.
+    Bad,
+    // No such command, or a file that can't be read or written.
+    Failed,
+}
 
-// Refused, or different.
-pub const BAD: u8 = 1;
+// It ends well where what it is asked about is accepted, or the same.
+pub type Ended = Result<(), Stop>;
 
-// No such command, or a file that can't be read or written.
-pub const FAILED: u8 = 2;
-
-pub fn worse(a: u8, b: u8) -> u8 {
-    if a < b { b } else { a }
+pub fn status_of(ended: Ended) -> u8 {
+    match ended {
+        Ok(()) => 0,
+        Err(Stop::Bad) => 1,
+        Err(Stop::Failed) => 2,
+    }
 }

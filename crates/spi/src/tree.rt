@@ -2,72 +2,29 @@
 // hexadecimal.
 //
 // A value is put in pieces, since a text may be longer than any memory that is lent: each octet of it stands for itself or for the text of its token.
-ghost use Rattle.std.specs.Prelude.{◌+◌, ◌≤◌, ◌<◌, ◌^◌, length};
+ghost use Rattle.std.specs.Prelude.{◌+◌, ◌<◌, ◌^◌, length};
 
-use crate::lines::{end_of, say, say_number};
-use crate::memory::room;
+use crate::lines::{put_in, say};
+use crate::memory::OBJECT;
 use octets::{Lies, item_at};
 use survey::table_of;
 use tags::{Listed, listed_as};
 use values::Kind;
 
-// The longest beginning of a line: a place, the blanks of 16 levels, and a name of 18 octets.
-const LINE: usize = 64;
+// No name is longer.
+const NAME: usize = 18;
 
 // So many octets of a body are put at once. Each stands for at most 255, and each of these takes at most six, so a room of 24,480 octets suffices. No time,
 // bearer or number has as many, so these are put whole.
 const PIECE: usize = 16;
 
-// What a line shows of an item.
-#[derive(Clone, Copy)]
-enum Form {
-    Nothing,
-    Name,
-    Octets,
-    Value,
-}
-
-// The token table and items that aren't known have no line, as they have no record.
-fn form_of(parent: u8, tag: u8) -> Form {
-    match listed_as(parent, tag) {
-        Listed::Nothing => Form::Nothing,
-        Listed::Inside => Form::Name,
-        Listed::Value(kind) => match kind {
-            Kind::HoldsPlain => Form::Octets,
-            _ => Form::Value,
-        },
-    }
-}
-
-// ---- the beginning of a line
-
-// Where a place begins that ends with the fifth column; no object has a place of more digits.
-fn column_of(place: usize) -> usize {
-    if place < 10 {
-        return 4;
-    }
-    if place < 100 {
-        return 3;
-    }
-    if place < 1_000 {
-        return 2;
-    }
-    if place < 10_000 { 1 } else { 0 }
-}
-
-// Where a name begins: behind the place and a blank, two columns further for each level. So many levels may still open.
-fn margin_of(left: usize) -> usize {
-    if left < 16 { 6 + 2 * (16 - left) } else { 6 }
-}
-
+// The beginning of a line: the place in five columns, a blank, two columns for each level, and the name. So many levels may still open.
 fn say_name(rt: &HostRuntime, parent: u8, tag: u8, left: usize, place: usize) {
-    let mut line = [b' '; LINE];
-    show::put_decimal(&mut line, column_of(place), place);
-    let end = end_of(
-        xml::put_item_name(&mut line, margin_of(left), parent, tag),
-        &line,
-    );
-    say(rt, &line[..end]);
+    let margin = 2 * 16usize.saturating_sub(left);
+    let _ = print!(rt; "{place:5} {:margin$}", "");
+    let mut name = [0u8; NAME];
+    let put = xml::put_item_name(&mut name, 0, parent, tag);
+    say(rt, put_in(&name, put));
 }
 
 // What stands between a name and a value: behind that of an attribute what XML has there, behind that of an element a blank. CDATA has no name.
@@ -75,88 +32,51 @@ fn say_mark(rt: &HostRuntime, tag: u8) {
     match format::kind_of(tag) {
         0 => say(rt, b" "),
         1 => say(rt, b"="),
-        _ => say(rt, b""),
+        _ => {}
     }
 }
 
 // ---- values
 
-// Of the ASCII characters that a text may have, tab, line feed, carriage return and 0x7F aren't printed.
-fn is_control(b: u8) -> bool {
-    if b < 0x20 { true } else { b == 0x7F }
-}
-
-// XML's reference to a character that could break the line.
-fn say_reference(rt: &HostRuntime, b: u8) {
-    say(rt, b"&#");
-    say_number(rt, b as usize);
-    say(rt, b";");
-}
-
-// How far characters go that are printed, from a place on.
-fn printed_end(text: &[u8], at: usize) -> usize
-    requires { at ≤ length text.now }
-    ensures { (at ≤ result) × (result ≤ length text.now) }
-{
-    let mut end = at;
-    while end < text.len() {
-        if is_control(text[end]) {
-            return end;
-        }
-        end = end + 1;
-    }
-    end
-}
-
+// Characters that could break the line, which aren't printed, stand as XML's references to them.
 fn say_printed(rt: &HostRuntime, text: &[u8]) {
-    let mut at: usize = 0;
-    while at < text.len() {
-        let end = printed_end(text, at);
-        say(rt, &text[at..end]);
-        if end == text.len() {
-            return;
+    for part in text.split_inclusive(|octet| octet.is_ascii_control()) {
+        match part {
+            [printed @ .., last] if last.is_ascii_control() => {
+                say(rt, printed);
+                let _ = print!(rt; "&#{last};");
+            }
+            _ => say(rt, part),
         }
-        say_reference(rt, text[end]);
-        at = end + 1;
     }
 }
 
 fn say_piece(rt: &HostRuntime, parent: u8, tag: u8, piece: &[u8], table: &[u8]) {
-    let mut text = room();
-    let end = end_of(
-        xml::put_item_value(&mut text, 0, parent, tag, piece, table),
-        &text,
-    );
-    say_printed(rt, &text[..end]);
-}
-
-fn piece_end(at: usize, end: usize) -> usize
-    requires { at < end }
-    ensures { (at < result) × (result ≤ end) }
-{
-    if end - at > PIECE { at + PIECE } else { end }
-}
-
-fn say_pieces(rt: &HostRuntime, parent: u8, tag: u8, body: &[u8], table: &[u8]) {
-    let mut at: usize = 0;
-    while at < body.len() {
-        let to = piece_end(at, body.len());
-        say_piece(rt, parent, tag, &body[at..to], table);
-        at = to;
-    }
+    let mut text = [0u8; OBJECT];
+    let put = xml::put_item_value(&mut text, 0, parent, tag, piece, table);
+    say_printed(rt, put_in(&text, put));
 }
 
 fn say_value(rt: &HostRuntime, parent: u8, tag: u8, body: &[u8], table: &[u8], quote: &[u8]) {
     say_mark(rt, tag);
     say(rt, quote);
-    say_pieces(rt, parent, tag, body, table);
+    for piece in body.chunks(PIECE) {
+        say_piece(rt, parent, tag, piece, table);
+    }
     say(rt, quote);
-    say(rt, b"\n");
+}
+
+fn quote_of(kind: Kind) -> &'static [u8] {
+    match kind {
+        Kind::HoldsPlain => b"",
+        _ => b"\"",
+    }
 }
 
 // ---- items
 
-// The line of an item, if it has one, and whether the items in it have lines too. So many levels of elements may still open.
+// The line of an item, if it has one, and whether the items in it have lines too. So many levels of elements may still open. The token table and items that
+// aren't known have no line, as they have no record.
 fn say_item(
     rt: &HostRuntime,
     parent: u8,
@@ -166,24 +86,16 @@ fn say_item(
     table: &[u8],
     place: usize,
 ) -> bool {
-    match form_of(parent, tag) {
-        Form::Nothing => false,
-        Form::Name => {
-            say_name(rt, parent, tag, left, place);
-            say(rt, b"\n");
-            true
-        }
-        Form::Octets => {
-            say_name(rt, parent, tag, left, place);
-            say_value(rt, parent, tag, body, table, b"");
-            false
-        }
-        Form::Value => {
-            say_name(rt, parent, tag, left, place);
-            say_value(rt, parent, tag, body, table, b"\"");
-            false
-        }
+    let listed = listed_as(parent, tag);
+    if let Listed::Nothing = listed {
+        return false;
     }
+    say_name(rt, parent, tag, left, place);
+    if let Listed::Value(kind) = listed {
+        say_value(rt, parent, tag, body, table, quote_of(kind));
+    }
+    say(rt, b"\n");
+    matches!(listed, Listed::Inside)
 }
 
 // One item in an element of a tag: its tag lies at a place of the object and its body from an offset on. No element opens below depth 16 in an accepted object.

@@ -6,22 +6,11 @@ ghost use Rattle.spi.specs.Common.{common};
 pub fn shared(a: &[u8], b: &[u8]) -> usize
     ensures { result ≡ common a.now b.now }
 {
-    let mut i: usize = 0;
-    while i < a.len() {
-        if i >= b.len() {
-            return i;
-        }
+    let least = a.len().min(b.len());
+    for i in 0..least {
         if a[i] != b[i] {
             return i;
         }
-        i = i + 1;
     }
-    i
-}
-
-pub fn is_word(s: &[u8], word: &[u8]) -> bool {
-    if s.len() != word.len() {
-        return false;
-    }
-    shared(s, word) == s.len()
+    least
 }

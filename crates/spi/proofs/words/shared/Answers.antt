@@ -2,9 +2,6 @@ use Rattle.std.proofs.Common.{rules}
 use Rattle.spi.proofs.Ways.{shared-ways}
 use Rattle.spi.proofs.words.shared.Goals as goal
 
-pub returns-then-i-b : goal.returns-then-i-b
-returns-then-i-b c = search (shared-ways, rules)
-
 pub returns-then-a-i : goal.returns-then-a-i
 returns-then-a-i c = search (shared-ways, rules)
 
