@@ -6,6 +6,7 @@
 #![tactic(auto)]
 
 use std::fmt::{Display, Formatter};
+use std::io::{Cursor, Write};
 use std::{fmt, io};
 use streams::{put_in, read_full};
 use values::{Bearer, Ensemble, Kind, NumberKind, Time};
@@ -13,8 +14,31 @@ use values::{Bearer, Ensemble, Kind, NumberKind, Time};
 // More than all questions together have.
 const INPUT: usize = 131_072;
 
+// So much is written at once.
+const OUTPUT: usize = 65_536;
+
+// No line is longer.
+const LINE: usize = 128;
+
 // No normal form of a time or a bearer has more octets.
 const OCTETS: usize = 8;
+
+// ---- the lines, put into a room that is written out where it has no place for another: each `print!` would be a write of its own
+
+type Lines = Cursor<[u8; OUTPUT]>;
+
+// What standard output doesn't take is lost, and nothing is said of that.
+fn write_out(rt: &HostRuntime, out: &mut Lines) {
+    let used = (out.position() as usize).min(OUTPUT);
+    let _ = rt.write_all(&out.get_ref()[..used]);
+    out.set_position(0);
+}
+
+fn make_room(rt: &HostRuntime, out: &mut Lines) {
+    if OUTPUT.saturating_sub(out.position() as usize) < LINE {
+        write_out(rt, out);
+    }
+}
 
 // ---- octets in hexadecimal
 
@@ -53,8 +77,8 @@ fn known_kind(s: &[u8]) -> Option<Kind> {
     values::known_kind(*element, *tag)
 }
 
-fn answer_kind(rt: &HostRuntime, s: &[u8]) -> io::Result<()> {
-    print!(rt; "kind {}", known_kind(s).map_or("unknown", kind_word))
+fn answer_kind(out: &mut Lines, s: &[u8]) -> io::Result<()> {
+    write!(out, "kind {}", known_kind(s).map_or("unknown", kind_word))
 }
 
 // ---- D and U
@@ -64,30 +88,31 @@ fn yes_or_no(yes: bool) -> &'static str {
 }
 
 // Whether the octets behind an element and a tag are the default of that attribute.
-fn answer_default(rt: &HostRuntime, s: &[u8]) -> io::Result<()> {
+fn answer_default(out: &mut Lines, s: &[u8]) -> io::Result<()> {
     let is_default = match s {
         [element, tag, body @ ..] => values::is_default(*element, *tag, body),
         _ => false,
     };
-    print!(rt; "default {}", yes_or_no(is_default))
+    write!(out, "default {}", yes_or_no(is_default))
 }
 
 // The first octet says whether token octets may stand in the text.
-fn answer_text(rt: &HostRuntime, s: &[u8]) -> io::Result<()> {
+fn answer_text(out: &mut Lines, s: &[u8]) -> io::Result<()> {
     let is_text = match s {
         [tokens, text @ ..] => text::check(text, *tokens != 0),
         [] => false,
     };
-    print!(rt; "text {}", yes_or_no(is_text))
+    write!(out, "text {}", yes_or_no(is_text))
 }
 
 // ---- T and O
 
-fn say_time(rt: &HostRuntime, time: Time) -> io::Result<()> {
+fn say_time(out: &mut Lines, time: Time) -> io::Result<()> {
     let sense = if time.minus { "minus" } else { "plus" };
     let mut room = [0u8; OCTETS];
     let put = time.canonical().put(&mut room, 0);
-    print!(rt;
+    write!(
+        out,
         "time {} {} {} {} {sense} {} normal {}",
         time.day,
         time.hour,
@@ -99,95 +124,99 @@ fn say_time(rt: &HostRuntime, time: Time) -> io::Result<()> {
 }
 
 // Of octets that are no time, the field that is wrong, by its number.
-fn answer_time(rt: &HostRuntime, s: &[u8]) -> io::Result<()> {
+fn answer_time(out: &mut Lines, s: &[u8]) -> io::Result<()> {
     match Time::take(s) {
-        Ok(time) => say_time(rt, time),
-        Err(error) => print!(rt; "time bad {}", u8::from(error)),
+        Ok(time) => say_time(out, time),
+        Err(error) => write!(out, "time bad {}", u8::from(error)),
     }
 }
 
-fn say_local(rt: &HostRuntime, time: Time) -> io::Result<()> {
+fn say_local(out: &mut Lines, time: Time) -> io::Result<()> {
     let local = time.local();
-    print!(rt;
+    write!(
+        out,
         "local {} {} {} {}",
         local.day, local.hour, local.minute, local.second
     )
 }
 
-fn answer_local(rt: &HostRuntime, s: &[u8]) -> io::Result<()> {
+fn answer_local(out: &mut Lines, s: &[u8]) -> io::Result<()> {
     match Time::take(s) {
-        Ok(time) => say_local(rt, time),
-        Err(_) => print!(rt; "local none"),
+        Ok(time) => say_local(out, time),
+        Err(_) => write!(out, "local none"),
     }
 }
 
 // ---- B
 
-fn say_ensemble(rt: &HostRuntime, ensemble: Option<Ensemble>) -> io::Result<()> {
+fn say_ensemble(out: &mut Lines, ensemble: Option<Ensemble>) -> io::Result<()> {
     match ensemble {
         None => Ok(()),
-        Some(ensemble) => print!(rt; " {:02x} {:04x}", ensemble.ecc, ensemble.eid),
+        Some(ensemble) => write!(out, " {:02x} {:04x}", ensemble.ecc, ensemble.eid),
     }
 }
 
-fn say_sid(rt: &HostRuntime, long: bool, sid: u32) -> io::Result<()> {
+fn say_sid(out: &mut Lines, long: bool, sid: u32) -> io::Result<()> {
     if long {
-        return print!(rt; " sid {sid:08x}");
+        return write!(out, " sid {sid:08x}");
     }
-    print!(rt; " sid {sid:04x}")
+    write!(out, " sid {sid:04x}")
 }
 
-fn say_bearer(rt: &HostRuntime, bearer: Bearer) -> io::Result<()> {
+fn say_bearer(out: &mut Lines, bearer: Bearer) -> io::Result<()> {
     let mut room = [0u8; OCTETS];
     let put = bearer.put(&mut room, 0);
-    print!(rt; "bearer")?;
-    say_ensemble(rt, bearer.ensemble)?;
-    say_sid(rt, bearer.long, bearer.sid)?;
-    print!(rt;
+    write!(out, "bearer")?;
+    say_ensemble(out, bearer.ensemble)?;
+    say_sid(out, bearer.long, bearer.sid)?;
+    write!(
+        out,
         " scids {} normal {}",
         bearer.scids,
         Hex(put_in(&room, put))
     )
 }
 
-fn answer_bearer(rt: &HostRuntime, s: &[u8]) -> io::Result<()> {
+fn answer_bearer(out: &mut Lines, s: &[u8]) -> io::Result<()> {
     match Bearer::take(s) {
-        Some(bearer) => say_bearer(rt, bearer),
-        None => print!(rt; "bearer none"),
+        Some(bearer) => say_bearer(out, bearer),
+        None => write!(out, "bearer none"),
     }
 }
 
 // ---- the questions
 
-fn answer(rt: &HostRuntime, letter: u8, s: &[u8]) -> io::Result<()> {
+fn answer(out: &mut Lines, letter: u8, s: &[u8]) -> io::Result<()> {
     match letter {
-        b'K' => answer_kind(rt, s)?,
-        b'D' => answer_default(rt, s)?,
-        b'U' => answer_text(rt, s)?,
-        b'T' => answer_time(rt, s)?,
-        b'O' => answer_local(rt, s)?,
-        b'B' => answer_bearer(rt, s)?,
-        _ => print!(rt; "unknown question")?,
+        b'K' => answer_kind(out, s)?,
+        b'D' => answer_default(out, s)?,
+        b'U' => answer_text(out, s)?,
+        b'T' => answer_time(out, s)?,
+        b'O' => answer_local(out, s)?,
+        b'B' => answer_bearer(out, s)?,
+        _ => write!(out, "unknown question")?,
     }
-    print!(rt; "\n")
+    write!(out, "\n")
 }
 
 // Up to the end of the input, or to a question that it cuts short.
-fn run(rt: &HostRuntime, input: &[u8]) -> io::Result<()> {
+fn run(rt: &HostRuntime, input: &[u8]) {
+    let mut out = Cursor::new([0u8; OUTPUT]);
     let mut left = input;
     while let [letter, size, behind @ ..] = left {
         let Some((body, next)) = behind.split_at_checked(*size as usize) else {
             break;
         };
-        answer(rt, *letter, body)?;
+        make_room(rt, &mut out);
+        let _ = answer(&mut out, *letter, body);
         left = next;
     }
-    Ok(())
+    write_out(rt, &mut out);
 }
 
-// Where reading fails, as where the input ends, nothing more is answered. What standard output doesn't take is lost, and nothing is said of that.
+// Where reading fails, as where the input ends, nothing more is answered.
 fn main(rt: HostRuntime) {
     let mut input = [0u8; INPUT];
     let (size, _) = read_full(&mut rt.stdin(), &mut input);
-    let _ = run(&rt, &input[..size]);
+    run(&rt, &input[..size]);
 }
