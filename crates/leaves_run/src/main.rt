@@ -52,7 +52,11 @@ fn answer_default(out: &mut Lines, s: &[u8]) {
         [element, tag, body @ ..] => values::is_default(*element, *tag, body),
         _ => false,
     };
-    out.say(if is_default { b"default yes" } else { b"default no" });
+    out.say(if is_default {
+        b"default yes"
+    } else {
+        b"default no"
+    });
 }
 
 // The first octet says whether token octets may stand in the text.

@@ -137,7 +137,7 @@ module _ (keys : List ℕ) (key at n : ℕ) where
           onward = omega arith;
           within = omega (arith, short, size, h);
           differ = λ k low high e. none (k - at) 0 (omega arith) (omega (arith, low, high))
-            (get_or-take (n - at) (drop at keys) (k - at) 0 (omega (arith, low, high, short, size))
+              (get_or-take (n - at) (drop at keys) (k - at) 0 (omega (arith, low, high, short, size))
               ∙ (get_or-drop at keys (k - at) 0 ∙ (ap (λ i. get_or keys i 0) (omega (arith, low)) ∙ e)));
         }
 
