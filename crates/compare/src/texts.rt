@@ -18,7 +18,7 @@ struct Rest {
     at: usize,
 }
 
-// Where the entry lies that stands for an octet. Outside: the octet stands for itself. By any index of any table: an entry that doesn't lie in the table, or is
+// Where the entry lies that stands for an octet. None: the octet stands for itself. By any index of any table: an entry that doesn't lie in the table, or is
 // longer than the index says that any is, counts as none, as `expand` has it.
 fn entry_of(index: &[usize; 32], table: &[u8], b: u8) -> Option<Lies>
     ensures { Standing (entries_by index.now table.now) table.now b result }

@@ -23,7 +23,7 @@ use Rattle.survey.specs.declared.Needs.{Needs}
 use Rattle.survey.specs.declared.measure.Sizes.{Sizes}
 use Rattle.survey.specs.Measure.{measured_of}
 use Rattle.survey.specs.Survey.{needed_of, records_sizes}
-use Rattle.survey.specs.Sizes.{store_octets}
+use Rattle.survey.specs.Makers.{store_octets}
 use Rattle.demands.specs.Needs.{NeedsSuffice, OverNever}
 
 -- what doesn't fit isn't written

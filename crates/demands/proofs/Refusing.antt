@@ -33,7 +33,7 @@ use Rattle.survey.proofs.Once.{first-place}
 use Rattle.survey.specs.declared.Needs.{Needs}
 use Rattle.survey.specs.declared.Unfit.{Unfit}
 use Rattle.survey.specs.declared.Unfit.TheVariants.{Bad, Misfit}
-use Rattle.survey.specs.Sizes.{store_octets}
+use Rattle.survey.specs.Makers.{store_octets}
 use Rattle.recording.specs.declared.Next.{Next}
 use Rattle.recording.specs.Recording.{mark, announced, whole}
 use Rattle.recording.specs.Calls.{open_of, short_of, step_of}

@@ -4,7 +4,7 @@ use Rattle.octets.specs.declared.counts.Octets.{Octets as OctetCount}
 use Rattle.format.specs.Judge.{judge}
 use Rattle.format.specs.Calls.{Lent, normal_answer}
 use Rattle.survey.specs.Survey.{needed_of, records_sizes}
-use Rattle.survey.specs.Sizes.{store_octets}
+use Rattle.survey.specs.Makers.{store_octets}
 
 -- an object that needs so much is normalised exactly where so much is lent, to as many octets as it was told to need of a room
 abbrev pub NeedsSuffice : Type 0

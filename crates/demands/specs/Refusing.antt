@@ -23,7 +23,7 @@ use Rattle.survey.specs.First.{first_in, item_at, sought_by, sought_in}
 use Rattle.survey.specs.declared.Needs.{Needs}
 use Rattle.survey.specs.declared.Unfit.{Unfit}
 use Rattle.survey.specs.declared.Unfit.TheVariants.{Bad, Misfit}
-use Rattle.survey.specs.Sizes.{store_octets}
+use Rattle.survey.specs.Makers.{store_octets}
 use Rattle.recording.specs.declared.Next.{Next}
 use Rattle.recording.specs.Recording.{mark, announced}
 use Rattle.recording.specs.Calls.{open_of, step_of}

@@ -22,7 +22,7 @@ use Rattle.format.specs.State.{Memory, places_in, packed_store, tree_held}
 use Rattle.format.specs.declared.Refusal.{Refusal}
 use Rattle.survey.specs.Normal.{framed_size}
 use Rattle.survey.specs.declared.measure.Sizes.{Sizes}
-use Rattle.survey.specs.Sizes.{store_octets}
+use Rattle.survey.specs.Makers.{store_octets}
 use Rattle.state.specs.Order.{held_as}
 use Rattle.state.specs.Taking.{left}
 use Rattle.edits.specs.declared.resite.Gap.{Gap}

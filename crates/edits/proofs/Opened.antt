@@ -38,7 +38,8 @@ use Rattle.format.proofs.Loading.{loaded-keeps}
 use Rattle.text.proofs.Expansion.{sound_empty}
 use Rattle.judge.specs.Inside.{beginning}
 use Rattle.survey.specs.Normal.{framed_size, normal_size}
-use Rattle.survey.specs.Sizes.{sizes_of, store_octets}
+use Rattle.survey.specs.Sizes.{sizes_of}
+use Rattle.survey.specs.Makers.{store_octets}
 use Rattle.survey.specs.Measure.{measured_in}
 use Rattle.survey.proofs.NormalSizes.{size-whole}
 use Rattle.survey.specs.declared.measure.Sizes.{Sizes}

@@ -1,4 +1,4 @@
--- Ok copied out of the lists one by one; and read_records, as what the reader leaves in the lists and what is then copied.
+-- Records copied out of the lists one by one; and read_records, as what the reader leaves in the lists and what is then copied.
 use Rattle.std.specs.Prelude.{Result, Ok, Err}
 use mathlib.Core.Path.{◌≡◌, refl, sym, ap, ◌∙◌}
 use mathlib.Core.Bool.{Bool, true, false, cond}

@@ -1,4 +1,4 @@
--- What each public call on objects and records answers, and what each lent list then holds (document 01, Ok and meaning, Refusal numbers). On a refusal that is
+-- What each public call on objects and records answers, and what each lent list then holds (document 01, Records and meaning, Refusal numbers). On a refusal that is
 -- what it held before; on success what is handed out is laid over it. The calls that compare are lent nothing: specs/Same has their answers.
 use Rattle.std.specs.Prelude.{◌≡◌, Bool, cond, ◌&&◌, List, [], ◌∷◌, ◌++◌, ℕ, suc, ◌+◌, min, leb, ltb, length, take, drop, get_or, set, Result, Ok, Err}
 use Rattle.std.proofs.Math.Option.{Option, none, some}

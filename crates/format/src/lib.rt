@@ -1,4 +1,4 @@
-// What the calls of the library share: records, refusals, counts, and the answers as enums. The rules are in specs/, the theorems in proofs/.
+// What the calls of the library share: records, refusals, counts, and what answers are made of. The rules are in specs/, the theorems in proofs/.
 #![tactic(auto)]
 
 ghost use Rattle.std.specs.Prelude.{◌≡◌};

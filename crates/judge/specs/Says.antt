@@ -47,7 +47,7 @@ unfoldable pub checked : Result ⊤ Refusal → Option Refusal
 checked (Ok x) = none
 checked (Err r) = some r
 
--- what becomes of an item by its kind: an unknown one gives nothing, the table no record of its own (document 01, Ok and meaning)
+-- what becomes of an item by its kind: an unknown one gives nothing, the table no record of its own (document 01, Records and meaning)
 unfoldable pub sorted : Option Kind → Sort
 sorted none = Skip
 sorted (some HoldsItems) = Element

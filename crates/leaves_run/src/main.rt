@@ -2,11 +2,12 @@
 //
 // A question is a letter, an octet that says a size, and so many octets: K the kind of an element and tag, D whether octets are the default of an attribute, U
 // whether octets are text, T a time or the field of it that is wrong, O its local time, B a bearer. What an answer says is proved where it is found, in
-// `values` and `text`; here every function is safe and ends.
+// `values`, `text` and `show`; here every function is safe and ends.
 #![tactic(auto)]
 
-use std::fmt::{Display, Formatter};
-use std::{fmt, io};
+mod lines;
+
+use crate::lines::Lines;
 use streams::{put_in, read_full};
 use values::{Bearer, Ensemble, Kind, NumberKind, Time};
 
@@ -16,33 +17,19 @@ const INPUT: usize = 131_072;
 // No normal form of a time or a bearer has more octets.
 const OCTETS: usize = 8;
 
-// ---- octets in hexadecimal
-
-#[derive(Drop)]
-struct Hex<'a>(&'a [u8]);
-
-impl<'a> Display for Hex<'a> {
-    fn fmt<W: fmt::Write>(&self, f: &mut Formatter<W>) -> fmt::Result {
-        for octet in self.0 {
-            write!(f, "{octet:02x}")?;
-        }
-        Ok(())
-    }
-}
-
 // ---- K
 
-fn kind_word(kind: Kind) -> &'static str {
+fn kind_words(kind: Kind) -> &'static [u8] {
     match kind {
-        Kind::HoldsItems => "items",
-        Kind::HoldsTokens => "tokens",
-        Kind::HoldsPlain => "plain",
-        Kind::HoldsText => "text",
-        Kind::HoldsTime => "time",
-        Kind::HoldsBearer => "bearer",
-        Kind::HoldsNumber(NumberKind::Enumerated) => "number 1",
-        Kind::HoldsNumber(NumberKind::Duration | NumberKind::Integer) => "number 2",
-        Kind::HoldsNumber(NumberKind::ShortId) => "number 3",
+        Kind::HoldsItems => b"kind items",
+        Kind::HoldsTokens => b"kind tokens",
+        Kind::HoldsPlain => b"kind plain",
+        Kind::HoldsText => b"kind text",
+        Kind::HoldsTime => b"kind time",
+        Kind::HoldsBearer => b"kind bearer",
+        Kind::HoldsNumber(NumberKind::Enumerated) => b"kind number 1",
+        Kind::HoldsNumber(NumberKind::Duration | NumberKind::Integer) => b"kind number 2",
+        Kind::HoldsNumber(NumberKind::ShortId) => b"kind number 3",
     }
 }
 
@@ -53,141 +40,156 @@ fn known_kind(s: &[u8]) -> Option<Kind> {
     values::known_kind(*element, *tag)
 }
 
-fn answer_kind(rt: &HostRuntime, s: &[u8]) -> io::Result<()> {
-    print!(rt; "kind {}", known_kind(s).map_or("unknown", kind_word))
+fn answer_kind(out: &mut Lines, s: &[u8]) {
+    out.say(known_kind(s).map_or(b"kind unknown", kind_words));
 }
 
 // ---- D and U
 
-fn yes_or_no(yes: bool) -> &'static str {
-    if yes { "yes" } else { "no" }
-}
-
 // Whether the octets behind an element and a tag are the default of that attribute.
-fn answer_default(rt: &HostRuntime, s: &[u8]) -> io::Result<()> {
+fn answer_default(out: &mut Lines, s: &[u8]) {
     let is_default = match s {
         [element, tag, body @ ..] => values::is_default(*element, *tag, body),
         _ => false,
     };
-    print!(rt; "default {}", yes_or_no(is_default))
+    out.say(if is_default {
+        b"default yes"
+    } else {
+        b"default no"
+    });
 }
 
 // The first octet says whether token octets may stand in the text.
-fn answer_text(rt: &HostRuntime, s: &[u8]) -> io::Result<()> {
+fn answer_text(out: &mut Lines, s: &[u8]) {
     let is_text = match s {
         [tokens, text @ ..] => text::check(text, *tokens != 0),
         [] => false,
     };
-    print!(rt; "text {}", yes_or_no(is_text))
+    out.say(if is_text { b"text yes" } else { b"text no" });
 }
 
 // ---- T and O
 
-fn say_time(rt: &HostRuntime, time: Time) -> io::Result<()> {
-    let sense = if time.minus { "minus" } else { "plus" };
+fn say_time(out: &mut Lines, time: Time) {
+    out.say(b"time");
+    out.say_field(time.day as usize);
+    out.say_field(time.hour as usize);
+    out.say_field(time.minute as usize);
+    out.say_field(time.second as usize);
+    out.say(if time.minus { b" minus" } else { b" plus" });
+    out.say_field(time.halves as usize);
+    out.say(b" normal ");
     let mut room = [0u8; OCTETS];
     let put = time.canonical().put(&mut room, 0);
-    print!(rt;
-        "time {} {} {} {} {sense} {} normal {}",
-        time.day,
-        time.hour,
-        time.minute,
-        time.second,
-        time.halves,
-        Hex(put_in(&room, put))
-    )
+    out.say_hex(put_in(&room, put));
 }
 
 // Of octets that are no time, the field that is wrong, by its number.
-fn answer_time(rt: &HostRuntime, s: &[u8]) -> io::Result<()> {
+fn answer_time(out: &mut Lines, s: &[u8]) {
     match Time::take(s) {
-        Ok(time) => say_time(rt, time),
-        Err(error) => print!(rt; "time bad {}", u8::from(error)),
+        Ok(time) => say_time(out, time),
+        Err(error) => {
+            out.say(b"time bad");
+            out.say_field(u8::from(error) as usize);
+        }
     }
 }
 
-fn say_local(rt: &HostRuntime, time: Time) -> io::Result<()> {
-    let local = time.local();
-    print!(rt;
-        "local {} {} {} {}",
-        local.day, local.hour, local.minute, local.second
-    )
+// The only day below 0 is the one before it.
+fn say_day(out: &mut Lines, day: i64) {
+    if day < 0 {
+        out.say(b" -1");
+    } else {
+        out.say_field(day as usize);
+    }
 }
 
-fn answer_local(rt: &HostRuntime, s: &[u8]) -> io::Result<()> {
+fn say_local(out: &mut Lines, time: Time) {
+    let local = time.local();
+    out.say(b"local");
+    say_day(out, local.day);
+    out.say_field(local.hour as usize);
+    out.say_field(local.minute as usize);
+    out.say_field(local.second as usize);
+}
+
+fn answer_local(out: &mut Lines, s: &[u8]) {
     match Time::take(s) {
-        Ok(time) => say_local(rt, time),
-        Err(_) => print!(rt; "local none"),
+        Ok(time) => say_local(out, time),
+        Err(_) => out.say(b"local none"),
     }
 }
 
 // ---- B
 
-fn say_ensemble(rt: &HostRuntime, ensemble: Option<Ensemble>) -> io::Result<()> {
-    match ensemble {
-        None => Ok(()),
-        Some(ensemble) => print!(rt; " {:02x} {:04x}", ensemble.ecc, ensemble.eid),
-    }
+fn say_ensemble(out: &mut Lines, ensemble: Ensemble) {
+    out.say(b" ");
+    out.say_hex(&[ensemble.ecc]);
+    out.say(b" ");
+    out.say_hex(&ensemble.eid.to_be_bytes());
 }
 
-fn say_sid(rt: &HostRuntime, long: bool, sid: u32) -> io::Result<()> {
-    if long {
-        return print!(rt; " sid {sid:08x}");
-    }
-    print!(rt; " sid {sid:04x}")
+// A short one has two octets.
+fn say_sid(out: &mut Lines, long: bool, sid: u32) {
+    let octets = sid.to_be_bytes();
+    out.say(b" sid ");
+    out.say_hex(if long { &octets[..] } else { &octets[2..] });
 }
 
-fn say_bearer(rt: &HostRuntime, bearer: Bearer) -> io::Result<()> {
+fn say_bearer(out: &mut Lines, bearer: Bearer) {
+    out.say(b"bearer");
+    if let Some(ensemble) = bearer.ensemble {
+        say_ensemble(out, ensemble);
+    }
+    say_sid(out, bearer.long, bearer.sid);
+    out.say(b" scids");
+    out.say_field(bearer.scids as usize);
+    out.say(b" normal ");
     let mut room = [0u8; OCTETS];
     let put = bearer.put(&mut room, 0);
-    print!(rt; "bearer")?;
-    say_ensemble(rt, bearer.ensemble)?;
-    say_sid(rt, bearer.long, bearer.sid)?;
-    print!(rt;
-        " scids {} normal {}",
-        bearer.scids,
-        Hex(put_in(&room, put))
-    )
+    out.say_hex(put_in(&room, put));
 }
 
-fn answer_bearer(rt: &HostRuntime, s: &[u8]) -> io::Result<()> {
+fn answer_bearer(out: &mut Lines, s: &[u8]) {
     match Bearer::take(s) {
-        Some(bearer) => say_bearer(rt, bearer),
-        None => print!(rt; "bearer none"),
+        Some(bearer) => say_bearer(out, bearer),
+        None => out.say(b"bearer none"),
     }
 }
 
 // ---- the questions
 
-fn answer(rt: &HostRuntime, letter: u8, s: &[u8]) -> io::Result<()> {
+fn answer(out: &mut Lines, letter: u8, s: &[u8]) {
     match letter {
-        b'K' => answer_kind(rt, s)?,
-        b'D' => answer_default(rt, s)?,
-        b'U' => answer_text(rt, s)?,
-        b'T' => answer_time(rt, s)?,
-        b'O' => answer_local(rt, s)?,
-        b'B' => answer_bearer(rt, s)?,
-        _ => print!(rt; "unknown question")?,
+        b'K' => answer_kind(out, s),
+        b'D' => answer_default(out, s),
+        b'U' => answer_text(out, s),
+        b'T' => answer_time(out, s),
+        b'O' => answer_local(out, s),
+        b'B' => answer_bearer(out, s),
+        _ => out.say(b"unknown question"),
     }
-    print!(rt; "\n")
+    out.say(b"\n");
 }
 
 // Up to the end of the input, or to a question that it cuts short.
-fn run(rt: &HostRuntime, input: &[u8]) -> io::Result<()> {
+fn run(rt: &HostRuntime, input: &[u8]) {
+    let mut out = Lines::new();
     let mut left = input;
     while let [letter, size, behind @ ..] = left {
         let Some((body, next)) = behind.split_at_checked(*size as usize) else {
             break;
         };
-        answer(rt, *letter, body)?;
+        out.make_room(rt);
+        answer(&mut out, *letter, body);
         left = next;
     }
-    Ok(())
+    out.write_out(rt);
 }
 
-// Where reading fails, as where the input ends, nothing more is answered. What standard output doesn't take is lost, and nothing is said of that.
+// Where reading fails, as where the input ends, nothing more is answered.
 fn main(rt: HostRuntime) {
     let mut input = [0u8; INPUT];
     let (size, _) = read_full(&mut rt.stdin(), &mut input);
-    let _ = run(&rt, &input[..size]);
+    run(&rt, &input[..size]);
 }

@@ -8,7 +8,6 @@ use native.Mathlib.Nat.{add-zero, add-suc, suc-add, le_refl}
 use native.Mathlib.Numerals.{add-one}
 use native.Mathlib.Omega.{arith}
 use lib.Dec.{leb}
-use borrow.Rule.Slice.PartMut.{put_mid}
 use lib.ListN.{length, get_or, set, take, drop, length-drop, length-set}
 use lib.Seq.{sets, sets-eq, set-set, set_comm, set_out, drop-set-lt, set-append_left, get_or-set_other, take_all, take-nil, drop-nil, drop-drop, take-add, take-suc, drop-cons, get_or-take, get_or-drop, drop_at, length-take-le, take-append_seam}
 use borrow.Author.Tests.{leb-true, leb-false}
@@ -127,13 +126,8 @@ module _ {ℓ} {A : Type ℓ} where
   pub take_next : (l : List A) (i : ℕ) (d : A) → i < length l → take (i + 1) l ≡ take i l ++ (get_or l i d ∷ [])
   take_next l i d h = ap (λ (n : ℕ). take n l) (add-one i) ∙ take-suc l i d h
 
--- ---- the library's copies: into the part between two places, and of such a part to another place
+-- ---- the library's copy of a part between two places to another place
 module _ {A : Type 0} where
-  pub put_mid-sets : (l : List A) (at : ℕ) (s after : List A) → after ≡ s → at + length s ≤ length l → put_mid at (at + length s - at) l after ≡ sets l at s
-  put_mid-sets l at s after e h =
-      let n : at + length s - at ≡ length s = omega arith in
-      rw (e, n, drop-drop, sets-eq s l at h) (sym (append_assoc (take at l) s (drop (at + length s) l)))
-
   pub copy_within-sets : (l : List A) (from end to : ℕ) → end ≤ length l → to + (end - from) ≤ length l → copy_within l from end to ≡ sets l to (take (end - from) (drop from l))
   copy_within-sets l from end to h k =
       let n : length (take (end - from) (drop from l)) ≡ end - from = length-take-le (end - from) (drop from l) (omega (arith, length-drop from l)) in

@@ -199,6 +199,17 @@ fn digit(n: u32, place: usize) -> u8
     ((n >> (8 * place)) & 0xFF) as u8
 }
 
+// Octets laid from a place on, one by one: of the library's `copy_from_slice` the compiler makes a call of memmove, which whoever links the archive for C would
+// have to bring.
+fn copy(out: &mut [u8], at: usize, s: &[u8])
+    requires { at + length s.now ≤ length out.old }
+    ensures { out.new ≡ sets out.old at s.now }
+{
+    for i in 0..s.len() {
+        out[at + i] = s[i];
+    }
+}
+
 // Octets as they stand, put at a place.
 pub fn copy_into(out: &mut [u8], at: usize, s: &[u8]) -> Result<usize, PutError>
     ensures { Puts true s.now at out.old out.new result }
@@ -207,9 +218,8 @@ pub fn copy_into(out: &mut [u8], at: usize, s: &[u8]) -> Result<usize, PutError>
     if !has_room(Octets(out.len()), at, size) {
         return Err(PutError::NoRoom);
     }
-    let end = at + size.0;
-    out[at..end].copy_from_slice(s);
-    Ok(end)
+    copy(out, at, s);
+    Ok(at + size.0)
 }
 
 // Whether so many octets, put at a place, lie within the room. No sum is made before it is known to fit. Calls that put octets, here and above, ask this before

@@ -1,4 +1,7 @@
 -- How often a word is used: the loop of `count_uses`.
+use Rattle.std.specs.Prelude.{Option as Maybe, Some, None, MatchOption}
+use Rattle.std.specs.List.{AllWithin, HoldsAt}
+use Rattle.std.proofs.lemmas.List.{get_or-take, get_or-drop}
 use mathlib.Core.Path.{◌≡◌, refl, sym, ap, ap₂, subst, ◌∙◌}
 use mathlib.Core.Bool.{Bool, true, false, cond}
 use mathlib.Core.List.{List, [], ◌∷◌}
@@ -108,6 +111,43 @@ module _ (object starts sizes keys₀ : List ℕ) (n : ℕ) (noted : Noted objec
               get_or-set_other keys j k key 0 y ∙ v.key k (omega arith)
 
 pub ruleset fill-ways = (fill-begin, fill_done, fill-long, fill-inside, fill-again)
+
+-- ---- `next_keyed`
+
+module _ (keys : List ℕ) (key at n : ℕ) where
+  -- the keys that are looked at
+  abbrev pub looked : List ℕ
+  looked = take (n - at) (drop at keys)
+
+  abbrev pub IsKey : ℕ → Type 0
+  IsKey other = other ≡ key
+
+  abbrev pub IsOther : ℕ → Type 0
+  IsOther other = other ≡ key → ⊥
+
+  -- what `position` tells of them
+  abbrev pub Positions : Maybe ℕ → Type 0
+  Positions place = MatchOption place (AllWithin IsOther looked 0 (length looked)) (λ i. (i < length looked) × HoldsAt IsKey looked i × AllWithin IsOther looked 0 i)
+
+  module _ (h : at ≤ n) (b : n ≤ length keys) where
+    passed : (m : ℕ) → m ≤ length looked → AllWithin IsOther looked 0 m → Passes keys key at n (at + m)
+    passed m short none =
+        let size = length_part keys at (n - at) (omega (arith, h, b)) in
+        record {
+          onward = omega arith;
+          within = omega (arith, short, size, h);
+          differ = λ k low high e. none (k - at) 0 (omega arith) (omega (arith, low, high))
+              (get_or-take (n - at) (drop at keys) (k - at) 0 (omega (arith, low, high, short, size))
+              ∙ (get_or-drop at keys (k - at) 0 ∙ (ap (λ i. get_or keys i 0) (omega (arith, low)) ∙ e)));
+        }
+
+    pub pass-found : (place : Maybe ℕ) → Positions place → (i : ℕ) → place ≡ Some i → Passes keys key at n (at + i)
+    pass-found place p i e = let first = subst Positions e p in passed i (omega (arith, first.0)) first.2
+
+    pub pass-none : (place : Maybe ℕ) → Positions place → place ≡ None → Passes keys key at n n
+    pass-none place p e =
+        let end : at + length looked ≡ n = omega (arith, length_part keys at (n - at) (omega (arith, h, b)), h) in
+        subst (Passes keys key at n) end (passed (length looked) (omega arith) (subst Positions e p))
 
 -- ---- `is_again`
 

@@ -81,12 +81,10 @@ fn next_keyed(keys: &[u8], key: u8, at: usize, n: usize) -> usize
     requires n_in_bounds { n ≤ length keys.now }
     ensures { Passes keys.now key at n result }
 {
-    for j in at..n {
-        if keys[j] == key {
-            return j;
-        }
+    match keys[at..n].iter().position(|other| *other == key) {
+        Some(behind) => at + behind,
+        None => n,
     }
-    n
 }
 
 // How often the word of a number is used from there on; its uses are marked.

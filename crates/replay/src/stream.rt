@@ -1,7 +1,7 @@
 // The recording on standard input, read in pieces into a buffer that has room for the longest piece of it that is looked at in one.
-ghost use Rattle.std.specs.Prelude.{◌≡◌, ◌-◌, ◌≤◌, length};
+ghost use Rattle.std.specs.Prelude.{◌≡◌, ◌+◌, ◌-◌, ◌≤◌, length};
 
-use streams::{fail, read_full};
+use streams::{put_failure, read_full};
 
 // About twice the longest piece, so that what is left is seldom moved.
 const INPUT: usize = 131_072;
@@ -56,7 +56,7 @@ impl Stream {
         let (more, ended) = read_full(&mut rt.stdin(), &mut self.octets[self.to..]);
         self.to += more;
         if let Err(error) = ended {
-            fail(rt, b"replay: standard input", error);
+            let _ = put_failure(&mut rt.stderr(), b"replay: standard input", error);
             self.source = Source::Failed;
         } else if self.to < self.octets.len() {
             self.source = Source::Ended;
@@ -86,6 +86,9 @@ impl Stream {
     // A piece at the start of the window is behind it. No recording is so long that the offset wraps.
     pub fn pass(&mut self, size: usize)
         requires { size ≤ self.old.to - self.old.from }
+        ensures from { self.new.from ≡ self.old.from + size }
+        ensures to { self.new.to ≡ self.old.to }
+        ensures octets { self.new.octets ≡ self.old.octets }
     {
         self.from += size;
         self.offset = self.offset.wrapping_add(size);

@@ -1,4 +1,6 @@
 // What a line asks for that is an edit: its word, its numbers, and the octets behind them. Between two of these stands one blank.
+ghost use Rattle.std.specs.Prelude.{◌≤◌, length, IfSome};
+
 #[derive(Clone, Copy)]
 pub enum Verb {
     Text,
@@ -50,7 +52,9 @@ pub fn number_of(word: &[u8]) -> Option<usize> {
 }
 
 // Hexadecimal digits in pairs, large or small, as octets in a lent buffer.
-pub fn octets_in<'a>(digits: &[u8], buf: &'a mut [u8]) -> Option<&'a [u8]> {
+pub fn octets_in<'a>(digits: &[u8], buf: &'a mut [u8]) -> Option<&'a [u8]>
+    ensures { IfSome result (λ octets. length octets.now ≤ length buf.old) }
+{
     let octets = buf.get_mut(..digits.len() / 2)?;
     hex::decode_to_slice(digits, octets).ok()?;
     Some(octets)

@@ -1,6 +1,9 @@
 // An object that is edited (request 2026-06): each line of standard input is an edit, and the tree that is left is written. The edits are made in memory that
 // is lent to the library, and each is known to be made or to leave that memory as it was.
+ghost use Rattle.std.specs.Prelude.{◌≤◌, length, IfOk, IfSome};
+
 use crate::asking::{Verb, number_of, octets_in, split_word};
+use crate::failing::complain;
 use crate::files::load;
 use crate::lines::{edit_refused, refused};
 use crate::memory::{FILE, Memory, OBJECT, TREE_PLACES};
@@ -8,11 +11,12 @@ use crate::objects::written;
 use crate::status::Stop;
 use format::Refusal;
 use octets::Octets;
-use streams::complain;
 
 // The octets that an edit brings, none of more than the buffer has: what is left of its line as it stands or as digits, or a file of that name. One that brings
 // none has nothing left.
-fn bring<'a>(rt: &HostRuntime, verb: Verb, rest: &'a [u8], buf: &'a mut [u8]) -> Option<&'a [u8]> {
+fn bring<'a>(rt: &HostRuntime, verb: Verb, rest: &'a [u8], buf: &'a mut [u8]) -> Option<&'a [u8]>
+    ensures { IfSome result (λ octets. length octets.now ≤ length buf.old) }
+{
     match verb {
         Verb::Text => (rest.len() <= buf.len()).then_some(rest),
         Verb::Remove => rest.is_empty().then_some(rest),
@@ -102,7 +106,9 @@ impl Tree {
 
     // The tree's normal form in a lent room.
     #[tactic(auto, using(crate::proofs::Ways::state_within))]
-    fn written<'a>(&self, lent: &'a mut [u8]) -> Result<&'a [u8], Refusal> {
+    fn written<'a>(&self, lent: &'a mut [u8]) -> Result<&'a [u8], Refusal>
+        ensures { IfOk result (λ octets. length octets.now ≤ length lent.old) }
+    {
         let memory = state::Memory::of(
             &self.memory.tags,
             &self.memory.kinds,
@@ -173,7 +179,9 @@ pub fn edited_form<'a>(
     object: &[u8],
     input: &[u8],
     lent: &'a mut [u8],
-) -> Result<(usize, &'a [u8]), Stop> {
+) -> Result<(usize, &'a [u8]), Stop>
+    ensures { IfOk result (λ made. length made.1.now ≤ length lent.old) }
+{
     let mut tree = Tree {
         memory: Memory::new(),
         records: 0,

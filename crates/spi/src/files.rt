@@ -1,11 +1,14 @@
 // Files read and written whole. What fails is said on standard error, in the system's words, just after it failed.
+ghost use Rattle.std.specs.Prelude.{◌≤◌, length, IfOk};
+
+use crate::failing::complain;
 use crate::memory::NAME;
 use crate::status::{Ended, Stop};
 use std::env::{Env, FillError};
 use std::fs::{File, OpenOptions};
 use std::io::{Cursor, Error, Write};
 use std::{fs, io, process};
-use streams::{complain, fail, read_full};
+use streams::{put_failure, read_full};
 
 // The longest name of an output, so that the name beside it fits a path.
 const LONGEST: usize = 4_000;
@@ -21,7 +24,7 @@ const TOO_LONG: i32 = 36;
 const NO_TEXT: i32 = 84;
 
 fn failed(rt: &HostRuntime, what: &[u8], error: Error) -> Stop {
-    fail(rt, what, error);
+    let _ = put_failure(&mut rt.stderr(), what, error);
     Stop::Failed
 }
 
@@ -62,18 +65,24 @@ fn rename(rt: &HostRuntime, from: &[u8], to: &[u8]) -> io::Result<()> {
 
 // ---- files read, each into a lent buffer until that is full or the file ends
 
-fn read_file<'a>(rt: &HostRuntime, path: &[u8], buf: &'a mut [u8]) -> io::Result<&'a [u8]> {
+fn read_file<'a>(rt: &HostRuntime, path: &[u8], buf: &'a mut [u8]) -> io::Result<&'a [u8]>
+    ensures { IfOk result (λ octets. length octets.now ≤ length buf.old) }
+{
     let (size, ended) = read_full(&mut open(rt, path)?, buf);
     ended?;
     Ok(&buf[..size])
 }
 
-pub fn load<'a>(rt: &HostRuntime, path: &[u8], buf: &'a mut [u8]) -> Result<&'a [u8], Stop> {
+pub fn load<'a>(rt: &HostRuntime, path: &[u8], buf: &'a mut [u8]) -> Result<&'a [u8], Stop>
+    ensures { IfOk result (λ octets. length octets.now ≤ length buf.old) }
+{
     read_file(rt, path, buf).map_err(|error| failed(rt, path, error))
 }
 
 // Standard input. A buffer that it fills may not hold all of it, so that is a failure.
-pub fn load_input<'a>(rt: &HostRuntime, buf: &'a mut [u8]) -> Result<&'a [u8], Stop> {
+pub fn load_input<'a>(rt: &HostRuntime, buf: &'a mut [u8]) -> Result<&'a [u8], Stop>
+    ensures { IfOk result (λ octets. length octets.now ≤ length buf.old) }
+{
     let (size, ended) = read_full(&mut rt.stdin(), buf);
     if let Err(error) = ended {
         return Err(failed(rt, b"spi: standard input", error));
@@ -98,7 +107,9 @@ pub fn argument_count(rt: &HostRuntime) -> usize {
 }
 
 // An argument at the start of a buffer: nothing where there is none, or none that fits.
-pub fn argument<'a>(rt: &HostRuntime, i: usize, buf: &'a mut [u8]) -> &'a [u8] {
+pub fn argument<'a>(rt: &HostRuntime, i: usize, buf: &'a mut [u8]) -> &'a [u8]
+    ensures { length result.now ≤ length buf.old }
+{
     let size = rt.arg(i, buf).unwrap_or(0);
     &buf[..size]
 }
@@ -112,7 +123,9 @@ fn name_error(error: FillError) -> Error {
 }
 
 // The argument that names a file.
-pub fn file_argument<'a>(rt: &HostRuntime, i: usize, buf: &'a mut [u8]) -> Result<&'a [u8], Stop> {
+pub fn file_argument<'a>(rt: &HostRuntime, i: usize, buf: &'a mut [u8]) -> Result<&'a [u8], Stop>
+    ensures { IfOk result (λ octets. length octets.now ≤ length buf.old) }
+{
     match rt.arg(i, buf) {
         Ok(size) => Ok(&buf[..size]),
         Err(error) => Err(failed(rt, b"spi: a file's name", name_error(error))),

@@ -1,5 +1,5 @@
 // Two objects merged (request 2026-10), a Basic and an Advanced one: the normal form of what they become is written to a file.
-ghost use Rattle.std.specs.Prelude.{◌≤◌};
+ghost use Rattle.std.specs.Prelude.{◌≤◌, length, IfOk};
 
 use crate::files::{argument, file_argument, load, save};
 use crate::lines::{both_refused, refused, say_merged};
@@ -24,7 +24,9 @@ fn merged_form<'a>(
     basic: &[u8],
     advanced: &[u8],
     lent: &'a mut [u8],
-) -> Result<&'a [u8], MergeRefusal> {
+) -> Result<&'a [u8], MergeRefusal>
+    ensures { IfOk result (λ octets. length octets.now ≤ length lent.old) }
+{
     let mut memory = Memory::<TREE_PLACES>::new();
     let merged = merging::merge(
         by,

@@ -10,6 +10,7 @@
 mod asking;
 mod comparing;
 mod editing;
+mod failing;
 mod files;
 mod joining;
 mod lines;
@@ -21,6 +22,7 @@ mod words;
 
 use crate::comparing::compare;
 use crate::editing::edited_form;
+use crate::failing::complain;
 use crate::files::{argument, argument_count, file_argument, load, load_input, save};
 use crate::joining::{basic_argument, merge_with};
 use crate::lines::{refused, say, say_saved};
@@ -30,7 +32,6 @@ use crate::status::{Ended, Stop, status_of};
 use merge::Services;
 use pocket::DataType;
 use std::fmt::Display;
-use streams::complain;
 
 fn usage(rt: &HostRuntime, text: &[u8]) -> Ended {
     complain(rt, b"usage: spi ");

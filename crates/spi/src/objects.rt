@@ -1,5 +1,5 @@
 // What the library says of one object.
-ghost use Rattle.std.specs.Prelude.{◌≤◌, length};
+ghost use Rattle.std.specs.Prelude.{◌≡◌, ◌≤◌, length, take, Err, IfOk, IfErr};
 ghost use Rattle.format.specs.Answers.{write_outcome};
 
 use crate::lines::{refused, say_accepted, say_header, say_passed, say_record, say_records};
@@ -61,13 +61,17 @@ pub fn outline(rt: &HostRuntime, path: &[u8], object: &[u8]) -> Ended {
 // What was written to a lent room.
 pub fn written(answer: Result<Octets, Refusal>, lent: &[u8]) -> Result<&[u8], Refusal>
     requires { (write_outcome answer).count ≤ length lent.now }
+    ensures made { IfOk result (λ octets. octets.now ≡ take (write_outcome answer).count lent.now) }
+    ensures refused { IfErr result (λ refusal. answer ≡ Err refusal) }
 {
     let size = answer?;
     Ok(&lent[..size.0])
 }
 
 // The normal form of an object in a lent room.
-pub fn normal_form<'a>(object: &[u8], lent: &'a mut [u8]) -> Result<&'a [u8], Refusal> {
+pub fn normal_form<'a>(object: &[u8], lent: &'a mut [u8]) -> Result<&'a [u8], Refusal>
+    ensures { IfOk result (λ octets. length octets.now ≤ length lent.old) }
+{
     let mut memory = Memory::<PLACES>::new();
     let answer = writer::normalise(
         object,
@@ -86,14 +90,18 @@ pub fn normal_form<'a>(object: &[u8], lent: &'a mut [u8]) -> Result<&'a [u8], Re
 
 // The XML of an object in a lent room.
 #[tactic(auto, using(crate::proofs::Ways::xml_within))]
-pub fn xml_text<'a>(object: &[u8], lent: &'a mut [u8]) -> Result<&'a [u8], Refusal> {
+pub fn xml_text<'a>(object: &[u8], lent: &'a mut [u8]) -> Result<&'a [u8], Refusal>
+    ensures { IfOk result (λ octets. length octets.now ≤ length lent.old) }
+{
     let answer = xml::export(object, lent);
     written(answer, lent)
 }
 
 // The packed object of a normal form in a lent room.
 #[tactic(auto, using(crate::proofs::Ways::pack_within))]
-pub fn packed_form<'a>(normal: &[u8], lent: &'a mut [u8]) -> Result<&'a [u8], Refusal> {
+pub fn packed_form<'a>(normal: &[u8], lent: &'a mut [u8]) -> Result<&'a [u8], Refusal>
+    ensures { IfOk result (λ octets. length octets.now ≤ length lent.old) }
+{
     let answer = packer::pack(normal, lent);
     written(answer, lent)
 }

@@ -19,13 +19,13 @@ const NAME: usize = 18;
 // bearer or number has as many, so these are put whole.
 const PIECE: usize = 16;
 
-// The beginning of a line: the place in five columns, a blank, two columns for each level, and the name. So many levels may still open.
+// The beginning of a line, in one write: the place in five columns, a blank, two columns for each level, and the name. So many levels may still open.
 fn say_name(rt: &HostRuntime, parent: u8, tag: u8, left: usize, place: usize) {
     let margin = 2 * 16usize.saturating_sub(left);
-    let _ = print!(rt; "{place:5} {:margin$}", "");
-    let mut name = [0u8; NAME];
-    let put = xml::put_item_name(&mut name, 0, parent, tag);
-    say(rt, put_in(&name, put));
+    let mut room = [0u8; NAME];
+    let put = xml::put_item_name(&mut room, 0, parent, tag);
+    let name = str::from_utf8(put_in(&room, put)).unwrap_or("");
+    let _ = print!(rt; "{place:5} {:margin$}{name}", "");
 }
 
 // What stands between a name and a value: behind that of an attribute what XML has there, behind that of an element a blank. CDATA has no name.

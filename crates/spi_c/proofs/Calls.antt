@@ -39,7 +39,7 @@ use Rattle.survey.specs.Survey.{needed_of, records_sizes}
 use Rattle.survey.proofs.WholeSizes.{store-less}
 use Rattle.survey.specs.declared.measure.Sizes.{Sizes}
 use Rattle.survey.specs.declared.Needs.{Needs}
-use Rattle.survey.specs.Sizes.{store_octets}
+use Rattle.survey.specs.Makers.{store_octets}
 use Rattle.pocket.specs.declared.DataType.{DataType}
 use Rattle.pocket.specs.Table.{data_type}
 use Rattle.pocket.specs.Gate.{gate_of}

@@ -14,7 +14,7 @@ use Rattle.format.specs.declared.Refusal.{Refusal}
 use Rattle.format.specs.Judge.{judge}
 use Rattle.format.specs.Judge.Judged.{refused}
 use Rattle.survey.specs.Survey.{needed_of}
-use Rattle.survey.specs.Sizes.{store_octets}
+use Rattle.survey.specs.Makers.{store_octets}
 use Rattle.format.specs.Calls.{Lists, places, judge_answer, read_answer, span_of, write_answer, normal_answer, edit_answer}
 use Rattle.format.specs.Same.{same_answer}
 use Rattle.format.specs.State.{Memory, tree_in, tree_held}

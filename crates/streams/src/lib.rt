@@ -1,9 +1,10 @@
-// What the programs share over std: reading until a buffer is full, what was put into a room, and saying on standard error what failed.
+// What the programs share over std: reading until a buffer is full, what was put into a room, and the line that says what failed.
 #![tactic(auto)]
 
 ghost use Rattle.std.specs.Prelude.{◌≡◌, ◌≤◌, ◌<◌, length, take, OnOk};
 ghost use Rattle.std.specs.Result.{result_unwrap_or};
 ghost use Rattle.std.specs.Io.KnownBytes.{Consumes, IsAtEnd};
+ghost use Rattle.streams.specs.Failing.{Tells};
 
 use std::io;
 use std::io::{Cursor, Error, Read, Write};
@@ -35,11 +36,6 @@ pub fn put_in<E: Drop>(room: &[u8], put: Result<usize, E>) -> &[u8]
     &room[..put.unwrap_or(0).min(room.len())]
 }
 
-// What standard error doesn't take is lost.
-pub fn complain(rt: &HostRuntime, text: &[u8]) {
-    let _ = rt.stderr().write_all(text);
-}
-
 // The system's words for an error: without its number, and without the room behind them.
 fn words_of(said: &str) -> &str {
     said.split_once(" (os error ")
@@ -47,13 +43,20 @@ fn words_of(said: &str) -> &str {
         .trim_end_matches('\0')
 }
 
-// A line: what failed, as the caller names it, and the system's words for why.
-pub fn fail(rt: &HostRuntime, what: &[u8], error: Error) {
+// A line: what failed, as the caller names it, and the system's words for why. Each piece is put, whether or not the one before it was taken.
+pub fn put_failure<W: Write>(to: &mut W, what: &[u8], error: Error) -> io::Result<()>
+    ensures { OnOk result (Tells (W.contents to.old) (W.contents to.new) what.now) }
+{
     let mut text = Cursor::new([0u8; WORDS]);
     let _ = write!(text, "{error}");
     let said = text.into_inner();
-    complain(rt, what);
-    complain(rt, b": ");
-    complain(rt, words_of(str::from_utf8(&said).unwrap_or("")).as_bytes());
-    complain(rt, b"\n");
+    let words = words_of(str::from_utf8(&said).unwrap_or(""));
+    let named = to.write_all(what);
+    let marked = to.write_all(b": ");
+    let told = to.write_all(words.as_bytes());
+    let ended = to.write_all(b"\n");
+    named?;
+    marked?;
+    told?;
+    ended
 }

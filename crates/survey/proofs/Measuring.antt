@@ -28,7 +28,8 @@ use Rattle.reader.proofs.Opening.{opened-end, lies-inside, met}
 use Rattle.survey.specs.Normal.{framed_size}
 use Rattle.survey.specs.declared.measure.Part.{Part}
 use Rattle.survey.specs.declared.measure.Part.TheVariants.{Nothing, Kept, Inside, Octets}
-use Rattle.survey.specs.Sizes.{taken, part_of, part_in, room_in, size_in, sizes_of, sizes_in, Small, ItemMeasured, ItemsMeasured, store_octets}
+use Rattle.survey.specs.Sizes.{taken, part_of, part_in, room_in, size_in, sizes_of, sizes_in, Small, ItemMeasured, ItemsMeasured}
+use Rattle.survey.specs.Makers.{store_octets}
 use Rattle.survey.proofs.Parts.{sizes-over, sizes-are, over-says, sizes-say, small-sizes}
 use Rattle.survey.proofs.Adding.{Has, share-adds, adds-nothing, adds-octets, adds-kept, holds-items, adds-inside, cut-same}
 use Rattle.survey.specs.declared.measure.Sizes.{Sizes}

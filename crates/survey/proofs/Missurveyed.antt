@@ -28,7 +28,8 @@ use Rattle.format.specs.Meaning.{opens, maybe}
 use Rattle.format.specs.Loaded.{stored, store_in}
 use Rattle.format.specs.Calls.{Lent}
 use Rattle.survey.specs.Normal.{value_octets, written_as, item_octets, normal_size}
-use Rattle.survey.specs.Sizes.{sizes_of, store_octets}
+use Rattle.survey.specs.Sizes.{sizes_of}
+use Rattle.survey.specs.Makers.{store_octets}
 use Rattle.survey.specs.Measure.{measured_in, measured_of}
 use Rattle.survey.specs.Survey.{surveyed, needed_of, needed_by, records_sizes}
 use Rattle.survey.specs.First.{or_else, picks, place_in, place_at, in_rows, sought_by, sought_as}

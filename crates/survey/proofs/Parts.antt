@@ -36,7 +36,8 @@ use Rattle.format.specs.Judge.{is_known, is_tokens}
 use Rattle.survey.specs.Normal.{framed_size, value_octets}
 use Rattle.survey.proofs.Ways.{value-fits}
 use Rattle.survey.specs.declared.measure.Part.TheVariants.{Nothing, Kept, Inside, Octets}
-use Rattle.survey.specs.Sizes.{taken, part_of, part_in, sizes_of, Small, store_octets}
+use Rattle.survey.specs.Sizes.{taken, part_of, part_in, sizes_of, Small}
+use Rattle.survey.specs.Makers.{store_octets}
 
 -- ---- sizes, of a value and of an item, which the writer measures too
 

@@ -25,7 +25,7 @@ use Rattle.survey.specs.Measure.{measured_of, Measures, MeasuresInside}
 use Rattle.survey.specs.Survey.{sufficient, surveyed, needed_of, needed_by, records_sizes}
 use Rattle.survey.specs.declared.measure.Sizes.{Sizes}
 use Rattle.survey.specs.declared.Unfit.TheVariants.{Bad, Misfit}
-use Rattle.survey.specs.Sizes.{store_octets}
+use Rattle.survey.specs.Makers.{store_octets}
 
 -- ---- measured
 

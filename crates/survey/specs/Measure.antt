@@ -8,7 +8,8 @@ use Rattle.format.specs.Meaning.{normal_of}
 use Rattle.format.specs.Loaded.{store_in, store_of}
 use Rattle.judge.specs.Inside.{judge_inside}
 use Rattle.survey.specs.Normal.{normal_size}
-use Rattle.survey.specs.Sizes.{sizes_of, store_octets}
+use Rattle.survey.specs.Sizes.{sizes_of}
+use Rattle.survey.specs.Makers.{store_octets}
 use Rattle.survey.specs.declared.measure.Sizes.{Sizes}
 
 -- how many octets of a store an object needs, and how many its normal form has; that it has more than an object may have (document 01, Refusal numbers: 15)

@@ -2,7 +2,6 @@
 -- sizes of document 01's normal form and of the store is proved (proofs/WholeSizes), so nobody who reads document 01 has to believe them.
 use Rattle.std.specs.Prelude.{◌≡◌, true, cond, not, ◌&&◌, ◌||◌, List, [], ℕ, ◌+◌, ◌≤◌, min, eqb, leb, length, Some, None, Option as Optional}
 use Rattle.std.proofs.Math.Option.{Option, none, some}
-use Rattle.octets.specs.declared.counts.Octets.{Octets as OctetCount}
 use Rattle.octets.specs.Counts.{as_octets}
 use Rattle.text.specs.Tokens.{Entries}
 use Rattle.values.specs.declared.Kind.{Kind}
@@ -15,6 +14,7 @@ use Rattle.format.specs.Judge.{is_known, is_items, is_tokens}
 use Rattle.format.specs.Meaning.{opens}
 use Rattle.reader.specs.Filling.{Accepts, share}
 use Rattle.survey.specs.Normal.{framed_size}
+use Rattle.survey.specs.Makers.{store_octets}
 use Rattle.survey.specs.declared.measure.Part.{Part}
 use Rattle.survey.specs.declared.measure.Part.TheVariants.{Nothing, Kept, Inside, Octets}
 use Rattle.survey.specs.declared.measure.Sizes.{Sizes}
@@ -46,9 +46,6 @@ size_in table parent (item tag at body inside after) =
     + size_in table parent after
 
 -- both as an answer, which has none where the normal form has more octets than an object may have
-abbrev pub store_octets : (store octets : OctetCount) → Sizes
-store_octets store octets = record { store = store; octets = octets }
-
 unfoldable pub sizes_of : (store octets : ℕ) → Optional Sizes
 sizes_of store octets = cond (leb octets 32_768) (Some (store_octets (as_octets store) (as_octets octets))) None
 

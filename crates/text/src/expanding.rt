@@ -122,13 +122,14 @@ pub fn expanded_size(widths: &[u8; 32], s: &[u8], most: Octets) -> Octets
     size_from(widths, s, from, most)
 }
 
-// A part, written from a place on.
+// A part, written from a place on, as `copy` of octets does it and for its reason.
 fn copy(part: &[u8], out: &mut [u8], at: usize)
     requires { at + length part.now ≤ length out.old }
     ensures { out.new ≡ sets out.old at part.now }
 {
-    let end = at + part.len();
-    out[at..end].copy_from_slice(part);
+    for i in 0..part.len() {
+        out[at + i] = part[i];
+    }
 }
 
 // Where in the table the text lies that stands for an octet, by an index. None: the octet stands for itself. Any index and any table may be given: an

@@ -256,8 +256,7 @@ pub zero-seconds-kept : length (normal_octets HoldsTime (0x30 ∷ 0xD4 ∷ 0x08 
 unfolding normal_octets meant octets_of time_of bits long_flag offset_flag offset_octet value time_octets digits sign
 zero-seconds-kept h = omega arith
 
-pub no-value-written : (after : List ℕ) → Puts (fits (HoldsNumber Duration) (0x3C ∷ [])) (normal_octets (HoldsNumber Duration) (0x3C ∷ [])) 0 five after (Ok 2) →
-    (after : List ℕ) → Puts (fits (HoldsNumber Duration) (0x3C ∷ [])) (normal_octets (HoldsNumber Duration) (0x3C ∷ []))
-    0 five after (Ok 2) → ⊥
+pub no-value-written :
+    (after : List ℕ) → Puts (fits (HoldsNumber Duration) (0x3C ∷ [])) (normal_octets (HoldsNumber Duration) (0x3C ∷ [])) 0 five after (Ok 2) → ⊥
 unfolding put_answer fits width
 no-value-written after p = let h = p.answers in never (cc)

@@ -1,4 +1,4 @@
-// Octets as numbers and numbers as octets. The module is this crate's own: no other crate can call what stands here.
+// Octets as numbers and numbers as octets, by shifts and masks. The module is this crate's own: no other crate can call what stands here.
 ghost use Rattle.std.specs.Prelude.{◌≡◌, ◌+◌, ◌%◌, ◌≤◌, ◌<◌, length, take, drop};
 ghost use Rattle.std.proofs.lemmas.List.Edits.{sets};
 ghost use Rattle.octets.specs.Numbers.{value, digits};
@@ -9,7 +9,9 @@ pub fn two_at(s: &[u8], at: usize) -> u32
     ensures value { result ≡ value (take 2 (drop at s.now)) }
     ensures upper_bound { result < 65536 }
 {
-    u16::from_be_bytes([s[at], s[at + 1]]) as u32
+    let high = s[at] as u32;
+    let low = s[at + 1] as u32;
+    (high << 8) | low
 }
 
 // Four octets from a place on, as a number.
@@ -17,7 +19,9 @@ pub fn four_at(s: &[u8], at: usize) -> u32
     requires { at + 4 ≤ length s.now }
     ensures { result ≡ value (take 4 (drop at s.now)) }
 {
-    u32::from_be_bytes([s[at], s[at + 1], s[at + 2], s[at + 3]])
+    let high = two_at(s, at);
+    let low = two_at(s, at + 2);
+    (high << 16) | low
 }
 
 // The low eight bits.
@@ -33,9 +37,8 @@ pub fn put_two(n: u32, out: &mut [u8], at: usize)
     requires at_in_bounds { at + 2 ≤ length out.old }
     ensures { out.new ≡ sets out.old at (digits 2 n) }
 {
-    let [high, low] = (n as u16).to_be_bytes();
-    out[at] = high;
-    out[at + 1] = low;
+    out[at] = low(n >> 8);
+    out[at + 1] = low(n);
 }
 
 // A number of 32 bits in four octets.
@@ -43,9 +46,6 @@ pub fn put_four(n: u32, out: &mut [u8], at: usize)
     requires { at + 4 ≤ length out.old }
     ensures { out.new ≡ sets out.old at (digits 4 n) }
 {
-    let [a, b, c, d] = n.to_be_bytes();
-    out[at] = a;
-    out[at + 1] = b;
-    out[at + 2] = c;
-    out[at + 3] = d;
+    put_two(n >> 16, out, at);
+    put_two(n & 0xFFFF, out, at + 2);
 }

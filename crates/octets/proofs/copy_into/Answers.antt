@@ -1,4 +1,3 @@
-use Rattle.octets.proofs.Lists.{put_mid-sets}
 use Rattle.octets.proofs.Puts.{asked-ways}
 use borrow.Author.Rules.{rules}
 use Rattle.octets.proofs.copy_into.Goals as goal
@@ -7,4 +6,4 @@ pub returns-then-not-has_room : goal.returns-then-not-has_room
 returns-then-not-has_room c = search (asked-ways, rules)
 
 pub returns : goal.returns
-returns c = search (asked-ways, put_mid-sets, rules)
+returns c = search (asked-ways, rules)

@@ -1,5 +1,5 @@
-use borrow.Author.Rules.{rules}
 use Rattle.values.proofs.Shifts.{four-value}
+use borrow.Author.Rules.{rules}
 use Rattle.values.proofs.numbers.four_at.Goals as goal
 
 pub returns : goal.returns
